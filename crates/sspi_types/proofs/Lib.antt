@@ -1,0 +1,4 @@
+pub mod BufferTypeBits
+pub mod Numbers
+pub mod Places
+pub mod Variants

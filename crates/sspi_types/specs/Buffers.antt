@@ -1,0 +1,30 @@
+use Rattle.std.specs.Prelude.{ℕ, List, Bool, None, Option, ◌==◌, slice_set}
+use Rattle.std.specs.Borrow.{LendsIf, MutBor, Fml, Array}
+use Rattle.std.specs.List.{position_or_len}
+use Rattle.sspi_types.specs.declared.buffer.SecurityBuffer.{SecurityBuffer}
+use Rattle.sspi_types.specs.declared.buffer_type.BufferType.{BufferType}
+use Rattle.sspi_types.specs.declared.error.Error.{Error}
+use Rattle.sspi_types.specs.declared.error_kind.ErrorKind.TheVariants.{InvalidToken}
+use Rattle.sspi_types.specs.declared.reason.Reason.TheVariants.{NoBuffer}
+use Rattle.sspi_types.specs.contracts.buffer.SecurityBuffer.{the_row}
+use Rattle.sspi_types.specs.BufferTypes.{buffer_type_number}
+
+-- a buffer with these bytes, of this type and without flags
+abbrev pub plain_buffer : List ℕ → BufferType → SecurityBuffer
+plain_buffer bytes type = record {
+  buffer = bytes;
+  buffer_type = record { buffer_type = type; buffer_flags = record { 0 = 0 } };
+}
+
+-- whether a buffer is of this type, whatever its flags
+abbrev pub has_type : BufferType → SecurityBuffer → Bool
+has_type type buffer = buffer_type_number buffer.buffer_type.buffer_type == buffer_type_number type
+
+-- what a search answers where no buffer is of the type
+abbrev pub no_buffer : Error
+no_buffer = record { error_type = InvalidToken; description = NoBuffer; nstatus = None }
+
+-- the buffers end with the first one of the type as it was left, or as they were where there is none
+abbrev pub LendsFirst : MutBor (List SecurityBuffer) → BufferType → Option (MutBor SecurityBuffer) → Fml
+LendsFirst buffers type lent =
+    LendsIf (Array the_row 0) the_row buffers lent (slice_set buffers.now (position_or_len (has_type type) buffers.now)) buffers.now

@@ -1,0 +1,211 @@
+ghost use Rattle.std.specs.Prelude.{⊤, ◌≡◌};
+ghost use Rattle.std.specs.Int.RustNames.{bit_or};
+ghost use Rattle.sspi_types.specs.RequestFlags.{client_request_flags};
+
+use bitflags::{Flag, Flags};
+use std::ops::BitOr;
+
+/// The context attributes that a client asks for (`fContextReq` of InitializeSecurityContext).
+#[derive(Clone, Copy, Debug, PartialEq, Eq, PartialOrd, Ord, Hash)]
+pub struct ClientRequestFlags(u32);
+
+impl ClientRequestFlags {
+    pub const DELEGATE: ClientRequestFlags = ClientRequestFlags(0x00000001);
+
+    pub const MUTUAL_AUTH: ClientRequestFlags = ClientRequestFlags(0x00000002);
+
+    pub const REPLAY_DETECT: ClientRequestFlags = ClientRequestFlags(0x00000004);
+
+    pub const SEQUENCE_DETECT: ClientRequestFlags = ClientRequestFlags(0x00000008);
+
+    pub const CONFIDENTIALITY: ClientRequestFlags = ClientRequestFlags(0x00000010);
+
+    pub const USE_SESSION_KEY: ClientRequestFlags = ClientRequestFlags(0x00000020);
+
+    pub const PROMPT_FOR_CREDS: ClientRequestFlags = ClientRequestFlags(0x00000040);
+
+    pub const USE_SUPPLIED_CREDS: ClientRequestFlags = ClientRequestFlags(0x00000080);
+
+    pub const ALLOCATE_MEMORY: ClientRequestFlags = ClientRequestFlags(0x00000100);
+
+    pub const USE_DCE_STYLE: ClientRequestFlags = ClientRequestFlags(0x00000200);
+
+    pub const DATAGRAM: ClientRequestFlags = ClientRequestFlags(0x00000400);
+
+    pub const CONNECTION: ClientRequestFlags = ClientRequestFlags(0x00000800);
+
+    pub const CALL_LEVEL: ClientRequestFlags = ClientRequestFlags(0x00001000);
+
+    pub const FRAGMENT_SUPPLIED: ClientRequestFlags = ClientRequestFlags(0x00002000);
+
+    pub const EXTENDED_ERROR: ClientRequestFlags = ClientRequestFlags(0x00004000);
+
+    pub const STREAM: ClientRequestFlags = ClientRequestFlags(0x00008000);
+
+    pub const INTEGRITY: ClientRequestFlags = ClientRequestFlags(0x00010000);
+
+    pub const IDENTIFY: ClientRequestFlags = ClientRequestFlags(0x00020000);
+
+    pub const NULL_SESSION: ClientRequestFlags = ClientRequestFlags(0x00040000);
+
+    pub const MANUAL_CRED_VALIDATION: ClientRequestFlags = ClientRequestFlags(0x00080000);
+
+    pub const RESERVED1: ClientRequestFlags = ClientRequestFlags(0x00100000);
+
+    pub const FRAGMENT_TO_FIT: ClientRequestFlags = ClientRequestFlags(0x00200000);
+
+    pub const FORWARD_CREDENTIALS: ClientRequestFlags = ClientRequestFlags(0x00400000);
+
+    pub const NO_INTEGRITY: ClientRequestFlags = ClientRequestFlags(0x00800000);
+
+    pub const USE_HTTP_STYLE: ClientRequestFlags = ClientRequestFlags(0x01000000);
+
+    pub const UNVERIFIED_TARGET_NAME: ClientRequestFlags = ClientRequestFlags(0x20000000);
+
+    pub const CONFIDENTIALITY_ONLY: ClientRequestFlags = ClientRequestFlags(0x40000000);
+
+    /// The flags that have a name, in the order of their table.
+    pub const FLAGS: &'static [Flag<ClientRequestFlags>] = &[
+        Flag {
+            name: "DELEGATE",
+            value: ClientRequestFlags::DELEGATE,
+        },
+        Flag {
+            name: "MUTUAL_AUTH",
+            value: ClientRequestFlags::MUTUAL_AUTH,
+        },
+        Flag {
+            name: "REPLAY_DETECT",
+            value: ClientRequestFlags::REPLAY_DETECT,
+        },
+        Flag {
+            name: "SEQUENCE_DETECT",
+            value: ClientRequestFlags::SEQUENCE_DETECT,
+        },
+        Flag {
+            name: "CONFIDENTIALITY",
+            value: ClientRequestFlags::CONFIDENTIALITY,
+        },
+        Flag {
+            name: "USE_SESSION_KEY",
+            value: ClientRequestFlags::USE_SESSION_KEY,
+        },
+        Flag {
+            name: "PROMPT_FOR_CREDS",
+            value: ClientRequestFlags::PROMPT_FOR_CREDS,
+        },
+        Flag {
+            name: "USE_SUPPLIED_CREDS",
+            value: ClientRequestFlags::USE_SUPPLIED_CREDS,
+        },
+        Flag {
+            name: "ALLOCATE_MEMORY",
+            value: ClientRequestFlags::ALLOCATE_MEMORY,
+        },
+        Flag {
+            name: "USE_DCE_STYLE",
+            value: ClientRequestFlags::USE_DCE_STYLE,
+        },
+        Flag {
+            name: "DATAGRAM",
+            value: ClientRequestFlags::DATAGRAM,
+        },
+        Flag {
+            name: "CONNECTION",
+            value: ClientRequestFlags::CONNECTION,
+        },
+        Flag {
+            name: "CALL_LEVEL",
+            value: ClientRequestFlags::CALL_LEVEL,
+        },
+        Flag {
+            name: "FRAGMENT_SUPPLIED",
+            value: ClientRequestFlags::FRAGMENT_SUPPLIED,
+        },
+        Flag {
+            name: "EXTENDED_ERROR",
+            value: ClientRequestFlags::EXTENDED_ERROR,
+        },
+        Flag {
+            name: "STREAM",
+            value: ClientRequestFlags::STREAM,
+        },
+        Flag {
+            name: "INTEGRITY",
+            value: ClientRequestFlags::INTEGRITY,
+        },
+        Flag {
+            name: "IDENTIFY",
+            value: ClientRequestFlags::IDENTIFY,
+        },
+        Flag {
+            name: "NULL_SESSION",
+            value: ClientRequestFlags::NULL_SESSION,
+        },
+        Flag {
+            name: "MANUAL_CRED_VALIDATION",
+            value: ClientRequestFlags::MANUAL_CRED_VALIDATION,
+        },
+        Flag {
+            name: "RESERVED1",
+            value: ClientRequestFlags::RESERVED1,
+        },
+        Flag {
+            name: "FRAGMENT_TO_FIT",
+            value: ClientRequestFlags::FRAGMENT_TO_FIT,
+        },
+        Flag {
+            name: "FORWARD_CREDENTIALS",
+            value: ClientRequestFlags::FORWARD_CREDENTIALS,
+        },
+        Flag {
+            name: "NO_INTEGRITY",
+            value: ClientRequestFlags::NO_INTEGRITY,
+        },
+        Flag {
+            name: "USE_HTTP_STYLE",
+            value: ClientRequestFlags::USE_HTTP_STYLE,
+        },
+        Flag {
+            name: "UNVERIFIED_TARGET_NAME",
+            value: ClientRequestFlags::UNVERIFIED_TARGET_NAME,
+        },
+        Flag {
+            name: "CONFIDENTIALITY_ONLY",
+            value: ClientRequestFlags::CONFIDENTIALITY_ONLY,
+        },
+    ];
+}
+
+impl Flags for ClientRequestFlags {
+    type Bits = u32;
+
+    ghost exact = { ⊤ };
+
+    ghost table = { client_request_flags };
+
+    ghost set_of = { λ flags. flags.0 };
+
+    fn flags<'a>() -> &'a [Flag<ClientRequestFlags>] {
+        ClientRequestFlags::FLAGS
+    }
+
+    fn bits(&self) -> u32 {
+        self.0
+    }
+
+    fn from_bits_retain(bits: u32) -> ClientRequestFlags {
+        ClientRequestFlags(bits)
+    }
+}
+
+/// The union: the flags of either side.
+impl BitOr for ClientRequestFlags {
+    type Output = ClientRequestFlags;
+
+    ghost bitor_gives = { λ left right both. both.0 ≡ bit_or left.0 right.0 };
+
+    fn bitor(self, other: ClientRequestFlags) -> ClientRequestFlags {
+        self.union(other)
+    }
+}

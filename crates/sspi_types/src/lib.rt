@@ -1,0 +1,78 @@
+//! The vocabulary of SSPI: what the calls of a security package speak of.
+//!
+//! Refusals are an `Error` of an `ErrorKind` and a fixed `Reason` (`error`, `error_kind`, `reason`), with
+//! the peer's `NStatusCode` where it gave one (`nstatus`). Buffers that callers and packages hand to each
+//! other stand in `buffer`, the packages themselves in `package`, what is asked of a context and what it
+//! has in the modules `*_flags`, what is known of it in `context`, `connection` and `certificate`.
+//!
+//! Promised of every table: the number, name and text of each value are those of its table in `specs/`,
+//! where each table stands once; a number outside it is `None`. What follows from the tables is in `laws`.
+//! `Bytes` and `Text` are a `Vec<u8>` and a `String` that contracts see as lists; copies are `clone(alloc)`
+//! calls that give an equal value or answer want of memory, which is `InsufficientMemory` everywhere.
+
+#![tactic(auto)]
+
+pub mod as_str;
+pub mod buffer;
+pub mod buffer_flags;
+pub mod buffer_type;
+pub mod bytes;
+pub mod cert_trust_error_status;
+pub mod cert_trust_info_status;
+pub mod certificate;
+pub mod client_request_flags;
+pub mod client_response_flags;
+pub mod connection;
+pub mod context;
+pub mod credential_use;
+pub mod data_representation;
+pub mod error;
+pub mod error_kind;
+pub mod laws;
+pub mod nstatus;
+pub mod package;
+pub mod package_capabilities;
+pub mod protection_flags;
+pub mod reason;
+pub mod secret;
+pub mod security_buffer_type;
+pub mod security_status;
+pub mod server_request_flags;
+pub mod server_response_flags;
+pub mod text;
+
+pub use as_str::AsStr;
+pub use buffer::SecurityBuffer;
+pub use buffer_flags::SecurityBufferFlags;
+pub use buffer_type::BufferType;
+pub use bytes::Bytes;
+pub use cert_trust_error_status::CertTrustErrorStatus;
+pub use cert_trust_info_status::CertTrustInfoStatus;
+pub use certificate::{CertEncodingType, CertTrustStatus};
+pub use client_request_flags::ClientRequestFlags;
+pub use client_response_flags::ClientResponseFlags;
+pub use connection::{
+    ConnectionCipher, ConnectionHash, ConnectionInfo, ConnectionKeyExchange, ConnectionProtocol,
+};
+pub use context::{ContextSizes, Luid, SessionKeys, StreamSizes};
+pub use credential_use::CredentialUse;
+pub use data_representation::DataRepresentation;
+pub use error::Error;
+pub use error_kind::ErrorKind;
+pub use nstatus::NStatusCode;
+pub use package::{
+    PKG_NAME, PackageInfo, SecurityPackageType, enumerate_security_packages,
+    negotiate_package_info, query_security_package_info,
+};
+pub use package_capabilities::PackageCapabilities;
+pub use protection_flags::{DecryptionFlags, EncryptionFlags};
+pub use reason::Reason;
+pub use secret::Secret;
+pub use security_buffer_type::{SECBUFFER_ATTRMASK, SecurityBufferType};
+pub use security_status::SecurityStatus;
+pub use server_request_flags::ServerRequestFlags;
+pub use server_response_flags::ServerResponseFlags;
+pub use text::Text;
+
+#[cfg(test)]
+mod tests;

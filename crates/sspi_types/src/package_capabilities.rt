@@ -1,0 +1,193 @@
+ghost use Rattle.std.specs.Prelude.{⊤, ◌≡◌};
+ghost use Rattle.std.specs.Int.RustNames.{bit_or};
+ghost use Rattle.sspi_types.specs.Capabilities.{package_capabilities};
+
+use bitflags::{Flag, Flags};
+use std::ops::BitOr;
+
+/// What a security package can do (`fCapabilities` of SecPkgInfo).
+#[derive(Clone, Copy, Debug, PartialEq, Eq, PartialOrd, Ord, Hash)]
+pub struct PackageCapabilities(u32);
+
+impl PackageCapabilities {
+    pub const INTEGRITY: PackageCapabilities = PackageCapabilities(0x00000001);
+
+    pub const PRIVACY: PackageCapabilities = PackageCapabilities(0x00000002);
+
+    pub const TOKEN_ONLY: PackageCapabilities = PackageCapabilities(0x00000004);
+
+    pub const DATAGRAM: PackageCapabilities = PackageCapabilities(0x00000008);
+
+    pub const CONNECTION: PackageCapabilities = PackageCapabilities(0x00000010);
+
+    pub const MULTI_REQUIRED: PackageCapabilities = PackageCapabilities(0x00000020);
+
+    pub const CLIENT_ONLY: PackageCapabilities = PackageCapabilities(0x00000040);
+
+    pub const EXTENDED_ERROR: PackageCapabilities = PackageCapabilities(0x00000080);
+
+    pub const IMPERSONATION: PackageCapabilities = PackageCapabilities(0x00000100);
+
+    pub const ACCEPT_WIN32_NAME: PackageCapabilities = PackageCapabilities(0x00000200);
+
+    pub const STREAM: PackageCapabilities = PackageCapabilities(0x00000400);
+
+    pub const NEGOTIABLE: PackageCapabilities = PackageCapabilities(0x00000800);
+
+    pub const GSS_COMPATIBLE: PackageCapabilities = PackageCapabilities(0x00001000);
+
+    pub const LOGON: PackageCapabilities = PackageCapabilities(0x00002000);
+
+    pub const ASCII_BUFFERS: PackageCapabilities = PackageCapabilities(0x00004000);
+
+    pub const FRAGMENT: PackageCapabilities = PackageCapabilities(0x00008000);
+
+    pub const MUTUAL_AUTH: PackageCapabilities = PackageCapabilities(0x00010000);
+
+    pub const DELEGATION: PackageCapabilities = PackageCapabilities(0x00020000);
+
+    pub const READONLY_WITH_CHECKSUM: PackageCapabilities = PackageCapabilities(0x00040000);
+
+    pub const RESTRICTED_TOKENS: PackageCapabilities = PackageCapabilities(0x00080000);
+
+    pub const NEGO_EXTENDER: PackageCapabilities = PackageCapabilities(0x00100000);
+
+    pub const NEGOTIABLE2: PackageCapabilities = PackageCapabilities(0x00200000);
+
+    pub const APP_CONTAINER_PASSTHROUGH: PackageCapabilities = PackageCapabilities(0x00400000);
+
+    pub const APP_CONTAINER_CHECKS: PackageCapabilities = PackageCapabilities(0x00800000);
+
+    /// The flags that have a name, in the order of their table.
+    pub const FLAGS: &'static [Flag<PackageCapabilities>] = &[
+        Flag {
+            name: "INTEGRITY",
+            value: PackageCapabilities::INTEGRITY,
+        },
+        Flag {
+            name: "PRIVACY",
+            value: PackageCapabilities::PRIVACY,
+        },
+        Flag {
+            name: "TOKEN_ONLY",
+            value: PackageCapabilities::TOKEN_ONLY,
+        },
+        Flag {
+            name: "DATAGRAM",
+            value: PackageCapabilities::DATAGRAM,
+        },
+        Flag {
+            name: "CONNECTION",
+            value: PackageCapabilities::CONNECTION,
+        },
+        Flag {
+            name: "MULTI_REQUIRED",
+            value: PackageCapabilities::MULTI_REQUIRED,
+        },
+        Flag {
+            name: "CLIENT_ONLY",
+            value: PackageCapabilities::CLIENT_ONLY,
+        },
+        Flag {
+            name: "EXTENDED_ERROR",
+            value: PackageCapabilities::EXTENDED_ERROR,
+        },
+        Flag {
+            name: "IMPERSONATION",
+            value: PackageCapabilities::IMPERSONATION,
+        },
+        Flag {
+            name: "ACCEPT_WIN32_NAME",
+            value: PackageCapabilities::ACCEPT_WIN32_NAME,
+        },
+        Flag {
+            name: "STREAM",
+            value: PackageCapabilities::STREAM,
+        },
+        Flag {
+            name: "NEGOTIABLE",
+            value: PackageCapabilities::NEGOTIABLE,
+        },
+        Flag {
+            name: "GSS_COMPATIBLE",
+            value: PackageCapabilities::GSS_COMPATIBLE,
+        },
+        Flag {
+            name: "LOGON",
+            value: PackageCapabilities::LOGON,
+        },
+        Flag {
+            name: "ASCII_BUFFERS",
+            value: PackageCapabilities::ASCII_BUFFERS,
+        },
+        Flag {
+            name: "FRAGMENT",
+            value: PackageCapabilities::FRAGMENT,
+        },
+        Flag {
+            name: "MUTUAL_AUTH",
+            value: PackageCapabilities::MUTUAL_AUTH,
+        },
+        Flag {
+            name: "DELEGATION",
+            value: PackageCapabilities::DELEGATION,
+        },
+        Flag {
+            name: "READONLY_WITH_CHECKSUM",
+            value: PackageCapabilities::READONLY_WITH_CHECKSUM,
+        },
+        Flag {
+            name: "RESTRICTED_TOKENS",
+            value: PackageCapabilities::RESTRICTED_TOKENS,
+        },
+        Flag {
+            name: "NEGO_EXTENDER",
+            value: PackageCapabilities::NEGO_EXTENDER,
+        },
+        Flag {
+            name: "NEGOTIABLE2",
+            value: PackageCapabilities::NEGOTIABLE2,
+        },
+        Flag {
+            name: "APP_CONTAINER_PASSTHROUGH",
+            value: PackageCapabilities::APP_CONTAINER_PASSTHROUGH,
+        },
+        Flag {
+            name: "APP_CONTAINER_CHECKS",
+            value: PackageCapabilities::APP_CONTAINER_CHECKS,
+        },
+    ];
+}
+
+impl Flags for PackageCapabilities {
+    type Bits = u32;
+
+    ghost exact = { ⊤ };
+
+    ghost table = { package_capabilities };
+
+    ghost set_of = { λ flags. flags.0 };
+
+    fn flags<'a>() -> &'a [Flag<PackageCapabilities>] {
+        PackageCapabilities::FLAGS
+    }
+
+    fn bits(&self) -> u32 {
+        self.0
+    }
+
+    fn from_bits_retain(bits: u32) -> PackageCapabilities {
+        PackageCapabilities(bits)
+    }
+}
+
+/// The union: the flags of either side.
+impl BitOr for PackageCapabilities {
+    type Output = PackageCapabilities;
+
+    ghost bitor_gives = { λ left right both. both.0 ≡ bit_or left.0 right.0 };
+
+    fn bitor(self, other: PackageCapabilities) -> PackageCapabilities {
+        self.union(other)
+    }
+}

@@ -1,0 +1,199 @@
+ghost use Rattle.std.specs.Prelude.{⊤, ◌≡◌};
+ghost use Rattle.std.specs.Int.RustNames.{bit_or};
+ghost use Rattle.sspi_types.specs.RequestFlags.{server_request_flags};
+
+use bitflags::{Flag, Flags};
+use std::ops::BitOr;
+
+/// The context attributes that a server asks for (`fContextReq` of AcceptSecurityContext).
+#[derive(Clone, Copy, Debug, PartialEq, Eq, PartialOrd, Ord, Hash)]
+pub struct ServerRequestFlags(u32);
+
+impl ServerRequestFlags {
+    pub const DELEGATE: ServerRequestFlags = ServerRequestFlags(0x00000001);
+
+    pub const MUTUAL_AUTH: ServerRequestFlags = ServerRequestFlags(0x00000002);
+
+    pub const REPLAY_DETECT: ServerRequestFlags = ServerRequestFlags(0x00000004);
+
+    pub const SEQUENCE_DETECT: ServerRequestFlags = ServerRequestFlags(0x00000008);
+
+    pub const CONFIDENTIALITY: ServerRequestFlags = ServerRequestFlags(0x00000010);
+
+    pub const USE_SESSION_KEY: ServerRequestFlags = ServerRequestFlags(0x00000020);
+
+    pub const SESSION_TICKET: ServerRequestFlags = ServerRequestFlags(0x00000040);
+
+    pub const ALLOCATE_MEMORY: ServerRequestFlags = ServerRequestFlags(0x00000100);
+
+    pub const USE_DCE_STYLE: ServerRequestFlags = ServerRequestFlags(0x00000200);
+
+    pub const DATAGRAM: ServerRequestFlags = ServerRequestFlags(0x00000400);
+
+    pub const CONNECTION: ServerRequestFlags = ServerRequestFlags(0x00000800);
+
+    pub const CALL_LEVEL: ServerRequestFlags = ServerRequestFlags(0x00001000);
+
+    pub const FRAGMENT_SUPPLIED: ServerRequestFlags = ServerRequestFlags(0x00002000);
+
+    pub const EXTENDED_ERROR: ServerRequestFlags = ServerRequestFlags(0x00008000);
+
+    pub const STREAM: ServerRequestFlags = ServerRequestFlags(0x00010000);
+
+    pub const INTEGRITY: ServerRequestFlags = ServerRequestFlags(0x00020000);
+
+    pub const LICENSING: ServerRequestFlags = ServerRequestFlags(0x00040000);
+
+    pub const IDENTIFY: ServerRequestFlags = ServerRequestFlags(0x00080000);
+
+    pub const ALLOW_NULL_SESSION: ServerRequestFlags = ServerRequestFlags(0x00100000);
+
+    pub const ALLOW_NON_USER_LOGONS: ServerRequestFlags = ServerRequestFlags(0x00200000);
+
+    pub const ALLOW_CONTEXT_REPLAY: ServerRequestFlags = ServerRequestFlags(0x00400000);
+
+    pub const FRAGMENT_TO_FIT: ServerRequestFlags = ServerRequestFlags(0x00800000);
+
+    pub const NO_TOKEN: ServerRequestFlags = ServerRequestFlags(0x01000000);
+
+    pub const PROXY_BINDINGS: ServerRequestFlags = ServerRequestFlags(0x04000000);
+
+    pub const ALLOW_MISSING_BINDINGS: ServerRequestFlags = ServerRequestFlags(0x10000000);
+
+    /// The flags that have a name, in the order of their table.
+    pub const FLAGS: &'static [Flag<ServerRequestFlags>] = &[
+        Flag {
+            name: "DELEGATE",
+            value: ServerRequestFlags::DELEGATE,
+        },
+        Flag {
+            name: "MUTUAL_AUTH",
+            value: ServerRequestFlags::MUTUAL_AUTH,
+        },
+        Flag {
+            name: "REPLAY_DETECT",
+            value: ServerRequestFlags::REPLAY_DETECT,
+        },
+        Flag {
+            name: "SEQUENCE_DETECT",
+            value: ServerRequestFlags::SEQUENCE_DETECT,
+        },
+        Flag {
+            name: "CONFIDENTIALITY",
+            value: ServerRequestFlags::CONFIDENTIALITY,
+        },
+        Flag {
+            name: "USE_SESSION_KEY",
+            value: ServerRequestFlags::USE_SESSION_KEY,
+        },
+        Flag {
+            name: "SESSION_TICKET",
+            value: ServerRequestFlags::SESSION_TICKET,
+        },
+        Flag {
+            name: "ALLOCATE_MEMORY",
+            value: ServerRequestFlags::ALLOCATE_MEMORY,
+        },
+        Flag {
+            name: "USE_DCE_STYLE",
+            value: ServerRequestFlags::USE_DCE_STYLE,
+        },
+        Flag {
+            name: "DATAGRAM",
+            value: ServerRequestFlags::DATAGRAM,
+        },
+        Flag {
+            name: "CONNECTION",
+            value: ServerRequestFlags::CONNECTION,
+        },
+        Flag {
+            name: "CALL_LEVEL",
+            value: ServerRequestFlags::CALL_LEVEL,
+        },
+        Flag {
+            name: "FRAGMENT_SUPPLIED",
+            value: ServerRequestFlags::FRAGMENT_SUPPLIED,
+        },
+        Flag {
+            name: "EXTENDED_ERROR",
+            value: ServerRequestFlags::EXTENDED_ERROR,
+        },
+        Flag {
+            name: "STREAM",
+            value: ServerRequestFlags::STREAM,
+        },
+        Flag {
+            name: "INTEGRITY",
+            value: ServerRequestFlags::INTEGRITY,
+        },
+        Flag {
+            name: "LICENSING",
+            value: ServerRequestFlags::LICENSING,
+        },
+        Flag {
+            name: "IDENTIFY",
+            value: ServerRequestFlags::IDENTIFY,
+        },
+        Flag {
+            name: "ALLOW_NULL_SESSION",
+            value: ServerRequestFlags::ALLOW_NULL_SESSION,
+        },
+        Flag {
+            name: "ALLOW_NON_USER_LOGONS",
+            value: ServerRequestFlags::ALLOW_NON_USER_LOGONS,
+        },
+        Flag {
+            name: "ALLOW_CONTEXT_REPLAY",
+            value: ServerRequestFlags::ALLOW_CONTEXT_REPLAY,
+        },
+        Flag {
+            name: "FRAGMENT_TO_FIT",
+            value: ServerRequestFlags::FRAGMENT_TO_FIT,
+        },
+        Flag {
+            name: "NO_TOKEN",
+            value: ServerRequestFlags::NO_TOKEN,
+        },
+        Flag {
+            name: "PROXY_BINDINGS",
+            value: ServerRequestFlags::PROXY_BINDINGS,
+        },
+        Flag {
+            name: "ALLOW_MISSING_BINDINGS",
+            value: ServerRequestFlags::ALLOW_MISSING_BINDINGS,
+        },
+    ];
+}
+
+impl Flags for ServerRequestFlags {
+    type Bits = u32;
+
+    ghost exact = { ⊤ };
+
+    ghost table = { server_request_flags };
+
+    ghost set_of = { λ flags. flags.0 };
+
+    fn flags<'a>() -> &'a [Flag<ServerRequestFlags>] {
+        ServerRequestFlags::FLAGS
+    }
+
+    fn bits(&self) -> u32 {
+        self.0
+    }
+
+    fn from_bits_retain(bits: u32) -> ServerRequestFlags {
+        ServerRequestFlags(bits)
+    }
+}
+
+/// The union: the flags of either side.
+impl BitOr for ServerRequestFlags {
+    type Output = ServerRequestFlags;
+
+    ghost bitor_gives = { λ left right both. both.0 ≡ bit_or left.0 right.0 };
+
+    fn bitor(self, other: ServerRequestFlags) -> ServerRequestFlags {
+        self.union(other)
+    }
+}
