@@ -1,0 +1,10 @@
+pub mod CodeUnits
+pub mod Folded
+pub mod Found
+pub mod Identities
+pub mod Joined
+pub mod New
+pub mod Parse
+pub mod Places
+pub mod Shown
+pub mod Spelled

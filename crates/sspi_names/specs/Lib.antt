@@ -1,0 +1,12 @@
+pub mod Credentials
+pub mod Equality
+pub mod Format
+pub mod Grammar
+pub mod Identity
+pub mod Kdcs
+pub mod Name
+pub mod Named
+pub mod Places
+pub mod Refusals
+pub mod Username
+pub mod Utf16

@@ -1,0 +1,106 @@
+ghost use Rattle.std.specs.Prelude.{◌≡◌, IfOk, option_copied};
+
+use crate::identity::{AuthIdentity, AuthIdentityBuffers, KeytabIdentity};
+use std::alloc::{AllocError, Global};
+
+/// What a client authenticates by.
+#[derive(Drop, PartialEq, Eq)]
+pub enum Credentials {
+    AuthIdentity(AuthIdentity),
+    Keytab(KeytabIdentity),
+}
+
+/// `Credentials` with the texts as UTF-16.
+#[derive(Drop, PartialEq, Eq)]
+pub enum CredentialsBuffers {
+    AuthIdentity(AuthIdentityBuffers),
+    Keytab(KeytabIdentity),
+}
+
+impl From<AuthIdentity> for Credentials {
+    ghost use Rattle.sspi_names.specs.declared.credentials.Credentials.TheVariants as credentials;
+    ghost use Rattle.std.specs.Prelude.{◌≡◌};
+
+    ghost from_gives = { λ identity made. made ≡ credentials.AuthIdentity identity };
+
+    fn from(identity: AuthIdentity) -> Credentials {
+        Credentials::AuthIdentity(identity)
+    }
+}
+
+impl Credentials {
+    ghost use Rattle.sspi_names.specs.Credentials.{AreCredentials, credentials_buffers_of, password_identity};
+
+    /// The credentials with the texts as UTF-16. A keytab stays as it is.
+    pub fn to_buffers(&self, alloc: Global) -> Result<CredentialsBuffers, AllocError>
+        ensures buffers { IfOk result (λ buffers. buffers ≡ credentials_buffers_of self.now) }
+        ensures well_formed { IfOk result (λ buffers. AreCredentials buffers) }
+    {
+        match self {
+            Credentials::AuthIdentity(identity) => Ok(CredentialsBuffers::AuthIdentity(
+                identity.to_buffers(alloc)?,
+            )),
+            Credentials::Keytab(identity) => Ok(CredentialsBuffers::Keytab(identity.clone(alloc)?)),
+        }
+    }
+
+    /// The identity with a password; none exactly for a keytab.
+    pub fn auth_identity(&self) -> Option<&AuthIdentity>
+        ensures { option_copied result ≡ password_identity self.now }
+    {
+        match self {
+            Credentials::AuthIdentity(identity) => Some(identity),
+            Credentials::Keytab(_) => None,
+        }
+    }
+
+    /// A copy in memory of its own, equal to these credentials.
+    pub fn clone(&self, alloc: Global) -> Result<Credentials, AllocError>
+        ensures { IfOk result (λ credentials. credentials ≡ self.now) }
+    {
+        match self {
+            Credentials::AuthIdentity(identity) => Ok(Credentials::AuthIdentity(identity.clone(
+                alloc,
+            )?)),
+            Credentials::Keytab(identity) => Ok(Credentials::Keytab(identity.clone(alloc)?)),
+        }
+    }
+}
+
+impl CredentialsBuffers {
+    ghost use Rattle.sspi_names.specs.Credentials.{password_buffers};
+
+    /// The buffers of a name and a password; none exactly for a keytab.
+    pub fn as_auth_identity(&self) -> Option<&AuthIdentityBuffers>
+        ensures { option_copied result ≡ password_buffers self.now }
+    {
+        match self {
+            CredentialsBuffers::AuthIdentity(buffers) => Some(buffers),
+            CredentialsBuffers::Keytab(_) => None,
+        }
+    }
+
+    /// The buffers of a name and a password, which are moved and not copied; none exactly for a keytab.
+    pub fn into_auth_identity(self) -> Option<AuthIdentityBuffers>
+        ensures { result ≡ password_buffers self }
+    {
+        match self {
+            CredentialsBuffers::AuthIdentity(buffers) => Some(buffers),
+            CredentialsBuffers::Keytab(_) => None,
+        }
+    }
+
+    /// A copy in memory of its own, equal to these credentials.
+    pub fn clone(&self, alloc: Global) -> Result<CredentialsBuffers, AllocError>
+        ensures { IfOk result (λ credentials. credentials ≡ self.now) }
+    {
+        match self {
+            CredentialsBuffers::AuthIdentity(buffers) => Ok(CredentialsBuffers::AuthIdentity(
+                buffers.clone(alloc)?,
+            )),
+            CredentialsBuffers::Keytab(identity) => Ok(CredentialsBuffers::Keytab(identity.clone(
+                alloc,
+            )?)),
+        }
+    }
+}

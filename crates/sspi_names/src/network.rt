@@ -1,0 +1,34 @@
+ghost use Rattle.std.specs.Prelude.{◌≡◌, IfOk};
+
+use sspi_types::{Bytes, Text};
+use std::alloc::{AllocError, Global};
+
+/// The transport by which a KDC is asked.
+#[derive(Clone, Copy, Debug, PartialEq, Eq)]
+pub enum NetworkProtocol {
+    Tcp,
+    Udp,
+    Http,
+    Https,
+}
+
+/// What a suspended step asks of a KDC.
+#[derive(Drop, PartialEq, Eq)]
+pub struct NetworkRequest {
+    pub protocol: NetworkProtocol,
+    pub url: Text,
+    pub payload: Bytes,
+}
+
+impl NetworkRequest {
+    /// A copy in memory of its own, equal to this request.
+    pub fn clone(&self, alloc: Global) -> Result<NetworkRequest, AllocError>
+        ensures { IfOk result (λ request. request ≡ self.now) }
+    {
+        Ok(NetworkRequest {
+            protocol: self.protocol,
+            url: self.url.clone(alloc)?,
+            payload: self.payload.clone(alloc)?,
+        })
+    }
+}

@@ -1,0 +1,55 @@
+ghost use Rattle.std.specs.Prelude.{◌≡◌, [], length, ◌<◌, option_copied, unwrap_or};
+ghost use Rattle.sspi_names.specs.Name.{parse_name, new_name};
+ghost use Rattle.sspi_names.specs.Named.{IsNamed};
+
+use crate::error::UsernameError;
+use crate::separators::contains_separator;
+use crate::shape::Shape;
+use crate::username::Username;
+use std::alloc::{AllocError, Global};
+
+impl Username {
+    /// The name that the text is. With a `@` it is a user principal name, split at the last one; with a `\` the
+    /// domain stands before it; with neither it is an account alone.
+    /// `MixedFormat` comes exactly where both stand in the text, or `\` more than once.
+    pub fn parse(alloc: Global, value: &str) -> Result<Username, UsernameError>
+        ensures { IsNamed result (parse_name value.now) }
+    {
+        let Some((inner, shape)) = Shape::split(value) else {
+            return Err(UsernameError::MixedFormat);
+        };
+        Ok(Username::held(alloc, inner, shape)?)
+    }
+
+    /// The name of an account and a domain: a down-level name where the domain is not empty, else what `parse` makes
+    /// of the account.
+    /// `MixedFormat` comes exactly where `@` or `\` stands in the account or the domain of a down-level name, and
+    /// where `parse` answers it.
+    pub fn new(
+        alloc: Global,
+        account_name: &str,
+        domain_name: Option<&str>,
+    ) -> Result<Username, UsernameError>
+        ensures { IsNamed result (new_name account_name.now (unwrap_or (option_copied domain_name.entry) [])) }
+    {
+        let domain = domain_name.unwrap_or("");
+        if domain.is_empty() {
+            Username::parse(alloc, account_name)
+        } else {
+            Username::qualified(alloc, account_name, domain)
+        }
+    }
+
+    fn qualified(alloc: Global, account: &str, domain: &str) -> Result<Username, UsernameError>
+        requires { 0 < length domain.now }
+        ensures { IsNamed result (new_name account.now domain.now) }
+    {
+        if contains_separator(account) {
+            return Err(UsernameError::MixedFormat);
+        }
+        if contains_separator(domain) {
+            return Err(UsernameError::MixedFormat);
+        }
+        Ok(Username::joined(alloc, account, domain)?)
+    }
+}

@@ -1,0 +1,60 @@
+ghost use Rattle.std.specs.Prelude.{◌≡◌, ◌+◌, ◌<◌, false, take, drop, length, slice_index, MatchOption};
+ghost use Rattle.sspi_names.specs.Places.{IsFirst, IsLast};
+ghost use Rattle.sspi_names.specs.Name.{at_sign, backslash, has_at_sign, has_backslash, has_separator};
+
+/// Where the last `@` stands.
+#[tactic(auto, using(crate::proofs::Found::last_at_sign_found))]
+pub fn last_at_sign(text: &str) -> Option<usize>
+    ensures { MatchOption result (has_at_sign text.now ≡ false) (λ at. IsLast at_sign text.now at) }
+{
+    text.rfind('@')
+}
+
+/// Where the first `\` stands.
+#[tactic(auto, using(crate::proofs::Found::first_backslash_found))]
+pub fn first_backslash(text: &str) -> Option<usize>
+    ensures { MatchOption result (has_backslash text.now ≡ false) (λ at. IsFirst backslash text.now at) }
+{
+    text.find('\\')
+}
+
+/// Whether a `@` stands in the text.
+#[tactic(auto, using(crate::proofs::Found::contained))]
+fn contains_at_sign(text: &str) -> bool
+    ensures { result ≡ has_at_sign text.now }
+{
+    text.contains('@')
+}
+
+/// Whether a `\` stands in the text.
+#[tactic(auto, using(crate::proofs::Found::contained))]
+pub fn contains_backslash(text: &str) -> bool
+    ensures { result ≡ has_backslash text.now }
+{
+    text.contains('\\')
+}
+
+/// Whether a `@` or a `\` stands in the text.
+pub fn contains_separator(text: &str) -> bool
+    ensures { result ≡ has_separator text.now }
+{
+    contains_at_sign(text) || contains_backslash(text)
+}
+
+/// What stands before the ASCII character at `at`.
+pub fn before(text: &str, at: usize) -> &str
+    requires within { at < length text.now }
+    requires ascii { slice_index text.now at < 128 }
+    ensures { result.now ≡ take at text.now }
+{
+    &text[..at]
+}
+
+/// What stands after the ASCII character at `at`.
+pub fn after(text: &str, at: usize) -> &str
+    requires within { at < length text.now }
+    requires ascii { slice_index text.now at < 128 }
+    ensures { result.now ≡ drop (at + 1) text.now }
+{
+    &text[at + 1..]
+}
