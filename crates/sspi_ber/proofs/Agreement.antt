@@ -1,0 +1,57 @@
+-- The laws that public functions state.
+use Rattle.std.proofs.Common.{◌≡◌, ℕ, ◌<◌, ◌≤◌, List, [], ◌∷◌, ◌++◌, length, get_or, Ok, refl, arith, inl, inr}
+use Rattle.std.proofs.lemmas.Bool.{cases_lt, lt-ltb, le-ltb}
+use Rattle.sspi_ber.specs.Forms.{IsLength, IsElement, IsInteger}
+use Rattle.sspi_ber.specs.Limit.{max_content}
+use Rattle.sspi_ber.specs.Pieces.{length_at, element_at, integer_at}
+use Rattle.sspi_ber.specs.Short.{len_short, element, int_short}
+use Rattle.sspi_ber.proofs.PiecesMatch.{length_match, integer_match, element_match}
+use Rattle.sspi_ber.proofs.Short.{short_length, short_integer, short_element}
+
+pub length_takes : (bytes : List ℕ) (n : ℕ) (rest : List ℕ) → length_at bytes ≡ Ok (n, rest) → (text : List ℕ) × IsLength text n × (bytes ≡ text ++ rest)
+length_takes = length_match.takes
+
+pub length_again : (text : List ℕ) (n : ℕ) (rest : List ℕ) → IsLength text n → length_at (text ++ rest) ≡ Ok (n, rest)
+length_again = length_match.again
+
+pub integer_takes : (bytes : List ℕ) (value : ℕ) (rest : List ℕ) → integer_at bytes ≡ Ok (value, rest) → (text : List ℕ) × IsInteger text value × (bytes ≡ text ++ rest)
+integer_takes = integer_match.takes
+
+pub integer_again : (text : List ℕ) (value : ℕ) (rest : List ℕ) → IsInteger text value → integer_at (text ++ rest) ≡ Ok (value, rest)
+integer_again = integer_match.again
+
+pub element_takes : (tag : ℕ) (bytes content rest : List ℕ) → element_at tag bytes ≡ Ok (content, rest) → (text : List ℕ) × IsElement tag text content × (bytes ≡ text ++ rest)
+element_takes tag = (element_match tag).takes
+
+pub element_again : (tag : ℕ) (text content rest : List ℕ) → IsElement tag text content → element_at tag (text ++ rest) ≡ Ok (content, rest)
+element_again tag = (element_match tag).again
+
+pub short_length_again : (n : ℕ) (more : List ℕ) → n ≤ max_content → length_at (len_short n ++ more) ≡ Ok (n, more)
+short_length_again n more le = length_match.again (len_short n) n more (short_length n le)
+
+pub short_integer_again : (value : ℕ) (more : List ℕ) → integer_at (int_short value ++ more) ≡ Ok (value, more)
+short_integer_again value more = integer_match.again (int_short value) value more (short_integer value)
+
+pub short_element_again : (tag : ℕ) (content more : List ℕ) → length content ≤ max_content → element_at tag (element tag content ++ more) ≡ Ok (content, more)
+short_element_again tag content more le = (element_match tag).again (element tag content) content more (short_element tag content le)
+
+one_byte : (n : ℕ) → n < 0x80 → length (len_short n) ≡ 1
+unfolding len_short
+one_byte n lt = rw (lt-ltb n 0x80 lt) refl
+
+two_bytes : (n : ℕ) → n < 0x100 → length (len_short n) ≤ 2
+unfolding len_short
+two_bytes n lt = elim (cases_lt n 0x80) [ inl small ↦ rw (lt-ltb n 0x80 small) (omega arith) | inr ge ↦ rw (le-ltb n 0x80 ge, lt-ltb n 0x100 lt) (omega arith) ]
+
+three_bytes : (n : ℕ) → length (len_short n) ≤ 3
+unfolding len_short
+three_bytes n = elim (cases_lt n 0x100) [ inl lt ↦ (let le = two_bytes n lt in omega arith) | inr ge ↦ (let above : 0x80 ≤ n = omega arith in rw (le-ltb n 0x80 above, le-ltb n 0x100 ge) (omega arith)) ]
+
+pub none_shorter : (text : List ℕ) (n : ℕ) → ((i : ℕ) → get_or text i 0 < 256) → IsLength text n → length (len_short n) ≤ length text
+none_shorter [] n bytes t = absurd t
+none_shorter (a ∷ []) n bytes t = let one : length (len_short n) ≡ 1 = one_byte n (omega arith) in omega arith
+none_shorter (a ∷ b ∷ []) n bytes t = let byte : b < 256 = bytes 1 in two_bytes n (omega arith)
+none_shorter (a ∷ b ∷ c ∷ []) n bytes t = three_bytes n
+none_shorter (a ∷ b ∷ c ∷ d ∷ more) n bytes t = absurd t
+
+pub ruleset agreement = (length_takes, length_again, integer_takes, integer_again, element_takes, element_again, short_length_again, short_integer_again, short_element_again, none_shorter)

@@ -1,0 +1,10 @@
+pub mod Match
+pub mod PiecesMatch
+pub mod Short
+pub mod Written
+pub mod Rest
+pub mod Numbers
+pub mod Absent
+pub mod Sized
+pub mod Agreement
+pub mod Steady

@@ -1,0 +1,81 @@
+-- The shortest spelling of each piece is one of its forms.
+use Rattle.std.proofs.Common.{◌≡◌, ℕ, ◌/◌, ◌%◌, ◌<◌, ◌≤◌, true, List, [], ◌∷◌, length, refl, sym, subst, arith, inl, inr}
+use Rattle.std.proofs.lemmas.Bool.{cases_lt, lt-ltb, le-ltb}
+use Rattle.sspi_ber.specs.Limit.{max_content}
+use Rattle.sspi_ber.specs.Forms.{IsLength, IsElement, IsTagged, IsInteger, big_endian, is_integer_size}
+use Rattle.sspi_ber.specs.Short.{len_short, header, element, int_content, int_short}
+
+len_small : (n : ℕ) → n < 0x80 → len_short n ≡ n ∷ []
+unfolding len_short
+len_small n lt = rw (lt-ltb n 0x80 lt) refl
+
+len_middle : (n : ℕ) → 0x80 ≤ n → n < 0x100 → len_short n ≡ 0x81 ∷ n ∷ []
+unfolding len_short
+len_middle n ge lt = rw (le-ltb n 0x80 ge, lt-ltb n 0x100 lt) refl
+
+len_wide : (n : ℕ) → 0x100 ≤ n → len_short n ≡ 0x82 ∷ n / 256 ∷ n % 256 ∷ []
+unfolding len_short
+len_wide n ge = let above : 0x80 ≤ n = omega arith in rw (le-ltb n 0x80 above, le-ltb n 0x100 ge) refl
+
+pub short_length : (n : ℕ) → n ≤ max_content → IsLength (len_short n) n
+short_length n le =
+    elim (cases_lt n 0x80) [
+      | inl lt ↦ subst (λ (l : List ℕ). IsLength l n) (sym (len_small n lt)) (lt, refl)
+      | inr ge ↦ elim (cases_lt n 0x100) [
+        | inl lt ↦ subst (λ (l : List ℕ). IsLength l n) (sym (len_middle n ge lt)) (refl, refl)
+        | inr wide ↦ subst (λ (l : List ℕ). IsLength l n) (sym (len_wide n wide)) (refl, omega arith, le)
+      ]
+    ]
+
+pub short_element : (tag : ℕ) (content : List ℕ) → length content ≤ max_content → IsElement tag (element tag content) content
+unfolding element header
+short_element tag content le = record { len = len_short (length content); spelled = refl; measured = short_length (length content) le }
+
+pub short_tagged : (tag : ℕ) (inner : List ℕ) → length inner ≤ max_content → IsTagged tag (element tag inner) inner
+unfolding element header
+short_tagged tag inner le = record { len = len_short (length inner); number = length inner; spelled = refl; measured = short_length (length inner) le }
+
+-- the content of an integer, whatever its size
+record IsContent (v : ℕ) (content : List ℕ) : Type 0 where
+  small : length content ≤ 4
+  sized : is_integer_size (length content) ≡ true
+  stands_for : v ≡ big_endian content
+
+int_one : (v : ℕ) → v < 0x80 → int_content v ≡ v ∷ []
+unfolding int_content
+int_one v lt = rw (lt-ltb v 0x80 lt) refl
+
+int_two : (v : ℕ) → 0x80 ≤ v → v < 0x8000 → int_content v ≡ v / 0x100 ∷ v % 0x100 ∷ []
+unfolding int_content
+int_two v ge lt = rw (le-ltb v 0x80 ge, lt-ltb v 0x8000 lt) refl
+
+int_three : (v : ℕ) → 0x8000 ≤ v → v < 0x800000 → int_content v ≡ v / 0x10000 ∷ v / 0x100 % 0x100 ∷ v % 0x100 ∷ []
+unfolding int_content
+int_three v ge lt = let above : 0x80 ≤ v = omega arith in rw (le-ltb v 0x80 above, le-ltb v 0x8000 ge, lt-ltb v 0x800000 lt) refl
+
+int_four : (v : ℕ) → 0x800000 ≤ v → int_content v ≡ v / 0x1000000 ∷ v / 0x10000 % 0x100 ∷ v / 0x100 % 0x100 ∷ v % 0x100 ∷ []
+unfolding int_content
+int_four v ge =
+    let above : 0x80 ≤ v = omega arith in
+    let higher : 0x8000 ≤ v = omega arith in
+    rw (le-ltb v 0x80 above, le-ltb v 0x8000 higher, le-ltb v 0x800000 ge) refl
+
+short_content : (v : ℕ) → IsContent v (int_content v)
+short_content v =
+    elim (cases_lt v 0x80) [
+      | inl lt ↦ subst (IsContent v) (sym (int_one v lt)) (record { small = omega arith; sized = refl; stands_for = omega arith })
+      | inr ge ↦ elim (cases_lt v 0x8000) [
+        | inl lt ↦ subst (IsContent v) (sym (int_two v ge lt)) (record { small = omega arith; sized = refl; stands_for = omega arith })
+        | inr more ↦ elim (cases_lt v 0x800000) [
+          | inl lt ↦ subst (IsContent v) (sym (int_three v more lt)) (record { small = omega arith; sized = refl; stands_for = omega arith })
+          | inr most ↦ subst (IsContent v) (sym (int_four v most)) (record { small = omega arith; sized = refl; stands_for = omega arith })
+        ]
+      ]
+    ]
+
+pub short_integer : (v : ℕ) → IsInteger (int_short v) v
+unfolding int_short
+short_integer v =
+    let c = short_content v in
+    let le : length (int_content v) ≤ max_content = omega (arith, c.small) in
+    record { content = int_content v; element = short_element 0x02 (int_content v) le; sized = c.sized; stands_for = c.stands_for }

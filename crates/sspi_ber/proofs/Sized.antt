@@ -1,0 +1,78 @@
+-- A length with how many bytes it took, and the length alone.
+use Rattle.std.proofs.Common.{◌≡◌, ℕ, ◌+◌, ◌-◌, ◌≤◌, List, [], ◌∷◌, length, subst, ◌∙◌, arith, eq-eqb, Option, None, Some, Ok, Err, refl, sym, ap}
+use Rattle.sspi_ber.specs.declared.wire_kind.WireKind.{WireKind}
+use Rattle.sspi_ber.specs.declared.wire_kind.WireKind.TheVariants.{UnexpectedEof, InvalidData, ReadFault, WriteFault, InsufficientMemory}
+use Rattle.sspi_ber.specs.Fault.{Fault, Ended, Invalid, Read, ◌>>=◌}
+use Rattle.sspi_ber.specs.Outside.{Answers, Reads}
+use Rattle.std.proofs.lemmas.List.{length-append}
+use Rattle.sspi_ber.proofs.PiecesMatch.{length_match}
+use Rattle.sspi_ber.specs.Pieces.{byte_at, length_at, sized_length_at, header_at, sized_header_at}
+
+abbrev whole : ℕ × ℕ → ℕ × ℕ
+whole sized = (sized.0, sized.1)
+
+abbrev same : ℕ → ℕ
+same n = n
+
+abbrev with_size : List ℕ → ℕ × List ℕ → Read (ℕ × ℕ)
+with_size bytes n = Ok ((n.0, length bytes - length n.1), n.1)
+
+half : (bytes : List ℕ) (after : Option (List ℕ)) (sized : ℕ × ℕ) (read : Read ℕ) → Answers whole after (Ok sized) (read >>= with_size bytes) → Answers same after (Ok sized.0) read
+half bytes after sized (Ok x) h = (ap (λ (p : ℕ × ℕ). p.0) h.0, h.1)
+half bytes after sized (Err fault) h = absurd h
+
+pub length_half : (before after : Option (List ℕ)) (sized : ℕ × ℕ) → Reads (λ (x : ℕ × ℕ). (x.0, x.1)) before after (Ok sized) sized_length_at → Reads (λ (n : ℕ). n) before after (Ok sized.0) length_at
+unfolding sized_length_at
+length_half None after sized h = tt
+length_half (Some bytes) after sized h = half bytes after sized (length_at bytes) h
+
+fault_same : (bytes : List ℕ) (read : Read ℕ) (fault : Fault) → (read >>= with_size bytes) ≡ Err fault → read ≡ Err fault
+fault_same bytes (Ok x) fault e = absurd cc
+fault_same bytes (Err other) fault e = cc
+
+half_fault : (bytes : List ℕ) (after : Option (List ℕ)) (kind : WireKind) (read : Read ℕ)
+    → Answers {X = ℕ × ℕ} whole after (Err kind) (read >>= with_size bytes) → Answers {X = ℕ} same after (Err kind) read
+half_fault bytes after UnexpectedEof read h = fault_same bytes read Ended h
+half_fault bytes after InvalidData read h = fault_same bytes read Invalid h
+half_fault bytes after ReadFault read h = tt
+half_fault bytes after WriteFault read h = tt
+half_fault bytes after InsufficientMemory read h = tt
+
+pub length_fault : (before after : Option (List ℕ)) (kind : WireKind)
+    → Reads {X = ℕ × ℕ} (λ x. (x.0, x.1)) before after (Err kind) sized_length_at → Reads {X = ℕ} (λ n. n) before after (Err kind) length_at
+unfolding sized_length_at
+length_fault None after kind h = tt
+length_fault (Some bytes) after kind h = half_fault bytes after kind (length_at bytes) h
+
+-- ---- one byte more
+
+pair : ℕ → ℕ → ℕ × ℕ
+pair a b = (a, b)
+
+grown : (b : ℕ) (rest : List ℕ) (after : Option (List ℕ)) (sized : ℕ × ℕ) (read : Read ℕ) → ((n : ℕ × List ℕ) → read ≡ Ok n → length n.1 ≤ length rest)
+    → Answers whole after (Ok sized) (read >>= with_size rest) → Answers whole after (Ok (sized.0, 1 + sized.1)) (read >>= with_size (b ∷ rest))
+grown b rest after sized (Ok n) shorter h =
+    let le : length n.1 ≤ length rest = shorter n refl in
+    let first : sized.0 ≡ n.0 = ap (λ (p : ℕ × ℕ). p.0) h.0 in
+    let second : sized.1 ≡ length rest - length n.1 = ap (λ (p : ℕ × ℕ). p.1) h.0 in
+    let third : 1 + sized.1 ≡ length (b ∷ rest) - length n.1 = omega arith in
+    let both : ℕ × ℕ = (n.0, length (b ∷ rest) - length n.1) in
+    (rw (first, third) (let e : both ≡ both = refl in e), h.1)
+grown b rest after sized (Err fault) shorter h = absurd h
+
+shorter : (bytes : List ℕ) (n : ℕ × List ℕ) → length_at bytes ≡ Ok n → length n.1 ≤ length bytes
+shorter bytes n e =
+    let t = length_match.takes bytes n.0 n.1 e in
+    omega (arith, ap length t.2, length-append t.0 n.1)
+
+behind : (tag b : ℕ) (rest : List ℕ) (after : Option (List ℕ)) (sized : ℕ × ℕ) → b ≡ tag
+    → Answers whole after (Ok sized) (sized_length_at rest) → Answers whole after (Ok (sized.0, 1 + sized.1)) (sized_header_at tag (b ∷ rest))
+unfolding sized_length_at sized_header_at header_at
+behind tag b rest after sized is h = rw (eq-eqb b tag is) (grown b rest after sized (length_at rest) (shorter rest) h)
+
+pub header_sized : (tag : ℕ) (before mid after : Option (List ℕ)) (byte : ℕ) (sized : ℕ × ℕ) → Reads (λ (b : ℕ). b) before mid (Ok byte) byte_at → byte ≡ tag
+    → Reads whole mid after (Ok sized) sized_length_at → Reads whole before after (Ok (sized.0, 1 + sized.1)) (sized_header_at tag)
+header_sized tag None mid after byte sized first is h = tt
+header_sized tag (Some []) mid after byte sized first is h = absurd first
+header_sized tag (Some (b ∷ rest)) mid after byte sized first is h =
+    behind tag b rest after sized (sym first.0 ∙ is) (subst (λ (m : Option (List ℕ)). Reads whole m after (Ok sized) sized_length_at) first.1 h)

@@ -1,0 +1,60 @@
+-- The pieces of BER, as relations between bytes and what they stand for (X.690 8.1.3, 8.3, 8.7).
+use Rattle.std.specs.Prelude.{◌≡◌, ℕ, ◌+◌, ◌*◌, ◌<◌, ◌≤◌, Bool, ◌||◌, ◌==◌, IsTrue, List, [], ◌∷◌, ◌++◌, length, fold, Option, None, Some}
+use Rattle.sspi_ber.specs.Limit.{max_content}
+
+-- A length: one byte below 0x80, or 0x81 and one byte, or 0x82 and two bytes of a number up to the limit. It need not be
+-- the shortest of these.
+abbrev pub IsLength : List ℕ → ℕ → Type 0
+IsLength [] n = ⊥
+IsLength (a ∷ []) n = (a < 0x80) × (n ≡ a)
+IsLength (a ∷ b ∷ []) n = (a ≡ 0x81) × (n ≡ b)
+IsLength (a ∷ b ∷ c ∷ []) n = (a ≡ 0x82) × (n ≡ b * 256 + c) × (n ≤ max_content)
+IsLength (a ∷ b ∷ c ∷ d ∷ more) n = ⊥
+
+-- a tag and a length
+pub record IsHeader (tag : ℕ) (text : List ℕ) (n : ℕ) : Type 0 where
+  pub len : List ℕ
+  pub spelled : text ≡ tag ∷ len
+  pub measured : IsLength len n
+
+-- a tag, the length of the content, and the content
+pub record IsElement (tag : ℕ) (text content : List ℕ) : Type 0 where
+  pub len : List ℕ
+  pub spelled : text ≡ tag ∷ (len ++ content)
+  pub measured : IsLength len (length content)
+
+-- a tag, a length of any number, which is not compared, and something inside
+pub record IsTagged (tag : ℕ) (text inner : List ℕ) : Type 0 where
+  pub len : List ℕ
+  pub number : ℕ
+  pub spelled : text ≡ tag ∷ (len ++ inner)
+  pub measured : IsLength len number
+
+-- the number that bytes stand for, the first byte the highest
+abbrev pub big_endian : List ℕ → ℕ
+big_endian bytes = fold (λ high byte. high * 256 + byte) 0 bytes
+
+-- how many content bytes an integer may have
+abbrev pub is_integer_size : ℕ → Bool
+is_integer_size n = n == 1 || n == 2 || n == 3 || n == 4 || n == 8
+
+-- an INTEGER without sign
+pub record IsInteger (text : List ℕ) (value : ℕ) : Type 0 where
+  pub content : List ℕ
+  pub element : IsElement 0x02 text content
+  pub sized : IsTrue (is_integer_size (length content))
+  pub stands_for : value ≡ big_endian content
+
+-- these bytes do not begin with this tag
+abbrev pub IsNotNext : ℕ → List ℕ → Type 0
+IsNotNext tag [] = Unit {0}
+IsNotNext tag (byte ∷ rest) = byte ≡ tag → ⊥
+
+-- a tag, a length that is not compared, and something of this form inside
+abbrev pub IsWrapped : {A : Type 0} → ℕ → (List ℕ → A → Type 0) → List ℕ → A → Type 0
+IsWrapped tag Inner text x = (inner : List ℕ) × IsTagged tag text inner × Inner inner x
+
+-- An optional field, with what follows it. A field that is absent spells nothing, and its tag does not come next.
+abbrev pub IsField : {A : Type 0} → ℕ → (List ℕ → A → Type 0) → List ℕ → Option A → List ℕ → Type 0
+IsField tag Inner text None following = (text ≡ []) × IsNotNext tag following
+IsField tag Inner text (Some x) following = IsWrapped tag Inner text x

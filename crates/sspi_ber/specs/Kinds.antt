@@ -1,0 +1,25 @@
+-- What a failed write is to a writer, and what a wire fault is to a caller that answers `Error`.
+use Rattle.std.specs.Prelude.{None}
+use Rattle.sspi_types.specs.Memory.{memory_error}
+use Rattle.sspi_types.specs.declared.error.Error.{Error}
+use Rattle.sspi_types.specs.declared.error_kind.ErrorKind.TheVariants.{InternalError}
+use Rattle.sspi_types.specs.declared.reason.Reason.TheVariants.{Io}
+use Rattle.sspi_ber.specs.declared.sink.SinkError.{SinkError}
+use Rattle.sspi_ber.specs.declared.sink.SinkError.TheVariants as sink_errors
+use Rattle.sspi_ber.specs.declared.wire_kind.WireKind.{WireKind}
+use Rattle.sspi_ber.specs.declared.wire_kind.WireKind.TheVariants.{UnexpectedEof, InvalidData, ReadFault, WriteFault, InsufficientMemory}
+
+abbrev pub kind_of : SinkError → WireKind
+kind_of sink_errors.Failed = WriteFault
+kind_of sink_errors.InsufficientMemory = InsufficientMemory
+
+-- an internal error of the outside
+abbrev pub io_error : Error
+io_error = record { error_type = InternalError; description = Io; nstatus = None }
+
+abbrev pub error_of : WireKind → Error
+error_of UnexpectedEof = io_error
+error_of InvalidData = io_error
+error_of ReadFault = io_error
+error_of WriteFault = io_error
+error_of InsufficientMemory = memory_error

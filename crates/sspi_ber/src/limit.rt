@@ -1,0 +1,2 @@
+/// The most bytes that the content of an element may have.
+pub const MAX_CONTENT: usize = 65531;

@@ -1,0 +1,45 @@
+ghost use Rattle.std.specs.Prelude.{◌≡◌, length, IfOk};
+ghost use Rattle.sspi_ber.specs.Identifier.{contextual_identifier};
+ghost use Rattle.sspi_ber.specs.Outside.{Gives, NeedsNoMemory};
+ghost use Rattle.sspi_ber.specs.Pieces.{element_at, tag_or_absent_at};
+
+use crate::identifier::{Pc, contextual_identifier};
+use crate::reading::{read_header, read_length};
+use crate::slice_source::SliceSource;
+use crate::wire_kind::WireKind;
+
+/// The length behind this identifier octet. Takes nothing and answers `None` where the next byte is another or none.
+#[tactic(auto, using(crate::proofs::Absent::absent), unfolding(crate::specs::Pieces::tag_or_absent_at))]
+pub fn read_tag_or_absent(source: &mut SliceSource<'_>, tag: u8) -> Result<Option<u16>, WireKind>
+    ensures read { Gives (λ len. len) source.new result (tag_or_absent_at tag source.old) }
+    ensures memory { NeedsNoMemory result }
+{
+    if !source.take_if(tag) {
+        return Ok(None);
+    }
+    let len = read_length(source)?;
+    Ok(Some(len))
+}
+
+/// The length behind a context-specific identifier octet. Takes nothing and answers `None` where the next byte is another or
+/// none. Of `tagnum` the low five bits count.
+pub fn read_contextual_tag_or_absent(
+    source: &mut SliceSource<'_>,
+    tagnum: u8,
+    pc: Pc,
+) -> Result<Option<u16>, WireKind>
+    ensures read { Gives (λ len. len) source.new result (tag_or_absent_at (contextual_identifier tagnum pc) source.old) }
+    ensures memory { NeedsNoMemory result }
+{
+    read_tag_or_absent(source, contextual_identifier(tagnum, pc))
+}
+
+/// The content of the element with this identifier octet, which is next.
+#[tactic(auto, unfolding(crate::specs::Pieces::element_at))]
+pub fn read_element<'a>(source: &mut SliceSource<'a>, tag: u8) -> Result<&'a [u8], WireKind>
+    ensures read { Gives (λ content. content.now) source.new result (element_at tag source.old) }
+    ensures memory { NeedsNoMemory result }
+{
+    let len = read_header(source, tag)?;
+    source.take(usize::from(len))
+}

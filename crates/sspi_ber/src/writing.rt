@@ -1,0 +1,215 @@
+ghost use Rattle.std.specs.Prelude.{◌≡◌, ◌≤◌, nat_le, [], ◌∷◌, ◌++◌, length, IfOk};
+ghost use Rattle.sspi_ber.specs.Identifier.{universal_identifier, contextual_identifier};
+ghost use Rattle.sspi_ber.specs.Limit.{max_content};
+ghost use Rattle.sspi_ber.specs.Outside.{Writes, WritesIf, WriteCause};
+ghost use Rattle.sspi_ber.specs.Short.{len_short, header, element, element_size, int_content, int_short};
+
+use crate::identifier::{
+    INTEGER, OCTET_STRING, Pc, SEQUENCE, Tag, contextual_identifier, universal_identifier,
+};
+use crate::limit::MAX_CONTENT;
+use crate::sink::Sink;
+use crate::sizes::{fits_in_element, length_size, size_of_element, sizeof_integer};
+use crate::wire_kind::WireKind;
+
+/// All of `piece`, in as many writes as the sink needs.
+pub fn write_all<W: Sink>(sink: &mut W, piece: &[u8]) -> Result<(), WireKind>
+    ensures wrote { Writes (W.written sink.old) (W.written sink.new) result piece.now }
+    ensures cause { WriteCause (W.faults sink.old) (W.faults sink.new) result }
+{
+    let mut rest = piece;
+    while !rest.is_empty() {
+        let count = sink.write(rest)?;
+        rest = rest.split_at(count).1;
+    }
+    Ok(())
+}
+
+#[tactic(auto, unfolding(crate::specs::Short::len_short))]
+fn write_short_length<W: Sink>(sink: &mut W, len: usize) -> Result<(), WireKind>
+    requires { len ≤ max_content }
+    ensures wrote { Writes (W.written sink.old) (W.written sink.new) result (len_short len) }
+    ensures cause { WriteCause (W.faults sink.old) (W.faults sink.new) result }
+{
+    if len < 0x80 {
+        write_all(sink, &[len as u8])
+    } else if len < 0x100 {
+        write_all(sink, &[0x81, len as u8])
+    } else {
+        write_all(sink, &[0x82, (len / 256) as u8, (len % 256) as u8])
+    }
+}
+
+/// An identifier octet, and the shortest length of a content that fits.
+#[tactic(auto, unfolding(crate::specs::Short::header, crate::specs::Short::len_short))]
+pub fn write_header<W: Sink>(sink: &mut W, tag: u8, len: usize) -> Result<(), WireKind>
+    requires { len ≤ max_content }
+    ensures wrote { Writes (W.written sink.old) (W.written sink.new) result (header tag len) }
+    ensures cause { WriteCause (W.faults sink.old) (W.faults sink.new) result }
+{
+    if len < 0x80 {
+        write_all(sink, &[tag, len as u8])
+    } else if len < 0x100 {
+        write_all(sink, &[tag, 0x81, len as u8])
+    } else {
+        write_all(sink, &[tag, 0x82, (len / 256) as u8, (len % 256) as u8])
+    }
+}
+
+/// An identifier octet, the shortest length, and a content that fits.
+#[tactic(auto, using(crate::proofs::Written::writing), unfolding(crate::specs::Short::element))]
+pub fn write_element<W: Sink>(sink: &mut W, tag: u8, content: &[u8]) -> Result<(), WireKind>
+    requires { length content.now ≤ max_content }
+    ensures wrote { Writes (W.written sink.old) (W.written sink.new) result (element tag content.now) }
+    ensures cause { WriteCause (W.faults sink.old) (W.faults sink.new) result }
+{
+    write_header(sink, tag, content.len())?;
+    write_all(sink, content)
+}
+
+/// An OCTET STRING inside another element, where both fit.
+#[tactic(auto, using(crate::proofs::Written::writing, crate::proofs::Written::lengths), unfolding(crate::specs::Short::element))]
+pub fn write_wrapped_octets<W: Sink>(sink: &mut W, tag: u8, value: &[u8]) -> Result<(), WireKind>
+    requires value { length value.now ≤ max_content }
+    requires whole { element_size (length value.now) ≤ max_content }
+    ensures wrote { Writes (W.written sink.old) (W.written sink.new) result (element tag (element 0x04 value.now)) }
+    ensures cause { WriteCause (W.faults sink.old) (W.faults sink.new) result }
+{
+    write_header(sink, tag, size_of_element(value.len()))?;
+    write_element(sink, OCTET_STRING, value)
+}
+
+/// The shortest length, and how many bytes it took. `InvalidData` exactly where it passes the limit.
+pub fn write_length<W: Sink>(sink: &mut W, len: usize) -> Result<usize, WireKind>
+    ensures wrote { WritesIf (nat_le len max_content) W.written sink.old sink.new result (len_short len) }
+    ensures count { IfOk result (λ count. count ≡ length (len_short len)) }
+    ensures cause { WriteCause (W.faults sink.old) (W.faults sink.new) result }
+{
+    if len > MAX_CONTENT {
+        return Err(WireKind::InvalidData);
+    }
+    write_short_length(sink, len)?;
+    Ok(length_size(len))
+}
+
+#[tactic(auto, using(crate::proofs::Written::lengths))]
+fn write_tag<W: Sink>(sink: &mut W, tag: u8, len: usize) -> Result<usize, WireKind>
+    ensures wrote { WritesIf (nat_le len max_content) W.written sink.old sink.new result (header tag len) }
+    ensures count { IfOk result (λ count. count ≡ length (header tag len)) }
+    ensures cause { WriteCause (W.faults sink.old) (W.faults sink.new) result }
+{
+    if len > MAX_CONTENT {
+        return Err(WireKind::InvalidData);
+    }
+    write_header(sink, tag, len)?;
+    Ok(1 + length_size(len))
+}
+
+/// The header of a SEQUENCE whose content has `len` bytes, and how many bytes the header took. `InvalidData` exactly where
+/// `len` passes the limit.
+pub fn write_sequence_tag<W: Sink>(sink: &mut W, len: usize) -> Result<usize, WireKind>
+    ensures wrote { WritesIf (nat_le len max_content) W.written sink.old sink.new result (header 0x30 len) }
+    ensures count { IfOk result (λ count. count ≡ length (header 0x30 len)) }
+    ensures cause { WriteCause (W.faults sink.old) (W.faults sink.new) result }
+{
+    write_tag(sink, SEQUENCE, len)
+}
+
+/// The header of a context-specific element, and how many bytes it took. Of `tagnum` the low five bits count.
+/// `InvalidData` exactly where `len` passes the limit.
+pub fn write_contextual_tag<W: Sink>(
+    sink: &mut W,
+    tagnum: u8,
+    len: usize,
+    pc: Pc,
+) -> Result<usize, WireKind>
+    ensures wrote { WritesIf (nat_le len max_content) W.written sink.old sink.new result (header (contextual_identifier tagnum pc) len) }
+    ensures count { IfOk result (λ count. count ≡ length (header (contextual_identifier tagnum pc) len)) }
+    ensures cause { WriteCause (W.faults sink.old) (W.faults sink.new) result }
+{
+    write_tag(sink, contextual_identifier(tagnum, pc), len)
+}
+
+/// The header of an OCTET STRING of `len` bytes, and how many bytes it took. `InvalidData` exactly where `len` passes the
+/// limit.
+pub fn write_octet_string_tag<W: Sink>(sink: &mut W, len: usize) -> Result<usize, WireKind>
+    ensures wrote { WritesIf (nat_le len max_content) W.written sink.old sink.new result (header 0x04 len) }
+    ensures count { IfOk result (λ count. count ≡ length (header 0x04 len)) }
+    ensures cause { WriteCause (W.faults sink.old) (W.faults sink.new) result }
+{
+    write_tag(sink, OCTET_STRING, len)
+}
+
+/// An OCTET STRING, and how many bytes it took. `InvalidData` exactly where the value passes the limit.
+#[tactic(auto, using(crate::proofs::Written::lengths))]
+pub fn write_octet_string<W: Sink>(sink: &mut W, value: &[u8]) -> Result<usize, WireKind>
+    ensures wrote { WritesIf (nat_le (length value.now) max_content) W.written sink.old sink.new result (element 0x04 value.now) }
+    ensures count { IfOk result (λ count. count ≡ length (element 0x04 value.now)) }
+    ensures cause { WriteCause (W.faults sink.old) (W.faults sink.new) result }
+{
+    if value.len() > MAX_CONTENT {
+        return Err(WireKind::InvalidData);
+    }
+    write_element(sink, OCTET_STRING, value)?;
+    Ok(size_of_element(value.len()))
+}
+
+/// An OCTET STRING inside a constructed context-specific tag, and how many bytes both took. Of `tagnum` the low five bits
+/// count. `InvalidData` exactly where the whole OCTET STRING passes the limit.
+#[tactic(auto, using(crate::proofs::Written::writing, crate::proofs::Written::lengths), unfolding(crate::specs::Short::element))]
+pub fn write_sequence_octet_string<W: Sink>(
+    sink: &mut W,
+    tagnum: u8,
+    value: &[u8],
+) -> Result<usize, WireKind>
+    ensures wrote { WritesIf (nat_le (element_size (length value.now)) max_content) W.written sink.old sink.new result
+        (element (contextual_identifier tagnum Pc.Construct) (element 0x04 value.now)) }
+    ensures count { IfOk result (λ count. count ≡ length (element (contextual_identifier tagnum Pc.Construct) (element 0x04 value.now))) }
+    ensures cause { WriteCause (W.faults sink.old) (W.faults sink.new) result }
+{
+    if !fits_in_element(value.len()) {
+        return Err(WireKind::InvalidData);
+    }
+    write_wrapped_octets(sink, contextual_identifier(tagnum, Pc::Construct), value)?;
+    Ok(size_of_element(size_of_element(value.len())))
+}
+
+/// One identifier octet, in the class of its tag.
+pub fn write_universal_tag<W: Sink>(sink: &mut W, tag: Tag, pc: Pc) -> Result<usize, WireKind>
+    ensures wrote { Writes (W.written sink.old) (W.written sink.new) result (universal_identifier tag pc ∷ []) }
+    ensures count { IfOk result (λ count. count ≡ 1) }
+    ensures cause { WriteCause (W.faults sink.old) (W.faults sink.new) result }
+{
+    write_all(sink, &[universal_identifier(tag, pc)])?;
+    Ok(1)
+}
+
+#[tactic(auto, unfolding(crate::specs::Short::int_short, crate::specs::Short::int_content, crate::specs::Short::element, crate::specs::Short::header, crate::specs::Short::len_short))]
+fn write_short_integer<W: Sink>(sink: &mut W, value: u32) -> Result<(), WireKind>
+    ensures wrote { Writes (W.written sink.old) (W.written sink.new) result (int_short value) }
+    ensures cause { WriteCause (W.faults sink.old) (W.faults sink.new) result }
+{
+    let low = (value % 0x100) as u8;
+    let second = (value / 0x100 % 0x100) as u8;
+    let third = (value / 0x1_0000 % 0x100) as u8;
+    if value < 0x80 {
+        write_all(sink, &[INTEGER, 1, low])
+    } else if value < 0x8000 {
+        write_all(sink, &[INTEGER, 2, second, low])
+    } else if value < 0x80_0000 {
+        write_all(sink, &[INTEGER, 3, third, second, low])
+    } else {
+        let high = (value / 0x100_0000) as u8;
+        write_all(sink, &[INTEGER, 4, high, third, second, low])
+    }
+}
+
+/// An INTEGER in its shortest spelling of at most four content bytes, and how many bytes it took: 3 to 6.
+pub fn write_integer<W: Sink>(sink: &mut W, value: u32) -> Result<usize, WireKind>
+    ensures wrote { Writes (W.written sink.old) (W.written sink.new) result (int_short value) }
+    ensures count { IfOk result (λ count. count ≡ length (int_short value)) }
+    ensures cause { WriteCause (W.faults sink.old) (W.faults sink.new) result }
+{
+    write_short_integer(sink, value)?;
+    Ok(sizeof_integer(value))
+}
