@@ -1,0 +1,12 @@
+pub mod Blocks
+pub mod CredsBack
+pub mod Refused
+pub mod Room
+pub mod FieldsMatch
+pub mod BodyMatch
+pub mod RequestMatch
+pub mod Capped
+pub mod FromBuffer
+pub mod RoundTrip
+pub mod Faults
+pub mod Ranges

@@ -1,0 +1,179 @@
+-- What a fault of reading is to a reader of credentials.
+use Rattle.std.proofs.Common.{◌≡◌, ◌⊎◌, inl, inr, ℕ, ◌≤◌, [], ◌∷◌, Bool, true, false, cond, eqb, List, Option, None, Some, Result, Ok, Err, refl, sym, ap, ◌∙◌, subst, arith}
+use Rattle.sspi_types.specs.declared.error.Error.{Error}
+use Rattle.sspi_types.specs.Memory.{memory_error}
+use Rattle.sspi_ber.specs.declared.wire_kind.WireKind.{WireKind}
+use Rattle.sspi_ber.specs.declared.wire_kind.WireKind.TheVariants.{UnexpectedEof, InvalidData, ReadFault, WriteFault, InsufficientMemory}
+use Rattle.sspi_ber.specs.Fault.{Fault, Ended, Invalid, Read, ◌>>=◌}
+use Rattle.sspi_ber.specs.Kinds.{io_error}
+use Rattle.sspi_ber.specs.Outside.{Answers, Gives, NeedsNoMemory, Reads, ReadCause, Rose}
+use Rattle.sspi_types.specs.declared.error_kind.ErrorKind.TheVariants.{InternalError}
+use Rattle.std.proofs.lemmas.Bool.{cases_Bool}
+use Rattle.sspi_ber.specs.Pieces.{header_at, bytes_at, element_at}
+use Rattle.sspi_names.specs.Refusals.{utf16_refusal}
+use Rattle.sspi_names.specs.Utf16.{decode_le}
+use Rattle.sspi_names.specs.declared.error.Utf16Error.{Utf16Error}
+use Rattle.sspi_names.specs.declared.error.Utf16Error.TheVariants as utf16
+use Rattle.sspi_names.specs.declared.credentials.CredentialsBuffers.{CredentialsBuffers}
+use Rattle.sspi_tsreq.specs.Creds.{Passwords, malformed, unknown_type, smart_card, spelled_or_malformed, ◌and_then◌, creds_of, creds_in, fields_at, passwords_at, password_type, texts_of, text_or_refused}
+use Rattle.sspi_tsreq.specs.CredsAnswers.{IsOrMemory, ReadsCreds, CredsCause, behind, refusal_by}
+
+refused_at : {A : Type 0} (read : Read A) (fault : Fault) → read ≡ Err fault → spelled_or_malformed read ≡ Err malformed
+refused_at read fault e = ap spelled_or_malformed e
+
+-- over a slice each fault is that of a structure that is not spelled
+pub refused : {X A : Type 0} (view : X → A) (after : List ℕ) (kind : WireKind) (read : Read A)
+    → Gives view after (Err kind) read → NeedsNoMemory {X = X} (Err kind) → spelled_or_malformed read ≡ Err malformed
+refused view after UnexpectedEof read g m = refused_at read Ended g
+refused view after InvalidData read g m = refused_at read Invalid g
+refused view after ReadFault read g m = absurd g
+refused view after WriteFault read g m = absurd g
+refused view after InsufficientMemory read g m = absurd m
+
+-- ---- the whole text
+
+not_element : (text : List ℕ) (fault : Fault) → element_at 0x30 text ≡ Err fault → creds_of text ≡ Err malformed
+unfolding creds_of
+not_element text fault e = ap (λ r. spelled_or_malformed r and_then creds_in) e
+
+-- the header is no header
+header_faulty : (text : List ℕ) (fault : Fault) → header_at 0x30 text ≡ Err fault → creds_of text ≡ Err malformed
+unfolding element_at
+header_faulty text fault e = not_element text fault (ap (λ r. r >>= λ n. bytes_at n.0 n.1) e)
+
+-- the content is not whole
+content_faulty : (text rest : List ℕ) (n : ℕ) (fault : Fault) → header_at 0x30 text ≡ Ok (n, rest) → bytes_at n rest ≡ Err fault → creds_of text ≡ Err malformed
+unfolding element_at
+content_faulty text rest n fault e f = not_element text fault (ap (λ r. r >>= λ n. bytes_at n.0 n.1) e ∙ f)
+
+element_read : (text rest body after : List ℕ) (n : ℕ) → header_at 0x30 text ≡ Ok (n, rest) → bytes_at n rest ≡ Ok (body, after) → element_at 0x30 text ≡ Ok (body, after)
+unfolding element_at
+element_read text rest body after n e f = ap (λ r. r >>= λ n. bytes_at n.0 n.1) e ∙ f
+
+body_read : (text body after : List ℕ) → element_at 0x30 text ≡ Ok (body, after) → creds_of text ≡ creds_in body
+unfolding creds_of
+body_read text body after e = ap (λ r. spelled_or_malformed r and_then creds_in) e
+
+header_kind : (text : List ℕ) (mid : Option (List ℕ)) (kind : WireKind) (f g : ℕ) → Reads {X = ℕ} (λ n. n) (Some text) mid (Err kind) (header_at 0x30)
+    → ReadCause {X = ℕ} f g (Err kind) → ReadsCreds (Some text) mid (Err (refusal_by kind))
+header_kind text mid UnexpectedEof f g r c = inl (header_faulty text Ended r)
+header_kind text mid InvalidData f g r c = inl (header_faulty text Invalid r)
+header_kind text mid ReadFault f g r c = inr (inr refl)
+header_kind text mid WriteFault f g r c = absurd c
+header_kind text mid InsufficientMemory f g r c = absurd c
+
+pub header_refused : (before mid : Option (List ℕ)) (kind : WireKind) (f g : ℕ) → Reads {X = ℕ} (λ n. n) before mid (Err kind) (header_at 0x30)
+    → ReadCause {X = ℕ} f g (Err kind) → ReadsCreds before mid (Err (refusal_by kind))
+header_refused None mid kind f g r c = tt
+header_refused (Some text) mid kind f g r c = header_kind text mid kind f g r c
+
+-- the cause of a refusal by a fault of reading
+pub refusal_cause : (X : Type 0) (kind : WireKind) (f g : ℕ) → ReadCause {X = X} f g (Err kind) → CredsCause {X = CredentialsBuffers} f g (Err (refusal_by kind))
+refusal_cause X UnexpectedEof f g c = (c, λ e. absurd cc)
+refusal_cause X InvalidData f g c = (c, λ e. absurd cc)
+refusal_cause X ReadFault f g c = (c.0, λ e. c.1)
+refusal_cause X WriteFault f g c = absurd c
+refusal_cause X InsufficientMemory f g c = absurd c
+
+content_kind : (text rest : List ℕ) (n : ℕ) (after : Option (List ℕ)) (kind : WireKind) (f g : ℕ) → header_at 0x30 text ≡ Ok (n, rest)
+    → Reads {X = List ℕ} (λ b. b) (Some rest) after (Err kind) (bytes_at n) → ReadCause {X = Unit {0}} f g (Err kind) → ReadsCreds (Some text) after (Err (refusal_by kind))
+content_kind text rest n after UnexpectedEof f g e r c = inl (content_faulty text rest n Ended e r)
+content_kind text rest n after InvalidData f g e r c = inl (content_faulty text rest n Invalid e r)
+content_kind text rest n after ReadFault f g e r c = inr (inr refl)
+content_kind text rest n after WriteFault f g e r c = absurd c
+content_kind text rest n after InsufficientMemory f g e r c = absurd c
+
+abbrev number_then : ℕ → List ℕ → Read ℕ
+number_then n rest = Ok (n, rest)
+
+abbrev block_then : List ℕ → List ℕ → Read (List ℕ)
+block_then block rest = Ok (block, rest)
+
+header_length : (read : Read ℕ) (mid : Option (List ℕ)) (n : ℕ) → (Answers (λ k. k) mid (Ok n) read) → (rest : List ℕ) × (read ≡ Ok (n, rest)) × (mid ≡ Some rest)
+header_length (Ok x) mid n h = (x.1, ap (λ k. number_then k x.1) (sym h.0), h.1)
+header_length (Err fault) mid n h = absurd h
+
+block_content : (read : Read (List ℕ)) (after : Option (List ℕ)) (body : List ℕ) → Answers (λ b. b) after (Ok body) read → (rest : List ℕ) × (read ≡ Ok (body, rest)) × (after ≡ Some rest)
+block_content (Ok x) after body h = (x.1, ap (λ b. block_then b x.1) (sym h.0), h.1)
+block_content (Err fault) after body h = absurd h
+
+-- the content behind a header is not whole
+pub content_refused : (before mid after : Option (List ℕ)) (n size : ℕ) (kind : WireKind) (f g : ℕ) → size ≡ n → Reads {X = ℕ} (λ k. k) before mid (Ok n) (header_at 0x30)
+    → Reads {X = List ℕ} (λ b. b) mid after (Err kind) (bytes_at size) → ReadCause {X = Unit {0}} f g (Err kind) → ReadsCreds before after (Err (refusal_by kind))
+content_refused None mid after n size kind f g same h r c = tt
+content_refused (Some text) mid after n size kind f g same h r c =
+    let t = header_length (header_at 0x30 text) mid n h in
+    content_kind text t.0 n after kind f g t.1
+    (subst (λ k. Reads {X = List ℕ} (λ b. b) (Some t.0) after (Err kind) (bytes_at k)) same
+    (subst (λ m. Reads {X = List ℕ} (λ b. b) m after (Err kind) (bytes_at size)) t.2 r)) c
+
+whole_answer : (text body rest : List ℕ) (after : Option (List ℕ)) (result : Result CredentialsBuffers Error) → element_at 0x30 text ≡ Ok (body, rest) → after ≡ Some rest
+    → IsOrMemory (λ b. b) result (creds_in body) → ReadsCreds (Some text) after result
+whole_answer text body rest after (Ok b) e left h = (body_read text body rest e ∙ h, left ∙ ap behind (sym e))
+whole_answer text body rest after (Err error) e left (inl h) = inl (body_read text body rest e ∙ h)
+whole_answer text body rest after (Err error) e left (inr h) = inr (inl h)
+
+-- the content behind a header is whole
+pub content_answer : (before mid after : Option (List ℕ)) (n size : ℕ) (body : List ℕ) (result : Result CredentialsBuffers Error) → size ≡ n
+    → Reads {X = ℕ} (λ k. k) before mid (Ok n) (header_at 0x30) → Reads {X = List ℕ} (λ b. b) mid after (Ok body) (bytes_at size)
+    → IsOrMemory (λ b. b) result (creds_in body) → ReadsCreds before after result
+content_answer None mid after n size body result same h r answer = tt
+content_answer (Some text) mid after n size body result same h r answer =
+    let t = header_length (header_at 0x30 text) mid n h in
+    let s : Reads {X = List ℕ} (λ b. b) (Some t.0) after (Ok body) (bytes_at n) =
+    subst (λ k. Reads {X = List ℕ} (λ b. b) (Some t.0) after (Ok body) (bytes_at k)) same
+    (subst (λ m. Reads {X = List ℕ} (λ b. b) m after (Ok body) (bytes_at size)) t.2 r) in
+    let u = block_content (bytes_at n t.0) after body s in
+    whole_answer text body u.0 after result (element_read text t.0 body u.0 n t.1 u.1) u.2 answer
+
+-- ---- no refusal of what was read is an internal error
+
+abbrev NotInternal : Error → Type 0
+NotInternal e = e.error_type ≡ InternalError → ⊥
+
+refusals_then : {A B : Type 0} (r : Result A Error) (next : A → Result B Error) (e : Error) → ((d : Error) → r ≡ Err d → NotInternal d)
+    → ((x : A) → next x ≡ Err e → NotInternal e) → (r and_then next) ≡ Err e → NotInternal e
+refusals_then (Ok x) next e first second is = second x is
+refusals_then (Err d) next e first second is = let same : d ≡ e = cc in subst NotInternal same (first d refl)
+
+spelled_external : {A : Type 0} (read : Read A) (d : Error) → spelled_or_malformed read ≡ Err d → NotInternal d
+spelled_external (Ok x) d is = absurd cc
+spelled_external (Err fault) d is = let same : malformed ≡ d = cc in subst NotInternal same (λ e. absurd cc)
+
+by_number : (one two : Bool) (d : Error) → cond {A = Result (Unit {0}) Error} one (Ok tt) (cond two (Err smart_card) (Err unknown_type)) ≡ Err d → NotInternal d
+by_number true two d is = absurd cc
+by_number false true d is = let same : smart_card ≡ d = cc in subst NotInternal same (λ e. absurd cc)
+by_number false false d is = let same : unknown_type ≡ d = cc in subst NotInternal same (λ e. absurd cc)
+
+type_external : (content : List ℕ) (d : Error) → password_type content ≡ Err d → NotInternal d
+type_external [] d is = let same : unknown_type ≡ d = cc in subst NotInternal same (λ e. absurd cc)
+type_external (number ∷ rest) d is = by_number (eqb number 1) (eqb number 2) d is
+
+text_external : (r : Result (List ℕ) Utf16Error) (d : Error) → text_or_refused r ≡ Err d → NotInternal d
+text_external (Ok units) d is = absurd cc
+text_external (Err utf16.OddLength) d is = let same : utf16_refusal utf16.OddLength ≡ d = cc in subst NotInternal same (λ e. absurd cc)
+text_external (Err utf16.UnpairedSurrogate) d is = let same : utf16_refusal utf16.UnpairedSurrogate ≡ d = cc in subst NotInternal same (λ e. absurd cc)
+text_external (Err utf16.InsufficientMemory) d is = let same : utf16_refusal utf16.InsufficientMemory ≡ d = cc in subst NotInternal same (λ e. absurd cc)
+
+texts_external : (p : Passwords) (d : Error) → texts_of p ≡ Err d → NotInternal d
+unfolding texts_of
+texts_external p d is =
+    refusals_then (text_or_refused (decode_le p.domain)) _ d (text_external (decode_le p.domain))
+    (λ domain. refusals_then (text_or_refused (decode_le p.user)) _ d (text_external (decode_le p.user))
+    (λ user. refusals_then (text_or_refused (decode_le p.password)) _ d (text_external (decode_le p.password)) (λ password e. absurd cc))) is
+
+creds_external : (body : List ℕ) (d : Error) → creds_in body ≡ Err d → NotInternal d
+unfolding creds_in
+creds_external body d is =
+    refusals_then (spelled_or_malformed (fields_at body)) _ d (spelled_external (fields_at body))
+    (λ fields. refusals_then (password_type fields.cred_type) _ d (type_external fields.cred_type)
+    (λ known. refusals_then (spelled_or_malformed (passwords_at fields.credentials)) _ d (spelled_external (passwords_at fields.credentials)) (λ passwords. texts_external passwords d))) is
+
+memory_external : NotInternal memory_error
+memory_external e = cc
+
+-- what was read whole was read with no fault
+pub content_cause : (f g h : ℕ) (body : List ℕ) (result : Result CredentialsBuffers Error) → f ≤ g → g ≤ h → IsOrMemory (λ b. b) result (creds_in body) → CredsCause f h result
+content_cause f g h body (Ok b) p q answer = omega arith
+content_cause f g h body (Err error) p q (inl answer) = (omega arith, λ e. absurd (creds_external body error answer e))
+content_cause f g h body (Err error) p q (inr answer) = (omega arith, λ e. absurd (subst NotInternal (sym answer) memory_external e))

@@ -1,0 +1,107 @@
+-- The sizes of TSCredentials.
+use Rattle.std.proofs.Common.{◌≡◌, ℕ, ◌+◌, ◌<◌, ◌≤◌, List, [], ◌++◌, true, false, leb, Result, Ok, Err, length, refl, sym, ap, ◌∙◌, subst, arith}
+use Rattle.std.proofs.lemmas.Bool.{le-leb, lt-leb}
+use Rattle.std.proofs.lemmas.List.{length-append}
+use Rattle.sspi_ber.specs.Limit.{max_content}
+use Rattle.sspi_ber.specs.Short.{element, element_size, header, len_short, int_short, int_content}
+use Rattle.sspi_ber.proofs.Written.{length-element, size_above}
+use Rattle.sspi_tsreq.specs.Creds.{octets_field, password_fields, password_type_field, creds_body, spelled_if_fits, too_long}
+use Rattle.sspi_tsreq.specs.CredsSizes.{fields_size, body_size, FitTexts}
+use Rattle.sspi_tsreq.specs.Size.{IsCapped}
+use Rattle.sspi_tsreq.proofs.Capped.{capped_same, capped_more, capped_add, capped_fits, capped_past}
+
+length-octets_field : (tag : ℕ) (content : List ℕ) → length (octets_field tag content) ≡ element_size (element_size (length content))
+unfolding octets_field
+length-octets_field tag content = length-element tag (element 0x04 content) ∙ ap element_size (length-element 0x04 content)
+
+pub length-password_fields : (domain user password : List ℕ) → length (password_fields domain user password) ≡ fields_size (length domain) (length user) (length password)
+unfolding password_fields
+length-password_fields domain user password =
+    omega (
+      arith,
+      length-append (octets_field 0xA0 domain) (octets_field 0xA1 user ++ octets_field 0xA2 password),
+      length-append (octets_field 0xA1 user) (octets_field 0xA2 password),
+      length-octets_field 0xA0 domain,
+      length-octets_field 0xA1 user,
+      length-octets_field 0xA2 password,
+    )
+
+length-password_type_field : length password_type_field ≡ 5
+unfolding password_type_field element header len_short int_short int_content
+length-password_type_field = refl
+
+pub length-creds_body : (domain user password : List ℕ) → length (creds_body domain user password) ≡ body_size (length domain) (length user) (length password)
+unfolding creds_body
+length-creds_body domain user password =
+    let fields = password_fields domain user password in
+    length-append password_type_field (octets_field 0xA1 (element 0x30 fields))
+    ∙ ap (λ n. n + length (octets_field 0xA1 (element 0x30 fields))) length-password_type_field
+    ∙ ap (λ n. 5 + n) (length-octets_field 0xA1 (element 0x30 fields) ∙ ap (λ n. element_size (element_size n)) (length-element 0x30 fields ∙ ap element_size (length-password_fields domain user password)))
+
+pub texts_fit : (d u p : ℕ) → body_size d u p ≤ max_content → FitTexts d u p
+texts_fit d u p le =
+    let f = fields_size d u p in
+    let a = size_above f in
+    let b = size_above (element_size f) in
+    let c = size_above (element_size (element_size f)) in
+    let dd = size_above (element_size d) in
+    let uu = size_above (element_size u) in
+    let pp = size_above (element_size p) in
+    let dt = size_above d in
+    let ut = size_above u in
+    let pt = size_above p in
+    record {
+      domain_text = omega arith;
+      domain_octets = omega arith;
+      user_text = omega arith;
+      user_octets = omega arith;
+      password_text = omega arith;
+      password_octets = omega arith;
+      fields = omega arith;
+      sequence = omega arith;
+      octets = omega arith;
+      body = le;
+    }
+
+-- capped sizes of three fields
+pub fields_capped : (a b c d u p x y z : ℕ) → IsCapped a (element_size d) → IsCapped b (element_size u) → IsCapped c (element_size p)
+    → IsCapped x (element_size a) → IsCapped y (element_size b) → IsCapped z (element_size c) → IsCapped (x + (y + z)) (fields_size d u p)
+fields_capped a b c d u p x y z pa pb pc px py pz =
+    capped_add x (y + z) _ _ (capped_more a _ x pa px) (capped_add y z _ _ (capped_more b _ y pb py) (capped_more c _ z pc pz))
+
+pub body_capped : (f s o b d u p : ℕ) → IsCapped f (fields_size d u p) → IsCapped s (element_size f) → IsCapped o (element_size s) → IsCapped b (element_size o)
+    → IsCapped (5 + b) (body_size d u p)
+body_capped f s o b d u p pf ps po pb =
+    capped_add 5 b 5 _ (capped_same 5) (capped_more o _ b (capped_more s _ o (capped_more f _ s pf ps) po) pb)
+
+pub fields_length : (domain user password : List ℕ) → fields_size (length domain) (length user) (length password) ≡ length (password_fields domain user password)
+fields_length domain user password = sym (length-password_fields domain user password)
+
+pub sequence_length : (domain user password : List ℕ) → element_size (length (password_fields domain user password)) ≡ length (element 0x30 (password_fields domain user password))
+sequence_length domain user password = sym (length-element 0x30 (password_fields domain user password))
+
+pub ruleset sequence = (sequence_length, length-password_fields)
+
+-- ---- what fits is spelled
+
+module _ (domain user password : List ℕ) (size : ℕ) (capped : IsCapped size (body_size (length domain) (length user) (length password))) where
+  pub fits_texts : size ≤ max_content → FitTexts (length domain) (length user) (length password)
+  fits_texts le = texts_fit _ _ _ (capped_fits size _ capped le).0
+
+  pub fits_size : size ≤ max_content → size ≡ length (creds_body domain user password)
+  fits_size le = (capped_fits size _ capped le).1 ∙ sym (length-creds_body domain user password)
+
+  pub fits_spelled : size ≤ max_content → spelled_if_fits (creds_body domain user password) ≡ Ok (element 0x30 (creds_body domain user password))
+  fits_spelled le =
+      let fits : leb (length (creds_body domain user password)) max_content ≡ true = le-leb _ _ (omega (arith, fits_size le)) in
+      rw fits
+
+  pub past_refused : max_content < size → spelled_if_fits (creds_body domain user password) ≡ Err too_long
+  past_refused lt =
+      let past : max_content < body_size (length domain) (length user) (length password) = capped_past size _ capped lt in
+      let long : leb (length (creds_body domain user password)) max_content ≡ false = lt-leb _ _ (omega (arith, length-creds_body domain user password)) in
+      rw long
+
+-- all that a sink has which began empty
+pub written_whole : (start now text items : List ℕ) → start ≡ [] → now ≡ start ++ text → items ≡ now → items ≡ text
+written_whole start now text items empty appended same = same ∙ appended ∙ ap (λ front. front ++ text) empty

@@ -1,0 +1,14 @@
+use Rattle.std.proofs.Common.{◌-◌, ◌≤◌, length, take}
+use Rattle.std.specs.Io.KnownBytes.{Consumes}
+use Rattle.sspi_tsreq.proofs.Blocks.{Filling}
+use Rattle.sspi_tsreq.proofs.block.read_block.Given as goal
+
+abbrev pub invariant-loop-filled : goal.invariant-loop-filled
+invariant-loop-filled g l = record {
+  within : l.filled ≤ length l.into;
+  so_far : Filling (g.S.Source.left l.initial.source) (g.S.Source.left l.source) l.filled l.into;
+  cause : g.S.Source.faults l.initial.source ≤ g.S.Source.faults l.source;
+}
+
+abbrev pub decreases-loop-filled : goal.decreases-loop-filled
+decreases-loop-filled g l = length l.into - l.filled

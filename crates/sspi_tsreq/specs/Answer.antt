@@ -1,0 +1,34 @@
+-- What reading a request answers: the request that the bytes begin with, or their first fault.
+use Rattle.std.specs.Prelude.{◌≡◌, ℕ, List, Option, None, Some, Result, Ok, Err}
+use Rattle.sspi_ber.specs.declared.wire_kind.WireKind.{WireKind}
+use Rattle.sspi_ber.specs.declared.wire_kind.WireKind.TheVariants.{UnexpectedEof, InvalidData, ReadFault, WriteFault, InsufficientMemory}
+use Rattle.sspi_ber.specs.Fault.{Fault, Ended, Invalid, fault_of}
+use Rattle.sspi_tsreq.specs.declared.request.TsRequest.{TsRequest}
+use Rattle.sspi_tsreq.specs.Grammar.{IsRequest}
+use Rattle.sspi_tsreq.specs.Reading.{request_at, body_at}
+
+-- the first fault of bytes that begin with no request
+abbrev pub fault : List ℕ → Option Fault
+fault bytes = fault_of (request_at bytes)
+
+-- the first fault of the fields alone
+abbrev pub body_fault : List ℕ → Option Fault
+body_fault body = fault_of (body_at body)
+
+-- the answer has its cause; want of memory is free
+abbrev pub IsAnswer : List ℕ → Result TsRequest WireKind → Type 0
+IsAnswer bytes (Ok r) = ((count : ℕ) × IsRequest bytes r count) × (fault bytes ≡ None)
+IsAnswer bytes (Err UnexpectedEof) = fault bytes ≡ Some Ended
+IsAnswer bytes (Err InvalidData) = fault bytes ≡ Some Invalid
+IsAnswer bytes (Err ReadFault) = ⊥
+IsAnswer bytes (Err WriteFault) = ⊥
+IsAnswer bytes (Err InsufficientMemory) = Unit {0}
+
+-- this value, or want of memory
+abbrev pub IsUnlessMemory : {X : Type 0} → Result X WireKind → X → Type 0
+IsUnlessMemory (Ok x) value = x ≡ value
+IsUnlessMemory (Err UnexpectedEof) value = ⊥
+IsUnlessMemory (Err InvalidData) value = ⊥
+IsUnlessMemory (Err ReadFault) value = ⊥
+IsUnlessMemory (Err WriteFault) value = ⊥
+IsUnlessMemory (Err InsufficientMemory) value = Unit {0}

@@ -1,0 +1,48 @@
+-- What the calls on TSCredentials answer.
+use Rattle.std.specs.Prelude.{◌≡◌, ◌⊎◌, ◌≤◌, ℕ, List, Option, None, Some, Result, Ok, Err}
+use Rattle.sspi_types.specs.Memory.{memory_error}
+use Rattle.sspi_types.specs.declared.error.Error.{Error}
+use Rattle.sspi_types.specs.declared.error_kind.ErrorKind.TheVariants.{InternalError}
+use Rattle.sspi_ber.specs.Fault.{Read}
+use Rattle.sspi_ber.specs.Kinds.{io_error, error_of}
+use Rattle.sspi_ber.specs.declared.wire_kind.WireKind.{WireKind}
+use Rattle.sspi_ber.specs.declared.wire_kind.WireKind.TheVariants.{UnexpectedEof, InvalidData, ReadFault, WriteFault, InsufficientMemory}
+use Rattle.sspi_ber.specs.Outside.{Rose}
+use Rattle.sspi_ber.specs.Pieces.{element_at}
+use Rattle.sspi_names.specs.declared.credentials.CredentialsBuffers.{CredentialsBuffers}
+use Rattle.sspi_tsreq.specs.Creds.{creds_of, malformed}
+
+-- exactly this answer, with the value seen by view
+abbrev pub Is : {X A : Type 0} → (X → A) → Result X Error → Result A Error → Type 0
+Is view (Ok x) answer = answer ≡ Ok (view x)
+Is view (Err error) answer = answer ≡ Err error
+
+-- this answer, or want of memory
+abbrev pub IsOrMemory : {X A : Type 0} → (X → A) → Result X Error → Result A Error → Type 0
+IsOrMemory view (Ok x) answer = answer ≡ Ok (view x)
+IsOrMemory view (Err error) answer = (answer ≡ Err error) ⊎ (error ≡ memory_error)
+
+-- what follows an element, where there is one
+abbrev pub behind : {A : Type 0} → Read A → Option (List ℕ)
+behind (Ok x) = Some x.1
+behind (Err fault) = None
+
+-- Of a source that tells its bytes: the buffers that they stand for, and then exactly what follows them is left; or the
+-- refusal that they have, want of memory, or a fault of the source.
+abbrev pub ReadsCreds : Option (List ℕ) → Option (List ℕ) → Result CredentialsBuffers Error → Type 0
+ReadsCreds None after result = Unit {0}
+ReadsCreds (Some text) after (Ok buffers) = (creds_of text ≡ Ok buffers) × (after ≡ behind (element_at 0x30 text))
+ReadsCreds (Some text) after (Err error) = (creds_of text ≡ Err error) ⊎ ((error ≡ memory_error) ⊎ (error ≡ io_error))
+
+-- the count of faults never falls, and an internal error has it rise
+abbrev pub CredsCause : {X : Type 0} → ℕ → ℕ → Result X Error → Type 0
+CredsCause before now (Ok x) = before ≤ now
+CredsCause before now (Err error) = (before ≤ now) × (error.error_type ≡ InternalError → Rose before now)
+
+-- what a fault of reading is to a caller: what is not spelled is malformed, all else a fault of the outside
+abbrev pub refusal_by : WireKind → Error
+refusal_by UnexpectedEof = malformed
+refusal_by InvalidData = malformed
+refusal_by ReadFault = error_of ReadFault
+refusal_by WriteFault = error_of WriteFault
+refusal_by InsufficientMemory = error_of InsufficientMemory

@@ -1,0 +1,10 @@
+-- What filling a buffer from a source gives.
+use Rattle.std.specs.Prelude.{ℕ, List, Option, Result, Ok, Err}
+use Rattle.sspi_ber.specs.declared.wire_kind.WireKind.{WireKind}
+use Rattle.sspi_ber.specs.Outside.{Reads}
+use Rattle.sspi_ber.specs.Pieces.{bytes_at}
+
+-- `into` has the next `size` bytes of the source, or the first fault came
+abbrev pub Fills : {X : Type 0} → Option (List ℕ) → Option (List ℕ) → Result X WireKind → List ℕ → ℕ → Type 0
+Fills before after (Ok x) into size = Reads {X = List ℕ} (λ bytes. bytes) before after (Ok into) (bytes_at size)
+Fills before after (Err kind) into size = Reads {X = List ℕ} (λ bytes. bytes) before after (Err kind) (bytes_at size)

@@ -1,0 +1,15 @@
+pub mod Creds
+pub mod CredsAnswers
+pub mod CredsSizes
+pub mod Early
+pub mod Filled
+pub mod Value
+pub mod Reading
+pub mod Grammar
+pub mod Answer
+pub mod Spelling
+pub mod Size
+pub mod Header
+pub mod Status
+pub mod Equality
+pub mod SameRequest

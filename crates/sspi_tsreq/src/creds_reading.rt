@@ -1,0 +1,190 @@
+ghost use Rattle.std.specs.Prelude.{◌≡◌, Ok, Err};
+ghost use Rattle.sspi_ber.specs.Outside.{Gives, LeavesRest, NeedsNoMemory};
+ghost use Rattle.sspi_names.specs.Utf16.{decode_le};
+ghost use Rattle.sspi_tsreq.specs.CredsAnswers.{CredsCause, refusal_by, Is, IsOrMemory, ReadsCreds};
+ghost use Rattle.sspi_tsreq.specs.Creds.{creds_in, creds_of, fields_at, malformed, octets_in, password_type, passwords_at, spelled_or_malformed, text_or_refused, texts_of};
+
+use crate::block::read_block;
+use sspi_ber::identifier::{INTEGER, OCTET_STRING, SEQUENCE};
+use sspi_ber::{SliceSource, Source, WireKind, read_element, read_header};
+use sspi_names::{AuthIdentityBuffers, CredentialsBuffers, Utf16Text};
+use sspi_types::{Error, ErrorKind, Reason, Secret};
+use std::alloc::Global;
+
+/// Reads TSCredentials (MS-CSSP 2.2.1.2) with a password. Bytes behind them stay in the source.
+///
+/// `InvalidToken` comes for a structure that is not spelled and for a credType without content; then, by its first content
+/// byte, `UnsupportedFunction` for a smart card (2) and `InvalidToken` for another type than a password (1); then
+/// `InvalidToken` for password credentials that are not spelled; and `InvalidParameter` for a text of odd length or with an
+/// unpaired surrogate. `InternalError` comes only where the source failed.
+pub fn read_ts_credentials<S: Source>(
+    alloc: Global,
+    source: &mut S,
+) -> Result<CredentialsBuffers, Error>
+    ensures read { ReadsCreds (S.left source.old) (S.left source.new) result }
+    ensures cause { CredsCause (S.faults source.old) (S.faults source.new) result }
+    ensures rest { LeavesRest (S.left source.old) (S.left source.new) }
+{
+    let len = match read_header(source, SEQUENCE) {
+        Ok(len) => len,
+        Err(kind) => return Err(refusal_of(kind)),
+    };
+    let mut body = vec![in alloc; 0; usize::from(len)]?;
+    match read_block(source, &mut body) {
+        Ok(()) => read_creds(alloc, &body),
+        Err(kind) => Err(refusal_of(kind)),
+    }
+}
+
+/// The same of bytes in memory, which are read where they stand.
+#[tactic(auto, unfolding(crate::specs::Creds::creds_of))]
+pub fn read_ts_credentials_from_slice(
+    alloc: Global,
+    bytes: &[u8],
+) -> Result<CredentialsBuffers, Error>
+    ensures { IsOrMemory (λ buffers. buffers) result (creds_of bytes.now) }
+{
+    match read_element(&mut SliceSource::new(bytes), SEQUENCE) {
+        Ok(body) => read_creds(alloc, body),
+        Err(_) => Err(not_spelled()),
+    }
+}
+
+/// The fields of TSCredentials.
+#[derive(Clone, Copy)]
+struct Fields<'a> {
+    /// The content of the INTEGER.
+    cred_type: &'a [u8],
+    credentials: &'a [u8],
+}
+
+/// The fields of TSPasswordCreds, each text as its bytes.
+#[derive(Clone, Copy)]
+struct Passwords<'a> {
+    domain: &'a [u8],
+    user: &'a [u8],
+    password: &'a [u8],
+}
+
+/// The buffers inside TSCredentials.
+#[tactic(auto, unfolding(crate::specs::Creds::creds_in))]
+fn read_creds(alloc: Global, body: &[u8]) -> Result<CredentialsBuffers, Error>
+    ensures { IsOrMemory (λ buffers. buffers) result (creds_in body.now) }
+{
+    let fields = spelled_fields(body)?;
+    expect_password(fields.cred_type)?;
+    let passwords = spelled_passwords(fields.credentials)?;
+    read_texts(alloc, &passwords)
+}
+
+fn spelled_fields(body: &[u8]) -> Result<Fields<'_>, Error>
+    ensures { Is (λ fields. record { cred_type = fields.cred_type.now; credentials = fields.credentials.now }) result (spelled_or_malformed (fields_at body.now)) }
+{
+    match read_fields(&mut SliceSource::new(body)) {
+        Ok(fields) => Ok(fields),
+        Err(_) => Err(not_spelled()),
+    }
+}
+
+fn spelled_passwords(bytes: &[u8]) -> Result<Passwords<'_>, Error>
+    ensures { Is (λ passwords. record { domain = passwords.domain.now; user = passwords.user.now; password = passwords.password.now }) result
+        (spelled_or_malformed (passwords_at bytes.now)) }
+{
+    match read_passwords(&mut SliceSource::new(bytes)) {
+        Ok(passwords) => Ok(passwords),
+        Err(_) => Err(not_spelled()),
+    }
+}
+
+#[tactic(auto, unfolding(crate::specs::Creds::fields_at))]
+fn read_fields<'a>(source: &mut SliceSource<'a>) -> Result<Fields<'a>, WireKind>
+    ensures read { Gives (λ fields. record { cred_type = fields.cred_type.now; credentials = fields.credentials.now }) source.new result (fields_at source.old) }
+    ensures memory { NeedsNoMemory result }
+{
+    let mut field = SliceSource::new(read_element(source, 0xa0)?);
+    let cred_type = read_element(&mut field, INTEGER)?;
+    let credentials = read_octets(source, 0xa1)?;
+    Ok(Fields {
+        cred_type,
+        credentials,
+    })
+}
+
+#[tactic(auto, unfolding(crate::specs::Creds::passwords_at))]
+fn read_passwords<'a>(source: &mut SliceSource<'a>) -> Result<Passwords<'a>, WireKind>
+    ensures read { Gives (λ passwords. record { domain = passwords.domain.now; user = passwords.user.now; password = passwords.password.now }) source.new result (passwords_at source.old) }
+    ensures memory { NeedsNoMemory result }
+{
+    let mut body = SliceSource::new(read_element(source, SEQUENCE)?);
+    let domain = read_octets(&mut body, 0xa0)?;
+    let user = read_octets(&mut body, 0xa1)?;
+    let password = read_octets(&mut body, 0xa2)?;
+    Ok(Passwords {
+        domain,
+        user,
+        password,
+    })
+}
+
+/// The OCTET STRING inside the field with this tag.
+#[tactic(auto, unfolding(crate::specs::Creds::octets_in))]
+fn read_octets<'a>(source: &mut SliceSource<'a>, tag: u8) -> Result<&'a [u8], WireKind>
+    ensures read { Gives (λ octets. octets.now) source.new result (octets_in tag source.old) }
+    ensures memory { NeedsNoMemory result }
+{
+    let mut field = SliceSource::new(read_element(source, tag)?);
+    read_element(&mut field, OCTET_STRING)
+}
+
+/// Refuses another type than a password, by the first content byte.
+fn expect_password(cred_type: &[u8]) -> Result<(), Error>
+    ensures { Is (λ _. tt) result (password_type cred_type.now) }
+{
+    match cred_type {
+        [1, ..] => Ok(()),
+        [2, ..] => Err(Error::new(ErrorKind::UnsupportedFunction, Reason::SmartCard)),
+        [] | [_, ..] => Err(Error::new(ErrorKind::InvalidToken, Reason::CredType)),
+    }
+}
+
+#[tactic(auto, unfolding(crate::specs::Creds::texts_of))]
+fn read_texts(alloc: Global, passwords: &Passwords<'_>) -> Result<CredentialsBuffers, Error>
+    ensures { IsOrMemory (λ buffers. buffers) result
+        (texts_of (record { domain = passwords.now.domain.now; user = passwords.now.user.now; password = passwords.now.password.now })) }
+{
+    let domain = read_text(alloc, passwords.domain)?;
+    let user = read_text(alloc, passwords.user)?;
+    let password = read_text(alloc, passwords.password)?;
+    Ok(CredentialsBuffers::AuthIdentity(AuthIdentityBuffers {
+        user,
+        domain,
+        password: Secret { value: password },
+    }))
+}
+
+fn read_text(alloc: Global, bytes: &[u8]) -> Result<Utf16Text, Error>
+    ensures { IsOrMemory (λ text. text) result (text_or_refused (decode_le bytes.now)) }
+{
+    match Utf16Text::from_bytes_le(alloc, bytes) {
+        Ok(text) => Ok(text),
+        Err(error) => Err(Error::from(error)),
+    }
+}
+
+/// What a fault of reading is to a caller: a failed source is `InternalError`, all else a malformed structure.
+fn refusal_of(kind: WireKind) -> Error
+    ensures { result ≡ refusal_by kind }
+{
+    match kind {
+        WireKind::UnexpectedEof | WireKind::InvalidData => not_spelled(),
+        WireKind::ReadFault | WireKind::WriteFault | WireKind::InsufficientMemory => Error::from(
+            kind,
+        ),
+    }
+}
+
+fn not_spelled() -> Error
+    ensures { result ≡ malformed }
+{
+    Error::new(ErrorKind::InvalidToken, Reason::TokenForm)
+}

@@ -1,0 +1,232 @@
+ghost use Rattle.std.specs.Prelude.{◌≡◌, ◌+◌, ◌*◌, ◌≤◌, Ok, IfOk, length};
+ghost use Rattle.sspi_ber.specs.Limit.{max_content};
+ghost use Rattle.sspi_ber.specs.Outside.{Writes, WriteCause};
+ghost use Rattle.sspi_ber.specs.Short.{element, element_size};
+ghost use Rattle.sspi_names.specs.Identity.{AreBuffers};
+ghost use Rattle.sspi_tsreq.specs.Creds.{buffers_text, carried, creds_body, creds_of, creds_text, octets_field, password_fields, password_type_field, spelled_if_fits};
+ghost use Rattle.sspi_tsreq.specs.CredsAnswers.{IsOrMemory};
+ghost use Rattle.sspi_tsreq.specs.CredsSizes.{FitTexts, body_size, fields_size};
+ghost use Rattle.sspi_tsreq.specs.Size.{IsCapped};
+
+use crate::mode::CredSspMode;
+use sspi_ber::identifier::{OCTET_STRING, SEQUENCE};
+use sspi_ber::{
+    MAX_CONTENT, Sink, VecSink, WireKind, size_of_element, write_all, write_header,
+    write_wrapped_octets,
+};
+use sspi_names::{AuthIdentityBuffers, CredentialsBuffers};
+use sspi_types::{Error, ErrorKind, Reason};
+use std::alloc::Global;
+
+/// The bytes of the texts of TSPasswordCreds, as UTF-16 with the low byte first.
+#[derive(Clone, Copy)]
+struct Texts<'a> {
+    domain: &'a [u8],
+    user: &'a [u8],
+    password: &'a [u8],
+}
+
+/// Writes TSCredentials (MS-CSSP 2.2.1.2) with a password, in their shortest spelling; without the credentials, in
+/// `CredentialLess`, with three empty texts.
+///
+/// `UnsupportedPreAuth` comes exactly for a keytab, in both modes, and `InternalError` exactly where the content passes the
+/// limit of all lengths.
+pub fn write_ts_credentials(
+    alloc: Global,
+    credentials: &CredentialsBuffers,
+    cred_ssp_mode: CredSspMode,
+) -> Result<Vec<u8>, Error>
+    ensures text { IsOrMemory (λ text. text.items) result (creds_text credentials.now cred_ssp_mode) }
+    ensures read_back { IfOk result (λ text. creds_of text.items ≡ Ok (carried cred_ssp_mode credentials.now)) }
+{
+    match credentials {
+        CredentialsBuffers::AuthIdentity(buffers) => match cred_ssp_mode {
+            CredSspMode::WithCredentials => write_buffers(alloc, buffers),
+            CredSspMode::CredentialLess => write_texts(
+                alloc,
+                &Texts {
+                    domain: &[],
+                    user: &[],
+                    password: &[],
+                },
+            ),
+        },
+        CredentialsBuffers::Keytab(_) => Err(Error::new(
+            ErrorKind::UnsupportedPreAuth,
+            Reason::Keytab,
+        )),
+    }
+}
+
+#[tactic(auto, unfolding(crate::specs::Creds::buffers_text))]
+fn write_buffers(alloc: Global, buffers: &AuthIdentityBuffers) -> Result<Vec<u8>, Error>
+    ensures text { IsOrMemory (λ text. text.items) result (buffers_text buffers.now) }
+    ensures well_formed { IfOk result (λ _. AreBuffers buffers.now) }
+{
+    let domain = buffers.domain.to_bytes_le(alloc)?;
+    let user = buffers.user.to_bytes_le(alloc)?;
+    let password = buffers.password.value.to_bytes_le(alloc)?;
+    write_texts(
+        alloc,
+        &Texts {
+            domain: &domain,
+            user: &user,
+            password: &password,
+        },
+    )
+}
+
+/// TSCredentials with these texts, where their content fits.
+fn write_texts(alloc: Global, texts: &Texts<'_>) -> Result<Vec<u8>, Error>
+    ensures { IsOrMemory (λ text. text.items) result (spelled_if_fits (creds_body texts.now.domain.now texts.now.user.now texts.now.password.now)) }
+{
+    let size = capped_body(texts.domain.len(), texts.user.len(), texts.password.len());
+    if size > MAX_CONTENT {
+        return Err(Error::new(ErrorKind::InternalError, Reason::TooLong));
+    }
+    let mut sink = VecSink::with_capacity(alloc, size_of_element(size))?;
+    match write_creds(&mut sink, texts, size) {
+        Ok(()) => Ok(sink.into_inner()),
+        Err(kind) => Err(Error::from(kind)),
+    }
+}
+
+/// How many bytes an element takes, or a number past the limit.
+#[tactic(auto, using(crate::proofs::Capped::bounds))]
+fn capped_element(len: usize) -> usize
+    ensures capped { IsCapped result (element_size len) }
+    ensures small { result ≤ max_content + 4 }
+{
+    if len > MAX_CONTENT {
+        MAX_CONTENT + 1
+    } else {
+        size_of_element(len)
+    }
+}
+
+/// How many bytes the content of TSPasswordCreds takes whose texts have so many, or a number past the limit.
+#[tactic(auto, using(crate::proofs::Room::fields_capped))]
+fn capped_fields(domain: usize, user: usize, password: usize) -> usize
+    ensures capped { IsCapped result (fields_size domain user password) }
+    ensures small { result ≤ 3 * (max_content + 4) }
+{
+    let domain = capped_element(capped_element(domain));
+    let user = capped_element(capped_element(user));
+    let password = capped_element(capped_element(password));
+    domain + (user + password)
+}
+
+/// How many bytes the content of TSCredentials takes whose texts have so many, or a number past the limit.
+#[tactic(auto, using(crate::proofs::Room::body_capped))]
+fn capped_body(domain: usize, user: usize, password: usize) -> usize
+    ensures { IsCapped result (body_size domain user password) }
+{
+    let sequence = capped_element(capped_fields(domain, user, password));
+    5 + capped_element(capped_element(sequence))
+}
+
+/// TSCredentials whose content has `size` bytes.
+#[tactic(auto, using(sspi_ber::proofs::Written::writing), unfolding(sspi_ber::specs::Short::element))]
+fn write_creds<W: Sink>(sink: &mut W, texts: &Texts<'_>, size: usize) -> Result<(), WireKind>
+    requires fit { FitTexts (length texts.now.domain.now) (length texts.now.user.now) (length texts.now.password.now) }
+    requires size { size ≡ length (creds_body texts.now.domain.now texts.now.user.now texts.now.password.now) }
+    requires small { size ≤ max_content }
+    ensures wrote { Writes (W.written sink.old) (W.written sink.new) result (element 0x30 (creds_body texts.now.domain.now texts.now.user.now texts.now.password.now)) }
+    ensures cause { WriteCause (W.faults sink.old) (W.faults sink.new) result }
+{
+    write_header(sink, SEQUENCE, size)?;
+    write_body(sink, texts)
+}
+
+/// The content of TSCredentials.
+#[tactic(auto, using(sspi_ber::proofs::Written::writing), unfolding(crate::specs::Creds::creds_body, crate::specs::Creds::octets_field))]
+fn write_body<W: Sink>(sink: &mut W, texts: &Texts<'_>) -> Result<(), WireKind>
+    requires { FitTexts (length texts.now.domain.now) (length texts.now.user.now) (length texts.now.password.now) }
+    ensures wrote { Writes (W.written sink.old) (W.written sink.new) result (creds_body texts.now.domain.now texts.now.user.now texts.now.password.now) }
+    ensures cause { WriteCause (W.faults sink.old) (W.faults sink.new) result }
+{
+    write_password_type(sink)?;
+    write_credentials_field(sink, texts)
+}
+
+/// The field that says that the credentials are a password.
+#[tactic(auto, unfolding(crate::specs::Creds::password_type_field, sspi_ber::specs::Short::element, sspi_ber::specs::Short::header, sspi_ber::specs::Short::len_short, sspi_ber::specs::Short::int_short, sspi_ber::specs::Short::int_content))]
+fn write_password_type<W: Sink>(sink: &mut W) -> Result<(), WireKind>
+    ensures wrote { Writes (W.written sink.old) (W.written sink.new) result password_type_field }
+    ensures cause { WriteCause (W.faults sink.old) (W.faults sink.new) result }
+{
+    write_all(sink, &[0xa0, 0x03, 0x02, 0x01, 0x01])
+}
+
+/// The field of the credentials.
+#[tactic(auto, using(sspi_ber::proofs::Written::writing, sspi_ber::proofs::Written::lengths), unfolding(sspi_ber::specs::Short::element))]
+fn write_credentials_field<W: Sink>(sink: &mut W, texts: &Texts<'_>) -> Result<(), WireKind>
+    requires { FitTexts (length texts.now.domain.now) (length texts.now.user.now) (length texts.now.password.now) }
+    ensures wrote { Writes (W.written sink.old) (W.written sink.new) result
+        (element 0xA1 (element 0x04 (element 0x30 (password_fields texts.now.domain.now texts.now.user.now texts.now.password.now)))) }
+    ensures cause { WriteCause (W.faults sink.old) (W.faults sink.new) result }
+{
+    write_header(sink, 0xa1, size_of_element(sequence_size(texts)))?;
+    write_octets(sink, texts)
+}
+
+/// The OCTET STRING in which the credentials stand.
+#[tactic(auto, using(sspi_ber::proofs::Written::writing), unfolding(sspi_ber::specs::Short::element))]
+fn write_octets<W: Sink>(sink: &mut W, texts: &Texts<'_>) -> Result<(), WireKind>
+    requires { FitTexts (length texts.now.domain.now) (length texts.now.user.now) (length texts.now.password.now) }
+    ensures wrote { Writes (W.written sink.old) (W.written sink.new) result
+        (element 0x04 (element 0x30 (password_fields texts.now.domain.now texts.now.user.now texts.now.password.now))) }
+    ensures cause { WriteCause (W.faults sink.old) (W.faults sink.new) result }
+{
+    write_header(sink, OCTET_STRING, sequence_size(texts))?;
+    write_password_creds(sink, texts)
+}
+
+/// TSPasswordCreds.
+#[tactic(auto, using(sspi_ber::proofs::Written::writing), unfolding(sspi_ber::specs::Short::element))]
+fn write_password_creds<W: Sink>(sink: &mut W, texts: &Texts<'_>) -> Result<(), WireKind>
+    requires { FitTexts (length texts.now.domain.now) (length texts.now.user.now) (length texts.now.password.now) }
+    ensures wrote { Writes (W.written sink.old) (W.written sink.new) result
+        (element 0x30 (password_fields texts.now.domain.now texts.now.user.now texts.now.password.now)) }
+    ensures cause { WriteCause (W.faults sink.old) (W.faults sink.new) result }
+{
+    write_header(sink, SEQUENCE, content_size(texts))?;
+    write_password_fields(sink, texts)
+}
+
+/// The three texts.
+#[tactic(auto, using(sspi_ber::proofs::Written::writing), unfolding(crate::specs::Creds::password_fields, crate::specs::Creds::octets_field))]
+fn write_password_fields<W: Sink>(sink: &mut W, texts: &Texts<'_>) -> Result<(), WireKind>
+    requires { FitTexts (length texts.now.domain.now) (length texts.now.user.now) (length texts.now.password.now) }
+    ensures wrote { Writes (W.written sink.old) (W.written sink.new) result
+        (password_fields texts.now.domain.now texts.now.user.now texts.now.password.now) }
+    ensures cause { WriteCause (W.faults sink.old) (W.faults sink.new) result }
+{
+    write_wrapped_octets(sink, 0xa0, texts.domain)?;
+    write_wrapped_octets(sink, 0xa1, texts.user)?;
+    write_wrapped_octets(sink, 0xa2, texts.password)
+}
+
+/// How many bytes the content of TSPasswordCreds takes.
+#[tactic(auto, using(crate::proofs::Room::fields_length))]
+fn content_size(texts: &Texts<'_>) -> usize
+    requires { FitTexts (length texts.now.domain.now) (length texts.now.user.now) (length texts.now.password.now) }
+    ensures size { result ≡ length (password_fields texts.now.domain.now texts.now.user.now texts.now.password.now) }
+    ensures small { result ≤ max_content }
+{
+    let domain = size_of_element(size_of_element(texts.domain.len()));
+    let user = size_of_element(size_of_element(texts.user.len()));
+    let password = size_of_element(size_of_element(texts.password.len()));
+    domain + (user + password)
+}
+
+/// How many bytes TSPasswordCreds take.
+#[tactic(auto, using(crate::proofs::Room::sequence))]
+fn sequence_size(texts: &Texts<'_>) -> usize
+    requires { FitTexts (length texts.now.domain.now) (length texts.now.user.now) (length texts.now.password.now) }
+    ensures size { result ≡ length (element 0x30 (password_fields texts.now.domain.now texts.now.user.now texts.now.password.now)) }
+    ensures small { result ≤ max_content }
+    ensures nested { element_size result ≤ max_content }
+{
+    size_of_element(content_size(texts))
+}

@@ -1,0 +1,71 @@
+//! Laws about requests, each on a function that does nothing.
+
+ghost use Rattle.std.specs.Prelude.{◌≡◌, ℕ, ◌<◌, List, ◌∷◌, ◌++◌, length, take, Some, IsTrue};
+ghost use Rattle.sspi_ber.specs.Fault.{Ended, Invalid, zeros};
+ghost use Rattle.sspi_ber.specs.Forms.{IsLength};
+ghost use Rattle.sspi_tsreq.specs.Answer.{fault, body_fault};
+ghost use Rattle.sspi_tsreq.specs.Grammar.{IsRequest};
+ghost use Rattle.sspi_tsreq.specs.Spelling.{carried, fits, spelled};
+ghost use Rattle.sspi_tsreq.specs.Value.{IsRequestValue};
+ghost use Rattle.sspi_tsreq.specs.declared.request.TsRequest.{TsRequest};
+
+/// What begins with the spelling of a request that fits is read as what is carried of it, and exactly the spelling is taken,
+/// whatever follows.
+#[tactic(auto, using(crate::proofs::RoundTrip::spelled_again))]
+pub fn spelled_is_read()
+    ensures { (r : TsRequest) (more : List ℕ) → IsRequestValue r → IsTrue (fits r)
+        → IsRequest (spelled r ++ more) (carried r) (length (spelled r)) }
+{}
+
+/// The same where nothing follows, as after encoding.
+#[tactic(auto, using(crate::proofs::RoundTrip::spelled_whole))]
+pub fn encoded_is_read()
+    ensures { (r : TsRequest) → IsRequestValue r → IsTrue (fits r) → IsRequest (spelled r) (carried r) (length (spelled r)) }
+{}
+
+/// What is read of a spelling is spelled the same again.
+#[tactic(auto, using(crate::proofs::RoundTrip::carried_once, crate::proofs::RoundTrip::spelled_once))]
+pub fn carried_is_spelled_again()
+    ensures carried { (r : TsRequest) → carried (carried r) ≡ carried r }
+    ensures spelled { (r : TsRequest) → spelled (carried r) ≡ spelled r }
+{}
+
+/// Bytes begin with at most one request.
+pub fn one_is_read()
+    ensures { (bytes : List ℕ) (r s : TsRequest) (k j : ℕ) → IsRequest bytes r k → IsRequest bytes s j → (r ≡ s) × (k ≡ j) }
+{}
+
+/// No proper front of a spelling is read.
+pub fn no_front_is_read()
+    ensures { (r s : TsRequest) (j k : ℕ) → IsRequestValue r → IsTrue (fits r) → j < length (spelled r)
+        → IsRequest (take j (spelled r)) s k → ⊥ }
+{}
+
+/// What is read is a value that a request may have, so it can be written again where it fits.
+#[tactic(auto, using(crate::proofs::Ranges::read_value))]
+pub fn read_is_value()
+    ensures { (bytes : List ℕ) (r : TsRequest) (count : ℕ) → IsRequest bytes r count → IsRequestValue r }
+{}
+
+/// The fault of bytes that begin with a SEQUENCE and its whole content is that of the content, whatever follows it; that of
+/// all other bytes is the end.
+#[tactic(auto, using(crate::proofs::Faults::framed, crate::proofs::Faults::unframed))]
+pub fn fault_is_of_the_body()
+    ensures framed { (len body after : List ℕ) → IsLength len (length body)
+        → fault ((0x30 ∷ len) ++ (body ++ after)) ≡ body_fault body }
+    ensures unframed { (bytes : List ℕ)
+        → ((len body after : List ℕ) → IsLength len (length body) → bytes ≡ (0x30 ∷ len) ++ (body ++ after) → ⊥)
+        → fault bytes ≡ Some Ended }
+{}
+
+/// A content that is refused as `InvalidData` is refused so whatever follows inside it.
+#[tactic(auto, using(crate::proofs::Faults::body_stays))]
+pub fn invalid_is_final()
+    ensures { (body more : List ℕ) → body_fault body ≡ Some Invalid → body_fault (body ++ more) ≡ Some Invalid }
+{}
+
+/// A content that ends too early is settled by enough more bytes, even zeros: it is read then, or refused as `InvalidData`.
+#[tactic(auto, using(crate::proofs::Faults::body_settles))]
+pub fn end_is_settled()
+    ensures { (body : List ℕ) → (count : ℕ) × (body_fault (body ++ zeros count) ≡ Some Ended → ⊥) }
+{}

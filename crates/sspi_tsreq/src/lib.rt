@@ -1,0 +1,33 @@
+//! The messages of CredSSP (MS-CSSP 2.2): TSRequest, TSCredentials and the early user authorization result.
+//!
+//! `TsRequest::from_buffer` reads exactly the grammar of `specs/Grammar.antt`: it answers the request that the bytes begin
+//! with, or their first fault from the left. `encode_ts_request` writes exactly the shortest spelling of what the version
+//! carries, or refuses what is too long before a byte is written. `laws.rt` says what both give together: what was written is
+//! read again whatever follows, no proper front of it is read, and what the two faults mean.
+//! `write_ts_credentials` and `read_ts_credentials` do the same for the credentials that are delegated (`specs/Creds.antt`,
+//! `creds_laws.rt`), and `EarlyUserAuthResult` is the server's four bytes.
+//!
+//! `request.rt` has the message with its calls, `reading.rt` and `writing.rt` what stands behind them, one function for each
+//! field and for what follows it. `specs/Reading.antt` has the same chain on lists, and `specs/Spelling.antt` the spelling.
+#![tactic(auto)]
+
+mod block;
+pub mod creds_laws;
+mod creds_reading;
+mod creds_writing;
+pub mod early;
+pub mod laws;
+pub mod mode;
+mod reading;
+pub mod request;
+mod sizes;
+mod writing;
+
+pub use creds_reading::{read_ts_credentials, read_ts_credentials_from_slice};
+pub use creds_writing::write_ts_credentials;
+pub use early::{EARLY_USER_AUTH_RESULT_PDU_SIZE, EarlyUserAuthResult};
+pub use mode::CredSspMode;
+pub use request::TsRequest;
+
+#[cfg(test)]
+mod tests;

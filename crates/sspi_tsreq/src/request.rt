@@ -1,0 +1,180 @@
+ghost use Rattle.std.specs.Prelude.{◌≡◌, ℕ, length, IfOk};
+ghost use Rattle.sspi_ber.specs.Outside.{Reads, ReadCause, LeavesRest, WritesIf, WriteCause};
+ghost use Rattle.sspi_ber.specs.Short.{IsSizeIf};
+ghost use Rattle.sspi_tsreq.specs.Spelling.{fits, spelled};
+ghost use Rattle.sspi_tsreq.specs.Answer.{IsAnswer, IsUnlessMemory};
+ghost use Rattle.sspi_tsreq.specs.Grammar.{IsRequest};
+ghost use Rattle.sspi_tsreq.specs.Header.{request_size_at};
+ghost use Rattle.sspi_tsreq.specs.Status.{ChecksCode};
+ghost use Rattle.sspi_tsreq.specs.declared.request.TsRequest.{TsRequest};
+ghost use Rattle.sspi_tsreq.specs.Value.{bare, first_request};
+
+use crate::reading::read_request;
+use crate::sizes::fields_size;
+use crate::writing::write_request;
+use sspi_ber::{
+    MAX_CONTENT, Sink, SliceSource, Source, WireKind, read_sized_header, size_of_element,
+};
+use sspi_types::{Bytes, Error, ErrorKind, NStatusCode, Reason};
+use std::alloc::{AllocError, Global};
+
+/// The message that carries everything in CredSSP (TSRequest, MS-CSSP 2.2.1).
+#[derive(Drop)]
+pub struct TsRequest {
+    pub version: u32,
+    /// The first token of `negoTokens`.
+    pub nego_tokens: Option<Bytes>,
+    pub auth_info: Option<Bytes>,
+    pub pub_key_auth: Option<Bytes>,
+    pub error_code: Option<NStatusCode>,
+    pub client_nonce: Option<[u8; 32]>,
+}
+
+impl Default for TsRequest {
+    /// Version 6 and nothing else.
+    fn default() -> TsRequest
+        ensures { result ≡ first_request }
+    {
+        TsRequest::bare(6)
+    }
+}
+
+/// Two requests are equal where their values are.
+impl PartialEq for TsRequest {
+    ghost use Rattle.std.specs.Prelude.{◌≡◌, ◌↔◌, IsTrue};
+    ghost use Rattle.std.specs.Cmp.{partial_equiv_from_equiv};
+    ghost use Rattle.sspi_tsreq.specs.Equality.{same_request};
+    ghost use Rattle.sspi_tsreq.specs.SameRequest.{same_request_equiv};
+
+    ghost eq = { same_request };
+
+    ghost laws = { partial_equiv_from_equiv same_request_equiv };
+
+    #[tactic(auto, using(crate::specs::SameRequest::request_decided))]
+    fn eq(&self, other: &TsRequest) -> bool
+        ensures value { result ≡ same_request self.now other.now }
+        ensures same { IsTrue result ↔ (self.now ≡ other.now) }
+    {
+        self.version == other.version
+            && self.nego_tokens == other.nego_tokens
+            && self.auth_info == other.auth_info
+            && self.pub_key_auth == other.pub_key_auth
+            && self.error_code == other.error_code
+            && self.client_nonce == other.client_nonce
+    }
+}
+
+impl Eq for TsRequest {
+    ghost use Rattle.sspi_tsreq.specs.SameRequest.{same_request_equiv};
+
+    ghost laws = { same_request_equiv };
+}
+
+impl TsRequest {
+    /// A request of this version and nothing else.
+    pub(crate) fn bare(version: u32) -> TsRequest
+        ensures { result ≡ bare version }
+    {
+        TsRequest {
+            version,
+            nego_tokens: None,
+            auth_info: None,
+            pub_key_auth: None,
+            error_code: None,
+            client_nonce: None,
+        }
+    }
+
+    /// The request that `buffer` begins with; bytes after it are ignored, and so are bytes after its last field.
+    ///
+    /// `UnexpectedEof` where the outer header is bad, the buffer is shorter than header and content, or the content ends
+    /// inside an element; `InvalidData` where the first element that is not spelled as it must be is refused for another
+    /// reason. Lengths of tags are judged by their form alone.
+    #[tactic(auto, using(crate::proofs::FromBuffer::is_answer, crate::proofs::FromBuffer::is_only))]
+    pub fn from_buffer(alloc: Global, buffer: &[u8]) -> Result<TsRequest, WireKind>
+        ensures answer { IsAnswer buffer.now result }
+        ensures only { (r : TsRequest) (count : ℕ) → IsRequest buffer.now r count → IsUnlessMemory result r }
+    {
+        read_request(alloc, &mut SliceSource::new(buffer))
+    }
+
+    /// How many bytes the request takes that the source begins with: those of its header, which are read, and those of the
+    /// content. Each fault of the header is `UnexpectedEof`. Takes no memory.
+    #[tactic(auto, unfolding(crate::specs::Header::request_size_at))]
+    pub fn read_length<S: Source>(source: &mut S) -> Result<usize, WireKind>
+        ensures read { Reads (λ size. size) (S.left source.old) (S.left source.new) result request_size_at }
+        ensures cause { ReadCause (S.faults source.old) (S.faults source.new) result }
+        ensures rest { LeavesRest (S.left source.old) (S.left source.new) }
+    {
+        match read_sized_header(source, 0x30) {
+            Ok((len, size)) => Ok(size + usize::from(len)),
+            Err(WireKind::UnexpectedEof) => Err(WireKind::UnexpectedEof),
+            Err(WireKind::InvalidData) => Err(WireKind::UnexpectedEof),
+            Err(kind) => Err(kind),
+        }
+    }
+
+    /// Writes the request. The code is left out below version 3 and at version 5, the nonce below version 5. `InvalidData`
+    /// exactly where the content passes the limit, and then nothing is written; after a `WriteFault` or want of memory a
+    /// front of the spelling was written.
+    #[tactic(auto, using(crate::proofs::Capped::capped_fits, crate::proofs::Capped::capped_past))]
+    pub fn encode_ts_request<W: Sink>(&self, sink: &mut W) -> Result<(), WireKind>
+        ensures wrote { WritesIf (fits self.now) W.written sink.old sink.new result (spelled self.now) }
+        ensures cause { WriteCause (W.faults sink.old) (W.faults sink.new) result }
+    {
+        let size = fields_size(self);
+        if size > MAX_CONTENT {
+            return Err(WireKind::InvalidData);
+        }
+        write_request(sink, self, size)
+    }
+
+    /// How many bytes encoding writes. `InvalidData` exactly where the content passes the limit. Takes no memory.
+    #[tactic(auto, using(crate::proofs::Capped::capped_fits, crate::proofs::Capped::capped_past, crate::proofs::Capped::spelled_size))]
+    pub fn buffer_len(&self) -> Result<u16, WireKind>
+        ensures { IsSizeIf (fits self.now) result (length (spelled self.now)) }
+    {
+        let size = fields_size(self);
+        if size > MAX_CONTENT {
+            return Err(WireKind::InvalidData);
+        }
+        Ok(size_of_element(size) as u16)
+    }
+
+    /// A refusal with the peer's status where the request has a code other than `SUCCESS`. Takes no memory.
+    pub fn check_error(&self) -> Result<(), Error>
+        ensures { ChecksCode self.now.error_code result }
+    {
+        match self.error_code {
+            Some(code) if code != NStatusCode::SUCCESS => Err(Error::new_with_nstatus(
+                ErrorKind::InvalidToken,
+                Reason::ErrorStatus,
+                code,
+            )),
+            _ => Ok(()),
+        }
+    }
+
+    /// A copy in memory of its own, equal to this request.
+    pub fn clone(&self, alloc: Global) -> Result<TsRequest, AllocError>
+        ensures { IfOk result (λ request. request ≡ self.now) }
+    {
+        Ok(TsRequest {
+            version: self.version,
+            nego_tokens: clone_bytes(alloc, &self.nego_tokens)?,
+            auth_info: clone_bytes(alloc, &self.auth_info)?,
+            pub_key_auth: clone_bytes(alloc, &self.pub_key_auth)?,
+            error_code: self.error_code,
+            client_nonce: self.client_nonce,
+        })
+    }
+}
+
+fn clone_bytes(alloc: Global, bytes: &Option<Bytes>) -> Result<Option<Bytes>, AllocError>
+    ensures { IfOk result (λ copy. copy ≡ bytes.now) }
+{
+    match bytes {
+        Some(bytes) => Ok(Some(bytes.clone(alloc)?)),
+        None => Ok(None),
+    }
+}
