@@ -1,0 +1,9 @@
+pub mod Decode
+pub mod Encode
+pub mod NestedMatch
+pub mod OidsLoop
+pub mod ReadBack
+pub mod Identifiers
+pub mod Lengths
+pub mod GrammarMatch
+pub mod Written

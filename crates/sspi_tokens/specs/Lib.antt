@@ -1,0 +1,7 @@
+pub mod Oids
+pub mod Nested
+pub mod Grammar
+pub mod Reading
+pub mod Spelling
+pub mod Writing
+pub mod Answers

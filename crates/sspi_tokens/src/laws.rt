@@ -1,0 +1,44 @@
+//! What follows from the definitions alone. Each law is the contract of a call that does nothing.
+
+ghost use Rattle.std.specs.Prelude.{◌≡◌, ◌↔◌, ℕ, List, ◌++◌, Some};
+ghost use Rattle.sspi_tokens.specs.Grammar.{IsInit, IsTarg};
+ghost use Rattle.sspi_tokens.specs.Nested.{Begins};
+ghost use Rattle.sspi_tokens.specs.Oids.{ms_krb5, krb5, ntlm_ssp, kind_of};
+ghost use Rattle.sspi_tokens.specs.Reading.{init_of, targ_of};
+ghost use Rattle.sspi_tokens.specs.Spelling.{spelled_init, spelled_targ, spelled_list};
+ghost use Rattle.sspi_tokens.specs.declared.neg_token_init.NegTokenInit.{NegTokenInit};
+ghost use Rattle.sspi_tokens.specs.declared.neg_token_targ.NegTokenTarg.{NegTokenTarg};
+
+use crate::oid::MechKind;
+
+/// What `NegTokenInit::decode` reads is the grammar: the bytes begin with that token, and with no other.
+pub fn init_is_grammar()
+    ensures { (bytes : List ℕ) (token : NegTokenInit) → (init_of bytes ≡ Some token) ↔ Begins IsInit bytes token }
+{}
+
+/// The same of `NegTokenTarg::decode`.
+pub fn targ_is_grammar()
+    ensures { (bytes : List ℕ) (token : NegTokenTarg) → (targ_of bytes ≡ Some token) ↔ Begins IsTarg bytes token }
+{}
+
+/// A token that was spelled reads back, whatever follows it.
+pub fn init_reads_back()
+    ensures { (token : NegTokenInit) (text more : List ℕ) → spelled_init token ≡ Some text → init_of (text ++ more) ≡ Some token }
+{}
+
+/// The same of the other token.
+pub fn targ_reads_back()
+    ensures { (token : NegTokenTarg) (text more : List ℕ) → spelled_targ token ≡ Some text → targ_of (text ++ more) ≡ Some token }
+{}
+
+/// Two mechanism lists with the same spelling are equal, so a MIC over the spelling is one over the list.
+pub fn list_is_known_by_spelling()
+    ensures { (list other : List (List ℕ)) (text : List ℕ) → spelled_list list ≡ Some text → spelled_list other ≡ Some text → list ≡ other }
+{}
+
+/// Each known mechanism has one identifier.
+pub fn kinds_are_identifiers()
+    ensures ms_kerberos { (oid : List ℕ) → (kind_of oid ≡ MechKind.MsKerberos) ↔ (oid ≡ ms_krb5) }
+    ensures kerberos { (oid : List ℕ) → (kind_of oid ≡ MechKind.Kerberos) ↔ (oid ≡ krb5) }
+    ensures ntlm { (oid : List ℕ) → (kind_of oid ≡ MechKind.Ntlm) ↔ (oid ≡ ntlm_ssp) }
+{}

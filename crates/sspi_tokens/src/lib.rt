@@ -1,0 +1,30 @@
+//! The tokens of SPNEGO (RFC 4178, section 4.2, with the profile of MS-SPNG) and the mechanism lists in them.
+//!
+//! `NegTokenInit` and `NegTokenTarg` (NegTokenResp in RFC 4178) are read from bytes and written to bytes; `Oid` names a
+//! mechanism and `MechTypeList` lists them in the order of preference. `encode_mech_types` spells a list alone, which is the
+//! text that the MICs of a negotiation are made over.
+//!
+//! `decode` refuses exactly where the bytes begin with no token, and `encode` exactly where a length passes the limit. The
+//! grammar is `specs/Grammar.antt`, the spelling `specs/Spelling.antt`. `laws.rt` has what follows: a token that was written
+//! reads back, whatever follows it, and a list is known by its spelling.
+#![tactic(auto)]
+
+pub mod laws;
+pub mod mech_type_list;
+pub mod neg_result;
+pub mod neg_token_init;
+pub mod neg_token_targ;
+pub mod oid;
+mod reading;
+mod refusal;
+mod sizes;
+mod tags;
+#[cfg(test)]
+mod tests;
+mod writing;
+
+pub use mech_type_list::{MechTypeList, encode_mech_types};
+pub use neg_result::NegResult;
+pub use neg_token_init::NegTokenInit;
+pub use neg_token_targ::NegTokenTarg;
+pub use oid::{MechKind, Oid};

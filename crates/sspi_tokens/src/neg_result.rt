@@ -1,0 +1,34 @@
+ghost use Rattle.std.specs.Prelude.{◌≡◌};
+ghost use Rattle.sspi_tokens.specs.Grammar.{result_of};
+ghost use Rattle.sspi_tokens.specs.Spelling.{result_code};
+
+/// What a token says of the negotiation (negState, RFC 4178, section 4.2.2).
+#[derive(Clone, Copy, Debug, PartialEq, Eq)]
+pub enum NegResult {
+    AcceptComplete,
+    AcceptIncomplete,
+    /// Any other content of the ENUMERATED; it is written as `reject` (2).
+    Other,
+}
+
+impl NegResult {
+    pub(crate) fn from_content(content: &[u8]) -> NegResult
+        ensures { result ≡ result_of content.now }
+    {
+        match content {
+            [0] => NegResult::AcceptComplete,
+            [1] => NegResult::AcceptIncomplete,
+            _ => NegResult::Other,
+        }
+    }
+
+    pub(crate) fn code(self) -> u8
+        ensures { result ≡ result_code self }
+    {
+        match self {
+            NegResult::AcceptComplete => 0,
+            NegResult::AcceptIncomplete => 1,
+            NegResult::Other => 2,
+        }
+    }
+}

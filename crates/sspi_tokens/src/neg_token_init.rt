@@ -1,0 +1,102 @@
+ghost use Rattle.std.specs.Prelude.{◌≡◌, IfOk};
+ghost use Rattle.sspi_tokens.specs.Answers.{ReadsAs, WritesAs};
+ghost use Rattle.sspi_ber.specs.Short.{element};
+ghost use Rattle.sspi_tokens.specs.Reading.{init_of};
+ghost use Rattle.sspi_tokens.specs.Spelling.{init_content, spelled_init};
+ghost use Rattle.sspi_tokens.specs.Writing.{IsInitLengths};
+
+use crate::mech_type_list::MechTypeList;
+use crate::reading::read_init;
+use crate::refusal::{refusal, too_long};
+use crate::sizes::{InitLengths, element_len, init_lengths};
+use crate::writing::put_init;
+use sspi_ber::{SliceSource, VecSink};
+use sspi_types::{Bytes, Error};
+use std::alloc::{AllocError, Global};
+
+/// The first token of a client (RFC 4178, section 4.2.1; MS-SPNG 2.2.1): the mechanisms that it offers, and the first token of
+/// the one that it likes best.
+#[derive(Drop, PartialEq, Eq)]
+pub struct NegTokenInit {
+    pub mech_types: Option<MechTypeList>,
+    pub mech_token: Option<Bytes>,
+}
+
+impl NegTokenInit {
+    /// Reads the token that `bytes` begin with; what follows it is not looked at.
+    ///
+    /// A field that is absent, or whose place another field has, is `None`. The flags and the field with tag 3 (the MIC of
+    /// RFC 4178, the hints of MS-SPNG) are passed over by their lengths, and whatever is left over in an element is ignored.
+    /// Mechanisms that are not known stay in the list.
+    ///
+    /// `InvalidToken` with the reason `TokenForm` exactly where the bytes begin with no such token: where one is cut off or
+    /// another tag stands in its place, and where its mechanism is another than SPNEGO.
+    #[tactic(auto, using(crate::proofs::Decode::read_as))]
+    pub fn decode(alloc: Global, bytes: &[u8]) -> Result<NegTokenInit, Error>
+        ensures { ReadsAs (init_of bytes.now) result }
+    {
+        match read_init(alloc, &mut SliceSource::new(bytes)) {
+            Ok(token) => Ok(token),
+            Err(kind) => Err(refusal(kind)),
+        }
+    }
+
+    /// The token in its shortest spelling.
+    ///
+    /// `InternalError` with the reason `TooLong` exactly where a length passes the limit; that takes no memory.
+    #[tactic(auto, using(crate::proofs::Encode::refused, crate::proofs::Encode::unwritten, crate::proofs::Encode::written))]
+    pub fn encode(&self, alloc: Global) -> Result<Vec<u8>, Error>
+        ensures { WritesAs (spelled_init self.now) result }
+    {
+        match init_lengths(self) {
+            None => Err(too_long()),
+            Some(lengths) => Ok(write_init(alloc, self, &lengths)?),
+        }
+    }
+
+    /// A copy in memory of its own, equal to this token.
+    pub fn clone(&self, alloc: Global) -> Result<NegTokenInit, AllocError>
+        ensures { IfOk result (λ token. token ≡ self.now) }
+    {
+        let mech_types = clone_list(alloc, &self.mech_types)?;
+        let mech_token = clone_bytes(alloc, &self.mech_token)?;
+        Ok(NegTokenInit {
+            mech_types,
+            mech_token,
+        })
+    }
+}
+
+fn clone_list(
+    alloc: Global,
+    list: &Option<MechTypeList>,
+) -> Result<Option<MechTypeList>, AllocError>
+    ensures { IfOk result (λ copy. copy ≡ list.now) }
+{
+    match list {
+        None => Ok(None),
+        Some(list) => Ok(Some(list.clone(alloc)?)),
+    }
+}
+
+pub(crate) fn clone_bytes(alloc: Global, bytes: &Option<Bytes>) -> Result<Option<Bytes>, AllocError>
+    ensures { IfOk result (λ copy. copy ≡ bytes.now) }
+{
+    match bytes {
+        None => Ok(None),
+        Some(bytes) => Ok(Some(bytes.clone(alloc)?)),
+    }
+}
+
+fn write_init(
+    alloc: Global,
+    token: &NegTokenInit,
+    lengths: &InitLengths,
+) -> Result<Vec<u8>, AllocError>
+    requires { IsInitLengths token.now lengths.now }
+    ensures { IfOk result (λ bytes. bytes.items ≡ element 0x60 (init_content token.now)) }
+{
+    let mut sink = VecSink::with_capacity(alloc, element_len(lengths.content))?;
+    put_init(&mut sink, token, lengths)?;
+    Ok(sink.into_inner())
+}
