@@ -1,0 +1,6 @@
+pub mod ContextLaws
+pub mod Messages
+pub mod Opened
+pub mod Protected
+pub mod Rounds
+pub mod Text

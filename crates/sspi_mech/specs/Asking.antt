@@ -1,0 +1,25 @@
+-- What a call on a KDC says of the world outside.
+use Rattle.std.specs.Prelude.{◌≡◌, ℕ, ◌+◌, ◌-◌, ◌^◌, ◌≤◌, min, Option, None, Some, Result, Ok, Err, Vec}
+use Rattle.sspi_names.specs.declared.network.NetworkRequest.{NetworkRequest}
+use Rattle.sspi_mech.specs.declared.kdc.KdcError.{KdcError}
+use Rattle.sspi_mech.specs.declared.kdc.KdcError.TheVariants as errors
+use Rattle.sspi_mech.specs.declared.step.Reply.{Reply}
+use Rattle.sspi_mech.specs.declared.step.Reply.TheVariants as replies
+
+-- the next value of a count that stays at its last one
+abbrev pub counted_on : ℕ → ℕ
+counted_on n = min (n + 1) (2 ^ 64 - 1)
+
+-- the count of faults never falls; a failure has it rise, or finds it at its last value
+abbrev pub AskCause : {X : Type 0} → ℕ → ℕ → Result X KdcError → Type 0
+AskCause before now (Ok x) = before ≤ now
+AskCause before now (Err errors.Failed) = counted_on before ≤ now
+AskCause before now (Err errors.InsufficientMemory) = before ≤ now
+
+-- where the replies are told, by the number of the call, the answer is the one that is told: it fails exactly where that
+-- says so, and the count of faults rises nowhere else
+abbrev pub IsTold : {A : Type 0} → Option (ℕ → NetworkRequest → Reply) → ℕ → NetworkRequest → ℕ → ℕ → Result (Vec ℕ A) KdcError → Type 0
+IsTold None call request before now answer = Unit {0}
+IsTold (Some told) call request before now (Ok reply) = (told call request ≡ replies.Answered reply.items) × (now ≡ before)
+IsTold (Some told) call request before now (Err errors.Failed) = told call request ≡ replies.Failed
+IsTold (Some told) call request before now (Err errors.InsufficientMemory) = now ≡ before

@@ -1,0 +1,73 @@
+-- What the calls of a mechanism are given, as values without references.
+use Rattle.std.specs.Prelude.{ℕ, ◌+◌, List, Option}
+use Rattle.std.specs.Option.{option_copied}
+use Rattle.sspi_types.specs.declared.client_request_flags.ClientRequestFlags.{ClientRequestFlags}
+use Rattle.sspi_types.specs.declared.credential_use.CredentialUse.{CredentialUse}
+use Rattle.sspi_types.specs.declared.server_request_flags.ServerRequestFlags.{ServerRequestFlags}
+use Rattle.sspi_names.specs.declared.credentials.Credentials.{Credentials}
+use Rattle.sspi_names.specs.declared.credentials.CredentialsBuffers.{CredentialsBuffers}
+use Rattle.sspi_mech.specs.declared.args.AcceptSecurityContext.{AcceptSecurityContext}
+use Rattle.sspi_mech.specs.declared.args.InitializeSecurityContext.{InitializeSecurityContext}
+
+-- a client's step
+pub record StepArgs : Type 0 where
+  pub handle : Option CredentialsBuffers
+  pub requirements : ClientRequestFlags
+  pub target : Option (List ℕ)
+  pub input : List ℕ
+
+abbrev pub step_args : InitializeSecurityContext → StepArgs
+step_args args = record {
+  handle = option_copied args.credentials_handle;
+  requirements = args.context_requirements;
+  target = option_copied args.target_name;
+  input = args.input.now;
+}
+
+-- a server's step
+pub record AcceptArgs : Type 0 where
+  pub handle : Option CredentialsBuffers
+  pub requirements : ServerRequestFlags
+  pub input : List ℕ
+
+abbrev pub accept_args : AcceptSecurityContext → AcceptArgs
+accept_args args = record {
+  handle = option_copied args.credentials_handle;
+  requirements = args.context_requirements;
+  input = args.input.now;
+}
+
+-- how many messages an object has made and taken
+pub record Counts : Type 0 where
+  pub sealed : ℕ
+  pub unsealed : ℕ
+  pub signed : ℕ
+  pub verified : ℕ
+
+abbrev pub no_counts : Counts
+no_counts = record { sealed = 0; unsealed = 0; signed = 0; verified = 0 }
+
+abbrev pub one_sealed : Counts → Counts
+one_sealed n = record n { sealed = n.sealed + 1 }
+
+abbrev pub one_unsealed : Counts → Counts
+one_unsealed n = record n { unsealed = n.unsealed + 1 }
+
+abbrev pub one_signed : Counts → Counts
+one_signed n = record n { signed = n.signed + 1 }
+
+abbrev pub one_verified : Counts → Counts
+one_verified n = record n { verified = n.verified + 1 }
+
+-- a call that is no step, with what it is given
+pub data Call : Type 0 where
+  ToAcquire : CredentialUse → Option Credentials → Call
+  ToName : Call
+  ToIdentify : List Credentials → Call
+  ToComplete : Call
+  ToSeal : List ℕ → Call
+  ToUnseal : List ℕ → Call
+  ToSign : List ℕ → Call
+  ToVerify : List ℕ → List ℕ → Call
+  ToDescribe : Call
+  ToShowKey : Call

@@ -1,0 +1,25 @@
+use sspi_names::CredentialsBuffers;
+use sspi_types::{ClientRequestFlags, DataRepresentation, ServerRequestFlags};
+
+/// What a client's step is given (InitializeSecurityContext).
+#[derive(Clone, Copy)]
+pub struct InitializeSecurityContext<'a> {
+    /// The acquired credentials. A step that needs a name refuses where there are none.
+    pub credentials_handle: Option<&'a CredentialsBuffers>,
+    pub context_requirements: ClientRequestFlags,
+    pub target_data_representation: DataRepresentation,
+    /// The name of the service, as `TERMSRV/host`.
+    pub target_name: Option<&'a str>,
+    /// The token that the peer sent; empty in the first step.
+    pub input: &'a [u8],
+}
+
+/// What a server's step is given (AcceptSecurityContext).
+#[derive(Clone, Copy)]
+pub struct AcceptSecurityContext<'a> {
+    pub credentials_handle: Option<&'a CredentialsBuffers>,
+    pub context_requirements: ServerRequestFlags,
+    pub target_data_representation: DataRepresentation,
+    /// The token that the peer sent.
+    pub input: &'a [u8],
+}

@@ -1,0 +1,78 @@
+ghost use Rattle.std.specs.Prelude.{◌≡◌};
+ghost use Rattle.sspi_mech.specs.Asking.{counted_on, AskCause, IsTold};
+
+use sspi_names::NetworkRequest;
+use std::marker::Model;
+
+/// Why a KDC gave no reply.
+#[derive(Clone, Copy, Debug, PartialEq, Eq)]
+pub enum KdcError {
+    /// It could not be asked, or did not answer.
+    Failed,
+    InsufficientMemory,
+}
+
+/// A key distribution center, as its clients reach it.
+pub trait Kdc {
+    ghost use Rattle.std.specs.Prelude.{ℕ, Option};
+    ghost use Rattle.sspi_names.specs.declared.network.NetworkRequest.{NetworkRequest};
+    ghost use Rattle.sspi_mech.specs.declared.step.Reply.{Reply};
+
+    // The reply to each request by the number of the call, from 0, where the object tells it.
+    ghost told: { Self → Option (ℕ → NetworkRequest → Reply) };
+
+    // How many calls were made, and how many of them failed. Each stays at `u64::MAX` once it is there.
+    ghost asked: { Self → ℕ };
+
+    ghost faults: { Self → ℕ };
+
+    /// Sends the request and waits for the reply. Answers `Failed` only where the count of faults rose in this call, or
+    /// stands at its last value.
+    fn ask(&mut self, request: &NetworkRequest) -> Result<Vec<u8>, KdcError>
+        ensures told { told self.new ≡ told self.old }
+        ensures asked { asked self.new ≡ counted_on (asked self.old) }
+        ensures reply { IsTold (told self.old) (asked self.old) request.now (faults self.old) (faults self.new) result }
+        ensures cause { AskCause (faults self.old) (faults self.new) result };
+}
+
+/// A KDC that cannot be asked.
+#[derive(Drop)]
+pub struct FailingKdc {
+    faults: u64,
+}
+
+impl Model for FailingKdc {
+    ghost use Rattle.std.specs.Prelude.{ℕ};
+
+    ghost Value = { ℕ };
+
+    ghost view = { λ kdc. kdc.faults };
+}
+
+impl FailingKdc {
+    /// A KDC that was not asked yet.
+    pub fn new() -> FailingKdc
+        ensures { result ≡ 0 }
+    {
+        FailingKdc { faults: 0 }
+    }
+}
+
+impl Kdc for FailingKdc {
+    ghost use Rattle.std.specs.Prelude.{Some};
+    ghost use Rattle.sspi_mech.specs.declared.step.Reply.TheVariants.{Failed};
+
+    ghost told = { λ _. Some (λ _ _. Failed) };
+
+    ghost asked = { λ calls. calls };
+
+    ghost faults = { λ calls. calls };
+
+    fn ask(&mut self, _request: &NetworkRequest) -> Result<Vec<u8>, KdcError>
+        ensures failed { result ≡ Err KdcError.Failed }
+        ensures count { self.new ≡ counted_on self.old }
+    {
+        self.faults = self.faults.saturating_add(1);
+        Err(KdcError::Failed)
+    }
+}

@@ -1,0 +1,28 @@
+//! Security mechanisms: the trait, and plain NTLM.
+//!
+//! - `Mechanism`: the calls of a mechanism. `specs/Meaning.antt` names what they do, `specs/Laws.antt` says what holds of
+//!   every one, and `specs/Context.antt` what still holds where a context chooses among mechanisms.
+//! - `Ntlm`: plain NTLM, a mechanism of this project's own with the roles of MS-NLMP and SHA-256 in place of its hashes.
+//!   `specs/Ntlm.antt` says exactly what each of its calls answers, and `ntlm::laws` what follows for two ends.
+//! - `Kdc`: where a client's requests go; `FailingKdc` answers none.
+//!
+//! A refusal leaves an object as it was and has no NTSTATUS code. Want of memory may come at any time, every other kind
+//! only where `refuses` says so. Nothing is claimed of the secrecy of plain NTLM.
+#![tactic(auto)]
+
+pub mod args;
+pub mod config;
+pub mod kdc;
+pub mod mechanism;
+pub mod ntlm;
+mod protection;
+pub mod step;
+#[cfg(test)]
+mod tests;
+
+pub use args::{AcceptSecurityContext, InitializeSecurityContext};
+pub use config::{MechConfig, NtlmConfig};
+pub use kdc::{FailingKdc, Kdc, KdcError};
+pub use mechanism::{Mechanism, mechanism_is_context};
+pub use ntlm::Ntlm;
+pub use step::{Answer, Progressing, Reply, Step};

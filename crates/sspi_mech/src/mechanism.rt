@@ -1,0 +1,174 @@
+ghost use Rattle.std.specs.Prelude.{◌≡◌, ◌≢◌, ◌<◌, Some, IsTrue, IfOk, IfErr, OnOk, OnErr, option_copied};
+ghost use Rattle.sspi_types.specs.Memory.{memory_error};
+ghost use Rattle.sspi_mech.specs.Calls.{step_args, accept_args, no_counts, one_sealed, one_unsealed, one_signed, one_verified};
+ghost use Rattle.sspi_mech.specs.Calls.{ToAcquire, ToName, ToIdentify, ToComplete, ToSeal, ToUnseal, ToSign, ToVerify, ToDescribe, ToShowKey};
+ghost use Rattle.sspi_mech.specs.Context.{IsContext};
+ghost use Rattle.sspi_mech.specs.Laws.{IsMechanism};
+ghost use Rattle.sspi_mech.specs.Meaning.{Meaning};
+ghost use Rattle.sspi_mech.specs.Answers.{IfRefused, OnRefused, OnAsk};
+ghost use Rattle.sspi_mech.specs.Settings.{Setting, setting_of};
+
+use crate::args::{AcceptSecurityContext, InitializeSecurityContext};
+use crate::config::MechConfig;
+use crate::step::{Answer, Reply, Step};
+use sspi_names::{Credentials, CredentialsBuffers, Username};
+use sspi_types::{
+    ContextSizes, CredentialUse, Error, ErrorKind, PackageInfo, SecurityStatus, SessionKeys,
+};
+use std::alloc::Global;
+
+/// A security mechanism: one end of one authentication, and the protection of messages once it has a key.
+///
+/// Every call may answer `InsufficientMemory`. A refused call leaves the object as it was, and no refusal has an NTSTATUS
+/// code. `meaning` says what each call does, in the words of `specs/Meaning.antt`; `specs/Laws.antt` has what holds of
+/// every mechanism.
+pub trait Mechanism: Sized + Drop {
+    /// At most how often one object asks a KDC.
+    const REQUESTS: u32;
+
+    ghost use Rattle.std.specs.Prelude.{ℕ};
+
+    ghost REQUESTS: { ℕ };
+
+    ghost meaning: { Meaning Setting Self };
+
+    /// A mechanism that has made no step. Refused for want of memory alone.
+    fn make(alloc: Global, config: &MechConfig<'_>) -> Result<Self, Error>
+        ensures made { IfOk result (λ it. meaning.made (setting_of config.now) it) }
+        ensures fresh { IfOk result (λ it. meaning.counts it ≡ no_counts) }
+        ensures err { IfErr result (λ error. error ≡ memory_error) };
+
+    /// The buffers for the handle of these credentials (AcquireCredentialsHandle); none where none are given.
+    fn acquire(
+        &mut self,
+        credential_use: CredentialUse,
+        auth_data: Option<&Credentials>,
+    ) -> Result<Option<CredentialsBuffers>, Error>
+        ensures acquired { IfOk result (λ buffers. meaning.acquires self.old credential_use (option_copied auth_data.entry) buffers self.new) }
+        ensures count { meaning.counts self.new ≡ meaning.counts self.old }
+        ensures err { OnErr result (self.new ≡ self.old) }
+        ensures plain { IfErr result (λ error. error.nstatus ≡ None) }
+        ensures cause { IfErr result (λ error. error.error_type ≢ ErrorKind.InsufficientMemory →
+            meaning.refuses self.old (ToAcquire credential_use (option_copied auth_data.entry)) error.error_type) };
+
+    /// A client's step (InitializeSecurityContext).
+    fn initialize(&mut self, args: &InitializeSecurityContext<'_>) -> Answer
+        ensures step { meaning.steps self.old (step_args args.now) result self.new }
+        ensures err { OnRefused result (self.new ≡ self.old) }
+        ensures plain { IfRefused result (λ error. error.nstatus ≡ None) };
+
+    /// Goes on with the step that asked, once it is known what came of its request. Refused, it still waits.
+    fn resume(&mut self, reply: &Reply) -> Answer
+        ensures step { meaning.resumes self.old reply.now result self.new }
+        ensures falls { OnAsk result (meaning.left self.new < meaning.left self.old) }
+        ensures err { OnRefused result (self.new ≡ self.old) }
+        ensures plain { IfRefused result (λ error. error.nstatus ≡ None) };
+
+    /// A server's step (AcceptSecurityContext). It asks no KDC.
+    fn accept(&mut self, args: &AcceptSecurityContext<'_>) -> Result<Step, Error>
+        ensures step { meaning.accepts self.old (accept_args args.now) result self.new }
+        ensures err { OnErr result (self.new ≡ self.old) }
+        ensures plain { IfErr result (λ error. error.nstatus ≡ None) };
+
+    /// Whether a step waits for what comes of a request.
+    fn waiting(&self) -> bool
+        ensures { result ≡ meaning.waits self.now };
+
+    /// At most how often this object still asks a KDC.
+    fn requests_left(&self) -> u32
+        ensures { result ≡ meaning.left self.now };
+
+    /// Completes the authentication (CompleteAuthToken). Once there is a key it answers `Ok`.
+    fn complete(&mut self) -> Result<SecurityStatus, Error>
+        ensures same { self.new ≡ self.old }
+        ensures keyed { IsTrue (meaning.keyed self.old) → result ≡ Ok SecurityStatus.Ok }
+        ensures permitted { OnOk result (meaning.permits self.old ToComplete) }
+        ensures plain { IfErr result (λ error. error.nstatus ≡ None) }
+        ensures cause { IfErr result (λ error. error.error_type ≢ ErrorKind.InsufficientMemory → meaning.refuses self.old ToComplete error.error_type) };
+
+    /// The name that was authenticated: on a server the peer's, on a client its own.
+    fn names(&self) -> Result<Username, Error>
+        ensures named { IfOk result (λ name. meaning.names self.now ≡ Some name) }
+        ensures plain { IfErr result (λ error. error.nstatus ≡ None) }
+        ensures cause { IfErr result (λ error. error.error_type ≢ ErrorKind.InsufficientMemory → meaning.refuses self.now ToName error.error_type) };
+
+    /// Tells a server which identities its peer may have.
+    fn set_identities(&mut self, identities: &[Credentials]) -> Result<(), Error>
+        ensures identified { OnOk result (meaning.identifies self.old identities.now self.new) }
+        ensures count { meaning.counts self.new ≡ meaning.counts self.old }
+        ensures err { OnErr result (self.new ≡ self.old) }
+        ensures plain { IfErr result (λ error. error.nstatus ≡ None) }
+        ensures cause { IfErr result (λ error. error.error_type ≢ ErrorKind.InsufficientMemory →
+            meaning.refuses self.old (ToIdentify identities.now) error.error_type) };
+
+    /// Seals a text for the peer (EncryptMessage).
+    fn seal(&mut self, text: &[u8]) -> Result<Vec<u8>, Error>
+        ensures blob { IfOk result (λ blob. meaning.seals self.new (meaning.counts self.old).sealed text.now blob.items) }
+        ensures ok { OnOk result (self.new ≡ meaning.counted self.old (one_sealed (meaning.counts self.old))) }
+        ensures count { OnOk result (meaning.counts self.new ≡ one_sealed (meaning.counts self.old)) }
+        ensures permitted { OnOk result (meaning.permits self.old (ToSeal text.now)) }
+        ensures err { OnErr result (self.new ≡ self.old) }
+        ensures plain { IfErr result (λ error. error.nstatus ≡ None) }
+        ensures cause { IfErr result (λ error. error.error_type ≢ ErrorKind.InsufficientMemory →
+            meaning.refuses self.old (ToSeal text.now) error.error_type) };
+
+    /// Opens what the peer sealed (DecryptMessage).
+    fn unseal(&mut self, blob: &[u8]) -> Result<Vec<u8>, Error>
+        ensures text { IfOk result (λ text. meaning.opens self.new (meaning.counts self.old).unsealed blob.now text.items) }
+        ensures ok { OnOk result (self.new ≡ meaning.counted self.old (one_unsealed (meaning.counts self.old))) }
+        ensures count { OnOk result (meaning.counts self.new ≡ one_unsealed (meaning.counts self.old)) }
+        ensures permitted { OnOk result (meaning.permits self.old (ToUnseal blob.now)) }
+        ensures err { OnErr result (self.new ≡ self.old) }
+        ensures plain { IfErr result (λ error. error.nstatus ≡ None) }
+        ensures cause { IfErr result (λ error. error.error_type ≢ ErrorKind.InsufficientMemory →
+            meaning.refuses self.old (ToUnseal blob.now) error.error_type) };
+
+    /// The MIC of a text for the peer (MakeSignature).
+    fn sign(&mut self, text: &[u8]) -> Result<Vec<u8>, Error>
+        ensures mic { IfOk result (λ mic. meaning.signs self.new (meaning.counts self.old).signed text.now mic.items) }
+        ensures ok { OnOk result (self.new ≡ meaning.counted self.old (one_signed (meaning.counts self.old))) }
+        ensures count { OnOk result (meaning.counts self.new ≡ one_signed (meaning.counts self.old)) }
+        ensures permitted { OnOk result (meaning.permits self.old (ToSign text.now)) }
+        ensures err { OnErr result (self.new ≡ self.old) }
+        ensures plain { IfErr result (λ error. error.nstatus ≡ None) }
+        ensures cause { IfErr result (λ error. error.error_type ≢ ErrorKind.InsufficientMemory →
+            meaning.refuses self.old (ToSign text.now) error.error_type) };
+
+    /// Checks the MIC that the peer made of a text (VerifySignature).
+    fn verify(&mut self, mic: &[u8], text: &[u8]) -> Result<(), Error>
+        ensures mic { OnOk result (meaning.verifies self.new (meaning.counts self.old).verified mic.now text.now) }
+        ensures ok { OnOk result (self.new ≡ meaning.counted self.old (one_verified (meaning.counts self.old))) }
+        ensures count { OnOk result (meaning.counts self.new ≡ one_verified (meaning.counts self.old)) }
+        ensures permitted { OnOk result (meaning.permits self.old (ToVerify mic.now text.now)) }
+        ensures err { OnErr result (self.new ≡ self.old) }
+        ensures plain { IfErr result (λ error. error.nstatus ≡ None) }
+        ensures cause { IfErr result (λ error. error.error_type ≢ ErrorKind.InsufficientMemory →
+            meaning.refuses self.old (ToVerify mic.now text.now) error.error_type) };
+
+    /// Whether this is a server that authenticates user to user.
+    fn user_to_user(&self) -> bool
+        ensures { result ≡ meaning.pairs self.now };
+
+    /// The entry of the mechanism's package.
+    fn package_info(&self) -> Result<PackageInfo, Error>
+        ensures entry { IfOk result (λ info. info ≡ meaning.entry self.now) }
+        ensures plain { IfErr result (λ error. error.nstatus ≡ None) }
+        ensures cause { IfErr result (λ error. error.error_type ≢ ErrorKind.InsufficientMemory → meaning.refuses self.now ToDescribe error.error_type) };
+
+    /// The sizes that users of the mechanism must know.
+    fn sizes(&self) -> ContextSizes
+        ensures { result ≡ meaning.sizes self.now };
+
+    /// The session key.
+    fn session_key(&self) -> Result<SessionKeys, Error>
+        ensures key { IfOk result (λ keys. meaning.session_key self.now ≡ Some keys.session_key.value) }
+        ensures plain { IfErr result (λ error. error.nstatus ≡ None) }
+        ensures cause { IfErr result (λ error. error.error_type ≢ ErrorKind.InsufficientMemory → meaning.refuses self.now ToShowKey error.error_type) };
+
+    ghost laws: { IsMechanism REQUESTS meaning };
+}
+
+/// What holds of every context holds of a mechanism.
+pub fn mechanism_is_context<M: Mechanism>()
+    ensures { IsContext M.meaning }
+{}

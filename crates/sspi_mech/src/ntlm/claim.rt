@@ -1,0 +1,131 @@
+ghost use Rattle.std.specs.Prelude.{◌≡◌, None, Some, IfErr, find, option_copied, if◌then◌else◌};
+ghost use Rattle.std.specs.List.{list_any};
+ghost use Rattle.std.specs.Str.{is_utf8};
+ghost use Rattle.sspi_mech.specs.NtlmClaims.{claim_of};
+ghost use Rattle.sspi_mech.specs.NtlmIdentities.{has_password, proves, claimed_key, key_at};
+ghost use Rattle.sspi_mech.specs.Refusals.{Gives};
+
+use crate::ntlm::messages::{key_of, proof_of, read_authenticate};
+use crate::ntlm::stage::{Claim, Stage};
+use sspi_names::{Credentials, Username};
+use sspi_types::{Bytes, Error, ErrorKind, Reason};
+use std::alloc::Global;
+
+/// Who a client says it is in its last message.
+pub fn claim_of(alloc: Global, message: &[u8]) -> Result<Claim, Error>
+    ensures answer { Gives result (claim_of message.now) }
+    ensures plain { IfErr result (λ error. error.nstatus ≡ None) }
+{
+    let Some((name, proof)) = read_authenticate(message) else {
+        return Err(Error::new(ErrorKind::InvalidToken, Reason::TokenForm));
+    };
+    let Some(text) = text_in(name) else {
+        return Err(Error::new(ErrorKind::InvalidToken, Reason::Utf));
+    };
+    let name = Username::parse(alloc, text)?;
+    let text = Bytes::from_slice(alloc, text.as_bytes())?;
+    Ok(Claim {
+        name,
+        text,
+        proof: *proof,
+    })
+}
+
+/// The text that the bytes are, if they are UTF-8.
+fn text_in(bytes: &[u8]) -> Option<&str>
+    ensures { option_copied result ≡ (if is_utf8 bytes.now then Some bytes.now else None) }
+{
+    match str::from_utf8(bytes) {
+        Ok(text) => Some(text),
+        Err(_) => None,
+    }
+}
+
+impl Stage {
+    /// The key that the identities give; OutOfSequence but on a server that has a claim.
+    pub fn key(&self, challenge: &[u8; 8], identities: &[Credentials]) -> Result<[u8; 32], Error>
+        ensures answer { Gives result (key_at self.now challenge.now identities.now) }
+        ensures plain { IfErr result (λ error. error.nstatus ≡ None) }
+    {
+        match self {
+            Stage::Claimed(claim) => claim.key(challenge, identities),
+            Stage::Unused
+            | Stage::NegotiateSent
+            | Stage::AuthenticateSent(_)
+            | Stage::ChallengeSent => Err(Error::new(ErrorKind::OutOfSequence, Reason::Sequence)),
+        }
+    }
+}
+
+impl Claim {
+    /// The key of the first identity whose password gives the proof.
+    pub fn key(&self, challenge: &[u8; 8], identities: &[Credentials]) -> Result<[u8; 32], Error>
+        ensures answer { Gives result (claimed_key challenge.now self.now identities.now) }
+        ensures plain { IfErr result (λ error. error.nstatus ≡ None) }
+    {
+        if !have_password(identities) {
+            return Err(Error::new(ErrorKind::NoCredentials, no_password(identities)));
+        }
+        match self.find_proof(challenge, identities) {
+            Some(Credentials::AuthIdentity(identity)) => {
+                let password = identity.password.value.as_str().as_bytes();
+                Ok(key_of(challenge, self.text.as_slice(), password))
+            }
+            Some(Credentials::Keytab(_)) | None => Err(Error::new(
+                ErrorKind::LogonDenied,
+                Reason::Proof,
+            )),
+        }
+    }
+
+    /// The first identity whose password gives the proof.
+    fn find_proof<'a>(
+        &self,
+        challenge: &[u8; 8],
+        identities: &'a [Credentials],
+    ) -> Option<&'a Credentials>
+        ensures { option_copied result ≡ find (proves challenge.now self.now) identities.now }
+    {
+        identities
+            .iter()
+            .find(|credentials| self.is_proved_by(challenge, *credentials))
+    }
+
+    /// Whether the password of these credentials gives the proof.
+    fn is_proved_by(&self, challenge: &[u8; 8], credentials: &Credentials) -> bool
+        ensures { result ≡ proves challenge.now self.now credentials.now }
+    {
+        match credentials {
+            Credentials::AuthIdentity(identity) => {
+                let password = identity.password.value.as_str().as_bytes();
+                proof_of(challenge, self.text.as_slice(), password).as_slice()
+                    == self.proof.as_slice()
+            }
+            Credentials::Keytab(_) => false,
+        }
+    }
+}
+
+fn has_password(credentials: &Credentials) -> bool
+    ensures { result ≡ has_password credentials.now }
+{
+    match credentials {
+        Credentials::AuthIdentity(_) => true,
+        Credentials::Keytab(_) => false,
+    }
+}
+
+fn have_password(identities: &[Credentials]) -> bool
+    ensures { result ≡ list_any has_password identities.now }
+{
+    identities.iter().any(has_password)
+}
+
+/// Why a list has no password: it is empty, or has keytabs alone.
+fn no_password(identities: &[Credentials]) -> Reason {
+    if identities.is_empty() {
+        Reason::NoCandidate
+    } else {
+        Reason::NotPassword
+    }
+}

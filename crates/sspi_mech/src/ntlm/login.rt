@@ -1,0 +1,45 @@
+ghost use Rattle.std.specs.Prelude.{◌≡◌, ◌≤◌, length, IfOk, IfErr, option_copied};
+ghost use Rattle.sspi_names.specs.Name.{inner_of};
+ghost use Rattle.sspi_mech.specs.NtlmSteps.{login_of};
+ghost use Rattle.sspi_mech.specs.Refusals.{Gives};
+
+use sspi_names::{CredentialsBuffers, Username};
+use sspi_types::{Error, ErrorKind, Reason, Text};
+use std::alloc::Global;
+
+/// The most bytes that the name in a message has.
+const LONGEST_NAME: usize = 65535;
+
+/// Who a client logs on as.
+#[derive(Drop)]
+pub struct Login {
+    pub name: Username,
+    pub password: Text,
+}
+
+/// The name and the password of a client's credentials.
+pub fn login_of(alloc: Global, handle: Option<&CredentialsBuffers>) -> Result<Login, Error>
+    ensures answer { Gives result (login_of (option_copied handle.entry)) }
+    ensures short { IfOk result (λ login. length (inner_of login.name) ≤ 65535) }
+    ensures plain { IfErr result (λ error. error.nstatus ≡ None) }
+{
+    let buffers = match handle {
+        None => return Err(Error::new(ErrorKind::NoCredentials, Reason::NoAuthData)),
+        Some(CredentialsBuffers::Keytab(_)) => return Err(Error::new(
+            ErrorKind::UnknownCredentials,
+            Reason::Keytab,
+        )),
+        Some(CredentialsBuffers::AuthIdentity(buffers)) => buffers,
+    };
+    let user = buffers.user.to_string(alloc)?;
+    let domain = buffers.domain.to_string(alloc)?;
+    let name = Username::new(alloc, user.as_str(), Some(domain.as_str()))?;
+    if name.inner().len() > LONGEST_NAME {
+        return Err(Error::new(ErrorKind::InternalError, Reason::TooLong));
+    }
+    let password = buffers.password.value.to_string(alloc)?;
+    Ok(Login {
+        name,
+        password: Text::from_string(password),
+    })
+}

@@ -1,0 +1,233 @@
+ghost use Rattle.std.specs.Prelude.{◌≡◌, ◌+◌, ◌-◌, ◌^◌, ◌==◌, false, true, None, Some, IfOk, OnOk, OnErr, IfErr, option_copied};
+ghost use Rattle.sspi_mech.specs.Protection.{direction_byte, tag_of, seal_tag, mic_of, SealsBy, OpensBy, SignsBy, VerifiesBy, making_refusal, unseal_refusal, verify_refusal, no_protection};
+ghost use Rattle.sspi_mech.specs.Refusals.{IsCause};
+
+use sha2::{Digest, Sha256};
+use sspi_types::{Error, ErrorKind, Reason};
+use std::alloc::Global;
+
+const TAG_LENGTH: usize = 16;
+
+/// Who made a message.
+#[derive(Clone, Copy)]
+pub enum Direction {
+    FromClient,
+    FromServer,
+}
+
+impl Direction {
+    fn byte(self) -> u8
+        ensures { result ≡ direction_byte self }
+    {
+        match self {
+            Direction::FromClient => 1,
+            Direction::FromServer => 2,
+        }
+    }
+}
+
+/// The key of an object, once there is one, and how many messages of each kind were made and taken by it.
+#[derive(Clone, Copy)]
+pub struct Protection {
+    key: Option<[u8; 32]>,
+    sealed: u64,
+    unsealed: u64,
+    signed: u64,
+    verified: u64,
+}
+
+impl Protection {
+    pub fn new() -> Protection
+        ensures { result ≡ no_protection }
+    {
+        Protection {
+            key: None,
+            sealed: 0,
+            unsealed: 0,
+            signed: 0,
+            verified: 0,
+        }
+    }
+
+    /// Takes a key, and leaves the counts.
+    pub fn set_key(&mut self, key: [u8; 32])
+        ensures { self.new ≡ record self.old { key = Some key } }
+    {
+        self.key = Some(key);
+    }
+
+    /// The key; OutOfSequence before there is one.
+    pub fn key(&self) -> Result<&[u8; 32], Error>
+        ensures ok { IfOk result (λ key. self.now.key ≡ Some key.now) }
+        ensures err { IfErr result (λ error. (self.now.key ≡ None) × (error.error_type ≡ ErrorKind.OutOfSequence) × (error.nstatus ≡ None)) }
+    {
+        match &self.key {
+            Some(key) => Ok(key),
+            None => Err(Error::new(ErrorKind::OutOfSequence, Reason::Sequence)),
+        }
+    }
+
+    /// The tag of the text and the text.
+    pub fn seal(
+        &mut self,
+        alloc: Global,
+        direction: Direction,
+        text: &[u8],
+    ) -> Result<Vec<u8>, Error>
+        ensures blob { IfOk result (λ blob. SealsBy self.new.key direction self.old.sealed text.now blob.items) }
+        ensures ok { OnOk result (self.new ≡ record self.old { sealed = self.old.sealed + 1 }) }
+        ensures permitted { OnOk result (making_refusal self.old.key self.old.sealed ≡ None) }
+        ensures err { OnErr result (self.new ≡ self.old) }
+        ensures plain { IfErr result (λ error. error.nstatus ≡ None) }
+        ensures cause { IfErr result (λ error. IsCause (making_refusal self.old.key self.old.sealed) error.error_type) }
+    {
+        let key = self.key()?;
+        let count = next(self.sealed)?;
+        let tag = seal_tag(key, direction, self.sealed, text);
+        let mut blob = Vec::with_capacity(alloc, TAG_LENGTH + text.len())?;
+        blob.extend_from_slice(&tag)?;
+        blob.extend_from_slice(text)?;
+        self.sealed = count;
+        Ok(blob)
+    }
+
+    /// The text of a blob whose tag is that of the text.
+    pub fn unseal(
+        &mut self,
+        alloc: Global,
+        direction: Direction,
+        blob: &[u8],
+    ) -> Result<Vec<u8>, Error>
+        ensures text { IfOk result (λ text. OpensBy self.new.key direction self.old.unsealed blob.now text.items) }
+        ensures ok { OnOk result (self.new ≡ record self.old { unsealed = self.old.unsealed + 1 }) }
+        ensures permitted { OnOk result (unseal_refusal self.old.key direction self.old.unsealed blob.now ≡ None) }
+        ensures err { OnErr result (self.new ≡ self.old) }
+        ensures plain { IfErr result (λ error. error.nstatus ≡ None) }
+        ensures cause { IfErr result (λ error. IsCause (unseal_refusal self.old.key direction self.old.unsealed blob.now) error.error_type) }
+    {
+        let key = self.key()?;
+        let count = next(self.unsealed)?;
+        if blob.len() < TAG_LENGTH {
+            return Err(Error::new(ErrorKind::InvalidToken, Reason::ShortBlob));
+        }
+        let (tag, text) = blob.split_at(TAG_LENGTH);
+        if tag != seal_tag(key, direction, self.unsealed, text).as_slice() {
+            return Err(Error::new(ErrorKind::MessageAltered, Reason::Tag));
+        }
+        let text = Vec::from_slice(alloc, text)?;
+        self.unsealed = count;
+        Ok(text)
+    }
+
+    /// The MIC of the text.
+    pub fn sign(
+        &mut self,
+        alloc: Global,
+        direction: Direction,
+        text: &[u8],
+    ) -> Result<Vec<u8>, Error>
+        ensures mic { IfOk result (λ mic. SignsBy self.new.key direction self.old.signed text.now mic.items) }
+        ensures ok { OnOk result (self.new ≡ record self.old { signed = self.old.signed + 1 }) }
+        ensures permitted { OnOk result (making_refusal self.old.key self.old.signed ≡ None) }
+        ensures err { OnErr result (self.new ≡ self.old) }
+        ensures plain { IfErr result (λ error. error.nstatus ≡ None) }
+        ensures cause { IfErr result (λ error. IsCause (making_refusal self.old.key self.old.signed) error.error_type) }
+    {
+        let key = self.key()?;
+        let count = next(self.signed)?;
+        let mic = mic_of(key, direction, self.signed, text);
+        let mic = Vec::from_slice(alloc, &mic)?;
+        self.signed = count;
+        Ok(mic)
+    }
+
+    /// Whether the MIC is that of the text; MessageAltered where it is not.
+    pub fn verify(&mut self, direction: Direction, mic: &[u8], text: &[u8]) -> Result<(), Error>
+        ensures mic { OnOk result (VerifiesBy self.new.key direction self.old.verified mic.now text.now) }
+        ensures ok { OnOk result (self.new ≡ record self.old { verified = self.old.verified + 1 }) }
+        ensures permitted { OnOk result (verify_refusal self.old.key direction self.old.verified mic.now text.now ≡ None) }
+        ensures err { OnErr result (self.new ≡ self.old) }
+        ensures plain { IfErr result (λ error. error.nstatus ≡ None) }
+        ensures cause { IfErr result (λ error. IsCause (verify_refusal self.old.key direction self.old.verified mic.now text.now) error.error_type) }
+    {
+        let key = self.key()?;
+        let count = next(self.verified)?;
+        if mic != mic_of(key, direction, self.verified, text).as_slice() {
+            return Err(Error::new(ErrorKind::MessageAltered, Reason::Tag));
+        }
+        self.verified = count;
+        Ok(())
+    }
+}
+
+/// The count after this one; ContextExpired where there is none.
+fn next(count: u64) -> Result<u64, Error>
+    ensures ok { IfOk result (λ next. ((count == 2 ^ 64 - 1) ≡ false) × (next ≡ count + 1)) }
+    ensures err { IfErr result (λ error. ((count == 2 ^ 64 - 1) ≡ true) × (error.error_type ≡ ErrorKind.ContextExpired) × (error.nstatus ≡ None)) }
+{
+    match count.checked_add(1) {
+        Some(next) => Ok(next),
+        None => Err(Error::new(ErrorKind::ContextExpired, Reason::Spent)),
+    }
+}
+
+#[tactic(auto, unfolding(crate::specs::Protection::seal_tag))]
+fn seal_tag(key: &[u8; 32], direction: Direction, number: u64, text: &[u8]) -> [u8; TAG_LENGTH]
+    ensures { result ≡ seal_tag key.now direction number text.now }
+{
+    tag(b"seal\0", key, direction, number, text)
+}
+
+#[tactic(auto, unfolding(crate::specs::Protection::mic_of))]
+fn mic_of(key: &[u8; 32], direction: Direction, number: u64, text: &[u8]) -> [u8; TAG_LENGTH]
+    ensures { result ≡ mic_of key.now direction number text.now }
+{
+    tag(b"mic\0", key, direction, number, text)
+}
+
+/// The first bytes of the hash of a label, the key, who made the message, its number and its text.
+fn tag(
+    label: &[u8],
+    key: &[u8; 32],
+    direction: Direction,
+    number: u64,
+    text: &[u8],
+) -> [u8; TAG_LENGTH]
+    ensures { result ≡ tag_of label.now key.now direction number text.now }
+{
+    let mut hasher = Sha256::new();
+    hasher.update(label);
+    hasher.update(key.as_slice());
+    hasher.update([direction.byte()].as_slice());
+    hasher.update(number.to_le_bytes().as_slice());
+    hasher.update(text);
+    let digest = hasher.finalize();
+    let mut tag = [0; TAG_LENGTH];
+    tag.copy_from_slice(&digest[..TAG_LENGTH]);
+    tag
+}
+
+#[cfg(test)]
+mod tests {
+    use super::*;
+
+    #[test]
+    fn a_spent_count(rt: HostRuntime) {
+        let mut last = Protection {
+            key: Some([7; 32]),
+            sealed: u64::MAX,
+            unsealed: u64::MAX,
+            signed: u64::MAX,
+            verified: u64::MAX,
+        };
+        let kinds = [
+            last.seal(rt.alloc(), Direction::FromClient, b"").err(),
+            last.unseal(rt.alloc(), Direction::FromClient, b"").err(),
+            last.sign(rt.alloc(), Direction::FromClient, b"").err(),
+            last.verify(Direction::FromClient, b"", b"").err(),
+        ];
+        for error in kinds {
+            assert!(rt; error == Some(Error::new(ErrorKind::ContextExpired, Reason::Spent)));
+        }
+    }
+}

@@ -1,0 +1,6 @@
+mod asks;
+mod ends;
+mod exchange;
+mod kdc;
+mod messages;
+mod refusals;
