@@ -1,0 +1,3 @@
+pub mod IpText
+pub mod PackageList
+pub mod Protocol

@@ -1,0 +1,10 @@
+//! What follows from the definitions alone. Each law is the contract of a call that does nothing.
+
+ghost use Rattle.std.specs.Prelude.{◌≡◌, ℕ, List, true, false, Some};
+ghost use Rattle.sspi_negotiate.specs.PackageList.{names_of, packages_of, in_turn};
+
+/// To read the names of a package list one after the other gives the same: both packages are allowed at first, the first
+/// name without the `!`, whatever it names, disables both before it is applied, and each name then sets its own package.
+pub fn names_count_in_turn()
+    ensures { (list : List ℕ) → packages_of (Some list) ≡ in_turn false (record { ntlm = true; kerberos = true }) (names_of list) }
+{}

@@ -1,0 +1,29 @@
+//! SPNEGO negotiation (RFC 4178, MS-SPNG).
+//!
+//! So far the parts that a negotiation is configured with:
+//!
+//! - `PackageListConfig`: which packages a list of names allows.
+//! - `is_ip_text`: whether a peer is named by an IP address, which Kerberos has no name for.
+//! - `ProtocolConfig`, `NegotiatedProtocol`: the mechanism to begin with, and the one in hand.
+//! - `NegotiateConfig`: these and what else one end needs to know.
+//! - `FALLBACK_ERROR_KINDS`: the refusals of Kerberos after which a client tries NTLM.
+//!
+//! The texts are grammars on the parts of a text: `specs/PackageList.antt`, `specs/IpText.antt`.
+#![tactic(auto)]
+
+pub mod fallback;
+pub mod ip_text;
+pub mod laws;
+pub mod negotiate_config;
+pub mod package_list;
+pub mod protocol;
+pub mod protocol_config;
+#[cfg(test)]
+mod tests;
+
+pub use fallback::FALLBACK_ERROR_KINDS;
+pub use ip_text::is_ip_text;
+pub use negotiate_config::NegotiateConfig;
+pub use package_list::PackageListConfig;
+pub use protocol::NegotiatedProtocol;
+pub use protocol_config::ProtocolConfig;

@@ -1,0 +1,41 @@
+ghost use Rattle.std.specs.Prelude.{◌≡◌};
+ghost use Rattle.sspi_negotiate.specs.Protocol.{is_kerberos, is_ntlm, protocol_name};
+
+/// The mechanism in hand.
+#[derive(Drop)]
+pub enum NegotiatedProtocol<N, K> {
+    Kerberos(K),
+    Ntlm(N),
+}
+
+impl<N, K> NegotiatedProtocol<N, K> {
+    /// `Kerberos` or `NTLM`, the name of the package in hand.
+    pub fn protocol_name(&self) -> &'static str
+        ensures { result.now ≡ protocol_name self.now }
+    {
+        match self {
+            NegotiatedProtocol::Kerberos(_) => "Kerberos",
+            NegotiatedProtocol::Ntlm(_) => "NTLM",
+        }
+    }
+
+    /// Whether Kerberos is in hand.
+    pub fn is_kerberos(&self) -> bool
+        ensures { result ≡ is_kerberos self.now }
+    {
+        match self {
+            NegotiatedProtocol::Kerberos(_) => true,
+            NegotiatedProtocol::Ntlm(_) => false,
+        }
+    }
+
+    /// Whether NTLM is in hand.
+    pub fn is_ntlm(&self) -> bool
+        ensures { result ≡ is_ntlm self.now }
+    {
+        match self {
+            NegotiatedProtocol::Kerberos(_) => false,
+            NegotiatedProtocol::Ntlm(_) => true,
+        }
+    }
+}

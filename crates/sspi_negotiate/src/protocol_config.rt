@@ -1,0 +1,43 @@
+ghost use Rattle.std.specs.Prelude.{◌≡◌, IfOk, IfErr};
+ghost use Rattle.sspi_types.specs.Memory.{memory_error};
+ghost use Rattle.sspi_mech.specs.Calls.{no_counts};
+ghost use Rattle.sspi_negotiate.specs.Protocol.{IsInstance, counts_of};
+
+use crate::protocol::NegotiatedProtocol;
+use sspi_mech::{MechConfig, Mechanism, NtlmConfig};
+use sspi_types::Error;
+use std::alloc::{AllocError, Global};
+
+/// The mechanism that a negotiation begins with, as it is configured.
+#[derive(Drop, PartialEq, Eq)]
+pub enum ProtocolConfig {
+    Ntlm(NtlmConfig),
+}
+
+impl ProtocolConfig {
+    /// A mechanism of this configuration that has made no step. Refused for want of memory alone.
+    pub fn new_instance<N: Mechanism, K: Mechanism>(
+        &self,
+        alloc: Global,
+    ) -> Result<NegotiatedProtocol<N, K>, Error>
+        ensures made { IfOk result (λ protocol. IsInstance N.meaning K.meaning self.now protocol) }
+        ensures fresh { IfOk result (λ protocol. counts_of N.meaning K.meaning protocol ≡ no_counts) }
+        ensures err { IfErr result (λ error. error ≡ memory_error) }
+    {
+        match self {
+            ProtocolConfig::Ntlm(config) => match N::make(alloc, &MechConfig::Ntlm(config)) {
+                Ok(ntlm) => Ok(NegotiatedProtocol::Ntlm(ntlm)),
+                Err(error) => Err(error),
+            },
+        }
+    }
+
+    /// A copy in memory of its own, equal to this configuration.
+    pub fn clone(&self, alloc: Global) -> Result<ProtocolConfig, AllocError>
+        ensures { IfOk result (λ copy. copy ≡ self.now) }
+    {
+        match self {
+            ProtocolConfig::Ntlm(config) => Ok(ProtocolConfig::Ntlm(config.clone(alloc)?)),
+        }
+    }
+}
