@@ -1,0 +1,71 @@
+-- The causes of refusals, put together from those of the calls inside.
+use Rattle.std.proofs.Common.{◌≡◌, ◌≢◌, ℕ, List, Option, None, Some, IsSome, Result, Ok, Err, IfErr, Bool, true, false, sym, subst}
+use Rattle.sspi_types.specs.declared.credential_use.CredentialUse.TheVariants.{Outbound}
+use Rattle.sspi_types.specs.declared.error.Error.{Error}
+use Rattle.sspi_types.specs.declared.error_kind.ErrorKind.{ErrorKind}
+use Rattle.sspi_types.specs.declared.error_kind.ErrorKind.TheVariants.{InsufficientMemory, MessageAltered}
+use Rattle.sspi_tsreq.specs.declared.request.TsRequest.{TsRequest}
+use Rattle.sspi_mech.specs.Meaning.{Meaning}
+use Rattle.sspi_credssp.specs.declared.public_key.EndpointType.TheVariants.{Server}
+use Rattle.sspi_credssp.specs.declared.state.CredSspState.{CredSspState}
+use Rattle.sspi_credssp.specs.declared.state.CredSspState.TheVariants.{NegoToken, PubKeyInfo, AuthInfo, Final}
+use Rattle.sspi_credssp.specs.Begun.{BeginCause, MadeOr}
+use Rattle.sspi_credssp.specs.Client.{ClientView}
+use Rattle.sspi_credssp.specs.ClientCause.{ClientCause, StateCause, OpenedCause, DeliverCause, is_altered}
+use Rattle.sspi_credssp.specs.Context.{ContextSetting, ForClient}
+use Rattle.sspi_credssp.specs.Counts.{is_waiting_in}
+use Rattle.sspi_credssp.specs.Credentials.{delegated_text}
+use Rattle.sspi_credssp.specs.Exchange.{IsSealedBlob}
+use Rattle.sspi_credssp.specs.PublicKey.{prescribed}
+use Rattle.sspi_credssp.specs.Requests.{is_code}
+use Rattle.sspi_credssp.specs.Stops.{StopsIf}
+
+pub stops_map : (b : Bool) (here kind : ErrorKind) (Later Later2 : Type 0) → (Later → Later2) → StopsIf b here kind Later → StopsIf b here kind Later2
+stops_map true here kind Later Later2 f h = h
+stops_map false here kind Later Later2 f h = f h
+
+pub made_map : {C : Type 0} (o : Option C) (Cause Later : Type 0) → MadeOr o Cause ⊥ → MadeOr o Cause Later
+made_map None Cause Later h = h
+made_map (Some m) Cause Later h = absurd h
+
+pub made_later : {C : Type 0} (o : Option C) (Cause Later : Type 0) → IsSome o → Later → MadeOr o Cause Later
+made_later None Cause Later some h = cc
+made_later (Some m) Cause Later some h = h
+
+module _ {C : Type 0} (c : Meaning ContextSetting C) where
+  pub deliver_cause : (field : Option (List ℕ)) (blob : List ℕ) (new : ClientView C) (noted : ℕ) (m : C) (kind : ErrorKind) →
+      IsSealedBlob field blob → new.noted ≡ Some noted → new.context ≡ Some m →
+      OpenedCause c new.acts.checked m blob (prescribed Server noted new.nonce new.public_key) (delegated_text new.credentials new.delegation) kind →
+      DeliverCause c field new kind
+  deliver_cause None blob new noted m kind long n x h = absurd long
+  deliver_cause (Some held) blob new noted m kind long n x h = rw long.passes (rw long.same (rw (n, x) h))
+
+  -- what a turn looks at past the version check is not the version
+  state_cause_same : (state : CredSspState) (d : TsRequest) (v : ℕ) (new : ClientView C) (kind : ErrorKind) →
+      StateCause c state (record d { version = v }) new kind → StateCause c state d new kind
+  state_cause_same NegoToken d v new kind h = h
+  state_cause_same PubKeyInfo d v new kind h = h
+  state_cause_same AuthInfo d v new kind h = h
+  state_cause_same Final d v new kind h = h
+
+  -- a turn that was refused past the version check
+  pub client_cause_past : {T : Type 0} (old new : ClientView C) (d request : TsRequest) (state : CredSspState) (v : ℕ) (r : Result T Error) →
+      is_waiting_in c old.context ≡ false → is_code d.error_code ≡ false → is_altered old.context old.noted d.version ≡ false →
+      IsSome new.context → state ≡ old.state → request ≡ record d { version = v } →
+      IfErr r (λ e. e.error_type ≢ InsufficientMemory → StateCause c state request new e.error_type) →
+      IfErr r (λ e. e.error_type ≢ InsufficientMemory → ClientCause c old d new e.error_type)
+  client_cause_past old new d request state v (Ok x) idle code altered begun same_state same h = h
+  client_cause_past old new d request state v (Err e) idle code altered begun same_state same h = λ memory.
+      let later : StateCause c old.state d new e.error_type =
+      subst (λ s. StateCause c s d new e.error_type) same_state
+      (state_cause_same state d v new e.error_type (subst (λ x. StateCause c state x new e.error_type) same (h memory))) in
+      rw (idle, code, altered) (made_later new.context _ _ begun later)
+
+  -- a turn that was refused as it began
+  pub client_cause_begun : (old new : ClientView C) (d : TsRequest) (kind : ErrorKind) →
+      is_waiting_in c old.context ≡ false → is_code d.error_code ≡ false →
+      StopsIf (is_altered old.context old.noted d.version) MessageAltered kind
+      (MadeOr new.context (BeginCause c (ForClient old.mode) Outbound (Some old.credentials) kind) ⊥) →
+      ClientCause c old d new kind
+  client_cause_begun old new d kind idle code h =
+      rw (idle, code) (stops_map (is_altered old.context old.noted d.version) MessageAltered kind _ _ (made_map new.context _ _) h)

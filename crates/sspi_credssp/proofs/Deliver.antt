@@ -1,0 +1,78 @@
+-- What a context opened stays opened, and what it sealed stays sealed, whatever its counts become.
+use Rattle.std.proofs.Common.{◌≡◌, ℕ, ◌+◌, ◌-◌, List, Result, Ok, Err, OnOk, OnErr, true, false, refl, sym, ◌∙◌, ap, subst, add-zero}
+use Rattle.std.proofs.lemmas.Bool.{true≢false}
+use Rattle.sspi_types.specs.declared.error.Error.{Error}
+use Rattle.sspi_mech.specs.Calls.{Counts, no_counts, one_sealed, one_unsealed}
+use Rattle.sspi_mech.specs.Context.{IsContext}
+use Rattle.sspi_mech.specs.Meaning.{Meaning}
+use Rattle.sspi_credssp.specs.declared.acts.Acts.{Acts}
+use Rattle.sspi_credssp.specs.Exchange.{Delivers, Exchanges}
+
+module _ {S C : Type 0} (c : Meaning S C) (laws : IsContext c) where
+  counted_back : (m m2 : C) (n : Counts) → m2 ≡ c.counted m n → c.counted m2 (c.counts m) ≡ m
+  counted_back m m2 n e = rw e (laws.counted_counted m n (c.counts m) ∙ laws.counted_counts m)
+
+  pub bare_after : (m m2 : C) (n : Counts) → m2 ≡ c.counted m n → c.counted m2 no_counts ≡ c.counted m no_counts
+  bare_after m m2 n e = rw e (laws.counted_counted m n no_counts)
+
+  pub opens_still : (m m2 : C) (n : Counts) (i : ℕ) (blob text : List ℕ) → m2 ≡ c.counted m n → c.opens m i blob text → c.opens m2 i blob text
+  opens_still m m2 n i blob text e o =
+      laws.opens_counted m2 (c.counts m) i blob text (subst (λ x. c.opens x i blob text) (sym (counted_back m m2 n e)) o)
+
+  pub seals_still : (m m2 : C) (n : Counts) (i : ℕ) (text blob : List ℕ) → m2 ≡ c.counted m n → c.seals m i text blob → c.seals m2 i text blob
+  seals_still m m2 n i text blob e o =
+      laws.seals_counted m2 (c.counts m) i text blob (subst (λ x. c.seals x i text blob) (sym (counted_back m m2 n e)) o)
+
+  -- after the right proof the credentials are sealed, or that is refused
+  pub delivered : (m m1 m2 : C) (acts acts1 acts2 : Acts) (blob proof : List ℕ) (r : Result (List ℕ) Error) →
+      acts.sealed ≡ false → acts1 ≡ record acts { checked = true } →
+      m1 ≡ c.counted m (one_unsealed (c.counts m)) → c.counts m1 ≡ one_unsealed (c.counts m) →
+      c.opens m1 ((c.counts m1).unsealed - 1) blob proof →
+      OnOk r (acts2 ≡ record acts1 { sealed = true }) → OnOk r (m2 ≡ c.counted m1 (one_sealed (c.counts m1))) →
+      OnOk r (c.counts m2 ≡ one_sealed (c.counts m1)) → OnErr r (m2 ≡ m1) → OnErr r (acts2 ≡ acts1) →
+      Delivers c m blob proof m2 acts2
+  delivered m m1 m2 acts acts1 acts2 blob proof (Ok text) unsealed checked opened count1 o sealed made count2 _ _ =
+      let is_sealed : acts2.sealed ≡ true = ap (λ (a : Acts). a.sealed) sealed in
+      let is_checked : acts2.checked ≡ true = ap (λ (a : Acts). a.checked) sealed ∙ ap (λ (a : Acts). a.checked) checked in
+      record {
+        sealed = λ _. (is_checked, rw count2 (opens_still m1 m2 _ _ blob proof made o));
+        sealed_count = rw (count2, count1, is_sealed) refl;
+        unsealed_count = rw (count2, count1, is_checked) refl;
+        bare = bare_after m1 m2 _ made ∙ bare_after m m1 _ opened;
+      }
+  delivered m m1 m2 acts acts1 acts2 blob proof (Err e) unsealed checked opened count1 o _ _ _ same kept =
+      let not_sealed : acts2.sealed ≡ false = ap (λ (a : Acts). a.sealed) kept ∙ ap (λ (a : Acts). a.sealed) checked ∙ unsealed in
+      let is_checked : acts2.checked ≡ true = ap (λ (a : Acts). a.checked) kept ∙ ap (λ (a : Acts). a.checked) checked in
+      record {
+        sealed = λ h. absurd (true≢false (sym h ∙ not_sealed));
+        sealed_count = rw (same, count1, not_sealed) (sym (add-zero _));
+        unsealed_count = rw (same, count1, is_checked) refl;
+        bare = rw same (bare_after m m1 _ opened);
+      }
+
+  -- after the right proof the server's own is sealed, or that is refused
+  pub exchanged : (m m1 m2 : C) (acts acts1 acts2 : Acts) (blob proof : List ℕ) (r : Result (List ℕ) Error) →
+      acts.proved ≡ false → acts1 ≡ record acts { checked = true } →
+      m1 ≡ c.counted m (one_unsealed (c.counts m)) → c.counts m1 ≡ one_unsealed (c.counts m) →
+      c.opens m1 ((c.counts m1).unsealed - 1) blob proof →
+      OnOk r (acts2 ≡ record acts1 { proved = true }) → OnOk r (m2 ≡ c.counted m1 (one_sealed (c.counts m1))) →
+      OnOk r (c.counts m2 ≡ one_sealed (c.counts m1)) → OnErr r (m2 ≡ m1) → OnErr r (acts2 ≡ acts1) →
+      Exchanges c m blob proof m2 acts2
+  exchanged m m1 m2 acts acts1 acts2 blob proof (Ok text) unproved checked opened count1 o proved made count2 _ _ =
+      let is_proved : acts2.proved ≡ true = ap (λ (a : Acts). a.proved) proved in
+      let is_checked : acts2.checked ≡ true = ap (λ (a : Acts). a.checked) proved ∙ ap (λ (a : Acts). a.checked) checked in
+      record {
+        proved = λ _. (is_checked, rw count2 (opens_still m1 m2 _ _ blob proof made o));
+        sealed_count = rw (count2, count1, is_proved) refl;
+        unsealed_count = rw (count2, count1, is_checked) refl;
+        bare = bare_after m1 m2 _ made ∙ bare_after m m1 _ opened;
+      }
+  exchanged m m1 m2 acts acts1 acts2 blob proof (Err e) unproved checked opened count1 o _ _ _ same kept =
+      let not_proved : acts2.proved ≡ false = ap (λ (a : Acts). a.proved) kept ∙ ap (λ (a : Acts). a.proved) checked ∙ unproved in
+      let is_checked : acts2.checked ≡ true = ap (λ (a : Acts). a.checked) kept ∙ ap (λ (a : Acts). a.checked) checked in
+      record {
+        proved = λ h. absurd (true≢false (sym h ∙ not_proved));
+        sealed_count = rw (same, count1, not_proved) (sym (add-zero _));
+        unsealed_count = rw (same, count1, is_checked) refl;
+        bare = rw same (bare_after m m1 _ opened);
+      }

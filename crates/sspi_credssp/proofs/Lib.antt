@@ -1,0 +1,14 @@
+pub mod Causes
+pub mod ClientReady
+pub mod ContextLaws
+pub mod CredentialTexts
+pub mod Deliver
+pub mod LittleEndian
+pub mod Proxies
+pub mod ServerCauses
+pub mod ServerOpening
+pub mod ServerReady
+pub mod ServerRefusals
+pub mod ServerWalks
+pub mod StillWaits
+pub mod Walks

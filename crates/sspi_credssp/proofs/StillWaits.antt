@@ -1,0 +1,83 @@
+-- A client whose refused resume waits again is under way as before.
+use Rattle.std.proofs.Common.{◌≡◌, List, [], ◌∷◌, Option, Some, None, Result, Ok, Err, IsErr, OnErr, true, false, refl, sym, ◌∙◌, ap, subst}
+use Rattle.sspi_types.specs.declared.error.Error.{Error}
+use Rattle.sspi_names.specs.declared.network.NetworkRequest.{NetworkRequest}
+use Rattle.sspi_tsreq.specs.declared.request.TsRequest.{TsRequest}
+use Rattle.sspi_mech.specs.declared.step.Answer.TheVariants.{Ask}
+use Rattle.sspi_mech.specs.declared.step.Progressing.{Progressing}
+use Rattle.sspi_mech.specs.declared.step.Reply.{Reply}
+use Rattle.sspi_mech.specs.Answers.{answer_of}
+use Rattle.sspi_mech.specs.Context.{IsContext}
+use Rattle.sspi_mech.specs.Meaning.{Meaning}
+use Rattle.sspi_credssp.specs.declared.acts.Acts.{Acts}
+use Rattle.sspi_credssp.specs.declared.client_state.Progress.{Progress}
+use Rattle.sspi_credssp.specs.declared.state.CredSspState.TheVariants.{NegoToken}
+use Rattle.sspi_credssp.specs.Acts.{no_acts}
+use Rattle.sspi_credssp.specs.Begun.{IfContext}
+use Rattle.sspi_credssp.specs.Client.{ClientView}
+use Rattle.sspi_credssp.specs.ClientStep.{Asked, StepsTo, Walked, still_asked}
+use Rattle.sspi_credssp.specs.ClientTurn.{IsReady, IsUnderway}
+use Rattle.sspi_credssp.specs.Context.{ContextSetting}
+use Rattle.sspi_credssp.specs.Counts.{is_waiting_in}
+use Rattle.sspi_credssp.proofs.ClientReady.{ready_stepped}
+
+module _ {C : Type 0} (c : Meaning ContextSetting C) (laws : IsContext c) where
+  -- `v` is the client before the call, `stepped` it once its context took the reply, and `new` it as the call leaves it
+  pub still_waits : (start : ClientView C) (d : TsRequest) (log : List Asked) (q : NetworkRequest) (v stepped new : ClientView C)
+      (m m2 : C) (reply : Reply) (request : TsRequest) (progress : Result Progressing Error) (result : Result Progress Error) →
+      request ≡ record d { version = v.version } → v.state ≡ NegoToken → v.output ≡ [] → v.context ≡ Some m →
+      v.acts ≡ no_acts → stepped ≡ record v { context = Some m2; acts = record v.acts { negotiated = true } } →
+      IsReady c start d v → Walked c start v.handle d.nego_tokens log (Ask q) m → c.resumes m reply (answer_of progress) m2 →
+      OnErr result (new.acts.status ≡ None → (new ≡ record stepped { kept = new.kept }) × IsErr progress) →
+      OnErr result (new.acts.status ≡ None → is_waiting_in c new.context ≡ true → new.kept ≡ Some request) →
+      OnErr result (new.acts.status ≡ None → is_waiting_in c new.context ≡ true →
+      IsUnderway c start d new × StepsTo c start d (record { question = q; reply = reply } ∷ log) (Ask q) new)
+  still_waits start d log q v stepped new m m2 reply request progress (Ok x) _ _ _ _ _ _ _ _ _ _ _ = tt
+  still_waits start d log q v stepped new m m2 reply request (Ok x) (Err error) same nego output here idle at ready walked resumed refused kept =
+      λ none waits. absurd (false_ok (refused none).1)
+    where
+      false_ok : IsErr {T = Progressing} {E = Error} (Ok x) → ⊥
+      false_ok h = cc
+  still_waits start d log q v stepped new m m2 reply request (Err e) (Err error) same nego output here idle at ready walked resumed refused kept =
+      λ none waits.
+      let moved : new ≡ record v { context = Some m2; acts = record no_acts { negotiated = true }; kept = new.kept } =
+      (refused none).0 ∙ ap (λ (x : ClientView C). record x { kept = new.kept })
+      (at ∙ ap (λ (a : Acts). record v { context = Some m2; acts = record a { negotiated = true } }) idle) in
+      let again : c.waits m2 ≡ true = subst (λ (x : ClientView C). is_waiting_in c x.context ≡ true) moved waits in
+      let ready2 = ready_stepped c start v d m m2 (record no_acts { negotiated = true }) ready nego here
+      (λ unused. laws.resume_unused m m2 reply _ unused resumed) in
+      let under : IsUnderway c start d (record v { context = Some m2; acts = record no_acts { negotiated = true }; kept = new.kept }) = record {
+        ready = record {
+          idle = ready2.idle;
+          code = ready2.code;
+          same = record {
+            public_key = ready2.same.public_key;
+            credentials = ready2.same.credentials;
+            delegation = ready2.same.delegation;
+            version = ready2.same.version;
+            mode = ready2.same.mode;
+            target = ready2.same.target;
+            nonce = ready2.same.nonce;
+          };
+          handle = ready2.handle;
+          state = ready2.state;
+          noted = ready2.noted;
+          fits = ready2.fits;
+          begun = ready2.begun;
+          sealed = ready2.sealed;
+          unsealed = ready2.unsealed;
+          unused = ready2.unused;
+          bare = ready2.bare;
+        };
+        state = nego;
+        waiting = again;
+        kept = kept none waits ∙ ap Some same;
+        acts = refl;
+        output = output;
+      } in
+      let steps : StepsTo c start d (record { question = q; reply = reply } ∷ log) (Ask q)
+      (record v { context = Some m2; acts = record no_acts { negotiated = true }; kept = new.kept }) =
+      still_asked m m2 log q reply e walked resumed again in (
+        subst (λ x. IsUnderway c start d x) (sym moved) under,
+        subst (λ x. StepsTo c start d (record { question = q; reply = reply } ∷ log) (Ask q) x) (sym moved) steps,
+      )

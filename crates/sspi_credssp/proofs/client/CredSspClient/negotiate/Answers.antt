@@ -1,0 +1,30 @@
+use Rattle.std.proofs.Common.{◌≡◌, Some, refl, sym, subst, rules}
+use Rattle.sspi_types.specs.declared.credential_use.CredentialUse.TheVariants.{Outbound}
+use Rattle.sspi_mech.proofs.ContextLaws.{contextual}
+use Rattle.sspi_credssp.specs.Begun.{Begun, IfContext}
+use Rattle.sspi_credssp.specs.ClientStep.{stepped}
+use Rattle.sspi_credssp.specs.ClientTurn.{IsReady}
+use Rattle.sspi_credssp.specs.Context.{either, ForClient}
+use Rattle.sspi_credssp.proofs.ClientReady.{ready_stepped, asked_waits, context_here}
+use Rattle.sspi_credssp.proofs.ContextLaws.{lawful}
+use Rattle.sspi_credssp.proofs.client.CredSspClient.negotiate.Goals as goal
+
+pub returns-clause-turn : goal.returns-clause-turn
+returns-clause-turn g c = λ start d same ready nego output.
+    let it = either g.N.Mechanism.meaning g.K.Mechanism.meaning in
+    let laws = lawful g.N.Mechanism.meaning g.K.Mechanism.meaning (contextual _ g.N.Mechanism.meaning g.met.N.Mechanism.laws)
+    (contextual _ g.K.Mechanism.meaning g.met.K.Mechanism.laws) in
+    c.go_on.ensures.turn start d (search rules)
+    (ready_stepped it start _ d c.in-Some.context _ _ (subst (λ v. IsReady it start d v) (sym c.self.view_is) ready) (search rules) (search rules)
+    (λ unused. laws.step_unused _ _ _ _ unused c.initialize-progress.ensures.step))
+    (search rules) (search rules) (asked_waits it laws _ _ _ _ c.initialize-progress.ensures.step)
+
+pub returns-clause-step : goal.returns-clause-step
+returns-clause-step g c = λ start d token target begun.
+    let it = either g.N.Mechanism.meaning g.K.Mechanism.meaning in
+    let begun_inside = subst (λ v. IfContext v.context
+    (Begun it start.context start.handle (ForClient start.mode) Outbound (Some start.credentials) v.handle)) (sym c.self.view_is) begun in
+    let here : c.self.inside.context ≡ Some c.in-Some.context = search rules in
+    let same_target : start.target ≡ c.self.inside.service_principal_name = search rules in
+    c.go_on.ensures.step start d _ (stepped c.in-Some.context _ _ (context_here _ _ _ here begun_inside)
+    (rw (same_target, token) c.initialize-progress.ensures.step))

@@ -1,0 +1,49 @@
+use Rattle.std.proofs.Common.{◌≡◌, Some, true, rules}
+use Rattle.sspi_mech.proofs.ContextLaws.{contextual}
+use Rattle.sspi_credssp.specs.Context.{either}
+use Rattle.sspi_credssp.specs.ServerStep.{Unknown}
+use Rattle.sspi_credssp.specs.ServerTurn.{IsOver}
+use Rattle.sspi_credssp.proofs.ContextLaws.{lawful}
+use Rattle.sspi_credssp.proofs.ServerCauses.{over_causes}
+use Rattle.sspi_credssp.proofs.ServerWalks.{known_so_far, known_over, turn_refused, turn_completed}
+use Rattle.sspi_credssp.proofs.server.CredSspServer.answer_step.Goals as goal
+
+pub returns-in-Err-clause-step : goal.returns-in-Err-clause-step
+returns-in-Err-clause-step g c = λ start d told accepted.
+    let it = either g.N.Mechanism.meaning g.K.Mechanism.meaning in
+    let laws = lawful g.N.Mechanism.meaning g.K.Mechanism.meaning (contextual _ g.N.Mechanism.meaning g.met.N.Mechanism.laws)
+    (contextual _ g.K.Mechanism.meaning g.met.K.Mechanism.laws) in
+    let tells = g.C.CredentialsProxy.told in
+    let negotiated : c.args.self.now.acts.negotiated ≡ true = search rules in
+    let answered : c.args.self.now.acts.status ≡ Some c.args.status = search rules in
+    turn_refused it laws tells start c.args.self.now d c.args.status c.in-Err.error negotiated answered
+    (known_so_far it laws tells start c.args.self.now.handle d.nego_tokens Unknown _ _ accepted)
+
+pub returns-then-has_ended-clause-step : goal.returns-then-has_ended-clause-step
+returns-then-has_ended-clause-step g c = λ start d told accepted.
+    let it = either g.N.Mechanism.meaning g.K.Mechanism.meaning in
+    let laws = lawful g.N.Mechanism.meaning g.K.Mechanism.meaning (contextual _ g.N.Mechanism.meaning g.met.N.Mechanism.laws)
+    (contextual _ g.K.Mechanism.meaning g.met.K.Mechanism.laws) in
+    let tells = g.C.CredentialsProxy.told in
+    let answered : c.complete.new.self.acts.status ≡ Some c.args.status = search rules in
+    let over : IsOver (Some c.args.status) = c.has_ended.ensures.ended c.if-has_ended.true in
+    turn_completed it laws tells start c.complete.new.self d c.args.status c.args.self.now.handle c.args.self.now.output
+    c.complete.result c.complete.ensures.negotiated answered (known_over it laws tells c.args.status over)
+    c.complete.ensures.handle c.complete.ensures.output (c.complete.ensures.step start d.nego_tokens _ told accepted)
+
+pub returns-then-has_ended-clause-cause : goal.returns-then-has_ended-clause-cause
+returns-then-has_ended-clause-cause g c =
+    let over : IsOver (Some c.args.status) = c.has_ended.ensures.ended c.if-has_ended.true in
+    over_causes (either g.N.Mechanism.meaning g.K.Mechanism.meaning) g.C.CredentialsProxy.told g.C.CredentialsProxy.faults c.args.status
+    c.args.self.now.proxy _ _ c.complete.new.self c.complete.result over c.complete.ensures.cause
+
+pub returns-clause-step : goal.returns-clause-step
+returns-clause-step g c = λ start d told accepted.
+    let it = either g.N.Mechanism.meaning g.K.Mechanism.meaning in
+    let laws = lawful g.N.Mechanism.meaning g.K.Mechanism.meaning (contextual _ g.N.Mechanism.meaning g.met.N.Mechanism.laws)
+    (contextual _ g.K.Mechanism.meaning g.met.K.Mechanism.laws) in
+    let tells = g.C.CredentialsProxy.told in
+    let negotiated : c.args.self.now.acts.negotiated ≡ true = search rules in
+    let answered : c.args.self.now.acts.status ≡ Some c.args.status = search rules in
+    turn_refused it laws tells start c.args.self.now d c.args.status c.new.result negotiated answered
+    (known_so_far it laws tells start c.args.self.now.handle d.nego_tokens Unknown _ _ accepted)

@@ -1,0 +1,35 @@
+use Rattle.std.proofs.Common.{◌≡◌, sym, subst, rules}
+use Rattle.sspi_mech.proofs.ContextLaws.{contextual}
+use Rattle.sspi_credssp.specs.Context.{either}
+use Rattle.sspi_credssp.specs.ServerStep.{HasAcceptedTurn}
+use Rattle.sspi_credssp.proofs.ContextLaws.{lawful}
+use Rattle.sspi_credssp.proofs.ServerRefusals.{halted_as, went_on}
+use Rattle.sspi_credssp.proofs.ServerWalks.{refused_as}
+use Rattle.sspi_credssp.proofs.server.CredSspServer.negotiate.Goals as goal
+use Rattle.sspi_credssp.proofs.server.CredSspServer.negotiate.Goals.{in-Ok, in-Err}
+
+pub returns-clause-turn : goal.returns-clause-turn
+returns-clause-turn g c = λ start d same ready nego output.
+    let it = either g.N.Mechanism.meaning g.K.Mechanism.meaning in
+    let own = sym c.answer.ensures.version in
+    elim c.match-answer.branch [
+      | in-Ok w ↦ went_on it start c.answer.new.self d c.args.request _ w.in-Ok.answer w.with_answer.result c.match-answer.result w.result-is same own
+          w.with_answer.ensures (w.in-Ok.ensures.turn start d same ready nego output)
+      | in-Err w ↦
+          let kept = w.in-Err.ensures.state in
+          halted_as it start c.answer.new.self d c.args.request c.self.inside.state _ w.in-Err.error w.refusal.result c.match-answer.result w.result-is
+          same own (search rules) w.refusal.ensures (w.in-Err.ensures.turn start d same ready nego output)
+    ]
+
+pub returns-clause-step : goal.returns-clause-step
+returns-clause-step g c = λ start d token told begun.
+    let it = either g.N.Mechanism.meaning g.K.Mechanism.meaning in
+    let laws = lawful g.N.Mechanism.meaning g.K.Mechanism.meaning (contextual _ g.N.Mechanism.meaning g.met.N.Mechanism.laws)
+    (contextual _ g.K.Mechanism.meaning g.met.K.Mechanism.laws) in
+    let tells = g.C.CredentialsProxy.told in
+    elim c.match-answer.branch [
+      | in-Ok w ↦ subst (λ r. HasAcceptedTurn it tells start d r c.answer.new.self) (sym w.result-is) (w.in-Ok.ensures.step start d token told begun)
+      | in-Err w ↦ subst (λ r. HasAcceptedTurn it tells start d r c.answer.new.self) (sym w.result-is)
+          (refused_as it laws tells start c.answer.new.self d w.in-Err.error w.refusal.result.error (search rules)
+          (w.in-Err.ensures.step start d token told begun))
+    ]

@@ -1,0 +1,17 @@
+-- What an end did on its security context in one call.
+use Rattle.std.specs.Prelude.{ℕ, ◌+◌, Bool, true, false, None, if◌then◌else◌}
+use Rattle.sspi_credssp.specs.declared.acts.Acts.{Acts}
+
+abbrev pub no_acts : Acts
+no_acts = record { status = None; negotiated = false; proved = false; checked = false; sealed = false; opened = false }
+
+abbrev pub count_of : Bool → ℕ
+count_of true = 1
+count_of false = 0
+
+-- how many texts these acts sealed, and how many blobs they unsealed
+abbrev pub sealed_by : Acts → ℕ
+sealed_by acts = count_of acts.proved + count_of acts.sealed
+
+abbrev pub unsealed_by : Acts → ℕ
+unsealed_by acts = count_of acts.checked + count_of acts.opened

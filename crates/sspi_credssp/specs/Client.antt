@@ -1,0 +1,54 @@
+-- A client as its callers see it.
+use Rattle.std.specs.Prelude.{◌≡◌, ℕ, List, [], length, Option, None, Some, IsSome}
+use Rattle.sspi_names.specs.declared.credentials.Credentials.{Credentials}
+use Rattle.sspi_names.specs.declared.credentials.CredentialsBuffers.{CredentialsBuffers}
+use Rattle.sspi_tsreq.specs.declared.mode.CredSspMode.{CredSspMode}
+use Rattle.sspi_tsreq.specs.declared.request.TsRequest.{TsRequest}
+use Rattle.sspi_credssp.specs.declared.acts.Acts.{Acts}
+use Rattle.sspi_credssp.specs.declared.mode.ClientMode.{ClientMode}
+use Rattle.sspi_credssp.specs.declared.state.CredSspState.{CredSspState}
+use Rattle.sspi_credssp.specs.declared.state.CredSspState.TheVariants.{NegoToken, PubKeyInfo, AuthInfo, Final}
+use Rattle.sspi_credssp.specs.Acts.{no_acts}
+
+pub record ClientView (C : Type 0) : Type 0 where
+  pub public_key : List ℕ
+  pub credentials : Credentials
+  pub delegation : CredSspMode
+  pub version : ℕ
+  pub mode : ClientMode
+  -- the name of the service
+  pub target : List ℕ
+  pub nonce : List ℕ
+  pub state : CredSspState
+  pub context : Option C
+  -- the acquired credentials
+  pub handle : Option CredentialsBuffers
+  -- the version that the server speaks
+  pub noted : Option ℕ
+  -- what the last call did
+  pub acts : Acts
+  pub output : List ℕ
+  -- the request whose turn is suspended
+  pub kept : Option TsRequest
+
+-- without a context nothing has happened; past the authentication the server's version is noted
+abbrev pub IsOrderly : {C : Type 0} → Option C → Option CredentialsBuffers → Option ℕ → CredSspState → Type 0
+IsOrderly None handle noted state = (handle ≡ None) × (noted ≡ None) × (state ≡ NegoToken)
+IsOrderly (Some m) handle noted NegoToken = Unit {0}
+IsOrderly (Some m) handle noted PubKeyInfo = ⊥
+IsOrderly (Some m) handle noted AuthInfo = IsSome noted
+IsOrderly (Some m) handle noted Final = IsSome noted
+
+pub record IsClientState {C : Type 0} (context : Option C) (handle : Option CredentialsBuffers) (noted : Option ℕ) (state : CredSspState) (nonce : List ℕ) : Type 0 where
+  pub orderly : IsOrderly context handle noted state
+  pub nonce_length : length nonce ≡ 32
+
+-- nothing was delivered to it yet
+pub record IsFreshClient {C : Type 0} (client : ClientView C) : Type 0 where
+  pub state : client.state ≡ NegoToken
+  pub context : client.context ≡ None
+  pub handle : client.handle ≡ None
+  pub noted : client.noted ≡ None
+  pub acts : client.acts ≡ no_acts
+  pub output : client.output ≡ []
+  pub kept : client.kept ≡ None

@@ -1,0 +1,93 @@
+-- Why a client's turn was refused, in the order in which it looks.
+use Rattle.std.specs.Prelude.{◌≡◌, ℕ, ◌-◌, List, Option, None, Some, Result, Ok, Err, Bool, true, false, not, if◌then◌else◌}
+use Rattle.sspi_types.specs.declared.credential_use.CredentialUse.TheVariants.{Outbound}
+use Rattle.sspi_types.specs.declared.error.Error.{Error}
+use Rattle.sspi_types.specs.declared.error_kind.ErrorKind.{ErrorKind}
+use Rattle.sspi_types.specs.declared.error_kind.ErrorKind.TheVariants.{OutOfSequence, InvalidToken, MessageAltered, InternalError}
+use Rattle.sspi_types.specs.declared.nstatus.NStatusCode.{NStatusCode}
+use Rattle.sspi_types.specs.declared.security_status.SecurityStatus.{SecurityStatus}
+use Rattle.sspi_types.specs.declared.security_status.SecurityStatus.TheVariants as statuses
+use Rattle.sspi_tsreq.specs.declared.request.TsRequest.{TsRequest}
+use Rattle.sspi_mech.specs.Calls.{ToSeal, ToUnseal}
+use Rattle.sspi_mech.specs.Meaning.{Meaning}
+use Rattle.sspi_credssp.specs.declared.public_key.EndpointType.TheVariants.{Client, Server}
+use Rattle.sspi_credssp.specs.declared.state.CredSspState.{CredSspState}
+use Rattle.sspi_credssp.specs.declared.state.CredSspState.TheVariants.{NegoToken, PubKeyInfo, AuthInfo, Final}
+use Rattle.sspi_credssp.specs.Begun.{BeginCause, MadeOr}
+use Rattle.sspi_credssp.specs.Client.{ClientView}
+use Rattle.sspi_credssp.specs.Context.{ContextSetting, ForClient}
+use Rattle.sspi_credssp.specs.Counts.{is_waiting_in}
+use Rattle.sspi_credssp.specs.Credentials.{delegated_text}
+use Rattle.sspi_credssp.specs.Exchange.{OpensOther, BlobStops}
+use Rattle.sspi_credssp.specs.PublicKey.{prescribed}
+use Rattle.sspi_credssp.specs.Requests.{is_code}
+use Rattle.sspi_credssp.specs.Stops.{StopsIf, differs}
+
+-- the version differs from the noted one; in its first turn, which makes the context, a client looks at none
+abbrev pub is_altered : {C : Type 0} → Option C → Option ℕ → ℕ → Bool
+is_altered None noted version = false
+is_altered (Some m) noted version = differs noted version
+
+module _ {C : Type 0} (c : Meaning ContextSetting C) where
+  -- the NTSTATUS code of a refusal: the peer's error code, where that is the reason
+  abbrev pub status_of : ClientView C → TsRequest → Option NStatusCode
+  status_of old d = if is_waiting_in c old.context then None else (if is_code d.error_code then d.error_code else None)
+
+  -- the credentials have no text, or are not sealed
+  abbrev pub SealsCause : C → Result (List ℕ) Error → ErrorKind → Type 0
+  SealsCause m (Ok text) kind = c.refuses m (ToSeal text) kind
+  SealsCause m (Err error) kind = kind ≡ error.error_type
+
+  -- the blob opened: to another text, or to the proof and the credentials are refused
+  pub data CheckedCause (m : C) (blob proof : List ℕ) (text : Result (List ℕ) Error) (kind : ErrorKind) : Type 0 where
+    altered : OpensOther c m blob proof → kind ≡ MessageAltered → CheckedCause m blob proof text kind
+    unsealed : c.opens m ((c.counts m).unsealed - 1) blob proof → SealsCause m text kind → CheckedCause m blob proof text kind
+
+  -- whether it was opened
+  abbrev pub OpenedCause : Bool → C → List ℕ → List ℕ → Result (List ℕ) Error → ErrorKind → Type 0
+  OpenedCause false m blob proof text kind = c.refuses m (ToUnseal blob) kind
+  OpenedCause true m blob proof text kind = CheckedCause m blob proof text kind
+
+  abbrev pub BlobOpens : Option ℕ → Option C → List ℕ → ClientView C → ErrorKind → Type 0
+  BlobOpens None context blob new kind = ⊥
+  BlobOpens (Some noted) None blob new kind = ⊥
+  BlobOpens (Some noted) (Some m) blob new kind =
+      OpenedCause new.acts.checked m blob (prescribed Server noted new.nonce new.public_key) (delegated_text new.credentials new.delegation) kind
+
+  -- pubKeyAuth is absent, too short, or what it opens to is refused
+  abbrev pub DeliverCause : Option (List ℕ) → ClientView C → ErrorKind → Type 0
+  DeliverCause field new kind = BlobStops field kind (λ blob. BlobOpens new.noted new.context blob new kind)
+
+  -- the authentication ended before a version was noted, or the proof is not sealed
+  abbrev pub ProveCause : Option ℕ → Option C → ClientView C → ErrorKind → Type 0
+  ProveCause None context new kind = kind ≡ InternalError
+  ProveCause (Some noted) None new kind = ⊥
+  ProveCause (Some noted) (Some m) new kind = c.refuses m (ToSeal (prescribed Client noted new.nonce new.public_key)) kind
+
+  -- the context refused the step, with this error, as the clause on the step says; or its end is refused
+  abbrev pub NegoCause : Option SecurityStatus → ClientView C → ErrorKind → Type 0
+  NegoCause None new kind = new.acts.negotiated ≡ true
+  NegoCause (Some statuses.Ok) new kind = ProveCause new.noted new.context new kind
+  NegoCause (Some other) new kind = ⊥
+
+  abbrev pub StateCause : CredSspState → TsRequest → ClientView C → ErrorKind → Type 0
+  StateCause NegoToken d new kind = NegoCause new.acts.status new kind
+  StateCause PubKeyInfo d new kind = kind ≡ OutOfSequence
+  StateCause AuthInfo d new kind = DeliverCause d.pub_key_auth new kind
+  StateCause Final d new kind = kind ≡ OutOfSequence
+
+  abbrev pub ClientCause : ClientView C → TsRequest → ClientView C → ErrorKind → Type 0
+  ClientCause old d new kind =
+      StopsIf (is_waiting_in c old.context) OutOfSequence kind
+      (StopsIf (is_code d.error_code) InvalidToken kind
+      (StopsIf (is_altered old.context old.noted d.version) MessageAltered kind
+      (MadeOr new.context (BeginCause c (ForClient old.mode) Outbound (Some old.credentials) kind)
+      (StateCause old.state d new kind))))
+
+  abbrev pub KeptCause : Option TsRequest → ClientView C → ErrorKind → Type 0
+  KeptCause None new kind = kind ≡ OutOfSequence
+  KeptCause (Some request) new kind = NegoCause new.acts.status new kind
+
+  -- why a resume was refused; where a turn is suspended its request is kept
+  abbrev pub ResumeCause : ClientView C → ClientView C → ErrorKind → Type 0
+  ResumeCause old new kind = StopsIf (not (is_waiting_in c old.context)) OutOfSequence kind (KeptCause old.kept new kind)

@@ -1,0 +1,231 @@
+-- A client's turn (MS-CSSP 3.1.5.1).
+use Rattle.std.specs.Prelude.{◌≡◌, ℕ, ◌+◌, ◌-◌, ◌||◌, List, [], Option, None, Some, IsSome, Result, Ok, Err, Bool, true, false, if◌then◌else◌}
+use Rattle.sspi_types.specs.declared.error.Error.{Error}
+use Rattle.sspi_types.specs.declared.error_kind.ErrorKind.{ErrorKind}
+use Rattle.sspi_types.specs.declared.security_status.SecurityStatus.{SecurityStatus}
+use Rattle.sspi_types.specs.declared.security_status.SecurityStatus.TheVariants as statuses
+use Rattle.sspi_mech.specs.Meaning.{Meaning}
+use Rattle.sspi_tsreq.specs.declared.request.TsRequest.{TsRequest}
+use Rattle.sspi_credssp.specs.declared.acts.Acts.{Acts}
+use Rattle.sspi_credssp.specs.declared.client_state.ClientState.{ClientState}
+use Rattle.sspi_credssp.specs.declared.client_state.ClientState.TheVariants.{ReplyNeeded, FinalMessage}
+use Rattle.sspi_credssp.specs.declared.client_state.Progress.{Progress}
+use Rattle.sspi_credssp.specs.declared.client_state.Progress.TheVariants.{Suspended, Completed}
+use Rattle.sspi_credssp.specs.declared.public_key.EndpointType.TheVariants.{Client, Server}
+use Rattle.sspi_credssp.specs.declared.state.CredSspState.{CredSspState}
+use Rattle.sspi_credssp.specs.declared.state.CredSspState.TheVariants.{NegoToken, PubKeyInfo, AuthInfo, Final}
+use Rattle.sspi_credssp.specs.Acts.{no_acts, count_of, sealed_by, unsealed_by}
+use Rattle.sspi_credssp.specs.Client.{ClientView}
+use Rattle.sspi_credssp.specs.Context.{ContextSetting}
+use Rattle.sspi_credssp.specs.Counts.{sealed_in, unsealed_in, IsUnusedIn, SameBut, SealsIn, OpensIn, is_waiting_in}
+use Rattle.sspi_credssp.specs.Credentials.{delegated_text, IfText}
+use Rattle.sspi_credssp.specs.Noted.{noted_next}
+use Rattle.sspi_credssp.specs.PublicKey.{prescribed}
+use Rattle.sspi_credssp.specs.Requests.{unless_empty, is_code, IsLong}
+use Rattle.sspi_credssp.specs.Turn.{Came, Replied, Ended, Finished, Stopped, Turn, UnlessStopped, AtNoted, FitsNoted, ClientFrame}
+
+abbrev pub state_after : CredSspState → Came → Bool → CredSspState
+state_after state (Replied reply) proved = if proved then AuthInfo else state
+state_after state (Ended reply) proved = Final
+state_after state Finished proved = Final
+state_after state (Stopped kind reply) proved = state
+
+-- a fact of each turn past the authentication
+abbrev pub OnceNegotiated : CredSspState → Type 0 → Type 0
+OnceNegotiated NegoToken P = Unit {0}
+OnceNegotiated PubKeyInfo P = P
+OnceNegotiated AuthInfo P = P
+OnceNegotiated Final P = P
+
+module _ {C : Type 0} (c : Meaning ContextSetting C) where
+  -- When each act may be set, also in a turn that is refused. The credentials are sealed only once the delivered
+  -- pubKeyAuth opened to the proof that the server owes.
+  pub record ClientActs (f : ClientFrame C) (t : Turn) : Type 0 where
+    pub negotiated : t.acts.negotiated ≡ true → f.state ≡ NegoToken
+    pub answered : IsSome t.acts.status → t.acts.negotiated ≡ true
+    pub proved : t.acts.proved ≡ true → (t.acts.status ≡ Some statuses.Ok) × IsSome f.noted
+    pub checked : t.acts.checked ≡ true → (f.state ≡ AuthInfo) × IsLong t.delivered.pub_key_auth
+    pub sealed : t.acts.sealed ≡ true → (t.acts.checked ≡ true) ×
+        AtNoted f.noted (λ noted. OpensIn c f.context f.opened t.delivered.pub_key_auth (prescribed Server noted f.nonce f.public_key))
+    pub opened : t.acts.opened ≡ false
+
+  -- the authentication goes on: the request goes back with the next token
+  pub record TokenReply (f : ClientFrame C) (t : Turn) (r : TsRequest) : Type 0 where
+    pub state : f.state ≡ NegoToken
+    pub reply : r ≡ record t.delivered { version = f.version; nego_tokens = Some t.output }
+
+  -- the authentication has ended: the request goes back with the client's proof
+  pub record ProofReply (f : ClientFrame C) (t : Turn) (r : TsRequest) : Type 0 where
+    pub state : f.state ≡ NegoToken
+    pub proved : t.acts.proved ≡ true
+    pub reply : r ≡ record t.delivered {
+      version = f.version;
+      nego_tokens = unless_empty t.output;
+      client_nonce = Some f.nonce;
+      pub_key_auth = r.pub_key_auth;
+    }
+    pub proof : AtNoted f.noted (λ noted. SealsIn c f.context f.made (prescribed Client noted f.nonce f.public_key) r.pub_key_auth)
+
+  -- the server's proof was the right one: the request goes back with the credentials
+  pub record FinalReply (f : ClientFrame C) (t : Turn) (r : TsRequest) : Type 0 where
+    pub state : f.state ≡ AuthInfo
+    pub checked : t.acts.checked ≡ true
+    pub sealed : t.acts.sealed ≡ true
+    pub reply : r ≡ record t.delivered {
+      version = f.version;
+      nego_tokens = None;
+      pub_key_auth = None;
+      auth_info = r.auth_info;
+    }
+    pub credentials : IfText (delegated_text f.credentials f.delegation) (λ text. SealsIn c f.context f.made text r.auth_info)
+
+  abbrev pub NegoReply : ClientFrame C → Turn → Option SecurityStatus → TsRequest → Type 0
+  NegoReply f t None reply = ⊥
+  NegoReply f t (Some statuses.Ok) reply = ProofReply f t reply
+  NegoReply f t (Some other) reply = TokenReply f t reply
+
+  abbrev pub ClientReplies : ClientFrame C → Turn → Came → Type 0
+  ClientReplies f t (Replied reply) = NegoReply f t t.acts.status reply
+  ClientReplies f t (Ended reply) = FinalReply f t reply
+  ClientReplies f t Finished = ⊥
+  ClientReplies f t (Stopped kind None) = Unit {0}
+  ClientReplies f t (Stopped kind (Some reply)) = ⊥
+
+  pub record IsClientTurn (f : ClientFrame C) (t : Turn) : Type 0 where
+    pub code : UnlessStopped t.came (is_code t.delivered.error_code ≡ false)
+    pub version : UnlessStopped t.came (FitsNoted f.noted t.delivered.version)
+    pub acts : ClientActs f t
+    pub reply : ClientReplies f t t.came
+
+  -- the frame of one call: a turn seals at most one text and opens at most one blob, each the last of the context
+  abbrev pub client_frame : ClientView C → ClientView C → ClientFrame C
+  client_frame old new = record {
+    public_key = new.public_key;
+    nonce = new.nonce;
+    version = new.version;
+    credentials = new.credentials;
+    delegation = new.delegation;
+    state = old.state;
+    made = sealed_in c new.context - 1;
+    opened = unsealed_in c new.context - 1;
+    noted = new.noted;
+    context = new.context;
+  }
+
+  abbrev pub client_turn : TsRequest → Came → ClientView C → Turn
+  client_turn d came new = record { delivered = d; acts = new.acts; output = new.output; came = came }
+
+  -- what no call changes
+  pub record SameClient (old new : ClientView C) : Type 0 where
+    pub public_key : new.public_key ≡ old.public_key
+    pub credentials : new.credentials ≡ old.credentials
+    pub delegation : new.delegation ≡ old.delegation
+    pub version : new.version ≡ old.version
+    pub mode : new.mode ≡ old.mode
+    pub target : new.target ≡ old.target
+    pub nonce : new.nonce ≡ old.nonce
+
+  -- a context and the credentials that it acquired are kept
+  abbrev pub KeepsHandle : ClientView C → ClientView C → Type 0
+  KeepsHandle old new = IsSome old.context → (new.handle ≡ old.handle) × IsSome new.context
+
+  -- in the authentication nothing was sealed or opened yet; so it is unless a call was refused after it had proved
+  abbrev pub StartsUnused : ClientView C → Type 0
+  StartsUnused old = old.state ≡ NegoToken → IsUnusedIn c old.context
+
+  -- the version that is noted after a call: a call that is refused before it looks at the version notes none
+  abbrev pub noted_after : ClientView C → TsRequest → Option ℕ
+  noted_after old d =
+      if is_waiting_in c old.context || is_code d.error_code then old.noted else noted_next old.context old.noted d.version
+
+  -- how far a turn moves the client
+  pub record ClientMoves (old : ClientView C) (d : TsRequest) (came : Came) (new : ClientView C) : Type 0 where
+    pub same : SameClient old new
+    pub handle : KeepsHandle old new
+    pub state : new.state ≡ state_after old.state came new.acts.proved
+    pub noted : new.noted ≡ noted_after old d
+    pub noted_going : UnlessStopped came (new.noted ≡ noted_next old.context old.noted d.version)
+    pub noted_proved : new.acts.proved ≡ true → new.noted ≡ noted_next old.context old.noted d.version
+    pub noted_checked : new.acts.checked ≡ true → new.noted ≡ noted_next old.context old.noted d.version
+    pub begun : UnlessStopped came (IsSome new.context)
+    pub sealed : StartsUnused old → sealed_in c new.context ≡ sealed_in c old.context + sealed_by new.acts
+    pub unsealed : StartsUnused old → unsealed_in c new.context ≡ unsealed_in c old.context + unsealed_by new.acts
+    -- no step of the context follows its first message
+    pub bare : OnceNegotiated old.state (SameBut c old.context new.context)
+
+  pub record ClientTurn (old : ClientView C) (d : TsRequest) (came : Came) (new : ClientView C) : Type 0 where
+    pub turn : IsClientTurn (client_frame old new) (client_turn d came new)
+    pub moves : ClientMoves old d came new
+
+  -- Sealing the client's proof: refused it leaves the client as it was; else the blob is the context's last message.
+  pub record Proved (old : ClientView C) (blob : List ℕ) (new : ClientView C) : Type 0 where
+    pub rest : new ≡ record old { context = new.context; acts = record old.acts { proved = true } }
+    pub noted : IsSome old.noted
+    pub proof : AtNoted old.noted (λ noted. SealsIn c new.context (sealed_in c new.context - 1) (prescribed Client noted old.nonce old.public_key) (Some blob))
+    pub sealed : sealed_in c new.context ≡ sealed_in c old.context + 1
+    pub unsealed : unsealed_in c new.context ≡ unsealed_in c old.context
+    pub begun : IsSome new.context
+
+  abbrev pub ClientProves : ClientView C → Result (List ℕ) Error → ClientView C → Type 0
+  ClientProves old (Ok blob) new = Proved old blob new
+  ClientProves old (Err error) new = new ≡ old
+
+  -- Opening the server's proof, and sealing the credentials where it was the right one.
+  pub record ClientOpens (old : ClientView C) (field : Option (List ℕ)) (new : ClientView C) : Type 0 where
+    pub rest : new ≡ record old { context = new.context; acts = new.acts }
+    pub acts : new.acts ≡ record no_acts { checked = new.acts.checked; sealed = new.acts.sealed }
+    pub checked : new.acts.checked ≡ true → IsLong field
+    pub sealed : new.acts.sealed ≡ true → (new.acts.checked ≡ true) ×
+        AtNoted old.noted (λ noted. OpensIn c new.context (unsealed_in c new.context - 1) field (prescribed Server noted old.nonce old.public_key))
+    pub sealed_count : sealed_in c new.context ≡ sealed_in c old.context + count_of new.acts.sealed
+    pub unsealed_count : unsealed_in c new.context ≡ unsealed_in c old.context + count_of new.acts.checked
+    pub bare : SameBut c old.context new.context
+
+  pub record ClientSeals (old : ClientView C) (blob : List ℕ) (new : ClientView C) : Type 0 where
+    pub begun : IsSome new.context
+    pub noted : IsSome old.noted
+    pub checked : new.acts.checked ≡ true
+    pub sealed : new.acts.sealed ≡ true
+    pub credentials : IfText (delegated_text old.credentials old.delegation)
+        (λ text. SealsIn c new.context (sealed_in c new.context - 1) text (Some blob))
+
+  abbrev pub ClientDelivers : ClientView C → Option (List ℕ) → Result (List ℕ) Error → ClientView C → Type 0
+  ClientDelivers old field (Ok blob) new = ClientOpens old field new × ClientSeals old blob new
+  ClientDelivers old field (Err error) new = ClientOpens old field new
+
+  -- A turn on d that began at `start` has come past the version check. What follows speaks of the context as it is now.
+  pub record IsReady (start : ClientView C) (d : TsRequest) (now : ClientView C) : Type 0 where
+    pub idle : is_waiting_in c start.context ≡ false
+    pub code : is_code d.error_code ≡ false
+    pub same : SameClient start now
+    pub handle : KeepsHandle start now
+    pub state : now.state ≡ start.state
+    pub noted : now.noted ≡ noted_next start.context start.noted d.version
+    pub fits : FitsNoted now.noted d.version
+    pub begun : IsSome now.context
+    pub sealed : StartsUnused start → sealed_in c now.context ≡ sealed_in c start.context
+    pub unsealed : StartsUnused start → unsealed_in c now.context ≡ unsealed_in c start.context
+    pub unused : StartsUnused start → now.state ≡ NegoToken → IsUnusedIn c now.context
+    pub bare : OnceNegotiated start.state (SameBut c start.context now.context)
+
+  -- a turn on d that began at `start` is suspended
+  pub record IsUnderway (start : ClientView C) (d : TsRequest) (now : ClientView C) : Type 0 where
+    pub ready : IsReady start d now
+    pub state : now.state ≡ NegoToken
+    pub waiting : is_waiting_in c now.context ≡ true
+    pub kept : now.kept ≡ Some (record d { version = now.version })
+    pub acts : now.acts ≡ record no_acts { negotiated = true }
+    pub output : now.output ≡ []
+
+  abbrev pub CompletedTurn : ClientView C → TsRequest → ClientState → ClientView C → Type 0
+  CompletedTurn old d (ReplyNeeded reply) new = ClientTurn old d (Replied reply) new
+  CompletedTurn old d (FinalMessage reply) new = ClientTurn old d (Ended reply) new
+
+  abbrev pub ClientAnswers : ClientView C → TsRequest → Result ClientState Error → ClientView C → Type 0
+  ClientAnswers old d (Ok state) new = CompletedTurn old d state new
+  ClientAnswers old d (Err error) new = ClientTurn old d (Stopped error.error_type None) new
+
+  abbrev pub ClientGoes : ClientView C → TsRequest → Result Progress Error → ClientView C → Type 0
+  ClientGoes old d (Ok (Completed state)) new = CompletedTurn old d state new
+  ClientGoes old d (Ok (Suspended question)) new = IsUnderway old d new
+  ClientGoes old d (Err error) new = ClientTurn old d (Stopped error.error_type None) new

@@ -1,0 +1,45 @@
+-- How many messages a security context has made and taken, where there is a context.
+use Rattle.std.specs.Prelude.{◌≡◌, ℕ, List, Option, None, Some, Bool, false}
+use Rattle.sspi_mech.specs.Calls.{Counts, no_counts}
+use Rattle.sspi_mech.specs.Context.{IsUnused}
+use Rattle.sspi_mech.specs.Meaning.{Meaning}
+
+module _ {S C : Type 0} (c : Meaning S C) where
+  abbrev pub sealed_in : Option C → ℕ
+  sealed_in None = 0
+  sealed_in (Some m) = (c.counts m).sealed
+
+  abbrev pub unsealed_in : Option C → ℕ
+  unsealed_in None = 0
+  unsealed_in (Some m) = (c.counts m).unsealed
+
+  -- nothing was sealed or opened
+  abbrev pub IsUnusedIn : Option C → Type 0
+  IsUnusedIn None = Unit {0}
+  IsUnusedIn (Some m) = IsUnused (c.counts m)
+
+  -- the same context, but for its counts
+  abbrev pub SameBut : Option C → Option C → Type 0
+  SameBut None None = Unit {0}
+  SameBut None (Some m2) = ⊥
+  SameBut (Some m) None = ⊥
+  SameBut (Some m) (Some m2) = c.counted m2 no_counts ≡ c.counted m no_counts
+
+  -- the blob is the text, sealed or opened as the context's message of that number
+  abbrev pub SealsIn : Option C → ℕ → List ℕ → Option (List ℕ) → Type 0
+  SealsIn None n text blob = ⊥
+  SealsIn (Some m) n text None = ⊥
+  SealsIn (Some m) n text (Some blob) = c.seals m n text blob
+
+  abbrev pub OpensIn : Option C → ℕ → Option (List ℕ) → List ℕ → Type 0
+  OpensIn None n blob text = ⊥
+  OpensIn (Some m) n None text = ⊥
+  OpensIn (Some m) n (Some blob) text = c.opens m n blob text
+
+  abbrev pub is_waiting_in : Option C → Bool
+  is_waiting_in None = false
+  is_waiting_in (Some m) = c.waits m
+
+  abbrev pub left_in : Option C → ℕ
+  left_in None = 0
+  left_in (Some m) = c.left m

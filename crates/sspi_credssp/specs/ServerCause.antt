@@ -1,0 +1,116 @@
+-- Why a server's turn was refused, in the order in which it looks.
+use Rattle.std.specs.Prelude.{◌≡◌, ◌≢◌, ℕ, ◌-◌, ◌+◌, ◌≤◌, List, [], map, Option, None, Some, Result, Ok, Err, Bool, true, false, nat_lt}
+use Rattle.sspi_types.specs.declared.credential_use.CredentialUse.TheVariants.{Inbound}
+use Rattle.sspi_types.specs.declared.error.Error.{Error}
+use Rattle.sspi_types.specs.declared.error_kind.ErrorKind.{ErrorKind}
+use Rattle.sspi_types.specs.declared.error_kind.ErrorKind.TheVariants.{InvalidToken, MessageAltered, InternalError, LogonDenied, NoCredentials, UnsupportedFunction}
+use Rattle.sspi_types.specs.declared.security_status.SecurityStatus.{SecurityStatus}
+use Rattle.sspi_types.specs.declared.security_status.SecurityStatus.TheVariants as statuses
+use Rattle.sspi_names.specs.declared.credentials.Credentials.TheVariants as credentials
+use Rattle.sspi_names.specs.declared.identity.AuthIdentity.{AuthIdentity}
+use Rattle.sspi_names.specs.Name.{Name}
+use Rattle.sspi_tsreq.specs.declared.request.TsRequest.{TsRequest}
+use Rattle.sspi_mech.specs.Calls.{ToName, ToIdentify, ToComplete, ToSeal, ToUnseal}
+use Rattle.sspi_mech.specs.Meaning.{Meaning}
+use Rattle.sspi_credssp.specs.declared.public_key.EndpointType.TheVariants.{Client, Server}
+use Rattle.sspi_credssp.specs.declared.state.CredSspState.{CredSspState}
+use Rattle.sspi_credssp.specs.declared.state.CredSspState.TheVariants.{NegoToken, PubKeyInfo, AuthInfo, Final}
+use Rattle.sspi_credssp.specs.Begun.{BeginCause, IfContext, MadeOr}
+use Rattle.sspi_credssp.specs.Context.{ContextSetting, ForServer}
+use Rattle.sspi_credssp.specs.Counts.{SameBut}
+use Rattle.sspi_credssp.specs.Credentials.{delegated_identity}
+use Rattle.sspi_credssp.specs.Exchange.{OpensOther, BlobStops}
+use Rattle.sspi_credssp.specs.Proxy.{counted_on, AreCandidates}
+use Rattle.sspi_credssp.specs.PublicKey.{prescribed}
+use Rattle.sspi_credssp.specs.Requests.{nonce_of}
+use Rattle.sspi_credssp.specs.Server.{ServerView}
+use Rattle.sspi_credssp.specs.ServerStep.{IsIdentified}
+use Rattle.sspi_credssp.specs.Stops.{StopsIf, differs}
+
+-- from version 5 on the nonce must be there
+abbrev pub lacks_nonce : Bool → Option (List ℕ) → Bool
+lacks_nonce true sent_nonce = false
+lacks_nonce false None = true
+lacks_nonce false (Some sent_nonce) = false
+
+-- The look-up failed, or found nobody. `told` are the proxy's entries, where they are told, and the counts of its faults stand
+-- before and after.
+pub data LookUpRefused (told : Option (List AuthIdentity)) (name : Name) (before now : ℕ) (kind : ErrorKind) : Type 0 where
+  failed : counted_on before ≤ now → kind ≡ LogonDenied → LookUpRefused told name before now kind
+  nobody : AreCandidates told name [] → kind ≡ NoCredentials → LookUpRefused told name before now kind
+
+module _ {C : Type 0} (c : Meaning ContextSetting C) where
+  -- the peer is not known: it has no name, its look-up was refused, or the context refuses its identities
+  pub data IdentifyCause (m : C) (told : Option (List AuthIdentity)) (before now : ℕ) (kind : ErrorKind) : Type 0 where
+    nameless : c.refuses m ToName kind → IdentifyCause m told before now kind
+    looked : (name : Name) → c.names m ≡ Some name → LookUpRefused told name before now kind → IdentifyCause m told before now kind
+    unset : (name : Name) (identities : List AuthIdentity) → c.names m ≡ Some name → AreCandidates told name identities →
+        c.refuses m (ToIdentify (map credentials.AuthIdentity identities)) kind → IdentifyCause m told before now kind
+
+  -- the blob opened to another text than the client's proof, or the server's own is not sealed
+  pub data AnswerCause (m : C) (blob proof answer : List ℕ) (kind : ErrorKind) : Type 0 where
+    altered : OpensOther c m blob proof → kind ≡ MessageAltered → AnswerCause m blob proof answer kind
+    unsealed : c.opens m ((c.counts m).unsealed - 1) blob proof → c.refuses m (ToSeal answer) kind → AnswerCause m blob proof answer kind
+
+  -- whether it was opened
+  abbrev pub ProofCause : Bool → C → List ℕ → List ℕ → List ℕ → ErrorKind → Type 0
+  ProofCause false m blob proof answer kind = c.refuses m (ToUnseal blob) kind
+  ProofCause true m blob proof answer kind = AnswerCause m blob proof answer kind
+
+  -- the text that was opened has no credentials, or was not opened
+  pub data UnreadCause (m : C) (blob : List ℕ) (kind : ErrorKind) : Type 0 where
+    unread : (text : List ℕ) (error : Error) → c.opens m ((c.counts m).unsealed - 1) blob text → delegated_identity text ≡ Err error →
+        kind ≡ error.error_type → UnreadCause m blob kind
+
+  abbrev pub OpenedCause : Bool → Option C → List ℕ → ErrorKind → Type 0
+  OpenedCause opened None blob kind = ⊥
+  OpenedCause false (Some m) blob kind = c.refuses m (ToUnseal blob) kind
+  OpenedCause true (Some m) blob kind = UnreadCause m blob kind
+
+  module _ {P : Type 0} where
+    abbrev pub BlobCause : ℕ → Option C → Option (List ℕ) → List ℕ → ServerView C P → ErrorKind → Type 0
+    BlobCause noted None sent_nonce blob new kind = ⊥
+    BlobCause noted (Some m) sent_nonce blob new kind =
+        ProofCause new.acts.checked m blob (prescribed Client noted (nonce_of sent_nonce) new.public_key)
+        (prescribed Server noted (nonce_of sent_nonce) new.public_key) kind
+
+    -- the field with the proof and the nonce that came with it: presence, nonce, length, and what the blob opens to
+    abbrev pub ExchangeCause : Option (List ℕ) → Option ℕ → Option (List ℕ) → ServerView C P → ErrorKind → Type 0
+    ExchangeCause None noted sent_nonce new kind = kind ≡ InvalidToken
+    ExchangeCause (Some blob) None sent_nonce new kind = ⊥
+    ExchangeCause (Some blob) (Some noted) sent_nonce new kind =
+        StopsIf (lacks_nonce (nat_lt noted 5) sent_nonce) InvalidToken kind
+        (BlobStops (Some blob) kind (λ blob. BlobCause noted new.context sent_nonce blob new kind))
+
+    -- the authentication has ended without a proof and without a token; or the proof that came is refused
+    abbrev pub AfterCause : Option (List ℕ) → Option (List ℕ) → ServerView C P → ErrorKind → Type 0
+    AfterCause None sent_nonce new kind = (new.output ≡ []) × (kind ≡ InvalidToken)
+    AfterCause (Some blob) sent_nonce new kind = ExchangeCause (Some blob) new.noted sent_nonce new kind
+
+  module _ {P : Type 0} (told : P → Option (List AuthIdentity)) (faults : P → ℕ) where
+    -- the peer is not known; or it is, and the context refuses its own end; or the context is at its end, and what follows is
+    -- refused
+    pub data OverCause (proxy : P) (field nonce : Option (List ℕ)) (new : ServerView C P) (kind : ErrorKind) : Type 0 where
+      unknown : IfContext new.context (λ m. IdentifyCause m (told proxy) (faults proxy) (faults new.proxy) kind) → OverCause proxy field nonce new kind
+      incomplete : (m0 : C) → IfContext new.context (λ m. IsIdentified c (told proxy) m0 m × c.refuses m ToComplete kind) → OverCause proxy field nonce new kind
+      known : (m : C) → c.permits m ToComplete → SameBut c (Some m) new.context → AfterCause field nonce new kind → OverCause proxy field nonce new kind
+
+    -- the context refused the step, with this error, as the clause on the step says; or its end or its status is refused
+    abbrev pub NegoCause : Option SecurityStatus → P → Option (List ℕ) → Option (List ℕ) → ServerView C P → ErrorKind → Type 0
+    NegoCause None proxy field sent_nonce new kind = new.acts.negotiated ≡ true
+    NegoCause (Some statuses.ContinueNeeded) proxy field sent_nonce new kind = ⊥
+    NegoCause (Some statuses.CompleteNeeded) proxy field sent_nonce new kind = OverCause proxy field sent_nonce new kind
+    NegoCause (Some statuses.Ok) proxy field sent_nonce new kind = OverCause proxy field sent_nonce new kind
+    NegoCause (Some other) proxy field sent_nonce new kind = kind ≡ InternalError
+
+    abbrev pub StateCause : CredSspState → P → TsRequest → ServerView C P → ErrorKind → Type 0
+    StateCause NegoToken proxy d new kind = NegoCause new.acts.status proxy d.pub_key_auth d.client_nonce new kind
+    StateCause PubKeyInfo proxy d new kind = ExchangeCause d.pub_key_auth new.noted d.client_nonce new kind
+    StateCause AuthInfo proxy d new kind = BlobStops d.auth_info kind (λ blob. OpenedCause new.acts.opened new.context blob kind)
+    StateCause Final proxy d new kind = kind ≡ UnsupportedFunction
+
+    abbrev pub ServerCause : ServerView C P → TsRequest → ServerView C P → ErrorKind → Type 0
+    ServerCause old d new kind =
+        MadeOr new.context (BeginCause c (ForServer old.mode) Inbound None kind)
+        (StopsIf (differs old.noted d.version) MessageAltered kind
+        (StateCause old.state old.proxy d new kind))

@@ -1,0 +1,270 @@
+-- A server's turn (MS-CSSP 3.1.5.2).
+use Rattle.std.specs.Prelude.{◌≡◌, ◌≢◌, ℕ, ◌+◌, ◌-◌, List, [], length, Option, None, Some, IsSome, Result, Ok, Err, Bool, true, false, nat_lt}
+use Rattle.sspi_types.specs.declared.error.Error.{Error}
+use Rattle.sspi_types.specs.declared.error_kind.ErrorKind.{ErrorKind}
+use Rattle.sspi_types.specs.declared.security_status.SecurityStatus.{SecurityStatus}
+use Rattle.sspi_types.specs.declared.security_status.SecurityStatus.TheVariants as statuses
+use Rattle.sspi_names.specs.declared.identity.AuthIdentity.{AuthIdentity}
+use Rattle.sspi_mech.specs.Meaning.{Meaning}
+use Rattle.sspi_tsreq.specs.declared.request.TsRequest.{TsRequest}
+use Rattle.sspi_credssp.specs.declared.public_key.EndpointType.TheVariants.{Client, Server}
+use Rattle.sspi_credssp.specs.declared.server_negotiation.Answer.{Answer}
+use Rattle.sspi_credssp.specs.declared.server_negotiation.Answer.TheVariants as answers
+use Rattle.sspi_credssp.specs.declared.server_state.ServerError.{ServerError}
+use Rattle.sspi_credssp.specs.declared.server_state.ServerState.{ServerState}
+use Rattle.sspi_credssp.specs.declared.server_state.ServerState.TheVariants as ends
+use Rattle.sspi_credssp.specs.declared.state.CredSspState.{CredSspState}
+use Rattle.sspi_credssp.specs.declared.state.CredSspState.TheVariants.{NegoToken, PubKeyInfo, AuthInfo, Final}
+use Rattle.sspi_credssp.specs.Acts.{no_acts, count_of, sealed_by, unsealed_by}
+use Rattle.sspi_credssp.specs.Context.{ContextSetting}
+use Rattle.sspi_credssp.specs.Counts.{sealed_in, unsealed_in, IsUnusedIn, SameBut, SealsIn, OpensIn}
+use Rattle.sspi_credssp.specs.Exchange.{OpensIdentity}
+use Rattle.sspi_credssp.specs.ErrorRequest.{error_request, version_back}
+use Rattle.sspi_credssp.specs.PublicKey.{prescribed}
+use Rattle.sspi_credssp.specs.Requests.{IsLong, nonce_of}
+use Rattle.sspi_credssp.specs.Server.{ServerView}
+use Rattle.sspi_credssp.specs.Stops.{differs}
+use Rattle.sspi_credssp.specs.Turn.{Came, Replied, Ended, Finished, Stopped, Turn, UnlessStopped, AtNoted, ServerFrame}
+
+-- the authentication has ended
+abbrev pub IsOver : Option SecurityStatus → Type 0
+IsOver None = ⊥
+IsOver (Some statuses.Ok) = Unit {0}
+IsOver (Some statuses.CompleteNeeded) = Unit {0}
+IsOver (Some other) = ⊥
+
+-- the client's proof may be opened
+abbrev pub MayCheck : CredSspState → Option SecurityStatus → Type 0
+MayCheck NegoToken status = IsOver status
+MayCheck PubKeyInfo status = Unit {0}
+MayCheck AuthInfo status = ⊥
+MayCheck Final status = ⊥
+
+-- from version 5 on the nonce is there
+abbrev pub HasNonce : Bool → Option (List ℕ) → Type 0
+HasNonce true sent_nonce = Unit {0}
+HasNonce false None = ⊥
+HasNonce false (Some sent_nonce) = length sent_nonce ≡ 32
+
+abbrev pub noted_first : Option ℕ → ℕ → Option ℕ
+noted_first None version = Some version
+noted_first (Some noted) version = Some noted
+
+-- the state after a turn: a reply with a proof is answered by the credentials, one at the end of the authentication by
+-- the client's proof
+abbrev pub after_status : Option SecurityStatus → CredSspState
+after_status (Some statuses.ContinueNeeded) = NegoToken
+after_status other = PubKeyInfo
+
+abbrev pub after_reply : CredSspState → Bool → Option SecurityStatus → CredSspState
+after_reply state true status = AuthInfo
+after_reply NegoToken false status = after_status status
+after_reply state false status = state
+
+abbrev pub server_state_after : CredSspState → Came → Bool → Option SecurityStatus → CredSspState
+server_state_after state (Replied reply) proved status = after_reply state proved status
+server_state_after state (Ended reply) proved status = state
+server_state_after state Finished proved status = Final
+server_state_after state (Stopped kind reply) proved status = state
+
+-- what goes back of an authentication: a token, or the server's proof
+abbrev pub answered_by : TsRequest → Answer → TsRequest
+answered_by d (answers.Token token) = record d { nego_tokens = Some token }
+answered_by d (answers.Proof blob) = record d { nego_tokens = None; pub_key_auth = Some blob }
+
+-- past the authentication only the counts of the context change
+abbrev pub OnceNegotiated : CredSspState → Type 0 → Type 0
+OnceNegotiated NegoToken Q = Unit {0}
+OnceNegotiated PubKeyInfo Q = Q
+OnceNegotiated AuthInfo Q = Q
+OnceNegotiated Final Q = Q
+
+module _ {C : Type 0} (c : Meaning ContextSetting C) where
+  -- the client's proof was the right one, and from version 5 on it was made with a nonce
+  pub record Proven (context : Option C) (opened : ℕ) (public_key : List ℕ) (d : TsRequest) (noted : ℕ) : Type 0 where
+    pub opens : OpensIn c context opened d.pub_key_auth (prescribed Client noted (nonce_of d.client_nonce) public_key)
+    pub nonce : HasNonce (nat_lt noted 5) d.client_nonce
+
+  -- When each act may be set, also in a turn that is refused. The credentials are opened only once the client's proof was
+  -- answered, and the server proves nothing before it was the right one.
+  pub record ServerActs (f : ServerFrame C) (t : Turn) : Type 0 where
+    pub negotiated : t.acts.negotiated ≡ true → f.state ≡ NegoToken
+    pub answered : IsSome t.acts.status → t.acts.negotiated ≡ true
+    pub checked : t.acts.checked ≡ true → MayCheck f.state t.acts.status × IsLong t.delivered.pub_key_auth
+    pub proved : t.acts.proved ≡ true → (t.acts.checked ≡ true) × AtNoted f.noted (Proven f.context f.opened f.public_key t.delivered)
+    pub opened : t.acts.opened ≡ true → (f.state ≡ AuthInfo) × IsLong t.delivered.auth_info
+    pub sealed : t.acts.sealed ≡ false
+
+  -- the request goes back with the next token
+  pub record TokenAnswer (f : ServerFrame C) (t : Turn) (r : TsRequest) : Type 0 where
+    pub reply : r ≡ record t.delivered { version = f.version; nego_tokens = Some t.output }
+
+  -- the request goes back with the server's proof
+  pub record ProofAnswer (f : ServerFrame C) (t : Turn) (r : TsRequest) : Type 0 where
+    pub checked : t.acts.checked ≡ true
+    pub proved : t.acts.proved ≡ true
+    pub reply : r ≡ record t.delivered { version = f.version; nego_tokens = None; pub_key_auth = r.pub_key_auth }
+    pub proof : AtNoted f.noted (λ noted.
+        SealsIn c f.context f.made (prescribed Server noted (nonce_of t.delivered.client_nonce) f.public_key) r.pub_key_auth)
+
+  -- the authentication has ended: where the client's proof came already it is answered, else it is asked for by a token
+  abbrev pub OverAnswer : ServerFrame C → Turn → Option (List ℕ) → TsRequest → Type 0
+  OverAnswer f t None r = TokenAnswer f t r × (t.output ≢ []) × (t.acts.proved ≡ false)
+  OverAnswer f t (Some blob) r = ProofAnswer f t r
+
+  abbrev pub NegoAnswer : ServerFrame C → Turn → Option SecurityStatus → TsRequest → Type 0
+  NegoAnswer f t (Some statuses.ContinueNeeded) r = TokenAnswer f t r × (t.acts.proved ≡ false)
+  NegoAnswer f t (Some statuses.CompleteNeeded) r = OverAnswer f t t.delivered.pub_key_auth r
+  NegoAnswer f t (Some statuses.Ok) r = OverAnswer f t t.delivered.pub_key_auth r
+  NegoAnswer f t other r = ⊥
+
+  abbrev pub StateAnswer : ServerFrame C → Turn → CredSspState → TsRequest → Type 0
+  StateAnswer f t NegoToken r = NegoAnswer f t t.acts.status r
+  StateAnswer f t PubKeyInfo r = ProofAnswer f t r
+  StateAnswer f t AuthInfo r = ⊥
+  StateAnswer f t Final r = ⊥
+
+  abbrev pub ServerReplies : ServerFrame C → Turn → Came → Type 0
+  ServerReplies f t (Replied r) = StateAnswer f t f.state r
+  ServerReplies f t (Ended r) = ⊥
+  ServerReplies f t Finished = (f.state ≡ AuthInfo) × (t.acts.opened ≡ true)
+  ServerReplies f t (Stopped kind None) = ⊥
+  ServerReplies f t (Stopped kind (Some r)) =
+      r ≡ error_request f.state (version_back f.context f.noted t.delivered.version f.version) kind t.delivered
+
+  pub record IsServerTurn (f : ServerFrame C) (t : Turn) : Type 0 where
+    pub version : UnlessStopped t.came (AtNoted f.noted (λ noted. t.delivered.version ≡ noted))
+    pub acts : ServerActs f t
+    pub reply : ServerReplies f t t.came
+
+  -- the field was the last that the context opened, and it holds this identity
+  abbrev pub HoldsIdentity : Option C → Option (List ℕ) → AuthIdentity → Type 0
+  HoldsIdentity None field identity = ⊥
+  HoldsIdentity (Some m) None identity = ⊥
+  HoldsIdentity (Some m) (Some blob) identity = OpensIdentity c m blob identity
+
+  module _ {P : Type 0} where
+    -- the frame of one call: a turn seals at most one text and opens at most one blob, each the last of the context
+    abbrev pub server_frame : ServerView C P → ServerView C P → ServerFrame C
+    server_frame old new = record {
+      public_key = new.public_key;
+      version = new.version;
+      state = old.state;
+      made = sealed_in c new.context - 1;
+      opened = unsealed_in c new.context - 1;
+      noted = new.noted;
+      context = new.context;
+    }
+
+    abbrev pub server_turn : TsRequest → Came → ServerView C P → Turn
+    server_turn d came new = record { delivered = d; acts = new.acts; output = new.output; came = came }
+
+    -- what no call changes
+    pub record SameServer (old new : ServerView C P) : Type 0 where
+      pub public_key : new.public_key ≡ old.public_key
+      pub version : new.version ≡ old.version
+      pub mode : new.mode ≡ old.mode
+
+    -- a context and the credentials that it acquired are kept
+    abbrev pub KeepsHandle : ServerView C P → ServerView C P → Type 0
+    KeepsHandle old new = IsSome old.context → (new.handle ≡ old.handle) × IsSome new.context
+
+    -- in the authentication nothing was sealed or opened yet; so it is unless a call was refused after it had opened a proof
+    abbrev pub StartsUnused : ServerView C P → Type 0
+    StartsUnused old = old.state ≡ NegoToken → IsUnusedIn c old.context
+
+    -- how far a turn moves the server
+    pub record ServerMoves (old : ServerView C P) (d : TsRequest) (came : Came) (new : ServerView C P) : Type 0 where
+      pub same : SameServer old new
+      pub handle : KeepsHandle old new
+      pub state : new.state ≡ server_state_after old.state came new.acts.proved new.acts.status
+      pub noted : IsSome new.context → new.noted ≡ noted_first old.noted d.version
+      pub unnoted : new.context ≡ None → new.noted ≡ old.noted
+      pub begun : UnlessStopped came (IsSome new.context)
+      pub noted_proved : new.acts.proved ≡ true → new.noted ≡ noted_first old.noted d.version
+      pub noted_checked : new.acts.checked ≡ true → new.noted ≡ noted_first old.noted d.version
+      pub noted_opened : new.acts.opened ≡ true → new.noted ≡ noted_first old.noted d.version
+      pub sealed : StartsUnused old → sealed_in c new.context ≡ sealed_in c old.context + sealed_by new.acts
+      pub unsealed : StartsUnused old → unsealed_in c new.context ≡ unsealed_in c old.context + unsealed_by new.acts
+      -- no step of the context follows its first message, but in the authentication
+      pub bare : OnceNegotiated old.state (SameBut c old.context new.context)
+
+    -- A turn on d that began at `start` has come past the version check. What follows speaks of the context as it is now.
+    pub record IsReady (start : ServerView C P) (d : TsRequest) (now : ServerView C P) : Type 0 where
+      pub same : SameServer start now
+      pub handle : KeepsHandle start now
+      pub state : now.state ≡ start.state
+      pub noted : now.noted ≡ noted_first start.noted d.version
+      pub fits : AtNoted now.noted (λ noted. d.version ≡ noted)
+      pub passed : differs now.noted d.version ≡ false
+      pub begun : IsSome now.context
+      pub sealed : StartsUnused start → sealed_in c now.context ≡ sealed_in c start.context
+      pub unsealed : StartsUnused start → unsealed_in c now.context ≡ unsealed_in c start.context
+      pub unused : StartsUnused start → now.state ≡ NegoToken → IsUnusedIn c now.context
+      pub bare : OnceNegotiated start.state (SameBut c start.context now.context)
+
+    -- checking the client's proof, and sealing the server's own where it was the right one
+    pub record ServerChecks (old : ServerView C P) (d : TsRequest) (new : ServerView C P) : Type 0 where
+      pub rest : new ≡ record old { context = new.context; acts = new.acts }
+      pub acts : new.acts ≡ record old.acts { checked = new.acts.checked; proved = new.acts.proved }
+      pub checked : new.acts.checked ≡ true → IsLong d.pub_key_auth
+      pub proved : new.acts.proved ≡ true → (new.acts.checked ≡ true) ×
+          AtNoted old.noted (Proven new.context (unsealed_in c new.context - 1) old.public_key d)
+      pub sealed_count : sealed_in c new.context ≡ sealed_in c old.context + count_of new.acts.proved
+      pub unsealed_count : unsealed_in c new.context ≡ unsealed_in c old.context + count_of new.acts.checked
+      pub bare : SameBut c old.context new.context
+
+    pub record ServerProves (old : ServerView C P) (d : TsRequest) (blob : List ℕ) (new : ServerView C P) : Type 0 where
+      pub checked : new.acts.checked ≡ true
+      pub proved : new.acts.proved ≡ true
+      pub proof : AtNoted old.noted (λ noted.
+          SealsIn c new.context (sealed_in c new.context - 1) (prescribed Server noted (nonce_of d.client_nonce) old.public_key) (Some blob))
+
+    abbrev pub ServerExchanges : ServerView C P → TsRequest → Result (List ℕ) Error → ServerView C P → Type 0
+    ServerExchanges old d (Ok blob) new = ServerChecks old d new × ServerProves old d blob new
+    ServerExchanges old d (Err error) new = ServerChecks old d new
+
+    -- opening the client's credentials
+    pub record ServerOpensBlob (old : ServerView C P) (field : Option (List ℕ)) (new : ServerView C P) : Type 0 where
+      pub rest : new ≡ record old { context = new.context; acts = new.acts }
+      pub acts : new.acts ≡ record no_acts { opened = new.acts.opened }
+      pub opened : new.acts.opened ≡ true → IsLong field
+      pub sealed_count : sealed_in c new.context ≡ sealed_in c old.context
+      pub unsealed_count : unsealed_in c new.context ≡ unsealed_in c old.context + count_of new.acts.opened
+      pub bare : SameBut c old.context new.context
+
+    abbrev pub ServerOpens : ServerView C P → Option (List ℕ) → Result AuthIdentity Error → ServerView C P → Type 0
+    ServerOpens old field (Ok identity) new =
+        ServerOpensBlob old field new × (new.acts.opened ≡ true) × HoldsIdentity new.context field identity
+    ServerOpens old field (Err error) new = ServerOpensBlob old field new
+
+    pub record ServerTurn (old : ServerView C P) (d : TsRequest) (came : Came) (new : ServerView C P) : Type 0 where
+      pub turn : IsServerTurn (server_frame old new) (server_turn d came new)
+      pub moves : ServerMoves old d came new
+
+    -- a call that is refused before it looks at the version, or by it, keeps what the server had, or the new context
+    pub record BeginRefused (old : ServerView C P) (version : ℕ) (new : ServerView C P) : Type 0 where
+      pub handle : KeepsHandle old new
+      pub noted : IsSome new.context → new.noted ≡ noted_first old.noted version
+      pub unnoted : new.context ≡ None → new.noted ≡ old.noted
+      pub back : (own : ℕ) → version_back new.context new.noted version own ≡ version
+      pub sealed : StartsUnused old → sealed_in c new.context ≡ sealed_in c old.context
+      pub unsealed : StartsUnused old → unsealed_in c new.context ≡ unsealed_in c old.context
+      pub bare : OnceNegotiated old.state (SameBut c old.context new.context)
+
+    -- a turn past the version check that is refused, with the request that tells the client
+    abbrev pub HaltedTurn : ServerView C P → TsRequest → ErrorKind → ServerView C P → Type 0
+    HaltedTurn old d kind new = ServerTurn old d (Stopped kind (Some (error_request old.state new.version kind d))) new
+
+    abbrev pub Answered : ServerView C P → TsRequest → Result Answer Error → ServerView C P → Type 0
+    Answered old d (Ok answer) new = ServerTurn old d (Replied (answered_by (record d { version = new.version }) answer)) new
+    Answered old d (Err error) new = HaltedTurn old d error.error_type new
+
+    abbrev pub EndedTurn : ServerView C P → TsRequest → ServerState → ServerView C P → Type 0
+    EndedTurn old d (ends.ReplyNeeded reply) new = ServerTurn old d (Replied reply) new
+    EndedTurn old d (ends.Finished identity) new =
+        ServerTurn old d Finished new × HoldsIdentity new.context d.auth_info identity
+
+    abbrev pub ServerGoes : ServerView C P → TsRequest → Result ServerState ServerError → ServerView C P → Type 0
+    ServerGoes old d (Ok state) new = EndedTurn old d state new
+    ServerGoes old d (Err refusal) new = ServerTurn old d (Stopped refusal.error.error_type refusal.ts_request) new

@@ -1,0 +1,365 @@
+ghost use Rattle.std.specs.Prelude.{◌≡◌, ◌≢◌, ◌<◌, List, [], ◌∷◌, None, Some, true, false, IsSome, IsErr, IfErr, OnOk, OnErr, string_bytes};
+ghost use Rattle.sspi_types.specs.declared.credential_use.CredentialUse.TheVariants as purposes;
+ghost use Rattle.sspi_names.specs.declared.network.NetworkRequest.{NetworkRequest};
+ghost use Rattle.sspi_mech.specs.declared.step.Answer.TheVariants as answers;
+ghost use Rattle.sspi_credssp.specs.Acts.{no_acts};
+ghost use Rattle.sspi_credssp.specs.Client.{ClientView};
+ghost use Rattle.sspi_credssp.specs.Context.{either, ForClient};
+ghost use Rattle.sspi_credssp.specs.Counts.{IsUnusedIn, is_waiting_in, left_in};
+ghost use Rattle.sspi_credssp.specs.Noted.{noted_next};
+ghost use Rattle.sspi_credssp.specs.Requests.{is_code};
+ghost use Rattle.sspi_credssp.specs.Stops.{StopsIf, differs};
+ghost use Rattle.sspi_credssp.specs.Turn.{FitsNoted};
+
+use crate::acts::Acts;
+use crate::client_state::{ClientState, Progress};
+use crate::context::SspiContext;
+use crate::mode::ClientMode;
+use crate::request::at_version;
+use crate::state::CredSspState;
+use sspi_mech::{Mechanism, Reply};
+use sspi_names::{Credentials, CredentialsBuffers};
+use sspi_tsreq::{CredSspMode, TsRequest};
+use sspi_types::{Bytes, CredentialUse, Error, ErrorKind, NStatusCode, Reason, Text};
+use std::alloc::Global;
+use std::marker::Model;
+
+/// The CredSSP client (MS-CSSP 3.1.5.1): it authenticates, proves that it speaks over the channel whose public key it was
+/// given, checks that the server proves the same, and only then delegates its credentials.
+#[derive(Drop)]
+pub struct CredSspClient<N, K> {
+    pub(crate) alloc: Global,
+    pub(crate) public_key: Bytes,
+    pub(crate) credentials: Credentials,
+    pub(crate) cred_ssp_mode: CredSspMode,
+    pub(crate) ts_request_version: u32,
+    pub(crate) client_mode: ClientMode,
+    pub(crate) service_principal_name: Text,
+    pub(crate) client_nonce: [u8; 32],
+    pub(crate) state: CredSspState,
+    pub(crate) context: Option<SspiContext<N, K>>,
+    pub(crate) credentials_handle: Option<CredentialsBuffers>,
+    pub(crate) peer_version: Option<u32>,
+    pub(crate) acts: Acts,
+    pub(crate) output: Bytes,
+    pub(crate) suspended: Option<TsRequest>,
+}
+
+impl<N, K> Model for CredSspClient<N, K> {
+    ghost use Rattle.sspi_credssp.specs.declared.context.SspiContext.{SspiContext};
+    ghost use Rattle.sspi_credssp.specs.Client.{ClientView, IsClientState};
+
+    ghost Value = { ClientView (SspiContext N K) };
+
+    ghost view = { λ a. record {
+      public_key = a.public_key;
+      credentials = a.credentials;
+      delegation = a.cred_ssp_mode;
+      version = a.ts_request_version;
+      mode = a.client_mode;
+      target = a.service_principal_name;
+      nonce = a.client_nonce;
+      state = a.state;
+      context = a.context;
+      handle = a.credentials_handle;
+      noted = a.peer_version;
+      acts = a.acts;
+      output = a.output;
+      kept = a.suspended;
+    } };
+
+    ghost invariant = { λ a. IsClientState a.context a.credentials_handle a.peer_version a.state a.client_nonce };
+}
+
+impl<N, K> CredSspClient<N, K> {
+    ghost use Rattle.sspi_credssp.specs.Client.{IsFreshClient};
+
+    /// A client of version 6.
+    pub fn new(
+        alloc: Global,
+        public_key: Vec<u8>,
+        credentials: Credentials,
+        cred_ssp_mode: CredSspMode,
+        client_mode: ClientMode,
+        service_principal_name: String,
+        client_nonce: [u8; 32],
+    ) -> CredSspClient<N, K>
+        ensures fresh { IsFreshClient result }
+        ensures values { (result.public_key ≡ public_key.items) × (result.credentials ≡ credentials) × (result.delegation ≡ cred_ssp_mode)
+            × (result.version ≡ 6) × (result.mode ≡ client_mode) × (result.target ≡ string_bytes service_principal_name) × (result.nonce ≡ client_nonce) }
+    {
+        CredSspClient::new_with_version(
+            alloc,
+            public_key,
+            credentials,
+            cred_ssp_mode,
+            6,
+            client_mode,
+            service_principal_name,
+            client_nonce,
+        )
+    }
+
+    /// A client of this version of CredSSP.
+    pub fn new_with_version(
+        alloc: Global,
+        public_key: Vec<u8>,
+        credentials: Credentials,
+        cred_ssp_mode: CredSspMode,
+        ts_request_version: u32,
+        client_mode: ClientMode,
+        service_principal_name: String,
+        client_nonce: [u8; 32],
+    ) -> CredSspClient<N, K>
+        ensures fresh { IsFreshClient result }
+        ensures values { (result.public_key ≡ public_key.items) × (result.credentials ≡ credentials) × (result.delegation ≡ cred_ssp_mode)
+            × (result.version ≡ ts_request_version) × (result.mode ≡ client_mode) × (result.target ≡ string_bytes service_principal_name) × (result.nonce ≡ client_nonce) }
+    {
+        CredSspClient {
+            alloc,
+            public_key: Bytes::from_vec(public_key),
+            credentials,
+            cred_ssp_mode,
+            ts_request_version,
+            client_mode,
+            service_principal_name: Text::from_string(service_principal_name),
+            client_nonce,
+            state: CredSspState::NegoToken,
+            context: None,
+            credentials_handle: None,
+            peer_version: None,
+            acts: Acts::none(),
+            output: Bytes::new(alloc),
+            suspended: None,
+        }
+    }
+
+    /// What the last call did on the security context, also where it was refused.
+    pub fn last_acts(&self) -> Acts
+        ensures { result ≡ self.now.acts }
+    {
+        self.acts
+    }
+
+    /// The token that the context's step gave in the last call, resumes included; empty where no step answered.
+    pub fn take_output(&mut self) -> Bytes
+        ensures output { result ≡ self.old.output }
+        ensures rest { self.new ≡ record self.old { output = [] } }
+    {
+        std::mem::replace(&mut self.output, Bytes::new(self.alloc))
+    }
+}
+
+impl<N: Mechanism, K: Mechanism> CredSspClient<N, K> {
+    ghost use Rattle.sspi_credssp.specs.Begun.{Begun, BeginCause, IfContext, MadeOr};
+    ghost use Rattle.sspi_credssp.specs.ClientCause.{ClientCause, ResumeCause, StateCause, is_altered, status_of};
+    ghost use Rattle.sspi_credssp.specs.ClientStep.{Asked, HasStepped, StepsTo, OnSuspended};
+    ghost use Rattle.sspi_credssp.specs.ClientTurn.{ClientGoes, IsReady, IsUnderway};
+
+    /// Whether a turn is suspended.
+    pub fn waiting(&self) -> bool
+        ensures { result ≡ is_waiting_in (either N.meaning K.meaning) self.now.context }
+    {
+        match &self.context {
+            None => false,
+            Some(context) => context.waiting(),
+        }
+    }
+
+    /// At most how often the context still asks a KDC; 0 before there is a context.
+    pub fn requests_left(&self) -> u64
+        ensures { result ≡ left_in (either N.meaning K.meaning) self.now.context }
+    {
+        match &self.context {
+            None => 0,
+            Some(context) => context.requests_left(),
+        }
+    }
+
+    /// Takes the server's message and makes the client's next one; the first call takes a default request.
+    ///
+    /// Refused: `OutOfSequence` while a turn is suspended and once the last message was made; `InvalidToken`, with the code
+    /// as its status, where the server reports an error; `MessageAltered` where the server changes its version or its proof
+    /// is not the right one; `InvalidToken` where the proof is absent or too short; `InternalError` where the authentication
+    /// ends before a version was noted; and with the kinds of the context, of the credentials' text, and want of memory. A
+    /// refusal gives the request up, and keeps the state, the mode and the acquired credentials.
+    pub fn process(&mut self, ts_request: TsRequest) -> Result<Progress, Error>
+        ensures turn { ClientGoes (either N.meaning K.meaning) self.old ts_request result self.new }
+        ensures step { HasStepped (either N.meaning K.meaning) self.old ts_request [] result self.new }
+        ensures cause { IfErr result (λ error. error.error_type ≢ ErrorKind.InsufficientMemory →
+            ClientCause (either N.meaning K.meaning) self.old ts_request self.new error.error_type) }
+        ensures code { is_waiting_in (either N.meaning K.meaning) self.old.context ≡ false → is_code ts_request.error_code ≡ true →
+            IsErr result × IfErr result (λ error. error.error_type ≡ ErrorKind.InvalidToken) }
+        ensures status { IfErr result (λ error. error.nstatus ≡ status_of (either N.meaning K.meaning) self.old ts_request) }
+        ensures waited { is_waiting_in (either N.meaning K.meaning) self.old.context ≡ true →
+            IsErr result × (self.new ≡ record self.old { acts = no_acts; output = [] }) }
+    {
+        self.forget_last_call();
+        if self.waiting() {
+            return Err(Error::new(ErrorKind::OutOfSequence, Reason::Sequence));
+        }
+        match check_code(ts_request.error_code) {
+            Ok(()) => {}
+            Err(error) => return Err(error),
+        }
+        match self.begin(ts_request.version) {
+            Ok(()) => self.take(at_version(ts_request, self.ts_request_version)),
+            Err(error) => Err(error),
+        }
+    }
+
+    /// Goes on with the suspended turn, once it is known what came of its request.
+    ///
+    /// Where no turn is suspended that is `OutOfSequence` and changes nothing. After a refusal the client waits exactly where
+    /// its context still waits; it then keeps the request, and a later call goes on with it.
+    pub fn resume(&mut self, reply: &Reply) -> Result<Progress, Error>
+        ensures turn { let c = either N.meaning K.meaning in (start : ClientView (SspiContext N K)) (d : TsRequest) →
+            IsUnderway c start d self.old → ClientGoes c start d result self.new }
+        ensures step { let c = either N.meaning K.meaning in (start : ClientView (SspiContext N K)) (d : TsRequest) (log : List Asked) (q : NetworkRequest) →
+            IsUnderway c start d self.old → StepsTo c start d log (answers.Ask q) self.old →
+            HasStepped c start d (record { question = q; reply = reply.now } ∷ log) result self.new }
+        ensures still { let c = either N.meaning K.meaning in (start : ClientView (SspiContext N K)) (d : TsRequest) (log : List Asked) (q : NetworkRequest) →
+            IsUnderway c start d self.old → StepsTo c start d log (answers.Ask q) self.old →
+            OnErr result (self.new.acts.status ≡ None → is_waiting_in c self.new.context ≡ true →
+            IsUnderway c start d self.new × StepsTo c start d (record { question = q; reply = reply.now } ∷ log) (answers.Ask q) self.new) }
+        ensures falls { let c = either N.meaning K.meaning in OnSuspended result (left_in c self.new.context < left_in c self.old.context) }
+        ensures cause { IfErr result (λ error. error.error_type ≢ ErrorKind.InsufficientMemory →
+            ResumeCause (either N.meaning K.meaning) self.old self.new error.error_type) }
+        ensures plain { IfErr result (λ error. error.nstatus ≡ None) }
+        ensures idle { is_waiting_in (either N.meaning K.meaning) self.old.context ≡ false →
+            IsErr result × (self.new ≡ record self.old { acts = no_acts; output = [] }) }
+    {
+        self.forget_last_call();
+        if !self.waiting() {
+            return Err(Error::new(ErrorKind::OutOfSequence, Reason::Sequence));
+        }
+        match self.suspended.take() {
+            Some(request) => self.resume_with(reply, request),
+            None => Err(Error::new(ErrorKind::OutOfSequence, Reason::Sequence)),
+        }
+    }
+
+    fn forget_last_call(&mut self)
+        ensures { self.new ≡ record self.old { acts = no_acts; output = [] } }
+    {
+        self.acts = Acts::none();
+        self.output = Bytes::new(self.alloc);
+    }
+
+    // The turn, once the request's code and version were looked at.
+    fn take(&mut self, request: TsRequest) -> Result<Progress, Error>
+        requires acts { self.old.acts ≡ no_acts }
+        requires begun { IsSome self.old.context }
+        ensures turn { let c = either N.meaning K.meaning in (start : ClientView (SspiContext N K)) (d : TsRequest) →
+            request ≡ record d { version = self.old.version } → IsReady c start d self.old → self.old.output ≡ [] →
+            ClientGoes c start d result self.new }
+        ensures step { let c = either N.meaning K.meaning in (start : ClientView (SspiContext N K)) (d : TsRequest) →
+            d.nego_tokens ≡ request.nego_tokens → start.target ≡ self.old.target →
+            IfContext self.old.context (Begun c start.context start.handle (ForClient start.mode) purposes.Outbound (Some start.credentials) self.old.handle) →
+            HasStepped c start d [] result self.new }
+        ensures cause { IfErr result (λ error. error.error_type ≢ ErrorKind.InsufficientMemory →
+            StateCause (either N.meaning K.meaning) self.old.state request self.new error.error_type) }
+        ensures plain { IfErr result (λ error. error.nstatus ≡ None) }
+        ensures begun { IsSome self.new.context }
+    {
+        match self.state {
+            CredSspState::NegoToken => self.negotiate(request),
+            CredSspState::AuthInfo => match self.conclude(request) {
+                Ok(state) => Ok(Progress::Completed(state)),
+                Err(error) => Err(error),
+            },
+            CredSspState::PubKeyInfo | CredSspState::Final => {
+                Err(Error::new(ErrorKind::OutOfSequence, Reason::Sequence))
+            }
+        }
+    }
+
+    fn begin(&mut self, version: u32) -> Result<(), Error>
+        ensures frame { self.new ≡ record self.old { context = self.new.context; handle = self.new.handle; noted = self.new.noted } }
+        ensures ready { let c = either N.meaning K.meaning in OnOk result ((start : ClientView (SspiContext N K)) (d : TsRequest) →
+            d.version ≡ version → self.old ≡ record start { acts = no_acts; output = [] } →
+            is_waiting_in c start.context ≡ false → is_code d.error_code ≡ false → IsReady c start d self.new) }
+        ensures begun { let c = either N.meaning K.meaning in OnOk result (IfContext self.new.context
+            (Begun c self.old.context self.old.handle (ForClient self.old.mode) purposes.Outbound (Some self.old.credentials) self.new.handle)) }
+        ensures err { OnErr result (self.new ≡ self.old) }
+        ensures noted { OnErr result (self.new.noted ≡ noted_next self.old.context self.old.noted version) }
+        ensures passed { OnOk result ((is_altered self.old.context self.old.noted version ≡ false) × IsSome self.new.context) }
+        ensures cause { let c = either N.meaning K.meaning in IfErr result (λ error. error.error_type ≢ ErrorKind.InsufficientMemory →
+            StopsIf (is_altered self.old.context self.old.noted version) ErrorKind.MessageAltered error.error_type
+            (MadeOr self.new.context (BeginCause c (ForClient self.old.mode) purposes.Outbound (Some self.old.credentials) error.error_type) ⊥)) }
+        ensures plain { IfErr result (λ error. error.nstatus ≡ None) }
+    {
+        match &self.context {
+            None => match self.make_context() {
+                Ok(()) => Ok(()),
+                Err(error) => Err(error),
+            },
+            Some(_) => self.note_version(version),
+        }
+    }
+
+    // The context and the credentials that it acquires are kept only together.
+    fn make_context(&mut self) -> Result<(), Error>
+        requires { self.old.context ≡ None }
+        ensures frame { self.new ≡ record self.old { context = self.new.context; handle = self.new.handle } }
+        ensures begun { let c = either N.meaning K.meaning in OnOk result (IfContext self.new.context
+            (Begun c self.old.context self.old.handle (ForClient self.old.mode) purposes.Outbound (Some self.old.credentials) self.new.handle)) }
+        ensures made { OnOk result (IsSome self.new.context) }
+        ensures unused { OnOk result (IsUnusedIn (either N.meaning K.meaning) self.new.context) }
+        ensures err { OnErr result (self.new ≡ self.old) }
+        ensures noted { self.old.noted ≡ None }
+        ensures state { self.old.state ≡ CredSspState.NegoToken }
+        ensures cause { let c = either N.meaning K.meaning in IfErr result (λ error. error.error_type ≢ ErrorKind.InsufficientMemory →
+            BeginCause c (ForClient self.old.mode) purposes.Outbound (Some self.old.credentials) error.error_type) }
+        ensures plain { IfErr result (λ error. error.nstatus ≡ None) }
+    {
+        let mut context = match SspiContext::new_client(self.alloc, &self.client_mode) {
+            Ok(context) => context,
+            Err(error) => return Err(error),
+        };
+        match context.acquire_credentials_handle(CredentialUse::Outbound, Some(&self.credentials)) {
+            Ok(handle) => {
+                self.credentials_handle = handle;
+                self.context = Some(context);
+                Ok(())
+            }
+            Err(error) => Err(error),
+        }
+    }
+
+    fn note_version(&mut self, version: u32) -> Result<(), Error>
+        requires { IsSome self.old.context }
+        ensures ok { OnOk result (self.new ≡ record self.old { noted = noted_next self.old.context self.old.noted version }) }
+        ensures fits { OnOk result (FitsNoted self.new.noted version) }
+        ensures passed { OnOk result (differs self.old.noted version ≡ false) }
+        ensures err { OnErr result (self.new ≡ self.old) }
+        ensures noted { OnErr result (self.new.noted ≡ noted_next self.old.context self.old.noted version) }
+        ensures altered { OnErr result (differs self.old.noted version ≡ true) }
+        ensures kind { IfErr result (λ error. error.error_type ≡ ErrorKind.MessageAltered) }
+        ensures plain { IfErr result (λ error. error.nstatus ≡ None) }
+    {
+        match self.peer_version {
+            None => {
+                self.peer_version = Some(version);
+                Ok(())
+            }
+            Some(noted) if noted == version => Ok(()),
+            Some(_) => Err(Error::new(ErrorKind::MessageAltered, Reason::PeerVersion)),
+        }
+    }
+}
+
+fn check_code(code: Option<NStatusCode>) -> Result<(), Error>
+    ensures passed { OnOk result (is_code code ≡ false) }
+    ensures coded { OnErr result (is_code code ≡ true) }
+    ensures exact { IfErr result (λ error. (error.error_type ≡ ErrorKind.InvalidToken) × (error.nstatus ≡ code)) }
+{
+    match code {
+        Some(code) if code.0 != 0 => Err(Error::new_with_nstatus(
+            ErrorKind::InvalidToken,
+            Reason::ErrorStatus,
+            code,
+        )),
+        _ => Ok(()),
+    }
+}

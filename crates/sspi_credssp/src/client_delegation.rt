@@ -1,0 +1,156 @@
+// The client's last turn (AuthInfo): the server's proof is checked, and only then are the credentials sealed.
+ghost use Rattle.std.specs.Prelude.{◌≡◌, ◌≢◌, ◌-◌, [], true, false, None, IsSome, IfOk, IfErr, OnOk, OnErr};
+ghost use Rattle.sspi_mech.specs.Calls.{one_sealed};
+ghost use Rattle.sspi_credssp.specs.Acts.{no_acts};
+ghost use Rattle.sspi_credssp.specs.ClientCause.{SealsCause, OpenedCause, DeliverCause};
+ghost use Rattle.sspi_credssp.specs.Context.{either};
+ghost use Rattle.sspi_credssp.specs.Credentials.{delegated_text, IfText};
+ghost use Rattle.sspi_credssp.specs.Exchange.{Delivers};
+
+use crate::acts::Acts;
+use crate::client::CredSspClient;
+use crate::client_state::ClientState;
+use crate::context::SspiContext;
+use crate::credentials::write_credentials;
+use crate::proof::{altered, opens_to, sealed_blob};
+use crate::public_key::{EndpointType, prescribed_proof};
+use crate::request::with_credentials;
+use crate::state::CredSspState;
+use sspi_mech::Mechanism;
+use sspi_names::Credentials;
+use sspi_tsreq::{CredSspMode, TsRequest};
+use sspi_types::{Bytes, Error, ErrorKind, Reason};
+use std::alloc::Global;
+
+fn seal_credentials<N: Mechanism, K: Mechanism>(
+    alloc: Global,
+    context: &mut SspiContext<N, K>,
+    acts: &mut Acts,
+    credentials: &Credentials,
+    mode: CredSspMode,
+) -> Result<Bytes, Error>
+    ensures blob { let c = either N.meaning K.meaning in IfOk result (λ blob. IfText (delegated_text credentials.now mode)
+        (λ text. c.seals context.new ((c.counts context.new).sealed - 1) text blob)) }
+    ensures acts { OnOk result (acts.new ≡ record acts.old { sealed = true }) }
+    ensures ok { let c = either N.meaning K.meaning in OnOk result (context.new ≡ c.counted context.old (one_sealed (c.counts context.old))) }
+    ensures count { let c = either N.meaning K.meaning in OnOk result (c.counts context.new ≡ one_sealed (c.counts context.old)) }
+    ensures err { OnErr result (context.new ≡ context.old) }
+    ensures err_acts { OnErr result (acts.new ≡ acts.old) }
+    ensures plain { IfErr result (λ error. error.nstatus ≡ None) }
+    ensures cause { IfErr result (λ error. error.error_type ≢ ErrorKind.InsufficientMemory →
+        SealsCause (either N.meaning K.meaning) context.new (delegated_text credentials.now mode) error.error_type) }
+{
+    let text = match write_credentials(alloc, credentials, mode) {
+        Ok(text) => text,
+        Err(error) => return Err(error),
+    };
+    match context.seal(&text) {
+        Ok(blob) => {
+            acts.sealed = true;
+            Ok(Bytes::from_vec(blob))
+        }
+        Err(error) => Err(error),
+    }
+}
+
+// Opens the server's proof, and seals the credentials if it is the one that the server owes.
+fn deliver<N: Mechanism, K: Mechanism>(
+    alloc: Global,
+    context: &mut SspiContext<N, K>,
+    acts: &mut Acts,
+    blob: &[u8],
+    proof: &[u8],
+    version: u32,
+    credentials: &Credentials,
+    mode: CredSspMode,
+) -> Result<Bytes, Error>
+    requires checked { acts.old.checked ≡ false }
+    requires sealed { acts.old.sealed ≡ false }
+    ensures delivers { Delivers (either N.meaning K.meaning) context.old blob.now proof.now context.new acts.new }
+    ensures acts { acts.new ≡ record acts.old { checked = acts.new.checked; sealed = acts.new.sealed } }
+    ensures ok { OnOk result (acts.new ≡ record acts.old { checked = true; sealed = true }) }
+    ensures blob { let c = either N.meaning K.meaning in IfOk result (λ blob. IfText (delegated_text credentials.now mode)
+        (λ text. c.seals context.new ((c.counts context.new).sealed - 1) text blob)) }
+    ensures plain { IfErr result (λ error. error.nstatus ≡ None) }
+    ensures cause { IfErr result (λ error. error.error_type ≢ ErrorKind.InsufficientMemory → OpenedCause (either N.meaning K.meaning)
+        acts.new.checked context.new blob.now proof.now (delegated_text credentials.now mode) error.error_type) }
+{
+    match opens_to(context, acts, blob, proof) {
+        Ok(true) => seal_credentials(alloc, context, acts, credentials, mode),
+        Ok(false) => Err(altered(version)),
+        Err(error) => Err(error),
+    }
+}
+
+impl<N: Mechanism, K: Mechanism> CredSspClient<N, K> {
+    ghost use Rattle.sspi_credssp.specs.Client.{ClientView};
+    ghost use Rattle.sspi_credssp.specs.ClientTurn.{ClientAnswers, IsReady, ClientDelivers};
+
+    pub(crate) fn conclude(&mut self, request: TsRequest) -> Result<ClientState, Error>
+        requires acts { self.old.acts ≡ no_acts }
+        requires begun { IsSome self.old.context }
+        requires noted { IsSome self.old.noted }
+        ensures turn { let c = either N.meaning K.meaning in (start : ClientView (SspiContext N K)) (d : TsRequest) →
+            request ≡ record d { version = self.old.version } → IsReady c start d self.old → self.old.state ≡ CredSspState.AuthInfo →
+            self.old.output ≡ [] → ClientAnswers c start d result self.new }
+        ensures begun { IsSome self.new.context }
+        ensures cause { IfErr result (λ error. error.error_type ≢ ErrorKind.InsufficientMemory →
+            DeliverCause (either N.meaning K.meaning) request.pub_key_auth self.new error.error_type) }
+        ensures plain { IfErr result (λ error. error.nstatus ≡ None) }
+        ensures status { self.new.acts.status ≡ None }
+        ensures negotiated { self.new.acts.negotiated ≡ false }
+    {
+        match self.exchange(&request.pub_key_auth) {
+            Ok(credentials) => {
+                self.state = CredSspState::Final;
+                Ok(ClientState::FinalMessage(with_credentials(request, credentials)))
+            }
+            Err(error) => Err(error),
+        }
+    }
+
+    fn exchange(&mut self, pub_key_auth: &Option<Bytes>) -> Result<Bytes, Error>
+        requires acts { self.old.acts ≡ no_acts }
+        requires begun { IsSome self.old.context }
+        requires noted { IsSome self.old.noted }
+        ensures delivers { ClientDelivers (either N.meaning K.meaning) self.old pub_key_auth.now result self.new }
+        ensures begun { IsSome self.new.context }
+        ensures cause { IfErr result (λ error. error.error_type ≢ ErrorKind.InsufficientMemory →
+            DeliverCause (either N.meaning K.meaning) pub_key_auth.now self.new error.error_type) }
+        ensures plain { IfErr result (λ error. error.nstatus ≡ None) }
+    {
+        let blob = match sealed_blob(pub_key_auth, Reason::NoPubKey) {
+            Ok(blob) => blob,
+            Err(error) => return Err(error),
+        };
+        let Some(version) = self.peer_version else {
+            return Err(Error::new(ErrorKind::InternalError, Reason::NoVersion));
+        };
+        let Some(context) = &mut self.context else {
+            return Err(Error::new(ErrorKind::InternalError, Reason::NoVersion));
+        };
+        let proof = match prescribed_proof(
+            self.alloc,
+            EndpointType::Server,
+            version,
+            &self.client_nonce,
+            self.public_key.as_slice(),
+        ) {
+            Ok(proof) => proof,
+            Err(error) => return Err(Error::from(error)),
+        };
+        match deliver(
+            self.alloc,
+            context,
+            &mut self.acts,
+            blob,
+            proof.as_slice(),
+            version,
+            &self.credentials,
+            self.cred_ssp_mode,
+        ) {
+            Ok(credentials) => Ok(credentials),
+            Err(error) => Err(error),
+        }
+    }
+}

@@ -1,0 +1,258 @@
+// The client's turns of the authentication (NegoToken).
+ghost use Rattle.std.specs.Prelude.{◌≡◌, ◌≢◌, ◌<◌, ℕ, List, [], ◌∷◌, None, Some, true, false, IsSome, IsErr, OnOk, OnErr, IfOk, IfErr};
+ghost use Rattle.sspi_names.specs.declared.network.NetworkRequest.{NetworkRequest};
+ghost use Rattle.sspi_mech.specs.Answers.{answer_of, OnAsk};
+ghost use Rattle.sspi_mech.specs.declared.step.Answer.TheVariants as answers;
+ghost use Rattle.sspi_credssp.specs.Acts.{no_acts};
+ghost use Rattle.sspi_credssp.specs.Begun.{Begun, IfContext};
+ghost use Rattle.sspi_credssp.specs.ClientCause.{NegoCause, ProveCause};
+ghost use Rattle.sspi_credssp.specs.ClientStep.{Asked, StepsTo, HasStepped, OnSuspended, client_requirements, client_args};
+ghost use Rattle.sspi_credssp.specs.Context.{either, ForClient};
+ghost use Rattle.sspi_credssp.specs.Counts.{SameBut, is_waiting_in, left_in};
+ghost use Rattle.sspi_types.specs.declared.credential_use.CredentialUse.TheVariants as purposes;
+
+use crate::client::CredSspClient;
+use crate::client_state::{ClientState, Progress};
+use crate::context::SspiContext;
+use crate::public_key::{EndpointType, prescribed_proof};
+use crate::request::{with_proof, with_tokens};
+use crate::state::CredSspState;
+use crate::token::{copy_token, token_of};
+use bitflags::Flags;
+use sspi_mech::{InitializeSecurityContext, Mechanism, Progressing, Reply, Step};
+use sspi_names::CredentialsBuffers;
+use sspi_tsreq::TsRequest;
+use sspi_types::{
+    Bytes, ClientRequestFlags, DataRepresentation, Error, ErrorKind, Reason, SecurityStatus, Text,
+};
+
+fn client_requirements() -> ClientRequestFlags
+    ensures { result ≡ client_requirements }
+{
+    ClientRequestFlags::MUTUAL_AUTH
+        .union(ClientRequestFlags::USE_SESSION_KEY)
+        .union(ClientRequestFlags::INTEGRITY)
+        .union(ClientRequestFlags::CONFIDENTIALITY)
+}
+
+fn initialize<N: Mechanism, K: Mechanism>(
+    context: &mut SspiContext<N, K>,
+    credentials_handle: &Option<CredentialsBuffers>,
+    service_principal_name: &Text,
+    token: &Option<Bytes>,
+) -> Result<Progressing, Error>
+    ensures step { (either N.meaning K.meaning).steps context.old (client_args credentials_handle.now service_principal_name.now token.now) (answer_of result) context.new }
+    ensures plain { IfErr result (λ error. error.nstatus ≡ None) }
+{
+    context.initialize_security_context(&InitializeSecurityContext {
+        credentials_handle: credentials_handle.as_ref(),
+        context_requirements: client_requirements(),
+        target_data_representation: DataRepresentation::Native,
+        target_name: Some(service_principal_name.as_str()),
+        input: token_of(token),
+    })
+}
+
+impl<N: Mechanism, K: Mechanism> CredSspClient<N, K> {
+    ghost use Rattle.sspi_credssp.specs.Client.{ClientView};
+    ghost use Rattle.sspi_credssp.specs.ClientTurn.{ClientGoes, ClientAnswers, IsReady, IsUnderway, ClientProves};
+
+    pub(crate) fn negotiate(&mut self, request: TsRequest) -> Result<Progress, Error>
+        requires acts { self.old.acts ≡ no_acts }
+        requires begun { IsSome self.old.context }
+        ensures turn { let c = either N.meaning K.meaning in (start : ClientView (SspiContext N K)) (d : TsRequest) →
+            request ≡ record d { version = self.old.version } → IsReady c start d self.old → self.old.state ≡ CredSspState.NegoToken →
+            self.old.output ≡ [] → ClientGoes c start d result self.new }
+        ensures step { let c = either N.meaning K.meaning in (start : ClientView (SspiContext N K)) (d : TsRequest) →
+            d.nego_tokens ≡ request.nego_tokens → start.target ≡ self.old.target →
+            IfContext self.old.context (Begun c start.context start.handle (ForClient start.mode) purposes.Outbound (Some start.credentials) self.old.handle) →
+            HasStepped c start d [] result self.new }
+        ensures cause { IfErr result (λ error. error.error_type ≢ ErrorKind.InsufficientMemory →
+            NegoCause (either N.meaning K.meaning) self.new.acts.status self.new error.error_type) }
+        ensures plain { IfErr result (λ error. error.nstatus ≡ None) }
+        ensures begun { IsSome self.new.context }
+    {
+        self.acts.negotiated = true;
+        let Some(context) = &mut self.context else {
+            return Err(Error::new(ErrorKind::InternalError, Reason::NoVersion));
+        };
+        let progress = initialize(
+            context,
+            &self.credentials_handle,
+            &self.service_principal_name,
+            &request.nego_tokens,
+        );
+        self.go_on(progress, request)
+    }
+
+    pub(crate) fn resume_with(
+        &mut self,
+        reply: &Reply,
+        request: TsRequest,
+    ) -> Result<Progress, Error>
+        requires acts { self.old.acts ≡ no_acts }
+        requires begun { IsSome self.old.context }
+        ensures turn { let c = either N.meaning K.meaning in (start : ClientView (SspiContext N K)) (d : TsRequest) →
+            request ≡ record d { version = self.old.version } → IsReady c start d self.old → self.old.state ≡ CredSspState.NegoToken →
+            self.old.output ≡ [] → ClientGoes c start d result self.new }
+        ensures step { let c = either N.meaning K.meaning in (start : ClientView (SspiContext N K)) (d : TsRequest) (log : List Asked) (q : NetworkRequest) →
+            StepsTo c start d log (answers.Ask q) self.old →
+            HasStepped c start d (record { question = q; reply = reply.now } ∷ log) result self.new }
+        ensures still { let c = either N.meaning K.meaning in (start : ClientView (SspiContext N K)) (d : TsRequest) (log : List Asked) (q : NetworkRequest) →
+            request ≡ record d { version = self.old.version } → IsReady c start d self.old → self.old.state ≡ CredSspState.NegoToken →
+            self.old.output ≡ [] → StepsTo c start d log (answers.Ask q) self.old →
+            OnErr result (self.new.acts.status ≡ None → is_waiting_in c self.new.context ≡ true →
+            IsUnderway c start d self.new × StepsTo c start d (record { question = q; reply = reply.now } ∷ log) (answers.Ask q) self.new) }
+        ensures falls { let c = either N.meaning K.meaning in OnSuspended result (left_in c self.new.context < left_in c self.old.context) }
+        ensures cause { IfErr result (λ error. error.error_type ≢ ErrorKind.InsufficientMemory →
+            NegoCause (either N.meaning K.meaning) self.new.acts.status self.new error.error_type) }
+        ensures plain { IfErr result (λ error. error.nstatus ≡ None) }
+    {
+        self.acts.negotiated = true;
+        let Some(context) = &mut self.context else {
+            return Err(Error::new(ErrorKind::InternalError, Reason::NoVersion));
+        };
+        let progress = context.resume(reply);
+        self.go_on(progress, request)
+    }
+
+    // What the step's answer comes to. The request is kept where the context waits, and so also where a refused resume
+    // waits again.
+    fn go_on(
+        &mut self,
+        progress: Result<Progressing, Error>,
+        request: TsRequest,
+    ) -> Result<Progress, Error>
+        requires acts { self.old.acts ≡ record no_acts { negotiated = true } }
+        requires begun { IsSome self.old.context }
+        requires plain { IfErr progress (λ error. error.nstatus ≡ None) }
+        ensures turn { let c = either N.meaning K.meaning in (start : ClientView (SspiContext N K)) (d : TsRequest) →
+            request ≡ record d { version = self.old.version } → IsReady c start d self.old → self.old.state ≡ CredSspState.NegoToken →
+            self.old.output ≡ [] → OnAsk (answer_of progress) (is_waiting_in c self.old.context ≡ true) → ClientGoes c start d result self.new }
+        ensures step { let c = either N.meaning K.meaning in (start : ClientView (SspiContext N K)) (d : TsRequest) (log : List Asked) →
+            StepsTo c start d log (answer_of progress) self.old → HasStepped c start d log result self.new }
+        ensures refused { OnErr result (self.new.acts.status ≡ None →
+            (self.new ≡ record self.old { kept = self.new.kept }) × IsErr progress) }
+        ensures kept { OnErr result (self.new.acts.status ≡ None →
+            is_waiting_in (either N.meaning K.meaning) self.new.context ≡ true → self.new.kept ≡ Some request) }
+        ensures falls { let c = either N.meaning K.meaning in (n : ℕ) → OnAsk (answer_of progress) (left_in c self.old.context < n) →
+            OnSuspended result (left_in c self.new.context < n) }
+        ensures cause { IfErr result (λ error. error.error_type ≢ ErrorKind.InsufficientMemory →
+            NegoCause (either N.meaning K.meaning) self.new.acts.status self.new error.error_type) }
+        ensures plain { IfErr result (λ error. error.nstatus ≡ None) }
+        ensures begun { IsSome self.new.context }
+    {
+        match progress {
+            Ok(Progressing::Done(step)) => match self.reply(step.status, step.output, request) {
+                Ok(state) => Ok(Progress::Completed(state)),
+                Err(error) => Err(error),
+            },
+            Ok(Progressing::Suspended(question)) => {
+                self.suspended = Some(request);
+                Ok(Progress::Suspended(question))
+            }
+            Err(error) => {
+                if self.waiting() {
+                    self.suspended = Some(request);
+                }
+                Err(error)
+            }
+        }
+    }
+
+    fn reply(
+        &mut self,
+        status: SecurityStatus,
+        output: Bytes,
+        request: TsRequest,
+    ) -> Result<ClientState, Error>
+        requires acts { self.old.acts ≡ record no_acts { negotiated = true } }
+        requires begun { IsSome self.old.context }
+        ensures turn { let c = either N.meaning K.meaning in (start : ClientView (SspiContext N K)) (d : TsRequest) →
+            request ≡ record d { version = self.old.version } → IsReady c start d self.old → self.old.state ≡ CredSspState.NegoToken →
+            ClientAnswers c start d result self.new }
+        ensures moved { SameBut (either N.meaning K.meaning) self.old.context self.new.context }
+        ensures handle { self.new.handle ≡ self.old.handle }
+        ensures status { self.new.acts.status ≡ Some status }
+        ensures negotiated { self.new.acts.negotiated ≡ true }
+        ensures output { self.new.output ≡ output }
+        ensures cause { IfErr result (λ error. error.error_type ≢ ErrorKind.InsufficientMemory →
+            NegoCause (either N.meaning K.meaning) self.new.acts.status self.new error.error_type) }
+        ensures plain { IfErr result (λ error. error.nstatus ≡ None) }
+        ensures begun { IsSome self.new.context }
+    {
+        self.acts.status = Some(status);
+        self.output = output;
+        if status == SecurityStatus::Ok {
+            return self.prove(request);
+        }
+        match self.output.clone(self.alloc) {
+            Ok(token) => Ok(ClientState::ReplyNeeded(with_tokens(request, Some(token)))),
+            Err(error) => Err(Error::from(error)),
+        }
+    }
+
+    // The authentication has ended: the client's proof goes with the last token, if there is one.
+    fn prove(&mut self, request: TsRequest) -> Result<ClientState, Error>
+        requires acts { self.old.acts ≡ record no_acts { negotiated = true; status = Some SecurityStatus.Ok } }
+        requires begun { IsSome self.old.context }
+        ensures turn { let c = either N.meaning K.meaning in (start : ClientView (SspiContext N K)) (d : TsRequest) →
+            request ≡ record d { version = self.old.version } → IsReady c start d self.old → self.old.state ≡ CredSspState.NegoToken →
+            ClientAnswers c start d result self.new }
+        ensures moved { SameBut (either N.meaning K.meaning) self.old.context self.new.context }
+        ensures handle { self.new.handle ≡ self.old.handle }
+        ensures status { self.new.acts.status ≡ self.old.acts.status }
+        ensures negotiated { self.new.acts.negotiated ≡ true }
+        ensures output { self.new.output ≡ self.old.output }
+        ensures cause { IfErr result (λ error. error.error_type ≢ ErrorKind.InsufficientMemory →
+            ProveCause (either N.meaning K.meaning) self.new.noted self.new.context self.new error.error_type) }
+        ensures plain { IfErr result (λ error. error.nstatus ≡ None) }
+        ensures begun { IsSome self.new.context }
+    {
+        let tokens = match copy_token(self.alloc, &self.output) {
+            Ok(tokens) => tokens,
+            Err(error) => return Err(Error::from(error)),
+        };
+        match self.seal_proof() {
+            Ok(proof) => {
+                self.state = CredSspState::AuthInfo;
+                Ok(ClientState::ReplyNeeded(with_proof(request, tokens, self.client_nonce, proof)))
+            }
+            Err(error) => Err(error),
+        }
+    }
+
+    fn seal_proof(&mut self) -> Result<Bytes, Error>
+        requires proved { self.old.acts.proved ≡ false }
+        requires begun { IsSome self.old.context }
+        ensures proves { ClientProves (either N.meaning K.meaning) self.old result self.new }
+        ensures moved { SameBut (either N.meaning K.meaning) self.old.context self.new.context }
+        ensures cause { IfErr result (λ error. error.error_type ≢ ErrorKind.InsufficientMemory →
+            ProveCause (either N.meaning K.meaning) self.new.noted self.new.context self.new error.error_type) }
+        ensures plain { IfErr result (λ error. error.nstatus ≡ None) }
+    {
+        let Some(version) = self.peer_version else {
+            return Err(Error::new(ErrorKind::InternalError, Reason::NoVersion));
+        };
+        let Some(context) = &mut self.context else {
+            return Err(Error::new(ErrorKind::InternalError, Reason::NoVersion));
+        };
+        let proof = match prescribed_proof(
+            self.alloc,
+            EndpointType::Client,
+            version,
+            &self.client_nonce,
+            self.public_key.as_slice(),
+        ) {
+            Ok(proof) => proof,
+            Err(error) => return Err(Error::from(error)),
+        };
+        match context.seal(proof.as_slice()) {
+            Ok(blob) => {
+                self.acts.proved = true;
+                Ok(Bytes::from_vec(blob))
+            }
+            Err(error) => Err(error),
+        }
+    }
+}

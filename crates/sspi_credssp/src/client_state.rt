@@ -1,0 +1,19 @@
+use sspi_names::NetworkRequest;
+use sspi_tsreq::TsRequest;
+
+/// What a client's turn ends in.
+#[derive(Drop)]
+pub enum ClientState {
+    /// A message for the server, whose reply the client waits for.
+    ReplyNeeded(TsRequest),
+    /// The client's last message: it carries the credentials.
+    FinalMessage(TsRequest),
+}
+
+/// How far a client's turn came that was not refused.
+#[derive(Drop)]
+pub enum Progress {
+    /// The turn goes on by `resume`, once it is known what came of this request to a KDC.
+    Suspended(NetworkRequest),
+    Completed(ClientState),
+}

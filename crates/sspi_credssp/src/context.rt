@@ -1,0 +1,246 @@
+ghost use Rattle.std.specs.Prelude.{◌≡◌, ◌≢◌, ◌-◌, IfOk, IfErr, OnOk, OnErr, option_copied, filter, take};
+ghost use Rattle.sspi_types.specs.Memory.{memory_error};
+ghost use Rattle.sspi_mech.specs.Calls.{step_args, accept_args, no_counts, one_sealed, one_unsealed};
+ghost use Rattle.sspi_mech.specs.Calls.{ToAcquire, ToName, ToIdentify, ToComplete, ToSeal, ToUnseal};
+ghost use Rattle.sspi_mech.specs.Answers.{answer_of};
+ghost use Rattle.sspi_credssp.specs.Context.{either, has_password, ForClient, ForServer};
+
+use crate::mode::{ClientMode, ServerMode};
+use sspi_mech::{
+    AcceptSecurityContext, InitializeSecurityContext, MechConfig, Mechanism, Progressing, Reply,
+    Step,
+};
+use sspi_names::{ContextNames, Credentials, CredentialsBuffers};
+use sspi_types::{CredentialUse, Error, ErrorKind, SecurityStatus};
+use std::alloc::Global;
+
+/// A security context by one of two mechanisms, which need not be those that the variants are named after.
+#[derive(Drop)]
+pub enum SspiContext<N, K> {
+    Ntlm(N),
+    Kerberos(K),
+}
+
+fn with_passwords(identities: Vec<Credentials>) -> Vec<Credentials>
+    ensures { result.items ≡ filter has_password identities.items }
+{
+    let mut identities = identities;
+    identities.retain(|identity| matches!(identity, Credentials::AuthIdentity(_)));
+    identities
+}
+
+fn first_of(identities: Vec<Credentials>) -> Vec<Credentials>
+    ensures { result.items ≡ take 1 identities.items }
+{
+    let mut identities = identities;
+    identities.truncate(1);
+    identities
+}
+
+impl<N: Mechanism, K: Mechanism> SspiContext<N, K> {
+    /// The context of a client in this mode.
+    pub(crate) fn new_client(alloc: Global, mode: &ClientMode) -> Result<Self, Error>
+        ensures made { IfOk result (λ context. (either N.meaning K.meaning).made (ForClient mode.now) context) }
+        ensures fresh { IfOk result (λ context. (either N.meaning K.meaning).counts context ≡ no_counts) }
+        ensures plain { IfErr result (λ error. error.nstatus ≡ None) }
+        ensures cause { IfErr result (λ error. error.error_type ≢ ErrorKind.InsufficientMemory →
+            (either N.meaning K.meaning).unmade (ForClient mode.now) error.error_type) }
+    {
+        match mode {
+            ClientMode::Ntlm(config) => match N::make(alloc, &MechConfig::Ntlm(config)) {
+                Ok(mechanism) => Ok(SspiContext::Ntlm(mechanism)),
+                Err(error) => Err(error),
+            },
+        }
+    }
+
+    /// The context of a server in this mode.
+    pub(crate) fn new_server(alloc: Global, mode: &ServerMode) -> Result<Self, Error>
+        ensures made { IfOk result (λ context. (either N.meaning K.meaning).made (ForServer mode.now) context) }
+        ensures fresh { IfOk result (λ context. (either N.meaning K.meaning).counts context ≡ no_counts) }
+        ensures plain { IfErr result (λ error. error.nstatus ≡ None) }
+        ensures cause { IfErr result (λ error. error.error_type ≢ ErrorKind.InsufficientMemory →
+            (either N.meaning K.meaning).unmade (ForServer mode.now) error.error_type) }
+    {
+        match mode {
+            ServerMode::Ntlm(config) => match N::make(alloc, &MechConfig::Ntlm(config)) {
+                Ok(mechanism) => Ok(SspiContext::Ntlm(mechanism)),
+                Err(error) => Err(error),
+            },
+        }
+    }
+
+    /// The name of the package in hand.
+    pub fn package_name(&self) -> &'static str {
+        match self {
+            SspiContext::Ntlm(_) => "NTLM",
+            SspiContext::Kerberos(_) => "Kerberos",
+        }
+    }
+
+    /// The buffers for the handle of these credentials (AcquireCredentialsHandle).
+    pub fn acquire_credentials_handle(
+        &mut self,
+        credential_use: CredentialUse,
+        auth_data: Option<&Credentials>,
+    ) -> Result<Option<CredentialsBuffers>, Error>
+        ensures acquired { IfOk result (λ buffers.
+            (either N.meaning K.meaning).acquires self.old credential_use (option_copied auth_data.entry) buffers self.new) }
+        ensures count { (either N.meaning K.meaning).counts self.new ≡ (either N.meaning K.meaning).counts self.old }
+        ensures plain { IfErr result (λ error. error.nstatus ≡ None) }
+        ensures cause { IfErr result (λ error. error.error_type ≢ ErrorKind.InsufficientMemory →
+            (either N.meaning K.meaning).refuses self.old (ToAcquire credential_use (option_copied auth_data.entry)) error.error_type) }
+    {
+        match self {
+            SspiContext::Ntlm(mechanism) => mechanism.acquire(credential_use, auth_data),
+            SspiContext::Kerberos(mechanism) => mechanism.acquire(credential_use, auth_data),
+        }
+    }
+
+    /// A client's step (InitializeSecurityContext). Suspended, it goes on by `resume`.
+    pub fn initialize_security_context(
+        &mut self,
+        args: &InitializeSecurityContext<'_>,
+    ) -> Result<Progressing, Error>
+        ensures step { (either N.meaning K.meaning).steps self.old (step_args args.now) (answer_of result) self.new }
+        ensures plain { IfErr result (λ error. error.nstatus ≡ None) }
+    {
+        match self {
+            SspiContext::Ntlm(mechanism) => mechanism.initialize(args).into_result(),
+            SspiContext::Kerberos(mechanism) => mechanism.initialize(args).into_result(),
+        }
+    }
+
+    /// Goes on with the step that was suspended, once it is known what came of its request.
+    pub fn resume(&mut self, reply: &Reply) -> Result<Progressing, Error>
+        ensures step { (either N.meaning K.meaning).resumes self.old reply.now (answer_of result) self.new }
+        ensures plain { IfErr result (λ error. error.nstatus ≡ None) }
+    {
+        match self {
+            SspiContext::Ntlm(mechanism) => mechanism.resume(reply).into_result(),
+            SspiContext::Kerberos(mechanism) => mechanism.resume(reply).into_result(),
+        }
+    }
+
+    /// A server's step (AcceptSecurityContext).
+    pub fn accept_security_context(
+        &mut self,
+        args: &AcceptSecurityContext<'_>,
+    ) -> Result<Step, Error>
+        ensures step { (either N.meaning K.meaning).accepts self.old (accept_args args.now) result self.new }
+        ensures plain { IfErr result (λ error. error.nstatus ≡ None) }
+    {
+        match self {
+            SspiContext::Ntlm(mechanism) => mechanism.accept(args),
+            SspiContext::Kerberos(mechanism) => mechanism.accept(args),
+        }
+    }
+
+    /// Whether a step is suspended.
+    pub fn waiting(&self) -> bool
+        ensures { result ≡ (either N.meaning K.meaning).waits self.now }
+    {
+        match self {
+            SspiContext::Ntlm(mechanism) => mechanism.waiting(),
+            SspiContext::Kerberos(mechanism) => mechanism.waiting(),
+        }
+    }
+
+    /// At most how often this context still asks a KDC.
+    pub fn requests_left(&self) -> u64
+        ensures { result ≡ (either N.meaning K.meaning).left self.now }
+    {
+        match self {
+            SspiContext::Ntlm(mechanism) => u64::from(mechanism.requests_left()),
+            SspiContext::Kerberos(mechanism) => u64::from(mechanism.requests_left()),
+        }
+    }
+
+    /// The name that was authenticated: on a server the peer's, on a client its own.
+    pub fn query_context_names(&self) -> Result<ContextNames, Error>
+        ensures named { IfOk result (λ names. (either N.meaning K.meaning).names self.now ≡ Some names.username) }
+        ensures plain { IfErr result (λ error. error.nstatus ≡ None) }
+        ensures cause { IfErr result (λ error. error.error_type ≢ ErrorKind.InsufficientMemory →
+            (either N.meaning K.meaning).refuses self.now ToName error.error_type) }
+    {
+        let username = match self {
+            SspiContext::Ntlm(mechanism) => mechanism.names(),
+            SspiContext::Kerberos(mechanism) => mechanism.names(),
+        };
+        match username {
+            Ok(username) => Ok(ContextNames { username }),
+            Err(error) => Err(error),
+        }
+    }
+
+    /// Tells a server which identities its peer may have. NTLM takes those with a password, Kerberos the first.
+    pub fn custom_set_auth_identities(&mut self, identities: Vec<Credentials>) -> Result<(), Error>
+        ensures identified { OnOk result ((either N.meaning K.meaning).identifies self.old identities.items self.new) }
+        ensures count { (either N.meaning K.meaning).counts self.new ≡ (either N.meaning K.meaning).counts self.old }
+        ensures err { OnErr result (self.new ≡ self.old) }
+        ensures plain { IfErr result (λ error. error.nstatus ≡ None) }
+        ensures cause { IfErr result (λ error. error.error_type ≢ ErrorKind.InsufficientMemory →
+            (either N.meaning K.meaning).refuses self.old (ToIdentify identities.items) error.error_type) }
+    {
+        match self {
+            SspiContext::Ntlm(mechanism) => mechanism.set_identities(&with_passwords(identities)),
+            SspiContext::Kerberos(mechanism) => mechanism.set_identities(&first_of(identities)),
+        }
+    }
+
+    /// Completes the authentication (CompleteAuthToken).
+    pub fn complete_auth_token(&mut self) -> Result<SecurityStatus, Error>
+        ensures same { self.new ≡ self.old }
+        ensures permitted { OnOk result ((either N.meaning K.meaning).permits self.old ToComplete) }
+        ensures plain { IfErr result (λ error. error.nstatus ≡ None) }
+        ensures cause { IfErr result (λ error. error.error_type ≢ ErrorKind.InsufficientMemory →
+            (either N.meaning K.meaning).refuses self.old ToComplete error.error_type) }
+    {
+        match self {
+            SspiContext::Ntlm(mechanism) => mechanism.complete(),
+            SspiContext::Kerberos(mechanism) => mechanism.complete(),
+        }
+    }
+
+    /// Seals a text for the peer.
+    pub fn seal(&mut self, text: &[u8]) -> Result<Vec<u8>, Error>
+        ensures blob { let c = either N.meaning K.meaning in
+            IfOk result (λ blob. c.seals self.new (c.counts self.old).sealed text.now blob.items) }
+        ensures last { let c = either N.meaning K.meaning in
+            IfOk result (λ blob. c.seals self.new ((c.counts self.new).sealed - 1) text.now blob.items) }
+        ensures ok { let c = either N.meaning K.meaning in
+            OnOk result (self.new ≡ c.counted self.old (one_sealed (c.counts self.old))) }
+        ensures count { let c = either N.meaning K.meaning in OnOk result (c.counts self.new ≡ one_sealed (c.counts self.old)) }
+        ensures permitted { OnOk result ((either N.meaning K.meaning).permits self.old (ToSeal text.now)) }
+        ensures err { OnErr result (self.new ≡ self.old) }
+        ensures plain { IfErr result (λ error. error.nstatus ≡ None) }
+        ensures cause { IfErr result (λ error. error.error_type ≢ ErrorKind.InsufficientMemory →
+            (either N.meaning K.meaning).refuses self.new (ToSeal text.now) error.error_type) }
+    {
+        match self {
+            SspiContext::Ntlm(mechanism) => mechanism.seal(text),
+            SspiContext::Kerberos(mechanism) => mechanism.seal(text),
+        }
+    }
+
+    /// Opens what the peer sealed.
+    pub fn unseal(&mut self, blob: &[u8]) -> Result<Vec<u8>, Error>
+        ensures text { let c = either N.meaning K.meaning in
+            IfOk result (λ text. c.opens self.new (c.counts self.old).unsealed blob.now text.items) }
+        ensures last { let c = either N.meaning K.meaning in
+            IfOk result (λ text. c.opens self.new ((c.counts self.new).unsealed - 1) blob.now text.items) }
+        ensures ok { let c = either N.meaning K.meaning in
+            OnOk result (self.new ≡ c.counted self.old (one_unsealed (c.counts self.old))) }
+        ensures count { let c = either N.meaning K.meaning in OnOk result (c.counts self.new ≡ one_unsealed (c.counts self.old)) }
+        ensures permitted { OnOk result ((either N.meaning K.meaning).permits self.old (ToUnseal blob.now)) }
+        ensures err { OnErr result (self.new ≡ self.old) }
+        ensures plain { IfErr result (λ error. error.nstatus ≡ None) }
+        ensures cause { IfErr result (λ error. error.error_type ≢ ErrorKind.InsufficientMemory →
+            (either N.meaning K.meaning).refuses self.new (ToUnseal blob.now) error.error_type) }
+    {
+        match self {
+            SspiContext::Ntlm(mechanism) => mechanism.unseal(blob),
+            SspiContext::Kerberos(mechanism) => mechanism.unseal(blob),
+        }
+    }
+}

@@ -1,0 +1,48 @@
+// The credentials inside authInfo (TSCredentials, MS-CSSP 2.2.1.2).
+ghost use Rattle.std.specs.Prelude.{◌≡◌, ◌≢◌, None, Ok, Err, IfOk, IfErr};
+ghost use Rattle.sspi_credssp.specs.Credentials.{delegated_text, delegated_identity};
+
+use sspi_names::{AuthIdentity, Credentials, CredentialsBuffers};
+use sspi_tsreq::{CredSspMode, read_ts_credentials_from_slice, write_ts_credentials};
+use sspi_types::{Error, ErrorKind, Reason};
+use std::alloc::Global;
+
+pub fn write_credentials(
+    alloc: Global,
+    credentials: &Credentials,
+    mode: CredSspMode,
+) -> Result<Vec<u8>, Error>
+    ensures text { IfOk result (λ text. delegated_text credentials.now mode ≡ Ok text.items) }
+    ensures plain { IfErr result (λ error. error.nstatus ≡ None) }
+    ensures cause { IfErr result (λ error. error.error_type ≢ ErrorKind.InsufficientMemory →
+        delegated_text credentials.now mode ≡ Err error) }
+{
+    let buffers = match credentials.to_buffers(alloc) {
+        Ok(buffers) => buffers,
+        Err(error) => return Err(Error::from(error)),
+    };
+    match write_ts_credentials(alloc, &buffers, mode) {
+        Ok(text) => Ok(text),
+        Err(error) => Err(error),
+    }
+}
+
+pub fn read_identity(alloc: Global, text: &[u8]) -> Result<AuthIdentity, Error>
+    ensures identity { IfOk result (λ identity. delegated_identity text.now ≡ Ok identity) }
+    ensures plain { IfErr result (λ error. error.nstatus ≡ None) }
+    ensures cause { IfErr result (λ error. error.error_type ≢ ErrorKind.InsufficientMemory →
+        delegated_identity text.now ≡ Err error) }
+{
+    match read_ts_credentials_from_slice(alloc, text) {
+        Ok(CredentialsBuffers::AuthIdentity(buffers)) => match AuthIdentity::from_buffers(
+            alloc, &buffers,
+        ) {
+            Ok(identity) => Ok(identity),
+            Err(error) => Err(error),
+        },
+        Ok(CredentialsBuffers::Keytab(_)) => {
+            Err(Error::new(ErrorKind::InvalidToken, Reason::TokenForm))
+        }
+        Err(error) => Err(error),
+    }
+}

@@ -1,0 +1,56 @@
+ghost use Rattle.std.specs.Prelude.{◌≡◌, None};
+
+use crate::proxy::{CredentialsProxy, ProxyError};
+use sspi_names::{AuthIdentity, Username};
+use std::marker::Model;
+
+/// A proxy whose look-ups all fail.
+#[derive(Drop)]
+pub struct FailingProxy {
+    faults: u64,
+}
+
+impl Model for FailingProxy {
+    ghost use Rattle.std.specs.Prelude.{ℕ};
+
+    ghost Value = { ℕ };
+
+    ghost view = { λ proxy. proxy.faults };
+}
+
+impl FailingProxy {
+    /// A proxy that was not asked yet.
+    pub fn new() -> FailingProxy
+        ensures { result ≡ 0 }
+    {
+        FailingProxy { faults: 0 }
+    }
+}
+
+impl CredentialsProxy for FailingProxy {
+    ghost told = { λ _. None };
+
+    ghost failing = { λ _. None };
+
+    ghost calls = { λ faults. faults };
+
+    ghost faults = { λ faults. faults };
+
+    fn auth_data_by_user(&mut self, _username: &Username) -> Result<AuthIdentity, ProxyError> {
+        self.faults = self.faults.saturating_add(1);
+        Err(ProxyError::Failed)
+    }
+
+    fn auth_data_candidates_by_user(
+        &mut self,
+        _username: &Username,
+    ) -> Result<Vec<AuthIdentity>, ProxyError> {
+        self.faults = self.faults.saturating_add(1);
+        Err(ProxyError::Failed)
+    }
+
+    fn auth_data(&mut self) -> Result<Vec<AuthIdentity>, ProxyError> {
+        self.faults = self.faults.saturating_add(1);
+        Err(ProxyError::Failed)
+    }
+}

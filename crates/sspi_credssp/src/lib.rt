@@ -1,0 +1,51 @@
+//! CredSSP (MS-CSSP): the client and the server that delegate credentials inside a TLS channel.
+//!
+//! Both ends authenticate by a security context over any two mechanisms, prove to each other that they speak over the channel
+//! of the same public key, and only then the client seals its credentials. Each call makes one turn of one delivered request.
+//!
+//! - `CredSspClient` and `CredSspServer`: one `process` a message, and the client's `resume` once a KDC has replied. What a
+//!   turn may do and what it replies is in `specs/ClientTurn.antt` and `specs/ServerTurn.antt`; the order and the causes of the
+//!   refusals in `ClientCause.antt` and `ServerCause.antt`; the step of the context in `ClientStep.antt` and `ServerStep.antt`.
+//! - `SspiContext`: the security context that both drive; `specs/Context.antt` has what it means.
+//! - `CredentialsProxy`: where a server looks its peers up; `TableProxy` has a list, and `FailingProxy` always fails.
+//! - `integer_increment_le` and `construct_error`: the proof below version 5, and the code that a refusal is told by.
+#![tactic(auto)]
+
+pub mod acts;
+pub mod client;
+mod client_delegation;
+mod client_negotiation;
+pub mod client_state;
+pub mod context;
+mod credentials;
+pub mod error_code;
+pub mod failing_proxy;
+pub mod mode;
+mod proof;
+pub mod proxy;
+pub mod public_key;
+mod request;
+pub mod server;
+mod server_delegation;
+mod server_negotiation;
+mod server_refusal;
+pub mod server_state;
+pub mod state;
+pub mod table_proxy;
+#[cfg(test)]
+mod tests;
+mod token;
+
+pub use acts::Acts;
+pub use client::CredSspClient;
+pub use client_state::{ClientState, Progress};
+pub use context::SspiContext;
+pub use error_code::construct_error;
+pub use failing_proxy::FailingProxy;
+pub use mode::{ClientMode, ServerMode};
+pub use proxy::{CredentialsProxy, ProxyError};
+pub use public_key::{EndpointType, integer_decrement_le, integer_increment_le};
+pub use server::CredSspServer;
+pub use server_state::{ServerError, ServerState};
+pub use state::CredSspState;
+pub use table_proxy::TableProxy;

@@ -1,0 +1,270 @@
+ghost use Rattle.std.specs.Prelude.{◌≡◌, ◌≢◌, ◌≤◌, [], None, true, false, IsSome, IfErr, OnOk, OnErr};
+ghost use Rattle.sspi_types.specs.declared.credential_use.CredentialUse.TheVariants as purposes;
+ghost use Rattle.sspi_credssp.specs.Acts.{no_acts};
+ghost use Rattle.sspi_credssp.specs.Begun.{Begun, BeginCause, IfContext, MadeOr};
+ghost use Rattle.sspi_credssp.specs.Context.{either, ForServer};
+ghost use Rattle.sspi_credssp.specs.Counts.{IsUnusedIn};
+ghost use Rattle.sspi_credssp.specs.Stops.{StopsIf, differs};
+ghost use Rattle.sspi_credssp.specs.Turn.{AtNoted};
+
+use crate::acts::Acts;
+use crate::context::SspiContext;
+use crate::mode::ServerMode;
+use crate::proxy::CredentialsProxy;
+use crate::request::at_version;
+use crate::server_refusal::refusal;
+use crate::server_state::{ServerError, ServerState};
+use crate::state::CredSspState;
+use sspi_mech::Mechanism;
+use sspi_names::CredentialsBuffers;
+use sspi_tsreq::TsRequest;
+use sspi_types::{Bytes, CredentialUse, Error, ErrorKind, Reason};
+use std::alloc::Global;
+use std::marker::Model;
+
+/// The CredSSP server (MS-CSSP 3.1.5.2): it authenticates its client, checks that the client speaks over the channel of its
+/// own public key, proves the same, and reads the credentials that the client then delegates.
+#[derive(Drop)]
+pub struct CredSspServer<N, K, C> {
+    pub(crate) alloc: Global,
+    pub(crate) public_key: Bytes,
+    pub(crate) credentials: C,
+    pub(crate) ts_request_version: u32,
+    pub(crate) server_mode: ServerMode,
+    pub(crate) state: CredSspState,
+    pub(crate) context: Option<SspiContext<N, K>>,
+    pub(crate) credentials_handle: Option<CredentialsBuffers>,
+    pub(crate) peer_version: Option<u32>,
+    pub(crate) acts: Acts,
+    pub(crate) output: Bytes,
+}
+
+impl<N, K, C> Model for CredSspServer<N, K, C> {
+    ghost use Rattle.sspi_credssp.specs.declared.context.SspiContext.{SspiContext};
+    ghost use Rattle.sspi_credssp.specs.Server.{ServerView, IsOrderly};
+
+    ghost Value = { ServerView (SspiContext N K) C };
+
+    ghost view = { λ a. record {
+      public_key = a.public_key;
+      proxy = a.credentials;
+      version = a.ts_request_version;
+      mode = a.server_mode;
+      state = a.state;
+      context = a.context;
+      handle = a.credentials_handle;
+      noted = a.peer_version;
+      acts = a.acts;
+      output = a.output;
+    } };
+
+    ghost invariant = { λ a. IsOrderly a.context a.credentials_handle a.peer_version a.state };
+}
+
+impl<N, K, C> CredSspServer<N, K, C> {
+    ghost use Rattle.sspi_credssp.specs.Server.{IsFreshServer};
+
+    /// A server of version 6.
+    pub fn new(
+        alloc: Global,
+        public_key: Vec<u8>,
+        credentials: C,
+        client_mode: ServerMode,
+    ) -> CredSspServer<N, K, C>
+        ensures fresh { IsFreshServer result }
+        ensures values { (result.public_key ≡ public_key.items) × (result.proxy ≡ credentials) × (result.version ≡ 6) × (result.mode ≡ client_mode) }
+    {
+        CredSspServer::new_with_version(alloc, public_key, credentials, 6, client_mode)
+    }
+
+    /// A server of this version of CredSSP.
+    pub fn new_with_version(
+        alloc: Global,
+        public_key: Vec<u8>,
+        credentials: C,
+        ts_request_version: u32,
+        client_mode: ServerMode,
+    ) -> CredSspServer<N, K, C>
+        ensures fresh { IsFreshServer result }
+        ensures values { (result.public_key ≡ public_key.items) × (result.proxy ≡ credentials) × (result.version ≡ ts_request_version) × (result.mode ≡ client_mode) }
+    {
+        CredSspServer {
+            alloc,
+            public_key: Bytes::from_vec(public_key),
+            credentials,
+            ts_request_version,
+            server_mode: client_mode,
+            state: CredSspState::NegoToken,
+            context: None,
+            credentials_handle: None,
+            peer_version: None,
+            acts: Acts::none(),
+            output: Bytes::new(alloc),
+        }
+    }
+
+    /// What the last call did on the security context, also where it was refused.
+    pub fn last_acts(&self) -> Acts
+        ensures { result ≡ self.now.acts }
+    {
+        self.acts
+    }
+
+    /// The token that the context's step gave in the last call; empty where no step answered.
+    pub fn take_output(&mut self) -> Bytes
+        ensures output { result ≡ self.old.output }
+        ensures rest { self.new ≡ record self.old { output = [] } }
+    {
+        std::mem::replace(&mut self.output, Bytes::new(self.alloc))
+    }
+}
+
+impl<N: Mechanism, K: Mechanism, C: CredentialsProxy> CredSspServer<N, K, C> {
+    ghost use Rattle.sspi_credssp.specs.Server.{ServerView};
+    ghost use Rattle.sspi_credssp.specs.ServerCause.{ServerCause, StateCause};
+    ghost use Rattle.sspi_credssp.specs.ServerStep.{HasAcceptedTurn};
+    ghost use Rattle.sspi_credssp.specs.ServerTurn.{ServerGoes, IsReady, BeginRefused, noted_first};
+
+    /// Takes the client's message and makes the server's next one, or reads the credentials that end the exchange.
+    ///
+    /// Refused, in this order: with the kinds of a new context; `MessageAltered` where the client changes its version; in
+    /// the authentication with the kinds of the context, `LogonDenied` where the look-up of the peer failed, `NoCredentials`
+    /// where it found nobody, `InvalidToken` where the authentication ended with neither a token nor a proof,
+    /// `InternalError` at another status of the context; in an exchange `InvalidToken` where the proof is absent, the nonce
+    /// is absent from version 5 on or the proof is too short, `MessageAltered` where it is not the right one; where the
+    /// credentials are due, `InvalidToken` where they are absent or too short, and the kinds of reading them;
+    /// `UnsupportedFunction` once they were read; and want of memory. A refusal hands the request back with its code, and
+    /// keeps the state, the mode and the acquired credentials.
+    pub fn process(&mut self, ts_request: TsRequest) -> Result<ServerState, ServerError>
+        ensures turn { ServerGoes (either N.meaning K.meaning) self.old ts_request result self.new }
+        ensures step { HasAcceptedTurn (either N.meaning K.meaning) C.told self.old ts_request result self.new }
+        ensures cause { IfErr result (λ refusal. refusal.error.error_type ≢ ErrorKind.InsufficientMemory →
+            ServerCause (either N.meaning K.meaning) C.told C.faults self.old ts_request self.new refusal.error.error_type) }
+        ensures plain { IfErr result (λ refusal. refusal.error.nstatus ≡ None) }
+        ensures told { C.told self.new.proxy ≡ C.told self.old.proxy }
+        ensures failing { C.failing self.new.proxy ≡ C.failing self.old.proxy }
+        ensures faults { C.faults self.old.proxy ≤ C.faults self.new.proxy }
+        ensures calm { C.failing self.old.proxy ≡ Some [] → C.faults self.new.proxy ≡ C.faults self.old.proxy }
+    {
+        self.forget_last_call();
+        match self.begin(ts_request.version) {
+            Ok(()) => self.take(at_version(ts_request, self.ts_request_version)),
+            Err(error) => Err(refusal(self.state, ts_request, error)),
+        }
+    }
+
+    fn forget_last_call(&mut self)
+        ensures { self.new ≡ record self.old { acts = no_acts; output = [] } }
+    {
+        self.acts = Acts::none();
+        self.output = Bytes::new(self.alloc);
+    }
+
+    fn begin(&mut self, version: u32) -> Result<(), Error>
+        ensures frame { self.new ≡ record self.old { context = self.new.context; handle = self.new.handle; noted = self.new.noted } }
+        ensures ready { let c = either N.meaning K.meaning in OnOk result ((start : ServerView (SspiContext N K) C) (d : TsRequest) →
+            d.version ≡ version → self.old ≡ record start { acts = no_acts; output = [] } → IsReady c start d self.new) }
+        ensures begun { let c = either N.meaning K.meaning in OnOk result (IfContext self.new.context
+            (Begun c self.old.context self.old.handle (ForServer self.old.mode) purposes.Inbound None self.new.handle)) }
+        ensures passed { OnOk result ((differs self.old.noted version ≡ false) × IsSome self.new.context) }
+        ensures known { OnOk result (IsSome self.new.noted) }
+        ensures refused { OnErr result (BeginRefused (either N.meaning K.meaning) self.old version self.new) }
+        ensures cause { let c = either N.meaning K.meaning in IfErr result (λ error. error.error_type ≢ ErrorKind.InsufficientMemory →
+            MadeOr self.new.context (BeginCause c (ForServer self.old.mode) purposes.Inbound None error.error_type)
+            (StopsIf (differs self.old.noted version) ErrorKind.MessageAltered error.error_type ⊥)) }
+        ensures plain { IfErr result (λ error. error.nstatus ≡ None) }
+    {
+        match &self.context {
+            Some(_) => self.note_version(version),
+            None => match self.make_context() {
+                Ok(()) => self.note_version(version),
+                Err(error) => Err(error),
+            },
+        }
+    }
+
+    // The context and the credentials that it acquires are kept only together.
+    fn make_context(&mut self) -> Result<(), Error>
+        requires { self.old.context ≡ None }
+        ensures frame { self.new ≡ record self.old { context = self.new.context; handle = self.new.handle } }
+        ensures begun { let c = either N.meaning K.meaning in OnOk result (IfContext self.new.context
+            (Begun c self.old.context self.old.handle (ForServer self.old.mode) purposes.Inbound None self.new.handle)) }
+        ensures made { OnOk result (IsSome self.new.context) }
+        ensures unused { OnOk result (IsUnusedIn (either N.meaning K.meaning) self.new.context) }
+        ensures err { OnErr result (self.new ≡ self.old) }
+        ensures noted { self.old.noted ≡ None }
+        ensures state { self.old.state ≡ CredSspState.NegoToken }
+        ensures cause { let c = either N.meaning K.meaning in IfErr result (λ error. error.error_type ≢ ErrorKind.InsufficientMemory →
+            BeginCause c (ForServer self.old.mode) purposes.Inbound None error.error_type) }
+        ensures plain { IfErr result (λ error. error.nstatus ≡ None) }
+    {
+        let mut context = match SspiContext::new_server(self.alloc, &self.server_mode) {
+            Ok(context) => context,
+            Err(error) => return Err(error),
+        };
+        match context.acquire_credentials_handle(CredentialUse::Inbound, None) {
+            Ok(handle) => {
+                self.credentials_handle = handle;
+                self.context = Some(context);
+                Ok(())
+            }
+            Err(error) => Err(error),
+        }
+    }
+
+    fn note_version(&mut self, version: u32) -> Result<(), Error>
+        requires { IsSome self.old.context }
+        ensures ok { OnOk result (self.new ≡ record self.old { noted = noted_first self.old.noted version }) }
+        ensures fits { OnOk result (AtNoted self.new.noted (λ noted. version ≡ noted)) }
+        ensures passed { OnOk result (differs self.old.noted version ≡ false) }
+        ensures still { OnOk result (differs self.new.noted version ≡ false) }
+        ensures known { OnOk result (IsSome self.new.noted) }
+        ensures err { OnErr result (self.new ≡ self.old) }
+        ensures noted { OnErr result (self.new.noted ≡ noted_first self.old.noted version) }
+        ensures altered { OnErr result (differs self.old.noted version ≡ true) }
+        ensures kind { IfErr result (λ error. error.error_type ≡ ErrorKind.MessageAltered) }
+        ensures plain { IfErr result (λ error. error.nstatus ≡ None) }
+    {
+        match self.peer_version {
+            None => {
+                self.peer_version = Some(version);
+                Ok(())
+            }
+            Some(noted) if noted == version => Ok(()),
+            Some(_) => Err(Error::new(ErrorKind::MessageAltered, Reason::PeerVersion)),
+        }
+    }
+
+    // The turn, once the request's version was looked at.
+    fn take(&mut self, request: TsRequest) -> Result<ServerState, ServerError>
+        requires acts { self.old.acts ≡ no_acts }
+        requires begun { IsSome self.old.context }
+        requires noted { IsSome self.old.noted }
+        ensures turn { let c = either N.meaning K.meaning in (start : ServerView (SspiContext N K) C) (d : TsRequest) →
+            request ≡ record d { version = self.old.version } → IsReady c start d self.old → self.old.output ≡ [] →
+            ServerGoes c start d result self.new }
+        ensures step { let c = either N.meaning K.meaning in (start : ServerView (SspiContext N K) C) (d : TsRequest) →
+            d.nego_tokens ≡ request.nego_tokens → C.told start.proxy ≡ C.told self.old.proxy →
+            IfContext self.old.context (Begun c start.context start.handle (ForServer start.mode) purposes.Inbound None self.old.handle) →
+            HasAcceptedTurn c C.told start d result self.new }
+        ensures cause { IfErr result (λ refusal. refusal.error.error_type ≢ ErrorKind.InsufficientMemory →
+            StateCause (either N.meaning K.meaning) C.told C.faults self.old.state self.old.proxy request self.new refusal.error.error_type) }
+        ensures plain { IfErr result (λ refusal. refusal.error.nstatus ≡ None) }
+        ensures begun { IsSome self.new.context }
+        ensures told { C.told self.new.proxy ≡ C.told self.old.proxy }
+        ensures failing { C.failing self.new.proxy ≡ C.failing self.old.proxy }
+        ensures faults { C.faults self.old.proxy ≤ C.faults self.new.proxy }
+        ensures calm { C.failing self.old.proxy ≡ Some [] → C.faults self.new.proxy ≡ C.faults self.old.proxy }
+    {
+        match self.state {
+            CredSspState::NegoToken => self.negotiate(request),
+            CredSspState::PubKeyInfo => self.prove(request),
+            CredSspState::AuthInfo => self.finish(request),
+            CredSspState::Final => Err(refusal(
+                self.state,
+                request,
+                Error::new(ErrorKind::UnsupportedFunction, Reason::Sequence),
+            )),
+        }
+    }
+}

@@ -1,0 +1,247 @@
+// The server's turns past the authentication: the exchange of proofs, and the credentials.
+ghost use Rattle.std.specs.Prelude.{◌≡◌, ◌≢◌, ◌-◌, [], None, Some, true, false, nat_lt, IsSome, OnOk, OnErr, IfOk, IfErr};
+ghost use Rattle.sspi_mech.specs.Calls.{one_sealed, ToSeal};
+ghost use Rattle.sspi_credssp.specs.Acts.{no_acts};
+ghost use Rattle.sspi_credssp.specs.Context.{either};
+ghost use Rattle.sspi_credssp.specs.Exchange.{BlobStops, Exchanges, Opens, OpensIdentity};
+ghost use Rattle.sspi_credssp.specs.Requests.{nonce_of};
+ghost use Rattle.sspi_credssp.specs.ServerCause.{ProofCause, OpenedCause, lacks_nonce};
+ghost use Rattle.sspi_credssp.specs.ServerTurn.{HasNonce};
+
+use crate::acts::Acts;
+use crate::context::SspiContext;
+use crate::credentials::read_identity;
+use crate::proof::{altered, opens_to, sealed_blob};
+use crate::proxy::CredentialsProxy;
+use crate::public_key::{EndpointType, prescribed_proof};
+use crate::request::with_exchange;
+use crate::server::CredSspServer;
+use crate::server_refusal::refusal;
+use crate::server_state::{ServerError, ServerState};
+use crate::state::CredSspState;
+use sspi_mech::Mechanism;
+use sspi_names::AuthIdentity;
+use sspi_tsreq::TsRequest;
+use sspi_types::{Bytes, Error, ErrorKind, Reason};
+use std::alloc::Global;
+
+// The nonce that the proofs are made with, which must be there from version 5 on.
+fn nonce_for(version: u32, nonce: &Option<[u8; 32]>) -> Result<&[u8], Error>
+    ensures ok { IfOk result (λ bytes. bytes.now ≡ nonce_of nonce.now) }
+    ensures there { OnOk result (HasNonce (nat_lt version 5) nonce.now) }
+    ensures passed { OnOk result (lacks_nonce (nat_lt version 5) nonce.now ≡ false) }
+    ensures lacking { OnErr result (lacks_nonce (nat_lt version 5) nonce.now ≡ true) }
+    ensures kind { IfErr result (λ error. error.error_type ≡ ErrorKind.InvalidToken) }
+    ensures plain { IfErr result (λ error. error.nstatus ≡ None) }
+{
+    match nonce {
+        Some(nonce) => Ok(nonce),
+        None if version < 5 => Ok(&[]),
+        None => Err(Error::new(ErrorKind::InvalidToken, Reason::NoNonce)),
+    }
+}
+
+fn seal_proof<N: Mechanism, K: Mechanism>(
+    context: &mut SspiContext<N, K>,
+    acts: &mut Acts,
+    proof: &[u8],
+) -> Result<Bytes, Error>
+    ensures blob { let c = either N.meaning K.meaning in IfOk result (λ blob.
+        c.seals context.new ((c.counts context.new).sealed - 1) proof.now blob) }
+    ensures acts { OnOk result (acts.new ≡ record acts.old { proved = true }) }
+    ensures ok { let c = either N.meaning K.meaning in OnOk result (context.new ≡ c.counted context.old (one_sealed (c.counts context.old))) }
+    ensures count { let c = either N.meaning K.meaning in OnOk result (c.counts context.new ≡ one_sealed (c.counts context.old)) }
+    ensures err { OnErr result (context.new ≡ context.old) }
+    ensures err_acts { OnErr result (acts.new ≡ acts.old) }
+    ensures plain { IfErr result (λ error. error.nstatus ≡ None) }
+    ensures cause { IfErr result (λ error. error.error_type ≢ ErrorKind.InsufficientMemory →
+        (either N.meaning K.meaning).refuses context.new (ToSeal proof.now) error.error_type) }
+{
+    match context.seal(proof) {
+        Ok(blob) => {
+            acts.proved = true;
+            Ok(Bytes::from_vec(blob))
+        }
+        Err(error) => Err(error),
+    }
+}
+
+// Opens the client's proof, and seals the server's if it is the one that the client owes.
+fn answer_proof<N: Mechanism, K: Mechanism>(
+    context: &mut SspiContext<N, K>,
+    acts: &mut Acts,
+    blob: &[u8],
+    expected: &[u8],
+    proof: &[u8],
+    version: u32,
+) -> Result<Bytes, Error>
+    requires checked { acts.old.checked ≡ false }
+    requires proved { acts.old.proved ≡ false }
+    ensures exchanges { Exchanges (either N.meaning K.meaning) context.old blob.now expected.now context.new acts.new }
+    ensures acts { acts.new ≡ record acts.old { checked = acts.new.checked; proved = acts.new.proved } }
+    ensures ok { OnOk result (acts.new ≡ record acts.old { checked = true; proved = true }) }
+    ensures blob { let c = either N.meaning K.meaning in IfOk result (λ answer.
+        c.seals context.new ((c.counts context.new).sealed - 1) proof.now answer) }
+    ensures plain { IfErr result (λ error. error.nstatus ≡ None) }
+    ensures cause { IfErr result (λ error. error.error_type ≢ ErrorKind.InsufficientMemory → ProofCause (either N.meaning K.meaning)
+        acts.new.checked context.new blob.now expected.now proof.now error.error_type) }
+{
+    match opens_to(context, acts, blob, expected) {
+        Ok(true) => seal_proof(context, acts, proof),
+        Ok(false) => Err(altered(version)),
+        Err(error) => Err(error),
+    }
+}
+
+fn open_credentials<N: Mechanism, K: Mechanism>(
+    alloc: Global,
+    context: &mut SspiContext<N, K>,
+    acts: &mut Acts,
+    blob: &[u8],
+) -> Result<AuthIdentity, Error>
+    requires { acts.old.opened ≡ false }
+    ensures opens { Opens (either N.meaning K.meaning) context.old context.new acts.old acts.new }
+    ensures ok { OnOk result (acts.new.opened ≡ true) }
+    ensures gives { IfOk result (λ identity. OpensIdentity (either N.meaning K.meaning) context.new blob.now identity) }
+    ensures plain { IfErr result (λ error. error.nstatus ≡ None) }
+    ensures cause { IfErr result (λ error. error.error_type ≢ ErrorKind.InsufficientMemory →
+        OpenedCause (either N.meaning K.meaning) acts.new.opened (Some context.new) blob.now error.error_type) }
+{
+    match context.unseal(blob) {
+        Ok(text) => {
+            acts.opened = true;
+            match read_identity(alloc, &text) {
+                Ok(identity) => Ok(identity),
+                Err(error) => Err(error),
+            }
+        }
+        Err(error) => Err(error),
+    }
+}
+
+impl<N: Mechanism, K: Mechanism, C: CredentialsProxy> CredSspServer<N, K, C> {
+    ghost use Rattle.sspi_credssp.specs.Server.{ServerView};
+    ghost use Rattle.sspi_credssp.specs.ServerCause.{ExchangeCause};
+    ghost use Rattle.sspi_credssp.specs.ServerTurn.{ServerGoes, ServerExchanges, ServerOpens, IsReady};
+
+    pub(crate) fn prove(&mut self, request: TsRequest) -> Result<ServerState, ServerError>
+        requires acts { self.old.acts ≡ no_acts }
+        requires begun { IsSome self.old.context }
+        requires noted { IsSome self.old.noted }
+        ensures turn { let c = either N.meaning K.meaning in (start : ServerView (SspiContext N K) C) (d : TsRequest) →
+            request ≡ record d { version = self.old.version } → IsReady c start d self.old → self.old.state ≡ CredSspState.PubKeyInfo →
+            self.old.output ≡ [] → ServerGoes c start d result self.new }
+        ensures cause { IfErr result (λ refusal. refusal.error.error_type ≢ ErrorKind.InsufficientMemory →
+            ExchangeCause (either N.meaning K.meaning) request.pub_key_auth self.new.noted request.client_nonce self.new refusal.error.error_type) }
+        ensures plain { IfErr result (λ refusal. refusal.error.nstatus ≡ None) }
+        ensures acts { (self.new.acts.status ≡ None) × (self.new.acts.negotiated ≡ false) }
+        ensures begun { IsSome self.new.context }
+        ensures proxy { self.new.proxy ≡ self.old.proxy }
+    {
+        match self.exchange(&request) {
+            Ok(proof) => {
+                self.state = CredSspState::AuthInfo;
+                Ok(ServerState::ReplyNeeded(with_exchange(request, proof)))
+            }
+            Err(error) => Err(refusal(self.state, request, error)),
+        }
+    }
+
+    pub(crate) fn finish(&mut self, request: TsRequest) -> Result<ServerState, ServerError>
+        requires acts { self.old.acts ≡ no_acts }
+        requires begun { IsSome self.old.context }
+        ensures turn { let c = either N.meaning K.meaning in (start : ServerView (SspiContext N K) C) (d : TsRequest) →
+            request ≡ record d { version = self.old.version } → IsReady c start d self.old → self.old.state ≡ CredSspState.AuthInfo →
+            self.old.output ≡ [] → ServerGoes c start d result self.new }
+        ensures cause { let c = either N.meaning K.meaning in IfErr result (λ refusal. refusal.error.error_type ≢ ErrorKind.InsufficientMemory →
+            BlobStops request.auth_info refusal.error.error_type
+            (λ blob. OpenedCause c self.new.acts.opened self.new.context blob refusal.error.error_type)) }
+        ensures plain { IfErr result (λ refusal. refusal.error.nstatus ≡ None) }
+        ensures acts { (self.new.acts.status ≡ None) × (self.new.acts.negotiated ≡ false) }
+        ensures begun { IsSome self.new.context }
+        ensures proxy { self.new.proxy ≡ self.old.proxy }
+    {
+        match self.open(&request.auth_info) {
+            Ok(identity) => {
+                self.state = CredSspState::Final;
+                Ok(ServerState::Finished(identity))
+            }
+            Err(error) => Err(refusal(self.state, request, error)),
+        }
+    }
+
+    fn open(&mut self, auth_info: &Option<Bytes>) -> Result<AuthIdentity, Error>
+        requires acts { self.old.acts ≡ no_acts }
+        requires begun { IsSome self.old.context }
+        ensures opens { ServerOpens (either N.meaning K.meaning) self.old auth_info.now result self.new }
+        ensures cause { let c = either N.meaning K.meaning in IfErr result (λ error. error.error_type ≢ ErrorKind.InsufficientMemory →
+            BlobStops auth_info.now error.error_type (λ blob. OpenedCause c self.new.acts.opened self.new.context blob error.error_type)) }
+        ensures plain { IfErr result (λ error. error.nstatus ≡ None) }
+        ensures begun { IsSome self.new.context }
+    {
+        let blob = match sealed_blob(auth_info, Reason::NoAuthInfo) {
+            Ok(blob) => blob,
+            Err(error) => return Err(error),
+        };
+        let Some(context) = &mut self.context else {
+            return Err(Error::new(ErrorKind::InternalError, Reason::NoVersion));
+        };
+        open_credentials(self.alloc, context, &mut self.acts, blob)
+    }
+
+    // Checks the client's proof and seals the server's.
+    pub(crate) fn exchange(&mut self, request: &TsRequest) -> Result<Bytes, Error>
+        requires checked { self.old.acts.checked ≡ false }
+        requires proved { self.old.acts.proved ≡ false }
+        requires begun { IsSome self.old.context }
+        requires noted { IsSome self.old.noted }
+        ensures exchanges { ServerExchanges (either N.meaning K.meaning) self.old request.now result self.new }
+        ensures cause { IfErr result (λ error. error.error_type ≢ ErrorKind.InsufficientMemory →
+            ExchangeCause (either N.meaning K.meaning) request.now.pub_key_auth self.new.noted request.now.client_nonce self.new error.error_type) }
+        ensures plain { IfErr result (λ error. error.nstatus ≡ None) }
+        ensures begun { IsSome self.new.context }
+    {
+        let Some(version) = self.peer_version else {
+            return Err(Error::new(ErrorKind::InternalError, Reason::NoVersion));
+        };
+        let Some(context) = &mut self.context else {
+            return Err(Error::new(ErrorKind::InternalError, Reason::NoVersion));
+        };
+        let Some(blob) = &request.pub_key_auth else {
+            return Err(Error::new(ErrorKind::InvalidToken, Reason::NoPubKey));
+        };
+        let nonce = match nonce_for(version, &request.client_nonce) {
+            Ok(nonce) => nonce,
+            Err(error) => return Err(error),
+        };
+        if blob.len() < 16 {
+            return Err(Error::new(ErrorKind::InvalidToken, Reason::ShortBlob));
+        }
+        let key = self.public_key.as_slice();
+        let expected = match prescribed_proof(
+            self.alloc,
+            EndpointType::Client,
+            version,
+            nonce,
+            key,
+        ) {
+            Ok(proof) => proof,
+            Err(error) => return Err(Error::from(error)),
+        };
+        let proof = match prescribed_proof(self.alloc, EndpointType::Server, version, nonce, key) {
+            Ok(proof) => proof,
+            Err(error) => return Err(Error::from(error)),
+        };
+        match answer_proof(
+            context,
+            &mut self.acts,
+            blob.as_slice(),
+            expected.as_slice(),
+            proof.as_slice(),
+            version,
+        ) {
+            Ok(answer) => Ok(answer),
+            Err(error) => Err(error),
+        }
+    }
+}

@@ -1,0 +1,360 @@
+// The server's turns of the authentication (NegoToken).
+ghost use Rattle.std.specs.Prelude.{ℕ, List, Option, Result, Ok, ◌≡◌, ◌≢◌, ◌≤◌, [], map, None, Some, true, false, IsSome, IsTrue, OnOk, OnErr, IfOk, IfErr};
+ghost use Rattle.sspi_names.specs.declared.credentials.Credentials.TheVariants as credentials;
+ghost use Rattle.sspi_mech.specs.Calls.{ToName};
+ghost use Rattle.sspi_credssp.specs.Acts.{no_acts};
+ghost use Rattle.sspi_types.specs.declared.credential_use.CredentialUse.TheVariants as purposes;
+ghost use Rattle.sspi_credssp.specs.Begun.{Begun, IfContext};
+ghost use Rattle.sspi_credssp.specs.Context.{either, ForServer};
+ghost use Rattle.sspi_credssp.specs.Counts.{SameBut, IsUnusedIn};
+ghost use Rattle.sspi_credssp.specs.Proxy.{counted_on, AreCandidates};
+ghost use Rattle.sspi_credssp.specs.ServerCause.{IdentifyCause, LookUpRefused};
+ghost use Rattle.sspi_credssp.specs.ServerTurn.{IsOver, answered_by};
+ghost use Rattle.sspi_credssp.specs.ServerStep.{IsIdentified, server_requirements, server_args};
+
+use crate::context::SspiContext;
+use crate::proxy::{CredentialsProxy, ProxyError};
+use crate::request::{with_exchange, with_tokens};
+use crate::server::CredSspServer;
+use crate::server_refusal::refusal;
+use crate::server_state::{ServerError, ServerState};
+use crate::state::CredSspState;
+use crate::token::token_of;
+use bitflags::Flags;
+use sspi_mech::{AcceptSecurityContext, Mechanism, Step};
+use sspi_names::{AuthIdentity, Credentials, CredentialsBuffers, Username};
+use sspi_tsreq::TsRequest;
+use sspi_types::{
+    Bytes, DataRepresentation, Error, ErrorKind, Reason, SecurityStatus, ServerRequestFlags,
+};
+use std::alloc::Global;
+
+// What goes back to the client.
+#[derive(Drop)]
+pub enum Answer {
+    Token(Bytes),
+    Proof(Bytes),
+}
+
+fn with_answer(request: TsRequest, answer: Answer) -> TsRequest
+    ensures { result ≡ answered_by request answer }
+{
+    match answer {
+        Answer::Token(token) => with_tokens(request, Some(token)),
+        Answer::Proof(proof) => with_exchange(request, proof),
+    }
+}
+
+fn server_requirements() -> ServerRequestFlags
+    ensures { result ≡ server_requirements }
+{
+    ServerRequestFlags::empty()
+}
+
+fn accept<N: Mechanism, K: Mechanism>(
+    context: &mut SspiContext<N, K>,
+    credentials_handle: &Option<CredentialsBuffers>,
+    token: &Option<Bytes>,
+) -> Result<Step, Error>
+    ensures step { (either N.meaning K.meaning).accepts context.old (server_args credentials_handle.now token.now) result context.new }
+    ensures plain { IfErr result (λ error. error.nstatus ≡ None) }
+{
+    context.accept_security_context(&AcceptSecurityContext {
+        credentials_handle: credentials_handle.as_ref(),
+        context_requirements: server_requirements(),
+        target_data_representation: DataRepresentation::Native,
+        input: token_of(token),
+    })
+}
+
+fn has_ended(status: SecurityStatus) -> bool
+    ensures ended { IsTrue result → IsOver (Some status) }
+    ensures going { result ≡ false → status ≢ SecurityStatus.Ok }
+    ensures on { result ≡ false → status ≢ SecurityStatus.CompleteNeeded }
+{
+    status == SecurityStatus::Ok || status == SecurityStatus::CompleteNeeded
+}
+
+// The identities that the peer of this name may have; at least one.
+#[tactic(auto, using(crate::proofs::Proxies::calm_look_up))]
+fn look_up<C: CredentialsProxy>(
+    proxy: &mut C,
+    username: &Username,
+) -> Result<Vec<AuthIdentity>, Error>
+    ensures found { IfOk result (λ identities. AreCandidates (C.told proxy.old) username.now identities.items) }
+    ensures told { C.told proxy.new ≡ C.told proxy.old }
+    ensures failing { C.failing proxy.new ≡ C.failing proxy.old }
+    ensures faults { C.faults proxy.old ≤ C.faults proxy.new }
+    ensures calm { C.failing proxy.old ≡ Some [] → C.faults proxy.new ≡ C.faults proxy.old }
+    ensures plain { IfErr result (λ error. error.nstatus ≡ None) }
+    ensures cause { IfErr result (λ error. error.error_type ≢ ErrorKind.InsufficientMemory →
+        LookUpRefused (C.told proxy.old) username.now (C.faults proxy.old) (C.faults proxy.new) error.error_type) }
+{
+    match proxy.auth_data_candidates_by_user(username) {
+        Ok(candidates) => some_of(candidates),
+        Err(ProxyError::InsufficientMemory) => {
+            Err(Error::new(ErrorKind::InsufficientMemory, Reason::Memory))
+        }
+        Err(ProxyError::NotFound) => Err(Error::new(ErrorKind::LogonDenied, Reason::Proxy)),
+        Err(ProxyError::Failed) => Err(Error::new(ErrorKind::LogonDenied, Reason::Proxy)),
+    }
+}
+
+fn some_of(candidates: Vec<AuthIdentity>) -> Result<Vec<AuthIdentity>, Error>
+    ensures ok { IfOk result (λ identities. identities.items ≡ candidates.items) }
+    ensures err { OnErr result (candidates.items ≡ []) }
+    ensures kind { IfErr result (λ error. error.error_type ≡ ErrorKind.NoCredentials) }
+    ensures plain { IfErr result (λ error. error.nstatus ≡ None) }
+{
+    if candidates.is_empty() {
+        return Err(Error::new(ErrorKind::NoCredentials, Reason::NoIdentity));
+    }
+    Ok(candidates)
+}
+
+fn credentials_of(alloc: Global, identities: Vec<AuthIdentity>) -> Result<Vec<Credentials>, Error>
+    ensures ok { IfOk result (λ all. all.items ≡ map credentials.AuthIdentity identities.items) }
+    ensures err { IfErr result (λ error. error.error_type ≡ ErrorKind.InsufficientMemory) }
+    ensures plain { IfErr result (λ error. error.nstatus ≡ None) }
+{
+    match identities
+        .into_iter()
+        .map(|identity| Credentials::AuthIdentity(identity))
+        .collect(alloc)
+    {
+        Ok(all) => Ok(all),
+        Err(error) => Err(Error::from(error)),
+    }
+}
+
+// Names the peer, looks its identities up and hands them to the context.
+fn identify<N: Mechanism, K: Mechanism, C: CredentialsProxy>(
+    alloc: Global,
+    context: &mut SspiContext<N, K>,
+    proxy: &mut C,
+) -> Result<(), Error>
+    ensures identified { OnOk result (IsIdentified (either N.meaning K.meaning) (C.told proxy.old) context.old context.new) }
+    ensures counts { let c = either N.meaning K.meaning in c.counts context.new ≡ c.counts context.old }
+    ensures err { OnErr result (context.new ≡ context.old) }
+    ensures told { C.told proxy.new ≡ C.told proxy.old }
+    ensures failing { C.failing proxy.new ≡ C.failing proxy.old }
+    ensures faults { C.faults proxy.old ≤ C.faults proxy.new }
+    ensures calm { C.failing proxy.old ≡ Some [] → C.faults proxy.new ≡ C.faults proxy.old }
+    ensures plain { IfErr result (λ error. error.nstatus ≡ None) }
+    ensures cause { IfErr result (λ error. error.error_type ≢ ErrorKind.InsufficientMemory → IdentifyCause (either N.meaning K.meaning)
+        context.old (C.told proxy.old) (C.faults proxy.old) (C.faults proxy.new) error.error_type) }
+{
+    let names = match context.query_context_names() {
+        Ok(names) => names,
+        Err(error) => return Err(error),
+    };
+    let candidates = match look_up(proxy, &names.username) {
+        Ok(candidates) => candidates,
+        Err(error) => return Err(error),
+    };
+    let identities = match credentials_of(alloc, candidates) {
+        Ok(identities) => identities,
+        Err(error) => return Err(error),
+    };
+    match context.custom_set_auth_identities(identities) {
+        Ok(()) => Ok(()),
+        Err(error) => Err(error),
+    }
+}
+
+impl<N: Mechanism, K: Mechanism, C: CredentialsProxy> CredSspServer<N, K, C> {
+    ghost use Rattle.sspi_credssp.specs.Server.{ServerView};
+    ghost use Rattle.sspi_credssp.specs.ServerCause.{NegoCause, OverCause, AfterCause};
+    ghost use Rattle.sspi_credssp.specs.ServerStep.{Unknown, Accepted, CompletedStep, HasAccepted, HasAcceptedTurn};
+    ghost use Rattle.sspi_credssp.specs.ServerTurn.{ServerGoes, Answered, IsReady};
+
+    pub(crate) fn negotiate(&mut self, request: TsRequest) -> Result<ServerState, ServerError>
+        requires acts { self.old.acts ≡ no_acts }
+        requires begun { IsSome self.old.context }
+        requires noted { IsSome self.old.noted }
+        ensures turn { let c = either N.meaning K.meaning in (start : ServerView (SspiContext N K) C) (d : TsRequest) →
+            request ≡ record d { version = self.old.version } → IsReady c start d self.old → self.old.state ≡ CredSspState.NegoToken →
+            self.old.output ≡ [] → ServerGoes c start d result self.new }
+        ensures step { let c = either N.meaning K.meaning in (start : ServerView (SspiContext N K) C) (d : TsRequest) →
+            d.nego_tokens ≡ request.nego_tokens → C.told start.proxy ≡ C.told self.old.proxy →
+            IfContext self.old.context (Begun c start.context start.handle (ForServer start.mode) purposes.Inbound None self.old.handle) →
+            HasAcceptedTurn c C.told start d result self.new }
+        ensures cause { IfErr result (λ refusal. refusal.error.error_type ≢ ErrorKind.InsufficientMemory →
+            NegoCause (either N.meaning K.meaning) C.told C.faults self.new.acts.status self.old.proxy request.pub_key_auth request.client_nonce self.new refusal.error.error_type) }
+        ensures plain { IfErr result (λ refusal. refusal.error.nstatus ≡ None) }
+        ensures begun { IsSome self.new.context }
+        ensures told { C.told self.new.proxy ≡ C.told self.old.proxy }
+        ensures failing { C.failing self.new.proxy ≡ C.failing self.old.proxy }
+        ensures faults { C.faults self.old.proxy ≤ C.faults self.new.proxy }
+        ensures calm { C.failing self.old.proxy ≡ Some [] → C.faults self.new.proxy ≡ C.faults self.old.proxy }
+    {
+        match self.answer(&request) {
+            Ok(answer) => Ok(ServerState::ReplyNeeded(with_answer(request, answer))),
+            Err(error) => Err(refusal(self.state, request, error)),
+        }
+    }
+
+    fn answer(&mut self, request: &TsRequest) -> Result<Answer, Error>
+        requires acts { self.old.acts ≡ no_acts }
+        requires begun { IsSome self.old.context }
+        requires noted { IsSome self.old.noted }
+        ensures turn { let c = either N.meaning K.meaning in (start : ServerView (SspiContext N K) C) (d : TsRequest) →
+            request.now ≡ record d { version = self.old.version } → IsReady c start d self.old → self.old.state ≡ CredSspState.NegoToken →
+            self.old.output ≡ [] → Answered c start d result self.new }
+        ensures step { let c = either N.meaning K.meaning in (start : ServerView (SspiContext N K) C) (d : TsRequest) →
+            d.nego_tokens ≡ request.now.nego_tokens → C.told start.proxy ≡ C.told self.old.proxy →
+            IfContext self.old.context (Begun c start.context start.handle (ForServer start.mode) purposes.Inbound None self.old.handle) →
+            HasAccepted c C.told start d result self.new }
+        ensures state { OnErr result (self.new.state ≡ self.old.state) }
+        ensures version { self.new.version ≡ self.old.version }
+        ensures cause { IfErr result (λ error. error.error_type ≢ ErrorKind.InsufficientMemory →
+            NegoCause (either N.meaning K.meaning) C.told C.faults self.new.acts.status self.old.proxy request.now.pub_key_auth request.now.client_nonce self.new error.error_type) }
+        ensures plain { IfErr result (λ error. error.nstatus ≡ None) }
+        ensures begun { IsSome self.new.context }
+        ensures told { C.told self.new.proxy ≡ C.told self.old.proxy }
+        ensures failing { C.failing self.new.proxy ≡ C.failing self.old.proxy }
+        ensures faults { C.faults self.old.proxy ≤ C.faults self.new.proxy }
+        ensures calm { C.failing self.old.proxy ≡ Some [] → C.faults self.new.proxy ≡ C.faults self.old.proxy }
+    {
+        self.acts.negotiated = true;
+        let Some(context) = &mut self.context else {
+            return Err(Error::new(ErrorKind::InternalError, Reason::Status));
+        };
+        match accept(context, &self.credentials_handle, &request.nego_tokens) {
+            Ok(step) => {
+                self.acts.status = Some(step.status);
+                self.output = step.output;
+                self.answer_step(step.status, request)
+            }
+            Err(error) => Err(error),
+        }
+    }
+
+    fn answer_step(&mut self, status: SecurityStatus, request: &TsRequest) -> Result<Answer, Error>
+        requires acts { self.old.acts ≡ record no_acts { negotiated = true; status = Some status } }
+        requires begun { IsSome self.old.context }
+        requires noted { IsSome self.old.noted }
+        ensures turn { let c = either N.meaning K.meaning in (start : ServerView (SspiContext N K) C) (d : TsRequest) →
+            request.now ≡ record d { version = self.old.version } → IsReady c start d self.old → self.old.state ≡ CredSspState.NegoToken →
+            Answered c start d result self.new }
+        ensures step { let c = either N.meaning K.meaning in (start : ServerView (SspiContext N K) C) (d : TsRequest) →
+            C.told start.proxy ≡ C.told self.old.proxy →
+            IfContext self.old.context (Accepted c C.told start self.old.handle d.nego_tokens Unknown
+            (Ok (record { status = status; output = self.old.output }))) →
+            HasAccepted c C.told start d result self.new }
+        ensures state { OnErr result (self.new.state ≡ self.old.state) }
+        ensures version { self.new.version ≡ self.old.version }
+        ensures status { self.new.acts.status ≡ Some status }
+        ensures cause { IfErr result (λ error. error.error_type ≢ ErrorKind.InsufficientMemory →
+            NegoCause (either N.meaning K.meaning) C.told C.faults (Some status) self.old.proxy request.now.pub_key_auth request.now.client_nonce self.new error.error_type) }
+        ensures plain { IfErr result (λ error. error.nstatus ≡ None) }
+        ensures begun { IsSome self.new.context }
+        ensures told { C.told self.new.proxy ≡ C.told self.old.proxy }
+        ensures failing { C.failing self.new.proxy ≡ C.failing self.old.proxy }
+        ensures faults { C.faults self.old.proxy ≤ C.faults self.new.proxy }
+        ensures calm { C.failing self.old.proxy ≡ Some [] → C.faults self.new.proxy ≡ C.faults self.old.proxy }
+    {
+        if status == SecurityStatus::ContinueNeeded {
+            return match self.copy_output() {
+                Ok(token) => Ok(Answer::Token(token)),
+                Err(error) => Err(error),
+            };
+        }
+        if has_ended(status) {
+            return self.complete(request);
+        }
+        Err(Error::new(ErrorKind::InternalError, Reason::Status))
+    }
+
+    fn copy_output(&self) -> Result<Bytes, Error>
+        ensures ok { IfOk result (λ token. token ≡ self.now.output) }
+        ensures err { IfErr result (λ error. error.error_type ≡ ErrorKind.InsufficientMemory) }
+        ensures plain { IfErr result (λ error. error.nstatus ≡ None) }
+    {
+        match self.output.clone(self.alloc) {
+            Ok(token) => Ok(token),
+            Err(error) => Err(Error::from(error)),
+        }
+    }
+
+    // The authentication has ended: the peer is looked up and the context completed, and then the client is answered.
+    fn complete(&mut self, request: &TsRequest) -> Result<Answer, Error>
+        requires acts { self.old.acts ≡ record no_acts { negotiated = true; status = self.old.acts.status } }
+        requires begun { IsSome self.old.context }
+        requires noted { IsSome self.old.noted }
+        ensures turn { let c = either N.meaning K.meaning in (start : ServerView (SspiContext N K) C) (d : TsRequest) →
+            request.now ≡ record d { version = self.old.version } → IsReady c start d self.old → self.old.state ≡ CredSspState.NegoToken →
+            IsOver self.old.acts.status → Answered c start d result self.new }
+        ensures step { let c = either N.meaning K.meaning in (start : ServerView (SspiContext N K) C) (token : Option (List ℕ)) (answer : Result Step Error) →
+            C.told start.proxy ≡ C.told self.old.proxy →
+            IfContext self.old.context (Accepted c C.told start self.old.handle token Unknown answer) →
+            CompletedStep c C.told start self.old.handle token answer result self.new.context }
+        ensures handle { self.new.handle ≡ self.old.handle }
+        ensures output { self.new.output ≡ self.old.output }
+        ensures negotiated { self.new.acts.negotiated ≡ true }
+        ensures state { OnErr result (self.new.state ≡ self.old.state) }
+        ensures version { self.new.version ≡ self.old.version }
+        ensures status { self.new.acts.status ≡ self.old.acts.status }
+        ensures cause { IfErr result (λ error. error.error_type ≢ ErrorKind.InsufficientMemory →
+            OverCause (either N.meaning K.meaning) C.told C.faults self.old.proxy request.now.pub_key_auth request.now.client_nonce self.new error.error_type) }
+        ensures plain { IfErr result (λ error. error.nstatus ≡ None) }
+        ensures begun { IsSome self.new.context }
+        ensures told { C.told self.new.proxy ≡ C.told self.old.proxy }
+        ensures failing { C.failing self.new.proxy ≡ C.failing self.old.proxy }
+        ensures faults { C.faults self.old.proxy ≤ C.faults self.new.proxy }
+        ensures calm { C.failing self.old.proxy ≡ Some [] → C.faults self.new.proxy ≡ C.faults self.old.proxy }
+    {
+        let Some(context) = &mut self.context else {
+            return Err(Error::new(ErrorKind::InternalError, Reason::Status));
+        };
+        match identify(self.alloc, context, &mut self.credentials) {
+            Ok(()) => {}
+            Err(error) => return Err(error),
+        }
+        match context.complete_auth_token() {
+            Ok(_) => self.answer_peer(request),
+            Err(error) => Err(error),
+        }
+    }
+
+    // Answers the proof that came already, or asks for it by the last token.
+    fn answer_peer(&mut self, request: &TsRequest) -> Result<Answer, Error>
+        requires acts { self.old.acts ≡ record no_acts { negotiated = true; status = self.old.acts.status } }
+        requires begun { IsSome self.old.context }
+        requires noted { IsSome self.old.noted }
+        ensures turn { let c = either N.meaning K.meaning in (start : ServerView (SspiContext N K) C) (d : TsRequest) →
+            request.now ≡ record d { version = self.old.version } → IsReady c start d self.old → self.old.state ≡ CredSspState.NegoToken →
+            IsOver self.old.acts.status → Answered c start d result self.new }
+        ensures frame { self.new ≡ record self.old { state = self.new.state; context = self.new.context; acts = self.new.acts } }
+        ensures moved { SameBut (either N.meaning K.meaning) self.old.context self.new.context }
+        ensures state { OnErr result (self.new.state ≡ self.old.state) }
+        ensures status { self.new.acts.status ≡ self.old.acts.status }
+        ensures negotiated { self.new.acts.negotiated ≡ true }
+        ensures cause { IfErr result (λ error. error.error_type ≢ ErrorKind.InsufficientMemory →
+            AfterCause (either N.meaning K.meaning) request.now.pub_key_auth request.now.client_nonce self.new error.error_type) }
+        ensures plain { IfErr result (λ error. error.nstatus ≡ None) }
+        ensures begun { IsSome self.new.context }
+    {
+        match &request.pub_key_auth {
+            Some(_) => match self.exchange(request) {
+                Ok(proof) => {
+                    self.state = CredSspState::AuthInfo;
+                    Ok(Answer::Proof(proof))
+                }
+                Err(error) => Err(error),
+            },
+            None => {
+                if self.output.is_empty() {
+                    return Err(Error::new(ErrorKind::InvalidToken, Reason::EmptyToken));
+                }
+                match self.copy_output() {
+                    Ok(token) => {
+                        self.state = CredSspState::PubKeyInfo;
+                        Ok(Answer::Token(token))
+                    }
+                    Err(error) => Err(error),
+                }
+            }
+        }
+    }
+}

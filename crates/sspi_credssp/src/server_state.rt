@@ -1,0 +1,20 @@
+use sspi_names::AuthIdentity;
+use sspi_tsreq::TsRequest;
+use sspi_types::Error;
+
+/// What a server's turn ends in.
+#[derive(Drop)]
+pub enum ServerState {
+    /// A message for the client, whose reply the server waits for.
+    ReplyNeeded(TsRequest),
+    /// The credentials that the client delegated.
+    Finished(AuthIdentity),
+}
+
+/// A server's refusal, with the message that tells the client.
+#[derive(Drop)]
+pub struct ServerError {
+    /// The request with the error code; always there.
+    pub ts_request: Option<TsRequest>,
+    pub error: Error,
+}

@@ -1,0 +1,7 @@
+mod asks;
+mod client_refusals;
+mod delegation;
+mod ends;
+mod server_refusals;
+mod suspension;
+mod values;
