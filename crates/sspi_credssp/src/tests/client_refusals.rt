@@ -1,11 +1,11 @@
 use crate::tests::ends::{
-    client, concludes, is_refusal, octets, read, refuses, replies, text_of, with_proof, with_token,
+    client, concludes, read, refuses, replies, text_of, with_proof, with_token,
 };
 use crate::tests::values::{
     CHALLENGE, CLIENT_PROOF_BY_SERVER, CUT_PROOF_BY_SERVER, FOURTH, THIRD, THIRD_PROOF_BY_SERVER,
 };
 use crate::{Acts, CredSspClient, CredSspState};
-use sspi_mech::{Ntlm, Reply};
+use sspi_mech::Ntlm;
 use sspi_tsreq::TsRequest;
 use sspi_types::{Error, ErrorKind, NStatusCode, Reason};
 use std::alloc::Global;
@@ -36,54 +36,6 @@ fn refuses_version(client: &mut Client, request: TsRequest, version: u32) -> boo
         ErrorKind::MessageAltered,
         Reason::PeerVersion,
     ) && client.last_acts() == Acts::none()
-}
-
-fn refuses_resuming(client: &mut Client) -> bool {
-    let resumed = client.resume(&Reply::Failed);
-    is_refusal(resumed, ErrorKind::OutOfSequence, Reason::Sequence)
-}
-
-/// This request with a code of success and a field that no step of the authentication sets.
-fn filled(alloc: Global, request: TsRequest) -> Result<TsRequest, Fail> {
-    let mut request = request;
-    request.error_code = Some(NStatusCode::SUCCESS);
-    request.auth_info = octets(alloc, b"info")?;
-    Ok(request)
-}
-
-fn refuses_in_the_authentication(
-    rt: &impl Abort,
-    alloc: Global,
-    client: &mut Client,
-) -> Result<(), Fail> {
-    assert!(rt; tells_code(client, TsRequest::default()) && client.context.is_none());
-    assert!(rt; refuses_resuming(client));
-    let mut first = TsRequest::default();
-    first.version = 3;
-    let first = replies(client, first)?;
-    assert!(rt; first.version == 6);
-    assert!(rt; tells_code(client, with_token(alloc, &CHALLENGE)?));
-    let malformed = with_token(alloc, b"N2")?;
-    assert!(rt;
-        refuses(
-            client,
-            malformed,
-            ErrorKind::InvalidToken,
-            Reason::TokenForm
-        )
-    );
-    assert!(rt; refuses_version(client, with_token(alloc, &CHALLENGE)?, 5));
-    let full = filled(alloc, with_token(alloc, &CHALLENGE)?)?;
-    let third = replies(client, full)?;
-    assert!(rt; third == filled(alloc, read(alloc, &THIRD)?)?);
-    Ok(())
-}
-
-/// The first call notes no version, and a refused one keeps the version that was noted.
-#[test]
-fn in_the_authentication(rt: HostRuntime) -> Result<(), Fail> {
-    let mut client = client::<Ntlm>(rt.alloc())?;
-    refuses_in_the_authentication(&rt, rt.alloc(), &mut client)
 }
 
 /// Takes the client to where it waits for the server's proof.
