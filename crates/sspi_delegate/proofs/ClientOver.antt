@@ -1,0 +1,128 @@
+-- A client's turn over one context is a turn over another that differs in its counts alone, or over any where it says
+-- nothing of the context.
+use Rattle.std.proofs.Common.{◌≡◌, ℕ, true, List, sym, ◌∙◌, ap, subst, Option, None, Some, Result, Ok, Err}
+use Rattle.sspi_mech.specs.Calls.{no_counts}
+use Rattle.sspi_mech.specs.Context.{IsContext}
+use Rattle.sspi_mech.specs.Meaning.{Meaning}
+use Rattle.sspi_tsreq.specs.declared.request.TsRequest.{TsRequest}
+use Rattle.sspi_types.specs.declared.security_status.SecurityStatus.{SecurityStatus}
+use Rattle.sspi_types.specs.declared.security_status.SecurityStatus.TheVariants as statuses
+use Rattle.sspi_credssp.specs.declared.public_key.EndpointType.TheVariants.{Client, Server}
+use Rattle.sspi_types.specs.declared.error.Error.{Error}
+use Rattle.sspi_credssp.specs.ClientTurn.{IsClientTurn, ClientActs, ClientReplies, NegoReply, TokenReply, ProofReply, FinalReply}
+use Rattle.sspi_credssp.specs.Credentials.{IfText, delegated_text}
+use Rattle.sspi_credssp.specs.Context.{ContextSetting}
+use Rattle.sspi_credssp.specs.Counts.{SameBut, SealsIn, OpensIn}
+use Rattle.sspi_credssp.specs.PublicKey.{prescribed}
+use Rattle.sspi_credssp.specs.Turn.{Turn, ClientFrame, Came, Replied, Ended, Finished, Stopped, UnlessStopped, FitsNoted, AtNoted}
+
+-- a frame as another turn over the same end sees it, as far as the turn speaks of it
+pub record SameFrame {C : Type 0} (c : Meaning ContextSetting C) (f g : ClientFrame C) (t : Turn) : Type 0 where
+  pub public_key : g.public_key ≡ f.public_key
+  pub nonce : g.nonce ≡ f.nonce
+  pub version : g.version ≡ f.version
+  pub credentials : g.credentials ≡ f.credentials
+  pub delegation : g.delegation ≡ f.delegation
+  pub state : g.state ≡ f.state
+  pub noted : UnlessStopped t.came (g.noted ≡ f.noted)
+  pub proved : t.acts.proved ≡ true → (g.noted ≡ f.noted) × (g.made ≡ f.made) × SameBut c f.context g.context
+  pub checked : t.acts.checked ≡ true → (g.noted ≡ f.noted) × (g.opened ≡ f.opened) × SameBut c f.context g.context
+  pub sealed : t.acts.sealed ≡ true → g.made ≡ f.made
+
+module _ {C : Type 0} (c : Meaning ContextSetting C) (law : IsContext c) where
+  -- what differs in counts alone is the same object with other counts
+  recounted : (m m2 : C) → c.counted m2 no_counts ≡ c.counted m no_counts → m ≡ c.counted m2 (c.counts m)
+  recounted m m2 same =
+      sym (law.counted_counts m)
+      ∙ sym (law.counted_counted m no_counts (c.counts m))
+      ∙ ap (λ (x : C). c.counted x (c.counts m)) (sym same)
+      ∙ law.counted_counted m2 no_counts (c.counts m)
+
+  pub seals_still : (x y : Option C) (n : ℕ) (text : List ℕ) (blob : Option (List ℕ)) → SameBut c x y → SealsIn c x n text blob → SealsIn c y n text blob
+  seals_still None y n text blob same h = absurd h
+  seals_still (Some m) None n text blob same h = absurd same
+  seals_still (Some m) (Some m2) n text None same h = absurd h
+  seals_still (Some m) (Some m2) n text (Some blob) same h =
+      law.seals_counted m2 (c.counts m) n text blob (subst (λ (x : C). c.seals x n text blob) (recounted m m2 same) h)
+
+  pub opens_still : (x y : Option C) (n : ℕ) (blob : Option (List ℕ)) (text : List ℕ) → SameBut c x y → OpensIn c x n blob text → OpensIn c y n blob text
+  opens_still None y n blob text same h = absurd h
+  opens_still (Some m) None n blob text same h = absurd same
+  opens_still (Some m) (Some m2) n None text same h = absurd h
+  opens_still (Some m) (Some m2) n (Some blob) text same h =
+      law.opens_counted m2 (c.counts m) n blob text (subst (λ (x : C). c.opens x n blob text) (recounted m m2 same) h)
+
+  pub at_noted : (noted noted2 : Option ℕ) (P Q : ℕ → Type 0) → noted2 ≡ noted → ((version : ℕ) → P version → Q version) → AtNoted noted P → AtNoted noted2 Q
+  at_noted noted noted2 P Q same weaker h = rw same (weaker_at noted P Q weaker h)
+    where
+      weaker_at : (noted : Option ℕ) (P Q : ℕ → Type 0) → ((version : ℕ) → P version → Q version) → AtNoted noted P → AtNoted noted Q
+      weaker_at None P Q weaker h = h
+      weaker_at (Some version) P Q weaker h = weaker version h
+
+  acts_over : (f g : ClientFrame C) (t : Turn) → SameFrame c f g t → ClientActs c f t → ClientActs c g t
+  acts_over f g t same acts = record {
+    negotiated = λ was. same.state ∙ acts.negotiated was;
+    answered = acts.answered;
+    proved = λ was. ((acts.proved was).0, rw (same.proved was).0 (acts.proved was).1);
+    checked = λ was. (same.state ∙ (acts.checked was).0, (acts.checked was).1);
+    sealed = λ was. let s = acts.sealed was in let k = same.checked s.0 in (
+      s.0,
+      at_noted f.noted g.noted _ _ k.0 (λ version h.
+          rw (k.1, same.nonce, same.public_key) (opens_still f.context g.context f.opened t.delivered.pub_key_auth (prescribed Server version f.nonce f.public_key) k.2 h)) s.1,
+    );
+    opened = acts.opened;
+  }
+
+  token_over : (f g : ClientFrame C) (t : Turn) (reply : TsRequest) → SameFrame c f g t → TokenReply c f t reply → TokenReply c g t reply
+  token_over f g t reply same h = record { state = same.state ∙ h.state; reply = rw same.version h.reply }
+
+  proof_over : (f g : ClientFrame C) (t : Turn) (reply : TsRequest) → SameFrame c f g t → ProofReply c f t reply → ProofReply c g t reply
+  proof_over f g t reply same h = let k = same.proved h.proved in record {
+    state = same.state ∙ h.state;
+    proved = h.proved;
+    reply = rw (same.version, same.nonce) h.reply;
+    proof = at_noted f.noted g.noted _ _ k.0 (λ version seals.
+        rw (k.1, same.nonce, same.public_key) (seals_still f.context g.context f.made (prescribed Client version f.nonce f.public_key) reply.pub_key_auth k.2 seals)) h.proof;
+  }
+
+  text_over : (text : Result (List ℕ) Error) (P Q : List ℕ → Type 0) → ((x : List ℕ) → P x → Q x) → IfText text P → IfText text Q
+  text_over (Ok x) P Q weaker h = weaker x h
+  text_over (Err error) P Q weaker h = h
+
+  final_over : (f g : ClientFrame C) (t : Turn) (reply : TsRequest) → SameFrame c f g t → FinalReply c f t reply → FinalReply c g t reply
+  final_over f g t reply same h = let k = same.checked h.checked in record {
+    state = same.state ∙ h.state;
+    checked = h.checked;
+    sealed = h.sealed;
+    reply = rw same.version h.reply;
+    credentials = rw (same.credentials, same.delegation, same.sealed h.sealed)
+        (text_over (delegated_text f.credentials f.delegation) _ _ (λ text seals. seals_still f.context g.context f.made text reply.auth_info k.2 seals) h.credentials);
+  }
+
+  nego_over : (f g : ClientFrame C) (t : Turn) (answered : Option SecurityStatus) (reply : TsRequest) → SameFrame c f g t →
+      NegoReply c f t answered reply → NegoReply c g t answered reply
+  nego_over f g t None reply same h = h
+  nego_over f g t (Some statuses.Ok) reply same h = proof_over f g t reply same h
+  nego_over f g t (Some other) reply same h = token_over f g t reply same h
+
+  replies_over : (f g : ClientFrame C) (t : Turn) (came : Came) → SameFrame c f g t → ClientReplies c f t came → ClientReplies c g t came
+  replies_over f g t (Replied reply) same h = nego_over f g t t.acts.status reply same h
+  replies_over f g t (Ended reply) same h = final_over f g t reply same h
+  replies_over f g t Finished same h = h
+  replies_over f g t (Stopped kind None) same h = h
+  replies_over f g t (Stopped kind (Some reply)) same h = h
+
+  fits_over : (noted noted2 : Option ℕ) (version : ℕ) (came : Came) → UnlessStopped came (noted2 ≡ noted) → UnlessStopped came (FitsNoted noted version) →
+      UnlessStopped came (FitsNoted noted2 version)
+  fits_over noted noted2 version (Replied reply) same h = rw same h
+  fits_over noted noted2 version (Ended reply) same h = rw same h
+  fits_over noted noted2 version Finished same h = rw same h
+  fits_over noted noted2 version (Stopped kind reply) same h = h
+
+  pub client_over : (f g : ClientFrame C) (t : Turn) → SameFrame c f g t → IsClientTurn c f t → IsClientTurn c g t
+  client_over f g t same turn = record {
+    code = turn.code;
+    version = fits_over f.noted g.noted t.delivered.version t.came same.noted turn.version;
+    acts = acts_over f g t same turn.acts;
+    reply = replies_over f g t t.came same turn.reply;
+  }

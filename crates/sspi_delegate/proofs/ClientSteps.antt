@@ -1,0 +1,338 @@
+-- One more turn of a client: what holds of its turns so far holds of them with this one.
+use Rattle.std.proofs.Common.{◌≡◌, ℕ, ◌+◌, Bool, true, false, ◌&&◌, List, [], ◌∷◌, sym, ◌∙◌, ap, subst, refl, Option, None, Some, IsSome, Ok, if◌then◌else◌}
+use Rattle.sspi_types.specs.declared.security_status.SecurityStatus.{SecurityStatus}
+use Rattle.sspi_types.specs.declared.security_status.SecurityStatus.TheVariants as statuses
+use Rattle.sspi_mech.specs.Calls.{no_counts}
+use Rattle.sspi_mech.specs.Context.{IsContext}
+use Rattle.sspi_mech.specs.Meaning.{Meaning}
+use Rattle.sspi_tsreq.specs.declared.request.TsRequest.{TsRequest}
+use Rattle.sspi_credssp.specs.declared.state.CredSspState.{CredSspState}
+use Rattle.sspi_credssp.specs.declared.state.CredSspState.TheVariants.{NegoToken, PubKeyInfo, AuthInfo, Final}
+use Rattle.sspi_credssp.specs.Acts.{sealed_by, unsealed_by}
+use Rattle.sspi_credssp.specs.Client.{ClientView, IsFreshClient}
+use Rattle.sspi_credssp.specs.ClientTurn.{ClientActs, NegoReply, ClientTurn, IsUnderway, SameClient, StartsUnused, client_frame, client_turn, state_after, OnceNegotiated}
+use Rattle.sspi_names.specs.declared.credentials.CredentialsBuffers.{CredentialsBuffers}
+use Rattle.sspi_mech.specs.declared.step.Answer.{Answer}
+use Rattle.sspi_mech.specs.declared.step.Answer.TheVariants.{Done}
+use Rattle.sspi_mech.specs.declared.step.Step.{Step}
+use Rattle.sspi_credssp.specs.declared.client_state.ClientState.TheVariants.{ReplyNeeded}
+use Rattle.sspi_credssp.specs.declared.client_state.Progress.TheVariants.{Completed}
+use Rattle.sspi_credssp.specs.Begun.{IfContext}
+use Rattle.sspi_credssp.specs.ClientStep.{client_args, Asked, Walked, stepped, resumed, still_asked, recounted, DoneStep}
+use Rattle.sspi_credssp.specs.Context.{ContextSetting}
+use Rattle.sspi_credssp.specs.Counts.{sealed_in, unsealed_in, SameBut, is_waiting_in}
+use Rattle.sspi_credssp.specs.Noted.{noted_next}
+use Rattle.sspi_credssp.specs.Turn.{Turn, Came, Replied, Ended, Finished, Stopped, ClientFrame}
+use Rattle.sspi_delegate.specs.ClientRun.{client_state, client_noted, ClientEnd, client_end, client_frame_at, EachClientTurn, ClientRan, HasBegun, ClientFollows}
+use Rattle.sspi_delegate.specs.EndTurns.{made_in, opened_in, is_replied, is_ended, any_proved, any_ended, WentOn, AllWentOn, OthersWentOn}
+use Rattle.sspi_delegate.specs.Refusals.{StepsSo}
+use Rattle.sspi_delegate.proofs.ClientOver.{client_over}
+use Rattle.sspi_delegate.proofs.EndSteps.{or_false, or_not, is_false, IsQuiet, AllQuiet, quiet_made, Touched, touched, untouched, unless_given, unless_map, made_by_proof, made_by_seal, opened_by_check, unused_in, same_but}
+
+-- ---- tests
+
+state_nego : (ended proved : Bool) → (if ended then Final else (if proved then AuthInfo else NegoToken)) ≡ NegoToken → (ended ≡ false) × (proved ≡ false)
+state_nego true proved h = absurd (cc (h))
+state_nego false true h = absurd (cc (h))
+state_nego false false h = (refl, refl)
+
+pub state_auth : (ended proved : Bool) → (if ended then Final else (if proved then AuthInfo else NegoToken)) ≡ AuthInfo → (ended ≡ false) × (proved ≡ true)
+state_auth true proved h = absurd (cc (h))
+state_auth false true h = (refl, refl)
+state_auth false false h = absurd (cc (h))
+
+-- ---- the version that is noted
+
+noted_some : (t u : Turn) (past : List Turn) → IsSome (client_noted (t ∷ u ∷ past))
+noted_some t u [] = refl
+noted_some t u (v ∷ past) = noted_some u v past
+
+noted_kept : {C : Type 0} (context : Option C) (noted : Option ℕ) (version : ℕ) → IsSome context → IsSome noted → noted_next context noted version ≡ noted
+noted_kept None noted version begun some = absurd (cc (begun))
+noted_kept (Some m) None version begun some = absurd (cc (some))
+noted_kept (Some m) (Some noted) version begun some = refl
+
+noted_first : {C : Type 0} (context : Option C) (noted : Option ℕ) (version : ℕ) → IsSome context → noted ≡ None → noted_next context noted version ≡ Some version
+noted_first None noted version begun none = absurd (cc (begun))
+noted_first (Some m) None version begun none = refl
+noted_first (Some m) (Some noted) version begun none = absurd (cc (none))
+
+pub others_went : (past : List Turn) → AllWentOn past → OthersWentOn past
+others_went [] going = tt
+others_went (t ∷ past) going = going.1
+
+module _ {C : Type 0} (c : Meaning ContextSetting C) where
+  noted_more : (context : Option C) (noted : Option ℕ) (t : Turn) (past : List Turn) → HasBegun c context past → noted ≡ client_noted past →
+      noted_next context noted t.delivered.version ≡ client_noted (t ∷ past)
+  noted_more context noted t [] begun is = rw begun refl
+  noted_more context noted t (u ∷ []) begun is = noted_first context noted t.delivered.version begun is
+  noted_more context noted t (u ∷ v ∷ past) begun is =
+      noted_kept context noted t.delivered.version begun (rw is (noted_some u v past)) ∙ is
+
+-- ---- turns that came before the client's proof
+
+module _ {C : Type 0} (c : Meaning ContextSetting C) where
+  -- in the authentication nothing is checked or sealed
+  quiet_acts : (f : ClientFrame C) (t : Turn) → ClientActs c f t → f.state ≡ NegoToken → t.acts.proved ≡ false → IsQuiet t.acts
+  quiet_acts f t acts nego unproved =
+      let unchecked : t.acts.checked ≡ false = is_false t.acts.checked (λ was. let s = (acts.checked was).0 in absurd (cc (s, nego))) in
+      record {
+        proved = unproved;
+        checked = unchecked;
+        sealed = is_false t.acts.sealed (λ was. let s = (acts.sealed was).0 in absurd (cc (s, unchecked)));
+        opened = acts.opened;
+      }
+
+  reply_unproved : (came : Came) (proved : Bool) → WentOn came → is_ended came ≡ false → is_replied came && proved ≡ false → proved ≡ false
+  reply_unproved (Replied reply) proved went ended h = h
+  reply_unproved (Ended reply) proved went ended h = absurd (cc (ended))
+  reply_unproved Finished proved went ended h = absurd went
+  reply_unproved (Stopped kind reply) proved went ended h = absurd went
+
+  nego_state : (past : List Turn) → any_proved past ≡ false → any_ended past ≡ false → client_state past ≡ NegoToken
+  nego_state past unproved unended = rw (unended, unproved) refl
+
+  all_quiet : (e : ClientEnd C) (past : List Turn) → EachClientTurn c e past → AllWentOn past → any_proved past ≡ false → any_ended past ≡ false → AllQuiet past
+  all_quiet e [] each went unproved unended = tt
+  all_quiet e (t ∷ past) each went unproved unended =
+      let p = or_false (is_replied t.came && t.acts.proved) (any_proved past) unproved in
+      let q = or_false (is_ended t.came) (any_ended past) unended in (
+        quiet_acts (client_frame_at e past t) t each.0.acts (nego_state past p.1 q.1) (reply_unproved t.came t.acts.proved went.0 q.0 p.0),
+        all_quiet e past each.1 went.1 p.1 q.1,
+      )
+
+  starts_unused : (first old : ClientView C) (past : List Turn) → ClientFollows c first old past → StartsUnused c old
+  starts_unused first old past follows nego =
+      let s = state_nego (any_ended past) (any_proved past) (sym follows.state ∙ nego) in
+      let quiet = all_quiet (client_end old) past follows.ran.each follows.going s.1 s.0 in
+      let none = quiet_made past quiet in
+      unused_in c old.context (follows.ran.made ∙ none.0) (follows.ran.opened ∙ none.1)
+
+  -- ---- the turns before, over the context that the newest one left
+
+  pub record SameEnd (e e2 : ClientEnd C) : Type 0 where
+    pub public_key : e2.public_key ≡ e.public_key
+    pub nonce : e2.nonce ≡ e.nonce
+    pub version : e2.version ≡ e.version
+    pub credentials : e2.credentials ≡ e.credentials
+    pub delegation : e2.delegation ≡ e.delegation
+
+  each_over : (law : IsContext c) (e e2 : ClientEnd C) (past : List Turn) → SameEnd e e2 → Touched (SameBut c e.context e2.context) past →
+      EachClientTurn c e past → EachClientTurn c e2 past
+  each_over law e e2 [] same touch each = tt
+  each_over law e e2 (t ∷ past) same touch each = (
+    client_over c law (client_frame_at e past t) (client_frame_at e2 past t) t (record {
+      public_key = same.public_key;
+      nonce = same.nonce;
+      version = same.version;
+      credentials = same.credentials;
+      delegation = same.delegation;
+      state = refl;
+      noted = unless_given t.came _ refl;
+      proved = λ was. (refl, refl, touch.0 was);
+      checked = λ was. (refl, refl, touch.1 was);
+      sealed = λ was. refl;
+    }) each.0,
+    each_over law e e2 past same touch.2 each.1,
+  )
+
+  touched_by : (e : ClientEnd C) (state : CredSspState) (past : List Turn) (P : Type 0) → state ≡ client_state past → EachClientTurn c e past → AllWentOn past →
+      OnceNegotiated state P → Touched P past
+  touched_by e NegoToken past P is each went bare =
+      let s = state_nego (any_ended past) (any_proved past) (sym is) in untouched P past (all_quiet e past each went s.1 s.0)
+  touched_by e PubKeyInfo past P is each went bare = touched P past bare
+  touched_by e AuthInfo past P is each went bare = touched P past bare
+  touched_by e Final past P is each went bare = touched P past bare
+
+  same_end : (old new : ClientView C) → SameClient c old new → SameEnd (client_end old) (client_end new)
+  same_end old new same = record {
+    public_key = same.public_key;
+    nonce = same.nonce;
+    version = same.version;
+    credentials = same.credentials;
+    delegation = same.delegation;
+  }
+
+  same_on : (a b d : ClientView C) → SameClient c a b → SameClient c b d → SameClient c a d
+  same_on a b d first after = record {
+    public_key = after.public_key ∙ first.public_key;
+    credentials = after.credentials ∙ first.credentials;
+    delegation = after.delegation ∙ first.delegation;
+    version = after.version ∙ first.version;
+    mode = after.mode ∙ first.mode;
+    target = after.target ∙ first.target;
+    nonce = after.nonce ∙ first.nonce;
+  }
+
+  -- ---- one more turn
+
+  -- a turn that proves seals nothing else, and one that seals the credentials proves nothing
+  proved_alone : (f : ClientFrame C) (t : Turn) → ClientActs c f t → t.acts.proved ≡ true → t.acts.sealed ≡ false
+  proved_alone f t acts was = is_false t.acts.sealed (λ sealed.
+      let auth = (acts.checked (acts.sealed sealed).0).0 in
+      let answered : IsSome t.acts.status = rw (acts.proved was).0 refl in
+      let nego = acts.negotiated (acts.answered answered) in absurd (cc (auth, nego)))
+
+  sealed_alone : (f : ClientFrame C) (t : Turn) → ClientActs c f t → t.acts.sealed ≡ true → t.acts.proved ≡ false
+  sealed_alone f t acts was = is_false t.acts.proved (λ proved. let s = proved_alone f t acts proved in absurd (cc (s, was)))
+
+  pub client_turned : (law : IsContext c) (first old new : ClientView C) (past : List Turn) (d : TsRequest) (came : Came) →
+      ClientFollows c first old past → ClientTurn c old d came new → ClientRan c first new (client_turn c d came new ∷ past)
+  client_turned law first old new past d came follows turn =
+      let unused = starts_unused first old past follows in
+      let t : Turn = client_turn c d came new in
+      let made : sealed_in c new.context ≡ made_in past + sealed_by new.acts = turn.moves.sealed unused ∙ ap (λ (n : ℕ). n + sealed_by new.acts) follows.ran.made in
+      let opened : unsealed_in c new.context ≡ opened_in past + unsealed_by new.acts = turn.moves.unsealed unused ∙ ap (λ (n : ℕ). n + unsealed_by new.acts) follows.ran.opened in
+      let noted : noted_next old.context old.noted d.version ≡ client_noted (t ∷ past) = noted_more c old.context old.noted t past follows.begun follows.noted in
+      record {
+        same = same_on first old new follows.ran.same turn.moves.same;
+        made = made;
+        opened = opened;
+        each = (
+          client_over c law (client_frame c old new) (client_frame_at (client_end new) past t) t (record {
+            public_key = refl;
+            nonce = refl;
+            version = refl;
+            credentials = refl;
+            delegation = refl;
+            state = sym follows.state;
+            noted = unless_map came _ _ (λ h. sym (h ∙ noted)) turn.moves.noted_going;
+            proved = λ was. (
+              sym (turn.moves.noted_proved was ∙ noted),
+              made_by_proof new.acts (made_in past) (sealed_in c new.context) made was (proved_alone (client_frame c old new) t turn.turn.acts was),
+              same_but c new.context,
+            );
+            checked = λ was. (
+              sym (turn.moves.noted_checked was ∙ noted),
+              opened_by_check new.acts (opened_in past) (unsealed_in c new.context) opened was turn.turn.acts.opened,
+              same_but c new.context,
+            );
+            sealed = λ was. made_by_seal new.acts (made_in past) (sealed_in c new.context) made was (sealed_alone (client_frame c old new) t turn.turn.acts was);
+          }) turn.turn,
+          each_over law (client_end old) (client_end new) past (same_end old new turn.moves.same)
+              (touched_by (client_end old) old.state past (SameBut c old.context new.context) follows.state follows.ran.each follows.going turn.moves.bare)
+              follows.ran.each,
+        );
+        others = follows.going;
+      }
+
+  -- the state after one more turn that went on
+  pub reply_state : (f : ClientFrame C) (t : Turn) (status : Option SecurityStatus) (reply : TsRequest) → NegoReply c f t status reply → f.state ≡ NegoToken
+  reply_state f t None reply h = absurd h
+  reply_state f t (Some statuses.Ok) reply h = h.state
+  reply_state f t (Some other) reply h = h.state
+
+  replied_state : (f : ClientFrame C) (t : Turn) (past : List Turn) (reply : TsRequest) → f.state ≡ client_state past → t.came ≡ Replied reply →
+      NegoReply c f t t.acts.status reply → state_after f.state (Replied reply) t.acts.proved ≡ client_state (t ∷ past)
+  replied_state f t past reply is came h =
+      let nego = reply_state f t t.acts.status reply h in
+      let s = state_nego (any_ended past) (any_proved past) (sym is ∙ nego) in
+      rw (came, nego, s.0, s.1, or_not t.acts.proved) refl
+
+  -- a context that has ended its step waits for no KDC
+  walked_idle : (law : IsContext c) (start : ClientView C) (handle : Option CredentialsBuffers) (token : Option (List ℕ)) (log : List Asked) (answer : Answer) (step : Step) (m : C) →
+      answer ≡ Done step → Walked c start handle token log answer m → c.waits m ≡ false
+  walked_idle law start handle token log answer step m is (stepped m0 m1 a begun stepped_so) =
+      law.step_done m0 m (client_args handle start.target token) step (subst (λ (x : Answer). c.steps m0 (client_args handle start.target token) x m) is stepped_so)
+  walked_idle law start handle token log answer step m is (resumed m1 m2 before q reply a walked resumed_so) =
+      law.resume_done m1 m reply step (subst (λ (x : Answer). c.resumes m1 reply x m) is resumed_so)
+  walked_idle law start handle token log answer step m is (still_asked m1 m2 before q reply error walked resumed_so waits) = absurd (cc (is))
+  walked_idle law start handle token log answer step m is (recounted m1 m2 n before a walked counted) =
+      rw counted (law.waits_counted m1 n ∙ walked_idle law start handle token log answer step m1 is walked)
+
+  idle_context : (law : IsContext c) (start : ClientView C) (handle : Option CredentialsBuffers) (token : Option (List ℕ)) (log : List Asked) (step : Step) (context : Option C) →
+      IfContext context (Walked c start handle token log (Done step)) → is_waiting_in c context ≡ false
+  idle_context law start handle token log step None h = absurd h
+  idle_context law start handle token log step (Some m) h = walked_idle law start handle token log (Done step) step m refl h
+
+  idle_in : (law : IsContext c) (start : ClientView C) (d : TsRequest) (log : List Asked) (status : Option SecurityStatus) (now : ClientView C) (f : ClientFrame C) (t : Turn) (reply : TsRequest) →
+      NegoReply c f t status reply → DoneStep c status start d log now → is_waiting_in c now.context ≡ false
+  idle_in law start d log None now f t reply h step = absurd h
+  idle_in law start d log (Some status) now f t reply h step = idle_context law start now.handle d.nego_tokens log (record { status = status; output = now.output }) now.context step
+
+  -- a context that differs in its counts alone waits where the other does
+  waits_same : (law : IsContext c) (x y : Option C) → SameBut c x y → is_waiting_in c y ≡ is_waiting_in c x
+  waits_same law None None same = refl
+  waits_same law None (Some m2) same = absurd same
+  waits_same law (Some m) None same = absurd same
+  waits_same law (Some m) (Some m2) same = sym (law.waits_counted m2 no_counts) ∙ ap c.waits same ∙ law.waits_counted m no_counts
+
+  pub client_replied : (law : IsContext c) (first old new : ClientView C) (past : List Turn) (d : TsRequest) (reply : TsRequest) →
+      ClientFollows c first old past → ClientTurn c old d (Replied reply) new → StepsSo c old d (Ok (Completed (ReplyNeeded reply))) new →
+      ClientFollows c first new (client_turn c d (Replied reply) new ∷ past)
+  client_replied law first old new past d reply follows turn steps = record {
+    ran = client_turned law first old new past d (Replied reply) follows turn;
+    state = turn.moves.state
+        ∙ replied_state (client_frame c old new) (client_turn c d (Replied reply) new) past reply follows.state refl turn.turn.reply;
+    noted = turn.moves.noted_going ∙ noted_more c old.context old.noted (client_turn c d (Replied reply) new) past follows.begun follows.noted;
+    begun = turn.moves.begun;
+    idle = idle_in law old d steps.asked new.acts.status new (client_frame c old new) (client_turn c d (Replied reply) new) reply turn.turn.reply steps.step;
+    going = (tt, follows.going);
+  }
+
+  ended_idle : (law : IsContext c) (state : CredSspState) (old new : Option C) → state ≡ AuthInfo → OnceNegotiated state (SameBut c old new) →
+      is_waiting_in c old ≡ false → is_waiting_in c new ≡ false
+  ended_idle law NegoToken old new is bare idle = absurd (cc (is))
+  ended_idle law PubKeyInfo old new is bare idle = absurd (cc (is))
+  ended_idle law AuthInfo old new is bare idle = waits_same law old new bare ∙ idle
+  ended_idle law Final old new is bare idle = absurd (cc (is))
+
+  pub client_ended : (law : IsContext c) (first old new : ClientView C) (past : List Turn) (d : TsRequest) (reply : TsRequest) →
+      ClientFollows c first old past → ClientTurn c old d (Ended reply) new → ClientFollows c first new (client_turn c d (Ended reply) new ∷ past)
+  client_ended law first old new past d reply follows turn = record {
+    ran = client_turned law first old new past d (Ended reply) follows turn;
+    state = turn.moves.state;
+    noted = turn.moves.noted_going ∙ noted_more c old.context old.noted (client_turn c d (Ended reply) new) past follows.begun follows.noted;
+    begun = turn.moves.begun;
+    idle = ended_idle law old.state old.context new.context turn.turn.reply.state turn.moves.bare follows.idle;
+    going = (tt, follows.going);
+  }
+
+  -- a client that was left waiting for its KDC has made the turns before
+  pub client_underway : (law : IsContext c) (first old now : ClientView C) (past : List Turn) (d : TsRequest) →
+      ClientFollows c first old past → IsUnderway c old d now → ClientRan c first now past
+  client_underway law first old now past d follows way =
+      let unused = starts_unused first old past follows in
+      record {
+        same = same_on first old now follows.ran.same way.ready.same;
+        made = way.ready.sealed unused ∙ follows.ran.made;
+        opened = way.ready.unsealed unused ∙ follows.ran.opened;
+        each = each_over law (client_end old) (client_end now) past (same_end old now way.ready.same)
+            (touched_by (client_end old) old.state past (SameBut c old.context now.context) follows.state follows.ran.each follows.going way.ready.bare)
+            follows.ran.each;
+        others = others_went past follows.going;
+      }
+
+  -- what was taken out of the client is no part of its run
+  pub client_emptied : (first now : ClientView C) (past : List Turn) → ClientRan c first now past → ClientRan c first (record now { output = [] }) past
+  client_emptied first now past ran = record {
+    same = record {
+      public_key = ran.same.public_key;
+      credentials = ran.same.credentials;
+      delegation = ran.same.delegation;
+      version = ran.same.version;
+      mode = ran.same.mode;
+      target = ran.same.target;
+      nonce = ran.same.nonce;
+    };
+    made = ran.made;
+    opened = ran.opened;
+    each = ran.each;
+    others = ran.others;
+  }
+
+  pub client_fresh : (first : ClientView C) → IsFreshClient first → ClientFollows c first first []
+  client_fresh first fresh = record {
+    ran = record {
+      same = record { public_key = refl; credentials = refl; delegation = refl; version = refl; mode = refl; target = refl; nonce = refl };
+      made = rw fresh.context refl;
+      opened = rw fresh.context refl;
+      each = tt;
+      others = tt;
+    };
+    state = fresh.state;
+    noted = fresh.noted;
+    begun = fresh.context;
+    idle = rw fresh.context refl;
+    going = tt;
+  }

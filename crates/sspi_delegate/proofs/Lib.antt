@@ -1,0 +1,15 @@
+mod Asking
+mod ClientOver
+mod ClientSteps
+mod EndSteps
+mod Exactness
+mod Halves
+mod Headline
+mod Histories
+mod LogSteps
+mod Newest
+mod Reading
+mod Recording
+mod Refusing
+mod ServerOver
+mod ServerSteps

@@ -1,0 +1,210 @@
+-- One more turn, and what it makes of the log of an exchange.
+use Rattle.std.proofs.Common.{◌≡◌, ℕ, ◌≤◌, ◌<◌, inl, inr, List, [], ◌∷◌, sym, ◌∙◌, ap, subst, refl, arith, None, Some, IsSome, Ok, slice_get}
+use Rattle.sspi_types.specs.declared.error.Error.{Error}
+use Rattle.sspi_types.specs.declared.error_kind.ErrorKind.{ErrorKind}
+use Rattle.sspi_tsreq.specs.declared.request.TsRequest.{TsRequest}
+use Rattle.sspi_delegate.specs.declared.answer.DelegateError.{DelegateError}
+use Rattle.sspi_delegate.specs.declared.answer.DelegateError.TheVariants as errors
+use Rattle.sspi_delegate.specs.declared.carried.Carried.{Carried}
+use Rattle.sspi_delegate.specs.declared.carried.End.{End}
+use Rattle.sspi_delegate.specs.declared.carried.End.TheVariants.{Client, Server}
+use Rattle.sspi_delegate.specs.declared.turn.Outcome.{Outcome}
+use Rattle.sspi_delegate.specs.declared.turn.Outcome.TheVariants.{Reply, Final, Finished, Refused}
+use Rattle.sspi_delegate.specs.declared.turn.Turn.{Turn}
+use Rattle.sspi_delegate.specs.Causes.{Between, Asked, Turned, Finishes, Stopped, NewestIs, IsClientRefusal, IsServerRefusal, IsFinished, IsAnswerTo, NotFinished, TurnLeft, HasMessage, Given, carried, too_long, link_failed, no_memory, turns_of}
+use Rattle.sspi_delegate.specs.Deliveries.{IsUnread, Fed, HeadTaken, Takes}
+use Rattle.sspi_delegate.specs.Recorded.{PushedSuch}
+use Rattle.sspi_delegate.specs.Run.{Logged, LoggedButLast, HasLog, IsDelivered, IsRead, IsSent}
+use Rattle.sspi_delegate.specs.Turns.{next_end, message_of, GoesOn, AllGoOn, Alternates}
+
+goes_unfinished : (outcome : Outcome) → GoesOn outcome → IsFinished outcome → ⊥
+goes_unfinished (Reply reply) goes finished = finished
+goes_unfinished (Final reply) goes finished = finished
+goes_unfinished Finished goes finished = goes
+goes_unfinished (Refused kind reply) goes finished = finished
+
+pub going_unfinished : (turns : List Turn) → AllGoOn turns → NotFinished turns
+going_unfinished [] going = tt
+going_unfinished (t ∷ past) going = goes_unfinished t.outcome going.0
+
+client_refusal_unfinished : (kind : ErrorKind) (outcome : Outcome) → IsClientRefusal kind outcome → IsFinished outcome → ⊥
+client_refusal_unfinished kind (Reply reply) refusal finished = finished
+client_refusal_unfinished kind (Final reply) refusal finished = finished
+client_refusal_unfinished kind Finished refusal finished = refusal
+client_refusal_unfinished kind (Refused refused reply) refusal finished = finished
+
+client_unfinished : (kind : ErrorKind) (turns : List Turn) → NewestIs Client (IsClientRefusal kind) turns → NotFinished turns
+client_unfinished kind [] newest = tt
+client_unfinished kind (t ∷ past) newest = client_refusal_unfinished kind t.outcome newest.1
+
+server_refusal_unfinished : (kind : ErrorKind) (outcome : Outcome) → IsServerRefusal kind outcome → IsFinished outcome → ⊥
+server_refusal_unfinished kind (Reply reply) refusal finished = finished
+server_refusal_unfinished kind (Final reply) refusal finished = finished
+server_refusal_unfinished kind Finished refusal finished = refusal
+server_refusal_unfinished kind (Refused refused reply) refusal finished = finished
+
+server_unfinished : (kind : ErrorKind) (turns : List Turn) → NewestIs Server (IsServerRefusal kind) turns → NotFinished turns
+server_unfinished kind [] newest = tt
+server_unfinished kind (t ∷ past) newest = server_refusal_unfinished kind t.outcome newest.1
+
+refusal_message : (kind : ErrorKind) (outcome : Outcome) → IsServerRefusal kind outcome → IsSome (message_of outcome)
+refusal_message kind (Reply reply) refusal = absurd refusal
+refusal_message kind (Final reply) refusal = absurd refusal
+refusal_message kind Finished refusal = absurd refusal
+refusal_message kind (Refused refused None) refusal = absurd refusal
+refusal_message kind (Refused refused (Some reply)) refusal = refl
+
+-- a server that refused has a message for its client
+pub refusal_has_message : (d : TsRequest) (kind : ErrorKind) (old new : List Turn) → PushedSuch Server d (IsServerRefusal kind) old new → HasMessage new
+refusal_has_message d kind old [] pushed = absurd pushed
+refusal_has_message d kind old (t ∷ past) pushed = refusal_message kind t.outcome pushed.3
+
+-- reading changes no more of an entry than what was delivered
+fed_logged : (base : List Carried) (t : Turn) (past : List Turn) (log log2 : List Carried) → Fed log log2 → Logged base (t ∷ past) log → Logged base (t ∷ past) log2
+fed_logged base t past [] log2 fed entries = absurd entries
+fed_logged base t past (e ∷ log) [] fed entries = absurd fed
+fed_logged base t past (e ∷ log) (f ∷ more) fed entries = (
+  (fed.0 ∙ entries.0.0, subst (λ (sent : List ℕ). IsSent (message_of t.outcome) sent) (sym fed.1) entries.0.1),
+  subst (λ (rest : List Carried). IsDelivered past rest t.delivered) (sym fed.2) entries.1,
+  subst (λ (rest : List Carried). Logged base past rest) (sym fed.2) entries.2,
+)
+
+head_delivered : (t : Turn) (past : List Turn) (log : List Carried) (text : List ℕ) (request : TsRequest) → HeadTaken log text → IsRead text request →
+    IsDelivered (t ∷ past) log request
+head_delivered t past [] text request head read = absurd head
+head_delivered t past (e ∷ log) text request head read = (head.0, subst (λ (bytes : List ℕ). IsRead bytes request) (sym head.1) read)
+
+module _ (base : List Carried) (start : ℕ) where
+  abbrev asked_by : (d : TsRequest) (old past : List Turn) (log : List Carried) (now : ℕ) → past ≡ old →
+      Asked base start old log now d → Asked base start past log now d
+  asked_by d old past log now same w = subst (λ (turns : List Turn). Asked base start turns log now d) (sym same) w
+
+  -- a turn that was made on the request that was read has no entry yet
+  pub but_last : (end : End) (d : TsRequest) (P : Outcome → Type 0) (old new : List Turn) (log : List Carried) (now : ℕ) →
+      Asked base start old log now d → PushedSuch end d P old new → LoggedButLast base new log
+  but_last end d P old [] log now w pushed = absurd pushed
+  but_last end d P old (t ∷ past) log now w pushed =
+      let v = asked_by d old past log now pushed.0 w in
+      (subst (λ (it : TsRequest). IsDelivered past log it) (sym pushed.2) v.delivered, v.entries)
+
+  pub in_order : (end : End) (d : TsRequest) (P : Outcome → Type 0) (old new : List Turn) (log : List Carried) (now : ℕ) →
+      next_end old ≡ end → Asked base start old log now d → PushedSuch end d P old new → Alternates new
+  in_order end d P old [] log now next w pushed = absurd pushed
+  in_order end d P old (t ∷ past) log now next w pushed =
+      let v = asked_by d old past log now pushed.0 w in
+      (pushed.1 ∙ sym next ∙ ap next_end (sym pushed.0), v.going, v.order)
+
+  pub turned : (end : End) (d : TsRequest) (old new : List Turn) (log : List Carried) (now : ℕ) →
+      next_end old ≡ end → Asked base start old log now d → PushedSuch end d GoesOn old new → Turned base start new log now
+  turned end d old [] log now next w pushed = absurd pushed
+  turned end d old (t ∷ past) log now next w pushed = record {
+    order = in_order end d GoesOn old (t ∷ past) log now next w pushed;
+    going = (pushed.3, (asked_by d old past log now pushed.0 w).going);
+    entries = but_last end d GoesOn old (t ∷ past) log now w pushed;
+    faults = w.faults;
+  }
+
+  newest_such : (end : End) (d : TsRequest) (P : Outcome → Type 0) (old new : List Turn) →
+      PushedSuch end d P old new → NewestIs end P new
+  newest_such end d P old [] pushed = absurd pushed
+  newest_such end d P old (t ∷ past) pushed = (pushed.1, pushed.3)
+
+  pub finishes : (d : TsRequest) (old new : List Turn) (log : List Carried) (now : ℕ) →
+      next_end old ≡ Server → Asked base start old log now d → PushedSuch Server d IsFinished old new → Finishes base start new log now
+  finishes d old new log now next w pushed = record {
+    order = in_order Server d IsFinished old new log now next w pushed;
+    newest = newest_such Server d IsFinished old new pushed;
+    entries = but_last Server d IsFinished old new log now w pushed;
+    faults = w.faults;
+  }
+
+  pub lost : (limit : ℕ) (d : TsRequest) (old new : List Turn) (log : List Carried) (now : ℕ) →
+      Asked base start old log now d → new ≡ old → Stopped base start limit errors.InsufficientMemory new log now
+  lost limit d old new log now w same =
+      let v = asked_by d old new log now same w in
+      record { order = v.order; faults = v.faults; cause = (going_unfinished new v.going, inl v.entries) }
+
+  pub client_refused : (limit : ℕ) (error : Error) (answer : DelegateError) (d : TsRequest) (old new : List Turn) (log : List Carried) (now : ℕ) →
+      next_end old ≡ Client → Asked base start old log now d → PushedSuch Client d (IsClientRefusal error.error_type) old new →
+      IsAnswerTo error.error_type (errors.Client error) answer → Stopped base start limit answer new log now
+  client_refused limit error answer d old new log now next w pushed (inl memory) = rw memory.1 (record {
+    order = in_order Client d (IsClientRefusal error.error_type) old new log now next w pushed;
+    faults = w.faults;
+    cause = (
+      client_unfinished error.error_type new (newest_such Client d (IsClientRefusal error.error_type) old new pushed),
+      inr (but_last Client d (IsClientRefusal error.error_type) old new log now w pushed),
+    );
+  })
+  client_refused limit error answer d old new log now next w pushed (inr refusal) = rw refusal.1 (record {
+    order = in_order Client d (IsClientRefusal error.error_type) old new log now next w pushed;
+    faults = w.faults;
+    cause = (
+      refusal.0,
+      newest_such Client d (IsClientRefusal error.error_type) old new pushed,
+      but_last Client d (IsClientRefusal error.error_type) old new log now w pushed,
+    );
+  })
+
+  pub given_log : (turns : List Turn) (log : List Carried) (now : ℕ) → Given base start turns log now → HasLog base turns log
+  given_log turns log now (carried entries unread) = inl entries
+  given_log turns log now (too_long entries long) = inr entries
+  given_log turns log now (link_failed entries fit rose) = inr entries
+  given_log turns log now (no_memory entries) = inr entries
+
+  pub server_refused : (limit : ℕ) (error : Error) (answer : DelegateError) (d : TsRequest) (old new : List Turn) (log log2 : List Carried) (now now2 : ℕ) →
+      next_end old ≡ Server → Asked base start old log now d → PushedSuch Server d (IsServerRefusal error.error_type) old new →
+      IsAnswerTo error.error_type (errors.Server error) answer → Given base start new log2 now2 → now ≤ now2 → Stopped base start limit answer new log2 now2
+  server_refused limit error answer d old new log log2 now now2 next w pushed (inl memory) sent later = rw memory.1 (record {
+    order = in_order Server d (IsServerRefusal error.error_type) old new log now next w pushed;
+    faults = omega (arith, w.faults);
+    cause = (server_unfinished error.error_type new (newest_such Server d (IsServerRefusal error.error_type) old new pushed), given_log new log2 now2 sent);
+  })
+  server_refused limit error answer d old new log log2 now now2 next w pushed (inr refusal) sent later = rw refusal.1 (record {
+    order = in_order Server d (IsServerRefusal error.error_type) old new log now next w pushed;
+    faults = omega (arith, w.faults);
+    cause = (refusal.0, newest_such Server d (IsServerRefusal error.error_type) old new pushed, sent);
+  })
+
+-- a turn is left to a client that has made fewer, and to each server
+pub server_left : (limit : ℕ) (turns : List Turn) → next_end turns ≡ Server → TurnLeft limit turns
+server_left limit turns next client = absurd (cc (next, client))
+
+-- the client's next turn, once it has made so many and all were answered
+pub record IsAtTurn (base : List Carried) (start : ℕ) (turns : List Turn) (log : List Carried) (now turn : ℕ) : Type 0 where
+  pub between : Between base start turns log now
+  pub next : next_end turns ≡ Client
+  pub made : turns_of Client turns ≡ turn
+
+pub at_first : (base : List Carried) (start : ℕ) (turns : List Turn) → turns ≡ [] → IsAtTurn base start turns base start 0
+at_first base start turns empty = rw empty (record {
+  between = record { order = tt; going = tt; entries = refl; unread = tt; faults = omega arith };
+  next = refl;
+  made = refl;
+})
+
+pub left_at : (base : List Carried) (start : ℕ) (turns : List Turn) (log : List Carried) (now turn limit : ℕ) → IsAtTurn base start turns log now turn →
+    turn < limit → TurnLeft limit turns
+left_at base start turns log now turn limit at left client = rw at.made left
+
+-- all turns that the client may make were made and answered
+pub spent : (base : List Carried) (start : ℕ) (turns : List Turn) (log : List Carried) (now turn limit : ℕ) → IsAtTurn base start turns log now turn →
+    turn ≡ limit → Stopped base start limit errors.TurnsSpent turns log now
+spent base start turns log now turn limit at all = record {
+  order = at.between.order;
+  faults = at.between.faults;
+  cause = (at.between.going, at.next, at.made ∙ all, at.between.entries, at.between.unread);
+}
+
+-- the request that was read of the newest delivery
+pub read_asked : (base : List Carried) (start : ℕ) (turns : List Turn) (log log2 : List Carried) (now now2 : ℕ) (text : List ℕ) (request : TsRequest) (newest : Turn) →
+    Some newest ≡ slice_get turns 0 → Between base start turns log now → (IsUnread log → Takes log log2 (Ok text)) → now ≤ now2 → IsRead text request →
+    Asked base start turns log2 now2 request
+read_asked base start [] log log2 now now2 text request newest there between takes later read = absurd (cc (there))
+read_asked base start (t ∷ past) log log2 now now2 text request newest there between takes later read =
+    let took = takes between.unread in record {
+      order = between.order;
+      going = between.going;
+      entries = fed_logged base t past log log2 took.0 between.entries;
+      delivered = head_delivered t past log2 text request took.1 read;
+      faults = omega (arith, between.faults, later);
+    }

@@ -1,0 +1,97 @@
+-- Why a turn was refused that asked a KDC.
+use Rattle.std.proofs.Common.{◌≡◌, ◌≢◌, ℕ, ◌==◌, Bool, true, false, not, List, Option, None, Some, IsSome, Err, sym, ◌∙◌, subst, refl, arith, eq-eqb}
+use Rattle.sspi_types.specs.declared.error.Error.{Error}
+use Rattle.sspi_types.specs.declared.error_kind.ErrorKind.{ErrorKind}
+use Rattle.sspi_types.specs.declared.error_kind.ErrorKind.TheVariants.{OutOfSequence, InvalidToken, MessageAltered, InsufficientMemory}
+use Rattle.sspi_types.specs.declared.security_status.SecurityStatus.{SecurityStatus}
+use Rattle.sspi_mech.specs.Meaning.{Meaning}
+use Rattle.sspi_names.specs.declared.identity.AuthIdentity.{AuthIdentity}
+use Rattle.sspi_tsreq.specs.declared.request.TsRequest.{TsRequest}
+use Rattle.sspi_credssp.specs.declared.state.CredSspState.{CredSspState}
+use Rattle.sspi_credssp.specs.declared.state.CredSspState.TheVariants.{NegoToken}
+use Rattle.sspi_credssp.specs.Begun.{IfContext, MadeOr}
+use Rattle.sspi_credssp.specs.Client.{ClientView}
+use Rattle.sspi_credssp.specs.ClientCause.{ClientCause, ResumeCause, KeptCause, NegoCause, StateCause, is_altered}
+use Rattle.sspi_credssp.specs.ClientStep.{Asked, HasStepped, OnStep}
+use Rattle.sspi_credssp.specs.ClientTurn.{ClientTurn, IsUnderway}
+use Rattle.sspi_credssp.specs.Context.{ContextSetting}
+use Rattle.sspi_credssp.specs.Counts.{is_waiting_in}
+use Rattle.sspi_credssp.specs.Noted.{noted_next}
+use Rattle.sspi_credssp.specs.Stops.{StopsIf}
+use Rattle.sspi_credssp.specs.Turn.{Stopped, FitsNoted}
+use Rattle.sspi_delegate.specs.Refusals.{ClientRefuses, ProxyStays}
+
+same_version : (noted version : ℕ) → version ≡ noted → not (noted == version) ≡ false
+same_version noted version same = rw (eq-eqb noted version (sym same)) refl
+
+fits_unaltered : {C : Type 0} (context : Option C) (noted now : Option ℕ) (version : ℕ) → now ≡ noted_next context noted version → FitsNoted now version →
+    is_altered context noted version ≡ false
+fits_unaltered None noted now version is fits = refl
+fits_unaltered (Some m) None now version is fits = refl
+fits_unaltered (Some m) (Some noted) now version is fits = same_version noted version (subst (λ (x : Option ℕ). FitsNoted x version) is fits)
+
+stops_past : (test : Bool) (here kind : ErrorKind) (Later : Type 0) → test ≡ false → Later → StopsIf test here kind Later
+stops_past test here kind Later unmet h = rw unmet h
+
+stops_later : (test : Bool) (here kind : ErrorKind) (Later : Type 0) → test ≡ false → StopsIf test here kind Later → Later
+stops_later test here kind Later unmet h = subst (λ (b : Bool). StopsIf b here kind Later) unmet h
+
+made_past : {C : Type 0} (context : Option C) (Q : C → Type 0) (Cause Later : Type 0) → IfContext context Q → Later → MadeOr context Cause Later
+made_past None Q Cause Later there h = absurd there
+made_past (Some m) Q Cause Later there h = h
+
+module _ {C : Type 0} (c : Meaning ContextSetting C) where
+  on_step : (negotiated : Bool) (Q : Type 0) → negotiated ≡ true → OnStep c negotiated Q → Q
+  on_step true Q was h = h
+  on_step false Q was h = absurd (cc (was))
+
+  nego_negotiated : (status : Option SecurityStatus) (new : ClientView C) (kind : ErrorKind) → new.acts.status ≡ status →
+      (IsSome new.acts.status → new.acts.negotiated ≡ true) → NegoCause c status new kind → new.acts.negotiated ≡ true
+  nego_negotiated None new kind is answered h = h
+  nego_negotiated (Some status) new kind is answered h = answered (rw is refl)
+
+  kept_cause : (kept : Option TsRequest) (request : TsRequest) (new : ClientView C) (kind : ErrorKind) → kept ≡ Some request → KeptCause c kept new kind →
+      NegoCause c new.acts.status new kind
+  kept_cause None request new kind is h = absurd (cc (is))
+  kept_cause (Some held) request new kind is h = h
+
+  resumed_nego : (start : ClientView C) (d : TsRequest) (mid new : ClientView C) (kind : ErrorKind) → IsUnderway c start d mid → ResumeCause c mid new kind →
+      NegoCause c new.acts.status new kind
+  resumed_nego start d mid new kind way cause =
+      kept_cause mid.kept _ new kind way.kept
+      (stops_later (not (is_waiting_in c mid.context)) OutOfSequence kind _ (rw way.waiting refl) cause)
+
+  state_cause : (state : CredSspState) (d : TsRequest) (new : ClientView C) (kind : ErrorKind) → state ≡ NegoToken → NegoCause c new.acts.status new kind →
+      StateCause c state d new kind
+  state_cause state d new kind is h = rw is h
+
+  resumed_cause : (start : ClientView C) (d : TsRequest) (mid new : ClientView C) (log : List Asked) (error : Error) → IsUnderway c start d mid →
+      ResumeCause c mid new error.error_type → ClientTurn c start d (Stopped error.error_type None) new → HasStepped c start d log (Err error) new →
+      ClientCause c start d new error.error_type
+  resumed_cause start d mid new log error way cause turn step =
+      let nego = resumed_nego start d mid new error.error_type way cause in
+      let negotiated : new.acts.negotiated ≡ true = nego_negotiated new.acts.status new error.error_type refl turn.turn.acts.answered nego in
+      stops_past (is_waiting_in c start.context) OutOfSequence error.error_type _ way.ready.idle
+      (stops_past _ InvalidToken error.error_type _ way.ready.code
+      (stops_past (is_altered start.context start.noted d.version) MessageAltered error.error_type _
+      (fits_unaltered start.context start.noted mid.noted d.version way.ready.noted way.ready.fits)
+      (made_past new.context _ _ _ (on_step new.acts.negotiated _ negotiated step)
+      (state_cause start.state d new error.error_type (sym way.ready.state ∙ way.state) nego))))
+
+  pub resumed_refuses : (start : ClientView C) (d : TsRequest) (mid new : ClientView C) (log : List Asked) (error : Error) → IsUnderway c start d mid →
+      (error.error_type ≢ InsufficientMemory → ResumeCause c mid new error.error_type) → error.nstatus ≡ None →
+      ClientTurn c start d (Stopped error.error_type None) new → HasStepped c start d log (Err error) new → ClientRefuses c start d error new
+  resumed_refuses start d mid new log error way cause plain turn step = record {
+    cause = λ other. resumed_cause start d mid new log error way (cause other) turn step;
+    status = rw (way.ready.idle, way.ready.code) plain;
+    steps = record { asked = log; step = step };
+  }
+
+pub proxy_on : {P : Type 0} (told : P → Option (List AuthIdentity)) (failing : P → Option (List ℕ)) (faults : P → ℕ) (a b d : P) →
+    ProxyStays told failing faults a b → ProxyStays told failing faults b d → ProxyStays told failing faults a d
+proxy_on told failing faults a b d first next = record {
+  told_same = next.told_same ∙ first.told_same;
+  failing_same = next.failing_same ∙ first.failing_same;
+  counted = omega (arith, first.counted, next.counted);
+  calm = λ none. next.calm (first.failing_same ∙ none) ∙ first.calm none;
+}

@@ -1,0 +1,121 @@
+-- A server's turn over one context is a turn over another that differs in its counts alone, or over any where it says
+-- nothing of the context.
+use Rattle.std.proofs.Common.{◌≡◌, ℕ, true, List, sym, ◌∙◌, ap, subst, refl, Option, None, Some, IsSome}
+use Rattle.sspi_mech.specs.Context.{IsContext}
+use Rattle.sspi_mech.specs.Meaning.{Meaning}
+use Rattle.sspi_tsreq.specs.declared.request.TsRequest.{TsRequest}
+use Rattle.sspi_types.specs.declared.security_status.SecurityStatus.{SecurityStatus}
+use Rattle.sspi_types.specs.declared.security_status.SecurityStatus.TheVariants as statuses
+use Rattle.sspi_credssp.specs.declared.public_key.EndpointType.TheVariants.{Client, Server}
+use Rattle.sspi_credssp.specs.declared.state.CredSspState.{CredSspState}
+use Rattle.sspi_credssp.specs.declared.state.CredSspState.TheVariants.{NegoToken, PubKeyInfo, AuthInfo, Final}
+use Rattle.sspi_credssp.specs.Context.{ContextSetting}
+use Rattle.sspi_credssp.specs.Counts.{SameBut}
+use Rattle.sspi_credssp.specs.ErrorRequest.{version_back}
+use Rattle.sspi_credssp.specs.PublicKey.{prescribed}
+use Rattle.sspi_credssp.specs.Requests.{nonce_of}
+use Rattle.sspi_credssp.specs.ServerTurn.{IsServerTurn, ServerActs, Proven, ServerReplies, StateAnswer, NegoAnswer, OverAnswer, TokenAnswer, ProofAnswer, MayCheck}
+use Rattle.sspi_credssp.specs.Turn.{Turn, ServerFrame, Came, Replied, Ended, Finished, Stopped, UnlessStopped, AtNoted}
+use Rattle.sspi_delegate.proofs.ClientOver.{seals_still, opens_still, at_noted}
+
+-- a fact of a turn that was refused
+abbrev pub OnceStopped : Came → Type 0 → Type 0
+OnceStopped (Replied reply) P = Unit {0}
+OnceStopped (Ended reply) P = Unit {0}
+OnceStopped Finished P = Unit {0}
+OnceStopped (Stopped kind reply) P = P
+
+-- a frame as another turn over the same end sees it, as far as the turn speaks of it
+pub record SameFrame {C : Type 0} (c : Meaning ContextSetting C) (f g : ServerFrame C) (t : Turn) : Type 0 where
+  pub public_key : g.public_key ≡ f.public_key
+  pub version : g.version ≡ f.version
+  pub state : g.state ≡ f.state
+  pub noted : UnlessStopped t.came (g.noted ≡ f.noted)
+  pub proved : t.acts.proved ≡ true → (g.noted ≡ f.noted) × (g.made ≡ f.made) × (g.opened ≡ f.opened) × SameBut c f.context g.context
+  pub refused : OnceStopped t.came ((g.context ≡ f.context) × (IsSome f.context → g.noted ≡ f.noted))
+
+module _ {C : Type 0} (c : Meaning ContextSetting C) (law : IsContext c) where
+  proven_over : (f g : ServerFrame C) (t : Turn) (noted : ℕ) → SameFrame c f g t → t.acts.proved ≡ true → Proven c f.context f.opened f.public_key t.delivered noted → Proven c g.context g.opened g.public_key t.delivered noted
+  proven_over f g t noted same was h = let k = same.proved was in record {
+    opens = rw (k.2, same.public_key)
+        (opens_still c law f.context g.context f.opened t.delivered.pub_key_auth (prescribed Client noted (nonce_of t.delivered.client_nonce) f.public_key) k.3 h.opens);
+    nonce = h.nonce;
+  }
+
+  acts_over : (f g : ServerFrame C) (t : Turn) → SameFrame c f g t → ServerActs c f t → ServerActs c g t
+  acts_over f g t same acts = record {
+    negotiated = λ was. same.state ∙ acts.negotiated was;
+    answered = acts.answered;
+    checked = λ was. (subst (λ (s : CredSspState). MayCheck s t.acts.status) (sym same.state) (acts.checked was).0, (acts.checked was).1);
+    proved = λ was. (
+      (acts.proved was).0,
+      at_noted c law f.noted g.noted _ _ (same.proved was).0 (λ noted h. proven_over f g t noted same was h) (acts.proved was).1,
+    );
+    opened = λ was. (same.state ∙ (acts.opened was).0, (acts.opened was).1);
+    sealed = acts.sealed;
+  }
+
+  token_over : (f g : ServerFrame C) (t : Turn) (reply : TsRequest) → SameFrame c f g t → TokenAnswer c f t reply → TokenAnswer c g t reply
+  token_over f g t reply same h = record { reply = rw same.version h.reply }
+
+  proof_over : (f g : ServerFrame C) (t : Turn) (reply : TsRequest) → SameFrame c f g t → ProofAnswer c f t reply → ProofAnswer c g t reply
+  proof_over f g t reply same h = let k = same.proved h.proved in record {
+    checked = h.checked;
+    proved = h.proved;
+    reply = rw same.version h.reply;
+    proof = at_noted c law f.noted g.noted _ _ k.0 (λ noted seals.
+        rw (k.1, same.public_key)
+        (seals_still c law f.context g.context f.made (prescribed Server noted (nonce_of t.delivered.client_nonce) f.public_key) reply.pub_key_auth k.3 seals)) h.proof;
+  }
+
+  over_over : (f g : ServerFrame C) (t : Turn) (blob : Option (List ℕ)) (reply : TsRequest) → SameFrame c f g t → OverAnswer c f t blob reply → OverAnswer c g t blob reply
+  over_over f g t None reply same h = (token_over f g t reply same h.0, h.1, h.2)
+  over_over f g t (Some blob) reply same h = proof_over f g t reply same h
+
+  nego_over : (f g : ServerFrame C) (t : Turn) (answered : Option SecurityStatus) (reply : TsRequest) → SameFrame c f g t →
+      NegoAnswer c f t answered reply → NegoAnswer c g t answered reply
+  nego_over f g t None reply same h = h
+  nego_over f g t (Some statuses.ContinueNeeded) reply same h = (token_over f g t reply same h.0, h.1)
+  nego_over f g t (Some statuses.CompleteNeeded) reply same h = over_over f g t t.delivered.pub_key_auth reply same h
+  nego_over f g t (Some statuses.Ok) reply same h = over_over f g t t.delivered.pub_key_auth reply same h
+  nego_over f g t (Some other) reply same h = h
+
+  state_over : (f g : ServerFrame C) (t : Turn) (state : CredSspState) (reply : TsRequest) → SameFrame c f g t →
+      StateAnswer c f t state reply → StateAnswer c g t state reply
+  state_over f g t NegoToken reply same h = nego_over f g t t.acts.status reply same h
+  state_over f g t PubKeyInfo reply same h = proof_over f g t reply same h
+  state_over f g t AuthInfo reply same h = h
+  state_over f g t Final reply same h = h
+
+  back_over : (context : Option C) (noted noted2 : Option ℕ) (delivered own : ℕ) → (IsSome context → noted2 ≡ noted) →
+      version_back context noted2 delivered own ≡ version_back context noted delivered own
+  back_over None noted noted2 delivered own same = refl
+  back_over (Some m) noted noted2 delivered own same = rw (same refl) refl
+
+  replies_over : (f g : ServerFrame C) (t : Turn) (came : Came) → SameFrame c f g t →
+      OnceStopped came ((g.context ≡ f.context) × (IsSome f.context → g.noted ≡ f.noted)) → ServerReplies c f t came → ServerReplies c g t came
+  replies_over f g t (Replied reply) same once h =
+      subst (λ (s : CredSspState). StateAnswer c g t s reply) (sym same.state) (state_over f g t f.state reply same h)
+  replies_over f g t (Ended reply) same once h = h
+  replies_over f g t Finished same once h = (same.state ∙ h.0, h.1)
+  replies_over f g t (Stopped kind None) same once h = h
+  replies_over f g t (Stopped kind (Some reply)) same once h =
+      let back : version_back g.context g.noted t.delivered.version g.version ≡ version_back f.context f.noted t.delivered.version f.version =
+      ap (λ (x : Option C). version_back x g.noted t.delivered.version g.version) once.0
+      ∙ ap (λ (v : ℕ). version_back f.context g.noted t.delivered.version v) same.version
+      ∙ back_over f.context f.noted g.noted t.delivered.version f.version once.1 in
+      rw (same.state, back) h
+
+  fits_over : (noted noted2 : Option ℕ) (version : ℕ) (came : Came) → UnlessStopped came (noted2 ≡ noted) →
+      UnlessStopped came (AtNoted noted (λ n. version ≡ n)) → UnlessStopped came (AtNoted noted2 (λ n. version ≡ n))
+  fits_over noted noted2 version (Replied reply) same h = rw same h
+  fits_over noted noted2 version (Ended reply) same h = rw same h
+  fits_over noted noted2 version Finished same h = rw same h
+  fits_over noted noted2 version (Stopped kind reply) same h = h
+
+  pub server_over : (f g : ServerFrame C) (t : Turn) → SameFrame c f g t → IsServerTurn c f t → IsServerTurn c g t
+  server_over f g t same turn = record {
+    version = fits_over f.noted g.noted t.delivered.version t.came same.noted turn.version;
+    acts = acts_over f g t same turn.acts;
+    reply = replies_over f g t t.came same same.refused turn.reply;
+  }

@@ -1,0 +1,278 @@
+-- One more turn of a server: what holds of its turns so far holds of them with this one.
+use Rattle.std.proofs.Common.{◌≡◌, ℕ, ◌+◌, Bool, true, false, ◌&&◌, List, [], ◌∷◌, sym, ◌∙◌, ap, subst, refl, Option, None, Some, IsSome, if◌then◌else◌}
+use Rattle.sspi_types.specs.declared.security_status.SecurityStatus.{SecurityStatus}
+use Rattle.sspi_types.specs.declared.security_status.SecurityStatus.TheVariants as statuses
+use Rattle.sspi_mech.specs.Context.{IsContext}
+use Rattle.sspi_mech.specs.Meaning.{Meaning}
+use Rattle.sspi_tsreq.specs.declared.request.TsRequest.{TsRequest}
+use Rattle.sspi_credssp.specs.declared.state.CredSspState.{CredSspState}
+use Rattle.sspi_credssp.specs.declared.state.CredSspState.TheVariants.{NegoToken, PubKeyInfo, AuthInfo, Final}
+use Rattle.sspi_credssp.specs.Acts.{sealed_by, unsealed_by}
+use Rattle.sspi_credssp.specs.Context.{ContextSetting}
+use Rattle.sspi_credssp.specs.Counts.{sealed_in, unsealed_in, SameBut}
+use Rattle.sspi_credssp.specs.Server.{ServerView, IsFreshServer}
+use Rattle.sspi_credssp.specs.ServerTurn.{ServerActs, ServerReplies, StateAnswer, NegoAnswer, ServerTurn, SameServer, StartsUnused, server_frame, server_turn, noted_first, after_reply, IsOver, MayCheck, OnceNegotiated}
+use Rattle.sspi_credssp.specs.Turn.{Turn, Came, Replied, Ended, Finished, Stopped, ServerFrame}
+use Rattle.sspi_delegate.specs.EndTurns.{made_in, opened_in, is_replied, is_finished, any_proved, any_finished, WentOn, AllWentOn}
+use Rattle.sspi_delegate.specs.ServerRun.{is_over, any_over, server_state, server_noted, ServerEnd, server_end, server_frame_at, EachServerTurn, ServerRan, ServerFollows}
+use Rattle.sspi_delegate.proofs.EndSteps.{IsQuiet, AllQuiet, or_false, or_not, is_false, quiet_made, unused_in, same_but, Touched, touched, untouched, unless_given, unless_map, made_by_proof, opened_by_check}
+use Rattle.sspi_delegate.proofs.ServerOver.{OnceStopped, server_over}
+
+-- ---- the state
+
+state_nego : (finished proved over : Bool) →
+    (if finished then Final else (if proved then AuthInfo else (if over then PubKeyInfo else NegoToken))) ≡ NegoToken →
+    (finished ≡ false) × (proved ≡ false) × (over ≡ false)
+state_nego true proved over h = absurd (cc (h))
+state_nego false true over h = absurd (cc (h))
+state_nego false false true h = absurd (cc (h))
+state_nego false false false h = (refl, refl, refl)
+
+nego_state : (past : List Turn) → any_finished past ≡ false → any_proved past ≡ false → any_over past ≡ false → server_state past ≡ NegoToken
+nego_state past unfinished unproved going = rw (unfinished, unproved, going) refl
+
+-- ---- the version that is noted
+
+noted_some : (t : Turn) (past : List Turn) → IsSome (server_noted (t ∷ past))
+noted_some t [] = refl
+noted_some t (u ∷ past) = noted_some u past
+
+noted_kept : (noted : Option ℕ) (version : ℕ) → IsSome noted → noted_first noted version ≡ noted
+noted_kept None version some = absurd (cc (some))
+noted_kept (Some noted) version some = refl
+
+noted_more : (noted : Option ℕ) (t : Turn) (past : List Turn) → noted ≡ server_noted past → noted_first noted t.delivered.version ≡ server_noted (t ∷ past)
+noted_more noted t [] is = rw is refl
+noted_more noted t (u ∷ past) is = noted_kept noted t.delivered.version (rw is (noted_some u past)) ∙ is
+
+module _ {C : Type 0} (c : Meaning ContextSetting C) where
+  -- ---- turns that came before the end of the authentication
+
+  -- while tokens are exchanged nothing is checked, proved or opened
+  quiet_token : (f : ServerFrame C) (t : Turn) → ServerActs c f t → f.state ≡ NegoToken → (IsOver t.acts.status → ⊥) → t.acts.proved ≡ false → IsQuiet t.acts
+  quiet_token f t acts nego going unproved = record {
+    proved = unproved;
+    checked = is_false t.acts.checked (λ was. going (subst (λ (s : CredSspState). MayCheck s t.acts.status) nego (acts.checked was).0));
+    sealed = acts.sealed;
+    opened = is_false t.acts.opened (λ was. let s = (acts.opened was).0 in absurd (cc (s, nego)));
+  }
+
+  quiet_nego : (f : ServerFrame C) (t : Turn) (status : Option SecurityStatus) (reply : TsRequest) → t.acts.status ≡ status → is_over status ≡ false →
+      NegoAnswer c f t status reply → (IsOver t.acts.status → ⊥) × (t.acts.proved ≡ false)
+  quiet_nego f t None reply is over h = absurd h
+  quiet_nego f t (Some statuses.ContinueNeeded) reply is over h = (rw is (λ x. x), h.1)
+  quiet_nego f t (Some statuses.CompleteNeeded) reply is over h = absurd (cc (over))
+  quiet_nego f t (Some statuses.Ok) reply is over h = absurd (cc (over))
+  quiet_nego f t (Some statuses.CompleteAndContinue) reply is over h = absurd h
+  quiet_nego f t (Some statuses.LocalLogon) reply is over h = absurd h
+  quiet_nego f t (Some statuses.ContextExpired) reply is over h = absurd h
+  quiet_nego f t (Some statuses.IncompleteCredentials) reply is over h = absurd h
+  quiet_nego f t (Some statuses.Renegotiate) reply is over h = absurd h
+  quiet_nego f t (Some statuses.NoLsaContext) reply is over h = absurd h
+
+  quiet_turn : (f : ServerFrame C) (t : Turn) (came : Came) → ServerActs c f t → f.state ≡ NegoToken → WentOn came → ServerReplies c f t came →
+      is_replied came && is_over t.acts.status ≡ false → IsQuiet t.acts
+  quiet_turn f t (Replied reply) acts nego went h over =
+      let k = quiet_nego f t t.acts.status reply refl over (subst (λ (s : CredSspState). StateAnswer c f t s reply) nego h) in
+      quiet_token f t acts nego k.0 k.1
+  quiet_turn f t (Ended reply) acts nego went h over = absurd h
+  quiet_turn f t Finished acts nego went h over = absurd went
+  quiet_turn f t (Stopped kind reply) acts nego went h over = absurd went
+
+  all_quiet : (e : ServerEnd C) (past : List Turn) → EachServerTurn c e past → AllWentOn past → any_finished past ≡ false → any_proved past ≡ false →
+      any_over past ≡ false → AllQuiet past
+  all_quiet e [] each went unfinished unproved going = tt
+  all_quiet e (t ∷ past) each went unfinished unproved going =
+      let p = or_false (is_finished t.came) (any_finished past) unfinished in
+      let q = or_false (is_replied t.came && t.acts.proved) (any_proved past) unproved in
+      let r = or_false (is_replied t.came && is_over t.acts.status) (any_over past) going in (
+        quiet_turn (server_frame_at e past t) t t.came each.0.acts (nego_state past p.1 q.1 r.1) went.0 each.0.reply r.0,
+        all_quiet e past each.1 went.1 p.1 q.1 r.1,
+      )
+
+  -- ---- the turns before, over the context that the newest one left
+
+  pub record SameEnd (e e2 : ServerEnd C) : Type 0 where
+    pub public_key : e2.public_key ≡ e.public_key
+    pub version : e2.version ≡ e.version
+
+  went_once : (came : Came) (P : Type 0) → WentOn came → OnceStopped came P
+  went_once (Replied reply) P went = tt
+  went_once (Ended reply) P went = tt
+  went_once Finished P went = tt
+  went_once (Stopped kind reply) P went = absurd went
+
+  each_over : (law : IsContext c) (e e2 : ServerEnd C) (past : List Turn) → SameEnd e e2 → AllWentOn past → Touched (SameBut c e.context e2.context) past →
+      EachServerTurn c e past → EachServerTurn c e2 past
+  each_over law e e2 [] same went touch each = tt
+  each_over law e e2 (t ∷ past) same went touch each = (
+    server_over c law (server_frame_at e past t) (server_frame_at e2 past t) t (record {
+      public_key = same.public_key;
+      version = same.version;
+      state = refl;
+      noted = unless_given t.came _ refl;
+      proved = λ was. (refl, refl, refl, touch.0 was);
+      refused = went_once t.came _ went.0;
+    }) each.0,
+    each_over law e e2 past same went.1 touch.2 each.1,
+  )
+
+  -- a turn that opens the credentials checks no proof
+  checked_alone : (f : ServerFrame C) (t : Turn) → ServerActs c f t → t.acts.checked ≡ true → t.acts.opened ≡ false
+  checked_alone f t acts was = is_false t.acts.opened (λ opened.
+      subst (λ (s : CredSspState). MayCheck s t.acts.status) (acts.opened opened).0 (acts.checked was).0)
+
+  opened_alone : (f : ServerFrame C) (t : Turn) → ServerActs c f t → t.acts.opened ≡ true → t.acts.checked ≡ false
+  opened_alone f t acts was = is_false t.acts.checked (λ checked. let s = checked_alone f t acts checked in absurd (cc (s, was)))
+
+  once : (came : Came) (Q : Type 0) → Q → OnceStopped came Q
+  once (Replied reply) Q h = tt
+  once (Ended reply) Q h = tt
+  once Finished Q h = tt
+  once (Stopped kind reply) Q h = h
+
+  nego_moves : (status : Option SecurityStatus) (proved : Bool) → (is_over status ≡ false → (status ≡ Some statuses.ContinueNeeded) × (proved ≡ false)) →
+      after_reply NegoToken proved status ≡ (if proved then AuthInfo else (if is_over status then PubKeyInfo else NegoToken))
+  nego_moves None true h = refl
+  nego_moves None false h = let k = (h refl).0 in absurd (cc (k))
+  nego_moves (Some statuses.Ok) true h = refl
+  nego_moves (Some statuses.Ok) false h = refl
+  nego_moves (Some statuses.CompleteNeeded) true h = refl
+  nego_moves (Some statuses.CompleteNeeded) false h = refl
+  nego_moves (Some statuses.ContinueNeeded) true h = refl
+  nego_moves (Some statuses.ContinueNeeded) false h = refl
+  nego_moves (Some statuses.CompleteAndContinue) proved h = let k = (h refl).0 in absurd (cc (k))
+  nego_moves (Some statuses.LocalLogon) proved h = let k = (h refl).0 in absurd (cc (k))
+  nego_moves (Some statuses.ContextExpired) proved h = let k = (h refl).0 in absurd (cc (k))
+  nego_moves (Some statuses.IncompleteCredentials) proved h = let k = (h refl).0 in absurd (cc (k))
+  nego_moves (Some statuses.Renegotiate) proved h = let k = (h refl).0 in absurd (cc (k))
+  nego_moves (Some statuses.NoLsaContext) proved h = let k = (h refl).0 in absurd (cc (k))
+
+  nego_status : (f : ServerFrame C) (t : Turn) (status : Option SecurityStatus) (reply : TsRequest) → NegoAnswer c f t status reply → is_over status ≡ false →
+      (status ≡ Some statuses.ContinueNeeded) × (t.acts.proved ≡ false)
+  nego_status f t None reply h over = absurd h
+  nego_status f t (Some statuses.ContinueNeeded) reply h over = (refl, h.1)
+  nego_status f t (Some statuses.CompleteNeeded) reply h over = absurd (cc (over))
+  nego_status f t (Some statuses.Ok) reply h over = absurd (cc (over))
+  nego_status f t (Some statuses.CompleteAndContinue) reply h over = absurd h
+  nego_status f t (Some statuses.LocalLogon) reply h over = absurd h
+  nego_status f t (Some statuses.ContextExpired) reply h over = absurd h
+  nego_status f t (Some statuses.IncompleteCredentials) reply h over = absurd h
+  nego_status f t (Some statuses.Renegotiate) reply h over = absurd h
+  nego_status f t (Some statuses.NoLsaContext) reply h over = absurd h
+
+  state_key : (finished proved over : Bool) →
+      (if finished then Final else (if proved then AuthInfo else (if over then PubKeyInfo else NegoToken))) ≡ PubKeyInfo → finished ≡ false
+  state_key true proved over h = absurd (cc (h))
+  state_key false proved over h = refl
+
+  state_moved : (f : ServerFrame C) (t : Turn) (past : List Turn) (state : CredSspState) (reply : TsRequest) → state ≡ server_state past →
+      t.came ≡ Replied reply → StateAnswer c f t state reply → after_reply state t.acts.proved t.acts.status ≡ server_state (t ∷ past)
+  state_moved f t past NegoToken reply is came h =
+      let s = state_nego (any_finished past) (any_proved past) (any_over past) (sym is) in
+      rw (came, s.0, s.1, s.2, or_not t.acts.proved, or_not (is_over t.acts.status))
+      (nego_moves t.acts.status t.acts.proved (nego_status f t t.acts.status reply h))
+  state_moved f t past PubKeyInfo reply is came h =
+      let s = state_key (any_finished past) (any_proved past) (any_over past) (sym is) in
+      rw (came, s, h.proved) refl
+  state_moved f t past AuthInfo reply is came h = absurd h
+  state_moved f t past Final reply is came h = absurd h
+
+  touched_by : (e : ServerEnd C) (state : CredSspState) (past : List Turn) (Q : Type 0) → state ≡ server_state past → EachServerTurn c e past →
+      AllWentOn past → OnceNegotiated state Q → Touched Q past
+  touched_by e NegoToken past Q is each went bare =
+      let s = state_nego (any_finished past) (any_proved past) (any_over past) (sym is) in
+      untouched Q past (all_quiet e past each went s.0 s.1 s.2)
+  touched_by e PubKeyInfo past Q is each went bare = touched Q past bare
+  touched_by e AuthInfo past Q is each went bare = touched Q past bare
+  touched_by e Final past Q is each went bare = touched Q past bare
+
+  module _ {P : Type 0} where
+    starts_unused : (first old : ServerView C P) (past : List Turn) → ServerFollows c first old past → StartsUnused c old
+    starts_unused first old past follows nego =
+        let s = state_nego (any_finished past) (any_proved past) (any_over past) (sym follows.state ∙ nego) in
+        let none = quiet_made past (all_quiet (server_end old) past follows.ran.each follows.going s.0 s.1 s.2) in
+        unused_in c old.context (follows.ran.made ∙ none.0) (follows.ran.opened ∙ none.1)
+
+    -- ---- one more turn
+
+    same_on : (a b d : ServerView C P) → SameServer c a b → SameServer c b d → SameServer c a d
+    same_on a b d first after = record {
+      public_key = after.public_key ∙ first.public_key;
+      version = after.version ∙ first.version;
+      mode = after.mode ∙ first.mode;
+    }
+
+    same_end : (old new : ServerView C P) → SameServer c old new → SameEnd (server_end old) (server_end new)
+    same_end old new same = record { public_key = same.public_key; version = same.version }
+
+    pub server_turned : (law : IsContext c) (first old new : ServerView C P) (past : List Turn) (d : TsRequest) (came : Came) →
+        ServerFollows c first old past → ServerTurn c old d came new → ServerRan c first new (server_turn c d came new ∷ past)
+    server_turned law first old new past d came follows turn =
+        let unused = starts_unused first old past follows in
+        let t : Turn = server_turn c d came new in
+        let made : sealed_in c new.context ≡ made_in past + sealed_by new.acts = turn.moves.sealed unused ∙ ap (λ (n : ℕ). n + sealed_by new.acts) follows.ran.made in
+        let opened : unsealed_in c new.context ≡ opened_in past + unsealed_by new.acts = turn.moves.unsealed unused ∙ ap (λ (n : ℕ). n + unsealed_by new.acts) follows.ran.opened in
+        let noted : noted_first old.noted d.version ≡ server_noted (t ∷ past) = noted_more old.noted t past follows.noted in
+        record {
+          same = same_on first old new follows.ran.same turn.moves.same;
+          made = made;
+          opened = opened;
+          each = (
+            server_over c law (server_frame c old new) (server_frame_at (server_end new) past t) t (record {
+              public_key = refl;
+              version = refl;
+              state = sym follows.state;
+              noted = unless_map came _ _ (λ some. sym (turn.moves.noted some ∙ noted)) turn.moves.begun;
+              proved = λ was. (
+                sym (turn.moves.noted_proved was ∙ noted),
+                made_by_proof new.acts (made_in past) (sealed_in c new.context) made was turn.turn.acts.sealed,
+                opened_by_check new.acts (opened_in past) (unsealed_in c new.context) opened (turn.turn.acts.proved was).0
+                    (checked_alone (server_frame c old new) t turn.turn.acts (turn.turn.acts.proved was).0),
+                same_but c new.context,
+              );
+              refused = once came _ (refl, λ some. sym (turn.moves.noted some ∙ noted));
+            }) turn.turn,
+            each_over law (server_end old) (server_end new) past (same_end old new turn.moves.same) follows.going
+                (touched_by (server_end old) old.state past (SameBut c old.context new.context) follows.state follows.ran.each follows.going turn.moves.bare)
+                follows.ran.each,
+          );
+          others = follows.going;
+        }
+
+    pub server_follows : (law : IsContext c) (first old new : ServerView C P) (past : List Turn) (d : TsRequest) (reply : TsRequest) →
+        ServerFollows c first old past → ServerTurn c old d (Replied reply) new → ServerFollows c first new (server_turn c d (Replied reply) new ∷ past)
+    server_follows law first old new past d reply follows turn = record {
+      ran = server_turned law first old new past d (Replied reply) follows turn;
+      state = turn.moves.state
+          ∙ state_moved (server_frame c old new) (server_turn c d (Replied reply) new) past old.state reply follows.state refl turn.turn.reply;
+      noted = turn.moves.noted turn.moves.begun ∙ noted_more old.noted (server_turn c d (Replied reply) new) past follows.noted;
+      going = (tt, follows.going);
+    }
+
+    pub server_finished : (law : IsContext c) (first old new : ServerView C P) (past : List Turn) (d : TsRequest) →
+        ServerFollows c first old past → ServerTurn c old d Finished new → ServerRan c first new (server_turn c d Finished new ∷ past)
+    server_finished law first old new past d follows turn = server_turned law first old new past d Finished follows turn
+
+    pub server_emptied : (first now : ServerView C P) (past : List Turn) → ServerRan c first now past → ServerRan c first (record now { output = [] }) past
+    server_emptied first now past ran = record {
+      same = record { public_key = ran.same.public_key; version = ran.same.version; mode = ran.same.mode };
+      made = ran.made;
+      opened = ran.opened;
+      each = ran.each;
+      others = ran.others;
+    }
+
+    pub server_fresh : (first : ServerView C P) → IsFreshServer first → ServerFollows c first first []
+    server_fresh first fresh = record {
+      ran = record {
+        same = record { public_key = refl; version = refl; mode = refl };
+        made = rw fresh.context refl;
+        opened = rw fresh.context refl;
+        each = tt;
+        others = tt;
+      };
+      state = fresh.state;
+      noted = fresh.noted;
+      going = tt;
+    }

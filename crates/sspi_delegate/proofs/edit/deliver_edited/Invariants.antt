@@ -1,0 +1,7 @@
+use Rattle.std.proofs.Common.{◌≡◌, drop}
+use Rattle.sspi_delegate.specs.Edits.{edited, sent_texts}
+use Rattle.sspi_delegate.proofs.edit.deliver_edited.Given as goal
+
+abbrev pub invariant-loop-edit : goal.invariant-loop-edit
+invariant-loop-edit l =
+    edited (drop l.edit-index l.edits) (sent_texts l.entries) l.text ≡ edited l.edits (sent_texts l.entries) l.sent

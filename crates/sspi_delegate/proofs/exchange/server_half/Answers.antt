@@ -1,0 +1,83 @@
+use Rattle.std.proofs.Common.{Option}
+use Rattle.sspi_names.specs.declared.identity.AuthIdentity.{AuthIdentity}
+use Rattle.sspi_delegate.specs.declared.carried.End.TheVariants.{Server}
+use Rattle.sspi_delegate.specs.Causes.{IsServerRefusal}
+use Rattle.sspi_credssp.specs.Context.{either}
+use Rattle.sspi_delegate.proofs.Halves.{server_half_stopped, server_half_refused}
+use Rattle.sspi_delegate.proofs.LogSteps.{but_last, turned, finishes, lost, refusal_has_message, server_refused, server_left}
+use Rattle.sspi_delegate.proofs.Reading.{read_still, refused_still}
+use Rattle.sspi_delegate.proofs.exchange.server_half.Goals as goal
+
+pub returns-in-Err-clause-half : goal.returns-in-Err-clause-half
+returns-in-Err-clause-half g c base start limit next w = c.in-Err.ensures.err base start limit next (server_left limit _ next) w
+
+pub returns-in-Ok-give-clause-half : goal.returns-in-Ok-give-clause-half
+returns-in-Ok-give-clause-half g c base start limit next w =
+    c.in-Ok-give.ensures.ok base start
+    (turned base start Server c.in-Ok.request _ _ _ _ next (c.in-Ok.ensures.ok base start w) c.in-Replied.ensures.turn)
+
+pub returns-in-Err-give-clause-half : goal.returns-in-Err-give-clause-half
+returns-in-Err-give-clause-half g c base start limit next w =
+    c.in-Err-give.ensures.err base start limit
+    (turned base start Server c.in-Ok.request _ _ _ _ next (c.in-Ok.ensures.ok base start w) c.in-Replied.ensures.turn)
+
+pub returns-in-Finished-clause-half : goal.returns-in-Finished-clause-half
+returns-in-Finished-clause-half g c base start limit next w =
+    finishes base start c.in-Ok.request _ _ _ _ next (c.in-Ok.ensures.ok base start w) c.in-Finished.ensures.turn
+
+pub returns-in-Refused-clause-half : goal.returns-in-Refused-clause-half
+returns-in-Refused-clause-half g c base start limit next w =
+    let v = c.in-Ok.ensures.ok base start w in
+    server_refused base start limit c.in-Refused.error c.server_error.result c.in-Ok.request _ _ _ _ _ _
+    next v c.in-Refused.ensures.turn c.server_error.ensures
+    (c.give-given.ensures.given base start v.faults (refusal_has_message c.in-Ok.request c.in-Refused.error.error_type _ _ c.in-Refused.ensures.turn) (but_last base start Server c.in-Ok.request (IsServerRefusal c.in-Refused.error.error_type) _ _ _ _ v c.in-Refused.ensures.turn))
+    c.give-given.ensures.faults
+
+pub returns-in-Lost-clause-half : goal.returns-in-Lost-clause-half
+returns-in-Lost-clause-half g c base start limit next w =
+    lost base start limit c.in-Ok.request _ _ _ _ (c.in-Ok.ensures.ok base start w) c.in-Lost.ensures.turn
+
+pub returns-in-Ok-give-clause-server : goal.returns-in-Ok-give-clause-server
+returns-in-Ok-give-clause-server g c first follows proxy = c.in-Replied.ensures.server first follows proxy
+
+pub returns-in-Err-give-clause-server : goal.returns-in-Err-give-clause-server
+returns-in-Err-give-clause-server g c first follows proxy =
+    server_half_stopped (either g.N.Mechanism.meaning g.K.Mechanism.meaning) g.C.CredentialsProxy.told g.C.CredentialsProxy.faults first
+    c.server_round.new.server _ c.in-Err-give.error c.in-Err-give.ensures.link (c.in-Replied.ensures.server first follows proxy).ran
+
+pub returns-in-Finished-clause-server : goal.returns-in-Finished-clause-server
+returns-in-Finished-clause-server g c first follows proxy = c.in-Finished.ensures.server first follows proxy
+
+pub returns-in-Refused-clause-server : goal.returns-in-Refused-clause-server
+returns-in-Refused-clause-server g c first follows proxy =
+    server_half_refused (either g.N.Mechanism.meaning g.K.Mechanism.meaning) g.C.CredentialsProxy.told g.C.CredentialsProxy.faults first
+    c.server_round.new.server _ c.in-Refused.error c.server_error.result c.server_error.ensures (c.in-Refused.ensures.server first follows proxy)
+
+pub returns-in-Lost-clause-server : goal.returns-in-Lost-clause-server
+returns-in-Lost-clause-server g c first follows proxy = c.in-Lost.ensures.server first follows proxy
+
+pub returns-in-Err-clause-server : goal.returns-in-Err-clause-server
+returns-in-Err-clause-server g c first follows proxy =
+    server_half_stopped (either g.N.Mechanism.meaning g.K.Mechanism.meaning) g.C.CredentialsProxy.told g.C.CredentialsProxy.faults first
+    c.args.server.now _ c.in-Err.error c.in-Err.ensures.link follows.ran
+
+pub returns-in-Ok-give-clause-server_history : goal.returns-in-Ok-give-clause-server_history
+returns-in-Ok-give-clause-server_history g c first history = c.in-Replied.ensures.server_history first history
+
+pub returns-in-Err-give-clause-server_history : goal.returns-in-Err-give-clause-server_history
+returns-in-Err-give-clause-server_history g c first history = c.in-Replied.ensures.server_history first history
+
+pub returns-in-Finished-clause-server_history : goal.returns-in-Finished-clause-server_history
+returns-in-Finished-clause-server_history g c first history = c.in-Finished.ensures.server_history first history
+
+pub returns-in-Refused-clause-server_history : goal.returns-in-Refused-clause-server_history
+returns-in-Refused-clause-server_history g c first history = c.in-Refused.ensures.server_history first history
+
+pub returns-in-Lost-clause-server_history : goal.returns-in-Lost-clause-server_history
+returns-in-Lost-clause-server_history g c first history = c.in-Lost.ensures.server_history first history
+
+pub returns-in-Refused-clause-still : goal.returns-in-Refused-clause-still
+returns-in-Refused-clause-still g c =
+    refused_still (Option AuthIdentity) _ _ _ _ _ c.give-given.result c.in-Refused.error c.server_error.result _ _ _
+    c.in-Ok.ensures.told.same (read_still _ _ _ c.in-Ok.request c.in-Ok.ensures.still) c.give-given.ensures.still c.give-given.ensures.same
+    c.server_error.ensures

@@ -1,0 +1,161 @@
+-- What the turns and the log of an exchange show of its answer.
+use Rattle.std.specs.Prelude.{◌≡◌, ◌≢◌, ℕ, ◌+◌, ◌<◌, ◌≤◌, ◌⊎◌, Bool, true, false, List, [], ◌∷◌, Option, None, Some, IsSome, Result, Ok, Err}
+use Rattle.sspi_types.specs.declared.error_kind.ErrorKind.{ErrorKind}
+use Rattle.sspi_types.specs.declared.error_kind.ErrorKind.TheVariants as kinds
+use Rattle.sspi_names.specs.declared.identity.AuthIdentity.{AuthIdentity}
+use Rattle.sspi_ber.specs.Outside.{Rose}
+use Rattle.sspi_tsreq.specs.declared.request.TsRequest.{TsRequest}
+use Rattle.sspi_tsreq.specs.Spelling.{fits}
+use Rattle.sspi_delegate.specs.declared.answer.Delegation.{Delegation}
+use Rattle.sspi_delegate.specs.declared.answer.DelegateError.{DelegateError}
+use Rattle.sspi_delegate.specs.declared.answer.DelegateError.TheVariants as errors
+use Rattle.sspi_delegate.specs.declared.carried.Carried.{Carried}
+use Rattle.sspi_delegate.specs.declared.carried.End.{End}
+use Rattle.sspi_delegate.specs.declared.carried.End.TheVariants.{Client, Server}
+use Rattle.sspi_delegate.specs.declared.turn.Outcome.{Outcome}
+use Rattle.sspi_delegate.specs.declared.turn.Outcome.TheVariants.{Reply, Final, Finished, Refused}
+use Rattle.sspi_delegate.specs.declared.turn.Turn.{Turn}
+use Rattle.sspi_delegate.specs.Run.{Logged, LoggedButLast, HasLog, IsDelivered, UnreadFor, OpenFor, IsUnreadable}
+use Rattle.sspi_delegate.specs.Turns.{other, next_end, message_of, AllGoOn, Alternates}
+
+-- how many turns an end has made
+abbrev pub one_of : End → End → ℕ
+one_of Client Client = 1
+one_of Client Server = 0
+one_of Server Client = 0
+one_of Server Server = 1
+
+abbrev pub turns_of : End → List Turn → ℕ
+turns_of end [] = 0
+turns_of end (t ∷ past) = turns_of end past + one_of end t.end
+
+-- the newest turn is this end's, and ended so
+abbrev pub NewestIs : End → (Outcome → Type 0) → List Turn → Type 0
+NewestIs end P [] = ⊥
+NewestIs end P (t ∷ past) = (t.end ≡ end) × P t.outcome
+
+-- a client's refusal has no message
+abbrev pub IsClientRefusal : ErrorKind → Outcome → Type 0
+IsClientRefusal kind (Reply reply) = ⊥
+IsClientRefusal kind (Final reply) = ⊥
+IsClientRefusal kind Finished = ⊥
+IsClientRefusal kind (Refused refused None) = refused ≡ kind
+IsClientRefusal kind (Refused refused (Some reply)) = ⊥
+
+-- a server's refusal has the message that tells the client
+abbrev pub IsServerRefusal : ErrorKind → Outcome → Type 0
+IsServerRefusal kind (Reply reply) = ⊥
+IsServerRefusal kind (Final reply) = ⊥
+IsServerRefusal kind Finished = ⊥
+IsServerRefusal kind (Refused refused None) = ⊥
+IsServerRefusal kind (Refused refused (Some reply)) = refused ≡ kind
+
+abbrev pub IsFinished : Outcome → Type 0
+IsFinished (Reply reply) = ⊥
+IsFinished (Final reply) = ⊥
+IsFinished Finished = Unit {0}
+IsFinished (Refused kind reply) = ⊥
+
+-- the newest turn is not the server's last one
+abbrev pub NotFinished : List Turn → Type 0
+NotFinished [] = Unit {0}
+NotFinished (t ∷ past) = IsFinished t.outcome → ⊥
+
+-- the newest turn has a message, of which it is so that it fits
+abbrev pub MessageFits : Option TsRequest → Bool → Type 0
+MessageFits None fit = ⊥
+MessageFits (Some message) fit = fits message ≡ fit
+
+abbrev pub NewestFits : List Turn → Bool → Type 0
+NewestFits [] fit = ⊥
+NewestFits (t ∷ past) fit = MessageFits (message_of t.outcome) fit
+
+-- the newest turn has a message
+abbrev pub HasMessage : List Turn → Type 0
+HasMessage [] = ⊥
+HasMessage (t ∷ past) = IsSome (message_of t.outcome)
+
+-- a client whose turn is next has not made as many as it may
+abbrev pub TurnLeft : ℕ → List Turn → Type 0
+TurnLeft limit turns = next_end turns ≡ Client → turns_of Client turns < limit
+
+-- base: the log before the exchange; start: the link's count of faults then
+module _ (base : List Carried) (start : ℕ) where
+  -- between two turns: all went on, each has its entry, and the newest delivery is still to be read
+  pub record Between (turns : List Turn) (log : List Carried) (now : ℕ) : Type 0 where
+    pub order : Alternates turns
+    pub going : AllGoOn turns
+    pub entries : Logged base turns log
+    pub unread : UnreadFor turns log
+    pub faults : start ≤ now
+
+  -- the same, once the next request was read
+  pub record Asked (turns : List Turn) (log : List Carried) (now : ℕ) (request : TsRequest) : Type 0 where
+    pub order : Alternates turns
+    pub going : AllGoOn turns
+    pub entries : Logged base turns log
+    pub delivered : IsDelivered turns log request
+    pub faults : start ≤ now
+
+  -- a turn was made whose message is still to be carried
+  pub record Turned (turns : List Turn) (log : List Carried) (now : ℕ) : Type 0 where
+    pub order : Alternates turns
+    pub going : AllGoOn turns
+    pub entries : LoggedButLast base turns log
+    pub faults : start ≤ now
+
+  -- the server has the credentials
+  pub record Finishes (turns : List Turn) (log : List Carried) (now : ℕ) : Type 0 where
+    pub order : Alternates turns
+    pub newest : NewestIs Server IsFinished turns
+    pub entries : LoggedButLast base turns log
+    pub faults : start ≤ now
+
+  -- What came of giving the newest turn's message to the link: an entry, whose delivery was not asked for, or none, since it
+  -- does not fit, since the link failed, or for want of memory.
+  pub data Given (turns : List Turn) (log : List Carried) (now : ℕ) : Type 0 where
+    carried : Logged base turns log → UnreadFor turns log → Given turns log now
+    too_long : LoggedButLast base turns log → NewestFits turns false → Given turns log now
+    link_failed : LoggedButLast base turns log → NewestFits turns true → Rose start now → Given turns log now
+    no_memory : LoggedButLast base turns log → Given turns log now
+
+  -- what an error shows; limit: how many turns the client may make
+  abbrev pub Cause : ℕ → DelegateError → List Turn → List Carried → ℕ → Type 0
+  Cause limit (errors.Client error) turns log now =
+      (error.error_type ≢ kinds.InsufficientMemory) × NewestIs Client (IsClientRefusal error.error_type) turns × LoggedButLast base turns log
+  Cause limit (errors.Server error) turns log now =
+      (error.error_type ≢ kinds.InsufficientMemory) × NewestIs Server (IsServerRefusal error.error_type) turns × Given turns log now
+  Cause limit (errors.Read end kind) turns log now =
+      AllGoOn turns × (next_end turns ≡ end) × TurnLeft limit turns × Logged base turns log × IsUnreadable turns log kind
+  Cause limit (errors.Write end) turns log now =
+      AllGoOn turns × (next_end turns ≡ other end) × LoggedButLast base turns log × NewestFits turns false
+  Cause limit errors.LinkFault turns log now =
+      AllGoOn turns × Rose start now
+      × ((Logged base turns log × OpenFor turns log × TurnLeft limit turns) ⊎ (LoggedButLast base turns log × NewestFits turns true))
+  Cause limit errors.TurnsSpent turns log now =
+      AllGoOn turns × (next_end turns ≡ Client) × (turns_of Client turns ≡ limit) × Logged base turns log × UnreadFor turns log
+  Cause limit errors.InsufficientMemory turns log now = NotFinished turns × HasLog base turns log
+
+  pub record Stopped (limit : ℕ) (error : DelegateError) (turns : List Turn) (log : List Carried) (now : ℕ) : Type 0 where
+    pub order : Alternates turns
+    pub faults : start ≤ now
+    pub cause : Cause limit error turns log now
+
+  -- what half a round comes to
+  abbrev pub ClientHalf : ℕ → Result (Unit {0}) DelegateError → List Turn → List Carried → ℕ → Type 0
+  ClientHalf limit (Ok done) turns log now = Between turns log now
+  ClientHalf limit (Err error) turns log now = Stopped limit error turns log now
+
+  abbrev pub ServerHalf : ℕ → Result (Option AuthIdentity) DelegateError → List Turn → List Carried → ℕ → Type 0
+  ServerHalf limit (Ok None) turns log now = Between turns log now
+  ServerHalf limit (Ok (Some identity)) turns log now = Finishes turns log now
+  ServerHalf limit (Err error) turns log now = Stopped limit error turns log now
+
+  -- what the exchange comes to
+  abbrev pub RunEnds : ℕ → Result Delegation DelegateError → List Turn → List Carried → ℕ → Type 0
+  RunEnds limit (Ok delegation) turns log now = Finishes turns log now × (delegation.turns ≡ turns_of Client turns)
+  RunEnds limit (Err error) turns log now = Stopped limit error turns log now
+
+-- an end's refusal as an answer: want of memory is no refusal
+abbrev pub IsAnswerTo : ErrorKind → DelegateError → DelegateError → Type 0
+IsAnswerTo kind refusal answer = ((kind ≡ kinds.InsufficientMemory) × (answer ≡ errors.InsufficientMemory)) ⊎ ((kind ≢ kinds.InsufficientMemory) × (answer ≡ refusal))

@@ -1,0 +1,88 @@
+-- The turns of a client, one after another (MS-CSSP 3.1.5.1). The client's state and the version that it noted are those
+-- that its turns say.
+use Rattle.std.specs.Prelude.{◌≡◌, ℕ, List, [], ◌∷◌, Option, None, Some, IsSome, false, if◌then◌else◌}
+use Rattle.sspi_mech.specs.Meaning.{Meaning}
+use Rattle.sspi_names.specs.declared.credentials.Credentials.{Credentials}
+use Rattle.sspi_tsreq.specs.declared.mode.CredSspMode.{CredSspMode}
+use Rattle.sspi_credssp.specs.declared.state.CredSspState.{CredSspState}
+use Rattle.sspi_credssp.specs.declared.state.CredSspState.TheVariants.{NegoToken, AuthInfo, Final}
+use Rattle.sspi_credssp.specs.Client.{ClientView}
+use Rattle.sspi_credssp.specs.ClientTurn.{IsClientTurn, SameClient}
+use Rattle.sspi_credssp.specs.Context.{ContextSetting}
+use Rattle.sspi_credssp.specs.Counts.{sealed_in, unsealed_in, is_waiting_in}
+use Rattle.sspi_credssp.specs.Turn.{Turn, ClientFrame}
+use Rattle.sspi_delegate.specs.EndTurns.{made_in, opened_in, any_proved, any_ended, AllWentOn, OthersWentOn}
+
+-- the state after these turns
+abbrev pub client_state : List Turn → CredSspState
+client_state past = if any_ended past then Final else (if any_proved past then AuthInfo else NegoToken)
+
+-- the version that is noted: that of the second request, since the first is the client's own
+abbrev pub client_noted : List Turn → Option ℕ
+client_noted [] = None
+client_noted (t ∷ []) = None
+client_noted (t ∷ u ∷ []) = Some t.delivered.version
+client_noted (t ∷ u ∷ v ∷ past) = client_noted (u ∷ v ∷ past)
+
+-- what a client keeps over its turns, and its context
+pub record ClientEnd (C : Type 0) : Type 0 where
+  pub public_key : List ℕ
+  pub nonce : List ℕ
+  pub version : ℕ
+  pub credentials : Credentials
+  pub delegation : CredSspMode
+  pub context : Option C
+
+abbrev pub client_end : {C : Type 0} → ClientView C → ClientEnd C
+client_end client = record {
+  public_key = client.public_key;
+  nonce = client.nonce;
+  version = client.version;
+  credentials = client.credentials;
+  delegation = client.delegation;
+  context = client.context;
+}
+
+-- what the client is at the turn t after these turns
+abbrev pub client_frame_at : {C : Type 0} → ClientEnd C → List Turn → Turn → ClientFrame C
+client_frame_at e past t = record {
+  public_key = e.public_key;
+  nonce = e.nonce;
+  version = e.version;
+  credentials = e.credentials;
+  delegation = e.delegation;
+  state = client_state past;
+  made = made_in past;
+  opened = opened_in past;
+  noted = client_noted (t ∷ past);
+  context = e.context;
+}
+
+module _ {C : Type 0} (c : Meaning ContextSetting C) where
+  abbrev pub EachClientTurn : ClientEnd C → List Turn → Type 0
+  EachClientTurn e [] = Unit {0}
+  EachClientTurn e (t ∷ past) = IsClientTurn c (client_frame_at e past t) t × EachClientTurn e past
+
+  -- A client that was `first` and has made these turns: each is a turn over the context that it has now, which sealed and
+  -- opened exactly what the turns say.
+  pub record ClientRan (first now : ClientView C) (past : List Turn) : Type 0 where
+    pub same : SameClient c first now
+    pub made : sealed_in c now.context ≡ made_in past
+    pub opened : unsealed_in c now.context ≡ opened_in past
+    pub each : EachClientTurn (client_end now) past
+    -- only the newest turn may have been refused
+    pub others : OthersWentOn past
+
+  abbrev pub HasBegun : Option C → List Turn → Type 0
+  HasBegun context [] = context ≡ None
+  HasBegun context (t ∷ past) = IsSome context
+
+  -- none of the turns was refused, and the client is where they left it
+  pub record ClientFollows (first now : ClientView C) (past : List Turn) : Type 0 where
+    pub ran : ClientRan first now past
+    pub state : now.state ≡ client_state past
+    pub noted : now.noted ≡ client_noted past
+    pub begun : HasBegun now.context past
+    -- no turn is suspended
+    pub idle : is_waiting_in c now.context ≡ false
+    pub going : AllWentOn past

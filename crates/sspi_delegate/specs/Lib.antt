@@ -1,0 +1,17 @@
+pub mod Causes
+pub mod ClientRun
+pub mod Deliveries
+pub mod Edits
+pub mod EndTurns
+pub mod Exactly
+pub mod Headline
+pub mod History
+pub mod Link
+pub mod Log
+pub mod Messages
+pub mod Recorded
+pub mod Refusals
+pub mod Rounds
+pub mod Run
+pub mod ServerRun
+pub mod Turns

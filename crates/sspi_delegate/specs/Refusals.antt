@@ -1,0 +1,95 @@
+-- Why an end refused its last turn: what it looked at, in its order, and what its context answered.
+use Rattle.std.specs.Prelude.{◌≡◌, ◌≢◌, ◌≤◌, ◌-◌, ◌^◌, min, ℕ, List, [], ◌∷◌, Option, Some, None, Result, Ok, Err}
+use Rattle.sspi_types.specs.declared.error.Error.{Error}
+use Rattle.sspi_types.specs.declared.error_kind.ErrorKind.TheVariants.{InsufficientMemory}
+use Rattle.sspi_mech.specs.Meaning.{Meaning}
+use Rattle.sspi_mech.specs.declared.step.Reply.{Reply}
+use Rattle.sspi_names.specs.declared.network.NetworkRequest.{NetworkRequest}
+use Rattle.sspi_names.specs.declared.identity.AuthIdentity.{AuthIdentity}
+use Rattle.sspi_tsreq.specs.declared.request.TsRequest.{TsRequest}
+use Rattle.sspi_credssp.specs.declared.client_state.Progress.{Progress}
+use Rattle.sspi_credssp.specs.declared.server_state.ServerState.{ServerState}
+use Rattle.sspi_credssp.specs.Client.{ClientView}
+use Rattle.sspi_credssp.specs.ClientCause.{ClientCause, status_of}
+use Rattle.sspi_credssp.specs.ClientStep.{Asked, HasStepped}
+use Rattle.sspi_credssp.specs.ClientTurn.{client_turn}
+use Rattle.sspi_credssp.specs.Context.{ContextSetting}
+use Rattle.sspi_credssp.specs.Server.{ServerView}
+use Rattle.sspi_credssp.specs.ServerCause.{ServerCause}
+use Rattle.sspi_credssp.specs.ServerStep.{HasAccepted}
+use Rattle.sspi_credssp.specs.ServerTurn.{server_turn}
+use Rattle.sspi_credssp.specs.Turn.{Stopped}
+use Rattle.sspi_credssp.specs.Turn as end
+use Rattle.sspi_delegate.specs.declared.answer.DelegateError.{DelegateError}
+use Rattle.sspi_delegate.specs.declared.answer.DelegateError.TheVariants as errors
+use Rattle.sspi_delegate.specs.ClientRun.{ClientFollows}
+use Rattle.sspi_delegate.specs.ServerRun.{ServerFollows}
+
+-- what calls on a proxy leave: what it tells, and a count of faults that never falls, and stays where no failing call is told
+pub record ProxyStays {P : Type 0} (told : P → Option (List AuthIdentity)) (failing : P → Option (List ℕ)) (faults : P → ℕ) (old new : P) : Type 0 where
+  pub told_same : told new ≡ told old
+  pub failing_same : failing new ≡ failing old
+  pub counted : faults old ≤ faults new
+  pub calm : failing old ≡ Some [] → faults new ≡ faults old
+
+-- a count that never falls, but for where it stands past the last value that is counted
+abbrev pub NeverFalls : ℕ → ℕ → Type 0
+NeverFalls before now = min before (2 ^ 64 - 1) ≤ now
+
+-- what calls on a KDC leave
+pub record KdcStays {D : Type 0} (told : D → Option (ℕ → NetworkRequest → Reply)) (faults : D → ℕ) (old new : D) : Type 0 where
+  pub told_same : told new ≡ told old
+  pub counted : NeverFalls (faults old) (faults new)
+
+module _ {C : Type 0} (c : Meaning ContextSetting C) where
+  -- the step that a client's turn took of its context, with what a KDC was asked in it, the newest request first
+  pub record StepsSo (old : ClientView C) (d : TsRequest) (result : Result Progress Error) (new : ClientView C) : Type 0 where
+    pub asked : List Asked
+    pub step : HasStepped c old d asked result new
+
+  -- a turn of the client on d was refused
+  pub record ClientRefuses (old : ClientView C) (d : TsRequest) (error : Error) (new : ClientView C) : Type 0 where
+    pub cause : error.error_type ≢ InsufficientMemory → ClientCause c old d new error.error_type
+    pub status : error.nstatus ≡ status_of c old d
+    pub steps : StepsSo old d (Err error) new
+
+  -- The newest of a client's turns was refused with this error: before it the client was where the turns before left it.
+  pub record ClientRefused (first : ClientView C) (error : Error) (now : ClientView C) (turns : List end.Turn) : Type 0 where
+    pub old : ClientView C
+    pub new : ClientView C
+    pub d : TsRequest
+    pub past : List end.Turn
+    pub newest : turns ≡ client_turn c d (Stopped error.error_type None) new ∷ past
+    pub follows : ClientFollows c first old past
+    pub refuses : ClientRefuses old d error new
+    -- the output was taken for the record
+    pub rest : now ≡ record new { output = [] }
+
+  module _ {P : Type 0} (told : P → Option (List AuthIdentity)) (faults : P → ℕ) where
+    -- The newest of a server's turns was refused with this error: before it the server was where the turns before left it.
+    pub record ServerRefused (first : ServerView C P) (error : Error) (now : ServerView C P) (turns : List end.Turn) : Type 0 where
+      pub old : ServerView C P
+      pub new : ServerView C P
+      pub d : TsRequest
+      pub reply : Option TsRequest
+      pub past : List end.Turn
+      pub newest : turns ≡ server_turn c d (Stopped error.error_type reply) new ∷ past
+      pub follows : ServerFollows c first old past
+      pub told_before : told old.proxy ≡ told first.proxy
+      pub faults_before : faults first.proxy ≤ faults old.proxy
+      pub cause : error.error_type ≢ InsufficientMemory → ServerCause c told faults old d new error.error_type
+      pub status : error.nstatus ≡ None
+      pub step : HasAccepted c told {T = ServerState} old d (Err error) new
+      -- the output was taken for the record
+      pub rest : now ≡ record new { output = [] }
+
+    -- a refusal that an exchange answers is the one of the last turn
+    abbrev pub RefusedBy : {X : Type 0} → ClientView C → ClientView C → ServerView C P → ServerView C P → Result X DelegateError → List end.Turn → List end.Turn → Type 0
+    RefusedBy client client2 server server2 (Ok x) clients servers = Unit {0}
+    RefusedBy client client2 server server2 (Err (errors.Client error)) clients servers = ClientRefused client error client2 clients
+    RefusedBy client client2 server server2 (Err (errors.Server error)) clients servers = ServerRefused server error server2 servers
+    RefusedBy client client2 server server2 (Err (errors.Read end kind)) clients servers = Unit {0}
+    RefusedBy client client2 server server2 (Err (errors.Write end)) clients servers = Unit {0}
+    RefusedBy client client2 server server2 (Err errors.LinkFault) clients servers = Unit {0}
+    RefusedBy client client2 server server2 (Err errors.TurnsSpent) clients servers = Unit {0}
+    RefusedBy client client2 server server2 (Err errors.InsufficientMemory) clients servers = Unit {0}

@@ -1,0 +1,75 @@
+-- How the turns of an exchange and the entries of its log belong together. Both are lists, the newest first, and the
+-- entries are those that the exchange added to the log that it found.
+use Rattle.std.specs.Prelude.{◌≡◌, ℕ, ◌⊎◌, true, List, [], ◌∷◌, Option, None, Some}
+use Rattle.sspi_ber.specs.declared.wire_kind.WireKind.{WireKind}
+use Rattle.sspi_ber.specs.declared.wire_kind.WireKind.TheVariants.{UnexpectedEof, InvalidData, ReadFault, WriteFault, InsufficientMemory}
+use Rattle.sspi_ber.specs.Fault.{Ended, Invalid}
+use Rattle.sspi_tsreq.specs.declared.request.TsRequest.{TsRequest}
+use Rattle.sspi_tsreq.specs.Answer.{fault}
+use Rattle.sspi_tsreq.specs.Grammar.{IsRequest}
+use Rattle.sspi_tsreq.specs.Spelling.{fits, spelled}
+use Rattle.sspi_tsreq.specs.Value.{first_request}
+use Rattle.sspi_delegate.specs.declared.carried.Carried.{Carried}
+use Rattle.sspi_delegate.specs.declared.turn.Turn.{Turn}
+use Rattle.sspi_delegate.specs.Deliveries.{IsUnread, is_taken, HeadOpen}
+use Rattle.sspi_delegate.specs.Turns.{message_of}
+
+-- the bytes begin with this request
+abbrev pub IsRead : List ℕ → TsRequest → Type 0
+IsRead bytes request = (taken : ℕ) × IsRequest bytes request taken
+
+-- the bytes begin with no request, for this reason
+abbrev pub IsFault : List ℕ → WireKind → Type 0
+IsFault bytes UnexpectedEof = fault bytes ≡ Some Ended
+IsFault bytes InvalidData = fault bytes ≡ Some Invalid
+IsFault bytes ReadFault = ⊥
+IsFault bytes WriteFault = ⊥
+IsFault bytes InsufficientMemory = ⊥
+
+-- a turn after these turns is given this request: the first one its own, each other one what was delivered of the newest
+-- entry, which was taken whole
+abbrev pub IsDelivered : List Turn → List Carried → TsRequest → Type 0
+IsDelivered [] log request = request ≡ first_request
+IsDelivered (t ∷ past) [] request = ⊥
+IsDelivered (t ∷ past) (e ∷ log) request = (is_taken e ≡ true) × IsRead e.delivered request
+
+-- what was sent is the spelling of the message, which fits
+abbrev pub IsSent : Option TsRequest → List ℕ → Type 0
+IsSent None sent = ⊥
+IsSent (Some message) sent = (fits message ≡ true) × (sent ≡ spelled message)
+
+-- the entry is that of this turn's message
+abbrev pub IsEntry : Turn → Carried → Type 0
+IsEntry t e = (e.from ≡ t.end) × IsSent (message_of t.outcome) e.sent
+
+module _ (base : List Carried) where
+  -- each turn has its entry, and was given what the entry before delivered
+  abbrev pub Logged : List Turn → List Carried → Type 0
+  Logged [] log = log ≡ base
+  Logged (t ∷ past) [] = ⊥
+  Logged (t ∷ past) (e ∷ log) = IsEntry t e × IsDelivered past log t.delivered × Logged past log
+
+  -- the same, but for the newest turn, which has no entry
+  abbrev pub LoggedButLast : List Turn → List Carried → Type 0
+  LoggedButLast [] log = ⊥
+  LoggedButLast (t ∷ past) log = IsDelivered past log t.delivered × Logged past log
+
+  -- as many entries as turns, or one less
+  abbrev pub HasLog : List Turn → List Carried → Type 0
+  HasLog turns log = Logged turns log ⊎ LoggedButLast turns log
+
+-- where there are turns, nothing was asked of the newest delivery
+abbrev pub UnreadFor : List Turn → List Carried → Type 0
+UnreadFor [] log = Unit {0}
+UnreadFor (t ∷ past) log = IsUnread log
+
+-- there are turns, and the newest delivery was not taken whole
+abbrev pub OpenFor : List Turn → List Carried → Type 0
+OpenFor [] log = ⊥
+OpenFor (t ∷ past) log = HeadOpen log
+
+-- there are turns, and the newest delivery was taken whole and is no request, for this reason
+abbrev pub IsUnreadable : List Turn → List Carried → WireKind → Type 0
+IsUnreadable [] log kind = ⊥
+IsUnreadable (t ∷ past) [] kind = ⊥
+IsUnreadable (t ∷ past) (e ∷ log) kind = (is_taken e ≡ true) × IsFault e.delivered kind

@@ -1,0 +1,86 @@
+-- The turns of a server, one after another (MS-CSSP 3.1.5.2). The server's state and the version that it noted are those
+-- that its turns say.
+use Rattle.std.specs.Prelude.{◌≡◌, ℕ, ◌&&◌, ◌||◌, List, [], ◌∷◌, Option, None, Some, Bool, true, false, if◌then◌else◌}
+use Rattle.sspi_types.specs.declared.security_status.SecurityStatus.{SecurityStatus}
+use Rattle.sspi_types.specs.declared.security_status.SecurityStatus.TheVariants as statuses
+use Rattle.sspi_mech.specs.Meaning.{Meaning}
+use Rattle.sspi_names.specs.declared.identity.AuthIdentity.{AuthIdentity}
+use Rattle.sspi_credssp.specs.declared.state.CredSspState.{CredSspState}
+use Rattle.sspi_credssp.specs.declared.state.CredSspState.TheVariants.{NegoToken, PubKeyInfo, AuthInfo, Final}
+use Rattle.sspi_credssp.specs.Context.{ContextSetting}
+use Rattle.sspi_credssp.specs.Counts.{sealed_in, unsealed_in}
+use Rattle.sspi_credssp.specs.Server.{ServerView}
+use Rattle.sspi_credssp.specs.ServerTurn.{IsServerTurn, SameServer, HoldsIdentity}
+use Rattle.sspi_credssp.specs.Turn.{Turn, ServerFrame}
+use Rattle.sspi_delegate.specs.EndTurns.{made_in, opened_in, is_replied, any_proved, any_finished, AllWentOn, OthersWentOn}
+
+abbrev pub is_over : Option SecurityStatus → Bool
+is_over None = false
+is_over (Some statuses.Ok) = true
+is_over (Some statuses.CompleteNeeded) = true
+is_over (Some other) = false
+
+-- one of the turns has answered the last token
+abbrev pub any_over : List Turn → Bool
+any_over [] = false
+any_over (t ∷ past) = (is_replied t.came && is_over t.acts.status) || any_over past
+
+-- the state after these turns
+abbrev pub server_state : List Turn → CredSspState
+server_state past =
+    if any_finished past then Final else (if any_proved past then AuthInfo else (if any_over past then PubKeyInfo else NegoToken))
+
+-- the version that is noted: that of the first request
+abbrev pub server_noted : List Turn → Option ℕ
+server_noted [] = None
+server_noted (t ∷ []) = Some t.delivered.version
+server_noted (t ∷ u ∷ past) = server_noted (u ∷ past)
+
+-- what a server keeps over its turns, and its context
+pub record ServerEnd (C : Type 0) : Type 0 where
+  pub public_key : List ℕ
+  pub version : ℕ
+  pub context : Option C
+
+abbrev pub server_end : {C P : Type 0} → ServerView C P → ServerEnd C
+server_end server = record { public_key = server.public_key; version = server.version; context = server.context }
+
+-- what the server is at the turn t after these turns
+abbrev pub server_frame_at : {C : Type 0} → ServerEnd C → List Turn → Turn → ServerFrame C
+server_frame_at e past t = record {
+  public_key = e.public_key;
+  version = e.version;
+  state = server_state past;
+  made = made_in past;
+  opened = opened_in past;
+  noted = server_noted (t ∷ past);
+  context = e.context;
+}
+
+module _ {C : Type 0} (c : Meaning ContextSetting C) where
+  abbrev pub EachServerTurn : ServerEnd C → List Turn → Type 0
+  EachServerTurn e [] = Unit {0}
+  EachServerTurn e (t ∷ past) = IsServerTurn c (server_frame_at e past t) t × EachServerTurn e past
+
+  -- the identity is the one in the text that the context opened last, which is the newest turn's
+  abbrev pub GivesNewest : ServerEnd C → List Turn → AuthIdentity → Type 0
+  GivesNewest e [] identity = ⊥
+  GivesNewest e (t ∷ past) identity = HoldsIdentity c e.context t.delivered.auth_info identity
+
+  module _ {P : Type 0} where
+    -- A server that was `first` and has made these turns: each is a turn over the context that it has now, which sealed
+    -- and opened exactly what the turns say.
+    pub record ServerRan (first now : ServerView C P) (past : List Turn) : Type 0 where
+      pub same : SameServer c first now
+      pub made : sealed_in c now.context ≡ made_in past
+      pub opened : unsealed_in c now.context ≡ opened_in past
+      pub each : EachServerTurn (server_end now) past
+      -- only the newest turn may have been refused, or be the last
+      pub others : OthersWentOn past
+
+    -- all turns went on, and the server is where they left it
+    pub record ServerFollows (first now : ServerView C P) (past : List Turn) : Type 0 where
+      pub ran : ServerRan first now past
+      pub state : now.state ≡ server_state past
+      pub noted : now.noted ≡ server_noted past
+      pub going : AllWentOn past

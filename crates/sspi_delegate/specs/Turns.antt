@@ -1,0 +1,45 @@
+-- The turns of an exchange, the newest first.
+use Rattle.std.specs.Prelude.{◌≡◌, ℕ, List, [], ◌∷◌, Option, None, Some}
+use Rattle.sspi_tsreq.specs.declared.request.TsRequest.{TsRequest}
+use Rattle.sspi_delegate.specs.declared.carried.End.{End}
+use Rattle.sspi_delegate.specs.declared.carried.End.TheVariants.{Client, Server}
+use Rattle.sspi_delegate.specs.declared.turn.Outcome.{Outcome}
+use Rattle.sspi_delegate.specs.declared.turn.Outcome.TheVariants.{Reply, Final, Finished, Refused}
+use Rattle.sspi_delegate.specs.declared.turn.Turn.{Turn}
+
+-- a transcript: its turns, and for how many more there is room
+pub record TranscriptView : Type 0 where
+  pub turns : List Turn
+  pub room : ℕ
+
+abbrev pub other : End → End
+other Client = Server
+other Server = Client
+
+-- the client begins, and the ends take turns
+abbrev pub next_end : List Turn → End
+next_end [] = Client
+next_end (t ∷ past) = other t.end
+
+-- the message that a turn has for the peer
+abbrev pub message_of : Outcome → Option TsRequest
+message_of (Reply reply) = Some reply
+message_of (Final reply) = Some reply
+message_of Finished = None
+message_of (Refused kind reply) = reply
+
+-- the exchange goes on after this outcome
+abbrev pub GoesOn : Outcome → Type 0
+GoesOn (Reply reply) = Unit {0}
+GoesOn (Final reply) = Unit {0}
+GoesOn Finished = ⊥
+GoesOn (Refused kind reply) = ⊥
+
+abbrev pub AllGoOn : List Turn → Type 0
+AllGoOn [] = Unit {0}
+AllGoOn (t ∷ past) = GoesOn t.outcome × AllGoOn past
+
+-- the ends take turns, and only the newest turn may have ended the exchange
+abbrev pub Alternates : List Turn → Type 0
+Alternates [] = Unit {0}
+Alternates (t ∷ past) = (t.end ≡ next_end past) × AllGoOn past × Alternates past

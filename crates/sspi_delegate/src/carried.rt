@@ -1,0 +1,20 @@
+use sspi_types::Bytes;
+
+/// One of the two ends of an exchange.
+#[derive(Clone, Copy, Debug, PartialEq, Eq)]
+pub enum End {
+    Client,
+    Server,
+}
+
+/// An entry of a link's log: a message that was given to the link, and what was delivered of it.
+#[derive(Drop)]
+pub struct Carried {
+    /// The end that sent it.
+    pub from: End,
+    pub sent: Bytes,
+    /// What was handed out of the delivery so far.
+    pub delivered: Bytes,
+    /// Whether the delivery was read to its end.
+    pub ended: bool,
+}

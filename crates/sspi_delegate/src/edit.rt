@@ -1,0 +1,120 @@
+ghost use Rattle.std.specs.Prelude.{◌≡◌, IfOk, slice_set};
+ghost use Rattle.sspi_delegate.specs.Edits.{edited_once, edited, sent_texts, text_at};
+
+use crate::carried::Carried;
+use sspi_types::Bytes;
+use std::alloc::{AllocError, Global};
+
+/// What a `MemoryLink` does to one entry of its log, which is counted from 0.
+#[derive(Drop)]
+pub struct Edit {
+    pub entry: u32,
+    pub kind: EditKind,
+}
+
+/// How an edit changes what is delivered.
+#[derive(Drop)]
+pub enum EditKind {
+    /// Nothing is delivered.
+    Drop,
+    /// The first bytes, as many as this; where there are no more, all of them.
+    Cut(usize),
+    /// The byte at this place becomes this one; past the end nothing changes.
+    Set(usize, u8),
+    /// These bytes follow.
+    Add(Bytes),
+    /// These bytes are delivered instead.
+    Give(Bytes),
+    /// What that earlier entry sent is delivered instead; nothing where that entry is not an earlier one.
+    Again(u32),
+    /// The message is not carried: `carry` fails.
+    Fail,
+}
+
+impl Edit {
+    /// A copy in memory of its own, equal to this edit.
+    pub fn clone(&self, alloc: Global) -> Result<Edit, AllocError>
+        ensures { IfOk result (λ copy. copy ≡ self.now) }
+    {
+        Ok(Edit {
+            entry: self.entry,
+            kind: self.kind.clone(alloc)?,
+        })
+    }
+}
+
+impl EditKind {
+    /// A copy in memory of its own, equal to this kind.
+    pub fn clone(&self, alloc: Global) -> Result<EditKind, AllocError>
+        ensures { IfOk result (λ copy. copy ≡ self.now) }
+    {
+        Ok(match self {
+            EditKind::Drop => EditKind::Drop,
+            EditKind::Cut(length) => EditKind::Cut(*length),
+            EditKind::Set(at, byte) => EditKind::Set(*at, *byte),
+            EditKind::Add(more) => EditKind::Add(more.clone(alloc)?),
+            EditKind::Give(bytes) => EditKind::Give(bytes.clone(alloc)?),
+            EditKind::Again(entry) => EditKind::Again(*entry),
+            EditKind::Fail => EditKind::Fail,
+        })
+    }
+}
+
+/// What the edits of the next entry give of `sent`; `None` where one of them fails the carry.
+pub fn deliver_edited(
+    alloc: Global,
+    edits: &[Edit],
+    entries: &[Carried],
+    sent: &[u8],
+) -> Result<Option<Bytes>, AllocError>
+    ensures { IfOk result (λ text. text ≡ edited edits.now (sent_texts entries.now) sent.now) }
+{
+    let mut text = Bytes::from_slice(alloc, sent)?;
+    for edit in edits {
+        if edit.entry as usize == entries.len() {
+            match apply(alloc, &edit.kind, entries, text)? {
+                Some(changed) => text = changed,
+                None => return Ok(None),
+            }
+        }
+    }
+    Ok(Some(text))
+}
+
+fn apply(
+    alloc: Global,
+    kind: &EditKind,
+    entries: &[Carried],
+    text: Bytes,
+) -> Result<Option<Bytes>, AllocError>
+    ensures { IfOk result (λ changed. changed ≡ edited_once kind.now (sent_texts entries.now) text) }
+{
+    let mut text = text;
+    match kind {
+        EditKind::Drop => text.truncate(0),
+        EditKind::Cut(length) => text.truncate(*length),
+        EditKind::Set(at, byte) => set_byte(&mut text, *at, *byte),
+        EditKind::Add(more) => text.push_slice(more.as_slice())?,
+        EditKind::Give(bytes) => return Ok(Some(bytes.clone(alloc)?)),
+        EditKind::Again(entry) => return Ok(Some(sent_by(alloc, entries, *entry)?)),
+        EditKind::Fail => return Ok(None),
+    }
+    Ok(Some(text))
+}
+
+fn set_byte(text: &mut Bytes, at: usize, byte: u8)
+    ensures { text.new ≡ slice_set text.old at byte }
+{
+    if at < text.len() {
+        text.overwrite(at, &[byte]);
+    }
+}
+
+fn sent_by(alloc: Global, entries: &[Carried], entry: u32) -> Result<Bytes, AllocError>
+    ensures { IfOk result (λ text. text ≡ text_at (sent_texts entries.now) entry) }
+{
+    match entries.get(entry as usize) {
+        Some(earlier) => earlier.sent.clone(alloc),
+        None => Ok(Bytes::new(alloc)),
+    }
+}

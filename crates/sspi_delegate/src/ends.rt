@@ -1,0 +1,217 @@
+ghost use Rattle.std.specs.Prelude.{◌≡◌, ◌<◌, [], ◌∷◌};
+ghost use Rattle.sspi_credssp.specs.Client.{ClientView};
+ghost use Rattle.sspi_credssp.specs.Context.{either};
+ghost use Rattle.sspi_credssp.specs.Server.{ServerView};
+ghost use Rattle.sspi_delegate.specs.ClientRun.{ClientFollows};
+ghost use Rattle.sspi_delegate.specs.EndTurns.{client_turns, server_turns};
+ghost use Rattle.sspi_delegate.specs.History.{ClientHistory, ClientRoundHistory, WaitsWhereLost, ServerHistory};
+ghost use Rattle.sspi_delegate.specs.Recorded.{ClientPushed, ServerPushed};
+ghost use Rattle.sspi_delegate.specs.Refusals.{KdcStays, ProxyStays};
+ghost use Rattle.sspi_delegate.specs.Rounds.{recorded, ClientConcludes, ClientWent, ServerWent};
+ghost use Rattle.sspi_delegate.specs.ServerRun.{ServerFollows};
+
+use crate::carried::End;
+use crate::transcript::Transcript;
+use crate::turn::{Outcome, Turn};
+use sspi_credssp::{
+    ClientState, CredSspClient, CredSspServer, CredentialsProxy, Progress, ServerError,
+    ServerState, SspiContext,
+};
+use sspi_mech::{Kdc, KdcError, Mechanism, Reply};
+use sspi_names::AuthIdentity;
+use sspi_tsreq::TsRequest;
+use sspi_types::{Bytes, Error};
+use std::alloc::Global;
+
+/// What came of a client's call and of all that its KDC was asked.
+#[derive(Drop)]
+enum Concluded {
+    Answered(ClientState),
+    Refused(Error),
+    /// The KDC had no memory, and the client waits.
+    Lost,
+}
+
+/// What came of a client's turn.
+#[derive(Drop)]
+pub(crate) enum ClientRound {
+    Replied,
+    Refused(Error),
+    /// There was no memory, and no turn was made.
+    Lost,
+}
+
+/// What came of a server's turn.
+#[derive(Drop)]
+pub(crate) enum ServerRound {
+    Replied,
+    Finished(AuthIdentity),
+    Refused(Error),
+    /// There was no memory, and no turn was made.
+    Lost,
+}
+
+/// Hands a request to the client and asks the KDC until the turn is over.
+fn finish_turn<N: Mechanism, K: Mechanism, D: Kdc>(
+    client: &mut CredSspClient<N, K>,
+    request: TsRequest,
+    kdc: &mut D,
+) -> Concluded
+    ensures turn { ClientConcludes (either N.meaning K.meaning) client.old request result client.new }
+    ensures lost { WaitsWhereLost (either N.meaning K.meaning) client.old request result client.new }
+    ensures kdc { KdcStays D.told D.faults kdc.old kdc.new }
+{
+    let mut progress = match client.process(request) {
+        Ok(progress) => progress,
+        Err(error) => return Concluded::Refused(error),
+    };
+    loop {
+        match progress {
+            Progress::Completed(state) => return Concluded::Answered(state),
+            Progress::Suspended(question) => {
+                let reply = match kdc.ask(&question) {
+                    Ok(bytes) => Reply::Answered(Bytes::from_vec(bytes)),
+                    Err(KdcError::Failed) => Reply::Failed,
+                    Err(KdcError::InsufficientMemory) => return Concluded::Lost,
+                };
+                progress = match client.resume(&reply) {
+                    Ok(progress) => progress,
+                    Err(error) => return Concluded::Refused(error),
+                };
+            }
+        }
+    }
+}
+
+/// A turn of the client, which is recorded whether or not it is refused. Room for it is made first.
+pub(crate) fn client_round<N: Mechanism, K: Mechanism, D: Kdc>(
+    alloc: Global,
+    client: &mut CredSspClient<N, K>,
+    kdc: &mut D,
+    transcript: &mut Transcript,
+    request: TsRequest,
+) -> ClientRound
+    ensures turn { ClientPushed request result transcript.old.turns transcript.new.turns }
+    ensures client { let c = either N.meaning K.meaning in (first : ClientView (SspiContext N K)) →
+        ClientFollows c first client.old (client_turns transcript.old.turns) →
+        ClientWent c first result client.new (client_turns transcript.new.turns) }
+    ensures client_history { let c = either N.meaning K.meaning in (first : ClientView (SspiContext N K)) →
+        ClientHistory c first (client_turns transcript.old.turns) client.old →
+        ClientRoundHistory c first result (client_turns transcript.new.turns) client.new }
+    ensures server { server_turns transcript.new.turns ≡ server_turns transcript.old.turns }
+    ensures kdc { KdcStays D.told D.faults kdc.old kdc.new }
+{
+    let Ok(()) = transcript.reserve() else {
+        return ClientRound::Lost;
+    };
+    let Ok(delivered) = request.clone(alloc) else {
+        return ClientRound::Lost;
+    };
+    match finish_turn(client, request, kdc) {
+        Concluded::Answered(ClientState::ReplyNeeded(reply)) => {
+            record_client(client, transcript, delivered, Outcome::Reply(reply));
+            ClientRound::Replied
+        }
+        Concluded::Answered(ClientState::FinalMessage(reply)) => {
+            record_client(client, transcript, delivered, Outcome::Final(reply));
+            ClientRound::Replied
+        }
+        Concluded::Refused(error) => {
+            record_client(
+                client,
+                transcript,
+                delivered,
+                Outcome::Refused(error.error_type, None),
+            );
+            ClientRound::Refused(error)
+        }
+        Concluded::Lost => ClientRound::Lost,
+    }
+}
+
+fn record_client<N: Mechanism, K: Mechanism>(
+    client: &mut CredSspClient<N, K>,
+    transcript: &mut Transcript,
+    delivered: TsRequest,
+    outcome: Outcome,
+)
+    requires { 0 < transcript.old.room }
+    ensures turn { transcript.new.turns ≡ recorded End.Client delivered client.old.acts client.old.output outcome ∷ transcript.old.turns }
+    ensures rest { client.new ≡ record client.old { output = [] } }
+{
+    let acts = client.last_acts();
+    let output = client.take_output();
+    transcript.push(Turn {
+        end: End::Client,
+        delivered,
+        acts,
+        output,
+        outcome,
+    });
+}
+
+/// A turn of the server, which is recorded whether or not it is refused. Room for it is made first.
+pub(crate) fn server_round<N: Mechanism, K: Mechanism, C: CredentialsProxy>(
+    alloc: Global,
+    server: &mut CredSspServer<N, K, C>,
+    transcript: &mut Transcript,
+    request: TsRequest,
+) -> ServerRound
+    ensures turn { ServerPushed request result transcript.old.turns transcript.new.turns }
+    ensures server { let c = either N.meaning K.meaning in (first : ServerView (SspiContext N K) C) →
+        ServerFollows c first server.old (server_turns transcript.old.turns) →
+        ProxyStays C.told C.failing C.faults first.proxy server.old.proxy →
+        ServerWent c C.told C.faults first result server.new (server_turns transcript.new.turns) }
+    ensures server_history { let c = either N.meaning K.meaning in (first : ServerView (SspiContext N K) C) →
+        ServerHistory c C.told C.faults C.failing first (server_turns transcript.old.turns) server.old →
+        ServerHistory c C.told C.faults C.failing first (server_turns transcript.new.turns) server.new }
+    ensures proxy { ProxyStays C.told C.failing C.faults server.old.proxy server.new.proxy }
+    ensures client { client_turns transcript.new.turns ≡ client_turns transcript.old.turns }
+{
+    let Ok(()) = transcript.reserve() else {
+        return ServerRound::Lost;
+    };
+    let Ok(delivered) = request.clone(alloc) else {
+        return ServerRound::Lost;
+    };
+    match server.process(request) {
+        Ok(ServerState::ReplyNeeded(reply)) => {
+            record_server(server, transcript, delivered, Outcome::Reply(reply));
+            ServerRound::Replied
+        }
+        Ok(ServerState::Finished(identity)) => {
+            record_server(server, transcript, delivered, Outcome::Finished);
+            ServerRound::Finished(identity)
+        }
+        Err(ServerError { ts_request, error }) => {
+            record_server(
+                server,
+                transcript,
+                delivered,
+                Outcome::Refused(error.error_type, ts_request),
+            );
+            ServerRound::Refused(error)
+        }
+    }
+}
+
+fn record_server<N: Mechanism, K: Mechanism, C: CredentialsProxy>(
+    server: &mut CredSspServer<N, K, C>,
+    transcript: &mut Transcript,
+    delivered: TsRequest,
+    outcome: Outcome,
+)
+    requires { 0 < transcript.old.room }
+    ensures turn { transcript.new.turns ≡ recorded End.Server delivered server.old.acts server.old.output outcome ∷ transcript.old.turns }
+    ensures rest { server.new ≡ record server.old { output = [] } }
+{
+    let acts = server.last_acts();
+    let output = server.take_output();
+    transcript.push(Turn {
+        end: End::Server,
+        delivered,
+        acts,
+        output,
+        outcome,
+    });
+}

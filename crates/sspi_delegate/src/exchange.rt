@@ -1,0 +1,279 @@
+ghost use Rattle.std.specs.Prelude.{◌≡◌, ℕ, ◌+◌, ◌≤◌, List, [], Err, IfOk, IfErr, OnOk, OnErr};
+ghost use Rattle.sspi_credssp.specs.Client.{ClientView, IsFreshClient};
+ghost use Rattle.sspi_credssp.specs.Context.{either};
+ghost use Rattle.sspi_credssp.specs.Server.{ServerView, IsFreshServer};
+ghost use Rattle.sspi_delegate.specs.ClientRun.{ClientFollows, ClientRan, client_end};
+ghost use Rattle.sspi_delegate.specs.EndTurns.{client_turns, server_turns};
+ghost use Rattle.sspi_delegate.specs.History.{ClientHistory, ClientPast, ServerHistory};
+ghost use Rattle.sspi_delegate.specs.Refusals.{RefusedBy, KdcStays, ProxyStays};
+ghost use Rattle.sspi_delegate.specs.Rounds.{IsNoRefusal, ClientRanHalf, ServerRanHalf};
+ghost use Rattle.sspi_delegate.specs.ServerRun.{ServerFollows, ServerRan, server_end, GivesNewest};
+ghost use Rattle.sspi_delegate.specs.declared.carried.Carried.{Carried};
+ghost use Rattle.sspi_delegate.specs.Causes.{Between, Asked, Turned, Stopped, ClientHalf, ServerHalf, RunEnds, TurnLeft, HasMessage, Given, turns_of, IsAnswerTo};
+ghost use Rattle.sspi_delegate.specs.Exactly.{Exactly};
+ghost use Rattle.sspi_delegate.specs.Headline.{IsFresh, IsRun, sealed_turns, SealsAfterProof, NeverSeals, HasExchanged};
+ghost use Rattle.sspi_delegate.specs.Link.{StaysTold};
+ghost use Rattle.sspi_delegate.specs.Messages.{newest_message, GiveTold, AnswerTold, RequestTold};
+ghost use Rattle.sspi_delegate.specs.Run.{LoggedButLast};
+ghost use Rattle.sspi_delegate.specs.Turns.{next_end};
+
+use crate::answer::{DelegateError, Delegation};
+use crate::carried::End;
+use crate::ends::{ClientRound, ServerRound, client_round, server_round};
+use crate::link::{Link, LinkError};
+use crate::messages::{send, take_delivery};
+use crate::transcript::Transcript;
+use sspi_ber::WireKind;
+use sspi_credssp::{CredSspClient, CredSspServer, CredentialsProxy, SspiContext};
+use sspi_mech::{Kdc, Mechanism};
+use sspi_names::AuthIdentity;
+use sspi_tsreq::TsRequest;
+use sspi_types::{Error, ErrorKind};
+use std::alloc::Global;
+
+/// Carries the messages of a client and a server until the server has the client's credentials (MS-CSSP 3.1.5).
+pub fn delegate<N: Mechanism, K: Mechanism, C: CredentialsProxy, L: Link, D: Kdc>(
+    alloc: Global,
+    client: &mut CredSspClient<N, K>,
+    server: &mut CredSspServer<N, K, C>,
+    link: &mut L,
+    kdc: &mut D,
+    turns: u32,
+    transcript: &mut Transcript,
+) -> Result<Delegation, DelegateError>
+    ensures run { IsFresh client.old server.old transcript.old.turns →
+        IsRun (either N.meaning K.meaning) client.old client.new server.old server.new (L.log link.old) (L.log link.new) transcript.new.turns }
+    ensures once { IsFresh client.old server.old transcript.old.turns → sealed_turns transcript.new.turns ≤ 1 }
+    ensures sealed { IsFresh client.old server.old transcript.old.turns →
+        SealsAfterProof (either N.meaning K.meaning) (client_end client.new) (client_turns transcript.new.turns) × NeverSeals (server_turns transcript.new.turns) }
+    ensures gives { IsFresh client.old server.old transcript.old.turns → IfOk result (λ delegation.
+        GivesNewest (either N.meaning K.meaning) (server_end server.new) (server_turns transcript.new.turns) delegation.credentials) }
+    ensures exchanged { IsFresh client.old server.old transcript.old.turns → OnOk result (HasExchanged (server_turns transcript.new.turns)) }
+    ensures refused { IsFresh client.old server.old transcript.old.turns →
+        RefusedBy (either N.meaning K.meaning) C.told C.faults client.old client.new server.old server.new result
+        (client_turns transcript.new.turns) (server_turns transcript.new.turns) }
+    ensures client_history { transcript.old.turns ≡ [] →
+        ClientPast (either N.meaning K.meaning) client.old result (client_turns transcript.new.turns) client.new }
+    ensures server_history { transcript.old.turns ≡ [] →
+        ServerHistory (either N.meaning K.meaning) C.told C.faults C.failing server.old (server_turns transcript.new.turns) server.new }
+    ensures proxy { ProxyStays C.told C.failing C.faults server.old.proxy server.new.proxy }
+    ensures kdc { KdcStays D.told D.faults kdc.old kdc.new }
+    ensures cause { transcript.old.turns ≡ [] → RunEnds (L.log link.old) (L.faults link.old) turns result transcript.new.turns (L.log link.new) (L.faults link.new) }
+    ensures exactly { transcript.old.turns ≡ [] → Exactly (L.log link.old) turns result transcript.new.turns (L.log link.new) }
+    ensures told { StaysTold (L.edits link.old) (L.edits link.new) (L.log link.old) (L.log link.new) }
+    ensures still { AnswerTold (L.edits link.old) (L.faults link.old) (L.faults link.new) result (L.log link.new) (newest_message transcript.new.turns) }
+    ensures none { turns ≡ 0 → result ≡ Err DelegateError.TurnsSpent }
+    ensures within { IfOk result (λ delegation. delegation.turns ≤ turns) }
+{
+    rounds(alloc, client, server, link, kdc, turns, transcript)
+}
+
+/// At most so many rounds: the client's turn, and the server's.
+fn rounds<N: Mechanism, K: Mechanism, C: CredentialsProxy, L: Link, D: Kdc>(
+    alloc: Global,
+    client: &mut CredSspClient<N, K>,
+    server: &mut CredSspServer<N, K, C>,
+    link: &mut L,
+    kdc: &mut D,
+    turns: u32,
+    transcript: &mut Transcript,
+) -> Result<Delegation, DelegateError>
+    ensures cause { transcript.old.turns ≡ [] → RunEnds (L.log link.old) (L.faults link.old) turns result transcript.new.turns (L.log link.new) (L.faults link.new) }
+    ensures told { StaysTold (L.edits link.old) (L.edits link.new) (L.log link.old) (L.log link.new) }
+    ensures still { AnswerTold (L.edits link.old) (L.faults link.old) (L.faults link.new) result (L.log link.new) (newest_message transcript.new.turns) }
+    ensures none { turns ≡ 0 → result ≡ Err DelegateError.TurnsSpent }
+    ensures within { IfOk result (λ delegation. delegation.turns ≤ turns) }
+    ensures client { IsFreshClient client.old → transcript.old.turns ≡ [] →
+        ClientRan (either N.meaning K.meaning) client.old client.new (client_turns transcript.new.turns) }
+    ensures server { IsFreshServer server.old → transcript.old.turns ≡ [] →
+        ServerRan (either N.meaning K.meaning) server.old server.new (server_turns transcript.new.turns) }
+    ensures gives { IsFreshServer server.old → transcript.old.turns ≡ [] → IfOk result (λ delegation.
+        GivesNewest (either N.meaning K.meaning) (server_end server.new) (server_turns transcript.new.turns) delegation.credentials) }
+    ensures refused { IsFreshClient client.old → IsFreshServer server.old → transcript.old.turns ≡ [] →
+        RefusedBy (either N.meaning K.meaning) C.told C.faults client.old client.new server.old server.new result
+        (client_turns transcript.new.turns) (server_turns transcript.new.turns) }
+    ensures client_history { transcript.old.turns ≡ [] →
+        ClientPast (either N.meaning K.meaning) client.old result (client_turns transcript.new.turns) client.new }
+    ensures server_history { transcript.old.turns ≡ [] →
+        ServerHistory (either N.meaning K.meaning) C.told C.faults C.failing server.old (server_turns transcript.new.turns) server.new }
+    ensures proxy { ProxyStays C.told C.failing C.faults server.old.proxy server.new.proxy }
+    ensures kdc { KdcStays D.told D.faults kdc.old kdc.new }
+{
+    for turn in 0..turns {
+        match client_half(alloc, client, link, kdc, transcript) {
+            Ok(()) => {}
+            Err(error) => return Err(error),
+        }
+        match server_half(alloc, server, link, transcript) {
+            Ok(None) => {}
+            Ok(Some(credentials)) => {
+                return Ok(Delegation {
+                    credentials,
+                    turns: turn + 1,
+                });
+            }
+            Err(error) => return Err(error),
+        }
+    }
+    Err(DelegateError::TurnsSpent)
+}
+
+/// The client's half of a round: its request is read, it makes its turn, and its message is carried.
+fn client_half<N: Mechanism, K: Mechanism, L: Link, D: Kdc>(
+    alloc: Global,
+    client: &mut CredSspClient<N, K>,
+    link: &mut L,
+    kdc: &mut D,
+    transcript: &mut Transcript,
+) -> Result<(), DelegateError>
+    ensures half { (base : List Carried) (start limit : ℕ) →
+        next_end transcript.old.turns ≡ End.Client → TurnLeft limit transcript.old.turns →
+        Between base start transcript.old.turns (L.log link.old) (L.faults link.old) →
+        ClientHalf base start limit result transcript.new.turns (L.log link.new) (L.faults link.new) }
+    ensures next { OnOk result (next_end transcript.new.turns ≡ End.Server) }
+    ensures count { OnOk result (turns_of End.Client transcript.new.turns ≡ turns_of End.Client transcript.old.turns + 1) }
+    ensures told { StaysTold (L.edits link.old) (L.edits link.new) (L.log link.old) (L.log link.new) }
+    ensures still { AnswerTold (L.edits link.old) (L.faults link.old) (L.faults link.new) result (L.log link.new) (newest_message transcript.new.turns) }
+    ensures client { let c = either N.meaning K.meaning in (first : ClientView (SspiContext N K)) →
+        ClientFollows c first client.old (client_turns transcript.old.turns) →
+        ClientRanHalf c first result client.new (client_turns transcript.new.turns) }
+    ensures client_history { let c = either N.meaning K.meaning in (first : ClientView (SspiContext N K)) →
+        ClientHistory c first (client_turns transcript.old.turns) client.old →
+        ClientPast c first result (client_turns transcript.new.turns) client.new }
+    ensures kdc { KdcStays D.told D.faults kdc.old kdc.new }
+    ensures server { server_turns transcript.new.turns ≡ server_turns transcript.old.turns }
+{
+    let request = match next_request(alloc, link, transcript, End::Client) {
+        Ok(request) => request,
+        Err(error) => return Err(error),
+    };
+    match client_round(alloc, client, kdc, transcript, request) {
+        ClientRound::Replied => match give(alloc, link, transcript) {
+            Ok(()) => Ok(()),
+            Err(error) => Err(error),
+        },
+        ClientRound::Refused(error) => Err(client_error(error)),
+        ClientRound::Lost => Err(DelegateError::InsufficientMemory),
+    }
+}
+
+/// The server's half of a round; the credentials, once it has them.
+fn server_half<N: Mechanism, K: Mechanism, C: CredentialsProxy, L: Link>(
+    alloc: Global,
+    server: &mut CredSspServer<N, K, C>,
+    link: &mut L,
+    transcript: &mut Transcript,
+) -> Result<Option<AuthIdentity>, DelegateError>
+    ensures half { (base : List Carried) (start limit : ℕ) → next_end transcript.old.turns ≡ End.Server →
+        Between base start transcript.old.turns (L.log link.old) (L.faults link.old) →
+        ServerHalf base start limit result transcript.new.turns (L.log link.new) (L.faults link.new) }
+    ensures next { OnOk result (next_end transcript.new.turns ≡ End.Client) }
+    ensures count { OnOk result (turns_of End.Client transcript.new.turns ≡ turns_of End.Client transcript.old.turns) }
+    ensures told { StaysTold (L.edits link.old) (L.edits link.new) (L.log link.old) (L.log link.new) }
+    ensures still { AnswerTold (L.edits link.old) (L.faults link.old) (L.faults link.new) result (L.log link.new) (newest_message transcript.new.turns) }
+    ensures server { let c = either N.meaning K.meaning in (first : ServerView (SspiContext N K) C) →
+        ServerFollows c first server.old (server_turns transcript.old.turns) →
+        ProxyStays C.told C.failing C.faults first.proxy server.old.proxy →
+        ServerRanHalf c C.told C.faults first result server.new (server_turns transcript.new.turns) }
+    ensures server_history { let c = either N.meaning K.meaning in (first : ServerView (SspiContext N K) C) →
+        ServerHistory c C.told C.faults C.failing first (server_turns transcript.old.turns) server.old →
+        ServerHistory c C.told C.faults C.failing first (server_turns transcript.new.turns) server.new }
+    ensures proxy { ProxyStays C.told C.failing C.faults server.old.proxy server.new.proxy }
+    ensures client { client_turns transcript.new.turns ≡ client_turns transcript.old.turns }
+{
+    let request = match next_request(alloc, link, transcript, End::Server) {
+        Ok(request) => request,
+        Err(error) => return Err(error),
+    };
+    match server_round(alloc, server, transcript, request) {
+        ServerRound::Replied => match give(alloc, link, transcript) {
+            Ok(()) => Ok(None),
+            Err(error) => Err(error),
+        },
+        ServerRound::Finished(identity) => Ok(Some(identity)),
+        ServerRound::Refused(error) => {
+            // What comes of the message that tells the client changes nothing.
+            let _given = give(alloc, link, transcript);
+            Err(server_error(error))
+        }
+        ServerRound::Lost => Err(DelegateError::InsufficientMemory),
+    }
+}
+
+/// The request of the next turn: the client's first one is its own, each other one is read from the newest delivery.
+fn next_request<L: Link>(
+    alloc: Global,
+    link: &mut L,
+    transcript: &Transcript,
+    to: End,
+) -> Result<TsRequest, DelegateError>
+    ensures ok { IfOk result (λ request. (base : List Carried) (start : ℕ) →
+        Between base start transcript.now.turns (L.log link.old) (L.faults link.old) →
+        Asked base start transcript.now.turns (L.log link.new) (L.faults link.new) request) }
+    ensures err { IfErr result (λ error. (base : List Carried) (start limit : ℕ) →
+        next_end transcript.now.turns ≡ to → TurnLeft limit transcript.now.turns →
+        Between base start transcript.now.turns (L.log link.old) (L.faults link.old) →
+        Stopped base start limit error transcript.now.turns (L.log link.new) (L.faults link.new)) }
+    ensures told { StaysTold (L.edits link.old) (L.edits link.new) (L.log link.old) (L.log link.new) }
+    ensures link { IfErr result IsNoRefusal }
+    ensures still { RequestTold (L.edits link.old) (L.faults link.old) (L.faults link.new) result }
+{
+    if let None = transcript.newest() {
+        return Ok(TsRequest::default());
+    }
+    let text = match take_delivery(alloc, link) {
+        Ok(text) => text,
+        Err(LinkError::Failed) => return Err(DelegateError::LinkFault),
+        Err(LinkError::InsufficientMemory) => return Err(DelegateError::InsufficientMemory),
+    };
+    match TsRequest::from_buffer(alloc, text.as_slice()) {
+        Ok(request) => Ok(request),
+        Err(WireKind::InsufficientMemory) => Err(DelegateError::InsufficientMemory),
+        Err(kind) => Err(DelegateError::Read(to, kind)),
+    }
+}
+
+/// Carries the message of the newest turn.
+fn give<L: Link>(alloc: Global, link: &mut L, transcript: &Transcript) -> Result<(), DelegateError>
+    ensures ok { OnOk result ((base : List Carried) (start : ℕ) →
+        Turned base start transcript.now.turns (L.log link.old) (L.faults link.old) →
+        Between base start transcript.now.turns (L.log link.new) (L.faults link.new)) }
+    ensures err { IfErr result (λ error. (base : List Carried) (start limit : ℕ) →
+        Turned base start transcript.now.turns (L.log link.old) (L.faults link.old) →
+        Stopped base start limit error transcript.now.turns (L.log link.new) (L.faults link.new)) }
+    ensures given { (base : List Carried) (start : ℕ) → start ≤ L.faults link.old → HasMessage transcript.now.turns →
+        LoggedButLast base transcript.now.turns (L.log link.old) → Given base start transcript.now.turns (L.log link.new) (L.faults link.new) }
+    ensures faults { L.faults link.old ≤ L.faults link.new }
+    ensures link { IfErr result IsNoRefusal }
+    ensures same { OnErr result (L.log link.new ≡ L.log link.old) }
+    ensures told { StaysTold (L.edits link.old) (L.edits link.new) (L.log link.old) (L.log link.new) }
+    ensures still { GiveTold (L.edits link.old) (L.log link.old) (newest_message transcript.now.turns) (L.faults link.old) (L.faults link.new) result }
+{
+    match transcript.newest() {
+        Some(turn) => match turn.outcome.message() {
+            Some(message) => send(alloc, link, turn.end, message),
+            None => Ok(()),
+        },
+        None => Ok(()),
+    }
+}
+
+fn client_error(error: Error) -> DelegateError
+    ensures { IsAnswerTo error.error_type (DelegateError.Client error) result }
+{
+    if error.error_type == ErrorKind::InsufficientMemory {
+        DelegateError::InsufficientMemory
+    } else {
+        DelegateError::Client(error)
+    }
+}
+
+fn server_error(error: Error) -> DelegateError
+    ensures { IsAnswerTo error.error_type (DelegateError.Server error) result }
+{
+    if error.error_type == ErrorKind::InsufficientMemory {
+        DelegateError::InsufficientMemory
+    } else {
+        DelegateError::Server(error)
+    }
+}

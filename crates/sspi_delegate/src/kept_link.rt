@@ -1,0 +1,90 @@
+ghost use Rattle.std.specs.Prelude.{◌≡◌, ◌≤◌, [], length, reverse, IfOk};
+
+use crate::carried::{Carried, End};
+use crate::link::{Link, LinkError};
+use crate::log::Log;
+use sspi_types::Bytes;
+use std::alloc::Global;
+use std::marker::Model;
+
+/// What moves bytes for a `KeptLink`, and tells nothing of them.
+///
+/// The count of faults never falls, and a call answers `Failed` only where it rose in that call, or stands at its last value.
+pub trait Carrier: Drop {
+    ghost use Rattle.std.specs.Prelude.{ℕ, ◌≤◌, length, IfOk};
+    ghost use Rattle.sspi_delegate.specs.Link.{LinkCause};
+
+    ghost faults: { Self → ℕ };
+
+    /// Sends a whole message from this end. What was left of the last one is not to be received any more.
+    fn send(&mut self, from: End, sent: &[u8]) -> Result<(), LinkError>
+        ensures { LinkCause (faults self.old) (faults self.new) result };
+
+    /// Writes the next bytes of the message to the front of `into`, and answers how many they are; none is its end.
+    fn receive(&mut self, into: &mut [u8]) -> Result<usize, LinkError>
+        ensures bound { IfOk result (λ count. count ≤ length into.new) }
+        ensures cause { LinkCause (faults self.old) (faults self.new) result };
+}
+
+/// A link over a carrier, which keeps the log.
+#[derive(Drop)]
+pub struct KeptLink<R: Carrier> {
+    alloc: Global,
+    carrier: R,
+    log: Log,
+}
+
+impl<R: Carrier> Model for KeptLink<R> {
+    ghost use Rattle.sspi_delegate.specs.Log.{KeptLinkView};
+
+    ghost Value = { KeptLinkView R };
+
+    ghost view = { λ link. record { log = link.log.entries; carrier = link.carrier } };
+}
+
+impl<R: Carrier> KeptLink<R> {
+    /// A link over this carrier, with an empty log.
+    pub fn new(alloc: Global, carrier: R) -> KeptLink<R>
+        ensures { result ≡ record { log = []; carrier = carrier } }
+    {
+        KeptLink {
+            alloc,
+            carrier,
+            log: Log::new(alloc),
+        }
+    }
+
+    /// The log, the first entry first. Takes no memory.
+    pub fn log(&self) -> &[Carried]
+        ensures { result.now ≡ reverse self.now.log }
+    {
+        self.log.as_slice()
+    }
+}
+
+impl<R: Carrier> Link for KeptLink<R> {
+    ghost use Rattle.std.specs.Prelude.{None};
+
+    ghost log = { λ link. link.log };
+
+    ghost edits = { λ _. None };
+
+    ghost faults = { λ link. R.faults link.carrier };
+
+    fn carry(&mut self, from: End, sent: &[u8]) -> Result<(), LinkError> {
+        let sent_copy = Bytes::from_slice(self.alloc, sent)?;
+        self.log.reserve()?;
+        self.carrier.send(from, sent)?;
+        self.log.push(Carried {
+            from,
+            sent: sent_copy,
+            delivered: Bytes::new(self.alloc),
+            ended: false,
+        });
+        Ok(())
+    }
+
+    fn piece(&mut self, into: &mut [u8]) -> Result<usize, LinkError> {
+        self.log.receive(&mut self.carrier, into)
+    }
+}

@@ -1,0 +1,71 @@
+use crate::carried::End;
+use std::alloc::{AllocError, AllocFailed};
+
+/// Why a call on a link was refused.
+#[derive(Clone, Copy, Debug, PartialEq, Eq)]
+pub enum LinkError {
+    /// The link failed, and its count of faults rose.
+    Failed,
+    InsufficientMemory,
+}
+
+impl From<AllocError> for LinkError {
+    ghost use Rattle.std.specs.Prelude.{◌≡◌};
+    ghost use Rattle.sspi_delegate.specs.declared.link.LinkError.TheVariants.{InsufficientMemory};
+
+    ghost from_gives = { λ _ error. error ≡ InsufficientMemory };
+
+    fn from(_error: AllocError) -> LinkError {
+        LinkError::InsufficientMemory
+    }
+}
+
+impl<T: Drop> From<AllocFailed<T>> for LinkError {
+    ghost use Rattle.std.specs.Prelude.{◌≡◌};
+    ghost use Rattle.sspi_delegate.specs.declared.link.LinkError.TheVariants.{InsufficientMemory};
+
+    ghost from_gives = { λ _ error. error ≡ InsufficientMemory };
+
+    fn from(_error: AllocFailed<T>) -> LinkError {
+        LinkError::InsufficientMemory
+    }
+}
+
+/// What carries the messages of an exchange, and keeps a log of them.
+///
+/// The count of faults never falls, and a call answers `Failed` only where it rose in that call, or stands at its last value.
+/// A link that tells its edits delivers what they give, and fails exactly where they say so.
+pub trait Link: Drop {
+    ghost use Rattle.std.specs.Prelude.{◌≡◌, ◌∷◌, ℕ, List, Option, OnOk, OnErr};
+    ghost use Rattle.sspi_delegate.specs.declared.carried.Carried.{Carried};
+    ghost use Rattle.sspi_delegate.specs.declared.edit.Edit.{Edit};
+    ghost use Rattle.sspi_delegate.specs.Link.{LinkCause, PieceGives, CarryTold, NeverFails, FollowsTold};
+    ghost use Rattle.sspi_delegate.specs.Log.{begun};
+
+    /// What was carried, the newest entry first.
+    ghost log: { Self → List Carried };
+
+    /// The edits of a link that tells them.
+    ghost edits: { Self → Option (List Edit) };
+
+    ghost faults: { Self → ℕ };
+
+    /// Gives `sent` to the link, and begins its delivery: what was left of the last one is dropped.
+    /// A call that is not `Ok` adds no entry to the log.
+    fn carry(&mut self, from: End, sent: &[u8]) -> Result<(), LinkError>
+        ensures ok { OnOk result (log self.new ≡ begun from sent.now ∷ log self.old) }
+        ensures err { OnErr result (log self.new ≡ log self.old) }
+        ensures cause { LinkCause (faults self.old) (faults self.new) result }
+        ensures edits { edits self.new ≡ edits self.old }
+        ensures told { CarryTold (edits self.old) (log self.old) sent.now (faults self.old) (faults self.new) result }
+        ensures follows { FollowsTold (edits self.new) (log self.new) };
+
+    /// Writes the next bytes of the newest delivery to the front of `into`, and answers how many they are.
+    /// None, where `into` is not empty, is the end of the delivery. Without an entry there are none, and nothing changes.
+    fn piece(&mut self, into: &mut [u8]) -> Result<usize, LinkError>
+        ensures gives { PieceGives (log self.old) (log self.new) result into.new }
+        ensures cause { LinkCause (faults self.old) (faults self.new) result }
+        ensures edits { edits self.new ≡ edits self.old }
+        ensures told { NeverFails (edits self.old) (faults self.old) (faults self.new) result }
+        ensures follows { FollowsTold (edits self.new) (log self.new) };
+}

@@ -1,0 +1,139 @@
+ghost use Rattle.std.specs.Prelude.{◌≡◌, ◌<◌, ◌≤◌, [], ◌∷◌, length, reverse, true, IfOk, IfErr, OnOk, OnErr};
+ghost use Rattle.sspi_delegate.specs.Link.{LinkCause, PieceGives};
+ghost use Rattle.sspi_delegate.specs.Edits.{Delivers, NewestDelivers};
+ghost use Rattle.sspi_delegate.specs.Log.{grown};
+
+use crate::carried::Carried;
+use crate::kept_link::Carrier;
+use crate::link::LinkError;
+use std::alloc::{AllocError, Global};
+use std::marker::Model;
+
+/// The log of a link in memory.
+#[derive(Drop)]
+pub struct Log {
+    entries: Vec<Carried>,
+}
+
+impl Model for Log {
+    ghost use Rattle.std.specs.Prelude.{◌-◌, reverse, vec_len, vec_capacity};
+    ghost use Rattle.sspi_delegate.specs.Log.{LogView};
+
+    ghost Value = { LogView };
+
+    ghost view = { λ log. record { entries = reverse log.entries.items; room = vec_capacity log.entries - vec_len log.entries } };
+}
+
+impl Log {
+    pub fn new(alloc: Global) -> Log
+        ensures { result.entries ≡ [] }
+    {
+        Log {
+            entries: Vec::new(alloc),
+        }
+    }
+
+    /// The entries, the first one first.
+    pub fn as_slice(&self) -> &[Carried]
+        ensures { result.now ≡ reverse self.now.entries }
+    {
+        &self.entries
+    }
+
+    /// Makes room for one more entry.
+    pub fn reserve(&mut self) -> Result<(), AllocError>
+        ensures entries { self.new.entries ≡ self.old.entries }
+        ensures room { OnOk result (0 < self.new.room) }
+    {
+        self.entries.reserve(1)
+    }
+
+    /// Adds an entry, for which there is room.
+    pub fn push(&mut self, entry: Carried)
+        requires { 0 < self.old.room }
+        ensures { self.new.entries ≡ entry ∷ self.old.entries }
+    {
+        let pushed = self.entries.push(entry);
+        if pushed.is_err() {
+            unreachable!()
+        }
+    }
+
+    /// Hands out the next bytes of `text`, of which the newest entry has had some already.
+    pub fn hand_out(&mut self, text: &[u8], into: &mut [u8]) -> Result<usize, LinkError>
+        requires { NewestDelivers text.now self.old.entries }
+        ensures gives { PieceGives self.old.entries self.new.entries result into.new }
+        ensures delivers { NewestDelivers text.now self.new.entries }
+        ensures memory { IfErr result (λ error. error ≡ LinkError.InsufficientMemory) }
+    {
+        let Some(last) = self.entries.len().checked_sub(1) else {
+            return Ok(0);
+        };
+        hand_out(&mut self.entries[last], text, into)
+    }
+
+    /// Asks the carrier for the next bytes of the newest delivery.
+    pub fn receive<R: Carrier>(
+        &mut self,
+        carrier: &mut R,
+        into: &mut [u8],
+    ) -> Result<usize, LinkError>
+        ensures gives { PieceGives self.old.entries self.new.entries result into.new }
+        ensures cause { LinkCause (R.faults carrier.old) (R.faults carrier.new) result }
+    {
+        let Some(last) = self.entries.len().checked_sub(1) else {
+            return Ok(0);
+        };
+        receive(&mut self.entries[last], carrier, into)
+    }
+}
+
+fn hand_out(entry: &mut Carried, text: &[u8], into: &mut [u8]) -> Result<usize, LinkError>
+    requires { Delivers (Some text.now) entry.old }
+    ensures ok { IfOk result (λ n. (n ≤ length into.new) × (entry.old.ended ≡ true → n ≡ 0) × (entry.new ≡ grown entry.old n into.new)) }
+    ensures err { OnErr result (entry.new ≡ entry.old) }
+    ensures delivers { Delivers (Some text.now) entry.new }
+    ensures memory { IfErr result (λ error. error ≡ LinkError.InsufficientMemory) }
+{
+    let (_, rest) = text.split_at(entry.delivered.len());
+    let count = rest.len().min(into.len());
+    let (piece, _) = rest.split_at(count);
+    entry.delivered.push_slice(piece)?;
+    into[..count].copy_from_slice(piece);
+    if count == 0 && !into.is_empty() {
+        entry.ended = true;
+    }
+    Ok(count)
+}
+
+/// Memory for what may come is taken before it is asked for.
+fn receive<R: Carrier>(
+    entry: &mut Carried,
+    carrier: &mut R,
+    into: &mut [u8],
+) -> Result<usize, LinkError>
+    ensures ok { IfOk result (λ n. (n ≤ length into.new) × (entry.old.ended ≡ true → n ≡ 0) × (entry.new ≡ grown entry.old n into.new)) }
+    ensures err { OnErr result (entry.new ≡ entry.old) }
+    ensures cause { LinkCause (R.faults carrier.old) (R.faults carrier.new) result }
+{
+    if entry.ended {
+        return Ok(0);
+    }
+    let before = entry.delivered.len();
+    entry.delivered.push_slice(into)?;
+    match carrier.receive(into) {
+        Ok(count) => {
+            entry.delivered.overwrite(before, &into[..count]);
+            let unused = into.len() - count;
+            entry.delivered.truncate(entry.delivered.len() - unused);
+            if count == 0 && !into.is_empty() {
+                entry.ended = true;
+            }
+            Ok(count)
+        }
+        Err(error) => {
+            entry.delivered.truncate(before);
+            Err(error)
+        }
+    }
+}

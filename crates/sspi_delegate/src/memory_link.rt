@@ -1,0 +1,85 @@
+ghost use Rattle.std.specs.Prelude.{◌≡◌, [], reverse};
+
+use crate::carried::{Carried, End};
+use crate::edit::{Edit, deliver_edited};
+use crate::link::{Link, LinkError};
+use crate::log::Log;
+use sspi_types::Bytes;
+use std::alloc::Global;
+use std::marker::Model;
+
+/// A link in memory: it delivers what was sent, but for its edits, and it fails only where one of them says so.
+///
+/// The edits of one entry apply in their order, each to what the one before gives.
+#[derive(Drop)]
+pub struct MemoryLink {
+    alloc: Global,
+    edits: Vec<Edit>,
+    log: Log,
+    /// What the edits give of the newest entry.
+    text: Bytes,
+    faults: u64,
+}
+
+impl Model for MemoryLink {
+    ghost use Rattle.sspi_delegate.specs.Edits.{MemoryLinkView, IsServed};
+
+    ghost Value = { MemoryLinkView };
+
+    ghost view = { λ link. record { log = link.log.entries; edits = link.edits.items; faults = link.faults } };
+
+    ghost invariant = { λ link. IsServed link.edits.items link.log.entries link.text };
+}
+
+impl MemoryLink {
+    /// A link with these edits and an empty log.
+    pub fn new(alloc: Global, edits: Vec<Edit>) -> MemoryLink
+        ensures { result ≡ record { log = []; edits = edits.items; faults = 0 } }
+    {
+        MemoryLink {
+            alloc,
+            edits,
+            log: Log::new(alloc),
+            text: Bytes::new(alloc),
+            faults: 0,
+        }
+    }
+
+    /// The log, the first entry first. Takes no memory.
+    pub fn log(&self) -> &[Carried]
+        ensures { result.now ≡ reverse self.now.log }
+    {
+        self.log.as_slice()
+    }
+}
+
+impl Link for MemoryLink {
+    ghost use Rattle.std.specs.Prelude.{Some};
+
+    ghost log = { λ link. link.log };
+
+    ghost edits = { λ link. Some link.edits };
+
+    ghost faults = { λ link. link.faults };
+
+    fn carry(&mut self, from: End, sent: &[u8]) -> Result<(), LinkError> {
+        let Some(text) = deliver_edited(self.alloc, &self.edits, self.log.as_slice(), sent)? else {
+            self.faults = self.faults.saturating_add(1);
+            return Err(LinkError::Failed);
+        };
+        let sent_copy = Bytes::from_slice(self.alloc, sent)?;
+        self.log.reserve()?;
+        self.log.push(Carried {
+            from,
+            sent: sent_copy,
+            delivered: Bytes::new(self.alloc),
+            ended: false,
+        });
+        self.text = text;
+        Ok(())
+    }
+
+    fn piece(&mut self, into: &mut [u8]) -> Result<usize, LinkError> {
+        self.log.hand_out(self.text.as_slice(), into)
+    }
+}

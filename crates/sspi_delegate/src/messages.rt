@@ -1,0 +1,85 @@
+ghost use Rattle.std.specs.Prelude.{◌≡◌, ◌+◌, ◌<◌, ◌≤◌, length};
+ghost use Rattle.sspi_delegate.specs.Deliveries.{IsUnread, Takes};
+ghost use Rattle.sspi_delegate.specs.Link.{LinkCause, NeverFails, StaysTold};
+ghost use Rattle.sspi_delegate.specs.Messages.{Encodes, Sends, SendTold};
+
+use crate::answer::DelegateError;
+use crate::carried::End;
+use crate::link::{Link, LinkError};
+use sspi_ber::{VecSink, WireKind};
+use sspi_tsreq::TsRequest;
+use sspi_types::Bytes;
+use std::alloc::Global;
+
+/// At most so many bytes of one delivery are read.
+pub const DELIVERY_LIMIT: usize = 65535;
+
+const PIECE_LENGTH: usize = 2048;
+
+/// The newest delivery, read to its end or to the limit.
+pub(crate) fn take_delivery<L: Link>(alloc: Global, link: &mut L) -> Result<Bytes, LinkError>
+    ensures takes { IsUnread (L.log link.old) → Takes (L.log link.old) (L.log link.new) result }
+    ensures cause { LinkCause (L.faults link.old) (L.faults link.new) result }
+    ensures told { StaysTold (L.edits link.old) (L.edits link.new) (L.log link.old) (L.log link.new) }
+    ensures still { NeverFails (L.edits link.old) (L.faults link.old) (L.faults link.new) result }
+{
+    let mut text = Bytes::new(alloc);
+    let mut room = [0u8; PIECE_LENGTH];
+    while text.len() < DELIVERY_LIMIT {
+        let most = most_at(text.len());
+        let count = match link.piece(&mut room[..most]) {
+            Ok(count) => count,
+            Err(error) => return Err(error),
+        };
+        if count == 0 {
+            return Ok(text);
+        }
+        let Ok(()) = text.push_slice(&room[..count]) else {
+            return Err(LinkError::InsufficientMemory);
+        };
+    }
+    Ok(text)
+}
+
+/// How many bytes are asked for, once so many were taken.
+fn most_at(taken: usize) -> usize
+    requires { taken < DELIVERY_LIMIT }
+    ensures some { 0 < result }
+    ensures room { result ≤ PIECE_LENGTH }
+    ensures limit { taken + result ≤ DELIVERY_LIMIT }
+{
+    PIECE_LENGTH.min(DELIVERY_LIMIT - taken)
+}
+
+/// Sends a message of this end.
+pub(crate) fn send<L: Link>(
+    alloc: Global,
+    link: &mut L,
+    from: End,
+    message: &TsRequest,
+) -> Result<(), DelegateError>
+    ensures sends { Sends from message.now (L.log link.old) (L.log link.new) (L.faults link.old) (L.faults link.new) result }
+    ensures told { StaysTold (L.edits link.old) (L.edits link.new) (L.log link.old) (L.log link.new) }
+    ensures still { SendTold (L.edits link.old) (L.log link.old) message.now (L.faults link.old) (L.faults link.new) result }
+{
+    let text = match encode(alloc, message) {
+        Ok(text) => text,
+        Err(WireKind::InsufficientMemory) => return Err(DelegateError::InsufficientMemory),
+        Err(_) => return Err(DelegateError::Write(from)),
+    };
+    match link.carry(from, text.written()) {
+        Ok(()) => Ok(()),
+        Err(LinkError::Failed) => Err(DelegateError::LinkFault),
+        Err(LinkError::InsufficientMemory) => Err(DelegateError::InsufficientMemory),
+    }
+}
+
+fn encode(alloc: Global, message: &TsRequest) -> Result<VecSink, WireKind>
+    ensures { Encodes message.now result }
+{
+    let mut sink = VecSink::new(alloc);
+    match message.encode_ts_request(&mut sink) {
+        Ok(()) => Ok(sink),
+        Err(kind) => Err(kind),
+    }
+}

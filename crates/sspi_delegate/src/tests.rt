@@ -1,0 +1,4 @@
+//! The links by themselves, and whole exchanges over them.
+
+mod exchange;
+mod links;

@@ -1,0 +1,193 @@
+//! What the edits of a link give, row by row, and a link over a carrier.
+
+use crate::{Carried, Carrier, Edit, EditKind, End, KeptLink, Link, LinkError, MemoryLink};
+use sspi_types::Bytes;
+use std::alloc::{AllocError, Global};
+use std::test::Fail;
+
+/// An edit whose bytes are borrowed.
+#[derive(Clone, Copy)]
+pub enum Kind {
+    Drop,
+    Cut(usize),
+    Set(usize, u8),
+    Add(&'static [u8]),
+    Give(&'static [u8]),
+    Again(u32),
+    Fail,
+}
+
+pub fn edit(alloc: Global, entry: u32, kind: Kind) -> Result<Edit, AllocError> {
+    let kind = match kind {
+        Kind::Drop => EditKind::Drop,
+        Kind::Cut(count) => EditKind::Cut(count),
+        Kind::Set(place, byte) => EditKind::Set(place, byte),
+        Kind::Add(more) => EditKind::Add(Bytes::from_slice(alloc, more)?),
+        Kind::Give(bytes) => EditKind::Give(Bytes::from_slice(alloc, bytes)?),
+        Kind::Again(earlier) => EditKind::Again(earlier),
+        Kind::Fail => EditKind::Fail,
+    };
+    Edit { entry, kind }.clone(alloc)
+}
+
+/// Reads the newest delivery to its end, two bytes at a time.
+fn read_to_end<L: Link>(alloc: Global, link: &mut L) -> Result<Bytes, LinkError> {
+    let mut text = Bytes::new(alloc);
+    let mut room = [0u8; 2];
+    for _ in 0..16 {
+        let count = link.piece(&mut room)?;
+        if count == 0 {
+            break;
+        }
+        text.push_slice(&room[..count])?;
+    }
+    Ok(text)
+}
+
+/// Three messages over a link with these edits: what each delivery gave.
+fn deliveries(alloc: Global, edits: &[(u32, Kind)]) -> Result<Vec<Bytes>, LinkError> {
+    let mut all = Vec::new(alloc);
+    for (entry, kind) in edits {
+        all.push(edit(alloc, *entry, *kind)?)?;
+    }
+    let mut link = MemoryLink::new(alloc, all);
+    let mut delivered = Vec::new(alloc);
+    let sent: [(End, &[u8]); 3] = [
+        (End::Client, b"abc"),
+        (End::Server, b"de"),
+        (End::Client, b"f"),
+    ];
+    for (from, text) in sent {
+        link.carry(from, text)?;
+        delivered.push(read_to_end(alloc, &mut link)?)?;
+    }
+    Ok(delivered)
+}
+
+fn same_texts(found: &[Bytes], wanted: &[&[u8]]) -> bool {
+    found.len() == wanted.len()
+        && found
+            .iter()
+            .zip(wanted.iter())
+            .all(|(text, bytes)| text.as_slice() == *bytes)
+}
+
+#[test]
+fn edits_change_what_is_delivered(rt: HostRuntime) -> Result<(), Fail> {
+    let rows: [(&[(u32, Kind)], &[&[u8]]); 16] = [
+        (&[], &[b"abc", b"de", b"f"]),
+        (&[(7, Kind::Fail)], &[b"abc", b"de", b"f"]),
+        (&[(0, Kind::Drop)], &[b"", b"de", b"f"]),
+        (&[(1, Kind::Cut(1))], &[b"abc", b"d", b"f"]),
+        (&[(1, Kind::Cut(3))], &[b"abc", b"de", b"f"]),
+        (&[(0, Kind::Set(2, b'x'))], &[b"abx", b"de", b"f"]),
+        (&[(0, Kind::Set(3, b'x'))], &[b"abc", b"de", b"f"]),
+        (&[(2, Kind::Add(b"gh"))], &[b"abc", b"de", b"fgh"]),
+        (&[(1, Kind::Give(b"xyz"))], &[b"abc", b"xyz", b"f"]),
+        (&[(2, Kind::Again(0))], &[b"abc", b"de", b"abc"]),
+        (&[(1, Kind::Again(1))], &[b"abc", b"", b"f"]),
+        (&[(1, Kind::Again(2))], &[b"abc", b"", b"f"]),
+        (
+            &[(0, Kind::Give(b"xyz")), (1, Kind::Again(0))],
+            &[b"xyz", b"abc", b"f"],
+        ),
+        (
+            &[(0, Kind::Add(b"de")), (0, Kind::Cut(4))],
+            &[b"abcd", b"de", b"f"],
+        ),
+        (
+            &[(0, Kind::Cut(4)), (0, Kind::Add(b"de"))],
+            &[b"abcde", b"de", b"f"],
+        ),
+        (
+            &[(2, Kind::Drop), (1, Kind::Drop), (2, Kind::Add(b"i"))],
+            &[b"abc", b"", b"i"],
+        ),
+    ];
+    for (edits, expected) in rows {
+        let delivered = deliveries(rt.alloc(), edits).ok().ok_or("delivered")?;
+        assert!(rt; same_texts(&delivered, expected));
+    }
+    Ok(())
+}
+
+#[test]
+fn an_edit_fails_the_carry(rt: HostRuntime) -> Result<(), Fail> {
+    for edits in [
+        [(0, Kind::Fail), (0, Kind::Drop)],
+        [(2, Kind::Give(b"x")), (2, Kind::Fail)],
+    ] {
+        let refused = deliveries(rt.alloc(), &edits).err().ok_or("refused")?;
+        assert_eq!(rt; refused, LinkError::Failed);
+    }
+    Ok(())
+}
+
+/// Hands back what it was sent.
+#[derive(Drop)]
+pub struct Echo {
+    text: Bytes,
+    taken: usize,
+    sends_left: u32,
+    faults: u64,
+}
+
+/// A carrier that sends so many messages, and then fails.
+pub fn echoing(alloc: Global, sends_left: u32) -> Echo {
+    Echo {
+        text: Bytes::new(alloc),
+        taken: 0,
+        sends_left,
+        faults: 0,
+    }
+}
+
+impl Carrier for Echo {
+    ghost faults = { λ carrier. carrier.faults };
+
+    fn send(&mut self, _from: End, sent: &[u8]) -> Result<(), LinkError> {
+        if self.sends_left == 0 {
+            self.faults = self.faults.saturating_add(1);
+            return Err(LinkError::Failed);
+        }
+        self.sends_left -= 1;
+        self.taken = 0;
+        self.text.truncate(0);
+        self.text.push_slice(sent)?;
+        Ok(())
+    }
+
+    fn receive(&mut self, into: &mut [u8]) -> Result<usize, LinkError> {
+        let rest = self.text.as_slice().get(self.taken..).unwrap_or(&[]);
+        let count = rest.len().min(into.len());
+        into[..count].copy_from_slice(&rest[..count]);
+        self.taken = self.taken.saturating_add(count);
+        Ok(count)
+    }
+}
+
+fn assert_entry(rt: &impl std::process::Abort, entry: &Carried, from: End, text: &[u8]) {
+    assert_eq!(rt; entry.from, from);
+    assert_eq!(rt; entry.sent.as_slice(), text);
+    assert_eq!(rt; entry.delivered.as_slice(), text);
+    assert!(rt; entry.ended);
+}
+
+#[test]
+fn kept_link_keeps_the_log(rt: HostRuntime) -> Result<(), Fail> {
+    let mut link = KeptLink::new(rt.alloc(), echoing(rt.alloc(), 2));
+    assert_eq!(rt; link.piece(&mut [0u8; 4]), Ok(0));
+    for (from, text) in [(End::Client, b"abc"), (End::Server, b"def")] {
+        assert_eq!(rt; link.carry(from, text), Ok(()));
+        let delivered = read_to_end(rt.alloc(), &mut link).ok().ok_or("read")?;
+        assert_eq!(rt; delivered.as_slice(), text.as_slice());
+        assert_eq!(rt; link.piece(&mut [0u8; 4]), Ok(0));
+    }
+    assert_eq!(rt; link.carry(End::Client, b"g"), Err(LinkError::Failed));
+    let [first, second] = link.log() else {
+        return Err(Fail::from("two entries"));
+    };
+    assert_entry(&rt, first, End::Client, b"abc");
+    assert_entry(&rt, second, End::Server, b"def");
+    Ok(())
+}

@@ -1,0 +1,65 @@
+ghost use Rattle.std.specs.Prelude.{◌≡◌, ◌<◌, [], ◌∷◌, reverse, slice_get, OnOk};
+ghost use Rattle.std.specs.Option.{option_copied};
+
+use crate::turn::Turn;
+use std::alloc::{AllocError, Global};
+use std::marker::Model;
+
+/// The turns of an exchange, in their order.
+#[derive(Drop)]
+pub struct Transcript {
+    turns: Vec<Turn>,
+}
+
+impl Model for Transcript {
+    ghost use Rattle.std.specs.Prelude.{◌-◌, reverse, vec_len, vec_capacity};
+    ghost use Rattle.sspi_delegate.specs.Turns.{TranscriptView};
+
+    ghost Value = { TranscriptView };
+
+    ghost view = { λ transcript. record { turns = reverse transcript.turns.items; room = vec_capacity transcript.turns - vec_len transcript.turns } };
+}
+
+impl Transcript {
+    /// A transcript without turns. Takes no memory.
+    pub fn new(alloc: Global) -> Transcript
+        ensures { result.turns ≡ [] }
+    {
+        Transcript {
+            turns: Vec::new(alloc),
+        }
+    }
+
+    /// The turns, the first one first. Takes no memory.
+    pub fn turns(&self) -> &[Turn]
+        ensures { result.now ≡ reverse self.now.turns }
+    {
+        &self.turns
+    }
+
+    /// Makes room for one more turn.
+    pub(crate) fn reserve(&mut self) -> Result<(), AllocError>
+        ensures turns { self.new.turns ≡ self.old.turns }
+        ensures room { OnOk result (0 < self.new.room) }
+    {
+        self.turns.reserve(1)
+    }
+
+    /// Adds a turn, for which there is room.
+    pub(crate) fn push(&mut self, turn: Turn)
+        requires { 0 < self.old.room }
+        ensures { self.new.turns ≡ turn ∷ self.old.turns }
+    {
+        let pushed = self.turns.push(turn);
+        if pushed.is_err() {
+            unreachable!()
+        }
+    }
+
+    /// The last turn.
+    pub(crate) fn newest(&self) -> Option<&Turn>
+        ensures { option_copied result ≡ slice_get self.now.turns 0 }
+    {
+        self.turns.last()
+    }
+}

@@ -1,0 +1,48 @@
+ghost use Rattle.std.specs.Prelude.{◌≡◌};
+ghost use Rattle.std.specs.Option.{option_copied};
+
+use crate::carried::End;
+use sspi_credssp::Acts;
+use sspi_tsreq::TsRequest;
+use sspi_types::{Bytes, ErrorKind};
+
+/// One turn of an end: the request that it was given, and what it made of it.
+#[derive(Drop)]
+pub struct Turn {
+    pub end: End,
+    pub delivered: TsRequest,
+    /// What the end did on its security context, also in a turn that was refused.
+    pub acts: Acts,
+    /// The token that the context's step gave; empty where no step answered.
+    pub output: Bytes,
+    pub outcome: Outcome,
+}
+
+/// What a turn ended in.
+#[derive(Drop)]
+pub enum Outcome {
+    /// A message that the peer answers.
+    Reply(TsRequest),
+    /// The client's last message, which carries the credentials.
+    Final(TsRequest),
+    /// The server has the credentials.
+    Finished,
+    /// A refusal of this kind; a server's comes with the message that tells the client.
+    Refused(ErrorKind, Option<TsRequest>),
+}
+
+impl Outcome {
+    ghost use Rattle.sspi_delegate.specs.Turns.{message_of};
+
+    /// The message for the peer. Takes no memory.
+    pub fn message(&self) -> Option<&TsRequest>
+        ensures { option_copied result ≡ message_of self.now }
+    {
+        match self {
+            Outcome::Reply(message) => Some(message),
+            Outcome::Final(message) => Some(message),
+            Outcome::Finished => None,
+            Outcome::Refused(_, message) => message.as_ref(),
+        }
+    }
+}
