@@ -1,0 +1,142 @@
+-- A delegation needs three messages of the client: the server's first step only asks for more, it checks the client's
+-- proof in a later turn, and the credentials come in a turn after that.
+use Rattle.std.proofs.Common.{◌≡◌, ℕ, ◌+◌, ◌≤◌, ◌<◌, Bool, true, false, ◌&&◌, ◌||◌, List, [], ◌∷◌, length, Option, None, Some, Result, Ok, Err, refl, ap, sym, ◌∙◌, subst, arith, IfOk, OnOk, IsErr}
+use Rattle.sspi_types.specs.declared.security_status.SecurityStatus.{SecurityStatus}
+use Rattle.sspi_types.specs.declared.security_status.SecurityStatus.TheVariants as statuses
+use Rattle.sspi_names.specs.declared.identity.AuthIdentity.{AuthIdentity}
+use Rattle.sspi_mech.specs.declared.config.NtlmConfig.{NtlmConfig}
+use Rattle.sspi_mech.specs.declared.step.Step.{Step}
+use Rattle.sspi_mech.specs.Meaning.{Meaning}
+use Rattle.sspi_mech.specs.Ntlm.{ntlm_meaning, ntlm_of}
+use Rattle.sspi_mech.specs.NtlmMessages.{is_negotiate, challenge_message}
+use Rattle.sspi_mech.specs.NtlmStage.{NtlmState}
+use Rattle.sspi_mech.specs.NtlmSteps.{Goes, challenges, server_step}
+use Rattle.sspi_mech.specs.Settings.{Setting}
+use Rattle.sspi_tsreq.specs.declared.request.TsRequest.{TsRequest}
+use Rattle.sspi_credssp.specs.declared.context.SspiContext.{SspiContext}
+use Rattle.sspi_credssp.specs.declared.state.CredSspState.{CredSspState}
+use Rattle.sspi_credssp.specs.declared.state.CredSspState.TheVariants.{NegoToken}
+use Rattle.sspi_credssp.specs.Begun.{IfContext}
+use Rattle.sspi_credssp.specs.Context.{either}
+use Rattle.sspi_credssp.specs.Server.{ServerView, IsFreshServer}
+use Rattle.sspi_credssp.specs.ServerStep.{DoneStep, Completed, Accepted}
+use Rattle.sspi_credssp.specs.ServerTurn.{IsOver, MayCheck}
+use Rattle.sspi_credssp.specs.Turn.{Came, Replied, Ended, Finished, Stopped}
+use Rattle.sspi_credssp.specs.Turn as end
+use Rattle.sspi_delegate.specs.declared.answer.Delegation.{Delegation}
+use Rattle.sspi_delegate.specs.declared.answer.DelegateError.{DelegateError}
+use Rattle.sspi_delegate.specs.declared.carried.Carried.{Carried}
+use Rattle.sspi_delegate.specs.declared.carried.End.{End}
+use Rattle.sspi_delegate.specs.declared.carried.End.TheVariants.{Client, Server}
+use Rattle.sspi_delegate.specs.declared.turn.Turn.{Turn}
+use Rattle.sspi_delegate.specs.Causes.{one_of, turns_of, NewestIs, IsFinished, RunEnds}
+use Rattle.sspi_delegate.specs.EndTurns.{as_turn, onto_server, server_turns, WentOn, OthersWentOn}
+use Rattle.sspi_delegate.specs.Headline.{HasExchanged}
+use Rattle.sspi_delegate.specs.History.{ServerMakes, ServerMade, ServerHistory}
+use Rattle.sspi_delegate.specs.Turns.{other, next_end, Alternates}
+use Rattle.sspi_matching.proofs.Steps.{server_config, server_first, taken_once}
+
+pub in_context : {C : Type 0} (o : Option C) (Q : C → Type 0) → IfContext o Q → (m : C) × (o ≡ Some m) × Q m
+in_context None Q h = absurd h
+in_context (Some m) Q h = (m, refl, h)
+
+asks_at : (b : Bool) (m m2 : NtlmState) (step : Step) → challenges m b ≡ Goes m2 step → step.status ≡ statuses.ContinueNeeded
+asks_at true m m2 step e =
+    let asked : Step = record { status = statuses.ContinueNeeded; output = challenge_message m.challenge } in
+    let same : asked ≡ step = cc in sym (ap (λ (s : Step). s.status) same)
+asks_at false m m2 step e = absurd cc
+
+-- a new object asks for more
+pub first_asks : (config : NtlmConfig) (m m2 : NtlmState) (input : List ℕ) (step : Step) → m ≡ ntlm_of config → server_step m.stage m input ≡ Goes m2 step →
+    step.status ≡ statuses.ContinueNeeded
+first_asks config m m2 input step new e =
+    asks_at (is_negotiate input) (ntlm_of config) m2 step (subst (λ (x : NtlmState). server_step x.stage x input ≡ Goes m2 step) new e)
+
+-- ---- the server's turns
+
+module _ {K P : Type 0} (k : Meaning Setting K) (told : P → Option (List AuthIdentity)) (faults : P → ℕ) (failing : P → Option (List ℕ)) where
+  first_goes_on : (start now : ServerView (SspiContext NtlmState K) P) (d : TsRequest) (status : SecurityStatus) → start.context ≡ None →
+      IfContext now.context (Accepted (either ntlm_meaning k) told start now.handle d.nego_tokens Completed (Ok (record { status = status; output = now.output }))) →
+      status ≡ statuses.ContinueNeeded
+  first_goes_on start now d status none h =
+      let there = in_context now.context _ h in
+      let t = taken_once k told _ start now.handle d.nego_tokens Completed _ there.0 (λ m0 begun. server_first k start.mode start.context start.handle now.handle m0 none begun) there.2 in
+      first_asks (server_config start.mode) t.taken.before t.taken.after _ _ t.taken.begins t.taken.accepts
+
+  -- the first step of a server does not end the authentication
+  first_not_over : (start now : ServerView (SspiContext NtlmState K) P) (d : TsRequest) (status : Option SecurityStatus) → start.context ≡ None →
+      DoneStep (either ntlm_meaning k) told status start d now → IsOver status → ⊥
+  first_not_over start now d None none step over = over
+  first_not_over start now d (Some statuses.Ok) none step over = let e = first_goes_on start now d statuses.Ok none step in cc
+  first_not_over start now d (Some statuses.CompleteNeeded) none step over = let e = first_goes_on start now d statuses.CompleteNeeded none step in cc
+  first_not_over start now d (Some other) none step over = over
+
+  nego_check : (state : CredSspState) (status : Option SecurityStatus) → state ≡ NegoToken → MayCheck state status → IsOver status
+  nego_check state status nego may = subst (λ (s : CredSspState). MayCheck s status) nego may
+
+  -- a server checks no proof in its first turn
+  first_checks : (first mid : ServerView (SspiContext NtlmState K) P) (d : TsRequest) (came : Came) → IsFreshServer first → WentOn came →
+      ServerMakes (either ntlm_meaning k) told faults first d came mid → mid.acts.checked ≡ true → ⊥
+  first_checks first mid d (Replied reply) fresh went makes checked =
+      first_not_over first mid d mid.acts.status fresh.context makes.1 (nego_check first.state mid.acts.status fresh.state (makes.0.turn.acts.checked checked).0)
+  first_checks first mid d (Ended reply) fresh went makes checked = makes
+  first_checks first mid d Finished fresh went makes checked = went
+  first_checks first mid d (Stopped kind reply) fresh went makes checked = went
+
+  made_checks : (first old now : ServerView (SspiContext NtlmState K) P) (u : end.Turn) → old ≡ first → IsFreshServer first → WentOn u.came →
+      ServerMade (either ntlm_meaning k) told faults failing old u now → u.acts.checked ≡ true → ⊥
+  made_checks first old now u same fresh went made checked =
+      first_checks first made.mid u.delivered u.came fresh went
+      (subst (λ (x : ServerView (SspiContext NtlmState K) P). ServerMakes (either ntlm_meaning k) told faults x u.delivered u.came made.mid) same made.makes)
+      (sym (ap (λ (t : end.Turn). t.acts.checked) made.turn) ∙ checked)
+
+  exchange_alone : (checked proved : Bool) → (checked && proved) || false ≡ true → checked ≡ true
+  exchange_alone true proved h = refl
+  exchange_alone false proved h = absurd cc
+
+  pub three_of_server : (first now : ServerView (SspiContext NtlmState K) P) (turns : List end.Turn) → IsFreshServer first → OthersWentOn turns → HasExchanged turns →
+      ServerHistory (either ntlm_meaning k) told faults failing first turns now → 3 ≤ length turns
+  three_of_server first now [] fresh others has history = absurd has
+  three_of_server first now (t ∷ []) fresh others has history = absurd (cc (has))
+  three_of_server first now (t ∷ u ∷ []) fresh others has history =
+      absurd (made_checks first history.1.0 history.0 u history.1.1 fresh others.0 history.1.2 (exchange_alone u.acts.checked u.acts.proved has))
+  three_of_server first now (t ∷ u ∷ v ∷ past) fresh others has history = omega arith
+
+-- ---- as many turns of the client
+
+abbrev ahead : End → ℕ
+ahead Client = 0
+ahead Server = 1
+
+one_more : (e : End) (t : end.Turn) (past : List end.Turn) (n : ℕ) → n ≡ length past + ahead e → n + one_of Client e ≡ length (onto_server e t past) + ahead (other e)
+one_more Client t past n h = omega arith
+one_more Server t past n h = omega arith
+
+pub client_count : (turns : List Turn) → Alternates turns → turns_of Client turns ≡ length (server_turns turns) + ahead (next_end turns)
+client_count [] order = refl
+client_count (t ∷ past) order =
+    let before = client_count past order.2 in
+    one_more t.end (as_turn t) (server_turns past) (turns_of Client past) (before ∙ ap (λ (e : End). length (server_turns past) + ahead e) (sym order.0))
+
+pub three_turns : (turns : List Turn) → Alternates turns → NewestIs Server IsFinished turns → 3 ≤ length (server_turns turns) → 3 ≤ turns_of Client turns
+three_turns [] order newest three = absurd newest
+three_turns (t ∷ past) order newest three =
+    let count = client_count (t ∷ past) order in
+    let next : ahead (other t.end) ≡ 0 = ap (λ (e : End). ahead (other e)) newest.0 in
+    omega (arith, count, next, three)
+
+module _ {K P : Type 0} (k : Meaning Setting K) (told : P → Option (List AuthIdentity)) (faults : P → ℕ) (failing : P → Option (List ℕ)) where
+  -- an exchange that is Ok had three messages of the client
+  pub ok_three : (base log : List Carried) (start now limit : ℕ) (result : Result Delegation DelegateError) (turns : List Turn)
+      (first server : ServerView (SspiContext NtlmState K) P) → RunEnds base start limit result turns log now → IsFreshServer first →
+      OthersWentOn (server_turns turns) → OnOk result (HasExchanged (server_turns turns)) →
+      ServerHistory (either ntlm_meaning k) told faults failing first (server_turns turns) server → IfOk result (λ delegation. 3 ≤ delegation.turns)
+  ok_three base log start now limit (Ok delegation) turns first server ends fresh others has history =
+      let three = three_turns turns ends.0.order ends.0.newest (three_of_server k told faults failing first server (server_turns turns) fresh others has history) in
+      omega (arith, ends.1, three)
+  ok_three base log start now limit (Err error) turns first server ends fresh others has history = tt
+
+pub too_few : (result : Result Delegation DelegateError) (limit : ℕ) → IfOk result (λ delegation. 3 ≤ delegation.turns) → IfOk result (λ delegation. delegation.turns ≤ limit) →
+    limit < 3 → IsErr result
+too_few (Ok delegation) limit three within few = absurd (omega (arith, three, within, few))
+too_few (Err error) limit three within few = refl

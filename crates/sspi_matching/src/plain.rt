@@ -1,0 +1,36 @@
+ghost use Rattle.std.specs.Prelude.{ℕ, ◌≤◌, ◌<◌, IfOk, IsErr};
+ghost use Rattle.sspi_delegate.specs.Headline.{IsFresh};
+ghost use Rattle.sspi_matching.specs.Matching.{AreMatching, IsUndisturbed, NoneFailed, delegated_as, ComesToOk, IsCutShort};
+
+use sspi_credssp::{CredSspClient, CredSspServer, CredentialsProxy};
+use sspi_delegate::{DelegateError, Delegation, Link, Transcript, delegate};
+use sspi_mech::{Kdc, Mechanism, Ntlm};
+use std::alloc::Global;
+
+/// `delegate` between two ends that authenticate by plain NTLM, with what its contract says of these.
+///
+/// It is Ok only after three messages of the client, whatever the link delivers. Where the ends match, the link disturbs
+/// nothing and no look-up of the proxy fails, it is Ok after exactly three, with the client's identity, or there was no memory.
+/// Where the client may make fewer than three messages, that is then the reason, or want of memory.
+pub fn delegate_plainly<K: Mechanism, C: CredentialsProxy, L: Link, D: Kdc>(
+    alloc: Global,
+    client: &mut CredSspClient<Ntlm, K>,
+    server: &mut CredSspServer<Ntlm, K, C>,
+    link: &mut L,
+    kdc: &mut D,
+    turns: u32,
+    transcript: &mut Transcript,
+) -> Result<Delegation, DelegateError>
+    ensures three { IsFresh client.old server.old transcript.old.turns → IfOk result (λ delegation. 3 ≤ delegation.turns) }
+    ensures few { IsFresh client.old server.old transcript.old.turns → turns < 3 → IsErr result }
+    ensures comes { (matching : AreMatching C.told client.old server.old) → IsFresh client.old server.old transcript.old.turns →
+        IsUndisturbed (L.edits link.old) (L.log link.old) (L.log link.new) (L.faults link.old) (L.faults link.new) →
+        NoneFailed (C.failing server.old.proxy) (C.faults server.old.proxy) (C.faults server.new.proxy) →
+        3 ≤ turns → ComesToOk (delegated_as client.old.delegation matching.identity) result }
+    ensures short { AreMatching C.told client.old server.old → IsFresh client.old server.old transcript.old.turns →
+        IsUndisturbed (L.edits link.old) (L.log link.old) (L.log link.new) (L.faults link.old) (L.faults link.new) →
+        NoneFailed (C.failing server.old.proxy) (C.faults server.old.proxy) (C.faults server.new.proxy) →
+        turns < 3 → IsCutShort result }
+{
+    delegate(alloc, client, server, link, kdc, turns, transcript)
+}

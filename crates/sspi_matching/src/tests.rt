@@ -1,0 +1,157 @@
+//! Ends that are made to match do, and their exchange ends well where there is memory.
+
+ghost use Rattle.std.specs.Prelude.{◌≡◌, ◌≤◌, ◌<◌, [], ◌∷◌, length, IfOk, nat_lt};
+ghost use Rattle.sspi_names.specs.declared.credentials.Credentials.TheVariants as credentials;
+ghost use Rattle.sspi_names.specs.Identity.{IsIdentity};
+ghost use Rattle.sspi_credssp.specs.Client.{IsFreshClient};
+ghost use Rattle.sspi_credssp.specs.Server.{IsFreshServer};
+ghost use Rattle.sspi_matching.specs.Matching.{challenge_of, IsShort, delegated_as, ComesToOk, IsCutShort};
+
+use crate::delegate_plainly;
+use sspi_credssp::{ClientMode, CredSspClient, CredSspServer, ServerMode, TableProxy};
+use sspi_delegate::{DelegateError, Delegation, MemoryLink, Transcript};
+use sspi_mech::{FailingKdc, Ntlm, NtlmConfig};
+use sspi_names::{AuthIdentity, Credentials, Username};
+use sspi_tsreq::CredSspMode;
+use sspi_types::{Secret, Text};
+use std::alloc::{AllocError, Global};
+use std::test::Fail;
+
+fn copied(alloc: Global, bytes: &[u8]) -> Result<Vec<u8>, AllocError>
+    ensures { IfOk result (λ copy. copy.items ≡ bytes.now) }
+{
+    bytes.iter().copied().collect(alloc)
+}
+
+fn client_of(
+    alloc: Global,
+    identity: AuthIdentity,
+    key: &[u8],
+    mode: CredSspMode,
+    version: u32,
+) -> Result<CredSspClient<Ntlm, Ntlm>, AllocError>
+    ensures fresh { IfOk result IsFreshClient }
+    ensures values { IfOk result (λ client. (client.public_key ≡ key.now) × (client.credentials ≡ credentials.AuthIdentity identity)
+        × (client.delegation ≡ mode) × (client.version ≡ version) × (length client.nonce ≡ 32)) }
+{
+    let config = NtlmConfig::new(Text::from_text(alloc, "CLIENT")?);
+    let public_key = copied(alloc, key)?;
+    let target = String::from_str(alloc, "TERMSRV/host.example.com")?;
+    Ok(CredSspClient::new_with_version(
+        alloc,
+        public_key,
+        Credentials::AuthIdentity(identity),
+        mode,
+        version,
+        ClientMode::Ntlm(config),
+        target,
+        [9; 32],
+    ))
+}
+
+/// A server whose proxy knows this identity alone, and never fails.
+fn server_of(
+    alloc: Global,
+    identity: AuthIdentity,
+    key: &[u8],
+    version: u32,
+) -> Result<CredSspServer<Ntlm, Ntlm, TableProxy>, AllocError>
+    ensures fresh { IfOk result IsFreshServer }
+    ensures values { IfOk result (λ server. (server.public_key ≡ key.now) × (server.version ≡ version) × (length (challenge_of server.mode) ≡ 8)
+        × (server.proxy ≡ record { entries = identity ∷ []; failing = []; calls = 0; faults = 0 })) }
+{
+    let config = NtlmConfig::new(Text::from_text(alloc, "SERVER")?);
+    let public_key = copied(alloc, key)?;
+    let mut known = Vec::new(alloc);
+    known.push(identity)?;
+    Ok(CredSspServer::new_with_version(
+        alloc,
+        public_key,
+        TableProxy::new(alloc, known, Vec::new(alloc)),
+        version,
+        ServerMode::Ntlm(config),
+    ))
+}
+
+/// An exchange in memory of two ends that know the same identity.
+fn delegate_matched(
+    alloc: Global,
+    identity: &AuthIdentity,
+    key: &[u8],
+    mode: CredSspMode,
+    client_version: u32,
+    server_version: u32,
+    turns: u32,
+) -> Result<Delegation, DelegateError>
+    ensures comes { IsIdentity identity.now → IsShort identity.now → length key.now ≤ 16384 → nat_lt client_version 5 ≡ nat_lt server_version 5 →
+        3 ≤ turns → ComesToOk (delegated_as mode identity.now) result }
+    ensures short { IsIdentity identity.now → IsShort identity.now → length key.now ≤ 16384 → nat_lt client_version 5 ≡ nat_lt server_version 5 →
+        turns < 3 → IsCutShort result }
+{
+    let Ok(mine) = identity.clone(alloc) else {
+        return Err(DelegateError::InsufficientMemory);
+    };
+    let Ok(known) = identity.clone(alloc) else {
+        return Err(DelegateError::InsufficientMemory);
+    };
+    let Ok(mut client) = client_of(alloc, mine, key, mode, client_version) else {
+        return Err(DelegateError::InsufficientMemory);
+    };
+    let Ok(mut server) = server_of(alloc, known, key, server_version) else {
+        return Err(DelegateError::InsufficientMemory);
+    };
+    let mut link = MemoryLink::new(alloc, Vec::new(alloc));
+    let mut kdc = FailingKdc::new();
+    let mut transcript = Transcript::new(alloc);
+    delegate_plainly(
+        alloc,
+        &mut client,
+        &mut server,
+        &mut link,
+        &mut kdc,
+        turns,
+        &mut transcript,
+    )
+}
+
+#[test]
+fn matching_ends_come_to_ok(rt: HostRuntime) -> Result<(), Fail> {
+    let alloc = rt.alloc();
+    let username = Username::parse(alloc, "DOM\\ann").ok().ok_or("a name")?;
+    let password = Secret::from(Text::from_text(alloc, "pw")?);
+    let identity = AuthIdentity { username, password };
+    for (mode, versions, name) in [
+        (CredSspMode::WithCredentials, (6, 6), "DOM\\ann"),
+        (CredSspMode::WithCredentials, (2, 4), "DOM\\ann"),
+        (CredSspMode::CredentialLess, (5, 6), ""),
+    ] {
+        let (client, server) = versions;
+        match delegate_matched(alloc, &identity, &[1, 2, 3], mode, client, server, 3) {
+            Ok(delegation) => {
+                assert_eq!(rt; delegation.turns, 3);
+                assert!(rt; delegation.credentials.username.inner() == name);
+            }
+            Err(_) => assert!(rt; false),
+        }
+    }
+    Ok(())
+}
+
+#[test]
+fn two_turns_are_too_few(rt: HostRuntime) -> Result<(), Fail> {
+    let alloc = rt.alloc();
+    let username = Username::parse(alloc, "ann").ok().ok_or("a name")?;
+    let password = Secret::from(Text::from_text(alloc, "pw")?);
+    let identity = AuthIdentity { username, password };
+    let answer = delegate_matched(
+        alloc,
+        &identity,
+        &[1, 2, 3],
+        CredSspMode::WithCredentials,
+        6,
+        6,
+        2,
+    );
+    assert!(rt; answer.err() == Some(DelegateError::TurnsSpent));
+    Ok(())
+}
