@@ -1,0 +1,135 @@
+-- What the lines that are left decide, after lines that told some settings.
+use Rattle.std.proofs.Common.{◌≡◌, ℕ, ◌+◌, ◌<◌, ◌≤◌, arith, Bool, true, false, List, [], ◌∷◌, ◌++◌, length, Option, Some, None, Result, Ok, Err, refl, ap, sym, subst, ◌∙◌}
+use Rattle.std.specs.Prelude.{if◌then◌else◌, IfSome, option_copied}
+use Rattle.std.specs.Borrow.{Bor}
+use Rattle.std.specs.List.{cons_option}
+use Rattle.std.proofs.lemmas.List.{append-nil, append_assoc}
+use Rattle.sspi_scenario.specs.declared.draft.Draft.{Draft}
+use Rattle.sspi_scenario.specs.declared.scenario.Scenario.{Scenario}
+use Rattle.sspi_scenario.specs.declared.scenario.ScenarioError.{ScenarioError}
+use Rattle.sspi_scenario.specs.declared.scenario.ScenarioError.TheVariants as error
+use Rattle.sspi_scenario.specs.declared.setting.Setting.{Setting}
+use Rattle.sspi_scenario.specs.Lines.{is_skipped, lines_of}
+use Rattle.sspi_scenario.specs.Settings.{key_of, line_setting}
+use Rattle.sspi_scenario.specs.Faults.{Line, telling, broken, judged, lines_from, is_excluded, first_fault, settings_of}
+use Rattle.sspi_scenario.specs.Scenario.{decided, completed, scenario_of_lines, scenario_of, Parses, is_readable}
+use Rattle.sspi_scenario.specs.Drafts.{draft_of, with_line, with_told, with_setting, has_value, draft_completed, Gathers, Completes}
+use Rattle.sspi_scenario.proofs.More.{draft-more}
+use Rattle.sspi_scenario.proofs.Excluded.{excluded}
+
+-- how much of a text is left
+abbrev pub left : Option (List ℕ) → ℕ
+left None = 0
+left (Some rest) = length rest + 1
+
+-- what lines decide that stand behind lines which told these settings
+unfoldable pub outcome : List Setting → List Line → Result Scenario ℕ
+outcome earlier lines = decided (first_fault earlier lines) (completed (earlier ++ settings_of lines))
+
+pub outcome-start : (lines : List Line) → outcome [] lines ≡ scenario_of_lines lines
+unfolding outcome scenario_of_lines
+outcome-start lines = refl
+
+pub outcome-end : (earlier : List Setting) (number : ℕ) → outcome earlier (lines_from number []) ≡ decided None (draft_completed (draft_of earlier))
+unfolding outcome lines_from settings_of first_fault completed draft_completed draft_of
+outcome-end earlier number = ap (λ settings. decided None (completed settings)) (append-nil earlier)
+
+outcome-broken : (earlier : List Setting) (number : ℕ) (lines : List Line) → outcome earlier (broken number ∷ lines) ≡ Err number
+unfolding outcome first_fault
+outcome-broken earlier number lines = refl
+
+outcome-excluded : (earlier : List Setting) (number : ℕ) (told : Setting) (lines : List Line) → is_excluded earlier (key_of told) ≡ true
+    → outcome earlier (telling number told ∷ lines) ≡ Err number
+unfolding outcome first_fault
+outcome-excluded earlier number told lines h = rw h refl
+
+outcome-told : (earlier : List Setting) (number : ℕ) (told : Setting) (lines : List Line) → is_excluded earlier (key_of told) ≡ false
+    → outcome earlier (telling number told ∷ lines) ≡ outcome (earlier ++ told ∷ []) lines
+unfolding outcome first_fault settings_of
+outcome-told earlier number told lines h = rw (h, append_assoc) refl
+
+-- what a line does: it is at fault with its number, or lines that told more lead to the values after it
+abbrev Step : List Setting → Option Draft → ℕ → List Line → List Line → Type 0
+Step earlier None number lines rest = outcome earlier lines ≡ Err number
+Step earlier (Some new) number lines rest = (later : List Setting) × (new ≡ draft_of later) × (outcome earlier lines ≡ outcome later rest)
+
+module _ (earlier : List Setting) (number : ℕ) (rest : List Line) where
+  step-barred : (told : Setting) (b : Bool) → has_value (draft_of earlier) (key_of told) ≡ b
+      → Step earlier (if b then None else Some (with_setting (draft_of earlier) told)) number (telling number told ∷ rest) rest
+  step-barred told true e = outcome-excluded earlier number told rest (sym (excluded earlier (key_of told)) ∙ e)
+  step-barred told false e =
+      (earlier ++ told ∷ [], sym (draft-more earlier told), outcome-told earlier number told rest (sym (excluded earlier (key_of told)) ∙ e))
+
+  step-told : (told : Option Setting) → Step earlier (with_told (draft_of earlier) told) number (judged number told ∷ rest) rest
+  step-told None = outcome-broken earlier number rest
+  step-told (Some told) = step-barred told (has_value (draft_of earlier) (key_of told)) refl
+
+  step-line : (skipped : Bool) (told : Option Setting)
+      → Step earlier (if skipped then Some (draft_of earlier) else with_told (draft_of earlier) told) number
+      (cons_option (if skipped then None else Some (judged number told)) rest) rest
+  step-line true told = (earlier, refl, refl)
+  step-line false told = step-told told
+
+pub step : (earlier : List Setting) (number : ℕ) (line : List ℕ) (rest : List (List ℕ))
+    → Step earlier (with_line (draft_of earlier) line) number (lines_from number (line ∷ rest)) (lines_from (number + 1) rest)
+unfolding with_line lines_from
+step earlier number line rest = step-line earlier number (lines_from (number + 1) rest) (is_skipped line) (line_setting line)
+
+-- the same of a line that is taken, and of one that is at fault
+pub step-taken : (earlier : List Setting) (number : ℕ) (line : List ℕ) (rest : List (List ℕ)) (new : Draft)
+    → with_line (draft_of earlier) line ≡ Some new
+    → (later : List Setting) × (new ≡ draft_of later) × (outcome earlier (lines_from number (line ∷ rest)) ≡ outcome later (lines_from (number + 1) rest))
+step-taken earlier number line rest new e =
+    subst (λ o. Step earlier o number (lines_from number (line ∷ rest)) (lines_from (number + 1) rest)) e (step earlier number line rest)
+
+pub step-refused : (earlier : List Setting) (number : ℕ) (line : List ℕ) (rest : List (List ℕ))
+    → with_line (draft_of earlier) line ≡ None
+    → outcome earlier (lines_from number (line ∷ rest)) ≡ Err number
+step-refused earlier number line rest e =
+    subst (λ o. Step earlier o number (lines_from number (line ∷ rest)) (lines_from (number + 1) rest)) e (step earlier number line rest)
+
+-- the values so far, and what the lines that are left decide: that is what all lines decide
+abbrev pub Told : Draft → ℕ → List (List ℕ) → Result Scenario ℕ → Type 0
+Told draft number lines all = (earlier : List Setting) × (draft ≡ draft_of earlier) × (outcome earlier (lines_from number lines) ≡ all)
+
+pub told-start : (draft : Draft) (lines : List (List ℕ)) → draft ≡ draft_of [] → Told draft 1 lines (scenario_of_lines (lines_from 1 lines))
+told-start draft lines e = ([], e, outcome-start (lines_from 1 lines))
+
+pub told-end : (draft : Draft) (number : ℕ) (all : Result Scenario ℕ) → Told draft number [] all → all ≡ decided None (draft_completed draft)
+told-end draft number all told =
+    sym told.2 ∙ (outcome-end told.0 number ∙ ap (λ (d : Draft). decided None (draft_completed d)) (sym told.1))
+
+module _ (draft : Draft) (number : ℕ) (all : Result Scenario ℕ) (lines : List (List ℕ)) (line : List ℕ) (rest : List (List ℕ)) (cut : lines ≡ line ∷ rest) where
+  pub told-more : (new : Draft) → with_line draft line ≡ Some new → Told draft number lines all → Told new (number + 1) rest all
+  told-more new h told =
+      let next = step-taken told.0 number line rest new (ap (λ (d : Draft). with_line d line) (sym told.1) ∙ h) in
+      (next.0, next.1, sym next.2 ∙ (ap (λ (ls : List (List ℕ)). outcome told.0 (lines_from number ls)) (sym cut) ∙ told.2))
+
+  pub told-fault : with_line draft line ≡ None → Told draft number lines all → all ≡ Err number
+  told-fault h told =
+      sym told.2
+      ∙ (ap (λ (ls : List (List ℕ)). outcome told.0 (lines_from number ls)) cut
+      ∙ step-refused told.0 number line rest (ap (λ (d : Draft). with_line d line) (sym told.1) ∙ h))
+
+-- a rest that is shorter
+pub left-shorter : (rest : Option (Bor (List ℕ))) (n : ℕ) → IfSome rest (λ r. length r.now < n) → left (option_copied rest) ≤ n
+left-shorter None n h = omega arith
+left-shorter (Some r) n h = omega (arith, h)
+
+pub unreadable : (text : List ℕ) → is_readable text ≡ false → scenario_of text ≡ Err 0
+unfolding scenario_of
+unreadable text e = rw e refl
+
+module _ (text read : List ℕ) (same : read ≡ text) (readable : is_readable text ≡ true) where
+  whole : scenario_of text ≡ scenario_of_lines (lines_from 1 (lines_of read))
+  unfolding scenario_of
+  whole = rw (same, readable) refl
+
+  pub parsed-fault : (refusal : ScenarioError) → Gathers read (Err refusal) → Parses text (Err refusal)
+  parsed-fault (error.Line number) h = whole ∙ h
+  parsed-fault error.InsufficientMemory h = tt
+
+  pub parsed : (draft : Draft) (r : Result Scenario ScenarioError) → Gathers read (Ok draft) → Completes r (draft_completed draft) → Parses text r
+  parsed draft (Ok scenario) h e = whole ∙ (h ∙ ap (decided None) e)
+  parsed draft (Err (error.Line number)) h e = whole ∙ (h ∙ (ap (decided None) e.0 ∙ ap Err (sym e.1)))
+  parsed draft (Err error.InsufficientMemory) h e = tt

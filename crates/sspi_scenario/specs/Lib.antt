@@ -1,0 +1,14 @@
+pub mod Reading
+pub mod Optional
+pub mod Lines
+pub mod Numbers
+pub mod Hex
+pub mod Words
+pub mod Edits
+pub mod Keys
+pub mod Settings
+pub mod Values
+pub mod Faults
+pub mod Reads
+pub mod Scenario
+pub mod Drafts

@@ -1,0 +1,29 @@
+-- How the whole text of a source is read.
+use Rattle.std.specs.Prelude.{◌≡◌, ℕ, ◌<◌, ◌≤◌, List, length, Option, None, Some, Result, Ok, Err}
+use Rattle.std.specs.Global.{Vec}
+use Rattle.std.specs.Io.KnownBytes.{Consumes}
+use Rattle.sspi_ber.specs.Outside.{Rose}
+use Rattle.sspi_scenario.specs.declared.reading.TextError.{TextError}
+use Rattle.sspi_scenario.specs.declared.reading.TextError.TheVariants.{TooLong, Failed, InsufficientMemory}
+use Rattle.sspi_scenario.specs.declared.reading.TheConstants.{TEXT_LIMIT}
+
+-- where a source tells what it has left, its text is all of that, or that is too long
+abbrev pub ReadsText : Option (List ℕ) → Result (Vec ℕ) TextError → Type 0
+ReadsText None result = Unit {0}
+ReadsText (Some bytes) (Ok text) = (text.items ≡ bytes) × (length bytes ≤ TEXT_LIMIT)
+ReadsText (Some bytes) (Err TooLong) = TEXT_LIMIT < length bytes
+ReadsText (Some bytes) (Err Failed) = Unit {0}
+ReadsText (Some bytes) (Err InsufficientMemory) = Unit {0}
+
+-- at most so many bytes were taken of what was left
+pub record TakesAtMost (most : ℕ) (before after : Option (List ℕ)) : Type 0 where
+  pub taken : List ℕ
+  pub consumed : Consumes before after taken
+  pub short : length taken ≤ most
+
+-- what reading says of the source's count of faults: it never falls, and a failure has it rise
+abbrev pub TextCause : ℕ → ℕ → Result (Vec ℕ) TextError → Type 0
+TextCause before now (Ok text) = before ≤ now
+TextCause before now (Err TooLong) = before ≤ now
+TextCause before now (Err Failed) = (before ≤ now) × Rose before now
+TextCause before now (Err InsufficientMemory) = before ≤ now

@@ -1,0 +1,24 @@
+-- The values that are one of a few words.
+use Rattle.std.specs.Prelude.{ℕ, List, Option, Some, None, codes, if◌then◌else◌}
+use Rattle.std.specs.Str.{bytes_eq}
+use Rattle.sspi_tsreq.specs.declared.mode.CredSspMode.{CredSspMode}
+use Rattle.sspi_tsreq.specs.declared.mode.CredSspMode.TheVariants.{WithCredentials, CredentialLess}
+use Rattle.sspi_scenario.specs.declared.scenario.Mode.{Mode}
+use Rattle.sspi_scenario.specs.declared.scenario.Mode.TheVariants.{Ntlm}
+use Rattle.sspi_scenario.specs.declared.words.Accounts.{Accounts}
+use Rattle.sspi_scenario.specs.declared.words.Accounts.TheVariants as accounts
+
+unfoldable pub mode_of : List ℕ → Option Mode
+mode_of word = if bytes_eq word (codes "ntlm") then Some Ntlm else None
+
+unfoldable pub delegation_of : List ℕ → Option CredSspMode
+delegation_of word =
+    if bytes_eq word (codes "with") then Some WithCredentials
+    else if bytes_eq word (codes "less") then Some CredentialLess
+    else None
+
+unfoldable pub accounts_of : List ℕ → Option Accounts
+accounts_of word =
+    if bytes_eq word (codes "own") then Some accounts.Own
+    else if bytes_eq word (codes "none") then Some accounts.None
+    else None

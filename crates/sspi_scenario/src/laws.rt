@@ -1,0 +1,34 @@
+//! Laws of scenarios, each on a function that does nothing.
+
+ghost use Rattle.std.specs.Prelude.{◌≡◌, ◌+◌, ◌<◌, ◌∷◌, ◌++◌, ℕ, List, true, false, Ok, Err};
+ghost use Rattle.std.specs.List.{list_any};
+ghost use Rattle.sspi_scenario.specs.declared.scenario.Scenario.{Scenario};
+ghost use Rattle.sspi_scenario.specs.declared.setting.Setting.{Setting};
+ghost use Rattle.sspi_scenario.specs.Lines.{lines_of, is_line_feed, is_skipped};
+ghost use Rattle.sspi_scenario.specs.Settings.{key_of};
+ghost use Rattle.sspi_scenario.specs.Faults.{lines_from, is_excluded, settings_of};
+ghost use Rattle.sspi_scenario.specs.Scenario.{is_readable, scenario_of};
+
+/// A comment or an empty line in front of a text changes nothing but the numbers of its lines.
+pub fn skipped_lines_are_only_counted()
+    ensures scenario { (line text : List ℕ) → is_skipped line ≡ true → list_any is_line_feed line ≡ false
+        → is_readable (line ++ 10 ∷ text) ≡ true
+        → (scenario : Scenario) → scenario_of text ≡ Ok scenario → scenario_of (line ++ 10 ∷ text) ≡ Ok scenario }
+    ensures fault { (line text : List ℕ) → is_skipped line ≡ true → list_any is_line_feed line ≡ false
+        → is_readable (line ++ 10 ∷ text) ≡ true
+        → (number : ℕ) → 0 < number → scenario_of text ≡ Err number → scenario_of (line ++ 10 ∷ text) ≡ Err (number + 1) }
+{}
+
+/// The first faulty line of a text stays so whatever lines follow.
+pub fn a_fault_stays_whatever_follows()
+    ensures { (text more : List ℕ) (number : ℕ) → 0 < number → scenario_of text ≡ Err number
+        → is_readable (text ++ 10 ∷ more) ≡ true → scenario_of (text ++ 10 ∷ more) ≡ Err number }
+{}
+
+/// In a text that is a scenario no line is excluded by those before it: a key that is not repeatable stands once, and
+/// `accounts` never beside `account`.
+pub fn lines_of_a_scenario_stand_together()
+    ensures { (text : List ℕ) (scenario : Scenario) (before : List Setting) (told : Setting) (after : List Setting)
+        → scenario_of text ≡ Ok scenario → settings_of (lines_from 1 (lines_of text)) ≡ before ++ told ∷ after
+        → is_excluded before (key_of told) ≡ false }
+{}

@@ -1,0 +1,115 @@
+ghost use Rattle.std.specs.Prelude.{◌≡◌, ◌≤◌, true, false, length, IfOk, IfErr};
+ghost use Rattle.sspi_scenario.specs.declared.scenario.ScenarioError.TheVariants.{Line};
+ghost use Rattle.sspi_scenario.specs.Scenario.{Parses, is_readable};
+ghost use Rattle.sspi_scenario.specs.Drafts.{Gathers};
+
+use crate::draft::Draft;
+use crate::error::LineError;
+use crate::lines::first_line;
+use crate::reading::TEXT_LIMIT;
+use crate::rows::Rows;
+use sspi_delegate::Edit;
+use sspi_names::{AuthIdentity, Username};
+use sspi_tsreq::CredSspMode;
+use sspi_types::{Bytes, Text};
+use std::alloc::{AllocError, Global};
+
+/// How both ends authenticate.
+#[derive(Clone, Copy, Debug, PartialEq, Eq)]
+pub enum Mode {
+    /// Plain NTLM, without a negotiation.
+    Ntlm,
+}
+
+/// What a scenario text tells: each field has the value of its key, or the key's default.
+#[derive(Drop)]
+pub struct Scenario {
+    pub mode: Mode,
+    pub user: Username,
+    pub password: Text,
+    /// The public key of the channel, as the client sees it.
+    pub key: Bytes,
+    /// The same as the server sees it.
+    pub server_key: Bytes,
+    pub client_version: u32,
+    pub server_version: u32,
+    pub nonce: [u8; 32],
+    /// The challenge of the server's NTLM.
+    pub challenge: [u8; 8],
+    pub computer: Text,
+    /// The service principal name of the server.
+    pub target: Text,
+    pub delegation: CredSspMode,
+    /// Where it is there the client's credentials are this keytab.
+    pub keytab: Option<Bytes>,
+    /// The table of the server's proxy.
+    pub account: Rows<AuthIdentity>,
+    /// The numbers of the proxy's calls that fail, from 0.
+    pub proxy_fail: Rows<u64>,
+    /// How many turns the client has at most.
+    pub turns: u32,
+    pub edit: Rows<Edit>,
+}
+
+/// Why a text gave no scenario.
+#[derive(Clone, Copy, Debug, PartialEq, Eq)]
+pub enum ScenarioError {
+    /// The text is no scenario. The number is that of its first faulty line, from 1; 0 where no line is to blame.
+    Line(usize),
+    InsufficientMemory,
+}
+
+impl From<AllocError> for ScenarioError {
+    ghost use Rattle.std.specs.Prelude.{◌≡◌};
+    ghost use Rattle.sspi_scenario.specs.declared.scenario.ScenarioError.TheVariants.{InsufficientMemory};
+
+    ghost from_gives = { λ _ error. error ≡ InsufficientMemory };
+
+    fn from(_error: AllocError) -> ScenarioError {
+        ScenarioError::InsufficientMemory
+    }
+}
+
+impl Scenario {
+    /// The scenario of a text. `Line` comes exactly where the text is no scenario.
+    pub fn parse(alloc: Global, text: &[u8]) -> Result<Scenario, ScenarioError>
+        ensures { Parses text.now result }
+    {
+        read(alloc, checked(text)?)?.complete(alloc)
+    }
+}
+
+/// The text of these bytes, where they are not too many and are UTF-8.
+fn checked(text: &[u8]) -> Result<&str, ScenarioError>
+    ensures text { IfOk result (λ read. (read.now ≡ text.now) × (is_readable text.now ≡ true)) }
+    ensures refused { IfErr result (λ error. (error ≡ Line 0) × (is_readable text.now ≡ false)) }
+{
+    if text.len() > TEXT_LIMIT {
+        return Err(ScenarioError::Line(0));
+    }
+    match str::from_utf8(text) {
+        Ok(text) => Ok(text),
+        Err(_) => Err(ScenarioError::Line(0)),
+    }
+}
+
+/// The values of all lines.
+fn read(alloc: Global, text: &str) -> Result<Draft, ScenarioError>
+    requires { length text.now ≤ TEXT_LIMIT }
+    ensures { Gathers text.now result }
+{
+    let mut draft = Draft::new(alloc);
+    let mut number = 1;
+    let mut rest = Some(text);
+    while let Some(text) = rest {
+        let (line, more) = first_line(text);
+        match draft.take_line(alloc, line) {
+            Ok(()) => {}
+            Err(LineError::Fault) => return Err(ScenarioError::Line(number)),
+            Err(LineError::InsufficientMemory) => return Err(ScenarioError::InsufficientMemory),
+        }
+        number += 1;
+        rest = more;
+    }
+    Ok(draft)
+}

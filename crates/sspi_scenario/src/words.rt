@@ -1,0 +1,45 @@
+ghost use Rattle.std.specs.Prelude.{◌≡◌};
+ghost use Rattle.sspi_scenario.specs.Words.{mode_of, delegation_of, accounts_of};
+
+use crate::scenario::Mode;
+use sspi_tsreq::CredSspMode;
+
+/// What the proxy's table holds where no `account` tells it.
+#[derive(Clone, Copy, Debug, PartialEq, Eq)]
+pub enum Accounts {
+    /// The client's user and password.
+    Own,
+    None,
+}
+
+#[tactic(auto, using(crate::proofs::Names::is_ntlm, crate::proofs::Names::no_mode))]
+pub fn mode_named(word: &str) -> Option<Mode>
+    ensures { result ≡ mode_of word.now }
+{
+    match word {
+        "ntlm" => Some(Mode::Ntlm),
+        _ => None,
+    }
+}
+
+#[tactic(auto, using(crate::proofs::Names::is_with, crate::proofs::Names::is_less, crate::proofs::Names::no_delegation))]
+pub fn delegation_named(word: &str) -> Option<CredSspMode>
+    ensures { result ≡ delegation_of word.now }
+{
+    match word {
+        "with" => Some(CredSspMode::WithCredentials),
+        "less" => Some(CredSspMode::CredentialLess),
+        _ => None,
+    }
+}
+
+#[tactic(auto, using(crate::proofs::Names::is_own, crate::proofs::Names::is_none, crate::proofs::Names::no_accounts))]
+pub fn accounts_named(word: &str) -> Option<Accounts>
+    ensures { result ≡ accounts_of word.now }
+{
+    match word {
+        "own" => Some(Accounts::Own),
+        "none" => Some(Accounts::None),
+        _ => None,
+    }
+}
