@@ -1,0 +1,4 @@
+pub mod Entries
+pub mod Names
+pub mod Outcome
+pub mod Report

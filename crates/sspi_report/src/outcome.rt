@@ -1,0 +1,69 @@
+ghost use Rattle.std.specs.Prelude.{◌≡◌, ◌++◌, string_bytes, option_map, codes, IfOk};
+ghost use Rattle.sspi_report.specs.Outcome.{delegated_text, error_line, outcome_line, refusal_text};
+ghost use Rattle.sspi_report.specs.Entries.{line};
+ghost use Rattle.sspi_report.specs.Names.{end_name};
+
+use crate::names::{end_name, fault_name};
+use sspi_delegate::{DelegateError, Delegation, End};
+use sspi_types::Error;
+use std::alloc::{AllocError, Global};
+
+/// The line of an outcome; none where memory was wanting.
+pub(crate) fn outcome_line(
+    alloc: Global,
+    outcome: &Result<Delegation, DelegateError>,
+) -> Result<Option<String>, AllocError>
+    ensures { IfOk result (λ told. option_map (λ text. string_bytes text) told ≡ outcome_line outcome.now) }
+{
+    match outcome {
+        Ok(delegation) => Ok(Some(delegated_line(alloc, delegation)?)),
+        Err(error) => error_line(alloc, *error),
+    }
+}
+
+fn delegated_line(alloc: Global, delegation: &Delegation) -> Result<String, AllocError>
+    ensures { IfOk result (λ text. string_bytes text ≡ line (delegated_text delegation.now)) }
+{
+    let turns = delegation.turns;
+    let user = delegation.credentials.username.inner();
+    let password = delegation.credentials.password.value.as_str();
+    let text = format!(in alloc; "ok {turns} user={user} password={password}\n")?;
+    Ok(text)
+}
+
+fn error_line(alloc: Global, error: DelegateError) -> Result<Option<String>, AllocError>
+    ensures { IfOk result (λ told. option_map (λ text. string_bytes text) told ≡ error_line error) }
+{
+    let text = match error {
+        DelegateError::Client(error) => refusal_line(alloc, End::Client, error)?,
+        DelegateError::Server(error) => refusal_line(alloc, End::Server, error)?,
+        DelegateError::Read(end, kind) => {
+            let end = end_name(end);
+            let kind = fault_name(kind);
+            format!(in alloc; "read {end} {kind}\n")?
+        }
+        DelegateError::Write(end) => {
+            let end = end_name(end);
+            format!(in alloc; "write {end}\n")?
+        }
+        DelegateError::LinkFault => String::from_str(alloc, "link\n")?,
+        DelegateError::TurnsSpent => String::from_str(alloc, "turns\n")?,
+        DelegateError::InsufficientMemory => return Ok(None),
+    };
+    Ok(Some(text))
+}
+
+fn refusal_line(alloc: Global, end: End, error: Error) -> Result<String, AllocError>
+    ensures { IfOk result (λ text. string_bytes text ≡ line (end_name end ++ codes " " ++ refusal_text error)) }
+{
+    let end = end_name(end);
+    let kind = error.error_type.name();
+    let text = match error.nstatus {
+        Some(status) => {
+            let number = status.0;
+            format!(in alloc; "{end} {kind} 0x{number:x}\n")?
+        }
+        None => format!(in alloc; "{end} {kind}\n")?,
+    };
+    Ok(text)
+}
