@@ -1,0 +1,4 @@
+pub mod Running
+pub mod TooLong
+pub mod Conducting
+pub mod Plainly

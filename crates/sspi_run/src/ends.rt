@@ -1,0 +1,148 @@
+ghost use Rattle.std.specs.Prelude.{◌≡◌, ◌<◌, ◌^◌, length, IfOk};
+ghost use Rattle.sspi_credssp.specs.Client.{IsFreshClient};
+ghost use Rattle.sspi_credssp.specs.Server.{IsFreshServer};
+ghost use Rattle.sspi_run.specs.Ends.{credentials_in, IsClientOf, IsServerOf, link_in, AreEndsOf};
+ghost use Rattle.sspi_run.specs.Outcome.{AreValues};
+
+use sspi_credssp::{ClientMode, CredSspClient, CredSspServer, ServerMode, TableProxy};
+use sspi_delegate::{Edit, MemoryLink};
+use sspi_mech::{Ntlm, NtlmConfig};
+use sspi_names::{AuthIdentity, Credentials, KeytabIdentity};
+use sspi_scenario::Scenario;
+use sspi_types::Secret;
+use std::alloc::{AllocError, Global};
+
+/// The client of a scenario. Both mechanisms of its context are NTLM.
+pub type Client = CredSspClient<Ntlm, Ntlm>;
+
+/// The server of a scenario. Its proxy looks its peers up in the table of the scenario.
+pub type Server = CredSspServer<Ntlm, Ntlm, TableProxy>;
+
+/// Both ends of a scenario, and the link between them.
+#[derive(Drop)]
+pub struct Ends {
+    pub client: Client,
+    pub server: Server,
+    pub link: MemoryLink,
+}
+
+/// The ends and the link that the scenario names.
+pub fn ends_of(alloc: Global, scenario: &Scenario) -> Result<Ends, AllocError>
+    ensures ends { IfOk result (AreEndsOf scenario.now) }
+    ensures values { AreValues scenario.now }
+{
+    read_values(scenario);
+    Ok(Ends {
+        client: client_of(alloc, scenario)?,
+        server: server_of(alloc, scenario)?,
+        link: link_of(alloc, scenario)?,
+    })
+}
+
+/// Reads the values of a scenario, for what their types say of them.
+fn read_values(scenario: &Scenario)
+    ensures { AreValues scenario.now }
+{
+    let _ = scenario.user.inner();
+    let _ = scenario.password.as_str();
+    read_version(scenario.client_version);
+    read_version(scenario.server_version);
+    read_arrays(scenario.nonce, scenario.challenge);
+}
+
+fn read_version(version: u32)
+    ensures { version < 2 ^ 32 }
+{}
+
+fn read_arrays(nonce: [u8; 32], challenge: [u8; 8])
+    ensures nonce { length nonce ≡ 32 }
+    ensures challenge { length challenge ≡ 8 }
+{}
+
+/// The client that the scenario names, to which nothing was delivered.
+fn client_of(alloc: Global, scenario: &Scenario) -> Result<Client, AllocError>
+    ensures fresh { IfOk result IsFreshClient }
+    ensures named { IfOk result (IsClientOf scenario.now) }
+{
+    let key = scenario.key.clone(alloc)?.into_inner();
+    let credentials = credentials_of(alloc, scenario)?;
+    let mode = ClientMode::Ntlm(NtlmConfig::new(scenario.computer.clone(alloc)?));
+    let target = scenario.target.clone(alloc)?.into_inner();
+    Ok(CredSspClient::new_with_version(
+        alloc,
+        key,
+        credentials,
+        scenario.delegation,
+        scenario.client_version,
+        mode,
+        target,
+        scenario.nonce,
+    ))
+}
+
+fn credentials_of(alloc: Global, scenario: &Scenario) -> Result<Credentials, AllocError>
+    ensures { IfOk result (λ credentials. credentials ≡ credentials_in scenario.now) }
+{
+    let username = scenario.user.clone(alloc)?;
+    Ok(match &scenario.keytab {
+        Some(keytab) => Credentials::Keytab(KeytabIdentity {
+            username,
+            keytab: keytab.clone(alloc)?,
+        }),
+        None => Credentials::AuthIdentity(AuthIdentity {
+            username,
+            password: Secret {
+                value: scenario.password.clone(alloc)?,
+            },
+        }),
+    })
+}
+
+/// The server that the scenario names, to which nothing was delivered.
+fn server_of(alloc: Global, scenario: &Scenario) -> Result<Server, AllocError>
+    ensures fresh { IfOk result IsFreshServer }
+    ensures named { IfOk result (IsServerOf scenario.now) }
+{
+    let key = scenario.server_key.clone(alloc)?.into_inner();
+    let accounts = copy_accounts(alloc, scenario.account.as_slice())?;
+    let failing = Vec::from_slice(alloc, scenario.proxy_fail.as_slice())?;
+    let mode = ServerMode::Ntlm(NtlmConfig {
+        client_computer_name: None,
+        challenge: scenario.challenge,
+    });
+    Ok(CredSspServer::new_with_version(
+        alloc,
+        key,
+        TableProxy::new(alloc, accounts, failing),
+        scenario.server_version,
+        mode,
+    ))
+}
+
+fn copy_accounts(alloc: Global, accounts: &[AuthIdentity]) -> Result<Vec<AuthIdentity>, AllocError>
+    ensures { IfOk result (λ copies. copies.items ≡ accounts.now) }
+{
+    let mut copies = Vec::new(alloc);
+    for account in accounts {
+        copies.push(account.clone(alloc)?)?;
+    }
+    Ok(copies)
+}
+
+/// The link that the scenario names, with an empty log.
+fn link_of(alloc: Global, scenario: &Scenario) -> Result<MemoryLink, AllocError>
+    ensures { IfOk result (λ link. link ≡ link_in scenario.now) }
+{
+    let edits = copy_edits(alloc, scenario.edit.as_slice())?;
+    Ok(MemoryLink::new(alloc, edits))
+}
+
+fn copy_edits(alloc: Global, edits: &[Edit]) -> Result<Vec<Edit>, AllocError>
+    ensures { IfOk result (λ copies. copies.items ≡ edits.now) }
+{
+    let mut copies = Vec::new(alloc);
+    for edit in edits {
+        copies.push(edit.clone(alloc)?)?;
+    }
+    Ok(copies)
+}

@@ -1,0 +1,20 @@
+//! The exit statuses of the program.
+
+/// The server has the credentials.
+pub const DELEGATED: u8 = 0;
+
+/// The exchange was refused.
+pub const REFUSED: u8 = 1;
+
+/// The text of the source is no scenario, or too long.
+pub const NO_SCENARIO: u8 = 2;
+
+pub const READ_FAULT: u8 = 3;
+
+/// Stands in place of the status that the whole text would have had.
+pub const WRITE_FAULT: u8 = 4;
+
+pub const NO_MEMORY: u8 = 5;
+
+/// The words are no command.
+pub const OTHER_WORDS: u8 = 6;
