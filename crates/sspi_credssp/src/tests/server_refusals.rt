@@ -1,4 +1,3 @@
-use crate::tests::asks::Asks;
 use crate::tests::ends::{answers, hands_back, octets, read, server, with_token};
 use crate::tests::values::{FOURTH, THIRD};
 use crate::{Acts, CredSspServer, TableProxy};
@@ -10,9 +9,6 @@ use std::process::Abort;
 use std::test::Fail;
 
 type Server = CredSspServer<Ntlm, Ntlm, TableProxy>;
-
-/// A server whose authentication ends with a token in its first step.
-type Plain = CredSspServer<Asks<0>, Asks<0>, TableProxy>;
 
 /// The client's first message in another version.
 fn first_at(alloc: Global, version: u32) -> Result<TsRequest, AllocError> {
