@@ -1,6 +1,7 @@
 use crate::mechanism::Mechanism;
 use crate::tests::ends::{keyed_client, keyed_server};
 use sspi_types::{Error, ErrorKind, Reason};
+use std::alloc::{AllocError, Global};
 use std::test::Fail;
 
 /// The tag of the first blob, of the second blob, of the first MIC and of the second MIC of an end, computed apart.
@@ -57,6 +58,11 @@ const SERVER: Tags = Tags {
 
 const TEXTS: [&[u8]; 2] = [b"first", b"second"];
 
+/// The tag of the client's third blob.
+const THIRD: [u8; 16] = [
+    0x3b, 0x98, 0x7a, 0x99, 0x02, 0x28, 0x16, 0xef, 0xd9, 0xeb, 0x1f, 0x51, 0xe9, 0x03, 0xd0, 0x1b,
+];
+
 /// One end protects a text in both ways, the other takes it; what was taken once is not taken again.
 fn is_carried<M: Mechanism>(
     from: &mut M,
@@ -74,6 +80,13 @@ fn is_carried<M: Mechanism>(
         && signs(from, text, mic)
         && to.verify(mic.as_slice(), text) == Ok(())
         && is_altered(to.verify(mic.as_slice(), text))
+}
+
+fn seals<M: Mechanism>(from: &mut M, text: &[u8], tag: &[u8; 16]) -> bool {
+    match from.seal(text) {
+        Ok(blob) => blob.strip_prefix(tag.as_slice()) == Some(text),
+        Err(_) => false,
+    }
 }
 
 fn opens<M: Mechanism>(to: &mut M, blob: &[u8], text: &[u8]) -> bool {
@@ -97,7 +110,6 @@ fn is_altered<T: Drop>(answer: Result<T, Error>) -> bool {
     }
 }
 
-/// The four counts of an end go their own ways: each message has the number that is next in its own row.
 #[test]
 fn both_directions(rt: HostRuntime) -> Result<(), Fail> {
     let mut client = keyed_client(rt.alloc())?;
@@ -114,5 +126,36 @@ fn both_directions(rt: HostRuntime) -> Result<(), Fail> {
     {
         assert!(rt; is_carried(&mut server, &mut client, *text, tag, mic));
     }
+    Ok(())
+}
+
+/// The blob of a text with this tag.
+fn blob_of(alloc: Global, tag: &[u8; 16], text: &[u8]) -> Result<Vec<u8>, AllocError> {
+    let mut blob = Vec::from_slice(alloc, tag)?;
+    blob.extend_from_slice(text)?;
+    Ok(blob)
+}
+
+/// A client that makes and takes messages in turn, its four counts apart: each message
+/// has the number that is next in its own row.
+fn counts_apart<M: Mechanism>(client: &mut M, blobs: &[Vec<u8>; 2]) -> bool {
+    seals(client, b"first", &CLIENT.blobs[0])
+        && signs(client, b"first", &CLIENT.mics[0])
+        && seals(client, b"second", &CLIENT.blobs[1])
+        && opens(client, &blobs[0], b"first")
+        && seals(client, b"third", &THIRD)
+        && opens(client, &blobs[1], b"second")
+        && signs(client, b"second", &CLIENT.mics[1])
+        && client.verify(&SERVER.mics[0], b"first") == Ok(())
+}
+
+#[test]
+fn a_mixed_sequence(rt: HostRuntime) -> Result<(), Fail> {
+    let blobs = [
+        blob_of(rt.alloc(), &SERVER.blobs[0], b"first")?,
+        blob_of(rt.alloc(), &SERVER.blobs[1], b"second")?,
+    ];
+    let mut client = keyed_client(rt.alloc())?;
+    assert!(rt; counts_apart(&mut client, &blobs));
     Ok(())
 }

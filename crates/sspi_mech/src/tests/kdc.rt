@@ -1,18 +1,26 @@
+//! What the laws of mechanisms give a caller that knows no more of one: its questions end, no step changes a count, and
+//! what it seals has a tag.
+ghost use Rattle.std.specs.Prelude.{◌≡◌, ◌≤◌, false, length, IfOk, OnOk};
+ghost use Rattle.sspi_mech.specs.Calls.{no_counts, one_sealed};
+
 use crate::args::InitializeSecurityContext;
 use crate::config::{MechConfig, NtlmConfig};
 use crate::mechanism::Mechanism;
+use crate::ntlm::Ntlm;
 use crate::step::{Answer, Reply, Step};
 use crate::tests::asks::Asks;
 use bitflags::Flags;
-use sspi_types::{
-    Bytes, ClientRequestFlags, DataRepresentation, Error, ErrorKind, Reason, SecurityStatus, Text,
-};
+use sspi_types::{Bytes, ClientRequestFlags, DataRepresentation, Error, ErrorKind, Reason, Text};
 use std::alloc::Global;
 
-/// The first step of a new client, each of its questions answered by `reply`.
-fn first_step<M: Mechanism>(alloc: Global, reply: &Reply) -> Result<Step, Error> {
-    let config = NtlmConfig::new(Text::from_text(alloc, "computer")?);
-    let mut client = M::make(alloc, &MechConfig::Ntlm(&config))?;
+/// A client's step with no token, each of its questions answered by `reply`, and how many they were.
+fn first_step<M: Mechanism>(client: &mut M, reply: &Reply) -> (Result<Step, Error>, u32)
+    ensures waits { OnOk result.0 (M.meaning.waits client.new ≡ false) }
+    ensures counts { M.meaning.counts client.new ≡ M.meaning.counts client.old }
+    ensures few { result.1 ≤ M.meaning.left client.old }
+{
+    let allowed = client.requests_left();
+    let mut questions = 0;
     let mut answer = client.initialize(&InitializeSecurityContext {
         credentials_handle: None,
         context_requirements: ClientRequestFlags::from_bits_retain(0),
@@ -21,26 +29,70 @@ fn first_step<M: Mechanism>(alloc: Global, reply: &Reply) -> Result<Step, Error>
         input: b"",
     });
     'questions: while let Answer::Ask(_) = answer {
+        questions += 1;
         answer = client.resume(reply);
     }
     match answer {
-        Answer::Done(step) => Ok(step),
-        Answer::Refused(error) => Err(error),
-        Answer::Ask(_) => Err(Error::new(ErrorKind::Unknown, Reason::Mechanism)),
+        Answer::Done(step) => (Ok(step), questions),
+        Answer::Refused(error) => (Err(error), questions),
+        Answer::Ask(_) => (
+            Err(Error::new(ErrorKind::Unknown, Reason::Mechanism)),
+            allowed,
+        ),
     }
 }
 
-fn is_done(step: Result<Step, Error>) -> bool {
-    match step {
-        Ok(step) => step.status == SecurityStatus::Ok,
+/// A client that made its first step and sealed a text.
+#[derive(Drop)]
+struct FirstBlob<M> {
+    client: M,
+    questions: u32,
+    blob: Vec<u8>,
+}
+
+/// A new client after its first step, with its first blob.
+fn seal_first<M: Mechanism>(
+    alloc: Global,
+    reply: &Reply,
+    text: &[u8],
+) -> Result<FirstBlob<M>, Error>
+    ensures few { IfOk result (λ first. first.questions ≤ M.REQUESTS) }
+    ensures blob { IfOk result (λ first. M.meaning.seals first.client 0 text.now first.blob.items) }
+    ensures long { IfOk result (λ first. 16 ≤ length first.blob.items) }
+    ensures count { IfOk result (λ first. M.meaning.counts first.client ≡ one_sealed no_counts) }
+{
+    let config = NtlmConfig::new(Text::from_text(alloc, "computer")?);
+    let mut client = M::make(alloc, &MechConfig::Ntlm(&config))?;
+    let (step, questions) = first_step(&mut client, reply);
+    step?;
+    let blob = client.seal(text)?;
+    Ok(FirstBlob {
+        client,
+        questions,
+        blob,
+    })
+}
+
+/// The tag of `text` as the first message of a client whose key is 32 times the byte 7, computed apart.
+const TAG: [u8; 16] = [
+    0xc3, 0xf5, 0xf0, 0xb8, 0x3b, 0xa5, 0xb2, 0x83, 0xd1, 0xf8, 0xa2, 0x1c, 0xe5, 0x95, 0x6e, 0xfd,
+];
+
+/// Whether a new client seals after so many questions, each answered by `reply`.
+fn seals_after<M: Mechanism>(alloc: Global, reply: &Reply, questions: u32) -> bool {
+    match seal_first::<M>(alloc, reply, b"text") {
+        Ok(first) => {
+            first.questions == questions
+                && first.blob.strip_prefix(TAG.as_slice()) == Some(b"text".as_slice())
+        }
         Err(_) => false,
     }
 }
 
-fn has_no_authority(step: Result<Step, Error>) -> bool {
-    match step {
+fn is_refused<M: Mechanism>(alloc: Global, reply: &Reply, refusal: &Error) -> bool {
+    match seal_first::<M>(alloc, reply, b"text") {
         Ok(_) => false,
-        Err(error) => error == Error::new(ErrorKind::NoAuthenticatingAuthority, Reason::Kdc),
+        Err(error) => error == *refusal,
     }
 }
 
@@ -48,7 +100,11 @@ fn has_no_authority(step: Result<Step, Error>) -> bool {
 fn a_mechanism_may_ask(rt: HostRuntime) {
     let alloc = rt.alloc();
     let reply = Reply::Answered(Bytes::new(alloc));
-    assert!(rt; is_done(first_step::<Asks<0>>(alloc, &Reply::Failed)));
-    assert!(rt; is_done(first_step::<Asks<1>>(alloc, &reply)));
-    assert!(rt; has_no_authority(first_step::<Asks<1>>(alloc, &Reply::Failed)));
+    assert!(rt; seals_after::<Asks<0>>(alloc, &Reply::Failed, 0));
+    assert!(rt; seals_after::<Asks<1>>(alloc, &reply, 1));
+    assert!(rt; seals_after::<Asks<3>>(alloc, &reply, 3));
+    let no_kdc = Error::new(ErrorKind::NoAuthenticatingAuthority, Reason::Kdc);
+    assert!(rt; is_refused::<Asks<1>>(alloc, &Reply::Failed, &no_kdc));
+    let no_key = Error::new(ErrorKind::OutOfSequence, Reason::Sequence);
+    assert!(rt; is_refused::<Ntlm>(alloc, &reply, &no_key));
 }

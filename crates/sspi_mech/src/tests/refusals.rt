@@ -79,11 +79,12 @@ fn refuses_buffers(
     Ok(refuses_handle(&mut client, Some(handle), kind, reason))
 }
 
+/// A name that mixes the two forms is refused for that, also where it is too long.
 #[test]
 fn of_names(rt: HostRuntime) -> Result<(), Fail> {
     let letters = one_letter_too_many(rt.alloc())?;
     let long = buffers(rt.alloc(), letters.as_str(), "")?;
-    let mixed = buffers(rt.alloc(), "ann@example.com", "DOM")?;
+    let mixed = buffers(rt.alloc(), letters.as_str(), "D@M")?;
     let too_long = refuses_buffers(rt.alloc(), &long, ErrorKind::InternalError, Reason::TooLong)?;
     let is_mixed = refuses_buffers(
         rt.alloc(),
