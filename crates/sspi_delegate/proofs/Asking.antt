@@ -1,21 +1,18 @@
--- How often a client's turn may still ask its KDC, and how often a KDC failed.
-use Rattle.std.proofs.Common.{◌≡◌, ℕ, ◌+◌, ◌-◌, ◌^◌, ◌≤◌, min, Option, Result, Ok, Err, refl, ◌∙◌, arith}
+-- How often a client's turn may still ask its KDC, what the KDC replied, and how often it failed.
+use Rattle.std.proofs.Common.{◌≡◌, ℕ, ◌+◌, ◌-◌, ◌^◌, ◌≤◌, min, Option, None, Some, Ok, Vec, ◌∙◌, arith}
 use Rattle.std.proofs.Math.Nat.{min-le_left, min-le_right, le-min}
-use Rattle.sspi_mech.specs.declared.kdc.KdcError.{KdcError}
-use Rattle.sspi_mech.specs.declared.kdc.KdcError.TheVariants.{Failed, InsufficientMemory}
 use Rattle.sspi_mech.specs.declared.step.Reply.{Reply}
-use Rattle.sspi_mech.specs.Asking.{counted_on, AskCause}
+use Rattle.sspi_mech.specs.declared.step.Reply.TheVariants.{Answered, Failed}
+use Rattle.sspi_mech.specs.Asking.{counted_on, IsTold}
 use Rattle.sspi_names.specs.declared.network.NetworkRequest.{NetworkRequest}
 use Rattle.sspi_credssp.specs.declared.client_state.Progress.{Progress}
 use Rattle.sspi_credssp.specs.declared.client_state.Progress.TheVariants.{Suspended, Completed}
+use Rattle.sspi_delegate.specs.Asking.{RepliesAsTold, CountsReply, IsCalmWhereTold, HasReplied, HasNoReply}
 use Rattle.sspi_delegate.specs.Refusals.{NeverFalls, KdcStays}
 
 abbrev pub rounds_left : Progress → ℕ → ℕ
 rounds_left (Suspended question) left = left + 1
 rounds_left (Completed state) left = 0
-
-pub count_same : (n : ℕ) → NeverFalls n n
-count_same n = min-le_left n (2 ^ 64 - 1)
 
 count_on : (a b d : ℕ) → NeverFalls a b → NeverFalls b d → NeverFalls a d
 count_on a b d first next =
@@ -29,22 +26,51 @@ count_more before now h =
     let under : min before (2 ^ 64 - 1) ≤ counted_on before = le-min more (min-le_right before (2 ^ 64 - 1)) in
     omega (arith, under, h)
 
-ask_counted : {X : Type 0} (before now : ℕ) (answer : Result X KdcError) → AskCause before now answer → NeverFalls before now
-ask_counted before now (Ok x) h = let less : min before (2 ^ 64 - 1) ≤ before = min-le_left before (2 ^ 64 - 1) in omega (arith, less, h)
-ask_counted before now (Err Failed) h = count_more before now h
-ask_counted before now (Err InsufficientMemory) h = let less : min before (2 ^ 64 - 1) ≤ before = min-le_left before (2 ^ 64 - 1) in omega (arith, less, h)
+count_risen : (before now : ℕ) → before ≤ now → NeverFalls before now
+count_risen before now h = let less : min before (2 ^ 64 - 1) ≤ before = min-le_left before (2 ^ 64 - 1) in omega (arith, less, h)
 
-module _ {D : Type 0} (told : D → Option (ℕ → NetworkRequest → Reply)) (faults : D → ℕ) where
-  pub kdc_same : (kdc : D) → KdcStays told faults kdc kdc
-  kdc_same kdc = record { told_same = refl; counted = count_same (faults kdc) }
+reply_counted : (before now : ℕ) (reply : Reply) → CountsReply reply before now → NeverFalls before now
+reply_counted before now (Answered bytes) h = count_risen before now h
+reply_counted before now Failed h = count_more before now h
 
-  pub kdc_asked : {X : Type 0} (first before now : D) (answer : Result X KdcError) → KdcStays told faults first before → told now ≡ told before →
-      AskCause (faults before) (faults now) answer → KdcStays told faults first now
-  kdc_asked first before now answer stays same cause = record {
-    told_same = same ∙ stays.told_same;
-    counted = count_on (faults first) (faults before) (faults now) stays.counted (ask_counted (faults before) (faults now) answer cause);
+calm_risen : (told : Option (ℕ → NetworkRequest → Reply)) (before now : ℕ) → IsCalmWhereTold told before now → before ≤ now
+calm_risen None before now h = h
+calm_risen (Some told) before now h = omega (arith, h)
+
+-- what is told of an answer is told of the reply that it becomes
+told_answer : {A : Type 0} (told : Option (ℕ → NetworkRequest → Reply)) (call : ℕ) (question : NetworkRequest) (before now : ℕ) (bytes : Vec ℕ A) →
+    IsTold told call question before now (Ok bytes) → RepliesAsTold told call question (Answered bytes.items) before now
+told_answer None call question before now bytes h = h
+told_answer (Some told) call question before now bytes h = h
+
+module _ {D : Type 0} (told : D → Option (ℕ → NetworkRequest → Reply)) (calls faults : D → ℕ) where
+  pub answered : {A : Type 0} (before now : D) (question : NetworkRequest) (bytes : Vec ℕ A) → told now ≡ told before → calls now ≡ counted_on (calls before) →
+      IsTold (told before) (calls before) question (faults before) (faults now) (Ok bytes) → faults before ≤ faults now →
+      HasReplied told calls faults before question (Answered bytes.items) now
+  answered before now question bytes same called as_told counted = record {
+    told_same = same;
+    called = called;
+    as_told = told_answer (told before) (calls before) question (faults before) (faults now) bytes as_told;
+    counted = counted;
   }
 
+  -- what calls leave of a KDC
+
+  pub kdc_replied : (first before now : D) (question : NetworkRequest) (reply : Reply) → KdcStays told faults first before →
+      HasReplied told calls faults before question reply now → KdcStays told faults first now
+  kdc_replied first before now question reply stays call = record {
+    told_same = call.told_same ∙ stays.told_same;
+    counted = count_on (faults first) (faults before) (faults now) stays.counted (reply_counted (faults before) (faults now) reply call.counted);
+  }
+
+  pub kdc_lost : (first before now : D) → KdcStays told faults first before → HasNoReply told calls faults before now → KdcStays told faults first now
+  kdc_lost first before now stays call = record {
+    told_same = call.told_same ∙ stays.told_same;
+    counted = count_on (faults first) (faults before) (faults now) stays.counted
+        (count_risen (faults before) (faults now) (calm_risen (told before) (faults before) (faults now) call.calm));
+  }
+
+module _ {D : Type 0} (told : D → Option (ℕ → NetworkRequest → Reply)) (faults : D → ℕ) where
   pub kdc_on : (a b d : D) → KdcStays told faults a b → KdcStays told faults b d → KdcStays told faults a d
   kdc_on a b d first next = record {
     told_same = next.told_same ∙ first.told_same;

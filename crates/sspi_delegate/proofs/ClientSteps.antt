@@ -257,10 +257,10 @@ module _ {C : Type 0} (c : Meaning ContextSetting C) where
   waits_same law (Some m) None same = absurd same
   waits_same law (Some m) (Some m2) same = sym (law.waits_counted m2 no_counts) ∙ ap c.waits same ∙ law.waits_counted m no_counts
 
-  pub client_replied : (law : IsContext c) (first old new : ClientView C) (past : List Turn) (d : TsRequest) (reply : TsRequest) →
-      ClientFollows c first old past → ClientTurn c old d (Replied reply) new → StepsSo c old d (Ok (Completed (ReplyNeeded reply))) new →
+  pub client_replied : (law : IsContext c) (replies : List Asked → Type 0) (first old new : ClientView C) (past : List Turn) (d : TsRequest) (reply : TsRequest) →
+      ClientFollows c first old past → ClientTurn c old d (Replied reply) new → StepsSo c replies old d (Ok (Completed (ReplyNeeded reply))) new →
       ClientFollows c first new (client_turn c d (Replied reply) new ∷ past)
-  client_replied law first old new past d reply follows turn steps = record {
+  client_replied law replies first old new past d reply follows turn steps = record {
     ran = client_turned law first old new past d (Replied reply) follows turn;
     state = turn.moves.state
         ∙ replied_state (client_frame c old new) (client_turn c d (Replied reply) new) past reply follows.state refl turn.turn.reply;

@@ -8,12 +8,13 @@ use Rattle.sspi_credssp.specs.declared.client_state.Progress.TheVariants.{Comple
 use Rattle.sspi_credssp.specs.declared.server_state.ServerState.{ServerState}
 use Rattle.sspi_credssp.specs.ServerCause.{ServerCause}
 use Rattle.sspi_credssp.specs.ServerStep.{HasAccepted}
-use Rattle.sspi_delegate.specs.Refusals.{StepsSo, ClientRefuses, ClientRefused, ServerRefused}
+use Rattle.sspi_delegate.specs.Refusals.{any_replies, StepsSo, ClientRefuses, ClientRefused, ServerRefused}
 use Rattle.sspi_mech.specs.Context.{IsContext}
 use Rattle.sspi_mech.specs.Meaning.{Meaning}
 use Rattle.sspi_names.specs.declared.identity.AuthIdentity.{AuthIdentity}
 use Rattle.sspi_tsreq.specs.declared.request.TsRequest.{TsRequest}
 use Rattle.sspi_credssp.specs.Client.{ClientView}
+use Rattle.sspi_credssp.specs.ClientStep.{Asked}
 use Rattle.sspi_credssp.specs.ClientTurn.{ClientTurn}
 use Rattle.sspi_credssp.specs.Context.{ContextSetting}
 use Rattle.sspi_credssp.specs.Server.{ServerView}
@@ -49,28 +50,37 @@ module _ {C : Type 0} (c : Meaning ContextSetting C) (law : IsContext c) where
     pub rest : new ≡ record mid { output = [] }
     pub turns : new_turns ≡ recorded Client d mid.acts mid.output out ∷ old
 
-  pub client_replies : (first old mid new : ClientView C) (d reply : TsRequest) (turns turns2 : List Turn) →
-      ClientFollows c first old (client_turns turns) →
-      ClientTurn c old d (Replied reply) mid × StepsSo c old d (Ok (Completed (ReplyNeeded reply))) mid →
-      ClientRecords mid new d (outcome.Reply reply) turns turns2 → ClientFollows c first new (client_turns turns2)
-  client_replies first old mid new d reply turns turns2 follows turn done =
-      rw (done.turns, done.rest)
-      (client_follows_emptied first mid _ (client_replied c law first old mid (client_turns turns) d reply follows turn.0 turn.1))
+  -- a refusal is one whatever the KDC replied
+  refused_anyhow : (replies : List Asked → Type 0) (old mid : ClientView C) (d : TsRequest) (error : Error) → ClientRefuses c replies old d error mid →
+      ClientRefuses c any_replies old d error mid
+  refused_anyhow replies old mid d error h = record {
+    cause = h.cause;
+    status = h.status;
+    steps = record { asked = h.steps.asked; replied = tt; step = h.steps.step };
+  }
 
-  pub client_ends : (first old mid new : ClientView C) (d reply : TsRequest) (turns turns2 : List Turn) →
+  pub client_replies : (replies : List Asked → Type 0) (first old mid new : ClientView C) (d reply : TsRequest) (turns turns2 : List Turn) →
       ClientFollows c first old (client_turns turns) →
-      ClientTurn c old d (Ended reply) mid × StepsSo c old d (Ok (Completed (FinalMessage reply))) mid →
+      ClientTurn c old d (Replied reply) mid × StepsSo c replies old d (Ok (Completed (ReplyNeeded reply))) mid →
+      ClientRecords mid new d (outcome.Reply reply) turns turns2 → ClientFollows c first new (client_turns turns2)
+  client_replies replies first old mid new d reply turns turns2 follows turn done =
+      rw (done.turns, done.rest)
+      (client_follows_emptied first mid _ (client_replied c law replies first old mid (client_turns turns) d reply follows turn.0 turn.1))
+
+  pub client_ends : (replies : List Asked → Type 0) (first old mid new : ClientView C) (d reply : TsRequest) (turns turns2 : List Turn) →
+      ClientFollows c first old (client_turns turns) →
+      ClientTurn c old d (Ended reply) mid × StepsSo c replies old d (Ok (Completed (FinalMessage reply))) mid →
       ClientRecords mid new d (outcome.Final reply) turns turns2 → ClientFollows c first new (client_turns turns2)
-  client_ends first old mid new d reply turns turns2 follows turn done =
+  client_ends replies first old mid new d reply turns turns2 follows turn done =
       rw (done.turns, done.rest)
       (client_follows_emptied first mid _ (client_ended c law first old mid (client_turns turns) d reply follows turn.0))
 
-  pub client_refuses : (first old mid new : ClientView C) (d : TsRequest) (error : Error) (turns turns2 : List Turn) →
+  pub client_refuses : (replies : List Asked → Type 0) (first old mid new : ClientView C) (d : TsRequest) (error : Error) (turns turns2 : List Turn) →
       ClientFollows c first old (client_turns turns) →
-      ClientTurn c old d (Stopped error.error_type None) mid × ClientRefuses c old d error mid →
+      ClientTurn c old d (Stopped error.error_type None) mid × ClientRefuses c replies old d error mid →
       ClientRecords mid new d (outcome.Refused error.error_type None) turns turns2 →
       ClientRan c first new (client_turns turns2) × ClientRefused c first error new (client_turns turns2)
-  client_refuses first old mid new d error turns turns2 follows turn done = (
+  client_refuses replies first old mid new d error turns turns2 follows turn done = (
     rw (done.turns, done.rest)
         (client_emptied c first mid _ (client_turned c law first old mid (client_turns turns) d (Stopped error.error_type None) follows turn.0)),
     record {
@@ -80,7 +90,7 @@ module _ {C : Type 0} (c : Meaning ContextSetting C) (law : IsContext c) where
       past = client_turns turns;
       newest = ap client_turns done.turns;
       follows = follows;
-      refuses = turn.1;
+      refuses = refused_anyhow replies old mid d error turn.1;
       rest = done.rest;
     },
   )

@@ -78,13 +78,14 @@ module _ {C : Type 0} (c : Meaning ContextSetting C) where
       (made_past new.context _ _ _ (on_step new.acts.negotiated _ negotiated step)
       (state_cause start.state d new error.error_type (sym way.ready.state ∙ way.state) nego))))
 
-  pub resumed_refuses : (start : ClientView C) (d : TsRequest) (mid new : ClientView C) (log : List Asked) (error : Error) → IsUnderway c start d mid →
+  pub resumed_refuses : (replies : List Asked → Type 0) (start : ClientView C) (d : TsRequest) (mid new : ClientView C) (log : List Asked) (error : Error) → IsUnderway c start d mid →
       (error.error_type ≢ InsufficientMemory → ResumeCause c mid new error.error_type) → error.nstatus ≡ None →
-      ClientTurn c start d (Stopped error.error_type None) new → HasStepped c start d log (Err error) new → ClientRefuses c start d error new
-  resumed_refuses start d mid new log error way cause plain turn step = record {
+      ClientTurn c start d (Stopped error.error_type None) new → HasStepped c start d log (Err error) new → replies log →
+      ClientRefuses c replies start d error new
+  resumed_refuses replies start d mid new log error way cause plain turn step replied = record {
     cause = λ other. resumed_cause start d mid new log error way (cause other) turn step;
     status = rw (way.ready.idle, way.ready.code) plain;
-    steps = record { asked = log; step = step };
+    steps = record { asked = log; replied = replied; step = step };
   }
 
 pub proxy_on : {P : Type 0} (told : P → Option (List AuthIdentity)) (failing : P → Option (List ℕ)) (faults : P → ℕ) (a b d : P) →

@@ -1,4 +1,4 @@
--- The calls by which an end made its turns, one after another. Nothing moves an end between two of its calls.
+-- The calls by which an end made its turns, one after another. Nothing moves an end, or the client's KDC, between two of them.
 use Rattle.std.specs.Prelude.{◌≡◌, ◌≢◌, ℕ, List, [], ◌∷◌, Option, None, Some, Result, Ok, Err}
 use Rattle.sspi_types.specs.declared.error.Error.{Error}
 use Rattle.sspi_types.specs.declared.error_kind.ErrorKind.TheVariants as kinds
@@ -24,57 +24,65 @@ use Rattle.sspi_delegate.specs.declared.ends.ClientRound.{ClientRound}
 use Rattle.sspi_delegate.specs.declared.ends.ClientRound.TheVariants as client
 use Rattle.sspi_delegate.specs.declared.ends.Concluded.{Concluded}
 use Rattle.sspi_delegate.specs.declared.ends.Concluded.TheVariants as concluded
+use Rattle.sspi_delegate.specs.Asking.{KdcCalls}
 use Rattle.sspi_delegate.specs.Refusals.{StepsSo, ClientRefuses, ProxyStays}
 
-module _ {C : Type 0} (c : Meaning ContextSetting C) where
-  -- the client took d and came to this, by a step of its context where it authenticates; a refusal has its cause
-  abbrev pub ClientMakes : ClientView C → TsRequest → Came → ClientView C → Type 0
-  ClientMakes old d (Replied reply) new = ClientTurn c old d (Replied reply) new × StepsSo c old d (Ok (Completed (ReplyNeeded reply))) new
-  ClientMakes old d (Ended reply) new = ClientTurn c old d (Ended reply) new × StepsSo c old d (Ok (Completed (FinalMessage reply))) new
-  ClientMakes old d Finished new = ⊥
-  ClientMakes old d (Stopped kind None) new =
-      (error : Error) × (error.error_type ≡ kind) × ClientTurn c old d (Stopped kind None) new × ClientRefuses c old d error new
-  ClientMakes old d (Stopped kind (Some reply)) new = ⊥
+module _ {C D : Type 0} (c : Meaning ContextSetting C) (k : KdcCalls D) where
+  -- The client took d and came to this, by a step of its context where it authenticates; a refusal has its cause. The KDC was
+  -- asked what that step asked, and replied so.
+  abbrev pub ClientMakes : ClientView C → D → TsRequest → Came → ClientView C → D → Type 0
+  ClientMakes old kdc d (Replied reply) new kdc2 =
+      ClientTurn c old d (Replied reply) new × StepsSo c (λ asked. k.replies kdc asked kdc2) old d (Ok (Completed (ReplyNeeded reply))) new
+  ClientMakes old kdc d (Ended reply) new kdc2 =
+      ClientTurn c old d (Ended reply) new × StepsSo c (λ asked. k.replies kdc asked kdc2) old d (Ok (Completed (FinalMessage reply))) new
+  ClientMakes old kdc d Finished new kdc2 = ⊥
+  ClientMakes old kdc d (Stopped kind None) new kdc2 = (error : Error) × (error.error_type ≡ kind) ×
+      ClientTurn c old d (Stopped kind None) new × ClientRefuses c (λ asked. k.replies kdc asked kdc2) old d error new
+  ClientMakes old kdc d (Stopped kind (Some reply)) new kdc2 = ⊥
 
   -- a turn of a client that was `old`; its output was then taken for the record
-  pub record ClientMade (old : ClientView C) (t : end.Turn) (now : ClientView C) : Type 0 where
+  pub record ClientMade (old : ClientView C) (kdc : D) (t : end.Turn) (now : ClientView C) (kdc2 : D) : Type 0 where
     pub mid : ClientView C
     pub turn : t ≡ client_turn c t.delivered t.came mid
-    pub makes : ClientMakes old t.delivered t.came mid
+    pub makes : ClientMakes old kdc t.delivered t.came mid kdc2
     pub rest : now ≡ record mid { output = [] }
 
-  -- from a client that was `first` these turns, the newest first, lead to one that is `now`
-  abbrev pub ClientHistory : ClientView C → List end.Turn → ClientView C → Type 0
-  ClientHistory first [] now = now ≡ first
-  ClientHistory first (t ∷ past) now = (old : ClientView C) × ClientHistory first past old × ClientMade old t now
+  -- from a client that was `first` these turns, the newest first, lead to one that is `now`; and its KDC from `kdc` to `kdc2`
+  abbrev pub ClientHistory : ClientView C → D → List end.Turn → ClientView C → D → Type 0
+  ClientHistory first kdc [] now kdc2 = (now ≡ first) × (kdc2 ≡ kdc)
+  ClientHistory first kdc (t ∷ past) now kdc2 = (old : ClientView C) × (kdc1 : D) × ClientHistory first kdc past old kdc1 × ClientMade old kdc1 t now kdc2
 
-  -- the turn on d is suspended at this question
-  pub record IsWaiting (old : ClientView C) (d : TsRequest) (now : ClientView C) : Type 0 where
+  -- the turn on d is suspended at a question for which the KDC had no memory
+  pub record IsWaiting (old : ClientView C) (kdc : D) (d : TsRequest) (now : ClientView C) (kdc2 : D) : Type 0 where
     pub underway : IsUnderway c old d now
     pub question : NetworkRequest
-    pub steps : StepsSo c old d (Ok (Suspended question)) now
+    pub asked_by : D
+    pub steps : StepsSo c (λ asked. k.replies kdc asked asked_by) old d (Ok (Suspended question)) now
+    pub lost : k.lost asked_by kdc2
 
-  abbrev pub WaitsWhereLost : ClientView C → TsRequest → Concluded → ClientView C → Type 0
-  WaitsWhereLost old d (concluded.Answered state) now = Unit {0}
-  WaitsWhereLost old d (concluded.Refused error) now = Unit {0}
-  WaitsWhereLost old d concluded.Lost now = IsWaiting old d now
+  abbrev pub WaitsWhereLost : ClientView C → D → TsRequest → Concluded → ClientView C → D → Type 0
+  WaitsWhereLost old kdc d (concluded.Answered state) now kdc2 = Unit {0}
+  WaitsWhereLost old kdc d (concluded.Refused error) now kdc2 = Unit {0}
+  WaitsWhereLost old kdc d concluded.Lost now kdc2 = IsWaiting old kdc d now kdc2
 
   -- where there was no memory the client may have been left waiting for its KDC, in a turn that is not recorded
-  pub data ClientLeft (first : ClientView C) (turns : List end.Turn) (now : ClientView C) : Type 0 where
-    between : ClientHistory first turns now → ClientLeft first turns now
-    waiting : (old : ClientView C) (d : TsRequest) → ClientHistory first turns old → IsWaiting old d now → ClientLeft first turns now
+  pub data ClientLeft (first : ClientView C) (kdc : D) (turns : List end.Turn) (now : ClientView C) (kdc2 : D) : Type 0 where
+    between : ClientHistory first kdc turns now kdc2 → ClientLeft first kdc turns now kdc2
+    waiting : (old : ClientView C) (kdc1 : D) (d : TsRequest) → ClientHistory first kdc turns old kdc1 → IsWaiting old kdc1 d now kdc2 →
+        ClientLeft first kdc turns now kdc2
 
-  abbrev pub ClientRoundHistory : ClientView C → ClientRound → List end.Turn → ClientView C → Type 0
-  ClientRoundHistory first client.Replied turns now = ClientHistory first turns now
-  ClientRoundHistory first (client.Refused error) turns now = ClientHistory first turns now
-  ClientRoundHistory first client.Lost turns now = ClientLeft first turns now
+  abbrev pub ClientRoundHistory : ClientView C → D → ClientRound → List end.Turn → ClientView C → D → Type 0
+  ClientRoundHistory first kdc client.Replied turns now kdc2 = ClientHistory first kdc turns now kdc2
+  ClientRoundHistory first kdc (client.Refused error) turns now kdc2 = ClientHistory first kdc turns now kdc2
+  ClientRoundHistory first kdc client.Lost turns now kdc2 = ClientLeft first kdc turns now kdc2
 
   -- the history of the client of an exchange, or of a part of one, by its answer
-  abbrev pub ClientPast : {X : Type 0} → ClientView C → Result X DelegateError → List end.Turn → ClientView C → Type 0
-  ClientPast first (Ok x) turns now = ClientHistory first turns now
-  ClientPast first (Err errors.InsufficientMemory) turns now = ClientLeft first turns now
-  ClientPast first (Err error) turns now = ClientHistory first turns now
+  abbrev pub ClientPast : {X : Type 0} → ClientView C → D → Result X DelegateError → List end.Turn → ClientView C → D → Type 0
+  ClientPast first kdc (Ok x) turns now kdc2 = ClientHistory first kdc turns now kdc2
+  ClientPast first kdc (Err errors.InsufficientMemory) turns now kdc2 = ClientLeft first kdc turns now kdc2
+  ClientPast first kdc (Err error) turns now kdc2 = ClientHistory first kdc turns now kdc2
 
+module _ {C : Type 0} (c : Meaning ContextSetting C) where
   module _ {P : Type 0} (told : P → Option (List AuthIdentity)) (faults : P → ℕ) where
     -- why the server refused d, and the step that it took of its context before
     pub record ServerRefuses (old : ServerView C P) (d : TsRequest) (error : Error) (new : ServerView C P) : Type 0 where

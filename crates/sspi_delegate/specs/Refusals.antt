@@ -41,17 +41,23 @@ pub record KdcStays {D : Type 0} (told : D → Option (ℕ → NetworkRequest �
   pub told_same : told new ≡ told old
   pub counted : NeverFalls (faults old) (faults new)
 
+-- whatever a KDC replied
+abbrev pub any_replies : List Asked → Type 0
+any_replies asked = Unit {0}
+
 module _ {C : Type 0} (c : Meaning ContextSetting C) where
-  -- the step that a client's turn took of its context, with what a KDC was asked in it, the newest request first
-  pub record StepsSo (old : ClientView C) (d : TsRequest) (result : Result Progress Error) (new : ClientView C) : Type 0 where
+  -- the step that a client's turn took of its context, with what a KDC was asked in it, the newest request first, and the
+  -- replies that it gave
+  pub record StepsSo (replies : List Asked → Type 0) (old : ClientView C) (d : TsRequest) (result : Result Progress Error) (new : ClientView C) : Type 0 where
     pub asked : List Asked
+    pub replied : replies asked
     pub step : HasStepped c old d asked result new
 
   -- a turn of the client on d was refused
-  pub record ClientRefuses (old : ClientView C) (d : TsRequest) (error : Error) (new : ClientView C) : Type 0 where
+  pub record ClientRefuses (replies : List Asked → Type 0) (old : ClientView C) (d : TsRequest) (error : Error) (new : ClientView C) : Type 0 where
     pub cause : error.error_type ≢ InsufficientMemory → ClientCause c old d new error.error_type
     pub status : error.nstatus ≡ status_of c old d
-    pub steps : StepsSo old d (Err error) new
+    pub steps : StepsSo replies old d (Err error) new
 
   -- The newest of a client's turns was refused with this error: before it the client was where the turns before left it.
   pub record ClientRefused (first : ClientView C) (error : Error) (now : ClientView C) (turns : List end.Turn) : Type 0 where
@@ -61,7 +67,7 @@ module _ {C : Type 0} (c : Meaning ContextSetting C) where
     pub past : List end.Turn
     pub newest : turns ≡ client_turn c d (Stopped error.error_type None) new ∷ past
     pub follows : ClientFollows c first old past
-    pub refuses : ClientRefuses old d error new
+    pub refuses : ClientRefuses any_replies old d error new
     -- the output was taken for the record
     pub rest : now ≡ record new { output = [] }
 

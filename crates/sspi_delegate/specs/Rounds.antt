@@ -23,6 +23,7 @@ use Rattle.sspi_delegate.specs.declared.ends.ServerRound.{ServerRound}
 use Rattle.sspi_delegate.specs.declared.ends.ServerRound.TheVariants as server
 use Rattle.sspi_delegate.specs.declared.turn.Outcome.{Outcome}
 use Rattle.sspi_delegate.specs.declared.turn.Turn.{Turn}
+use Rattle.sspi_delegate.specs.Asking.{KdcCalls}
 use Rattle.sspi_delegate.specs.ClientRun.{ClientRan, ClientFollows}
 use Rattle.sspi_delegate.specs.Refusals.{StepsSo, ClientRefuses, ClientRefused, ServerRefused}
 use Rattle.sspi_delegate.specs.ServerRun.{ServerRan, ServerFollows, server_end, GivesNewest}
@@ -41,17 +42,18 @@ IsNoRefusal errors.LinkFault = Unit {0}
 IsNoRefusal errors.TurnsSpent = Unit {0}
 IsNoRefusal errors.InsufficientMemory = Unit {0}
 
-module _ {C : Type 0} (c : Meaning ContextSetting C) where
+module _ {C D : Type 0} (c : Meaning ContextSetting C) (k : KdcCalls D) where
   -- what came of a client's call and of all that its KDC was asked
-  abbrev pub ClientConcludes : ClientView C → TsRequest → Concluded → ClientView C → Type 0
-  ClientConcludes old d (concluded.Answered (ReplyNeeded reply)) new =
-      ClientTurn c old d (Replied reply) new × StepsSo c old d (Ok (Completed (ReplyNeeded reply))) new
-  ClientConcludes old d (concluded.Answered (FinalMessage reply)) new =
-      ClientTurn c old d (Ended reply) new × StepsSo c old d (Ok (Completed (FinalMessage reply))) new
-  ClientConcludes old d (concluded.Refused error) new =
-      ClientTurn c old d (Stopped error.error_type None) new × ClientRefuses c old d error new
-  ClientConcludes old d concluded.Lost new = IsUnderway c old d new
+  abbrev pub ClientConcludes : ClientView C → D → TsRequest → Concluded → ClientView C → D → Type 0
+  ClientConcludes old kdc d (concluded.Answered (ReplyNeeded reply)) new kdc2 =
+      ClientTurn c old d (Replied reply) new × StepsSo c (λ asked. k.replies kdc asked kdc2) old d (Ok (Completed (ReplyNeeded reply))) new
+  ClientConcludes old kdc d (concluded.Answered (FinalMessage reply)) new kdc2 =
+      ClientTurn c old d (Ended reply) new × StepsSo c (λ asked. k.replies kdc asked kdc2) old d (Ok (Completed (FinalMessage reply))) new
+  ClientConcludes old kdc d (concluded.Refused error) new kdc2 =
+      ClientTurn c old d (Stopped error.error_type None) new × ClientRefuses c (λ asked. k.replies kdc asked kdc2) old d error new
+  ClientConcludes old kdc d concluded.Lost new kdc2 = IsUnderway c old d new
 
+module _ {C : Type 0} (c : Meaning ContextSetting C) where
   abbrev pub ClientWent : ClientView C → ClientRound → ClientView C → List end.Turn → Type 0
   ClientWent first client.Replied now past = ClientFollows c first now past
   ClientWent first (client.Refused error) now past = ClientRan c first now past × ClientRefused c first error now past

@@ -1,7 +1,8 @@
-ghost use Rattle.std.specs.Prelude.{◌≡◌, ◌<◌, [], ◌∷◌};
+ghost use Rattle.std.specs.Prelude.{◌≡◌, ◌<◌, [], ◌∷◌, None, IfSome};
 ghost use Rattle.sspi_credssp.specs.Client.{ClientView};
 ghost use Rattle.sspi_credssp.specs.Context.{either};
 ghost use Rattle.sspi_credssp.specs.Server.{ServerView};
+ghost use Rattle.sspi_delegate.specs.Asking.{HasReplied, HasNoReply, kdc_calls};
 ghost use Rattle.sspi_delegate.specs.ClientRun.{ClientFollows};
 ghost use Rattle.sspi_delegate.specs.EndTurns.{client_turns, server_turns};
 ghost use Rattle.sspi_delegate.specs.History.{ClientHistory, ClientRoundHistory, WaitsWhereLost, ServerHistory};
@@ -18,7 +19,7 @@ use sspi_credssp::{
     ServerState, SspiContext,
 };
 use sspi_mech::{Kdc, KdcError, Mechanism, Reply};
-use sspi_names::AuthIdentity;
+use sspi_names::{AuthIdentity, NetworkRequest};
 use sspi_tsreq::TsRequest;
 use sspi_types::{Bytes, Error};
 use std::alloc::Global;
@@ -51,14 +52,26 @@ pub(crate) enum ServerRound {
     Lost,
 }
 
+/// What comes of a question to the KDC, or nothing where it had no memory.
+fn ask<D: Kdc>(kdc: &mut D, question: &NetworkRequest) -> Option<Reply>
+    ensures replied { IfSome result (λ reply. HasReplied D.told D.asked D.faults kdc.old question.now reply kdc.new) }
+    ensures lost { result ≡ None → HasNoReply D.told D.asked D.faults kdc.old kdc.new }
+{
+    match kdc.ask(question) {
+        Ok(bytes) => Some(Reply::Answered(Bytes::from_vec(bytes))),
+        Err(KdcError::Failed) => Some(Reply::Failed),
+        Err(KdcError::InsufficientMemory) => None,
+    }
+}
+
 /// Hands a request to the client and asks the KDC until the turn is over.
 fn finish_turn<N: Mechanism, K: Mechanism, D: Kdc>(
     client: &mut CredSspClient<N, K>,
     request: TsRequest,
     kdc: &mut D,
 ) -> Concluded
-    ensures turn { ClientConcludes (either N.meaning K.meaning) client.old request result client.new }
-    ensures lost { WaitsWhereLost (either N.meaning K.meaning) client.old request result client.new }
+    ensures turn { ClientConcludes (either N.meaning K.meaning) (kdc_calls D.told D.asked D.faults) client.old kdc.old request result client.new kdc.new }
+    ensures lost { WaitsWhereLost (either N.meaning K.meaning) (kdc_calls D.told D.asked D.faults) client.old kdc.old request result client.new kdc.new }
     ensures kdc { KdcStays D.told D.faults kdc.old kdc.new }
 {
     let mut progress = match client.process(request) {
@@ -69,10 +82,8 @@ fn finish_turn<N: Mechanism, K: Mechanism, D: Kdc>(
         match progress {
             Progress::Completed(state) => return Concluded::Answered(state),
             Progress::Suspended(question) => {
-                let reply = match kdc.ask(&question) {
-                    Ok(bytes) => Reply::Answered(Bytes::from_vec(bytes)),
-                    Err(KdcError::Failed) => Reply::Failed,
-                    Err(KdcError::InsufficientMemory) => return Concluded::Lost,
+                let Some(reply) = ask(kdc, &question) else {
+                    return Concluded::Lost;
                 };
                 progress = match client.resume(&reply) {
                     Ok(progress) => progress,
@@ -95,9 +106,10 @@ pub(crate) fn client_round<N: Mechanism, K: Mechanism, D: Kdc>(
     ensures client { let c = either N.meaning K.meaning in (first : ClientView (SspiContext N K)) →
         ClientFollows c first client.old (client_turns transcript.old.turns) →
         ClientWent c first result client.new (client_turns transcript.new.turns) }
-    ensures client_history { let c = either N.meaning K.meaning in (first : ClientView (SspiContext N K)) →
-        ClientHistory c first (client_turns transcript.old.turns) client.old →
-        ClientRoundHistory c first result (client_turns transcript.new.turns) client.new }
+    ensures client_history { let c = either N.meaning K.meaning in let k = kdc_calls D.told D.asked D.faults in
+        (first : ClientView (SspiContext N K)) (kdc_first : D) →
+        ClientHistory c k first kdc_first (client_turns transcript.old.turns) client.old kdc.old →
+        ClientRoundHistory c k first kdc_first result (client_turns transcript.new.turns) client.new kdc.new }
     ensures server { server_turns transcript.new.turns ≡ server_turns transcript.old.turns }
     ensures kdc { KdcStays D.told D.faults kdc.old kdc.new }
 {

@@ -2,6 +2,7 @@ ghost use Rattle.std.specs.Prelude.{◌≡◌, ℕ, ◌+◌, ◌≤◌, List, []
 ghost use Rattle.sspi_credssp.specs.Client.{ClientView, IsFreshClient};
 ghost use Rattle.sspi_credssp.specs.Context.{either};
 ghost use Rattle.sspi_credssp.specs.Server.{ServerView, IsFreshServer};
+ghost use Rattle.sspi_delegate.specs.Asking.{kdc_calls};
 ghost use Rattle.sspi_delegate.specs.ClientRun.{ClientFollows, ClientRan, client_end};
 ghost use Rattle.sspi_delegate.specs.EndTurns.{client_turns, server_turns};
 ghost use Rattle.sspi_delegate.specs.History.{ClientHistory, ClientPast, ServerHistory};
@@ -53,7 +54,8 @@ pub fn delegate<N: Mechanism, K: Mechanism, C: CredentialsProxy, L: Link, D: Kdc
         RefusedBy (either N.meaning K.meaning) C.told C.faults client.old client.new server.old server.new result
         (client_turns transcript.new.turns) (server_turns transcript.new.turns) }
     ensures client_history { transcript.old.turns ≡ [] →
-        ClientPast (either N.meaning K.meaning) client.old result (client_turns transcript.new.turns) client.new }
+        ClientPast (either N.meaning K.meaning) (kdc_calls D.told D.asked D.faults) client.old kdc.old result
+        (client_turns transcript.new.turns) client.new kdc.new }
     ensures server_history { transcript.old.turns ≡ [] →
         ServerHistory (either N.meaning K.meaning) C.told C.faults C.failing server.old (server_turns transcript.new.turns) server.new }
     ensures proxy { ProxyStays C.told C.failing C.faults server.old.proxy server.new.proxy }
@@ -93,7 +95,8 @@ fn rounds<N: Mechanism, K: Mechanism, C: CredentialsProxy, L: Link, D: Kdc>(
         RefusedBy (either N.meaning K.meaning) C.told C.faults client.old client.new server.old server.new result
         (client_turns transcript.new.turns) (server_turns transcript.new.turns) }
     ensures client_history { transcript.old.turns ≡ [] →
-        ClientPast (either N.meaning K.meaning) client.old result (client_turns transcript.new.turns) client.new }
+        ClientPast (either N.meaning K.meaning) (kdc_calls D.told D.asked D.faults) client.old kdc.old result
+        (client_turns transcript.new.turns) client.new kdc.new }
     ensures server_history { transcript.old.turns ≡ [] →
         ServerHistory (either N.meaning K.meaning) C.told C.faults C.failing server.old (server_turns transcript.new.turns) server.new }
     ensures proxy { ProxyStays C.told C.failing C.faults server.old.proxy server.new.proxy }
@@ -137,9 +140,10 @@ fn client_half<N: Mechanism, K: Mechanism, L: Link, D: Kdc>(
     ensures client { let c = either N.meaning K.meaning in (first : ClientView (SspiContext N K)) →
         ClientFollows c first client.old (client_turns transcript.old.turns) →
         ClientRanHalf c first result client.new (client_turns transcript.new.turns) }
-    ensures client_history { let c = either N.meaning K.meaning in (first : ClientView (SspiContext N K)) →
-        ClientHistory c first (client_turns transcript.old.turns) client.old →
-        ClientPast c first result (client_turns transcript.new.turns) client.new }
+    ensures client_history { let c = either N.meaning K.meaning in let k = kdc_calls D.told D.asked D.faults in
+        (first : ClientView (SspiContext N K)) (kdc_first : D) →
+        ClientHistory c k first kdc_first (client_turns transcript.old.turns) client.old kdc.old →
+        ClientPast c k first kdc_first result (client_turns transcript.new.turns) client.new kdc.new }
     ensures kdc { KdcStays D.told D.faults kdc.old kdc.new }
     ensures server { server_turns transcript.new.turns ≡ server_turns transcript.old.turns }
 {

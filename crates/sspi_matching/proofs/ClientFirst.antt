@@ -44,12 +44,12 @@ use Rattle.sspi_credssp.specs.Noted.{noted_next}
 use Rattle.sspi_credssp.specs.PublicKey.{prescribed}
 use Rattle.sspi_credssp.specs.Requests.{token_of, is_code}
 use Rattle.sspi_credssp.specs.Turn.{Replied, Ended, Stopped, AtNoted}
-use Rattle.sspi_delegate.specs.History.{ClientMakes}
 use Rattle.sspi_matching.proofs.ClientNegotiation.{Answered, begin_never, done_at, refused_step, nego_acts, is_false, stops_later}
 use Rattle.sspi_matching.proofs.Blobs.{sealed_blob, never_unsealed, sealed_few}
 use Rattle.sspi_matching.proofs.NtlmRound.{last_token, logs_on}
 use Rattle.sspi_matching.proofs.States.{ClientIs}
 use Rattle.sspi_matching.proofs.Steps.{IfNtlm, client_config, client_first, goes_on_as}
+use Rattle.sspi_matching.proofs.Anyhow.{MakesAnyhow}
 
 abbrev negotiated_object : NtlmState → NtlmState
 negotiated_object m = record m { stage = NegotiateSent }
@@ -95,7 +95,7 @@ module _ {K : Type 0} (k : Meaning Setting K) where
       same ∙ ap (λ (x : Credentials). Some (credentials_buffers_of x)) (sym is)
 
   pub first_goes : (a mid : View) (d reply : TsRequest) (i : AuthIdentity) → IsFreshClient a → a.credentials ≡ credentials.AuthIdentity i →
-      ClientMakes meaning a d (Replied reply) mid →
+      MakesAnyhow meaning a d (Replied reply) mid →
       ClientIs a mid NegoToken None NegotiateSent None 0 0 × (reply ≡ record d { version = a.version; nego_tokens = Some negotiate_message })
   first_goes a mid d reply i fresh is makes =
       let turn = makes.0 in
@@ -158,7 +158,7 @@ module _ {K : Type 0} (k : Meaning Setting K) where
   nego_began (Some status) mid kind is answered h = answered (rw is refl)
 
   pub first_refuses : (a mid : View) (d : TsRequest) (kind : ErrorKind) (i : AuthIdentity) → IsFreshClient a → a.credentials ≡ credentials.AuthIdentity i →
-      is_code d.error_code ≡ false → ClientMakes meaning a d (Stopped kind None) mid → kind ≢ InsufficientMemory → ⊥
+      is_code d.error_code ≡ false → MakesAnyhow meaning a d (Stopped kind None) mid → kind ≢ InsufficientMemory → ⊥
   first_refuses a mid d kind i fresh is code makes other =
       let error = makes.0 in
       let turn = makes.2 in
@@ -172,7 +172,7 @@ module _ {K : Type 0} (k : Meaning Setting K) where
       subst (λ (x : Option SecurityStatus). NegoCause meaning x mid error.error_type) s.1 cause
 
   -- no turn of the authentication delivers credentials
-  pub never_ends : (old mid : View) (d reply : TsRequest) → old.state ≡ NegoToken → ClientMakes meaning old d (Ended reply) mid → ⊥
+  pub never_ends : (old mid : View) (d reply : TsRequest) → old.state ≡ NegoToken → MakesAnyhow meaning old d (Ended reply) mid → ⊥
   never_ends old mid d reply nego makes = let auth = makes.0.turn.reply.state in cc
 
   -- ---- the second turn
@@ -241,7 +241,7 @@ module _ {K : Type 0} (k : Meaning Setting K) where
     abbrev second_blob : List ℕ
     second_blob = seal_tag (key_of challenge (inner_of i.username) i.password.value) FromClient 0 second_text ++ second_text
 
-    pub second_goes : (mid : View) (reply : TsRequest) → ClientMakes meaning old d (Replied reply) mid →
+    pub second_goes : (mid : View) (reply : TsRequest) → MakesAnyhow meaning old d (Replied reply) mid →
         ClientIs a mid AuthInfo (Some d.version) (AuthenticateSent i.username) (Some (key_of challenge (inner_of i.username) i.password.value)) 1 0
         × (reply ≡ record d { version = a.version; nego_tokens = Some (last_token i challenge); client_nonce = Some a.nonce; pub_key_auth = Some second_blob })
     second_goes mid reply makes =
@@ -306,7 +306,7 @@ module _ {K : Type 0} (k : Meaning Setting K) where
     second_code : is_code d.error_code ≡ false
     second_code = rw given.code refl
 
-    pub second_refuses : (mid : View) (kind : ErrorKind) → ClientMakes meaning old d (Stopped kind None) mid → kind ≢ InsufficientMemory → ⊥
+    pub second_refuses : (mid : View) (kind : ErrorKind) → MakesAnyhow meaning old d (Stopped kind None) mid → kind ≢ InsufficientMemory → ⊥
     second_refuses mid kind makes other =
         let error = makes.0 in
         let turn = makes.2 in

@@ -31,11 +31,11 @@ use Rattle.sspi_credssp.specs.Exchange.{opens_other, BlobStops}
 use Rattle.sspi_credssp.specs.PublicKey.{prescribed}
 use Rattle.sspi_credssp.specs.Requests.{is_code}
 use Rattle.sspi_credssp.specs.Turn.{Replied, Ended, Stopped, Turn, ClientFrame}
-use Rattle.sspi_delegate.specs.History.{ClientMakes}
 use Rattle.sspi_matching.proofs.Blobs.{blob_of, blob_long, one_text, never_unopened, sealed_blob, never_unsealed, sealed_few}
 use Rattle.sspi_matching.proofs.ClientNegotiation.{is_false, stops_later}
 use Rattle.sspi_matching.proofs.ClientFirst.{cause_past}
 use Rattle.sspi_matching.proofs.States.{ClientIs, SameObject, same_object}
+use Rattle.sspi_matching.proofs.Anyhow.{MakesAnyhow}
 
 module _ {K : Type 0} (k : Meaning Setting K) where
   abbrev meaning : Meaning ContextSetting (SspiContext NtlmState K)
@@ -60,7 +60,7 @@ module _ {K : Type 0} (k : Meaning Setting K) where
   reply_nego frame t (Some other) reply h = h.state
 
   -- a client that waits for the server's proof makes no other turn
-  pub last_never_replies : (a old mid : View) (d reply : TsRequest) → old.state ≡ AuthInfo → ClientMakes meaning old d (Replied reply) mid → ⊥
+  pub last_never_replies : (a old mid : View) (d reply : TsRequest) → old.state ≡ AuthInfo → MakesAnyhow meaning old d (Replied reply) mid → ⊥
   last_never_replies a old mid d reply auth makes =
       let nego = reply_nego (client_frame meaning old mid) (client_turn meaning d (Replied reply) mid) mid.acts.status reply makes.0.turn.reply in cc
 
@@ -83,7 +83,7 @@ module _ {K : Type 0} (k : Meaning Setting K) where
     opened_before : unsealed_in meaning old.context ≡ 0
     opened_before = ap (unsealed_in meaning) given.is.context_is.there ∙ given.is.context_is.unsealed_is
 
-    pub last_ends : (mid : View) (reply : TsRequest) → ClientMakes meaning old d (Ended reply) mid →
+    pub last_ends : (mid : View) (reply : TsRequest) → MakesAnyhow meaning old d (Ended reply) mid →
         reply ≡ record d { version = a.version; nego_tokens = None; pub_key_auth = None; auth_info = Some (blob_of key FromClient 1 text) }
     last_ends mid reply makes =
         let turn = makes.0 in
@@ -128,7 +128,7 @@ module _ {K : Type 0} (k : Meaning Setting K) where
     opened_never false x proof kind texts is keyed towards few next h = never_unopened x key FromServer 0 proof kind keyed towards (next refl) (omega arith) h
     opened_never true x proof kind texts is keyed towards few next h = checked_never x proof kind texts is keyed few h
 
-    pub last_refuses : (mid : View) (kind : ErrorKind) → ClientMakes meaning old d (Stopped kind None) mid → kind ≢ InsufficientMemory → ⊥
+    pub last_refuses : (mid : View) (kind : ErrorKind) → MakesAnyhow meaning old d (Stopped kind None) mid → kind ≢ InsufficientMemory → ⊥
     last_refuses mid kind makes other =
         let error = makes.0 in
         let turn = makes.2 in

@@ -31,7 +31,7 @@ use Rattle.sspi_credssp.specs.Context.{ContextSetting, ForClient, either}
 use Rattle.sspi_credssp.specs.Requests.{token_of}
 use Rattle.sspi_credssp.specs.Stops.{StopsIf}
 use Rattle.sspi_credssp.specs.Turn.{Turn, ClientFrame}
-use Rattle.sspi_delegate.specs.Refusals.{StepsSo}
+use Rattle.sspi_delegate.specs.Refusals.{any_replies, StepsSo}
 use Rattle.sspi_matching.proofs.Steps.{IfNtlm, stepped_once, with_counts}
 use Rattle.sspi_matching.proofs.ThreeTurns.{in_context}
 
@@ -123,7 +123,7 @@ module _ {K : Type 0} (k : Meaning Setting K) where
 
     -- a turn that was refused had its step answered as expected
     pub refused_step : (error : Error) → now.acts.negotiated ≡ true → error.error_type ≢ InsufficientMemory →
-        StepsSo (either ntlm_meaning k) start d (Err error) now → Answered now.context begun f × (now.acts.status ≡ Some expected.status)
+        StepsSo (either ntlm_meaning k) any_replies start d (Err error) now → Answered now.context begun f × (now.acts.status ≡ Some expected.status)
     refused_step error was other steps = refused_at now.acts.status now.acts.negotiated steps.asked error was other steps.step
 
 -- an act's flags, as far as a turn may set them

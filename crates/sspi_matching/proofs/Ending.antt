@@ -28,7 +28,7 @@ use Rattle.sspi_delegate.specs.declared.turn.Turn.{Turn}
 use Rattle.sspi_delegate.specs.Causes.{one_of, turns_of, IsClientRefusal, IsServerRefusal, IsFinished}
 use Rattle.sspi_delegate.specs.Edits.{FollowsEdits}
 use Rattle.sspi_delegate.specs.EndTurns.{as_turn, came_of}
-use Rattle.sspi_delegate.specs.History.{ClientMakes, ClientMade, ServerMakes, ServerMade}
+use Rattle.sspi_delegate.specs.History.{ServerMakes, ServerMade}
 use Rattle.sspi_delegate.specs.Run.{IsDelivered, Logged}
 use Rattle.sspi_delegate.specs.Turns.{other, next_end, Alternates}
 use Rattle.sspi_matching.specs.Matching.{challenge_of, AreMatching, IsCalm, delegated_as}
@@ -44,6 +44,7 @@ use Rattle.sspi_matching.proofs.ServerSecond as server_second
 use Rattle.sspi_matching.proofs.ServerSecond.{claim_by, key_for}
 use Rattle.sspi_matching.proofs.States.{ServerIs}
 use Rattle.sspi_matching.proofs.Standing.{meaning, delegated, Stands, first_given, second_given, answer_given, last_given}
+use Rattle.sspi_matching.proofs.Anyhow.{MakesAnyhow, MadeAnyhow}
 
 -- ---- how many turns each end made
 
@@ -93,8 +94,8 @@ module _ {K P : Type 0} (k : Meaning Setting K) (told : P → Option (List AuthI
 
   -- ---- by how the turn ended
 
-  client_stops : (out : Outcome) (x mid : CView) (d : TsRequest) (kind : ErrorKind) → IsClientRefusal kind out → ClientMakes m x d (came_of out) mid →
-      ((kind2 : ErrorKind) → ClientMakes m x d (Stopped kind2 None) mid → kind2 ≢ InsufficientMemory → ⊥) → kind ≢ InsufficientMemory → ⊥
+  client_stops : (out : Outcome) (x mid : CView) (d : TsRequest) (kind : ErrorKind) → IsClientRefusal kind out → MakesAnyhow m x d (came_of out) mid →
+      ((kind2 : ErrorKind) → MakesAnyhow m x d (Stopped kind2 None) mid → kind2 ≢ InsufficientMemory → ⊥) → kind ≢ InsufficientMemory → ⊥
   client_stops (Reply r) x mid d kind is makes never others = absurd is
   client_stops (Final r) x mid d kind is makes never others = absurd is
   client_stops Finished x mid d kind is makes never others = absurd is
@@ -118,10 +119,10 @@ module _ {K P : Type 0} (k : Meaning Setting K) (told : P → Option (List AuthI
   -- ---- the client refuses for want of memory alone
 
   client_at : (base : List Carried) (t : Turn) (past : List Turn) (log : List Carried) (x x2 : CView) (y : SView) (kind : ErrorKind) →
-      StandsSo past x y → t.end ≡ next_end past → Logged base past log → FollowsEdits [] log → IsDelivered past log t.delivered → ClientMade m x (as_turn t) x2 →
+      StandsSo past x y → t.end ≡ next_end past → Logged base past log → FollowsEdits [] log → IsDelivered past log t.delivered → MadeAnyhow m x (as_turn t) x2 →
       t.end ≡ Client → IsClientRefusal kind t.outcome → kind ≢ InsufficientMemory → ⊥
   client_at base t [] log x x2 y kind s next entries follows delivered made here is others =
-      client_stops t.outcome a made.mid t.delivered kind is (subst (λ (v : CView). ClientMakes m v t.delivered (came_of t.outcome) made.mid) s.0 made.makes)
+      client_stops t.outcome a made.mid t.delivered kind is (subst (λ (v : CView). MakesAnyhow m v t.delivered (came_of t.outcome) made.mid) s.0 made.makes)
       (λ kind2 makes other2. client.first_refuses k a made.mid t.delivered kind2 matching.identity client_new matching.credentials_are
       (ap (λ (r : TsRequest). is_code r.error_code) delivered) makes other2) others
   client_at base t (t1 ∷ []) log x x2 y kind s next entries follows delivered made here is others = wrong_end t.end here (next ∙ ap other s.end_is)

@@ -13,7 +13,7 @@ use Rattle.sspi_delegate.specs.declared.carried.End.TheVariants.{Client, Server}
 use Rattle.sspi_delegate.specs.declared.turn.Turn.{Turn}
 use Rattle.sspi_delegate.specs.Edits.{FollowsEdits}
 use Rattle.sspi_delegate.specs.EndTurns.{client_turns, server_turns}
-use Rattle.sspi_delegate.specs.History.{ClientHistory, ServerHistory}
+use Rattle.sspi_delegate.specs.History.{ServerHistory}
 use Rattle.sspi_delegate.specs.Run.{IsDelivered, Logged}
 use Rattle.sspi_delegate.specs.Turns.{other, next_end, GoesOn, AllGoOn, Alternates}
 use Rattle.sspi_matching.specs.Matching.{AreMatching}
@@ -21,6 +21,7 @@ use Rattle.sspi_matching.proofs.Deliveries.{next_request}
 use Rattle.sspi_matching.proofs.Messages.{IsMessage, first_is, challenge_is, proof_is, answer_is, last_is}
 use Rattle.sspi_matching.proofs.Peeling.{Extends, by_client, by_server, peel, proxy_same}
 use Rattle.sspi_matching.proofs.Standing.{meaning, m1, m2, m3, m4, m5, delegated, Stands, turned_first, turned_challenge, turned_proof, turned_answer, turned_last, turned_never}
+use Rattle.sspi_matching.proofs.Anyhow.{HistoryAnyhow}
 
 pub wrong_end : (e : End) → e ≡ Client → e ≡ Server → ⊥
 wrong_end e one two = cc
@@ -97,7 +98,7 @@ module _ {K P : Type 0} (k : Meaning Setting K) (told : P → Option (List AuthI
   extend base t (t6 ∷ t5 ∷ t4 ∷ t3 ∷ t2 ∷ t1 ∷ past) log x x2 y y2 s next extends going tells entries follows delivered = absurd s
 
   pub stands : (base : List Carried) (turns : List Turn) (log : List Carried) (x : CView) (y : SView) → Alternates turns → AllGoOn turns → Logged base turns log → FollowsEdits [] log →
-      ClientHistory (meaning k told faults failing a b client_new server_new matching) a (client_turns turns) x →
+      HistoryAnyhow (meaning k told faults failing a b client_new server_new matching) a (client_turns turns) x →
       ServerHistory (meaning k told faults failing a b client_new server_new matching) told faults failing b (server_turns turns) y → StandsSo turns x y
   stands base [] log x y order going entries follows clients servers = (clients, servers)
   stands base (t ∷ past) [] x y order going entries follows clients servers = absurd entries

@@ -1,4 +1,5 @@
 pub mod Lengths
+pub mod Anyhow
 pub mod NtlmRound
 pub mod Steps
 pub mod ThreeTurns

@@ -23,7 +23,8 @@ use Rattle.sspi_delegate.specs.declared.turn.Turn.{Turn}
 use Rattle.sspi_delegate.specs.Causes.{Cause, RunEnds, Given, carried, too_long, link_failed, no_memory}
 use Rattle.sspi_delegate.specs.Edits.{FollowsEdits}
 use Rattle.sspi_delegate.specs.EndTurns.{as_turn, onto_server, client_turns, server_turns}
-use Rattle.sspi_delegate.specs.History.{ClientHistory, ClientPast, ServerHistory}
+use Rattle.sspi_delegate.specs.Asking.{KdcCalls}
+use Rattle.sspi_delegate.specs.History.{ClientPast, ServerHistory}
 use Rattle.sspi_delegate.specs.Link.{FollowsTold, StaysTold}
 use Rattle.sspi_delegate.specs.Messages.{newest_message, CarryFails, AnswerTold}
 use Rattle.sspi_delegate.specs.Run.{Logged, LoggedButLast, IsDelivered}
@@ -36,6 +37,7 @@ use Rattle.sspi_matching.proofs.Going.{is1, is2, is3, is4, is5, extend, stands}
 use Rattle.sspi_matching.proofs.Messages.{IsMessage}
 use Rattle.sspi_matching.proofs.Peeling.{peel, proxy_same}
 use Rattle.sspi_matching.proofs.Standing.{meaning, Stands}
+use Rattle.sspi_matching.proofs.Anyhow.{HistoryAnyhow, PastAnyhow, past_anyhow}
 
 -- an exchange that had its turns is settled: Ok after three of the client's, or none were left, or there was no memory
 abbrev pub Settled : ℕ → AuthIdentity → Result Delegation DelegateError → Type 0
@@ -173,7 +175,7 @@ module _ {K P : Type 0} (k : Meaning Setting K) (told : P → Option (List AuthI
     pub turn : NextTurn k told faults failing a b client_new server_new matching base t past log x x2 y y2
 
   next_turn : (base : List Carried) (t : Turn) (past : List Turn) (log : List Carried) (x2 : CView) (y2 : SView) → Alternates (t ∷ past) → IsDelivered past log t.delivered →
-      Logged base past log → FollowsEdits [] log → ClientHistory m a (client_turns (t ∷ past)) x2 → ServerHistory m told faults failing b (server_turns (t ∷ past)) y2 →
+      Logged base past log → FollowsEdits [] log → HistoryAnyhow m a (client_turns (t ∷ past)) x2 → ServerHistory m told faults failing b (server_turns (t ∷ past)) y2 →
       Next base t past log x2 y2
   next_turn base t past log x2 y2 order delivered entries follows clients servers =
       let p = peel m told faults failing a x2 b y2 t past clients servers in
@@ -198,7 +200,7 @@ module _ {K P : Type 0} (k : Meaning Setting K) (told : P → Option (List AuthI
     held_by Server t past identity is gives = gives
 
     settle_ok : (delegation : Delegation) (turns : List Turn) (log : List Carried) → RunEnds base start limit (Ok delegation) turns log now → FollowsEdits [] log →
-        ClientHistory m a (client_turns turns) x → ServerHistory m told faults failing b (server_turns turns) y →
+        HistoryAnyhow m a (client_turns turns) x → ServerHistory m told faults failing b (server_turns turns) y →
         GivesNewest m (server_end y) (server_turns turns) delegation.credentials → (delegation.turns ≡ 3) × (delegation.credentials ≡ delegated_as a.delegation matching.identity)
     settle_ok delegation [] log ends follows clients servers gives = absurd ends.0.newest
     settle_ok delegation (t ∷ past) log ends follows clients servers gives =
@@ -211,7 +213,7 @@ module _ {K P : Type 0} (k : Meaning Setting K) (told : P → Option (List AuthI
         (omega (arith, count, server, f.0, ends.1), f.1)
 
     settle_client : (error : Error) (turns : List Turn) (log : List Carried) → Alternates turns → Cause base start limit (errors.Client error) turns log now → FollowsEdits [] log →
-        ClientHistory m a (client_turns turns) x → ServerHistory m told faults failing b (server_turns turns) y → ⊥
+        HistoryAnyhow m a (client_turns turns) x → ServerHistory m told faults failing b (server_turns turns) y → ⊥
     settle_client error [] log order cause follows clients servers = cause.1
     settle_client error (t ∷ past) log order cause follows clients servers =
         let n = next_turn base t past log x y order cause.2.0 cause.2.1 follows clients servers in
@@ -226,7 +228,7 @@ module _ {K P : Type 0} (k : Meaning Setting K) (told : P → Option (List AuthI
     server_entries t past log follows (no_memory entries) = (log, entries, follows)
 
     settle_server : (error : Error) (turns : List Turn) (log : List Carried) → Alternates turns → Cause base start limit (errors.Server error) turns log now → FollowsEdits [] log →
-        ClientHistory m a (client_turns turns) x → ServerHistory m told faults failing b (server_turns turns) y → IsCalm (faults b.proxy) (faults y.proxy) → ⊥
+        HistoryAnyhow m a (client_turns turns) x → ServerHistory m told faults failing b (server_turns turns) y → IsCalm (faults b.proxy) (faults y.proxy) → ⊥
     settle_server error [] log order cause follows clients servers calm = cause.1
     settle_server error (t ∷ past) log order cause follows clients servers calm =
         let entries = server_entries t past log follows cause.2 in
@@ -234,7 +236,7 @@ module _ {K P : Type 0} (k : Meaning Setting K) (told : P → Option (List AuthI
         server_never k told faults failing a b client_new server_new matching base t past entries.0 n.x x n.y y error.error_type n.turn calm cause.1.0 cause.1.1 cause.0
 
     settle_read : (to : End) (kind : WireKind) (turns : List Turn) (log : List Carried) → Alternates turns → Cause base start limit (errors.Read to kind) turns log now → FollowsEdits [] log →
-        ClientHistory m a (client_turns turns) x → ServerHistory m told faults failing b (server_turns turns) y → ⊥
+        HistoryAnyhow m a (client_turns turns) x → ServerHistory m told faults failing b (server_turns turns) y → ⊥
     settle_read to kind [] log order cause follows clients servers = cause.4
     settle_read to kind (t ∷ past) log order cause follows clients servers =
         let s = stands k told faults failing a b client_new server_new matching base (t ∷ past) log x y order cause.0 cause.3 follows clients servers in
@@ -242,7 +244,7 @@ module _ {K P : Type 0} (k : Meaning Setting K) (told : P → Option (List AuthI
         always_readable base t past log n.message kind n.is n.fits_so.value cause.3 follows cause.4
 
     settle_write : (from : End) (turns : List Turn) (log : List Carried) → Alternates turns → Cause base start limit (errors.Write from) turns log now → FollowsEdits [] log →
-        ClientHistory m a (client_turns turns) x → ServerHistory m told faults failing b (server_turns turns) y → ⊥
+        HistoryAnyhow m a (client_turns turns) x → ServerHistory m told faults failing b (server_turns turns) y → ⊥
     settle_write from [] log order cause follows clients servers = cause.2
     settle_write from (t ∷ past) log order cause follows clients servers =
         let n = next_turn base t past log x y order cause.2.0 cause.2.1 follows clients servers in
@@ -252,7 +254,7 @@ module _ {K P : Type 0} (k : Meaning Setting K) (told : P → Option (List AuthI
         never_too_long t past w.message w.is w.fits_so.fit cause.3
 
     settle_spent : (turns : List Turn) (log : List Carried) → Alternates turns → Cause base start limit errors.TurnsSpent turns log now → FollowsEdits [] log →
-        ClientHistory m a (client_turns turns) x → ServerHistory m told faults failing b (server_turns turns) y → limit ≤ 2
+        HistoryAnyhow m a (client_turns turns) x → ServerHistory m told faults failing b (server_turns turns) y → limit ≤ 2
     settle_spent turns log order cause follows clients servers =
         let s = stands k told faults failing a b client_new server_new matching base turns log x y order cause.0 cause.3 follows clients servers in
         let few = at_most turns x y s in
@@ -261,7 +263,7 @@ module _ {K P : Type 0} (k : Meaning Setting K) (told : P → Option (List AuthI
         omega (arith, few, count, even, cause.2)
 
     settled : (result : Result Delegation DelegateError) (turns : List Turn) (log : List Carried) → RunEnds base start limit result turns log now → FollowsEdits [] log →
-        NoLinkFault result → ClientPast m a result (client_turns turns) x →
+        NoLinkFault result → PastAnyhow m a result (client_turns turns) x →
         ServerHistory m told faults failing b (server_turns turns) y → IsCalm (faults b.proxy) (faults y.proxy) →
         IfOk result (λ delegation. GivesNewest m (server_end y) (server_turns turns) delegation.credentials) → Settled limit (delegated_as a.delegation matching.identity) result
     settled (Ok delegation) turns log ends follows still clients servers calm gives = settle_ok delegation turns log ends follows clients servers gives
@@ -273,11 +275,11 @@ module _ {K P : Type 0} (k : Meaning Setting K) (told : P → Option (List AuthI
     settled (Err errors.TurnsSpent) turns log ends follows still clients servers calm gives = settle_spent turns log ends.order ends.cause follows clients servers
     settled (Err errors.InsufficientMemory) turns log ends follows still clients servers calm gives = tt
 
-    pub settled_so : (edits edits2 : Option (List Edit)) (result : Result Delegation DelegateError) (turns : List Turn) (log : List Carried) →
+    pub settled_so : {D : Type 0} (calls : KdcCalls D) (kdc kdc2 : D) (edits edits2 : Option (List Edit)) (result : Result Delegation DelegateError) (turns : List Turn) (log : List Carried) →
         IsUndisturbed edits base log start now → RunEnds base start limit result turns log now → StaysTold edits edits2 base log →
-        AnswerTold edits start now result log (newest_message turns) → ClientPast m a result (client_turns turns) x →
+        AnswerTold edits start now result log (newest_message turns) → ClientPast m calls a kdc result (client_turns turns) x kdc2 →
         ServerHistory m told faults failing b (server_turns turns) y → IsCalm (faults b.proxy) (faults y.proxy) →
         IfOk result (λ delegation. GivesNewest m (server_end y) (server_turns turns) delegation.credentials) → Settled limit (delegated_as a.delegation matching.identity) result
-    settled_so edits edits2 result turns log undisturbed ends stays still clients servers calm gives =
+    settled_so calls kdc kdc2 edits edits2 result turns log undisturbed ends stays still clients servers calm gives =
         let quiet = undisturbed_is edits edits2 base log limit start now result turns undisturbed ends stays still in
-        settled result turns log ends quiet.0 quiet.1 clients servers calm gives
+        settled result turns log ends quiet.0 quiet.1 (past_anyhow m calls a x kdc kdc2 result (client_turns turns) clients) servers calm gives

@@ -28,7 +28,7 @@ use Rattle.sspi_delegate.specs.declared.turn.Outcome.{Outcome}
 use Rattle.sspi_delegate.specs.declared.turn.Outcome.TheVariants.{Reply, Final, Finished, Refused}
 use Rattle.sspi_delegate.specs.declared.turn.Turn.{Turn}
 use Rattle.sspi_delegate.specs.EndTurns.{as_turn, came_of}
-use Rattle.sspi_delegate.specs.History.{ClientMakes, ClientMade, ServerMakes, ServerMade}
+use Rattle.sspi_delegate.specs.History.{ServerMakes, ServerMade}
 use Rattle.sspi_delegate.specs.Turns.{message_of, GoesOn}
 use Rattle.sspi_matching.specs.Matching.{challenge_of, AreMatching}
 use Rattle.sspi_matching.proofs.Blobs.{blob_of}
@@ -44,6 +44,7 @@ use Rattle.sspi_matching.proofs.ServerSecond.{claim_by, key_for}
 use Rattle.sspi_matching.proofs.Shortness.{short_name}
 use Rattle.sspi_matching.proofs.States.{ClientIs, ServerIs, client_emptied, server_emptied}
 use Rattle.sspi_matching.proofs.Texts.{HasDelegated, delegates}
+use Rattle.sspi_matching.proofs.Anyhow.{MakesAnyhow, MadeAnyhow}
 
 module _ {K P : Type 0} (k : Meaning Setting K) (told : P → Option (List AuthIdentity)) (faults : P → ℕ) (failing : P → Option (List ℕ))
     (a : ClientView (SspiContext NtlmState K)) (b : ServerView (SspiContext NtlmState K) P) (client_new : IsFreshClient a) (server_new : IsFreshServer b)
@@ -130,7 +131,7 @@ module _ {K P : Type 0} (k : Meaning Setting K) (told : P → Option (List AuthI
 
   -- ---- the client's first turn
 
-  went_first : (out : Outcome) (d : TsRequest) (mid : CView) → d ≡ first_request → GoesOn out → ClientMakes meaning a d (came_of out) mid →
+  went_first : (out : Outcome) (d : TsRequest) (mid : CView) → d ≡ first_request → GoesOn out → MakesAnyhow meaning a d (came_of out) mid →
       ClientIs a mid NegoToken None NegotiateSent None 0 0 × (message_of out ≡ Some m1)
   went_first (Reply r) d mid given going makes =
       let s = client.first_goes k a mid d r i client_new matching.credentials_are makes in
@@ -139,9 +140,9 @@ module _ {K P : Type 0} (k : Meaning Setting K) (told : P → Option (List AuthI
   went_first Finished d mid given going makes = absurd going
   went_first (Refused kind reply) d mid given going makes = absurd going
 
-  pub turned_first : (t : Turn) (x x2 : CView) (y : SView) → x ≡ a → y ≡ b → t.end ≡ Client → t.delivered ≡ first_request → GoesOn t.outcome → ClientMade meaning x (as_turn t) x2 → AfterFirst t x2 y
+  pub turned_first : (t : Turn) (x x2 : CView) (y : SView) → x ≡ a → y ≡ b → t.end ≡ Client → t.delivered ≡ first_request → GoesOn t.outcome → MadeAnyhow meaning x (as_turn t) x2 → AfterFirst t x2 y
   turned_first t x x2 y is same end_is given going made =
-      let makes = subst (λ (v : CView). ClientMakes meaning v t.delivered (came_of t.outcome) made.mid) is made.makes in
+      let makes = subst (λ (v : CView). MakesAnyhow meaning v t.delivered (came_of t.outcome) made.mid) is made.makes in
       let s = went_first t.outcome t.delivered made.mid given going makes in
       record { end_is = end_is; client_is = client_emptied a made.mid x2 _ _ _ _ _ _ made.rest s.0; server_is = same; message = s.1 }
 
@@ -194,7 +195,7 @@ module _ {K P : Type 0} (k : Meaning Setting K) (told : P → Option (List AuthI
   }
 
   went_proof : (out : Outcome) (x : CView) (d : TsRequest) (mid : CView) → d ≡ carried m2 → ClientIs a x NegoToken None NegotiateSent None 0 0 → GoesOn out →
-      ClientMakes meaning x d (came_of out) mid → ClientIs a mid AuthInfo (Some b.version) (AuthenticateSent i.username) (Some key) 1 0 × (message_of out ≡ Some m3)
+      MakesAnyhow meaning x d (came_of out) mid → ClientIs a mid AuthInfo (Some b.version) (AuthenticateSent i.username) (Some key) 1 0 × (message_of out ≡ Some m3)
   went_proof (Reply r) x d mid given is going makes =
       let s = client.second_goes k a x d challenge i (second_given x d given is) mid r makes in
       let version : d.version ≡ b.version = ap (λ (x : TsRequest). x.version) given in (
@@ -206,7 +207,7 @@ module _ {K P : Type 0} (k : Meaning Setting K) (told : P → Option (List AuthI
   went_proof (Refused kind reply) x d mid given is going makes = absurd going
 
   pub turned_proof : (t : Turn) (x x2 : CView) (y : SView) → ClientIs a x NegoToken None NegotiateSent None 0 0 → ServerIs b y challenge NegoToken (Some a.version) ChallengeSent None 0 0 →
-      t.end ≡ Client → t.delivered ≡ carried m2 → GoesOn t.outcome → ClientMade meaning x (as_turn t) x2 → AfterProof t x2 y
+      t.end ≡ Client → t.delivered ≡ carried m2 → GoesOn t.outcome → MadeAnyhow meaning x (as_turn t) x2 → AfterProof t x2 y
   turned_proof t x x2 y is there end_is given going made =
       let s = went_proof t.outcome x t.delivered made.mid given is going made.makes in
       record { end_is = end_is; client_is = client_emptied a made.mid x2 _ _ _ _ _ _ made.rest s.0; server_is = there; message = s.1 }
@@ -282,7 +283,7 @@ module _ {K P : Type 0} (k : Meaning Setting K) (told : P → Option (List AuthI
   ended d = record d { version = a.version; nego_tokens = None; pub_key_auth = None; auth_info = Some (blob_of key FromClient 1 text) }
 
   went_last : (out : Outcome) (x : CView) (d : TsRequest) (mid : CView) → d ≡ carried m4 → ClientIs a x AuthInfo (Some b.version) (AuthenticateSent i.username) (Some key) 1 0 → GoesOn out →
-      ClientMakes meaning x d (came_of out) mid → message_of out ≡ Some m5
+      MakesAnyhow meaning x d (came_of out) mid → message_of out ≡ Some m5
   went_last (Reply r) x d mid given is going makes = absurd (client_last.last_never_replies k a x mid d r is.state_is makes)
   went_last (Final r) x d mid given is going makes =
       ap Some (client_last.last_ends k a x d b.version i.username key text i (last_given x d given is) mid r makes ∙ ap ended given)
@@ -291,7 +292,7 @@ module _ {K P : Type 0} (k : Meaning Setting K) (told : P → Option (List AuthI
 
   pub turned_last : (t : Turn) (x x2 : CView) (y : SView) → ClientIs a x AuthInfo (Some b.version) (AuthenticateSent i.username) (Some key) 1 0 →
       ServerIs b y challenge AuthInfo (Some a.version) (Claimed (claim_by i challenge)) (Some key) 1 1 → t.end ≡ Client → t.delivered ≡ carried m4 → GoesOn t.outcome →
-      ClientMade meaning x (as_turn t) x2 → AfterLast t y
+      MadeAnyhow meaning x (as_turn t) x2 → AfterLast t y
   turned_last t x x2 y is there end_is given going made = record {
     end_is = end_is;
     server_is = there;

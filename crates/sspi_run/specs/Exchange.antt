@@ -13,12 +13,14 @@ use Rattle.sspi_credssp.specs.Table.{TableView}
 use Rattle.sspi_delegate.specs.declared.answer.Delegation.{Delegation}
 use Rattle.sspi_delegate.specs.declared.answer.DelegateError.{DelegateError}
 use Rattle.sspi_delegate.specs.declared.answer.DelegateError.TheVariants.{TurnsSpent}
+use Rattle.sspi_delegate.specs.Asking.{KdcCalls, kdc_calls}
 use Rattle.sspi_delegate.specs.Causes.{RunEnds}
 use Rattle.sspi_delegate.specs.ClientRun.{client_end}
 use Rattle.sspi_delegate.specs.Edits.{FollowsEdits}
 use Rattle.sspi_delegate.specs.EndTurns.{client_turns, server_turns}
 use Rattle.sspi_delegate.specs.Exactly.{Exactly}
 use Rattle.sspi_delegate.specs.Headline.{IsFresh, IsRun, sealed_turns, SealsAfterProof, NeverSeals, HasExchanged}
+use Rattle.sspi_delegate.specs.History.{ClientPast, ServerHistory}
 use Rattle.sspi_delegate.specs.Messages.{newest_message, AnswerTold}
 use Rattle.sspi_delegate.specs.Refusals.{RefusedBy, KdcStays, ProxyStays}
 use Rattle.sspi_delegate.specs.ServerRun.{server_end, GivesNewest}
@@ -49,8 +51,12 @@ table_faults table = table.faults
 abbrev pub told_failures : ℕ → Option (ℕ → NetworkRequest → Reply)
 told_failures kdc = Some (λ call request. Failed)
 
-abbrev pub kdc_faults : ℕ → ℕ
-kdc_faults kdc = kdc
+-- each of its calls is counted, and each fails
+abbrev pub kdc_count : ℕ → ℕ
+kdc_count kdc = kdc
+
+abbrev pub failing_calls : KdcCalls ℕ
+failing_calls = kdc_calls told_failures kdc_count kdc_count
 
 -- The ends that the scenario names met over the link that it names: all that `delegate` promises holds from these ends as
 -- they were made, and from an empty log and transcript, to what the record keeps.
@@ -72,8 +78,12 @@ pub record IsExchange (r : Record) : Type 0 where
   pub refused : RefusedBy ntlm told_entries table_faults client r.client server r.server (answer_in r.outcome)
       (client_turns r.transcript.turns) (server_turns r.transcript.turns)
   pub proxy : ProxyStays told_entries told_failing table_faults server.proxy r.server.proxy
-  pub kdc : KdcStays told_failures kdc_faults 0 r.kdc
+  -- each turn of an end was one of its calls, and nothing moved it between two of them
+  pub client_history : ClientPast ntlm failing_calls client 0 (answer_in r.outcome) (client_turns r.transcript.turns) r.client r.kdc
+  pub server_history : ServerHistory ntlm told_entries table_faults told_failing server (server_turns r.transcript.turns) r.server
+  pub kdc : KdcStays told_failures kdc_count 0 r.kdc
   pub cause : RunEnds [] 0 r.scenario.turns (answer_in r.outcome) r.transcript.turns r.link.log r.link.faults
   pub exactly : Exactly [] r.scenario.turns (answer_in r.outcome) r.transcript.turns r.link.log
   pub still : AnswerTold (Some r.scenario.edit) 0 r.link.faults (answer_in r.outcome) r.link.log (newest_message r.transcript.turns)
   pub none : r.scenario.turns ≡ 0 → answer_in r.outcome ≡ Err TurnsSpent
+  pub within : IfOk (answer_in r.outcome) (λ delegation. delegation.turns ≤ r.scenario.turns)

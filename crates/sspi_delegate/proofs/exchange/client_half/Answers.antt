@@ -3,6 +3,7 @@ use Rattle.sspi_delegate.specs.declared.carried.End.TheVariants.{Client}
 use Rattle.sspi_credssp.specs.Context.{either}
 use Rattle.sspi_delegate.proofs.Halves.{client_half_stopped, client_half_refused}
 use Rattle.sspi_delegate.proofs.LogSteps.{turned, lost, client_refused}
+use Rattle.sspi_delegate.specs.Asking.{kdc_calls}
 use Rattle.sspi_delegate.proofs.Histories.{client_past}
 use Rattle.sspi_delegate.proofs.exchange.client_half.Goals as goal
 
@@ -46,19 +47,22 @@ returns-in-Err-clause-client g c first follows =
     client_half_stopped (either g.N.Mechanism.meaning g.K.Mechanism.meaning) first c.args.client.now _ c.in-Err.error c.in-Err.ensures.link follows.ran
 
 pub returns-in-Ok-give-clause-client_history : goal.returns-in-Ok-give-clause-client_history
-returns-in-Ok-give-clause-client_history g c first history = c.in-Replied.ensures.client_history first history
+returns-in-Ok-give-clause-client_history g c first kdc_first history = c.in-Replied.ensures.client_history first kdc_first history
 
 pub returns-in-Err-give-clause-client_history : goal.returns-in-Err-give-clause-client_history
-returns-in-Err-give-clause-client_history g c first history =
-    client_past (either g.N.Mechanism.meaning g.K.Mechanism.meaning) {X = Unit {0}} first c.client_round.new.client _ (Err c.in-Err-give.error) (c.in-Replied.ensures.client_history first history)
+returns-in-Err-give-clause-client_history g c first kdc_first history =
+    client_past (either g.N.Mechanism.meaning g.K.Mechanism.meaning) (kdc_calls g.D.Kdc.told g.D.Kdc.asked g.D.Kdc.faults) {X = Unit {0}} first c.client_round.new.client kdc_first
+    c.client_round.new.kdc _ (Err c.in-Err-give.error) (c.in-Replied.ensures.client_history first kdc_first history)
 
 pub returns-in-Refused-clause-client_history : goal.returns-in-Refused-clause-client_history
-returns-in-Refused-clause-client_history g c first history =
-    client_past (either g.N.Mechanism.meaning g.K.Mechanism.meaning) {X = Unit {0}} first c.client_round.new.client _ (Err c.client_error.result) (c.in-Refused.ensures.client_history first history)
+returns-in-Refused-clause-client_history g c first kdc_first history =
+    client_past (either g.N.Mechanism.meaning g.K.Mechanism.meaning) (kdc_calls g.D.Kdc.told g.D.Kdc.asked g.D.Kdc.faults) {X = Unit {0}} first c.client_round.new.client kdc_first
+    c.client_round.new.kdc _ (Err c.client_error.result) (c.in-Refused.ensures.client_history first kdc_first history)
 
 pub returns-in-Lost-clause-client_history : goal.returns-in-Lost-clause-client_history
-returns-in-Lost-clause-client_history g c first history = c.in-Lost.ensures.client_history first history
+returns-in-Lost-clause-client_history g c first kdc_first history = c.in-Lost.ensures.client_history first kdc_first history
 
 pub returns-in-Err-clause-client_history : goal.returns-in-Err-clause-client_history
-returns-in-Err-clause-client_history g c first history =
-    client_past (either g.N.Mechanism.meaning g.K.Mechanism.meaning) {X = Unit {0}} first c.args.client.now _ (Err c.in-Err.error) history
+returns-in-Err-clause-client_history g c first kdc_first history =
+    client_past (either g.N.Mechanism.meaning g.K.Mechanism.meaning) (kdc_calls g.D.Kdc.told g.D.Kdc.asked g.D.Kdc.faults) {X = Unit {0}} first c.args.client.now kdc_first
+    c.args.kdc.now _ (Err c.in-Err.error) history

@@ -7,6 +7,7 @@ use Rattle.sspi_delegate.proofs.ClientSteps.{client_fresh}
 use Rattle.sspi_delegate.proofs.ServerSteps.{server_fresh}
 use Rattle.sspi_credssp.specs.Context.{either}
 use Rattle.sspi_delegate.proofs.Halves.{client_half_ran, server_half_ran, refused_by_client, refused_by_server}
+use Rattle.sspi_delegate.specs.Asking.{kdc_calls}
 use Rattle.sspi_delegate.proofs.Asking.{kdc_on}
 use Rattle.sspi_delegate.proofs.Refusing.{proxy_on}
 use Rattle.sspi_delegate.proofs.Reading.{stays_on, still_first, still_on, still_spent, still_stopped}
@@ -39,7 +40,7 @@ loop-turn-init g c = record {
   at_turn = λ empty. at_first _ _ _ empty;
   client = λ fresh empty. rw empty (client_fresh _ c.args.client.now fresh);
   server = λ fresh empty. rw empty (server_fresh _ c.args.server.now fresh);
-  client_history = λ empty. rw empty refl;
+  client_history = λ empty. rw empty (refl, refl);
   server_history = λ empty. rw empty refl;
   told = record { same = refl; follows = λ h. h };
   proxy = record { told_same = refl; failing_same = refl; counted = omega arith; calm = λ none. refl };
@@ -61,7 +62,7 @@ loop-turn-preserved g c = record {
   client = λ fresh empty. rw c.in-Ok-None.ensures.client (c.in-Ok.ensures.client _ (c.loop-turn.invariant.client fresh empty));
   server = λ fresh empty.
       rw c.in-Ok-None.field-0-is at (c.in-Ok-None.ensures.server c.args.server.now (rw c.in-Ok.ensures.server (c.loop-turn.invariant.server fresh empty)) c.loop-turn.invariant.proxy);
-  client_history = λ empty. rw c.in-Ok-None.ensures.client (c.in-Ok.ensures.client_history _ (c.loop-turn.invariant.client_history empty));
+  client_history = λ empty. rw c.in-Ok-None.ensures.client (c.in-Ok.ensures.client_history _ _ (c.loop-turn.invariant.client_history empty));
   server_history = λ empty. c.in-Ok-None.ensures.server_history _ (rw c.in-Ok.ensures.server (c.loop-turn.invariant.server_history empty));
   proxy = proxy_on _ _ _ _ _ _ c.loop-turn.invariant.proxy c.in-Ok-None.ensures.proxy;
   kdc = kdc_on _ _ _ _ _ c.loop-turn.invariant.kdc c.in-Ok.ensures.kdc;
@@ -122,14 +123,14 @@ returns-clause-server g c fresh empty = (c.loop-turn.invariant.server fresh empt
 
 pub returns-in-Err-clause-client_history : goal.returns-in-Err-clause-client_history
 returns-in-Err-clause-client_history g c empty =
-    client_past_on (either g.N.Mechanism.meaning g.K.Mechanism.meaning) (Unit {0}) Delegation _ _ _ c.in-Err.error (c.in-Err.ensures.client_history _ (c.loop-turn.invariant.client_history empty))
+    client_past_on (either g.N.Mechanism.meaning g.K.Mechanism.meaning) (kdc_calls g.D.Kdc.told g.D.Kdc.asked g.D.Kdc.faults) (Unit {0}) Delegation _ _ _ _ _ c.in-Err.error (c.in-Err.ensures.client_history _ _ (c.loop-turn.invariant.client_history empty))
 
 pub returns-in-Err-clause-server_history : goal.returns-in-Err-clause-server_history
 returns-in-Err-clause-server_history g c empty = rw c.in-Err.ensures.server (c.loop-turn.invariant.server_history empty)
 
 pub returns-in-Ok-Some-clause-client_history : goal.returns-in-Ok-Some-clause-client_history
 returns-in-Ok-Some-clause-client_history g c empty =
-    rw c.in-Ok-Some.ensures.client (c.in-Ok.ensures.client_history _ (c.loop-turn.invariant.client_history empty))
+    rw c.in-Ok-Some.ensures.client (c.in-Ok.ensures.client_history _ _ (c.loop-turn.invariant.client_history empty))
 
 pub returns-in-Ok-Some-clause-server_history : goal.returns-in-Ok-Some-clause-server_history
 returns-in-Ok-Some-clause-server_history g c empty =
@@ -137,8 +138,8 @@ returns-in-Ok-Some-clause-server_history g c empty =
 
 pub returns-in-Err-server_half-clause-client_history : goal.returns-in-Err-server_half-clause-client_history
 returns-in-Err-server_half-clause-client_history g c empty =
-    client_past (either g.N.Mechanism.meaning g.K.Mechanism.meaning) {X = Delegation} _ _ _ (Err c.in-Err-server_half.error)
-    (rw c.in-Err-server_half.ensures.client (c.in-Ok.ensures.client_history _ (c.loop-turn.invariant.client_history empty)))
+    client_past (either g.N.Mechanism.meaning g.K.Mechanism.meaning) (kdc_calls g.D.Kdc.told g.D.Kdc.asked g.D.Kdc.faults) {X = Delegation} _ _ _ _ _ (Err c.in-Err-server_half.error)
+    (rw c.in-Err-server_half.ensures.client (c.in-Ok.ensures.client_history _ _ (c.loop-turn.invariant.client_history empty)))
 
 pub returns-in-Err-server_half-clause-server_history : goal.returns-in-Err-server_half-clause-server_history
 returns-in-Err-server_half-clause-server_history g c empty =

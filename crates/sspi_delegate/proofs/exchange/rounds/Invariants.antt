@@ -2,6 +2,7 @@ use Rattle.std.proofs.Common.{◌≡◌, []}
 use Rattle.sspi_credssp.specs.Client.{IsFreshClient}
 use Rattle.sspi_credssp.specs.Context.{either}
 use Rattle.sspi_credssp.specs.Server.{IsFreshServer}
+use Rattle.sspi_delegate.specs.Asking.{kdc_calls}
 use Rattle.sspi_delegate.specs.ClientRun.{ClientFollows}
 use Rattle.sspi_delegate.specs.EndTurns.{client_turns, server_turns}
 use Rattle.sspi_delegate.specs.History.{ClientHistory, ServerHistory}
@@ -21,7 +22,9 @@ invariant-loop-turn g l = record {
       ClientFollows (either g.N.Mechanism.meaning g.K.Mechanism.meaning) l.fn.client l.client (client_turns l.transcript.turns);
   server : IsFreshServer l.fn.server → l.fn.transcript.turns ≡ [] →
       ServerFollows (either g.N.Mechanism.meaning g.K.Mechanism.meaning) l.fn.server l.server (server_turns l.transcript.turns);
-  client_history : l.fn.transcript.turns ≡ [] → ClientHistory (either g.N.Mechanism.meaning g.K.Mechanism.meaning) l.fn.client (client_turns l.transcript.turns) l.client;
+  client_history : l.fn.transcript.turns ≡ [] →
+      ClientHistory (either g.N.Mechanism.meaning g.K.Mechanism.meaning) (kdc_calls g.D.Kdc.told g.D.Kdc.asked g.D.Kdc.faults)
+      l.fn.client l.fn.kdc (client_turns l.transcript.turns) l.client l.kdc;
   server_history : l.fn.transcript.turns ≡ [] →
       ServerHistory (either g.N.Mechanism.meaning g.K.Mechanism.meaning) g.C.CredentialsProxy.told g.C.CredentialsProxy.faults g.C.CredentialsProxy.failing
       l.fn.server (server_turns l.transcript.turns) l.server;

@@ -4,6 +4,8 @@ use Rattle.sspi_delegate.specs.Edits.{MemoryLinkView, FollowsEdits}
 use Rattle.sspi_delegate.specs.declared.edit.Edit.{Edit}
 use Rattle.sspi_delegate.specs.Exactly.{Exactly}
 use Rattle.sspi_delegate.specs.Headline.{IsFresh, IsRun}
+use Rattle.sspi_delegate.specs.EndTurns.{client_turns}
+use Rattle.sspi_delegate.specs.History.{ClientPast}
 use Rattle.sspi_delegate.specs.Link.{StaysTold}
 use Rattle.sspi_delegate.specs.Messages.{newest_message, AnswerTold}
 use Rattle.sspi_delegate.specs.Refusals.{KdcStays}
@@ -12,7 +14,7 @@ use Rattle.sspi_tsreq.specs.declared.mode.CredSspMode.{CredSspMode}
 use Rattle.sspi_matching.specs.Matching.{delegated_as, ComesToOk}
 use Rattle.sspi_matching.proofs.ThreeTurns.{ok_three}
 use Rattle.sspi_matching.proofs.Outcome.{calm_by, comes_to_ok, cut_short, settled_so, Settled}
-use Rattle.sspi_run.specs.Exchange.{ntlm, told_entries, told_failing, table_faults, told_failures, kdc_faults}
+use Rattle.sspi_run.specs.Exchange.{ntlm, told_entries, told_failing, table_faults, told_failures, kdc_count, failing_calls}
 use Rattle.sspi_run.specs.Outcome.{user_identity, IsPlain}
 use Rattle.sspi_run.proofs.Plainly.{plain_match, plain_link, plain_proxy}
 use Rattle.sspi_run.proofs.exchange.meet.Goals as goal
@@ -49,7 +51,10 @@ returns-clause-exchange c ends =
       exchanged = ensures.exchanged fresh;
       refused = ensures.refused fresh;
       proxy = ensures.proxy;
-      kdc = subst (λ (kdc : ℕ). KdcStays told_failures kdc_faults kdc made.kdc) c.new-kdc.ensures ensures.kdc;
+      client_history = subst (λ (kdc : ℕ). ClientPast ntlm failing_calls client kdc answer (client_turns made.transcript.turns) made.client made.kdc)
+          c.new-kdc.ensures (ensures.client_history c.new-transcript.ensures);
+      server_history = ensures.server_history c.new-transcript.ensures;
+      kdc = subst (λ (kdc : ℕ). KdcStays told_failures kdc_count kdc made.kdc) c.new-kdc.ensures ensures.kdc;
       cause = subst (λ (link : MemoryLinkView). RunEnds link.log link.faults turns answer made.transcript.turns made.link.log made.link.faults) ends.link
           (ensures.cause c.new-transcript.ensures);
       exactly = subst (λ (link : MemoryLinkView). Exactly link.log turns answer made.transcript.turns made.link.log) ends.link
@@ -57,6 +62,7 @@ returns-clause-exchange c ends =
       still = subst (λ (link : MemoryLinkView). AnswerTold (Some link.edits) link.faults made.link.faults answer made.link.log (newest_message made.transcript.turns))
           ends.link ensures.still;
       none = ensures.none;
+      within = ensures.within;
     }
 
 pub returns-clause-outcome : goal.returns-clause-outcome
@@ -72,7 +78,7 @@ returns-clause-outcome c ends values =
     record { client_is = ends.client_fresh; server_is = ends.server_fresh; empty = empty } in
     let settles : (plain : IsPlain s) → Settled s.turns (delegated_as client.delegation (user_identity s)) answer =
     λ plain. settled_so ntlm_meaning told_entries table_faults told_failing client server ends.client_fresh ends.server_fresh
-    (plain_match s client server ends.client_named ends.server_named values plain) _ _ _ s.turns made.client made.server _ _ _ _ _
+    (plain_match s client server ends.client_named ends.server_named values plain) _ _ _ s.turns made.client made.server failing_calls _ _ _ _ _ _ _
     (plain_link s c.args.ends.link made.link.log made.link.faults ends.link plain) (ensures.cause empty) ensures.told ensures.still
     (ensures.client_history empty) (ensures.server_history empty)
     (calm_by _ _ _ (plain_proxy s server made.server.proxy.faults ends.server_named plain) ensures.proxy.calm) (ensures.gives fresh) in
