@@ -1,5 +1,5 @@
 use Rattle.sspi_credssp.specs.Context.{either}
-use Rattle.sspi_delegate.proofs.Asking.{kdc_replied, kdc_lost}
+use Rattle.sspi_delegate.proofs.Asking.{kdc_replied}
 use Rattle.sspi_delegate.proofs.Refusing.{resumed_refuses}
 use Rattle.sspi_delegate.proofs.ends.finish_turn.Goals as goal
 
