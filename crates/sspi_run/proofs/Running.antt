@@ -9,12 +9,13 @@ use Rattle.sspi_names.specs.declared.identity.AuthIdentity.{AuthIdentity}
 use Rattle.sspi_delegate.specs.declared.answer.DelegateError.TheVariants as errors
 use Rattle.sspi_matching.specs.Matching.{ComesToOk, IsCutShort}
 use Rattle.sspi_scenario.specs.declared.scenario.Scenario.{Scenario}
+use Rattle.sspi_scenario.specs.Reading.{IsReadWhole}
 use Rattle.sspi_scenario.specs.Scenario.{scenario_of}
 use Rattle.sspi_run.specs.declared.record.Record.{Record}
 use Rattle.sspi_run.specs.declared.said.Said.{Said}
 use Rattle.sspi_run.specs.declared.said.Said.TheVariants.{Exchanged, NoScenario, ReadFault, OtherWords, NoMemory}
 use Rattle.sspi_run.specs.Exchange.{answer_in}
-use Rattle.sspi_run.specs.Run.{Conducts, HasExchange, WroteLine, WroteOwed, IsUnlessWrite, IsUnlessFault, EndsPlainly, EndsText}
+use Rattle.sspi_run.specs.Run.{Conducts, IsJudged, HasExchange, WroteLine, WroteOwed, IsUnlessWrite, IsUnlessFault, EndsPlainly, EndsText}
 use Rattle.sspi_run.specs.Outcome.{IsPlain}
 use Rattle.sspi_run.specs.Said.{words_text, read_text, report_of, answer_status, said_status, said_text, kept_in, Written}
 use Rattle.sspi_run.specs.Words.{AreDelegate}
@@ -110,6 +111,19 @@ module _ (w w2 : Option (List ℕ)) (f f2 : ℕ) where
   status_reported said kept status is written small =
       let all = whole (said_status said) (said_text said) status (λ (e : status ≡ 4). omega (arith, e, small)) (λ (e : status ≡ 5). omega (arith, e, small)) written in
       reports said kept status is small all.0 all.1
+
+  judged_said : (left left2 : Option (List ℕ)) (said : Said) → IsJudged left left2 said → said_status said ≤ 2 → IsReadWhole left left2
+  judged_said left left2 (Exchanged r) judged small = judged
+  judged_said left left2 (NoScenario line) judged small = judged
+  judged_said left left2 ReadFault judged small = absurd (omega (arith, small))
+  judged_said left left2 OtherWords judged small = absurd (omega (arith, small))
+  judged_said left left2 NoMemory judged small = absurd (omega (arith, small))
+
+  pub status_whole : (left left2 : Option (List ℕ)) (said : Said) (status : ℕ) → IsJudged left left2 said → Written (said_status said) (said_text said) w w2 f f2 status → status ≤ 2 →
+      IsReadWhole left left2
+  status_whole left left2 said status judged written small =
+      let all = whole (said_status said) (said_text said) status (λ (e : status ≡ 4). omega (arith, e, small)) (λ (e : status ≡ 5). omega (arith, e, small)) written in
+      judged_said left left2 said judged (omega (arith, all.0, small))
 
 module _ {A : Type 0} (words : List (String A)) (before now : ℕ) where
   pub keeps_exchange : (left : Option (List ℕ)) (said : Said) (kept : Option Record) → kept ≡ kept_in said → Conducts words left before now said →

@@ -3,6 +3,7 @@ use Rattle.std.specs.Prelude.{◌≡◌, ◌≢◌, ℕ, ◌<◌, ◌≤◌, ◌
 use Rattle.sspi_ber.specs.Outside.{Rose, Wrote, WroteFront}
 use Rattle.sspi_delegate.specs.declared.answer.DelegateError.TheVariants.{InsufficientMemory}
 use Rattle.sspi_scenario.specs.declared.scenario.Scenario.{Scenario}
+use Rattle.sspi_scenario.specs.Reading.{IsReadWhole}
 use Rattle.sspi_scenario.specs.Scenario.{scenario_of}
 use Rattle.sspi_run.specs.declared.record.Record.{Record}
 use Rattle.sspi_run.specs.declared.said.Said.{Said}
@@ -27,6 +28,14 @@ Conducts words left before now (NoScenario line) = AreDelegate words × IfSome l
 Conducts words left before now ReadFault = AreDelegate words × Rose before now
 Conducts words left before now OtherWords = AreDelegate words → ⊥
 Conducts words left before now NoMemory = AreDelegate words
+
+-- what was read of the source where its text was judged: all of it, or one byte more than a text may have
+abbrev pub IsJudged : Option (List ℕ) → Option (List ℕ) → Said → Type 0
+IsJudged before after (Exchanged kept) = IsReadWhole before after
+IsJudged before after (NoScenario line) = IsReadWhole before after
+IsJudged before after ReadFault = Unit {0}
+IsJudged before after OtherWords = Unit {0}
+IsJudged before after NoMemory = Unit {0}
 
 -- what a text comes to
 abbrev pub CarriesOut : List ℕ → Said → Type 0

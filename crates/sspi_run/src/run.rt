@@ -1,8 +1,10 @@
-ghost use Rattle.std.specs.Prelude.{◌≡◌, ℕ, ◌≤◌, Ok, Err, IfSome, IsSomeAnd};
+ghost use Rattle.std.specs.Prelude.{◌≡◌, ℕ, ◌+◌, ◌≤◌, Ok, Err, IfSome, IsSomeAnd};
 ghost use Rattle.sspi_ber.specs.Outside.{Rose, Wrote};
 ghost use Rattle.sspi_run.specs.Exchange.{answer_in};
-ghost use Rattle.sspi_run.specs.Run.{Conducts, CarriesOut, SaysOf, HasExchange, WroteLine, WroteOwed, IsUnlessWrite, IsUnlessFault, EndsText};
+ghost use Rattle.sspi_run.specs.Run.{Conducts, IsJudged, CarriesOut, SaysOf, HasExchange, WroteLine, WroteOwed, IsUnlessWrite, IsUnlessFault, EndsText};
 ghost use Rattle.sspi_run.specs.Said.{words_text, read_text, report_of, answer_status, said_status, said_text, kept_in, Written};
+ghost use Rattle.sspi_scenario.specs.declared.reading.TheConstants.{TEXT_LIMIT};
+ghost use Rattle.sspi_scenario.specs.Reading.{IsReadWhole, TakesAtMost};
 ghost use Rattle.sspi_scenario.specs.Scenario.{scenario_of};
 ghost use Rattle.sspi_run.specs.Words.{AreDelegate};
 
@@ -34,6 +36,8 @@ pub fn run<S: Source, W: Sink>(
         (result.status ≡ answer_status (answer_in kept.outcome)) × Wrote (W.written sink.old) (W.written sink.new) (report_of kept)) }
     ensures write { result.status ≡ 4 → Rose (W.faults sink.old) (W.faults sink.new) }
     ensures owed { WroteOwed words.now (S.left source.old) (S.faults source.old) (S.faults source.new) result.kept (W.written sink.old) (W.written sink.new) }
+    ensures whole { result.status ≤ 2 → IsReadWhole (S.left source.old) (S.left source.new) }
+    ensures taken { TakesAtMost (TEXT_LIMIT + 1) (S.left source.old) (S.left source.new) }
     ensures statuses { result.status ≤ 6 }
     ensures source_faults { S.faults source.old ≤ S.faults source.new }
     ensures sink_faults { W.faults sink.old ≤ W.faults sink.new }
@@ -47,6 +51,8 @@ pub fn run<S: Source, W: Sink>(
 fn conduct<S: Source>(alloc: Global, words: &[String], source: &mut S) -> Said
     ensures conducts { Conducts words.now (S.left source.old) (S.faults source.old) (S.faults source.new) result }
     ensures unread { (AreDelegate words.now → ⊥) → source.new ≡ source.old }
+    ensures judged { IsJudged (S.left source.old) (S.left source.new) result }
+    ensures taken { TakesAtMost (TEXT_LIMIT + 1) (S.left source.old) (S.left source.new) }
     ensures faults { S.faults source.old ≤ S.faults source.new }
 {
     match command_of(words) {

@@ -37,20 +37,21 @@ reads_all (Some bytes) None text read end short = elim read [ ]
 reads_all (Some bytes) (Some []) text read end short = (rw (read, append-nil) refl, rw (read, append-nil) short)
 reads_all (Some bytes) (Some (b ∷ more)) text read end short = cc
 
+-- a call that gave nothing took nothing
+pub consumes_nothing : (left before after : Option (List ℕ)) (taken : List ℕ) (n : ℕ) (into : List ℕ) →
+    Consumes left before taken → Consumes before after (take n into) → n ≡ 0 → Consumes left after taken
+consumes_nothing None before after taken n into read last none = tt
+consumes_nothing (Some bytes) None after taken n into read last none = elim read [ ]
+consumes_nothing (Some bytes) (Some xs) None taken n into read last none = elim last [ ]
+consumes_nothing (Some bytes) (Some xs) (Some ys) taken zero into read last none = rw (read, last) refl
+consumes_nothing (Some bytes) (Some xs) (Some ys) taken (suc n) into read last none = cc
+
 -- and its last call gave nothing
 pub reads_to_end : (left before after : Option (List ℕ)) (text : Vec ℕ) (n : ℕ) (into : List ℕ) →
     Consumes left before text.items → Consumes before after (take n into) → n ≡ 0 → IsAtEnd after → length text.items ≤ TEXT_LIMIT →
     ReadsText left (Ok text)
 reads_to_end left before after text n into read last none end short =
     reads_all left after text (consumes_nothing left before after text.items n into read last none) end short
-  where
-    consumes_nothing : (left before after : Option (List ℕ)) (taken : List ℕ) (n : ℕ) (into : List ℕ) →
-        Consumes left before taken → Consumes before after (take n into) → n ≡ 0 → Consumes left after taken
-    consumes_nothing None before after taken n into read last none = tt
-    consumes_nothing (Some bytes) None after taken n into read last none = elim read [ ]
-    consumes_nothing (Some bytes) (Some xs) None taken n into read last none = elim last [ ]
-    consumes_nothing (Some bytes) (Some xs) (Some ys) taken zero into read last none = rw (read, last) refl
-    consumes_nothing (Some bytes) (Some xs) (Some ys) taken (suc n) into read last none = cc
 
 -- so much was taken, and so much more that came into the front of a longer room
 pub consumes_front : (a b c : Option (List ℕ)) (x : List ℕ) (n : ℕ) (into rest : List ℕ) →

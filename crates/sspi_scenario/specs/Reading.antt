@@ -1,7 +1,7 @@
 -- How the whole text of a source is read.
-use Rattle.std.specs.Prelude.{◌≡◌, ℕ, ◌<◌, ◌≤◌, List, length, Option, None, Some, Result, Ok, Err}
+use Rattle.std.specs.Prelude.{◌≡◌, ℕ, ◌+◌, ◌<◌, ◌≤◌, ◌⊎◌, List, length, Option, None, Some, Result, Ok, Err}
 use Rattle.std.specs.Global.{Vec}
-use Rattle.std.specs.Io.KnownBytes.{Consumes}
+use Rattle.std.specs.Io.KnownBytes.{Consumes, IsAtEnd}
 use Rattle.sspi_ber.specs.Outside.{Rose}
 use Rattle.sspi_scenario.specs.declared.reading.TextError.{TextError}
 use Rattle.sspi_scenario.specs.declared.reading.TextError.TheVariants.{TooLong, Failed, InsufficientMemory}
@@ -20,6 +20,23 @@ pub record TakesAtMost (most : ℕ) (before after : Option (List ℕ)) : Type 0 
   pub taken : List ℕ
   pub consumed : Consumes before after taken
   pub short : length taken ≤ most
+
+-- just so many bytes were taken of what was left
+pub record TakesJust (count : ℕ) (before after : Option (List ℕ)) : Type 0 where
+  pub taken : List ℕ
+  pub consumed : Consumes before after taken
+  pub counted : length taken ≡ count
+
+-- the source is at its end; or the first byte past the longest text was taken of it, and none after that
+abbrev pub IsReadWhole : Option (List ℕ) → Option (List ℕ) → Type 0
+IsReadWhole before after = IsAtEnd after ⊎ TakesJust (TEXT_LIMIT + 1) before after
+
+-- how far a source is read: to its end for its text, and to the first byte past the limit where it is too long
+abbrev pub ReadsSoFar : Option (List ℕ) → Option (List ℕ) → Result (Vec ℕ) TextError → Type 0
+ReadsSoFar before after (Ok text) = Consumes before after text.items × IsAtEnd after
+ReadsSoFar before after (Err TooLong) = TakesJust (TEXT_LIMIT + 1) before after
+ReadsSoFar before after (Err Failed) = Unit {0}
+ReadsSoFar before after (Err InsufficientMemory) = Unit {0}
 
 -- what reading says of the source's count of faults: it never falls, and a failure has it rise
 abbrev pub TextCause : ℕ → ℕ → Result (Vec ℕ) TextError → Type 0

@@ -1,5 +1,5 @@
 ghost use Rattle.std.specs.Prelude.{◌+◌, ◌<◌, ◌≤◌, length, IfOk};
-ghost use Rattle.sspi_scenario.specs.Reading.{ReadsText, TextCause, TakesAtMost};
+ghost use Rattle.sspi_scenario.specs.Reading.{ReadsText, ReadsSoFar, TextCause, TakesAtMost};
 
 use sspi_ber::Source;
 use std::alloc::Global;
@@ -27,6 +27,7 @@ pub fn read_text<S: Source>(alloc: Global, source: &mut S) -> Result<Vec<u8>, Te
     ensures text { ReadsText (S.left source.old) result }
     ensures short { IfOk result (λ text. length text.items ≤ TEXT_LIMIT) }
     ensures taken { TakesAtMost (TEXT_LIMIT + 1) (S.left source.old) (S.left source.new) }
+    ensures so_far { ReadsSoFar (S.left source.old) (S.left source.new) result }
     ensures cause { TextCause (S.faults source.old) (S.faults source.new) result }
 {
     let mut text = Vec::new(alloc);

@@ -9,7 +9,7 @@ fn answers(
     rt: &impl Abort,
     alloc: Global,
     words: &[String],
-    text: &str,
+    text: &[u8],
     status: u8,
     output: &[u8],
 ) {
@@ -22,15 +22,22 @@ fn answers(
 #[test]
 fn other_words(rt: HostRuntime) -> Result<(), Fail> {
     let alloc = rt.alloc();
-    answers(&rt, alloc, &[], ORDINARY, 6, b"error: words\n");
+    answers(&rt, alloc, &[], ORDINARY.as_bytes(), 6, b"error: words\n");
     let mut words = delegate(alloc)?;
     words.push(String::from_str(alloc, "delegate")?)?;
-    answers(&rt, alloc, &words, ORDINARY, 6, b"error: words\n");
+    answers(
+        &rt,
+        alloc,
+        &words,
+        ORDINARY.as_bytes(),
+        6,
+        b"error: words\n",
+    );
     answers(
         &rt,
         alloc,
         &words[..1],
-        "mode x\n",
+        b"mode x\n",
         2,
         b"error: scenario line 1\n",
     );
@@ -44,18 +51,26 @@ fn no_scenarios(rt: HostRuntime) -> Result<(), Fail> {
         &rt,
         alloc,
         &words,
-        "mode x\n",
+        b"mode x\n",
         2,
         b"error: scenario line 1\n",
     );
-    answers(&rt, alloc, &words, "", 2, b"error: scenario line 0\n");
+    answers(&rt, alloc, &words, b"", 2, b"error: scenario line 0\n");
     answers(
         &rt,
         alloc,
         &words,
-        "mode ntlm\n# user\n\nkeys 00\n",
+        b"mode ntlm\n# user\n\nkeys 00\n",
         2,
         b"error: scenario line 4\n",
+    );
+    answers(
+        &rt,
+        alloc,
+        &words,
+        b"mode x\n# \xff\n",
+        2,
+        b"error: scenario line 0\n",
     );
     Ok(())
 }

@@ -1,6 +1,6 @@
 use Rattle.std.proofs.Common.{ℕ, arith, length-append, length-drop}
 use Rattle.std.proofs.lemmas.List.{length-take}
-use Rattle.sspi_scenario.proofs.SourceTexts.{takes_on, takes_kept, consumes_front, front_is_short, reads_to_end, reads_too_long}
+use Rattle.sspi_scenario.proofs.SourceTexts.{takes_on, takes_kept, consumes_front, front_is_short, consumes_nothing, reads_to_end, reads_too_long}
 use Rattle.sspi_scenario.proofs.reading.read_text.Goals as goal
 
 pub returns-in_default-clause-taken : goal.returns-in_default-clause-taken
@@ -33,6 +33,16 @@ returns-then-count-eq0-clause-text g c =
     reads_to_end _ _ _ _ _ _ c.loop-room.invariant.read c.in-Ok.ensures.bytes.0 c.if-count-eq0.true
     (c.in-Ok.ensures.bytes.1 c.if-count-eq0.true (omega (arith, length-take {A = ℕ})))
     (omega arith)
+
+pub returns-then-count-eq0-clause-so_far : goal.returns-then-count-eq0-clause-so_far
+returns-then-count-eq0-clause-so_far g c = (
+  consumes_nothing _ _ _ _ _ _ c.loop-room.invariant.read c.in-Ok.ensures.bytes.0 c.if-count-eq0.true,
+  c.in-Ok.ensures.bytes.1 c.if-count-eq0.true (omega (arith, length-take {A = ℕ})),
+)
+
+pub returns-clause-so_far : goal.returns-clause-so_far
+returns-clause-so_far g c =
+    record { taken = _; consumed = c.loop-room.invariant.read; counted = omega (arith, c.loop-room.invariant.short) }
 
 pub returns-clause-taken : goal.returns-clause-taken
 returns-clause-taken g c = record { taken = _; consumed = c.loop-room.invariant.read; short = c.loop-room.invariant.short }
