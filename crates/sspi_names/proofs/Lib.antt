@@ -6,5 +6,6 @@ pub mod Joined
 pub mod New
 pub mod Parse
 pub mod Places
+pub mod SameValues
 pub mod Shown
 pub mod Spelled

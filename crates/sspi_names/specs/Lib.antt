@@ -8,5 +8,6 @@ pub mod Name
 pub mod Named
 pub mod Places
 pub mod Refusals
+pub mod Same
 pub mod Username
 pub mod Utf16

@@ -28,6 +28,40 @@ impl Model for KdcTable {
     ghost view = { λ table. table.entries.items };
 }
 
+impl PartialEq for KdcEntry {
+    ghost use Rattle.std.specs.Cmp.{partial_equiv_from_equiv};
+    ghost use Rattle.sspi_names.specs.Kdcs.{same_entry};
+    ghost use Rattle.sspi_names.specs.Same.{same_entry-equiv};
+
+    ghost eq = { same_entry };
+
+    ghost laws = { partial_equiv_from_equiv same_entry-equiv };
+
+    fn eq(&self, other: &KdcEntry) -> bool {
+        self.realm == other.realm && self.url == other.url
+    }
+}
+
+impl PartialEq for KdcTable {
+    ghost use Rattle.std.specs.Cmp.{partial_equiv_from_equiv};
+    ghost use Rattle.sspi_names.specs.Kdcs.{same_table};
+    ghost use Rattle.sspi_names.specs.Same.{same_table-equiv};
+
+    ghost eq = { same_table };
+
+    ghost laws = { partial_equiv_from_equiv same_table-equiv };
+
+    fn eq(&self, other: &KdcTable) -> bool {
+        self.entries == other.entries
+    }
+}
+
+impl Eq for KdcTable {
+    ghost use Rattle.sspi_names.specs.Same.{same_table-equiv};
+
+    ghost laws = { same_table-equiv };
+}
+
 impl KdcTable {
     ghost use Rattle.sspi_types.specs.Memory.{memory_error};
     ghost use Rattle.sspi_names.specs.Kdcs.{url_of};

@@ -9,7 +9,16 @@ ghost use Rattle.sspi_names.specs.declared.identity.AuthIdentity.{AuthIdentity};
 ghost use Rattle.sspi_names.specs.Name.{Name, IsName, parse_name, new_name, inner_of, name_eq, equals_ignoring_case};
 ghost use Rattle.sspi_names.specs.Grammar.{IsSpelled, IsSameName};
 ghost use Rattle.sspi_names.specs.Identity.{IsIdentity, AreBuffers, buffers_of, identity_of};
+ghost use Rattle.sspi_names.specs.Same.{ComparesValues};
 ghost use Rattle.sspi_names.specs.Utf16.{IsUtf16, units_of, text_of, bytes_le, decode_le};
+
+use crate::context_names::ContextNames;
+use crate::credentials::{Credentials, CredentialsBuffers};
+use crate::identity::{AuthIdentity, AuthIdentityBuffers, KeytabIdentity};
+use crate::kdc_table::KdcTable;
+use crate::network::NetworkRequest;
+use crate::username::Username;
+use crate::utf16::Utf16Text;
 
 /// A text is read as a name exactly where the grammar has it as that name.
 pub fn names_are_read_by_the_grammar()
@@ -42,6 +51,21 @@ pub fn ignoring_case_is_an_equivalence()
 pub fn equality_is_of_the_parts()
     ensures same { (a b : Name) → name_eq a b ≡ true → a ≡ b }
     ensures equal { (a b : Name) → a ≡ b → name_eq a b ≡ true }
+{}
+
+/// `==` at each type that holds texts or bytes says that the values are the same.
+#[tactic(auto, using(crate::proofs::SameValues::name_decided, crate::specs::Same::table_decided))]
+pub fn equality_is_of_values()
+    ensures texts { ComparesValues ⟦<Utf16Text as PartialEq>⟧.eq }
+    ensures names { ComparesValues ⟦<Username as PartialEq>⟧.eq }
+    ensures identities { ComparesValues ⟦<AuthIdentity as PartialEq>⟧.eq }
+    ensures buffers { ComparesValues ⟦<AuthIdentityBuffers as PartialEq>⟧.eq }
+    ensures keytabs { ComparesValues ⟦<KeytabIdentity as PartialEq>⟧.eq }
+    ensures credentials { ComparesValues ⟦<Credentials as PartialEq>⟧.eq }
+    ensures credentials_buffers { ComparesValues ⟦<CredentialsBuffers as PartialEq>⟧.eq }
+    ensures context_names { ComparesValues ⟦<ContextNames as PartialEq>⟧.eq }
+    ensures requests { ComparesValues ⟦<NetworkRequest as PartialEq>⟧.eq }
+    ensures tables { ComparesValues ⟦<KdcTable as PartialEq>⟧.eq }
 {}
 
 /// The buffers of an identity give it back.

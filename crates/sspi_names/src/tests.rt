@@ -171,6 +171,26 @@ fn texts_are_encoded(rt: HostRuntime) -> Result<(), Fail> {
     Ok(())
 }
 
+fn reads_as(rt: &impl Abort, alloc: Global, bytes: &[u8], text: &str) -> Result<(), Fail> {
+    let read = Utf16Text::from_bytes_le(alloc, bytes)?;
+    assert!(rt; read.to_string(alloc)?.as_str() == text);
+    assert!(rt; read.to_bytes_le(alloc)?.as_slice() == bytes);
+    Ok(())
+}
+
+// A high surrogate is one from D800 to DBFF, a low one from DC00 to DFFF.
+#[test]
+fn pairs_are_read(rt: HostRuntime) -> Result<(), Fail> {
+    let alloc = rt.alloc();
+    reads_as(&rt, alloc, &[0x00, 0xd8, 0x00, 0xdc], "\u{10000}")?;
+    reads_as(&rt, alloc, &[0x00, 0xd8, 0xff, 0xdf], "\u{103ff}")?;
+    reads_as(&rt, alloc, &[0xff, 0xdb, 0x00, 0xdc], "\u{10fc00}")?;
+    reads_as(&rt, alloc, &[0xff, 0xdb, 0xff, 0xdf], "\u{10ffff}")?;
+    reads_as(&rt, alloc, &[0x3d, 0xd8, 0x00, 0xde], "\u{1f600}")?;
+    reads_as(&rt, alloc, &[0xff, 0xd7, 0x00, 0xe0], "\u{d7ff}\u{e000}")?;
+    Ok(())
+}
+
 fn is_refused(rt: &impl Abort, alloc: Global, bytes: &[u8], error: Utf16Error) {
     assert!(rt; Utf16Text::from_bytes_le(alloc, bytes).err() == Some(error));
 }
@@ -187,6 +207,11 @@ fn broken_texts_are_refused(rt: HostRuntime) {
     is_refused(&rt, alloc, &[0x00, 0xd8, 0x61, 0x00], unpaired);
     is_refused(&rt, alloc, &[0x00, 0xdc, 0x00, 0xd8], unpaired);
     is_refused(&rt, alloc, &[0x00, 0xd8, 0x00, 0xd8, 0x00, 0xdc], unpaired);
+    is_refused(&rt, alloc, &[0xff, 0xdb], unpaired);
+    is_refused(&rt, alloc, &[0x00, 0xdc], unpaired);
+    is_refused(&rt, alloc, &[0x00, 0xd8, 0xff, 0xdb], unpaired);
+    is_refused(&rt, alloc, &[0x00, 0xd8, 0x00, 0xe0], unpaired);
+    is_refused(&rt, alloc, &[0x00, 0xd8, 0x00, 0xdc, 0x00, 0xdc], unpaired);
     is_refused(
         &rt,
         alloc,
@@ -224,6 +249,78 @@ fn identities_become_buffers_and_back(rt: HostRuntime) -> Result<(), Fail> {
     let refusal = AuthIdentity::from_buffers(rt.alloc(), &mixed).err();
     assert!(rt; refusal == Some(Error::new(ErrorKind::InvalidParameter, Reason::UserName)));
     Ok(())
+}
+
+fn are_equal(
+    rt: &impl Abort,
+    alloc: Global,
+    first: &str,
+    second: &str,
+    same: bool,
+) -> Result<(), Fail> {
+    let a = Username::parse(alloc, first)?;
+    let b = Username::parse(alloc, second)?;
+    assert!(rt; (a == b) == same);
+    Ok(())
+}
+
+// Equality looks at the case, and at nothing but the form and the two parts.
+#[test]
+fn equal_names(rt: HostRuntime) -> Result<(), Fail> {
+    let alloc = rt.alloc();
+    are_equal(&rt, alloc, "DOM\\ann", "DOM\\ann", true)?;
+    are_equal(&rt, alloc, "\\ann", "ann", true)?;
+    are_equal(&rt, alloc, "DOM\\ann", "dom\\ann", false)?;
+    are_equal(&rt, alloc, "DOM\\ann", "DOM\\Ann", false)?;
+    are_equal(&rt, alloc, "DOM\\ann", "ann", false)?;
+    are_equal(&rt, alloc, "ann@DOM", "DOM\\ann", false)?;
+    Ok(())
+}
+
+fn same_identity(alloc: Global, name: &str, password: &str) -> Result<bool, UsernameError> {
+    let ann = identity(alloc, "DOM\\ann", "pw")?;
+    Ok(identity(alloc, name, password)? == ann)
+}
+
+fn same_buffers(
+    alloc: Global,
+    user: &str,
+    domain: &str,
+    password: &str,
+) -> Result<bool, AllocError> {
+    let ann = buffers(alloc, "ann", "DOM", "pw")?;
+    Ok(buffers(alloc, user, domain, password)? == ann)
+}
+
+// A value differs from one that has another in any of its fields.
+#[test]
+fn equal_identities(rt: HostRuntime) -> Result<(), Fail> {
+    let alloc = rt.alloc();
+    assert!(rt; same_identity(alloc, "DOM\\ann", "pw")?);
+    assert!(rt; !same_identity(alloc, "DOM\\ann", "PW")?);
+    assert!(rt; !same_identity(alloc, "DOM\\bob", "pw")?);
+    assert!(rt; same_buffers(alloc, "ann", "DOM", "pw")?);
+    assert!(rt; !same_buffers(alloc, "DOM", "ann", "pw")?);
+    assert!(rt; !same_buffers(alloc, "ann", "DOM", "")?);
+    Ok(())
+}
+
+fn table(alloc: Global, realm: &str, url: &str) -> Option<KdcTable> {
+    let mut table = KdcTable::new(alloc);
+    table.push("A", "tcp://a").ok()?;
+    table.push(realm, url).ok()?;
+    Some(table)
+}
+
+fn same_table(alloc: Global, realm: &str, url: &str) -> bool {
+    table(alloc, realm, url) == table(alloc, "B", "tcp://b")
+}
+
+#[test]
+fn equal_tables(rt: HostRuntime) {
+    assert!(rt; same_table(rt.alloc(), "B", "tcp://b"));
+    assert!(rt; !same_table(rt.alloc(), "b", "tcp://b"));
+    assert!(rt; !same_table(rt.alloc(), "B", "udp://b"));
 }
 
 #[test]
