@@ -87,7 +87,7 @@ some_fault : {A : Type 0} (r : Read A) (kind : Fault) → fault_of r ≡ Some ki
 some_fault (Ok x) kind e = absurd cc
 some_fault (Err other) kind e = cc
 
-fault_is : {A : Type 0} (r : Read A) (kind : Fault) → r ≡ Err kind → fault_of r ≡ Some kind
+pub fault_is : {A : Type 0} (r : Read A) (kind : Fault) → r ≡ Err kind → fault_of r ≡ Some kind
 fault_is {A} r kind e = ap (λ (z : Read A). fault_of z) e
 
 pub body_stays : (body more : List ℕ) → body_fault body ≡ Some Invalid → body_fault (body ++ more) ≡ Some Invalid

@@ -8,5 +8,8 @@ pub mod RequestMatch
 pub mod Capped
 pub mod FromBuffer
 pub mod RoundTrip
+pub mod EarlyBack
 pub mod Faults
+pub mod Fronts
+pub mod Tails
 pub mod Ranges

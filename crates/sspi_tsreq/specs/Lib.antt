@@ -7,6 +7,7 @@ pub mod Value
 pub mod Reading
 pub mod Grammar
 pub mod Answer
+pub mod Settled
 pub mod Spelling
 pub mod Size
 pub mod Header

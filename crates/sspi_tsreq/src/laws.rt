@@ -4,7 +4,8 @@ ghost use Rattle.std.specs.Prelude.{◌≡◌, ℕ, ◌<◌, List, ◌∷◌, �
 ghost use Rattle.sspi_ber.specs.Fault.{Ended, Invalid, zeros};
 ghost use Rattle.sspi_ber.specs.Forms.{IsLength};
 ghost use Rattle.sspi_tsreq.specs.Answer.{fault, body_fault};
-ghost use Rattle.sspi_tsreq.specs.Grammar.{IsRequest};
+ghost use Rattle.sspi_tsreq.specs.Grammar.{IsBody, IsRequest};
+ghost use Rattle.sspi_tsreq.specs.Settled.{IsNoTag, IsSettled};
 ghost use Rattle.sspi_tsreq.specs.Spelling.{carried, fits, spelled};
 ghost use Rattle.sspi_tsreq.specs.Value.{IsRequestValue};
 ghost use Rattle.sspi_tsreq.specs.declared.request.TsRequest.{TsRequest};
@@ -33,6 +34,18 @@ pub fn carried_is_spelled_again()
 /// Bytes begin with at most one request.
 pub fn one_is_read()
     ensures { (bytes : List ℕ) (r s : TsRequest) (k j : ℕ) → IsRequest bytes r k → IsRequest bytes s j → (r ≡ s) × (k ≡ j) }
+{}
+
+/// A request is read as the same whatever follows it, and from its own bytes alone.
+#[tactic(auto, using(crate::proofs::RoundTrip::more_request, crate::proofs::Fronts::alone_request))]
+pub fn what_follows_is_ignored()
+    ensures followed { (bytes more : List ℕ) (r : TsRequest) (count : ℕ) → IsRequest bytes r count → IsRequest (bytes ++ more) r count }
+    ensures alone { (bytes : List ℕ) (r : TsRequest) (count : ℕ) → IsRequest bytes r count → IsRequest (take count bytes) r count }
+{}
+
+/// A request that is cut anywhere is not read, and its fault is the end.
+pub fn cut_request_has_ended()
+    ensures { (bytes : List ℕ) (r : TsRequest) (count j : ℕ) → IsRequest bytes r count → j < count → fault (take j bytes) ≡ Some Ended }
 {}
 
 /// No proper front of a spelling is read.
@@ -68,4 +81,17 @@ pub fn invalid_is_final()
 #[tactic(auto, using(crate::proofs::Faults::body_settles))]
 pub fn end_is_settled()
     ensures { (body : List ℕ) → (count : ℕ) × (body_fault (body ++ zeros count) ≡ Some Ended → ⊥) }
+{}
+
+/// A byte behind the last field with which no field begins hides all that follows it in the content.
+#[tactic(auto, using(crate::proofs::Tails::tail_ignored))]
+pub fn tail_is_ignored()
+    ensures { (body more : List ℕ) (r : TsRequest) (byte : ℕ) → IsNoTag byte → IsBody body r → IsBody (body ++ byte ∷ more) r }
+{}
+
+/// Enough zeros behind any content settle it for good: one and the same request is read whatever follows, or the content is
+/// refused as `InvalidData` whatever follows.
+#[tactic(auto, using(crate::proofs::Tails::settled))]
+pub fn end_is_settled_for_good()
+    ensures { (body : List ℕ) → (count : ℕ) × IsSettled (body ++ zeros count) }
 {}

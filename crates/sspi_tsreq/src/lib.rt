@@ -16,6 +16,7 @@ pub mod creds_laws;
 mod creds_reading;
 mod creds_writing;
 pub mod early;
+pub mod early_laws;
 pub mod laws;
 pub mod mode;
 mod reading;
