@@ -173,6 +173,67 @@ fn refused_structures(rt: HostRuntime) {
     );
 }
 
+/// The short credentials with another byte at one place.
+fn damaged(rt: &impl Abort, alloc: Global, at: usize, byte: u8) -> Result<(), AllocError> {
+    let mut text = SHORT.to_vec(alloc)?;
+    if let Some(place) = text.get_mut(at) {
+        *place = byte;
+    }
+    assert!(rt; text.as_slice() != SHORT);
+    refuses(rt, alloc, &text, ErrorKind::InvalidToken);
+    Ok(())
+}
+
+// Another tag at each place of one.
+#[test]
+fn damaged_tags(rt: HostRuntime) -> Result<(), Fail> {
+    let alloc = rt.alloc();
+    damaged(&rt, alloc, 0, 0x31)?;
+    damaged(&rt, alloc, 2, 0xa1)?;
+    damaged(&rt, alloc, 4, 0x04)?;
+    damaged(&rt, alloc, 7, 0xa0)?;
+    damaged(&rt, alloc, 9, 0x05)?;
+    damaged(&rt, alloc, 11, 0x31)?;
+    damaged(&rt, alloc, 13, 0xa1)?;
+    damaged(&rt, alloc, 15, 0x02)?;
+    damaged(&rt, alloc, 17, 0xa2)?;
+    damaged(&rt, alloc, 19, 0x05)?;
+    damaged(&rt, alloc, 23, 0xa1)?;
+    damaged(&rt, alloc, 25, 0x05)?;
+    Ok(())
+}
+
+// A length that has no form, or that passes what the structure round it has.
+#[test]
+fn damaged_lengths(rt: HostRuntime) -> Result<(), Fail> {
+    let alloc = rt.alloc();
+    for at in [1usize, 3, 5, 8, 10, 12, 14, 16, 18, 20, 24, 26] {
+        damaged(&rt, alloc, at, 0x80)?;
+        damaged(&rt, alloc, at, 0x83)?;
+        damaged(&rt, alloc, at, 0x7f)?;
+    }
+    // One byte too few for what stands inside: the bytes behind are not taken.
+    damaged(&rt, alloc, 3, 0x02)?;
+    damaged(&rt, alloc, 8, 0x13)?;
+    damaged(&rt, alloc, 10, 0x11)?;
+    damaged(&rt, alloc, 12, 0x0f)?;
+    damaged(&rt, alloc, 14, 0x01)?;
+    damaged(&rt, alloc, 18, 0x03)?;
+    damaged(&rt, alloc, 24, 0x03)?;
+    // The first byte of the number decides.
+    damaged(&rt, alloc, 6, 0x00)?;
+    damaged(&rt, alloc, 6, 0xff)?;
+    Ok(())
+}
+
+// A front is never read.
+#[test]
+fn cut_credentials(rt: HostRuntime) {
+    for len in 0..SHORT.len() {
+        refuses(&rt, rt.alloc(), &SHORT[..len], ErrorKind::InvalidToken);
+    }
+}
+
 #[test]
 fn refused_texts(rt: HostRuntime) {
     // a text of one byte

@@ -1,0 +1,70 @@
+use crate::tests::{ERROR_CODE, reads};
+use crate::*;
+use sspi_ber::{FaultySink, FaultySource, SliceSource, WireKind};
+use std::alloc::Global;
+use std::process::Abort;
+use std::test::Fail;
+
+fn measures(rt: &impl Abort, bytes: &[u8], size: usize, rest: &[u8]) {
+    let mut source = SliceSource::new(bytes);
+    assert_eq!(rt; TsRequest::read_length(&mut source), Ok(size));
+    assert!(rt; source.rest() == rest);
+}
+
+fn measures_nothing(rt: &impl Abort, bytes: &[u8]) {
+    let size = TsRequest::read_length(&mut SliceSource::new(bytes));
+    assert_eq!(rt; size, Err(WireKind::UnexpectedEof));
+}
+
+// The header is taken, the content stays. Each fault of the header is the end.
+#[test]
+fn whole_lengths(rt: HostRuntime) {
+    let bytes = [0x30, 0x81, 0x05, 0xa0, 0x03, 0x02, 0x01, 0x06];
+    reads(&rt, rt.alloc(), &bytes, &TsRequest::default());
+    measures(&rt, &bytes, 8, &[0xa0, 0x03, 0x02, 0x01, 0x06]);
+    measures(&rt, &[0x30, 0x05], 7, &[]);
+    measures(&rt, &[0x30, 0x82, 0xff, 0xfb, 0xa0], 65535, &[0xa0]);
+    measures_nothing(&rt, &[]);
+    measures_nothing(&rt, &[0x31, 0x05]);
+    measures_nothing(&rt, &[0x30]);
+    measures_nothing(&rt, &[0x30, 0x80, 0x05]);
+    measures_nothing(&rt, &[0x30, 0x81]);
+    measures_nothing(&rt, &[0x30, 0x82, 0x01]);
+    measures_nothing(&rt, &[0x30, 0x82, 0xff, 0xfc]);
+    measures_nothing(&rt, &[0x30, 0x83, 0x00, 0x00, 0x05]);
+}
+
+fn length_fails_at(rt: &impl Abort, call: u64) {
+    let mut source = FaultySource::new(&[0x30, 0x81, 0x05, 0xa0], call);
+    let size = TsRequest::read_length(&mut source);
+    assert_eq!(rt; size, Err(WireKind::ReadFault));
+}
+
+// A source that fails at each byte of the header.
+#[test]
+fn failing_sources(rt: HostRuntime) {
+    length_fails_at(&rt, 0);
+    length_fails_at(&rt, 1);
+    length_fails_at(&rt, 2);
+}
+
+fn writing_fails_at(rt: &impl Abort, alloc: Global, request: &TsRequest, call: u64) {
+    let mut sink = FaultySink::new(alloc, call);
+    let written = request.encode_ts_request(&mut sink);
+    assert_eq!(rt; written, Err(WireKind::WriteFault));
+    assert!(rt; sink.written().len() < ERROR_CODE.len());
+    assert!(rt; ERROR_CODE.starts_with(sink.written()));
+}
+
+// A sink that fails has a front of the spelling.
+#[test]
+fn failing_sinks(rt: HostRuntime) -> Result<(), Fail> {
+    let request = TsRequest::from_buffer(rt.alloc(), ERROR_CODE)
+        .ok()
+        .ok_or("refused")?;
+    writing_fails_at(&rt, rt.alloc(), &request, 0);
+    writing_fails_at(&rt, rt.alloc(), &request, 1);
+    writing_fails_at(&rt, rt.alloc(), &request, 2);
+    writing_fails_at(&rt, rt.alloc(), &request, 5);
+    Ok(())
+}
