@@ -10,6 +10,7 @@ pub mod Credentials
 pub mod ErrorRequest
 pub mod Exchange
 pub mod Noted
+pub mod PackageName
 pub mod Proxy
 pub mod PublicKey
 pub mod Requests

@@ -4,6 +4,7 @@ ghost use Rattle.sspi_mech.specs.Calls.{step_args, accept_args, no_counts, one_s
 ghost use Rattle.sspi_mech.specs.Calls.{ToAcquire, ToName, ToIdentify, ToComplete, ToSeal, ToUnseal};
 ghost use Rattle.sspi_mech.specs.Answers.{answer_of};
 ghost use Rattle.sspi_credssp.specs.Context.{either, has_password, ForClient, ForServer};
+ghost use Rattle.sspi_credssp.specs.PackageName.{package_name_of};
 
 use crate::mode::{ClientMode, ServerMode};
 use sspi_mech::{
@@ -71,7 +72,9 @@ impl<N: Mechanism, K: Mechanism> SspiContext<N, K> {
     }
 
     /// The name of the package in hand.
-    pub fn package_name(&self) -> &'static str {
+    pub fn package_name(&self) -> &'static str
+        ensures { result.now ≡ package_name_of self.now }
+    {
         match self {
             SspiContext::Ntlm(_) => "NTLM",
             SspiContext::Kerberos(_) => "Kerberos",

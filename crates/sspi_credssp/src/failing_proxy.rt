@@ -1,4 +1,5 @@
-ghost use Rattle.std.specs.Prelude.{◌≡◌, None};
+ghost use Rattle.std.specs.Prelude.{◌≡◌, None, Err};
+ghost use Rattle.sspi_credssp.specs.Proxy.{counted_on, IsList, LookUpCause};
 
 use crate::proxy::{CredentialsProxy, ProxyError};
 use sspi_names::{AuthIdentity, Username};
@@ -36,7 +37,11 @@ impl CredentialsProxy for FailingProxy {
 
     ghost faults = { λ faults. faults };
 
-    fn auth_data_by_user(&mut self, _username: &Username) -> Result<AuthIdentity, ProxyError> {
+    fn auth_data_by_user(&mut self, _username: &Username) -> Result<AuthIdentity, ProxyError>
+        ensures failed { result ≡ Err ProxyError.Failed }
+        ensures count { self.new ≡ counted_on self.old }
+        ensures cause { LookUpCause self.old self.new result }
+    {
         self.faults = self.faults.saturating_add(1);
         Err(ProxyError::Failed)
     }
@@ -44,12 +49,22 @@ impl CredentialsProxy for FailingProxy {
     fn auth_data_candidates_by_user(
         &mut self,
         _username: &Username,
-    ) -> Result<Vec<AuthIdentity>, ProxyError> {
+    ) -> Result<Vec<AuthIdentity>, ProxyError>
+        ensures failed { result ≡ Err ProxyError.Failed }
+        ensures count { self.new ≡ counted_on self.old }
+        ensures list { IsList result }
+        ensures cause { LookUpCause self.old self.new result }
+    {
         self.faults = self.faults.saturating_add(1);
         Err(ProxyError::Failed)
     }
 
-    fn auth_data(&mut self) -> Result<Vec<AuthIdentity>, ProxyError> {
+    fn auth_data(&mut self) -> Result<Vec<AuthIdentity>, ProxyError>
+        ensures failed { result ≡ Err ProxyError.Failed }
+        ensures count { self.new ≡ counted_on self.old }
+        ensures list { IsList result }
+        ensures cause { LookUpCause self.old self.new result }
+    {
         self.faults = self.faults.saturating_add(1);
         Err(ProxyError::Failed)
     }

@@ -1,0 +1,10 @@
+-- The name of the package in hand.
+use Rattle.std.specs.Prelude.{ℕ, List}
+use Rattle.sspi_types.specs.declared.package.SecurityPackageType.TheVariants as packages
+use Rattle.sspi_types.specs.PackageNames.{package_text}
+use Rattle.sspi_credssp.specs.declared.context.SspiContext.{SspiContext}
+use Rattle.sspi_credssp.specs.declared.context.SspiContext.TheVariants as hands
+
+abbrev pub package_name_of : {N K : Type 0} → SspiContext N K → List ℕ
+package_name_of (hands.Ntlm it) = package_text packages.Ntlm
+package_name_of (hands.Kerberos it) = package_text packages.Kerberos
