@@ -32,8 +32,6 @@ mod server_refusal;
 pub mod server_state;
 pub mod state;
 pub mod table_proxy;
-#[cfg(test)]
-mod tests;
 mod token;
 
 pub use acts::Acts;

@@ -1,5 +1,10 @@
+mod asks;
 mod client_refusals;
 mod delegation;
 mod ends;
+mod peers;
+mod proxies;
 mod server_refusals;
+mod suspension;
 mod values;
+mod versions;
