@@ -2,6 +2,7 @@ mod asks;
 mod client_refusals;
 mod delegation;
 mod ends;
+mod kdc;
 mod peers;
 mod proxies;
 mod server_refusals;
