@@ -1,5 +1,5 @@
 -- What it means that two names are equal but for case.
-use Rattle.std.proofs.Common.{◌≡◌, ℕ, List, Bool, true, false, refl, sym, ap, ◌∙◌}
+use Rattle.std.proofs.Common.{◌≡◌, true, false, refl, sym, ap, ◌∙◌}
 use Rattle.std.proofs.lemmas.Bool.{and_parts, and_from, false≢true}
 use Rattle.std.proofs.lemmas.Slice.Eq.{bytes_eq-Decides}
 use Rattle.sspi_names.specs.Format.{same_format}

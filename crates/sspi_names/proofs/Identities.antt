@@ -1,9 +1,9 @@
 -- An identity and its buffers: each gives the other.
-use Rattle.std.proofs.Common.{◌≡◌, ℕ, ◌<◌, List, [], ◌∷◌, ◌++◌, Bool, true, false, Option, Some, None, option_map, refl, sym, ap, ◌∙◌, subst, arith}
+use Rattle.std.proofs.Common.{◌≡◌, ℕ, ◌<◌, List, [], ◌∷◌, ◌++◌, Some, refl, sym, ap, ◌∙◌, subst, arith}
 use Rattle.std.specs.Str.{IsUtf8}
 use Rattle.std.proofs.lemmas.Str.{IsUtf8-append, IsUtf8-from_ascii, IsUtf8-nil}
 use Rattle.std.proofs.lemmas.Str.Ascii.{IsAscii-cons, IsAscii-nil}
-use Rattle.sspi_names.specs.Name.{Name, IsName, IsAllowed, inner_of, shown, new_name, parse_name, at_sign, backslash}
+use Rattle.sspi_names.specs.Name.{Name, IsName, IsAllowed, inner_of, shown, new_name, at_sign, backslash}
 use Rattle.sspi_names.specs.Utf16.{units_of, text_of, IsUtf16}
 use Rattle.sspi_names.specs.Identity.{user_text, domain_text, buffers_of, identity_of, IsIdentity, AreBuffers}
 use Rattle.sspi_names.specs.declared.format.UserNameFormat.{UserNameFormat}

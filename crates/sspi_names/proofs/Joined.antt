@@ -1,19 +1,16 @@
 -- A name and the text that shows it: each gives the other.
-use Rattle.std.proofs.Common.{◌≡◌, ◌≢◌, ◌⊎◌, inl, inr, ℕ, zero, suc, ◌+◌, ◌-◌, ◌<◌, ◌≤◌, List, [], ◌∷◌, ◌++◌, Bool, true, false, ◌||◌, Option, Some, None, length, get_or, take, drop, option_map, refl, sym, ap, ◌∙◌, subst, arith}
+use Rattle.std.proofs.Common.{◌≡◌, ◌≢◌, ℕ, suc, ◌+◌, ◌-◌, ◌<◌, List, [], ◌∷◌, ◌++◌, false, Some, length, get_or, take, drop, refl, sym, ap, ◌∙◌, subst, arith}
 use Rattle.std.specs.List.{list_any}
-use Rattle.std.specs.Str.{IsUtf8}
 use Rattle.std.proofs.lemmas.Bool.{or_from, or_parts}
 use Rattle.std.proofs.lemmas.List.{take_at, drop_at, get_or_at, get_or_append_left, get_or-append-add, length-append, append_assoc}
 use Rattle.std.proofs.lemmas.List.Folds.{list_any-append}
-use Rattle.std.proofs.lemmas.Str.{IsUtf8-append, IsUtf8-encode, IsUtf8-nil}
-use Rattle.sspi_names.specs.Places.{IsNowhere, IsLast, IsFirst}
-use Rattle.sspi_names.specs.Name.{Name, IsName, IsAllowed, principal, down_level, parse_name, new_name, inner_of, shown, has_at_sign, has_backslash, has_separator, at_sign, backslash}
+use Rattle.sspi_names.specs.Places.{IsLast, IsFirst}
+use Rattle.sspi_names.specs.Name.{Name, IsName, IsAllowed, principal, down_level, parse_name, new_name, inner_of, shown, has_backslash, has_separator, at_sign, backslash}
 use Rattle.sspi_names.specs.declared.format.UserNameFormat.{UserNameFormat}
 use Rattle.sspi_names.specs.declared.format.UserNameFormat.TheVariants.{UserPrincipalName, DownLevelLogonName}
-use Rattle.sspi_names.proofs.Places.{is, nowhere-any, any-nowhere}
+use Rattle.sspi_names.proofs.Places.{is, any-nowhere}
 use Rattle.sspi_names.proofs.Parse.{principal_parsed, qualified_parsed, bare_parsed}
 use Rattle.sspi_names.proofs.New.{qualified_name}
-use Rattle.sspi_names.proofs.Shown.{shown_qualified}
 
 module _ (c : ℕ) (xs ys : List ℕ) where
   within : length xs < length (xs ++ c ∷ ys)

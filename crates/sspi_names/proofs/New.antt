@@ -1,8 +1,8 @@
 -- What `new_name` gives.
-use Rattle.std.proofs.Common.{◌≡◌, ℕ, ◌<◌, List, [], ◌∷◌, Bool, true, false, Option, Some, None, Result, Ok, Err, length, unwrap_or, refl, sym, ap, ◌∙◌, arith}
+use Rattle.std.proofs.Common.{◌≡◌, ℕ, ◌<◌, List, [], ◌∷◌, true, false, Option, Some, None, length, unwrap_or, refl, arith}
 use Rattle.std.specs.Option.{option_copied}
 use denote.Ref.{Bor}
-use Rattle.sspi_names.specs.Name.{Name, down_level, parse_name, new_name, has_separator}
+use Rattle.sspi_names.specs.Name.{down_level, parse_name, new_name, has_separator}
 
 pub bare_name : (account domain : List ℕ) → length domain ≡ 0 → new_name account domain ≡ parse_name account
 unfolding new_name

@@ -1,14 +1,14 @@
 -- What `parse_name` gives, from where the separators stand.
-use Rattle.std.proofs.Common.{◌≡◌, ◌≢◌, ℕ, zero, suc, ◌+◌, ◌<◌, ◌≤◌, List, [], ◌∷◌, ◌++◌, Bool, true, false, ◌||◌, cond, Option, Some, None, length, get_or, take, drop, refl, sym, ap, ◌∙◌, subst, arith}
-use Rattle.std.specs.List.{list_any, before_first, after_first, before_last, after_last}
+use Rattle.std.proofs.Common.{◌≡◌, ◌≢◌, ℕ, ◌+◌, ◌<◌, List, [], true, false, Some, None, length, get_or, take, drop, refl, sym, ap, ◌∙◌, subst, arith}
+use Rattle.std.specs.List.{list_any}
 use Rattle.std.specs.Str.{IsUtf8}
 use Rattle.std.proofs.lemmas.Bool.{or_from, eq-eqb}
-use Rattle.std.proofs.lemmas.List.{get_or-take, get_or-drop, length-take, length-drop, length-take-le}
+use Rattle.std.proofs.lemmas.List.{get_or-take, get_or-drop, length-take, length-drop}
 use Rattle.std.proofs.lemmas.List.Folds.{list_any_at}
 use Rattle.std.proofs.lemmas.Str.{IsUtf8-nil, IsUtf8-take, IsUtf8-drop, IsCharBoundary-before_ascii, IsCharBoundary-after_ascii}
-use Rattle.sspi_names.specs.Places.{IsNowhere, IsLast, IsFirst}
-use Rattle.sspi_names.specs.Name.{Name, IsName, IsAllowed, principal, down_level, parse_name, has_at_sign, has_backslash, has_separator, at_sign, backslash, is_at_sign, is_backslash}
-use Rattle.sspi_names.specs.Username.{name_at, IsPlaced, IsHeld, IsSplit}
+use Rattle.sspi_names.specs.Places.{IsLast, IsFirst}
+use Rattle.sspi_names.specs.Name.{IsName, principal, down_level, parse_name, has_at_sign, has_backslash, at_sign, backslash}
+use Rattle.sspi_names.specs.Username.{IsSplit}
 use Rattle.sspi_names.specs.declared.shape.Shape.TheVariants.{Principal, Qualified, Bare}
 use Rattle.sspi_names.proofs.Places.{is, nowhere-any, any-nowhere, last_at, first_at}
 

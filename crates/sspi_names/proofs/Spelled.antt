@@ -1,15 +1,13 @@
 -- `parse_name` reads exactly the grammar of names.
-use Rattle.std.proofs.Common.{◌≡◌, ◌⊎◌, inl, inr, ℕ, ◌+◌, ◌<◌, List, [], ◌∷◌, ◌++◌, Bool, true, false, ◌||◌, cond, Option, Some, None, length, get_or, take, drop, refl, sym, ap, ◌∙◌, subst, arith}
+use Rattle.std.proofs.Common.{◌≡◌, ◌⊎◌, inl, inr, ℕ, ◌+◌, List, [], ◌∷◌, Bool, true, false, ◌||◌, cond, Option, Some, None, take, drop, refl, sym, ap, ◌∙◌, subst}
 use Rattle.std.specs.Str.{IsUtf8}
-use Rattle.std.specs.List.{list_any}
 use Rattle.std.proofs.lemmas.Bool.{cases_Bool, or_from, or_parts}
-use Rattle.std.proofs.lemmas.Str.{IsUtf8-nil}
 use Rattle.sspi_names.specs.Name.{Name, IsName, IsAllowed, principal, down_level, parse_name, new_name, has_at_sign, has_backslash, has_separator, at_sign, backslash}
 use Rattle.sspi_names.specs.Grammar.{IsForm, IsSpelled}
 use Rattle.sspi_names.specs.Places.{IsLast, IsFirst}
 use Rattle.sspi_names.specs.declared.format.UserNameFormat.{UserNameFormat}
 use Rattle.sspi_names.specs.declared.format.UserNameFormat.TheVariants.{UserPrincipalName, DownLevelLogonName}
-use Rattle.sspi_names.proofs.Places.{is, last_place, first_place}
+use Rattle.sspi_names.proofs.Places.{last_place, first_place}
 use Rattle.sspi_names.proofs.Parse.{mixed, bare_parsed, principal_parsed, qualified_parsed, twice_parsed, none-take, none-drop, none-before, none-after, principal_split, qualified_name_at, bare_split}
 use Rattle.sspi_names.proofs.Shown.{around}
 use Rattle.sspi_names.proofs.Joined.{principal_back, qualified_back}

@@ -1,11 +1,10 @@
 -- Equality that is equality of the values, and the tables of KDCs as an instance: the proofs that the impls of `Eq` cite,
 -- which are to stand here.
-use Rattle.std.proofs.Common.{◌≡◌, ℕ, List, Bool, true, false, ◌&&◌, refl, sym, ap, ◌∙◌, subst}
+use Rattle.std.proofs.Common.{◌≡◌, ℕ, List, Bool, true, refl, sym, ◌∙◌, subst}
 use Rattle.std.proofs.lemmas.Bool.{and_parts, and_from}
 use Rattle.std.specs.Bool.{Decides}
 use Rattle.std.specs.Cmp.{IsEquivalence, decided}
 use Rattle.std.specs.Cmp.Lexicographic.{bytes_decides, pointwise_decides}
-use Rattle.std.specs.Str.{bytes_eq}
 use Rattle.sspi_names.specs.Kdcs.{same_entry, same_table}
 use Rattle.sspi_names.specs.declared.kdc_table.KdcEntry.{KdcEntry}
 

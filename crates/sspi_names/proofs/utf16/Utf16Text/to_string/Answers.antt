@@ -1,4 +1,4 @@
-use Rattle.std.proofs.Common.{rules, arith}
+use Rattle.std.proofs.Common.{rules}
 use Rattle.sspi_names.specs.Utf16.{text_of}
 use Rattle.sspi_names.proofs.utf16.Utf16Text.to_string.Goals as goal
 
