@@ -74,7 +74,7 @@ impl<N, K> Model for CredSspClient<N, K> {
 impl<N, K> CredSspClient<N, K> {
     ghost use Rattle.sspi_credssp.specs.Client.{IsFreshClient};
 
-    /// A client of version 6.
+    /// A client of version 6; else as `new_with_version`.
     pub fn new(
         alloc: Global,
         public_key: Vec<u8>,
@@ -100,7 +100,11 @@ impl<N, K> CredSspClient<N, K> {
         )
     }
 
-    /// A client of this version of CredSSP.
+    /// A client of this version of CredSSP, to which nothing was delivered yet. Takes no memory.
+    ///
+    /// `public_key` is the SubjectPublicKey of the channel's certificate, `service_principal_name` the target of the
+    /// authentication, and `client_nonce` goes into the proofs from version 5 on: take fresh random bytes for each client.
+    /// Where `cred_ssp_mode` is `CredentialLess` the client authenticates by its credentials and delegates empty ones.
     pub fn new_with_version(
         alloc: Global,
         public_key: Vec<u8>,

@@ -64,7 +64,7 @@ impl<N, K, C> Model for CredSspServer<N, K, C> {
 impl<N, K, C> CredSspServer<N, K, C> {
     ghost use Rattle.sspi_credssp.specs.Server.{IsFreshServer};
 
-    /// A server of version 6.
+    /// A server of version 6; else as `new_with_version`.
     pub fn new(
         alloc: Global,
         public_key: Vec<u8>,
@@ -77,7 +77,10 @@ impl<N, K, C> CredSspServer<N, K, C> {
         CredSspServer::new_with_version(alloc, public_key, credentials, 6, client_mode)
     }
 
-    /// A server of this version of CredSSP.
+    /// A server of this version of CredSSP, to which nothing was delivered yet. Takes no memory.
+    ///
+    /// `public_key` is the SubjectPublicKey of the channel's certificate, and `credentials` is where the server looks its
+    /// peers up.
     pub fn new_with_version(
         alloc: Global,
         public_key: Vec<u8>,

@@ -33,6 +33,30 @@ use sspi_types::{Error, ErrorKind};
 use std::alloc::Global;
 
 /// Carries the messages of a client and a server until the server has the client's credentials (MS-CSSP 3.1.5).
+///
+/// In each of at most `turns` rounds the client makes a turn and then the server. The client's first turn takes a default
+/// request; each other turn takes the request with which the newest delivery begins, which is read to its end or to
+/// `DELIVERY_LIMIT` bytes, whichever comes first. Where the client's context asks a KDC, `kdc` is asked and the turn goes on
+/// with its reply; a call that fails goes on as `Reply::Failed`.
+///
+/// Ok gives the identity that the server opened, and how many turns the client made. Refused:
+///
+/// - `Client`, `Server`: this end refused its turn, with this error. The message by which a refusing server tells its client
+///   is still given to the link where it fits; what comes of that changes nothing.
+/// - `Read`: what was delivered to this end is no request. The kind is `UnexpectedEof` where it ends too early or its header
+///   is at fault, and else `InvalidData`.
+/// - `Write`: the message of this end has a content of more than 65531 bytes.
+/// - `LinkFault`: a call on the link failed.
+/// - `TurnsSpent`: the client made `turns` turns, each was answered, and none of them ended the exchange; at once where
+///   `turns` is 0.
+/// - `InsufficientMemory`, that of an end or of the KDC among it.
+///
+/// Whatever the answer, the transcript has got each turn that was made, a refused one too, and the log of the link each
+/// message that it took. Both ends are as their last turn left them. Where there was no memory for a reply of the KDC, the
+/// client waits for it in one further turn, which has no record.
+///
+/// The clauses that begin with a premise speak of ends as `new` or `new_with_version` made them and of a transcript without
+/// turns; the others hold of every call.
 pub fn delegate<N: Mechanism, K: Mechanism, C: CredentialsProxy, L: Link, D: Kdc>(
     alloc: Global,
     client: &mut CredSspClient<N, K>,

@@ -1,9 +1,12 @@
 //! The exchange of a CredSSP delegation over a link (MS-CSSP 3.1.5), and what is kept of it.
 //!
-//! A `Link` carries the messages of the two ends and keeps a log of what was sent and what was delivered.
-//! `MemoryLink` delivers what was sent, but for the edits that it was given; `KeptLink` keeps the log over any `Carrier`.
-//!
-//! `specs/Log.antt` has the log, `specs/Edits.antt` what an edit gives, and `specs/Link.antt` what the calls of a link answer.
+//! - `delegate`: one exchange between a client and a server. `specs/Headline.antt` has what holds of each, whatever the link
+//!   delivers; `specs/Run.antt` how turns and log belong together; `specs/Causes.antt` and `specs/Exactly.antt` when each
+//!   answer comes, `specs/Refusals.antt` why an end refused; `specs/History.antt` the calls that made the turns.
+//! - `Transcript`: the turns of an exchange, each with what it was given, what the end did, and how it ended.
+//! - `Link`: carries the messages and keeps a log of what was sent and what was delivered. `MemoryLink` delivers what was
+//!   sent, but for the edits that it was given; `KeptLink` keeps the log over any `Carrier`. `specs/Log.antt` has the log,
+//!   `specs/Edits.antt` what an edit gives, and `specs/Link.antt` what the calls of a link answer.
 #![tactic(auto)]
 
 pub mod answer;

@@ -18,7 +18,18 @@ use sspi_delegate::DelegateError;
 use sspi_scenario::{Scenario, ScenarioError, TextError, read_text};
 use std::alloc::Global;
 
-/// Does what the words ask for with the text of the source, and writes what comes of it.
+/// Does what the words ask for with the text of the source, and writes what comes of it. The exit status is
+///
+/// - 0 where the server has the credentials and 1 where the exchange was refused: its report is written;
+/// - 2 where the text is no scenario or has more than `TEXT_LIMIT` bytes: `error: scenario line N`, with the number of the
+///   first faulty line, from 1, or 0 where no line is to blame;
+/// - 3 where the source failed: `error: read`;
+/// - 4 where the sink failed, in place of the status that the text would have had: a front of the text;
+/// - 5 where memory was wanting: a front of the text, or nothing;
+/// - 6 where the words are other than `delegate` alone: `error: words`, and the source is not read.
+///
+/// Each line ends with LF. The source is read to its end, or to the first byte past `TEXT_LIMIT` and no further. The exchange
+/// is kept where there was one that did not end for want of memory, at status 4 and 5 too.
 pub fn run<S: Source, W: Sink>(
     alloc: Global,
     words: &[String],
