@@ -3,6 +3,7 @@ pub mod Folded
 pub mod Found
 pub mod Identities
 pub mod Joined
+pub mod Mixed
 pub mod New
 pub mod Parse
 pub mod Places

@@ -1,6 +1,7 @@
 -- The grammar of user names, as a relation between a text and a name.
-use Rattle.std.specs.Prelude.{◌≡◌, ◌++◌, ◌⊎◌, ℕ, List, [], ◌∷◌}
-use Rattle.sspi_names.specs.Name.{Name, IsAllowed, folded, at_sign, backslash}
+use Rattle.std.specs.Prelude.{◌≡◌, ◌++◌, ◌⊎◌, ℕ, List, [], ◌∷◌, true}
+use Rattle.std.specs.List.{after_first}
+use Rattle.sspi_names.specs.Name.{Name, IsAllowed, folded, at_sign, backslash, is_backslash, has_at_sign, has_backslash}
 use Rattle.sspi_names.specs.declared.format.UserNameFormat.{UserNameFormat}
 use Rattle.sspi_names.specs.declared.format.UserNameFormat.TheVariants.{UserPrincipalName, DownLevelLogonName}
 
@@ -13,6 +14,11 @@ IsForm DownLevelLogonName account domain text = (text ≡ domain ++ backslash �
 pub record IsSpelled (text : List ℕ) (n : Name) : Type 0 where
   pub form : IsForm n.format n.account n.domain text
   pub allowed : IsAllowed n.format n.account n.domain
+
+-- the text has both separators, or a `\` behind its first one
+abbrev pub IsMixed : List ℕ → Type 0
+IsMixed text =
+    ((has_at_sign text ≡ true) × (has_backslash text ≡ true)) ⊎ (has_backslash (after_first is_backslash text) ≡ true)
 
 -- the names are equal but for the case of ASCII letters
 pub record IsSameName (a b : Name) : Type 0 where

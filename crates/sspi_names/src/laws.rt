@@ -1,13 +1,13 @@
 //! Laws of names and texts, each on a function that does nothing.
 
-ghost use Rattle.std.specs.Prelude.{◌≡◌, ◌<◌, ◌^◌, ◌↔◌, ℕ, List, [], All, true, false, Ok, Some, slice_index};
+ghost use Rattle.std.specs.Prelude.{◌≡◌, ◌<◌, ◌^◌, ◌↔◌, ℕ, List, [], All, true, false, Ok, Some, None, slice_index};
 ghost use Rattle.std.specs.Cmp.{IsEquivalence};
 ghost use Rattle.std.specs.Str.{IsUtf8};
 ghost use Rattle.std.specs.Char.Utf16.{has_unpaired_surrogate};
 ghost use Rattle.sspi_names.specs.declared.format.UserNameFormat.TheVariants.{UserPrincipalName, DownLevelLogonName};
 ghost use Rattle.sspi_names.specs.declared.identity.AuthIdentity.{AuthIdentity};
 ghost use Rattle.sspi_names.specs.Name.{Name, IsName, parse_name, new_name, inner_of, name_eq, equals_ignoring_case};
-ghost use Rattle.sspi_names.specs.Grammar.{IsSpelled, IsSameName};
+ghost use Rattle.sspi_names.specs.Grammar.{IsSpelled, IsMixed, IsSameName};
 ghost use Rattle.sspi_names.specs.Identity.{IsIdentity, AreBuffers, buffers_of, identity_of};
 ghost use Rattle.sspi_names.specs.Same.{ComparesValues};
 ghost use Rattle.sspi_names.specs.Utf16.{IsUtf16, units_of, text_of, bytes_le, decode_le};
@@ -24,6 +24,13 @@ use crate::utf16::Utf16Text;
 pub fn names_are_read_by_the_grammar()
     ensures read { (text : List ℕ) (n : Name) → parse_name text ≡ Some n → IsSpelled text n }
     ensures again { (text : List ℕ) (n : Name) → IsSpelled text n → parse_name text ≡ Some n }
+{}
+
+/// A text is no name exactly where it mixes the forms.
+#[tactic(auto, using(crate::proofs::Mixed::mixed_is_none, crate::proofs::Mixed::none_is_mixed))]
+pub fn mixed_forms_are_refused()
+    ensures refused { (text : List ℕ) → IsMixed text → parse_name text ≡ None }
+    ensures only { (text : List ℕ) → parse_name text ≡ None → IsMixed text }
 {}
 
 /// Each name that is made of texts is one that the grammar allows.
