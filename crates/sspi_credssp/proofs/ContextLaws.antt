@@ -26,11 +26,11 @@ module _ {N K : Type 0} (ntlm : Meaning Setting N) (kerberos : Meaning Setting K
   made_fresh_by (ForServer (server.Ntlm s)) (Ntlm m) p0 = of_ntlm.made_fresh _ m p0
   made_fresh_by (ForServer (server.Ntlm s)) (Kerberos m) p0 = absurd p0
 
-  acquire_counts_by : (m m2 : SspiContext N K) (u : CredentialUse) (d : Option Credentials) (b : Option CredentialsBuffers) → (either ntlm kerberos).acquires m u d b m2 → (either ntlm kerberos).counts m2 ≡ (either ntlm kerberos).counts m
-  acquire_counts_by (Ntlm m) (Ntlm m2) u d b p0 = of_ntlm.acquire_counts m m2 u d b p0
-  acquire_counts_by (Ntlm m) (Kerberos m2) u d b p0 = absurd p0
-  acquire_counts_by (Kerberos m) (Ntlm m2) u d b p0 = absurd p0
-  acquire_counts_by (Kerberos m) (Kerberos m2) u d b p0 = of_kerberos.acquire_counts m m2 u d b p0
+  acquire_unused_by : (m m2 : SspiContext N K) (u : CredentialUse) (d : Option Credentials) (b : Option CredentialsBuffers) → IsUnused ((either ntlm kerberos).counts m) → (either ntlm kerberos).acquires m u d b m2 → IsUnused ((either ntlm kerberos).counts m2)
+  acquire_unused_by (Ntlm m) (Ntlm m2) u d b p0 p1 = of_ntlm.acquire_unused m m2 u d b p0 p1
+  acquire_unused_by (Ntlm m) (Kerberos m2) u d b p0 p1 = absurd p1
+  acquire_unused_by (Kerberos m) (Ntlm m2) u d b p0 p1 = absurd p1
+  acquire_unused_by (Kerberos m) (Kerberos m2) u d b p0 p1 = of_kerberos.acquire_unused m m2 u d b p0 p1
 
   identify_counts_by : (m m2 : SspiContext N K) (ids : List Credentials) → (either ntlm kerberos).identifies m ids m2 → (either ntlm kerberos).counts m2 ≡ (either ntlm kerberos).counts m
   identify_counts_by (Ntlm m) (Ntlm m2) ids p0 = of_ntlm.identify_counts m m2 _ p0
@@ -85,12 +85,6 @@ module _ {N K : Type 0} (ntlm : Meaning Setting N) (kerberos : Meaning Setting K
   resume_done_by (Ntlm m) (Kerberos m2) b s p0 = absurd p0
   resume_done_by (Kerberos m) (Ntlm m2) b s p0 = absurd p0
   resume_done_by (Kerberos m) (Kerberos m2) b s p0 = of_kerberos.resume_done m m2 b s p0
-
-  accept_done_by : (m m2 : SspiContext N K) (a : AcceptArgs) (s : Step) → (either ntlm kerberos).accepts m a (Ok s) m2 → (either ntlm kerberos).waits m2 ≡ false
-  accept_done_by (Ntlm m) (Ntlm m2) a s p0 = of_ntlm.accept_done m m2 a s p0
-  accept_done_by (Ntlm m) (Kerberos m2) a s p0 = absurd p0
-  accept_done_by (Kerberos m) (Ntlm m2) a s p0 = absurd p0
-  accept_done_by (Kerberos m) (Kerberos m2) a s p0 = of_kerberos.accept_done m m2 a s p0
 
   counts_counted_by : (m : SspiContext N K) (n : Counts) → (either ntlm kerberos).counts ((either ntlm kerberos).counted m n) ≡ n
   counts_counted_by (Ntlm m) n = of_ntlm.counts_counted m n
@@ -151,7 +145,7 @@ module _ {N K : Type 0} (ntlm : Meaning Setting N) (kerberos : Meaning Setting K
   pub lawful : IsContext (either ntlm kerberos)
   lawful = record {
     made_fresh = made_fresh_by;
-    acquire_counts = acquire_counts_by;
+    acquire_unused = acquire_unused_by;
     identify_counts = identify_counts_by;
     step_unused = step_unused_by;
     resume_unused = resume_unused_by;
@@ -161,7 +155,6 @@ module _ {N K : Type 0} (ntlm : Meaning Setting N) (kerberos : Meaning Setting K
     resume_waits = resume_waits_by;
     step_done = step_done_by;
     resume_done = resume_done_by;
-    accept_done = accept_done_by;
     counts_counted = counts_counted_by;
     counted_counted = counted_counted_by;
     counted_counts = counted_counts_by;

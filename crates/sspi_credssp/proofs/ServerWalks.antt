@@ -13,7 +13,7 @@ use Rattle.sspi_credssp.specs.Begun.{IfContext}
 use Rattle.sspi_credssp.specs.Context.{ContextSetting}
 use Rattle.sspi_credssp.specs.Counts.{SameBut}
 use Rattle.sspi_credssp.specs.Server.{ServerView}
-use Rattle.sspi_credssp.specs.ServerStep.{Knowing, Completed, Accepted, AcceptedSoFar, CompletedStep, HasAccepted, DoneStep, OnStep, refused_step, known_at, recounted, so_far}
+use Rattle.sspi_credssp.specs.ServerStep.{Knowing, Unknown, Completed, Accepted, AcceptedSoFar, RefusedAt, CompletedStep, HasAccepted, DoneStep, OnStep, refused_step, known_at, recounted, so_far}
 use Rattle.sspi_credssp.specs.ServerTurn.{IsOver}
 use Rattle.sspi_credssp.proofs.Walks.{recounted_as}
 
@@ -38,16 +38,53 @@ module _ {C P : Type 0} (c : Meaning ContextSetting C) (laws : IsContext c) (tol
   completed_on start handle token answer (Err e) o o2 same accepted =
       known_so_far start handle token Completed answer o2 (accepted_on start handle token Completed answer o o2 same accepted)
 
+  -- a call that was refused before it looked its peer up
+  pub unknown_at : (s : SecurityStatus) (start : ServerView C P) (handle : Option CredentialsBuffers) (token : Option (List ℕ)) (answer : Result Step Error)
+      (m : C) → Accepted c told start handle token Unknown answer m → RefusedAt c told (Some s) start handle token answer m
+  unknown_at statuses.Ok start handle token answer m h = so_far Unknown h
+  unknown_at statuses.ContinueNeeded start handle token answer m h = h
+  unknown_at statuses.CompleteNeeded start handle token answer m h = so_far Unknown h
+  unknown_at statuses.CompleteAndContinue start handle token answer m h = h
+  unknown_at statuses.LocalLogon start handle token answer m h = h
+  unknown_at statuses.ContextExpired start handle token answer m h = h
+  unknown_at statuses.IncompleteCredentials start handle token answer m h = h
+  unknown_at statuses.Renegotiate start handle token answer m h = h
+  unknown_at statuses.NoLsaContext start handle token answer m h = h
+
+  pub unknown_refused : (s : SecurityStatus) (start : ServerView C P) (handle : Option CredentialsBuffers) (token : Option (List ℕ)) (answer : Result Step Error)
+      (o : Option C) → IfContext o (Accepted c told start handle token Unknown answer) → IfContext o (RefusedAt c told (Some s) start handle token answer)
+  unknown_refused s start handle token answer None h = absurd h
+  unknown_refused s start handle token answer (Some m) h = unknown_at s start handle token answer m h
+
+  -- and after it
+  over_at : (s : SecurityStatus) (start : ServerView C P) (handle : Option CredentialsBuffers) (token : Option (List ℕ)) (answer : Result Step Error)
+      (m : C) → known_at c told s ≡ Completed → AcceptedSoFar c told start handle token answer m → RefusedAt c told (Some s) start handle token answer m
+  over_at statuses.Ok start handle token answer m known h = h
+  over_at statuses.ContinueNeeded start handle token answer m known h = absurd (cc known)
+  over_at statuses.CompleteNeeded start handle token answer m known h = h
+  over_at statuses.CompleteAndContinue start handle token answer m known h = absurd (cc known)
+  over_at statuses.LocalLogon start handle token answer m known h = absurd (cc known)
+  over_at statuses.ContextExpired start handle token answer m known h = absurd (cc known)
+  over_at statuses.IncompleteCredentials start handle token answer m known h = absurd (cc known)
+  over_at statuses.Renegotiate start handle token answer m known h = absurd (cc known)
+  over_at statuses.NoLsaContext start handle token answer m known h = absurd (cc known)
+
+  over_refused : (s : SecurityStatus) (start : ServerView C P) (handle : Option CredentialsBuffers) (token : Option (List ℕ)) (answer : Result Step Error)
+      (o : Option C) → known_at c told s ≡ Completed → IfContext o (AcceptedSoFar c told start handle token answer) →
+      IfContext o (RefusedAt c told (Some s) start handle token answer)
+  over_refused s start handle token answer None known h = absurd h
+  over_refused s start handle token answer (Some m) known h = over_at s start handle token answer m known h
+
   -- a turn that was refused, and one that was not, once the step had answered
   pub turn_refused : (start now : ServerView C P) (d : TsRequest) (status : SecurityStatus) (error : Error) →
       now.acts.negotiated ≡ true → now.acts.status ≡ Some status →
-      IfContext now.context (AcceptedSoFar c told start now.handle d.nego_tokens (Ok (record { status = status; output = now.output }))) →
-      OnStep c told now.acts.negotiated (IfContext now.context (AcceptedSoFar c told start now.handle d.nego_tokens
+      IfContext now.context (RefusedAt c told (Some status) start now.handle d.nego_tokens (Ok (record { status = status; output = now.output }))) →
+      OnStep c told now.acts.negotiated (IfContext now.context (RefusedAt c told now.acts.status start now.handle d.nego_tokens
       (refused_step now.acts.status now.output error)))
   turn_refused start now d status error negotiated answered h =
-      subst (λ b. OnStep c told b (IfContext now.context (AcceptedSoFar c told start now.handle d.nego_tokens
+      subst (λ b. OnStep c told b (IfContext now.context (RefusedAt c told now.acts.status start now.handle d.nego_tokens
       (refused_step now.acts.status now.output error)))) (sym negotiated)
-      (subst (λ s. IfContext now.context (AcceptedSoFar c told start now.handle d.nego_tokens (refused_step s now.output error))) (sym answered) h)
+      (subst (λ s. IfContext now.context (RefusedAt c told s start now.handle d.nego_tokens (refused_step s now.output error))) (sym answered) h)
 
   pub turn_done : {T : Type 0} (start now : ServerView C P) (d : TsRequest) (status : SecurityStatus) (value : T) → now.acts.status ≡ Some status →
       IfContext now.context (Accepted c told start now.handle d.nego_tokens (known_at c told status) (Ok (record { status = status; output = now.output }))) →
@@ -67,17 +104,18 @@ module _ {C P : Type 0} (c : Meaning ContextSetting C) (laws : IsContext c) (tol
       (subst (λ x. IfContext now.context (Accepted c told start handle d.nego_tokens Completed (Ok (record { status = status; output = x })))) (sym same_output) h)))
   turn_completed start now d status handle output (Err error) negotiated answered known same_handle same_output h =
       turn_refused start now d status error negotiated answered
+      (over_refused status start now.handle d.nego_tokens _ now.context known
       (subst (λ x. IfContext now.context (AcceptedSoFar c told start x d.nego_tokens (Ok (record { status = status; output = now.output })))) (sym same_handle)
-      (subst (λ x. IfContext now.context (AcceptedSoFar c told start handle d.nego_tokens (Ok (record { status = status; output = x })))) (sym same_output) h))
+      (subst (λ x. IfContext now.context (AcceptedSoFar c told start handle d.nego_tokens (Ok (record { status = status; output = x })))) (sym same_output) h)))
 
   -- with the error that the call hands back
   pub refused_as : (start now : ServerView C P) (d : TsRequest) (error error2 : Error) → error2 ≡ error →
-      OnStep c told now.acts.negotiated (IfContext now.context (AcceptedSoFar c told start now.handle d.nego_tokens
+      OnStep c told now.acts.negotiated (IfContext now.context (RefusedAt c told now.acts.status start now.handle d.nego_tokens
       (refused_step now.acts.status now.output error))) →
-      OnStep c told now.acts.negotiated (IfContext now.context (AcceptedSoFar c told start now.handle d.nego_tokens
+      OnStep c told now.acts.negotiated (IfContext now.context (RefusedAt c told now.acts.status start now.handle d.nego_tokens
       (refused_step now.acts.status now.output error2)))
   refused_as start now d error error2 same h =
-      subst (λ e. OnStep c told now.acts.negotiated (IfContext now.context (AcceptedSoFar c told start now.handle d.nego_tokens
+      subst (λ e. OnStep c told now.acts.negotiated (IfContext now.context (RefusedAt c told now.acts.status start now.handle d.nego_tokens
       (refused_step now.acts.status now.output e)))) (sym same) h
 
   pub known_over : (s : SecurityStatus) → IsOver (Some s) → known_at c told s ≡ Completed

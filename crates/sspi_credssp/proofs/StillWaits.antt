@@ -72,8 +72,6 @@ module _ {C : Type 0} (c : Meaning ContextSetting C) (laws : IsContext c) where
         state = nego;
         waiting = again;
         kept = kept none waits ∙ ap Some same;
-        acts = refl;
-        output = output;
       } in
       let steps : StepsTo c start d (record { question = q; reply = reply } ∷ log) (Ask q)
       (record v { context = Some m2; acts = record no_acts { negotiated = true }; kept = new.kept }) =

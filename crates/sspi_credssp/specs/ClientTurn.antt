@@ -152,6 +152,9 @@ module _ {C : Type 0} (c : Meaning ContextSetting C) where
     pub unsealed : StartsUnused old → unsealed_in c new.context ≡ unsealed_in c old.context + unsealed_by new.acts
     -- no step of the context follows its first message
     pub bare : OnceNegotiated old.state (SameBut c old.context new.context)
+    -- a call that took no step only has the context count, and one whose step gave no answer has no token
+    pub unstepped : new.acts.negotiated ≡ false → SameBut c old.context new.context
+    pub unanswered : new.acts.status ≡ None → new.output ≡ []
 
   pub record ClientTurn (old : ClientView C) (d : TsRequest) (came : Came) (new : ClientView C) : Type 0 where
     pub turn : IsClientTurn (client_frame old new) (client_turn d came new)
@@ -214,8 +217,6 @@ module _ {C : Type 0} (c : Meaning ContextSetting C) where
     pub state : now.state ≡ NegoToken
     pub waiting : is_waiting_in c now.context ≡ true
     pub kept : now.kept ≡ Some (record d { version = now.version })
-    pub acts : now.acts ≡ record no_acts { negotiated = true }
-    pub output : now.output ≡ []
 
   abbrev pub CompletedTurn : ClientView C → TsRequest → ClientState → ClientView C → Type 0
   CompletedTurn old d (ReplyNeeded reply) new = ClientTurn old d (Replied reply) new
@@ -227,5 +228,6 @@ module _ {C : Type 0} (c : Meaning ContextSetting C) where
 
   abbrev pub ClientGoes : ClientView C → TsRequest → Result Progress Error → ClientView C → Type 0
   ClientGoes old d (Ok (Completed state)) new = CompletedTurn old d state new
-  ClientGoes old d (Ok (Suspended question)) new = IsUnderway old d new
+  ClientGoes old d (Ok (Suspended question)) new =
+      IsUnderway old d new × (new.acts ≡ record no_acts { negotiated = true }) × (new.output ≡ [])
   ClientGoes old d (Err error) new = ClientTurn old d (Stopped error.error_type None) new

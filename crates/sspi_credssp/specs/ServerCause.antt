@@ -45,7 +45,7 @@ module _ {C : Type 0} (c : Meaning ContextSetting C) where
     nameless : c.refuses m ToName kind → IdentifyCause m told before now kind
     looked : (name : Name) → c.names m ≡ Some name → LookUpRefused told name before now kind → IdentifyCause m told before now kind
     unset : (name : Name) (identities : List AuthIdentity) → c.names m ≡ Some name → AreCandidates told name identities →
-        c.refuses m (ToIdentify (map credentials.AuthIdentity identities)) kind → IdentifyCause m told before now kind
+        identities ≢ [] → c.refuses m (ToIdentify (map credentials.AuthIdentity identities)) kind → IdentifyCause m told before now kind
 
   -- the blob opened to another text than the client's proof, or the server's own is not sealed
   pub data AnswerCause (m : C) (blob proof answer : List ℕ) (kind : ErrorKind) : Type 0 where
@@ -88,11 +88,12 @@ module _ {C : Type 0} (c : Meaning ContextSetting C) where
     AfterCause (Some blob) sent_nonce new kind = ExchangeCause (Some blob) new.noted sent_nonce new kind
 
   module _ {P : Type 0} (told : P → Option (List AuthIdentity)) (faults : P → ℕ) where
-    -- the peer is not known; or it is, and the context refuses its own end; or the context is at its end, and what follows is
-    -- refused
+    -- The peer is not known; or it is, and the context refuses its own end: in neither case its proof was looked at. Or the
+    -- context is at its end, and what follows is refused.
     pub data OverCause (proxy : P) (field nonce : Option (List ℕ)) (new : ServerView C P) (kind : ErrorKind) : Type 0 where
-      unknown : IfContext new.context (λ m. IdentifyCause m (told proxy) (faults proxy) (faults new.proxy) kind) → OverCause proxy field nonce new kind
-      incomplete : (m0 : C) → IfContext new.context (λ m. IsIdentified c (told proxy) m0 m × c.refuses m ToComplete kind) → OverCause proxy field nonce new kind
+      unknown : new.acts.checked ≡ false → IfContext new.context (λ m. IdentifyCause m (told proxy) (faults proxy) (faults new.proxy) kind) →
+          OverCause proxy field nonce new kind
+      incomplete : new.acts.checked ≡ false → (m0 : C) → IfContext new.context (λ m. IsIdentified c (told proxy) m0 m × c.refuses m ToComplete kind) → OverCause proxy field nonce new kind
       known : (m : C) → c.permits m ToComplete → SameBut c (Some m) new.context → AfterCause field nonce new kind → OverCause proxy field nonce new kind
 
     -- the context refused the step, with this error, as the clause on the step says; or its end or its status is refused

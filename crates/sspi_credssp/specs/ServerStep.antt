@@ -1,5 +1,5 @@
 -- The step of its context in a server's turn, from the context before the turn to the one that it leaves.
-use Rattle.std.specs.Prelude.{◌≡◌, ℕ, List, map, Option, None, Some, Result, Ok, Err, Bool, true, false}
+use Rattle.std.specs.Prelude.{◌≡◌, ◌≢◌, ℕ, List, [], map, Option, None, Some, Result, Ok, Err, Bool, true, false}
 use Rattle.sspi_types.specs.declared.credential_use.CredentialUse.TheVariants.{Inbound}
 use Rattle.sspi_types.specs.declared.error.Error.{Error}
 use Rattle.sspi_types.specs.declared.security_status.SecurityStatus.{SecurityStatus}
@@ -40,10 +40,10 @@ pub data Knowing : Type 0 where
   Completed : Knowing
 
 module _ {C : Type 0} (c : Meaning ContextSetting C) where
-  -- the peer's name was looked up, and the context took one of its identities
+  -- the peer's name was looked up, some identities were found, and the context took one of them
   pub data IsIdentified (told : Option (List AuthIdentity)) (m m2 : C) : Type 0 where
     is_identified : (name : Name) (identities : List AuthIdentity) → c.names m ≡ Some name → AreCandidates told name identities →
-        c.identifies m (map credentials.AuthIdentity identities) m2 → IsIdentified told m m2
+        identities ≢ [] → c.identifies m (map credentials.AuthIdentity identities) m2 → IsIdentified told m m2
 
   module _ {P : Type 0} (told : P → Option (List AuthIdentity)) where
     -- A step of the turn that began at `start`: how far the server then knows its peer, the step's answer, and the context.
@@ -71,6 +71,12 @@ module _ {C : Type 0} (c : Meaning ContextSetting C) where
     CompletedStep start handle token answer (Ok value) context = IfContext context (Accepted start handle token Completed answer)
     CompletedStep start handle token answer (Err error) context = IfContext context (AcceptedSoFar start handle token answer)
 
+    -- how far a refused call had come: a peer is looked up only once the step had ended the authentication
+    abbrev pub RefusedAt : Option SecurityStatus → ServerView C P → Option CredentialsBuffers → Option (List ℕ) → Result Step Error → C → Type 0
+    RefusedAt (Some statuses.Ok) start handle token answer m = AcceptedSoFar start handle token answer m
+    RefusedAt (Some statuses.CompleteNeeded) start handle token answer m = AcceptedSoFar start handle token answer m
+    RefusedAt other start handle token answer m = Accepted start handle token Unknown answer m
+
     -- a reply at the end of the authentication is made only once the peer is known and the context completed
     abbrev pub known_at : SecurityStatus → Knowing
     known_at statuses.Ok = Completed
@@ -91,7 +97,7 @@ module _ {C : Type 0} (c : Meaning ContextSetting C) where
     abbrev pub HasAccepted : {T : Type 0} → ServerView C P → TsRequest → Result T Error → ServerView C P → Type 0
     HasAccepted start d (Ok value) now = DoneStep now.acts.status start d now
     HasAccepted start d (Err error) now = OnStep now.acts.negotiated
-        (IfContext now.context (AcceptedSoFar start now.handle d.nego_tokens (refused_step now.acts.status now.output error)))
+        (IfContext now.context (RefusedAt now.acts.status start now.handle d.nego_tokens (refused_step now.acts.status now.output error)))
 
     -- of a call that hands the request back with its refusal
     abbrev pub HasAcceptedTurn : ServerView C P → TsRequest → Result ServerState ServerError → ServerView C P → Type 0

@@ -91,6 +91,7 @@ module _ {C : Type 0} (c : Meaning ContextSetting C) where
     pub negotiated : t.acts.negotiated ≡ true → f.state ≡ NegoToken
     pub answered : IsSome t.acts.status → t.acts.negotiated ≡ true
     pub checked : t.acts.checked ≡ true → MayCheck f.state t.acts.status × IsLong t.delivered.pub_key_auth
+        × AtNoted f.noted (λ noted. HasNonce (nat_lt noted 5) t.delivered.client_nonce)
     pub proved : t.acts.proved ≡ true → (t.acts.checked ≡ true) × AtNoted f.noted (Proven f.context f.opened f.public_key t.delivered)
     pub opened : t.acts.opened ≡ true → (f.state ≡ AuthInfo) × IsLong t.delivered.auth_info
     pub sealed : t.acts.sealed ≡ false
@@ -188,6 +189,9 @@ module _ {C : Type 0} (c : Meaning ContextSetting C) where
       pub unsealed : StartsUnused old → unsealed_in c new.context ≡ unsealed_in c old.context + unsealed_by new.acts
       -- no step of the context follows its first message, but in the authentication
       pub bare : OnceNegotiated old.state (SameBut c old.context new.context)
+      -- a call that took no step only has the context count, and one whose step gave no answer has no token
+      pub unstepped : new.acts.negotiated ≡ false → SameBut c old.context new.context
+      pub unanswered : new.acts.status ≡ None → new.output ≡ []
 
     -- A turn on d that began at `start` has come past the version check. What follows speaks of the context as it is now.
     pub record IsReady (start : ServerView C P) (d : TsRequest) (now : ServerView C P) : Type 0 where
@@ -208,6 +212,7 @@ module _ {C : Type 0} (c : Meaning ContextSetting C) where
       pub rest : new ≡ record old { context = new.context; acts = new.acts }
       pub acts : new.acts ≡ record old.acts { checked = new.acts.checked; proved = new.acts.proved }
       pub checked : new.acts.checked ≡ true → IsLong d.pub_key_auth
+          × AtNoted old.noted (λ noted. HasNonce (nat_lt noted 5) d.client_nonce)
       pub proved : new.acts.proved ≡ true → (new.acts.checked ≡ true) ×
           AtNoted old.noted (Proven new.context (unsealed_in c new.context - 1) old.public_key d)
       pub sealed_count : sealed_in c new.context ≡ sealed_in c old.context + count_of new.acts.proved

@@ -158,7 +158,7 @@ impl<N: Mechanism, K: Mechanism> CredSspClient<N, K> {
     ghost use Rattle.sspi_credssp.specs.Begun.{Begun, BeginCause, IfContext, MadeOr};
     ghost use Rattle.sspi_credssp.specs.ClientCause.{ClientCause, ResumeCause, StateCause, is_altered, status_of};
     ghost use Rattle.sspi_credssp.specs.ClientStep.{Asked, HasStepped, StepsTo, OnSuspended};
-    ghost use Rattle.sspi_credssp.specs.ClientTurn.{ClientGoes, IsReady, IsUnderway};
+    ghost use Rattle.sspi_credssp.specs.ClientTurn.{ClientGoes, IsReady, IsUnderway, SameClient};
 
     /// Whether a turn is suspended.
     pub fn waiting(&self) -> bool
@@ -193,10 +193,17 @@ impl<N: Mechanism, K: Mechanism> CredSspClient<N, K> {
         ensures cause { IfErr result (λ error. error.error_type ≢ ErrorKind.InsufficientMemory →
             ClientCause (either N.meaning K.meaning) self.old ts_request self.new error.error_type) }
         ensures code { is_waiting_in (either N.meaning K.meaning) self.old.context ≡ false → is_code ts_request.error_code ≡ true →
-            IsErr result × IfErr result (λ error. error.error_type ≡ ErrorKind.InvalidToken) }
+            IsErr result × IfErr result (λ error. error.error_type ≡ ErrorKind.InvalidToken) × (self.new ≡ record self.old { acts = no_acts; output = [] }) }
+        ensures altered { is_waiting_in (either N.meaning K.meaning) self.old.context ≡ false → is_code ts_request.error_code ≡ false →
+            is_altered self.old.context self.old.noted ts_request.version ≡ true →
+            IsErr result × (self.new ≡ record self.old { acts = no_acts; output = [] }) }
+        ensures unmade { self.new.context ≡ None → self.new ≡ record self.old { acts = no_acts; output = [] } }
         ensures status { IfErr result (λ error. error.nstatus ≡ status_of (either N.meaning K.meaning) self.old ts_request) }
         ensures waited { is_waiting_in (either N.meaning K.meaning) self.old.context ≡ true →
             IsErr result × (self.new ≡ record self.old { acts = no_acts; output = [] }) }
+        ensures intruded { let c = either N.meaning K.meaning in (start : ClientView (SspiContext N K)) (d : TsRequest) (log : List Asked) (q : NetworkRequest) →
+            IsUnderway c start d self.old → StepsTo c start d log (answers.Ask q) self.old →
+            IsUnderway c start d self.new × StepsTo c start d log (answers.Ask q) self.new }
     {
         self.forget_last_call();
         if self.waiting() {
@@ -217,6 +224,7 @@ impl<N: Mechanism, K: Mechanism> CredSspClient<N, K> {
     /// Where no turn is suspended that is `OutOfSequence` and changes nothing. After a refusal the client waits exactly where
     /// its context still waits; it then keeps the request, and a later call goes on with it.
     pub fn resume(&mut self, reply: &Reply) -> Result<Progress, Error>
+        ensures same { SameClient (either N.meaning K.meaning) self.old self.new }
         ensures turn { let c = either N.meaning K.meaning in (start : ClientView (SspiContext N K)) (d : TsRequest) →
             IsUnderway c start d self.old → ClientGoes c start d result self.new }
         ensures step { let c = either N.meaning K.meaning in (start : ClientView (SspiContext N K)) (d : TsRequest) (log : List Asked) (q : NetworkRequest) →

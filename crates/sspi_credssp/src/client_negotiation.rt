@@ -55,7 +55,7 @@ fn initialize<N: Mechanism, K: Mechanism>(
 
 impl<N: Mechanism, K: Mechanism> CredSspClient<N, K> {
     ghost use Rattle.sspi_credssp.specs.Client.{ClientView};
-    ghost use Rattle.sspi_credssp.specs.ClientTurn.{ClientGoes, ClientAnswers, IsReady, IsUnderway, ClientProves};
+    ghost use Rattle.sspi_credssp.specs.ClientTurn.{ClientGoes, ClientAnswers, IsReady, IsUnderway, ClientProves, SameClient};
 
     pub(crate) fn negotiate(&mut self, request: TsRequest) -> Result<Progress, Error>
         requires acts { self.old.acts ≡ no_acts }
@@ -92,6 +92,7 @@ impl<N: Mechanism, K: Mechanism> CredSspClient<N, K> {
     ) -> Result<Progress, Error>
         requires acts { self.old.acts ≡ no_acts }
         requires begun { IsSome self.old.context }
+        ensures same { SameClient (either N.meaning K.meaning) self.old self.new }
         ensures turn { let c = either N.meaning K.meaning in (start : ClientView (SspiContext N K)) (d : TsRequest) →
             request ≡ record d { version = self.old.version } → IsReady c start d self.old → self.old.state ≡ CredSspState.NegoToken →
             self.old.output ≡ [] → ClientGoes c start d result self.new }
@@ -126,6 +127,7 @@ impl<N: Mechanism, K: Mechanism> CredSspClient<N, K> {
         requires acts { self.old.acts ≡ record no_acts { negotiated = true } }
         requires begun { IsSome self.old.context }
         requires plain { IfErr progress (λ error. error.nstatus ≡ None) }
+        ensures same { SameClient (either N.meaning K.meaning) self.old self.new }
         ensures turn { let c = either N.meaning K.meaning in (start : ClientView (SspiContext N K)) (d : TsRequest) →
             request ≡ record d { version = self.old.version } → IsReady c start d self.old → self.old.state ≡ CredSspState.NegoToken →
             self.old.output ≡ [] → OnAsk (answer_of progress) (is_waiting_in c self.old.context ≡ true) → ClientGoes c start d result self.new }
@@ -168,6 +170,7 @@ impl<N: Mechanism, K: Mechanism> CredSspClient<N, K> {
     ) -> Result<ClientState, Error>
         requires acts { self.old.acts ≡ record no_acts { negotiated = true } }
         requires begun { IsSome self.old.context }
+        ensures same { SameClient (either N.meaning K.meaning) self.old self.new }
         ensures turn { let c = either N.meaning K.meaning in (start : ClientView (SspiContext N K)) (d : TsRequest) →
             request ≡ record d { version = self.old.version } → IsReady c start d self.old → self.old.state ≡ CredSspState.NegoToken →
             ClientAnswers c start d result self.new }
@@ -196,6 +199,7 @@ impl<N: Mechanism, K: Mechanism> CredSspClient<N, K> {
     fn prove(&mut self, request: TsRequest) -> Result<ClientState, Error>
         requires acts { self.old.acts ≡ record no_acts { negotiated = true; status = Some SecurityStatus.Ok } }
         requires begun { IsSome self.old.context }
+        ensures same { SameClient (either N.meaning K.meaning) self.old self.new }
         ensures turn { let c = either N.meaning K.meaning in (start : ClientView (SspiContext N K)) (d : TsRequest) →
             request ≡ record d { version = self.old.version } → IsReady c start d self.old → self.old.state ≡ CredSspState.NegoToken →
             ClientAnswers c start d result self.new }

@@ -4,6 +4,7 @@ ghost use Rattle.sspi_mech.specs.Calls.{step_args, accept_args, no_counts, one_s
 ghost use Rattle.sspi_mech.specs.Calls.{ToAcquire, ToName, ToIdentify, ToComplete, ToSeal, ToUnseal};
 ghost use Rattle.sspi_mech.specs.Answers.{answer_of};
 ghost use Rattle.sspi_credssp.specs.Context.{either, has_password, ForClient, ForServer};
+ghost use Rattle.sspi_mech.specs.Context.{IsUnused, IsContext};
 ghost use Rattle.sspi_credssp.specs.PackageName.{package_name_of};
 
 use crate::mode::{ClientMode, ServerMode};
@@ -89,7 +90,7 @@ impl<N: Mechanism, K: Mechanism> SspiContext<N, K> {
     ) -> Result<Option<CredentialsBuffers>, Error>
         ensures acquired { IfOk result (λ buffers.
             (either N.meaning K.meaning).acquires self.old credential_use (option_copied auth_data.entry) buffers self.new) }
-        ensures count { (either N.meaning K.meaning).counts self.new ≡ (either N.meaning K.meaning).counts self.old }
+        ensures unused { let c = either N.meaning K.meaning in IsUnused (c.counts self.old) → IsUnused (c.counts self.new) }
         ensures plain { IfErr result (λ error. error.nstatus ≡ None) }
         ensures cause { IfErr result (λ error. error.error_type ≢ ErrorKind.InsufficientMemory →
             (either N.meaning K.meaning).refuses self.old (ToAcquire credential_use (option_copied auth_data.entry)) error.error_type) }
@@ -247,3 +248,8 @@ impl<N: Mechanism, K: Mechanism> SspiContext<N, K> {
         }
     }
 }
+
+/// A context over any two mechanisms keeps what every context keeps.
+pub fn context_keeps_laws<N: Mechanism, K: Mechanism>()
+    ensures { IsContext (either N.meaning K.meaning) }
+{}

@@ -1,4 +1,4 @@
-ghost use Rattle.std.specs.Prelude.{◌≡◌, ◌≢◌, ◌≤◌, [], None, true, false, IsSome, IfErr, OnOk, OnErr};
+ghost use Rattle.std.specs.Prelude.{◌≡◌, ◌≢◌, ◌+◌, ◌≤◌, [], None, true, false, IsSome, IsErr, IfErr, OnOk, OnErr};
 ghost use Rattle.sspi_types.specs.declared.credential_use.CredentialUse.TheVariants as purposes;
 ghost use Rattle.sspi_credssp.specs.Acts.{no_acts};
 ghost use Rattle.sspi_credssp.specs.Begun.{Begun, BeginCause, IfContext, MadeOr};
@@ -126,7 +126,7 @@ impl<N: Mechanism, K: Mechanism, C: CredentialsProxy> CredSspServer<N, K, C> {
     ghost use Rattle.sspi_credssp.specs.Server.{ServerView};
     ghost use Rattle.sspi_credssp.specs.ServerCause.{ServerCause, StateCause};
     ghost use Rattle.sspi_credssp.specs.ServerStep.{HasAcceptedTurn};
-    ghost use Rattle.sspi_credssp.specs.ServerTurn.{ServerGoes, IsReady, BeginRefused, noted_first};
+    ghost use Rattle.sspi_credssp.specs.ServerTurn.{ServerGoes, IsOver, IsReady, BeginRefused, noted_first};
 
     /// Takes the client's message and makes the server's next one, or reads the credentials that end the exchange.
     ///
@@ -144,6 +144,11 @@ impl<N: Mechanism, K: Mechanism, C: CredentialsProxy> CredSspServer<N, K, C> {
         ensures cause { IfErr result (λ refusal. refusal.error.error_type ≢ ErrorKind.InsufficientMemory →
             ServerCause (either N.meaning K.meaning) C.told C.faults self.old ts_request self.new refusal.error.error_type) }
         ensures plain { IfErr result (λ refusal. refusal.error.nstatus ≡ None) }
+        ensures altered { differs self.old.noted ts_request.version ≡ true →
+            IsErr result × (self.new ≡ record self.old { acts = no_acts; output = [] }) }
+        ensures unmade { self.new.context ≡ None → self.new ≡ record self.old { acts = no_acts; output = [] } }
+        ensures once { C.calls self.new.proxy ≤ C.calls self.old.proxy + 1 }
+        ensures unasked { (IsOver self.new.acts.status → ⊥) → self.new.proxy ≡ self.old.proxy }
         ensures told { C.told self.new.proxy ≡ C.told self.old.proxy }
         ensures failing { C.failing self.new.proxy ≡ C.failing self.old.proxy }
         ensures faults { C.faults self.old.proxy ≤ C.faults self.new.proxy }
@@ -172,6 +177,7 @@ impl<N: Mechanism, K: Mechanism, C: CredentialsProxy> CredSspServer<N, K, C> {
         ensures passed { OnOk result ((differs self.old.noted version ≡ false) × IsSome self.new.context) }
         ensures known { OnOk result (IsSome self.new.noted) }
         ensures refused { OnErr result (BeginRefused (either N.meaning K.meaning) self.old version self.new) }
+        ensures err { OnErr result (self.new ≡ self.old) }
         ensures cause { let c = either N.meaning K.meaning in IfErr result (λ error. error.error_type ≢ ErrorKind.InsufficientMemory →
             MadeOr self.new.context (BeginCause c (ForServer self.old.mode) purposes.Inbound None error.error_type)
             (StopsIf (differs self.old.noted version) ErrorKind.MessageAltered error.error_type ⊥)) }
@@ -254,6 +260,8 @@ impl<N: Mechanism, K: Mechanism, C: CredentialsProxy> CredSspServer<N, K, C> {
             StateCause (either N.meaning K.meaning) C.told C.faults self.old.state self.old.proxy request self.new refusal.error.error_type) }
         ensures plain { IfErr result (λ refusal. refusal.error.nstatus ≡ None) }
         ensures begun { IsSome self.new.context }
+        ensures once { C.calls self.new.proxy ≤ C.calls self.old.proxy + 1 }
+        ensures unasked { (IsOver self.new.acts.status → ⊥) → self.new.proxy ≡ self.old.proxy }
         ensures told { C.told self.new.proxy ≡ C.told self.old.proxy }
         ensures failing { C.failing self.new.proxy ≡ C.failing self.old.proxy }
         ensures faults { C.faults self.old.proxy ≤ C.faults self.new.proxy }

@@ -1,5 +1,5 @@
 // The server's turns of the authentication (NegoToken).
-ghost use Rattle.std.specs.Prelude.{ℕ, List, Option, Result, Ok, ◌≡◌, ◌≢◌, ◌≤◌, [], map, None, Some, true, false, IsSome, IsTrue, OnOk, OnErr, IfOk, IfErr};
+ghost use Rattle.std.specs.Prelude.{ℕ, List, Option, Result, Ok, ◌≡◌, ◌≢◌, ◌+◌, ◌≤◌, [], map, None, Some, true, false, IsSome, IsTrue, OnOk, OnErr, IfOk, IfErr};
 ghost use Rattle.sspi_names.specs.declared.credentials.Credentials.TheVariants as credentials;
 ghost use Rattle.sspi_mech.specs.Calls.{ToName};
 ghost use Rattle.sspi_credssp.specs.Acts.{no_acts};
@@ -82,9 +82,11 @@ fn look_up<C: CredentialsProxy>(
     username: &Username,
 ) -> Result<Vec<AuthIdentity>, Error>
     ensures found { IfOk result (λ identities. AreCandidates (C.told proxy.old) username.now identities.items) }
+    ensures some { IfOk result (λ identities. identities.items ≢ []) }
     ensures told { C.told proxy.new ≡ C.told proxy.old }
     ensures failing { C.failing proxy.new ≡ C.failing proxy.old }
     ensures faults { C.faults proxy.old ≤ C.faults proxy.new }
+    ensures once { C.calls proxy.new ≤ C.calls proxy.old + 1 }
     ensures calm { C.failing proxy.old ≡ Some [] → C.faults proxy.new ≡ C.faults proxy.old }
     ensures plain { IfErr result (λ error. error.nstatus ≡ None) }
     ensures cause { IfErr result (λ error. error.error_type ≢ ErrorKind.InsufficientMemory →
@@ -102,6 +104,7 @@ fn look_up<C: CredentialsProxy>(
 
 fn some_of(candidates: Vec<AuthIdentity>) -> Result<Vec<AuthIdentity>, Error>
     ensures ok { IfOk result (λ identities. identities.items ≡ candidates.items) }
+    ensures some { IfOk result (λ identities. identities.items ≢ []) }
     ensures err { OnErr result (candidates.items ≡ []) }
     ensures kind { IfErr result (λ error. error.error_type ≡ ErrorKind.NoCredentials) }
     ensures plain { IfErr result (λ error. error.nstatus ≡ None) }
@@ -139,6 +142,7 @@ fn identify<N: Mechanism, K: Mechanism, C: CredentialsProxy>(
     ensures told { C.told proxy.new ≡ C.told proxy.old }
     ensures failing { C.failing proxy.new ≡ C.failing proxy.old }
     ensures faults { C.faults proxy.old ≤ C.faults proxy.new }
+    ensures once { C.calls proxy.new ≤ C.calls proxy.old + 1 }
     ensures calm { C.failing proxy.old ≡ Some [] → C.faults proxy.new ≡ C.faults proxy.old }
     ensures plain { IfErr result (λ error. error.nstatus ≡ None) }
     ensures cause { IfErr result (λ error. error.error_type ≢ ErrorKind.InsufficientMemory → IdentifyCause (either N.meaning K.meaning)
@@ -183,6 +187,8 @@ impl<N: Mechanism, K: Mechanism, C: CredentialsProxy> CredSspServer<N, K, C> {
             NegoCause (either N.meaning K.meaning) C.told C.faults self.new.acts.status self.old.proxy request.pub_key_auth request.client_nonce self.new refusal.error.error_type) }
         ensures plain { IfErr result (λ refusal. refusal.error.nstatus ≡ None) }
         ensures begun { IsSome self.new.context }
+        ensures once { C.calls self.new.proxy ≤ C.calls self.old.proxy + 1 }
+        ensures unasked { (IsOver self.new.acts.status → ⊥) → self.new.proxy ≡ self.old.proxy }
         ensures told { C.told self.new.proxy ≡ C.told self.old.proxy }
         ensures failing { C.failing self.new.proxy ≡ C.failing self.old.proxy }
         ensures faults { C.faults self.old.proxy ≤ C.faults self.new.proxy }
@@ -211,6 +217,8 @@ impl<N: Mechanism, K: Mechanism, C: CredentialsProxy> CredSspServer<N, K, C> {
             NegoCause (either N.meaning K.meaning) C.told C.faults self.new.acts.status self.old.proxy request.now.pub_key_auth request.now.client_nonce self.new error.error_type) }
         ensures plain { IfErr result (λ error. error.nstatus ≡ None) }
         ensures begun { IsSome self.new.context }
+        ensures once { C.calls self.new.proxy ≤ C.calls self.old.proxy + 1 }
+        ensures unasked { (IsOver self.new.acts.status → ⊥) → self.new.proxy ≡ self.old.proxy }
         ensures told { C.told self.new.proxy ≡ C.told self.old.proxy }
         ensures failing { C.failing self.new.proxy ≡ C.failing self.old.proxy }
         ensures faults { C.faults self.old.proxy ≤ C.faults self.new.proxy }
@@ -249,6 +257,8 @@ impl<N: Mechanism, K: Mechanism, C: CredentialsProxy> CredSspServer<N, K, C> {
             NegoCause (either N.meaning K.meaning) C.told C.faults (Some status) self.old.proxy request.now.pub_key_auth request.now.client_nonce self.new error.error_type) }
         ensures plain { IfErr result (λ error. error.nstatus ≡ None) }
         ensures begun { IsSome self.new.context }
+        ensures once { C.calls self.new.proxy ≤ C.calls self.old.proxy + 1 }
+        ensures unasked { (IsOver self.new.acts.status → ⊥) → self.new.proxy ≡ self.old.proxy }
         ensures told { C.told self.new.proxy ≡ C.told self.old.proxy }
         ensures failing { C.failing self.new.proxy ≡ C.failing self.old.proxy }
         ensures faults { C.faults self.old.proxy ≤ C.faults self.new.proxy }
@@ -299,6 +309,7 @@ impl<N: Mechanism, K: Mechanism, C: CredentialsProxy> CredSspServer<N, K, C> {
             OverCause (either N.meaning K.meaning) C.told C.faults self.old.proxy request.now.pub_key_auth request.now.client_nonce self.new error.error_type) }
         ensures plain { IfErr result (λ error. error.nstatus ≡ None) }
         ensures begun { IsSome self.new.context }
+        ensures once { C.calls self.new.proxy ≤ C.calls self.old.proxy + 1 }
         ensures told { C.told self.new.proxy ≡ C.told self.old.proxy }
         ensures failing { C.failing self.new.proxy ≡ C.failing self.old.proxy }
         ensures faults { C.faults self.old.proxy ≤ C.faults self.new.proxy }

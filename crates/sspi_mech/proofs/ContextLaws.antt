@@ -12,7 +12,7 @@ still_unused n k same unused = rw same unused
 pub contextual : {S M : Type 0} (requests : ℕ) (it : Meaning S M) → IsMechanism requests it → IsContext it
 contextual requests it laws = record {
   made_fresh = laws.made_fresh;
-  acquire_counts = laws.acquire_counts;
+  acquire_unused = λ m m2 u d b unused acquired. still_unused _ _ (laws.acquire_counts m m2 u d b acquired) unused;
   identify_counts = laws.identify_counts;
   step_unused = λ m m2 a r unused stepped. still_unused _ _ (laws.step_counts m m2 a r stepped) unused;
   resume_unused = λ m m2 b r unused resumed. still_unused _ _ (laws.resume_counts m m2 b r resumed) unused;
@@ -22,7 +22,6 @@ contextual requests it laws = record {
   resume_waits = laws.resume_waits;
   step_done = laws.step_done;
   resume_done = laws.resume_done;
-  accept_done = laws.accept_done;
   counts_counted = laws.counts_counted;
   counted_counted = laws.counted_counted;
   counted_counts = laws.counted_counts;

@@ -13,7 +13,7 @@ counted_on n = min (n + 1) (2 ^ 64 - 1)
 -- the count of faults never falls; a failure has it rise, or finds it at its last value
 abbrev pub AskCause : {X : Type 0} → ℕ → ℕ → Result X KdcError → Type 0
 AskCause before now (Ok x) = before ≤ now
-AskCause before now (Err errors.Failed) = counted_on before ≤ now
+AskCause before now (Err errors.Failed) = (before ≤ now) × (counted_on before ≤ now)
 AskCause before now (Err errors.InsufficientMemory) = before ≤ now
 
 -- where the replies are told, by the number of the call, the answer is the one that is told: it fails exactly where that

@@ -17,23 +17,23 @@ pub record IsUnused (n : Counts) : Type 0 where
   pub unsealed : n.unsealed ≡ 0
 
 -- What holds of every context, also of one that chooses among mechanisms: there a refused step may move the context,
--- a step may sign and check MICs, and another mechanism may take the place of the first. What no step does is seal or open.
+-- a step may sign and check MICs, and another mechanism may take the place of the first, also where credentials are acquired.
+-- What none of these does is seal or open.
 pub record IsContext {S C : Type 0} (c : Meaning S C) : Type 0 where
   pub made_fresh : (s : S) (m : C) → c.made s m → c.counts m ≡ no_counts
-  pub acquire_counts : (m m2 : C) (u : CredentialUse) (d : Option Credentials) (b : Option CredentialsBuffers) →
-      c.acquires m u d b m2 → c.counts m2 ≡ c.counts m
+  pub acquire_unused : (m m2 : C) (u : CredentialUse) (d : Option Credentials) (b : Option CredentialsBuffers) →
+      IsUnused (c.counts m) → c.acquires m u d b m2 → IsUnused (c.counts m2)
   pub identify_counts : (m m2 : C) (ids : List Credentials) → c.identifies m ids m2 → c.counts m2 ≡ c.counts m
   pub step_unused : (m m2 : C) (a : StepArgs) (r : Answer) → IsUnused (c.counts m) → c.steps m a r m2 → IsUnused (c.counts m2)
   pub resume_unused : (m m2 : C) (b : Reply) (r : Answer) → IsUnused (c.counts m) → c.resumes m b r m2 → IsUnused (c.counts m2)
   pub accept_unused : (m m2 : C) (a : AcceptArgs) (r : Result Step Error) →
       IsUnused (c.counts m) → c.accepts m a r m2 → IsUnused (c.counts m2)
-  -- each further question to a KDC is one fewer to come; a context that asked waits, and one that is done does not
+  -- each further question to a KDC is one fewer to come; a client that asked waits, and one whose step is done does not
   pub resume_asks : (m m2 : C) (b : Reply) (q : NetworkRequest) → c.resumes m b (Ask q) m2 → c.left m2 < c.left m
   pub step_waits : (m m2 : C) (a : StepArgs) (q : NetworkRequest) → c.steps m a (Ask q) m2 → c.waits m2 ≡ true
   pub resume_waits : (m m2 : C) (b : Reply) (q : NetworkRequest) → c.resumes m b (Ask q) m2 → c.waits m2 ≡ true
   pub step_done : (m m2 : C) (a : StepArgs) (s : Step) → c.steps m a (Done s) m2 → c.waits m2 ≡ false
   pub resume_done : (m m2 : C) (b : Reply) (s : Step) → c.resumes m b (Done s) m2 → c.waits m2 ≡ false
-  pub accept_done : (m m2 : C) (a : AcceptArgs) (s : Step) → c.accepts m a (Ok s) m2 → c.waits m2 ≡ false
   -- a context is its counts and what does not depend on them
   pub counts_counted : (m : C) (n : Counts) → c.counts (c.counted m n) ≡ n
   pub counted_counted : (m : C) (n k : Counts) → c.counted (c.counted m n) k ≡ c.counted m k

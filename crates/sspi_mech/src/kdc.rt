@@ -71,6 +71,7 @@ impl Kdc for FailingKdc {
     fn ask(&mut self, _request: &NetworkRequest) -> Result<Vec<u8>, KdcError>
         ensures failed { result ≡ Err KdcError.Failed }
         ensures count { self.new ≡ counted_on self.old }
+        ensures cause { AskCause self.old self.new result }
     {
         self.faults = self.faults.saturating_add(1);
         Err(KdcError::Failed)

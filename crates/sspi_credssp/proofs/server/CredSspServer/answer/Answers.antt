@@ -2,7 +2,7 @@ use Rattle.std.proofs.Common.{◌≡◌, Some, None, Ok, Err, sym, subst, rules}
 use Rattle.sspi_types.specs.declared.credential_use.CredentialUse.TheVariants.{Inbound}
 use Rattle.sspi_credssp.specs.Begun.{Begun, IfContext}
 use Rattle.sspi_credssp.specs.Context.{either, ForServer}
-use Rattle.sspi_credssp.specs.ServerStep.{Unknown, AcceptedSoFar, accepted, so_far, refused_step, server_args}
+use Rattle.sspi_credssp.specs.ServerStep.{Unknown, RefusedAt, accepted, refused_step, server_args}
 use Rattle.sspi_credssp.proofs.ClientReady.{context_here}
 use Rattle.sspi_credssp.proofs.server.CredSspServer.answer.Goals as goal
 
@@ -22,7 +22,7 @@ returns-in-Err-clause-step g c = λ start d token told begun.
     let begun_inside = subst (λ v. IfContext v.context (Begun it start.context start.handle (ForServer start.mode) Inbound None v.handle)) (sym c.self.view_is) begun in
     let here : c.self.inside.context ≡ Some c.in-Some.context = search rules in
     let none : c.self.inside.acts.status ≡ None = search rules in
-    subst (λ s. AcceptedSoFar it tells start c.self.inside.credentials_handle d.nego_tokens (refused_step s c.self.inside.output c.in-Err.error) c.accept.new.context)
+    subst (λ s. RefusedAt it tells s start c.self.inside.credentials_handle d.nego_tokens (refused_step s c.self.inside.output c.in-Err.error) c.accept.new.context)
     (sym none)
-    (so_far Unknown (accepted c.in-Some.context _ _ (context_here _ _ _ here begun_inside)
-    (subst (λ t. it.accepts c.in-Some.context (server_args c.self.inside.credentials_handle t) (Err c.in-Err.error) c.accept.new.context) (sym token) c.in-Err.ensures.step)))
+    (accepted c.in-Some.context _ _ (context_here _ _ _ here begun_inside)
+    (subst (λ t. it.accepts c.in-Some.context (server_args c.self.inside.credentials_handle t) (Err c.in-Err.error) c.accept.new.context) (sym token) c.in-Err.ensures.step))

@@ -5,7 +5,7 @@ use Rattle.sspi_credssp.specs.ServerStep.{Unknown}
 use Rattle.sspi_credssp.specs.ServerTurn.{IsOver}
 use Rattle.sspi_credssp.proofs.ContextLaws.{lawful}
 use Rattle.sspi_credssp.proofs.ServerCauses.{over_causes}
-use Rattle.sspi_credssp.proofs.ServerWalks.{known_so_far, known_over, turn_refused, turn_completed}
+use Rattle.sspi_credssp.proofs.ServerWalks.{unknown_refused, known_over, turn_refused, turn_completed}
 use Rattle.sspi_credssp.proofs.server.CredSspServer.answer_step.Goals as goal
 
 pub returns-in-Err-clause-step : goal.returns-in-Err-clause-step
@@ -17,7 +17,7 @@ returns-in-Err-clause-step g c = λ start d told accepted.
     let negotiated : c.args.self.now.acts.negotiated ≡ true = search rules in
     let answered : c.args.self.now.acts.status ≡ Some c.args.status = search rules in
     turn_refused it laws tells start c.args.self.now d c.args.status c.in-Err.error negotiated answered
-    (known_so_far it laws tells start c.args.self.now.handle d.nego_tokens Unknown _ _ accepted)
+    (unknown_refused it laws tells c.args.status start c.args.self.now.handle d.nego_tokens _ _ accepted)
 
 pub returns-then-has_ended-clause-step : goal.returns-then-has_ended-clause-step
 returns-then-has_ended-clause-step g c = λ start d told accepted.
@@ -46,4 +46,4 @@ returns-clause-step g c = λ start d told accepted.
     let negotiated : c.args.self.now.acts.negotiated ≡ true = search rules in
     let answered : c.args.self.now.acts.status ≡ Some c.args.status = search rules in
     turn_refused it laws tells start c.args.self.now d c.args.status c.new.result negotiated answered
-    (known_so_far it laws tells start c.args.self.now.handle d.nego_tokens Unknown _ _ accepted)
+    (unknown_refused it laws tells c.args.status start c.args.self.now.handle d.nego_tokens _ _ accepted)

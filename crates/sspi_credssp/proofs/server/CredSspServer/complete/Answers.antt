@@ -24,7 +24,7 @@ returns-in-Err-clause-cause g c = λ memory.
     let faults = g.C.CredentialsProxy.faults in
     let kind = c.in-Err.error.error_type in
     let same : c.self.inside.credentials ≡ c.args.self.now.proxy = search rules in
-    unknown (subst (λ m. IdentifyCause it m (told c.args.self.now.proxy) (faults c.args.self.now.proxy) (faults c.identify.new.proxy) kind)
+    unknown (search rules) (subst (λ m. IdentifyCause it m (told c.args.self.now.proxy) (faults c.args.self.now.proxy) (faults c.identify.new.proxy) kind)
     (sym c.in-Err.ensures.err)
     (subst (λ p. IdentifyCause it c.in-Some.context (told p) (faults p) (faults c.identify.new.proxy) kind) same (c.in-Err.ensures.cause memory)))
 
@@ -66,7 +66,7 @@ returns-in-Err-complete_auth_token-clause-cause g c = λ memory.
     let it = either g.N.Mechanism.meaning g.K.Mechanism.meaning in
     let told = g.C.CredentialsProxy.told in
     let same : c.self.inside.credentials ≡ c.args.self.now.proxy = search rules in
-    incomplete c.in-Some.context (
+    incomplete (search rules) c.in-Some.context (
       subst (λ m. IsIdentified it (told c.args.self.now.proxy) c.in-Some.context m) (sym c.complete_auth_token.ensures.same)
           (subst (λ p. IsIdentified it (told p) c.in-Some.context c.identify.new.context) same c.in-Ok.ensures.identified),
       subst (λ m. it.refuses m ToComplete c.in-Err-complete_auth_token.error.error_type) (sym c.complete_auth_token.ensures.same)
