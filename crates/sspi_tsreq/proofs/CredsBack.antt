@@ -1,15 +1,14 @@
 -- Credentials that are written are read back.
-use Rattle.std.proofs.Common.{◌≡◌, ℕ, ◌<◌, ◌≤◌, List, [], ◌∷◌, ◌++◌, true, false, Bool, cond, leb, Option, Some, None, Result, Ok, Err, length, refl, sym, ap, ◌∙◌, subst, arith, lit≤}
-use Rattle.std.proofs.lemmas.List.{append-nil, append_assoc, length-append}
+use Rattle.std.proofs.Common.{◌≡◌, ℕ, ◌≤◌, List, [], ◌∷◌, ◌++◌, true, false, Bool, cond, leb, Result, Ok, Err, length, refl, sym, ap, ◌∙◌, subst, arith, lit≤}
+use Rattle.std.proofs.lemmas.List.{append-nil}
 use Rattle.std.proofs.lemmas.Bool.{leb-true}
 use Rattle.sspi_types.specs.declared.error.Error.{Error}
-use Rattle.sspi_ber.specs.Fault.{Read, ◌>>=◌}
 use Rattle.sspi_ber.specs.Limit.{max_content}
 use Rattle.sspi_ber.specs.Pieces.{element_at}
 use Rattle.sspi_ber.specs.Short.{element, element_size, header, len_short, int_short, int_content}
 use Rattle.sspi_ber.proofs.Agreement.{short_element_again}
 use Rattle.sspi_ber.proofs.Written.{length-element}
-use Rattle.sspi_names.specs.Utf16.{IsUtf16, bytes_le, decode_le}
+use Rattle.sspi_names.specs.Utf16.{IsUtf16, bytes_le}
 use Rattle.sspi_names.specs.Identity.{AreBuffers}
 use Rattle.sspi_names.specs.Credentials.{AreCredentials}
 use Rattle.sspi_names.specs.declared.identity.AuthIdentityBuffers.{AuthIdentityBuffers}
@@ -18,10 +17,10 @@ use Rattle.sspi_names.specs.declared.credentials.CredentialsBuffers.TheVariants 
 use Rattle.sspi_names.proofs.CodeUnits.{decode_le-bytes_le}
 use Rattle.sspi_tsreq.specs.declared.mode.CredSspMode.{CredSspMode}
 use Rattle.sspi_tsreq.specs.declared.mode.CredSspMode.TheVariants.{WithCredentials, CredentialLess}
-use Rattle.sspi_tsreq.specs.Creds.{Fields, Passwords, ◌and_then◌, malformed, octets_in, octets_field, fields_at, passwords_at, password_fields, password_type_field, password_type, creds_body, creds_in, creds_of, creds_text, buffers_text, spelled_if_fits, too_long, keytab_refused, texts_of, text_or_refused, spelled_or_malformed, delegated, carried}
+use Rattle.sspi_tsreq.specs.Creds.{octets_in, octets_field, fields_at, passwords_at, password_fields, password_type_field, creds_body, creds_in, creds_of, creds_text, buffers_text, spelled_if_fits, too_long, texts_of, delegated, carried}
 use Rattle.std.specs.Result.{IfOk}
 use Rattle.sspi_tsreq.specs.CredsAnswers.{IsOrMemory}
-use Rattle.sspi_tsreq.specs.CredsSizes.{FitTexts, fields_size, body_size}
+use Rattle.sspi_tsreq.specs.CredsSizes.{FitTexts, fields_size}
 use Rattle.sspi_tsreq.proofs.Room.{length-password_fields, length-creds_body, texts_fit}
 
 -- an element behind which nothing stands

@@ -9,7 +9,7 @@ use Rattle.std.specs.Prelude.{◌++◌, ◌==◌, nat_le, ℕ, List, [], ◌∷�
 use Rattle.sspi_types.specs.declared.error.Error.{Error}
 use Rattle.sspi_types.specs.declared.error_kind.ErrorKind.TheVariants.{InvalidToken, UnsupportedFunction, UnsupportedPreAuth, InternalError}
 use Rattle.sspi_types.specs.declared.reason.Reason.TheVariants.{TokenForm, CredType, SmartCard, Keytab, TooLong}
-use Rattle.sspi_ber.specs.Fault.{Fault, Read, ◌>>=◌}
+use Rattle.sspi_ber.specs.Fault.{Read, ◌>>=◌}
 use Rattle.sspi_ber.specs.Limit.{max_content}
 use Rattle.sspi_ber.specs.Pieces.{element_at}
 use Rattle.sspi_ber.specs.Short.{element, int_short}
