@@ -7,7 +7,7 @@ use sspi_ber::{Sink, Source, WireKind, write_all};
 /// How many bytes an Early User Authorization Result PDU has.
 pub const EARLY_USER_AUTH_RESULT_PDU_SIZE: usize = 4;
 
-/// Whether the user may log on, which a server that supports HYBRID_EX says behind CredSSP (MS-CSSP 2.2.4).
+/// Whether the user may log on, which a server that supports HYBRID_EX says behind CredSSP (MS-RDPBCGR 2.2.10.2).
 #[derive(Clone, Copy, Debug, PartialEq, Eq)]
 pub enum EarlyUserAuthResult {
     Success,

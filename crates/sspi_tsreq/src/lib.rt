@@ -1,4 +1,5 @@
-//! The messages of CredSSP (MS-CSSP 2.2): TSRequest, TSCredentials and the early user authorization result.
+//! The messages of CredSSP (MS-CSSP 2.2), TSRequest and TSCredentials, and the early user authorization result that a
+//! server may send behind them (MS-RDPBCGR 2.2.10.2).
 //!
 //! `TsRequest::from_buffer` reads exactly the grammar of `specs/Grammar.antt`: it answers the request that the bytes begin
 //! with, or their first fault from the left. `encode_ts_request` writes exactly the shortest spelling of what the version
