@@ -9,7 +9,7 @@ ghost use Rattle.sspi_names.specs.declared.credentials.CredentialsBuffers.TheVar
 ghost use Rattle.sspi_names.specs.declared.identity.AuthIdentityBuffers.{AuthIdentityBuffers};
 ghost use Rattle.sspi_names.specs.declared.identity.KeytabIdentity.{KeytabIdentity};
 ghost use Rattle.sspi_tsreq.specs.declared.mode.CredSspMode.{CredSspMode};
-ghost use Rattle.sspi_tsreq.specs.Creds.{carried, creds_of, creds_text, malformed, smart_card, unknown_type, Passwords};
+ghost use Rattle.sspi_tsreq.specs.Creds.{delegated_credentials, creds_of, creds_text, malformed, smart_card, unknown_type, Passwords};
 ghost use Rattle.sspi_tsreq.specs.CredsGrammar.{HasBadText, IsCreds, IsCredsOfType, IsNoCreds, IsOtherType, IsPasswordCreds, LacksPasswords, StandsFor};
 
 /// Buffers are read exactly where the grammar has TSCredentials of a password that stand for them; a keytab is never read.
@@ -60,7 +60,7 @@ pub fn creds_are_known_by_bytes()
 #[tactic(auto, using(crate::proofs::CredsBack::credentials_back, crate::proofs::CredsBack::credentials_back_alone))]
 pub fn written_credentials_are_read()
     ensures read { (c : CredentialsBuffers) (mode : CredSspMode) (text : List ℕ) → AreCredentials c → creds_text c mode ≡ Ok text
-        → creds_of text ≡ Ok (carried mode c) }
+        → creds_of text ≡ Ok (delegated_credentials mode c) }
     ensures followed { (c : CredentialsBuffers) (mode : CredSspMode) (text more : List ℕ) → AreCredentials c → creds_text c mode ≡ Ok text
-        → creds_of (text ++ more) ≡ Ok (carried mode c) }
+        → creds_of (text ++ more) ≡ Ok (delegated_credentials mode c) }
 {}
