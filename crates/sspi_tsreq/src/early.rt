@@ -10,7 +10,9 @@ pub const EARLY_USER_AUTH_RESULT_PDU_SIZE: usize = 4;
 /// Whether the user may log on, which a server that supports HYBRID_EX says behind CredSSP (MS-RDPBCGR 2.2.10.2).
 #[derive(Clone, Copy, Debug, PartialEq, Eq)]
 pub enum EarlyUserAuthResult {
+    /// The user may log on: the number 0 (AUTHZ_SUCCESS).
     Success,
+    /// The user may not log on: the number 5 (AUTHZ_ACCESS_DENIED).
     AccessDenied,
 }
 
