@@ -10,7 +10,7 @@ use Rattle.sspi_names.specs.Utf16.{bytes_le}
 use Rattle.sspi_names.specs.declared.identity.AuthIdentityBuffers.{AuthIdentityBuffers}
 use Rattle.sspi_tsreq.specs.declared.request.TsRequest.{TsRequest}
 use Rattle.sspi_tsreq.specs.Creds.{buffers_text, creds_body, spelled_if_fits}
-use Rattle.sspi_tsreq.specs.CredsSizes.{fields_size, body_size}
+use Rattle.sspi_tsreq.specs.CredsSizes.{password_fields_size, body_size}
 use Rattle.sspi_tsreq.specs.Spelling.{carried, carries_nonce, version_field, token_item, token_list, nego_field, octets_field, code_field, last_fields, later_fields, fields, fits}
 use Rattle.sspi_tsreq.proofs.Room.{length-creds_body}
 
@@ -128,7 +128,7 @@ short_credentials b user domain password =
     let ul : length u ≡ 2 * length b.user = units_twice b.user in
     let pl : length p ≡ 2 * length b.password.value = units_twice b.password.value in
     let whole : length (creds_body d u p) ≡ body_size (length d) (length u) (length p) = length-creds_body d u p in
-    let f = fields_size (length d) (length u) (length p) in
+    let f = password_fields_size (length d) (length u) (length p) in
     let a1 = size_below f in
     let a2 = size_below (element_size f) in
     let a3 = size_below (element_size (element_size f)) in

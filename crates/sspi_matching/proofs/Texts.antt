@@ -10,7 +10,7 @@ use Rattle.sspi_names.specs.Utf16.{units_of}
 use Rattle.sspi_names.proofs.Identities.{buffers_back, identity_by, buffers_of-AreBuffers}
 use Rattle.sspi_tsreq.specs.declared.mode.CredSspMode.{CredSspMode}
 use Rattle.sspi_tsreq.specs.declared.mode.CredSspMode.TheVariants.{WithCredentials, CredentialLess}
-use Rattle.sspi_tsreq.specs.Creds.{buffers_text, creds_of, delegated, carried}
+use Rattle.sspi_tsreq.specs.Creds.{buffers_text, creds_of, delegated, delegated_credentials}
 use Rattle.sspi_tsreq.proofs.CredsBack.{credentials_back_alone}
 use Rattle.sspi_credssp.specs.Credentials.{delegated_text, delegated_identity, identity_in, named_or_refused}
 use Rattle.sspi_matching.specs.Matching.{IsShort, delegated_as}
@@ -60,7 +60,7 @@ text_holds : (mode : CredSspMode) (i : AuthIdentity) (text : List ℕ) → IsIde
     delegated_identity text ≡ Ok (delegated_as mode i)
 unfolding delegated_identity
 text_holds mode i text is spelled =
-    let back : creds_of text ≡ Ok (carried mode (buffers.AuthIdentity (buffers_of i))) =
+    let back : creds_of text ≡ Ok (delegated_credentials mode (buffers.AuthIdentity (buffers_of i))) =
     credentials_back_alone (buffers.AuthIdentity (buffers_of i)) mode text (buffers_of-AreBuffers i is) spelled in
     ap identity_in back ∙ ap named_or_refused (identity_back mode i is)
 

@@ -6,6 +6,7 @@ use std::alloc::{AllocError, Global};
 /// The name of the user of a context (SecPkgContext_Names).
 #[derive(Drop, PartialEq, Eq)]
 pub struct ContextNames {
+    /// The user's name.
     pub username: Username,
 }
 

@@ -6,14 +6,18 @@ use std::alloc::{AllocError, Global};
 /// What a client authenticates by.
 #[derive(Drop, PartialEq, Eq)]
 pub enum Credentials {
+    /// A user name and its password.
     AuthIdentity(AuthIdentity),
+    /// A user name and a keytab.
     Keytab(KeytabIdentity),
 }
 
 /// `Credentials` with the texts as UTF-16.
 #[derive(Drop, PartialEq, Eq)]
 pub enum CredentialsBuffers {
+    /// A user name, its domain and its password, as UTF-16.
     AuthIdentity(AuthIdentityBuffers),
+    /// A user name and a keytab, as in `Credentials`.
     Keytab(KeytabIdentity),
 }
 

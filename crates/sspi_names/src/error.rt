@@ -6,6 +6,7 @@ use std::alloc::{AllocError, AllocFailed};
 pub enum UsernameError {
     /// Both `@` and `\` stand in the text, or `\` more than once.
     MixedFormat,
+    /// Memory ran out.
     InsufficientMemory,
 }
 
@@ -16,6 +17,7 @@ pub enum Utf16Error {
     OddLength,
     /// A surrogate stands without its partner.
     UnpairedSurrogate,
+    /// Memory ran out.
     InsufficientMemory,
 }
 

@@ -8,22 +8,29 @@ use std::alloc::{AllocError, Global};
 /// A user name and its password.
 #[derive(Drop, PartialEq, Eq)]
 pub struct AuthIdentity {
+    /// The user's name.
     pub username: Username,
+    /// The user's password.
     pub password: Secret<Text>,
 }
 
 /// A user name, its domain and its password as UTF-16 (SEC_WINNT_AUTH_IDENTITY).
 #[derive(Drop, PartialEq, Eq)]
 pub struct AuthIdentityBuffers {
+    /// The user's name; a user principal name stands here whole.
     pub user: Utf16Text,
+    /// The user's domain; empty for a user principal name.
     pub domain: Utf16Text,
+    /// The user's password.
     pub password: Secret<Utf16Text>,
 }
 
 /// A user name and the keytab that has its keys.
 #[derive(Drop, PartialEq, Eq)]
 pub struct KeytabIdentity {
+    /// The user's name.
     pub username: Username,
+    /// The bytes of the keytab.
     pub keytab: Bytes,
 }
 

@@ -6,17 +6,24 @@ use std::alloc::{AllocError, Global};
 /// The transport by which a KDC is asked.
 #[derive(Clone, Copy, Debug, PartialEq, Eq)]
 pub enum NetworkProtocol {
+    /// A TCP connection.
     Tcp,
+    /// UDP datagrams.
     Udp,
+    /// A request over HTTP.
     Http,
+    /// A request over HTTP with TLS.
     Https,
 }
 
 /// What a suspended step asks of a KDC.
 #[derive(Drop, PartialEq, Eq)]
 pub struct NetworkRequest {
+    /// How the KDC is asked.
     pub protocol: NetworkProtocol,
+    /// Where the KDC is.
     pub url: Text,
+    /// The bytes that are sent.
     pub payload: Bytes,
 }
 

@@ -1,10 +1,9 @@
 -- Filling a buffer from a source, read by read.
-use Rattle.std.proofs.Common.{◌≡◌, ℕ, zero, suc, ◌+◌, ◌-◌, ◌<◌, ◌≤◌, List, [], ◌∷◌, ◌++◌, length, take, drop, Option, None, Some, Result, Ok, Err, refl, sym, ap, ◌∙◌, subst, arith}
+use Rattle.std.proofs.Common.{◌≡◌, ℕ, suc, ◌+◌, ◌-◌, ◌<◌, ◌≤◌, List, [], ◌∷◌, ◌++◌, length, take, drop, Option, None, Some, Ok, Err, refl, sym, ap, ◌∙◌, subst, arith}
 use borrow.Rule.Slice.PartMut.{put_mid}
 use Rattle.std.specs.Io.KnownBytes.{Consumes, Keeps, IsAtEnd}
 use Rattle.std.proofs.lemmas.Bool.{lt-ltb, le-ltb}
-use Rattle.std.proofs.lemmas.List.{append-nil, append_assoc, length-append, length-take-le, take-append-le, take_all, take_at, drop_at}
-use Rattle.sspi_ber.specs.declared.wire_kind.WireKind.{WireKind}
+use Rattle.std.proofs.lemmas.List.{append_assoc, length-append, length-take-le, take-append-le, take_all, take_at, drop_at}
 use Rattle.sspi_ber.specs.declared.wire_kind.WireKind.TheVariants.{UnexpectedEof, ReadFault}
 use Rattle.sspi_ber.specs.Fault.{Ended, Read}
 use Rattle.sspi_ber.specs.Outside.{Reads, LeavesRest}

@@ -1,15 +1,14 @@
 -- Credentials that are written are read back.
-use Rattle.std.proofs.Common.{◌≡◌, ℕ, ◌<◌, ◌≤◌, List, [], ◌∷◌, ◌++◌, true, false, Bool, cond, leb, Option, Some, None, Result, Ok, Err, length, refl, sym, ap, ◌∙◌, subst, arith, lit≤}
-use Rattle.std.proofs.lemmas.List.{append-nil, append_assoc, length-append}
+use Rattle.std.proofs.Common.{◌≡◌, ℕ, ◌≤◌, List, [], ◌∷◌, ◌++◌, true, false, Bool, cond, leb, Result, Ok, Err, length, refl, sym, ap, ◌∙◌, subst, arith, lit≤}
+use Rattle.std.proofs.lemmas.List.{append-nil}
 use Rattle.std.proofs.lemmas.Bool.{leb-true}
 use Rattle.sspi_types.specs.declared.error.Error.{Error}
-use Rattle.sspi_ber.specs.Fault.{Read, ◌>>=◌}
 use Rattle.sspi_ber.specs.Limit.{max_content}
 use Rattle.sspi_ber.specs.Pieces.{element_at}
 use Rattle.sspi_ber.specs.Short.{element, element_size, header, len_short, int_short, int_content}
 use Rattle.sspi_ber.proofs.Agreement.{short_element_again}
 use Rattle.sspi_ber.proofs.Written.{length-element}
-use Rattle.sspi_names.specs.Utf16.{IsUtf16, bytes_le, decode_le}
+use Rattle.sspi_names.specs.Utf16.{IsUtf16, bytes_le}
 use Rattle.sspi_names.specs.Identity.{AreBuffers}
 use Rattle.sspi_names.specs.Credentials.{AreCredentials}
 use Rattle.sspi_names.specs.declared.identity.AuthIdentityBuffers.{AuthIdentityBuffers}
@@ -18,10 +17,10 @@ use Rattle.sspi_names.specs.declared.credentials.CredentialsBuffers.TheVariants 
 use Rattle.sspi_names.proofs.CodeUnits.{decode_le-bytes_le}
 use Rattle.sspi_tsreq.specs.declared.mode.CredSspMode.{CredSspMode}
 use Rattle.sspi_tsreq.specs.declared.mode.CredSspMode.TheVariants.{WithCredentials, CredentialLess}
-use Rattle.sspi_tsreq.specs.Creds.{Fields, Passwords, ◌and_then◌, malformed, octets_in, octets_field, fields_at, passwords_at, password_fields, password_type_field, password_type, creds_body, creds_in, creds_of, creds_text, buffers_text, spelled_if_fits, too_long, keytab_refused, texts_of, text_or_refused, spelled_or_malformed, delegated, carried}
+use Rattle.sspi_tsreq.specs.Creds.{octets_in, wrapped_octets, fields_at, passwords_at, password_fields, password_type_field, creds_body, creds_in, creds_of, creds_text, buffers_text, spelled_if_fits, too_long, texts_of, delegated, delegated_credentials}
 use Rattle.std.specs.Result.{IfOk}
 use Rattle.sspi_tsreq.specs.CredsAnswers.{IsOrMemory}
-use Rattle.sspi_tsreq.specs.CredsSizes.{FitTexts, fields_size, body_size}
+use Rattle.sspi_tsreq.specs.CredsSizes.{FitTexts, password_fields_size}
 use Rattle.sspi_tsreq.proofs.Room.{length-password_fields, length-creds_body, texts_fit}
 
 -- an element behind which nothing stands
@@ -29,14 +28,14 @@ alone : (tag : ℕ) (content : List ℕ) → length content ≤ max_content → 
 alone tag content le = ap (element_at tag) (sym (append-nil (element tag content))) ∙ short_element_again tag content [] le
 
 octets_back : (tag : ℕ) (content more : List ℕ) → length content ≤ max_content → element_size (length content) ≤ max_content
-    → octets_in tag (octets_field tag content ++ more) ≡ Ok (content, more)
-unfolding octets_in octets_field
+    → octets_in tag (wrapped_octets tag content ++ more) ≡ Ok (content, more)
+unfolding octets_in wrapped_octets
 octets_back tag content more le outer =
     rw (short_element_again tag (element 0x04 content) more (omega (arith, length-element 0x04 content)), alone 0x04 content le)
 
 octets_alone : (tag : ℕ) (content : List ℕ) → length content ≤ max_content → element_size (length content) ≤ max_content
-    → octets_in tag (octets_field tag content) ≡ Ok (content, [])
-octets_alone tag content le outer = ap (octets_in tag) (sym (append-nil (octets_field tag content))) ∙ octets_back tag content [] le outer
+    → octets_in tag (wrapped_octets tag content) ≡ Ok (content, [])
+octets_alone tag content le outer = ap (octets_in tag) (sym (append-nil (wrapped_octets tag content))) ∙ octets_back tag content [] le outer
 
 passwords_back : (d u p : List ℕ) → FitTexts (length d) (length u) (length p)
     → passwords_at (element 0x30 (password_fields d u p)) ≡ Ok (record { domain = d; user = u; password = p }, [])
@@ -44,8 +43,8 @@ unfolding passwords_at password_fields
 passwords_back d u p fit =
     rw (
       alone 0x30 (password_fields d u p) (omega (arith, length-password_fields d u p, fit.fields)),
-      octets_back 0xA0 d (octets_field 0xA1 u ++ octets_field 0xA2 p) fit.domain_text fit.domain_octets,
-      octets_back 0xA1 u (octets_field 0xA2 p) fit.user_text fit.user_octets,
+      octets_back 0xA0 d (wrapped_octets 0xA1 u ++ wrapped_octets 0xA2 p) fit.domain_text fit.domain_octets,
+      octets_back 0xA1 u (wrapped_octets 0xA2 p) fit.user_text fit.user_octets,
       octets_alone 0xA2 p fit.password_text fit.password_octets,
     )
 
@@ -62,9 +61,9 @@ fields_back : (d u p : List ℕ) → FitTexts (length d) (length u) (length p)
 unfolding fields_at creds_body password_type_field
 fields_back d u p fit =
     let sequence = element 0x30 (password_fields d u p) in
-    let size : length sequence ≡ element_size (fields_size (length d) (length u) (length p)) = length-element 0x30 (password_fields d u p) ∙ ap element_size (length-password_fields d u p) in
+    let size : length sequence ≡ element_size (password_fields_size (length d) (length u) (length p)) = length-element 0x30 (password_fields d u p) ∙ ap element_size (length-password_fields d u p) in
     rw (
-      short_element_again 0xA0 (int_short 1) (octets_field 0xA1 sequence) number_length,
+      short_element_again 0xA0 (int_short 1) (wrapped_octets 0xA1 sequence) number_length,
       number_back,
       octets_alone 0xA1 sequence (omega (arith, size, fit.sequence)) (subst (λ n. element_size n ≤ max_content) (sym size) fit.octets),
     )
@@ -106,11 +105,11 @@ buffers_back b text more h e =
     ap (λ t. creds_of (t ++ more)) (sym whole.1) ∙ creds_back b more h whole.0
 
 -- what is written of credentials is read back, whatever follows it
-pub credentials_back : (c : CredentialsBuffers) (mode : CredSspMode) (text more : List ℕ) → AreCredentials c → creds_text c mode ≡ Ok text → creds_of (text ++ more) ≡ Ok (carried mode c)
+pub credentials_back : (c : CredentialsBuffers) (mode : CredSspMode) (text more : List ℕ) → AreCredentials c → creds_text c mode ≡ Ok text → creds_of (text ++ more) ≡ Ok (delegated_credentials mode c)
 credentials_back (credentials.AuthIdentity b) mode text more h e = buffers_back (delegated mode b) text more (delegated_buffers mode b h) e
 credentials_back (credentials.Keytab identity) mode text more h e = absurd cc
 
-pub credentials_back_alone : (c : CredentialsBuffers) (mode : CredSspMode) (text : List ℕ) → AreCredentials c → creds_text c mode ≡ Ok text → creds_of text ≡ Ok (carried mode c)
+pub credentials_back_alone : (c : CredentialsBuffers) (mode : CredSspMode) (text : List ℕ) → AreCredentials c → creds_text c mode ≡ Ok text → creds_of text ≡ Ok (delegated_credentials mode c)
 credentials_back_alone c mode text h e = ap creds_of (sym (append-nil text)) ∙ credentials_back c mode text [] h e
 
 -- ---- what a writer answers

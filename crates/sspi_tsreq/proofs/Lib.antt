@@ -1,5 +1,7 @@
 pub mod Blocks
 pub mod CredsBack
+pub mod CredsMatch
+pub mod CredsAre
 pub mod Refused
 pub mod Room
 pub mod FieldsMatch

@@ -1,22 +1,21 @@
 -- What a fault of reading is to a reader of credentials.
-use Rattle.std.proofs.Common.{◌≡◌, ◌⊎◌, inl, inr, ℕ, ◌≤◌, [], ◌∷◌, Bool, true, false, cond, eqb, List, Option, None, Some, Result, Ok, Err, refl, sym, ap, ◌∙◌, subst, arith}
+use Rattle.std.proofs.Common.{◌≡◌, inl, inr, ℕ, ◌≤◌, [], ◌∷◌, Bool, true, false, cond, eqb, List, Option, None, Some, Result, Ok, Err, refl, sym, ap, ◌∙◌, subst, arith}
 use Rattle.sspi_types.specs.declared.error.Error.{Error}
 use Rattle.sspi_types.specs.Memory.{memory_error}
 use Rattle.sspi_ber.specs.declared.wire_kind.WireKind.{WireKind}
 use Rattle.sspi_ber.specs.declared.wire_kind.WireKind.TheVariants.{UnexpectedEof, InvalidData, ReadFault, WriteFault, InsufficientMemory}
 use Rattle.sspi_ber.specs.Fault.{Fault, Ended, Invalid, Read, ◌>>=◌}
-use Rattle.sspi_ber.specs.Kinds.{io_error}
-use Rattle.sspi_ber.specs.Outside.{Answers, Gives, NeedsNoMemory, Reads, ReadCause, Rose}
+use Rattle.sspi_ber.specs.Outside.{Answers, Gives, NeedsNoMemory, Reads, ReadCause}
 use Rattle.sspi_types.specs.declared.error_kind.ErrorKind.TheVariants.{InternalError}
-use Rattle.std.proofs.lemmas.Bool.{cases_Bool}
 use Rattle.sspi_ber.specs.Pieces.{header_at, bytes_at, element_at}
-use Rattle.sspi_names.specs.Refusals.{utf16_refusal}
+use Rattle.std.specs.Result.{IfErr}
+use Rattle.sspi_names.specs.Refusals.{bad_text, utf16_refusal}
 use Rattle.sspi_names.specs.Utf16.{decode_le}
 use Rattle.sspi_names.specs.declared.error.Utf16Error.{Utf16Error}
 use Rattle.sspi_names.specs.declared.error.Utf16Error.TheVariants as utf16
 use Rattle.sspi_names.specs.declared.credentials.CredentialsBuffers.{CredentialsBuffers}
 use Rattle.sspi_tsreq.specs.Creds.{Passwords, malformed, unknown_type, smart_card, spelled_or_malformed, ◌and_then◌, creds_of, creds_in, fields_at, passwords_at, password_type, texts_of, text_or_refused}
-use Rattle.sspi_tsreq.specs.CredsAnswers.{IsOrMemory, ReadsCreds, CredsCause, behind, refusal_by}
+use Rattle.sspi_tsreq.specs.CredsAnswers.{IsCredsRefusal, IsOrMemory, ReadsCreds, CredsCause, behind, refusal_by}
 
 refused_at : {A : Type 0} (read : Read A) (fault : Fault) → read ≡ Err fault → spelled_or_malformed read ≡ Err malformed
 refused_at read fault e = ap spelled_or_malformed e
@@ -126,48 +125,54 @@ content_answer (Some text) mid after n size body result same h r answer =
     let u = block_content (bytes_at n t.0) after body s in
     whole_answer text body u.0 after result (element_read text t.0 body u.0 n t.1 u.1) u.2 answer
 
+-- ---- what is true of each refusal is true of what reading answers
+
+module _ (P : Error → Type 0) (of_malformed : P malformed) (of_type : P unknown_type) (of_card : P smart_card) (of_text : P bad_text) (of_memory : P memory_error) where
+  then_refused : {A B : Type 0} (r : Result A Error) (next : A → Result B Error) (e : Error) → ((d : Error) → r ≡ Err d → P d)
+      → ((x : A) → next x ≡ Err e → P e) → (r and_then next) ≡ Err e → P e
+  then_refused (Ok x) next e first second is = second x is
+  then_refused (Err d) next e first second is = let same : d ≡ e = cc in subst P same (first d refl)
+
+  spelled_refused : {A : Type 0} (read : Read A) (d : Error) → spelled_or_malformed read ≡ Err d → P d
+  spelled_refused (Ok x) d is = absurd cc
+  spelled_refused (Err fault) d is = let same : malformed ≡ d = cc in subst P same of_malformed
+
+  by_number : (one two : Bool) (d : Error) → cond {A = Result (Unit {0}) Error} one (Ok tt) (cond two (Err smart_card) (Err unknown_type)) ≡ Err d → P d
+  by_number true two d is = absurd cc
+  by_number false true d is = let same : smart_card ≡ d = cc in subst P same of_card
+  by_number false false d is = let same : unknown_type ≡ d = cc in subst P same of_type
+
+  type_refused : (content : List ℕ) (d : Error) → password_type content ≡ Err d → P d
+  type_refused [] d is = let same : unknown_type ≡ d = cc in subst P same of_type
+  type_refused (number ∷ rest) d is = by_number (eqb number 1) (eqb number 2) d is
+
+  text_refused : (r : Result (List ℕ) Utf16Error) (d : Error) → text_or_refused r ≡ Err d → P d
+  text_refused (Ok units) d is = absurd cc
+  text_refused (Err utf16.OddLength) d is = let same : utf16_refusal utf16.OddLength ≡ d = cc in subst P same of_text
+  text_refused (Err utf16.UnpairedSurrogate) d is = let same : utf16_refusal utf16.UnpairedSurrogate ≡ d = cc in subst P same of_text
+  text_refused (Err utf16.InsufficientMemory) d is = let same : utf16_refusal utf16.InsufficientMemory ≡ d = cc in subst P same of_memory
+
+  texts_refused : (p : Passwords) (d : Error) → texts_of p ≡ Err d → P d
+  unfolding texts_of
+  texts_refused p d is =
+      then_refused (text_or_refused (decode_le p.domain)) _ d (text_refused (decode_le p.domain))
+      (λ domain. then_refused (text_or_refused (decode_le p.user)) _ d (text_refused (decode_le p.user))
+      (λ user. then_refused (text_or_refused (decode_le p.password)) _ d (text_refused (decode_le p.password)) (λ password e. absurd cc))) is
+
+  pub each_refusal : (body : List ℕ) (d : Error) → creds_in body ≡ Err d → P d
+  unfolding creds_in
+  each_refusal body d is =
+      then_refused (spelled_or_malformed (fields_at body)) _ d (spelled_refused (fields_at body))
+      (λ fields. then_refused (password_type fields.cred_type) _ d (type_refused fields.cred_type)
+      (λ known. then_refused (spelled_or_malformed (passwords_at fields.credentials)) _ d (spelled_refused (passwords_at fields.credentials)) (λ passwords. texts_refused passwords d))) is
+
 -- ---- no refusal of what was read is an internal error
 
 abbrev NotInternal : Error → Type 0
 NotInternal e = e.error_type ≡ InternalError → ⊥
 
-refusals_then : {A B : Type 0} (r : Result A Error) (next : A → Result B Error) (e : Error) → ((d : Error) → r ≡ Err d → NotInternal d)
-    → ((x : A) → next x ≡ Err e → NotInternal e) → (r and_then next) ≡ Err e → NotInternal e
-refusals_then (Ok x) next e first second is = second x is
-refusals_then (Err d) next e first second is = let same : d ≡ e = cc in subst NotInternal same (first d refl)
-
-spelled_external : {A : Type 0} (read : Read A) (d : Error) → spelled_or_malformed read ≡ Err d → NotInternal d
-spelled_external (Ok x) d is = absurd cc
-spelled_external (Err fault) d is = let same : malformed ≡ d = cc in subst NotInternal same (λ e. absurd cc)
-
-by_number : (one two : Bool) (d : Error) → cond {A = Result (Unit {0}) Error} one (Ok tt) (cond two (Err smart_card) (Err unknown_type)) ≡ Err d → NotInternal d
-by_number true two d is = absurd cc
-by_number false true d is = let same : smart_card ≡ d = cc in subst NotInternal same (λ e. absurd cc)
-by_number false false d is = let same : unknown_type ≡ d = cc in subst NotInternal same (λ e. absurd cc)
-
-type_external : (content : List ℕ) (d : Error) → password_type content ≡ Err d → NotInternal d
-type_external [] d is = let same : unknown_type ≡ d = cc in subst NotInternal same (λ e. absurd cc)
-type_external (number ∷ rest) d is = by_number (eqb number 1) (eqb number 2) d is
-
-text_external : (r : Result (List ℕ) Utf16Error) (d : Error) → text_or_refused r ≡ Err d → NotInternal d
-text_external (Ok units) d is = absurd cc
-text_external (Err utf16.OddLength) d is = let same : utf16_refusal utf16.OddLength ≡ d = cc in subst NotInternal same (λ e. absurd cc)
-text_external (Err utf16.UnpairedSurrogate) d is = let same : utf16_refusal utf16.UnpairedSurrogate ≡ d = cc in subst NotInternal same (λ e. absurd cc)
-text_external (Err utf16.InsufficientMemory) d is = let same : utf16_refusal utf16.InsufficientMemory ≡ d = cc in subst NotInternal same (λ e. absurd cc)
-
-texts_external : (p : Passwords) (d : Error) → texts_of p ≡ Err d → NotInternal d
-unfolding texts_of
-texts_external p d is =
-    refusals_then (text_or_refused (decode_le p.domain)) _ d (text_external (decode_le p.domain))
-    (λ domain. refusals_then (text_or_refused (decode_le p.user)) _ d (text_external (decode_le p.user))
-    (λ user. refusals_then (text_or_refused (decode_le p.password)) _ d (text_external (decode_le p.password)) (λ password e. absurd cc))) is
-
 creds_external : (body : List ℕ) (d : Error) → creds_in body ≡ Err d → NotInternal d
-unfolding creds_in
-creds_external body d is =
-    refusals_then (spelled_or_malformed (fields_at body)) _ d (spelled_external (fields_at body))
-    (λ fields. refusals_then (password_type fields.cred_type) _ d (type_external fields.cred_type)
-    (λ known. refusals_then (spelled_or_malformed (passwords_at fields.credentials)) _ d (spelled_external (passwords_at fields.credentials)) (λ passwords. texts_external passwords d))) is
+creds_external = each_refusal NotInternal (λ e. cc) (λ e. cc) (λ e. cc) (λ e. cc) (λ e. cc)
 
 memory_external : NotInternal memory_error
 memory_external e = cc
@@ -177,3 +182,25 @@ pub content_cause : (f g h : ℕ) (body : List ℕ) (result : Result Credentials
 content_cause f g h body (Ok b) p q answer = omega arith
 content_cause f g h body (Err error) p q (inl answer) = (omega arith, λ e. absurd (creds_external body error answer e))
 content_cause f g h body (Err error) p q (inr answer) = (omega arith, λ e. absurd (subst NotInternal (sym answer) memory_external e))
+
+-- ---- the refusals are those of the list
+
+memory_listed : IsCredsRefusal memory_error
+memory_listed = inr (inr (inr (inr (inl refl))))
+
+-- a fault of reading
+pub fault_listed : (kind : WireKind) → IsCredsRefusal (refusal_by kind)
+fault_listed UnexpectedEof = inl refl
+fault_listed InvalidData = inl refl
+fault_listed ReadFault = inr (inr (inr (inr (inr refl))))
+fault_listed WriteFault = inr (inr (inr (inr (inr refl))))
+fault_listed InsufficientMemory = memory_listed
+
+creds_listed : (body : List ℕ) (d : Error) → creds_in body ≡ Err d → IsCredsRefusal d
+creds_listed = each_refusal IsCredsRefusal (inl refl) (inr (inl refl)) (inr (inr (inl refl))) (inr (inr (inr (inl refl)))) memory_listed
+
+-- what was read whole
+pub content_listed : (body : List ℕ) (result : Result CredentialsBuffers Error) → IsOrMemory (λ b. b) result (creds_in body) → IfErr result IsCredsRefusal
+content_listed body (Ok b) answer = tt
+content_listed body (Err error) (inl answer) = creds_listed body error answer
+content_listed body (Err error) (inr answer) = subst IsCredsRefusal (sym answer) memory_listed

@@ -1,29 +1,29 @@
 -- The sizes of TSCredentials.
-use Rattle.std.proofs.Common.{◌≡◌, ℕ, ◌+◌, ◌<◌, ◌≤◌, List, [], ◌++◌, true, false, leb, Result, Ok, Err, length, refl, sym, ap, ◌∙◌, subst, arith}
+use Rattle.std.proofs.Common.{◌≡◌, ℕ, ◌+◌, ◌<◌, ◌≤◌, List, [], ◌++◌, true, false, leb, Ok, Err, length, refl, sym, ap, ◌∙◌, arith}
 use Rattle.std.proofs.lemmas.Bool.{le-leb, lt-leb}
 use Rattle.std.proofs.lemmas.List.{length-append}
 use Rattle.sspi_ber.specs.Limit.{max_content}
 use Rattle.sspi_ber.specs.Short.{element, element_size, header, len_short, int_short, int_content}
 use Rattle.sspi_ber.proofs.Written.{length-element, size_above}
-use Rattle.sspi_tsreq.specs.Creds.{octets_field, password_fields, password_type_field, creds_body, spelled_if_fits, too_long}
-use Rattle.sspi_tsreq.specs.CredsSizes.{fields_size, body_size, FitTexts}
+use Rattle.sspi_tsreq.specs.Creds.{wrapped_octets, password_fields, password_type_field, creds_body, spelled_if_fits, too_long}
+use Rattle.sspi_tsreq.specs.CredsSizes.{password_fields_size, body_size, FitTexts}
 use Rattle.sspi_tsreq.specs.Size.{IsCapped}
 use Rattle.sspi_tsreq.proofs.Capped.{capped_same, capped_more, capped_add, capped_fits, capped_past}
 
-length-octets_field : (tag : ℕ) (content : List ℕ) → length (octets_field tag content) ≡ element_size (element_size (length content))
-unfolding octets_field
-length-octets_field tag content = length-element tag (element 0x04 content) ∙ ap element_size (length-element 0x04 content)
+length-wrapped_octets : (tag : ℕ) (content : List ℕ) → length (wrapped_octets tag content) ≡ element_size (element_size (length content))
+unfolding wrapped_octets
+length-wrapped_octets tag content = length-element tag (element 0x04 content) ∙ ap element_size (length-element 0x04 content)
 
-pub length-password_fields : (domain user password : List ℕ) → length (password_fields domain user password) ≡ fields_size (length domain) (length user) (length password)
+pub length-password_fields : (domain user password : List ℕ) → length (password_fields domain user password) ≡ password_fields_size (length domain) (length user) (length password)
 unfolding password_fields
 length-password_fields domain user password =
     omega (
       arith,
-      length-append (octets_field 0xA0 domain) (octets_field 0xA1 user ++ octets_field 0xA2 password),
-      length-append (octets_field 0xA1 user) (octets_field 0xA2 password),
-      length-octets_field 0xA0 domain,
-      length-octets_field 0xA1 user,
-      length-octets_field 0xA2 password,
+      length-append (wrapped_octets 0xA0 domain) (wrapped_octets 0xA1 user ++ wrapped_octets 0xA2 password),
+      length-append (wrapped_octets 0xA1 user) (wrapped_octets 0xA2 password),
+      length-wrapped_octets 0xA0 domain,
+      length-wrapped_octets 0xA1 user,
+      length-wrapped_octets 0xA2 password,
     )
 
 length-password_type_field : length password_type_field ≡ 5
@@ -34,13 +34,13 @@ pub length-creds_body : (domain user password : List ℕ) → length (creds_body
 unfolding creds_body
 length-creds_body domain user password =
     let fields = password_fields domain user password in
-    length-append password_type_field (octets_field 0xA1 (element 0x30 fields))
-    ∙ ap (λ n. n + length (octets_field 0xA1 (element 0x30 fields))) length-password_type_field
-    ∙ ap (λ n. 5 + n) (length-octets_field 0xA1 (element 0x30 fields) ∙ ap (λ n. element_size (element_size n)) (length-element 0x30 fields ∙ ap element_size (length-password_fields domain user password)))
+    length-append password_type_field (wrapped_octets 0xA1 (element 0x30 fields))
+    ∙ ap (λ n. n + length (wrapped_octets 0xA1 (element 0x30 fields))) length-password_type_field
+    ∙ ap (λ n. 5 + n) (length-wrapped_octets 0xA1 (element 0x30 fields) ∙ ap (λ n. element_size (element_size n)) (length-element 0x30 fields ∙ ap element_size (length-password_fields domain user password)))
 
 pub texts_fit : (d u p : ℕ) → body_size d u p ≤ max_content → FitTexts d u p
 texts_fit d u p le =
-    let f = fields_size d u p in
+    let f = password_fields_size d u p in
     let a = size_above f in
     let b = size_above (element_size f) in
     let c = size_above (element_size (element_size f)) in
@@ -65,16 +65,16 @@ texts_fit d u p le =
 
 -- capped sizes of three fields
 pub fields_capped : (a b c d u p x y z : ℕ) → IsCapped a (element_size d) → IsCapped b (element_size u) → IsCapped c (element_size p)
-    → IsCapped x (element_size a) → IsCapped y (element_size b) → IsCapped z (element_size c) → IsCapped (x + (y + z)) (fields_size d u p)
+    → IsCapped x (element_size a) → IsCapped y (element_size b) → IsCapped z (element_size c) → IsCapped (x + (y + z)) (password_fields_size d u p)
 fields_capped a b c d u p x y z pa pb pc px py pz =
     capped_add x (y + z) _ _ (capped_more a _ x pa px) (capped_add y z _ _ (capped_more b _ y pb py) (capped_more c _ z pc pz))
 
-pub body_capped : (f s o b d u p : ℕ) → IsCapped f (fields_size d u p) → IsCapped s (element_size f) → IsCapped o (element_size s) → IsCapped b (element_size o)
+pub body_capped : (f s o b d u p : ℕ) → IsCapped f (password_fields_size d u p) → IsCapped s (element_size f) → IsCapped o (element_size s) → IsCapped b (element_size o)
     → IsCapped (5 + b) (body_size d u p)
 body_capped f s o b d u p pf ps po pb =
     capped_add 5 b 5 _ (capped_same 5) (capped_more o _ b (capped_more s _ o (capped_more f _ s pf ps) po) pb)
 
-pub fields_length : (domain user password : List ℕ) → fields_size (length domain) (length user) (length password) ≡ length (password_fields domain user password)
+pub fields_length : (domain user password : List ℕ) → password_fields_size (length domain) (length user) (length password) ≡ length (password_fields domain user password)
 fields_length domain user password = sym (length-password_fields domain user password)
 
 pub sequence_length : (domain user password : List ℕ) → element_size (length (password_fields domain user password)) ≡ length (element 0x30 (password_fields domain user password))

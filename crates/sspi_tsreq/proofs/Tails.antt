@@ -1,10 +1,9 @@
 -- What stands behind the last field of a content is not looked at; and what settles a content for good.
-use Rattle.std.proofs.Common.{◌≡◌, ℕ, ◌+◌, ◌<◌, ◌≤◌, ◌⊎◌, inl, inr, Bool, true, false, leb, List, [], ◌∷◌, ◌++◌, Option, None, Some, Ok, Err, refl, sym, ap, ◌∙◌, subst, append_assoc, arith, lit<}
+use Rattle.std.proofs.Common.{◌≡◌, ℕ, ◌+◌, ◌≤◌, inl, inr, Bool, true, false, leb, List, [], ◌∷◌, ◌++◌, Option, None, Some, Ok, Err, refl, sym, ap, ◌∙◌, subst, append_assoc, arith, lit<}
 use Rattle.std.proofs.lemmas.List.{replicate-append-replicate}
 use Rattle.sspi_ber.specs.Fault.{Ended, Invalid, Read, fault_of, zeros}
 use Rattle.sspi_ber.specs.Forms.{IsNotNext, IsField}
 use Rattle.sspi_tsreq.specs.declared.request.TsRequest.{TsRequest}
-use Rattle.sspi_tsreq.specs.Answer.{body_fault}
 use Rattle.sspi_tsreq.specs.Grammar.{IsToken, IsOctets, IsCode, IsNonce, IsLookedFor, IsBody}
 use Rattle.sspi_tsreq.specs.Settled.{IsNoTag, IsSettled}
 use Rattle.sspi_tsreq.specs.Reading.{body_at}

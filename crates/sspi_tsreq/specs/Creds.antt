@@ -9,7 +9,7 @@ use Rattle.std.specs.Prelude.{◌++◌, ◌==◌, nat_le, ℕ, List, [], ◌∷�
 use Rattle.sspi_types.specs.declared.error.Error.{Error}
 use Rattle.sspi_types.specs.declared.error_kind.ErrorKind.TheVariants.{InvalidToken, UnsupportedFunction, UnsupportedPreAuth, InternalError}
 use Rattle.sspi_types.specs.declared.reason.Reason.TheVariants.{TokenForm, CredType, SmartCard, Keytab, TooLong}
-use Rattle.sspi_ber.specs.Fault.{Fault, Read, ◌>>=◌}
+use Rattle.sspi_ber.specs.Fault.{Read, ◌>>=◌}
 use Rattle.sspi_ber.specs.Limit.{max_content}
 use Rattle.sspi_ber.specs.Pieces.{element_at}
 use Rattle.sspi_ber.specs.Short.{element, int_short}
@@ -124,17 +124,17 @@ abbrev pub delegated : CredSspMode → AuthIdentityBuffers → AuthIdentityBuffe
 delegated WithCredentials buffers = buffers
 delegated CredentialLess buffers = record { user = []; domain = []; password = record { value = [] } }
 
-abbrev pub carried : CredSspMode → CredentialsBuffers → CredentialsBuffers
-carried mode (credentials.AuthIdentity buffers) = credentials.AuthIdentity (delegated mode buffers)
-carried mode (credentials.Keytab identity) = credentials.Keytab identity
+abbrev pub delegated_credentials : CredSspMode → CredentialsBuffers → CredentialsBuffers
+delegated_credentials mode (credentials.AuthIdentity buffers) = credentials.AuthIdentity (delegated mode buffers)
+delegated_credentials mode (credentials.Keytab identity) = credentials.Keytab identity
 
 -- a field with an OCTET STRING
-unfoldable pub octets_field : ℕ → List ℕ → List ℕ
-octets_field tag content = element tag (element 0x04 content)
+unfoldable pub wrapped_octets : ℕ → List ℕ → List ℕ
+wrapped_octets tag content = element tag (element 0x04 content)
 
 -- the content of TSPasswordCreds
 unfoldable pub password_fields : List ℕ → List ℕ → List ℕ → List ℕ
-password_fields domain user password = octets_field 0xA0 domain ++ (octets_field 0xA1 user ++ octets_field 0xA2 password)
+password_fields domain user password = wrapped_octets 0xA0 domain ++ (wrapped_octets 0xA1 user ++ wrapped_octets 0xA2 password)
 
 -- the field with the number of passwords
 unfoldable pub password_type_field : List ℕ
@@ -142,7 +142,7 @@ password_type_field = element 0xA0 (int_short 1)
 
 -- the content of TSCredentials
 unfoldable pub creds_body : List ℕ → List ℕ → List ℕ → List ℕ
-creds_body domain user password = password_type_field ++ octets_field 0xA1 (element 0x30 (password_fields domain user password))
+creds_body domain user password = password_type_field ++ wrapped_octets 0xA1 (element 0x30 (password_fields domain user password))
 
 -- a content, where it fits
 abbrev pub spelled_if_fits : List ℕ → Result (List ℕ) Error

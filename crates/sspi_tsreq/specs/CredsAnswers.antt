@@ -9,8 +9,9 @@ use Rattle.sspi_ber.specs.declared.wire_kind.WireKind.{WireKind}
 use Rattle.sspi_ber.specs.declared.wire_kind.WireKind.TheVariants.{UnexpectedEof, InvalidData, ReadFault, WriteFault, InsufficientMemory}
 use Rattle.sspi_ber.specs.Outside.{Rose}
 use Rattle.sspi_ber.specs.Pieces.{element_at}
+use Rattle.sspi_names.specs.Refusals.{bad_text}
 use Rattle.sspi_names.specs.declared.credentials.CredentialsBuffers.{CredentialsBuffers}
-use Rattle.sspi_tsreq.specs.Creds.{creds_of, malformed}
+use Rattle.sspi_tsreq.specs.Creds.{creds_of, malformed, smart_card, unknown_type}
 
 -- exactly this answer, with the value seen by view
 abbrev pub Is : {X A : Type 0} → (X → A) → Result X Error → Result A Error → Type 0
@@ -46,3 +47,9 @@ refusal_by InvalidData = malformed
 refusal_by ReadFault = error_of ReadFault
 refusal_by WriteFault = error_of WriteFault
 refusal_by InsufficientMemory = error_of InsufficientMemory
+
+-- The refusals that reading may answer: a structure that is not there, a type without meaning, a smart card, a text that is
+-- not UTF-16, want of memory, and a fault of the source. None has a status.
+abbrev pub IsCredsRefusal : Error → Type 0
+IsCredsRefusal error =
+    (error ≡ malformed) ⊎ (error ≡ unknown_type) ⊎ (error ≡ smart_card) ⊎ (error ≡ bad_text) ⊎ (error ≡ memory_error) ⊎ (error ≡ io_error)

@@ -4,12 +4,12 @@ use Rattle.sspi_ber.specs.Limit.{max_content}
 use Rattle.sspi_ber.specs.Short.{element_size}
 
 -- the content of TSPasswordCreds
-abbrev pub fields_size : ℕ → ℕ → ℕ → ℕ
-fields_size domain user password = element_size (element_size domain) + (element_size (element_size user) + element_size (element_size password))
+abbrev pub password_fields_size : ℕ → ℕ → ℕ → ℕ
+password_fields_size domain user password = element_size (element_size domain) + (element_size (element_size user) + element_size (element_size password))
 
 -- the content of TSCredentials
 abbrev pub body_size : ℕ → ℕ → ℕ → ℕ
-body_size domain user password = 5 + element_size (element_size (element_size (fields_size domain user password)))
+body_size domain user password = 5 + element_size (element_size (element_size (password_fields_size domain user password)))
 
 -- each element fits into the one round it
 pub record FitTexts (domain user password : ℕ) : Type 0 where
@@ -19,7 +19,7 @@ pub record FitTexts (domain user password : ℕ) : Type 0 where
   pub user_octets : element_size user ≤ max_content
   pub password_text : password ≤ max_content
   pub password_octets : element_size password ≤ max_content
-  pub fields : fields_size domain user password ≤ max_content
-  pub sequence : element_size (fields_size domain user password) ≤ max_content
-  pub octets : element_size (element_size (fields_size domain user password)) ≤ max_content
+  pub fields : password_fields_size domain user password ≤ max_content
+  pub sequence : element_size (password_fields_size domain user password) ≤ max_content
+  pub octets : element_size (element_size (password_fields_size domain user password)) ≤ max_content
   pub body : body_size domain user password ≤ max_content

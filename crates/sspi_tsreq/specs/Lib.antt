@@ -1,4 +1,5 @@
 pub mod Creds
+pub mod CredsGrammar
 pub mod CredsAnswers
 pub mod CredsSizes
 pub mod Early

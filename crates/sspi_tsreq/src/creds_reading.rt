@@ -1,7 +1,7 @@
-ghost use Rattle.std.specs.Prelude.{◌≡◌, Ok, Err};
+ghost use Rattle.std.specs.Prelude.{◌≡◌, Ok, Err, IfErr};
 ghost use Rattle.sspi_ber.specs.Outside.{Gives, LeavesRest, NeedsNoMemory};
 ghost use Rattle.sspi_names.specs.Utf16.{decode_le};
-ghost use Rattle.sspi_tsreq.specs.CredsAnswers.{CredsCause, refusal_by, Is, IsOrMemory, ReadsCreds};
+ghost use Rattle.sspi_tsreq.specs.CredsAnswers.{CredsCause, refusal_by, Is, IsCredsRefusal, IsOrMemory, ReadsCreds};
 ghost use Rattle.sspi_tsreq.specs.Creds.{creds_in, creds_of, fields_at, malformed, octets_in, password_type, passwords_at, spelled_or_malformed, text_or_refused, texts_of};
 
 use crate::block::read_block;
@@ -22,6 +22,7 @@ pub fn read_ts_credentials<S: Source>(
     source: &mut S,
 ) -> Result<CredentialsBuffers, Error>
     ensures read { ReadsCreds (S.left source.old) (S.left source.new) result }
+    ensures kinds { IfErr result IsCredsRefusal }
     ensures cause { CredsCause (S.faults source.old) (S.faults source.new) result }
     ensures rest { LeavesRest (S.left source.old) (S.left source.new) }
 {

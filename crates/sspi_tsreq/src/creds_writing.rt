@@ -3,12 +3,13 @@ ghost use Rattle.sspi_ber.specs.Limit.{max_content};
 ghost use Rattle.sspi_ber.specs.Outside.{Writes, WriteCause};
 ghost use Rattle.sspi_ber.specs.Short.{element, element_size};
 ghost use Rattle.sspi_names.specs.Identity.{AreBuffers};
-ghost use Rattle.sspi_tsreq.specs.Creds.{buffers_text, carried, creds_body, creds_of, creds_text, octets_field, password_fields, password_type_field, spelled_if_fits};
+ghost use Rattle.sspi_tsreq.specs.Creds.{buffers_text, delegated_credentials, creds_body, creds_of, creds_text, wrapped_octets, password_fields, password_type_field, spelled_if_fits};
 ghost use Rattle.sspi_tsreq.specs.CredsAnswers.{IsOrMemory};
-ghost use Rattle.sspi_tsreq.specs.CredsSizes.{FitTexts, body_size, fields_size};
+ghost use Rattle.sspi_tsreq.specs.CredsSizes.{FitTexts, body_size, password_fields_size};
 ghost use Rattle.sspi_tsreq.specs.Size.{IsCapped};
 
 use crate::mode::CredSspMode;
+use crate::sizes::capped_element;
 use sspi_ber::identifier::{OCTET_STRING, SEQUENCE};
 use sspi_ber::{
     MAX_CONTENT, Sink, VecSink, WireKind, size_of_element, write_all, write_header,
@@ -37,7 +38,7 @@ pub fn write_ts_credentials(
     cred_ssp_mode: CredSspMode,
 ) -> Result<Vec<u8>, Error>
     ensures text { IsOrMemory (λ text. text.items) result (creds_text credentials.now cred_ssp_mode) }
-    ensures read_back { IfOk result (λ text. creds_of text.items ≡ Ok (carried cred_ssp_mode credentials.now)) }
+    ensures read_back { IfOk result (λ text. creds_of text.items ≡ Ok (delegated_credentials cred_ssp_mode credentials.now)) }
 {
     match credentials {
         CredentialsBuffers::AuthIdentity(buffers) => match cred_ssp_mode {
@@ -91,23 +92,10 @@ fn write_texts(alloc: Global, texts: &Texts<'_>) -> Result<Vec<u8>, Error>
     }
 }
 
-/// How many bytes an element takes, or a number past the limit.
-#[tactic(auto, using(crate::proofs::Capped::bounds))]
-fn capped_element(len: usize) -> usize
-    ensures capped { IsCapped result (element_size len) }
-    ensures small { result ≤ max_content + 4 }
-{
-    if len > MAX_CONTENT {
-        MAX_CONTENT + 1
-    } else {
-        size_of_element(len)
-    }
-}
-
 /// How many bytes the content of TSPasswordCreds takes whose texts have so many, or a number past the limit.
 #[tactic(auto, using(crate::proofs::Room::fields_capped))]
 fn capped_fields(domain: usize, user: usize, password: usize) -> usize
-    ensures capped { IsCapped result (fields_size domain user password) }
+    ensures capped { IsCapped result (password_fields_size domain user password) }
     ensures small { result ≤ 3 * (max_content + 4) }
 {
     let domain = capped_element(capped_element(domain));
@@ -139,7 +127,7 @@ fn write_creds<W: Sink>(sink: &mut W, texts: &Texts<'_>, size: usize) -> Result<
 }
 
 /// The content of TSCredentials.
-#[tactic(auto, using(sspi_ber::proofs::Written::writing), unfolding(crate::specs::Creds::creds_body, crate::specs::Creds::octets_field))]
+#[tactic(auto, using(sspi_ber::proofs::Written::writing), unfolding(crate::specs::Creds::creds_body, crate::specs::Creds::wrapped_octets))]
 fn write_body<W: Sink>(sink: &mut W, texts: &Texts<'_>) -> Result<(), WireKind>
     requires { FitTexts (length texts.now.domain.now) (length texts.now.user.now) (length texts.now.password.now) }
     ensures wrote { Writes (W.written sink.old) (W.written sink.new) result (creds_body texts.now.domain.now texts.now.user.now texts.now.password.now) }
@@ -195,7 +183,7 @@ fn write_password_creds<W: Sink>(sink: &mut W, texts: &Texts<'_>) -> Result<(), 
 }
 
 /// The three texts.
-#[tactic(auto, using(sspi_ber::proofs::Written::writing), unfolding(crate::specs::Creds::password_fields, crate::specs::Creds::octets_field))]
+#[tactic(auto, using(sspi_ber::proofs::Written::writing), unfolding(crate::specs::Creds::password_fields, crate::specs::Creds::wrapped_octets))]
 fn write_password_fields<W: Sink>(sink: &mut W, texts: &Texts<'_>) -> Result<(), WireKind>
     requires { FitTexts (length texts.now.domain.now) (length texts.now.user.now) (length texts.now.password.now) }
     ensures wrote { Writes (W.written sink.old) (W.written sink.new) result

@@ -7,10 +7,12 @@ use sspi_ber::{Sink, Source, WireKind, write_all};
 /// How many bytes an Early User Authorization Result PDU has.
 pub const EARLY_USER_AUTH_RESULT_PDU_SIZE: usize = 4;
 
-/// Whether the user may log on, which a server that supports HYBRID_EX says behind CredSSP (MS-CSSP 2.2.4).
+/// Whether the user may log on, which a server that supports HYBRID_EX says behind CredSSP (MS-RDPBCGR 2.2.10.2).
 #[derive(Clone, Copy, Debug, PartialEq, Eq)]
 pub enum EarlyUserAuthResult {
+    /// The user may log on: the number 0 (AUTHZ_SUCCESS).
     Success,
+    /// The user may not log on: the number 5 (AUTHZ_ACCESS_DENIED).
     AccessDenied,
 }
 

@@ -21,12 +21,17 @@ use std::alloc::{AllocError, Global};
 /// The message that carries everything in CredSSP (TSRequest, MS-CSSP 2.2.1).
 #[derive(Drop)]
 pub struct TsRequest {
+    /// The version of CredSSP that the sender offers; of a larger number the low 32 bits are read.
     pub version: u32,
-    /// The first token of `negoTokens`.
+    /// The first token of `negoTokens`; further tokens are not read.
     pub nego_tokens: Option<Bytes>,
+    /// The sealed TSCredentials (`authInfo`), as the octets that are sent.
     pub auth_info: Option<Bytes>,
+    /// The sealed proof of the server's public key (`pubKeyAuth`), as the octets that are sent.
     pub pub_key_auth: Option<Bytes>,
+    /// The status of a failure (`errorCode`). It is read from version 3 on, and written from version 3 on except at 5.
     pub error_code: Option<NStatusCode>,
+    /// The 32 bytes of `clientNonce`, which are read and written from version 5 on.
     pub client_nonce: Option<[u8; 32]>,
 }
 

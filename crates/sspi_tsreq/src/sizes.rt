@@ -10,7 +10,7 @@ use sspi_types::{Bytes, NStatusCode};
 
 /// How many bytes an element takes, or a number past the limit.
 #[tactic(auto, using(crate::proofs::Capped::bounds))]
-fn capped_element(len: usize) -> usize
+pub(crate) fn capped_element(len: usize) -> usize
     ensures capped { IsCapped result (element_size len) }
     ensures small { result ≤ max_content + 4 }
 {

@@ -1,5 +1,4 @@
-use Rattle.std.proofs.Common.{◌-◌, ◌≤◌, length, take}
-use Rattle.std.specs.Io.KnownBytes.{Consumes}
+use Rattle.std.proofs.Common.{◌-◌, ◌≤◌, length}
 use Rattle.sspi_tsreq.proofs.Blocks.{Filling}
 use Rattle.sspi_tsreq.proofs.block.read_block.Given as goal
 

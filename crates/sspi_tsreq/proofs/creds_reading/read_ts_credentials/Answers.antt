@@ -1,9 +1,9 @@
-use Rattle.std.proofs.Common.{length, sym, ap, ◌∙◌, subst, arith}
+use Rattle.std.proofs.Common.{length, sym, ◌∙◌, subst, arith}
 use Rattle.std.proofs.lemmas.List.{take_at}
 use Rattle.sspi_ber.proofs.Rest.{rest_then}
 use Rattle.sspi_tsreq.specs.Creds.{creds_in}
-use Rattle.sspi_tsreq.specs.CredsAnswers.{IsOrMemory}
-use Rattle.sspi_tsreq.proofs.Refused.{header_refused, content_refused, content_answer, content_cause}
+use Rattle.sspi_tsreq.specs.CredsAnswers.{IsCredsRefusal, IsOrMemory}
+use Rattle.sspi_tsreq.proofs.Refused.{header_refused, content_refused, content_answer, content_cause, content_listed, fault_listed}
 use Rattle.sspi_tsreq.proofs.creds_reading.read_ts_credentials.Goals as goal
 
 pub returns-in-Err-clause-read : goal.returns-in-Err-clause-read
@@ -28,3 +28,12 @@ returns-clause-read g c =
 
 pub returns-clause-rest : goal.returns-clause-rest
 returns-clause-rest g c = rest_then c.in-Ok.ensures.rest c.in-Err-read_block.ensures.rest
+
+pub returns-in-Err-clause-kinds : goal.returns-in-Err-clause-kinds
+returns-in-Err-clause-kinds g c = subst IsCredsRefusal (sym c.refusal_of.ensures) (fault_listed c.in-Err.kind)
+
+pub returns-in-Ok-read_block-clause-kinds : goal.returns-in-Ok-read_block-clause-kinds
+returns-in-Ok-read_block-clause-kinds g c = content_listed _ c.read_creds.result c.read_creds.ensures
+
+pub returns-clause-kinds : goal.returns-clause-kinds
+returns-clause-kinds g c = subst IsCredsRefusal (sym c.refusal_of-in-Err-read_block.ensures) (fault_listed c.in-Err-read_block.kind)
