@@ -56,10 +56,17 @@ IsFinished (Final reply) = ⊥
 IsFinished Finished = Unit {0}
 IsFinished (Refused kind reply) = ⊥
 
--- the newest turn is not the server's last one
-abbrev pub NotFinished : List Turn → Type 0
-NotFinished [] = Unit {0}
-NotFinished (t ∷ past) = IsFinished t.outcome → ⊥
+-- want of memory may be the answer after this outcome: it went on, or it was itself refused for want of memory
+abbrev pub MayLackAfter : Outcome → Type 0
+MayLackAfter (Reply reply) = Unit {0}
+MayLackAfter (Final reply) = Unit {0}
+MayLackAfter Finished = ⊥
+MayLackAfter (Refused kind reply) = kind ≡ kinds.InsufficientMemory
+
+-- the same of the newest turn, where there is one
+abbrev pub MayLack : List Turn → Type 0
+MayLack [] = Unit {0}
+MayLack (t ∷ past) = MayLackAfter t.outcome
 
 -- the newest turn has a message, of which it is so that it fits
 abbrev pub MessageFits : Option TsRequest → Bool → Type 0
@@ -134,7 +141,7 @@ module _ (base : List Carried) (start : ℕ) where
       × ((Logged base turns log × OpenFor turns log × TurnLeft limit turns) ⊎ (LoggedButLast base turns log × NewestFits turns true))
   Cause limit errors.TurnsSpent turns log now =
       AllGoOn turns × (next_end turns ≡ Client) × (turns_of Client turns ≡ limit) × Logged base turns log × UnreadFor turns log
-  Cause limit errors.InsufficientMemory turns log now = NotFinished turns × HasLog base turns log
+  Cause limit errors.InsufficientMemory turns log now = MayLack turns × HasLog base turns log
 
   pub record Stopped (limit : ℕ) (error : DelegateError) (turns : List Turn) (log : List Carried) (now : ℕ) : Type 0 where
     pub order : Alternates turns
