@@ -15,6 +15,7 @@ use Rattle.sspi_delegate.specs.declared.carried.End.TheVariants.{Client, Server}
 use Rattle.sspi_delegate.specs.declared.turn.Outcome.{Outcome}
 use Rattle.sspi_delegate.specs.declared.turn.Outcome.TheVariants.{Reply, Final, Finished, Refused}
 use Rattle.sspi_delegate.specs.declared.turn.Turn.{Turn}
+use Rattle.sspi_delegate.specs.Deliveries.{HeadWithin}
 use Rattle.sspi_delegate.specs.Run.{Logged, LoggedButLast, HasLog, IsDelivered, UnreadFor, OpenFor, IsUnreadable}
 use Rattle.sspi_delegate.specs.Turns.{other, next_end, message_of, AllGoOn, Alternates}
 
@@ -133,7 +134,7 @@ module _ (base : List Carried) (start : ℕ) where
   Cause limit (errors.Server error) turns log now =
       (error.error_type ≢ kinds.InsufficientMemory) × NewestIs Server (IsServerRefusal error.error_type) turns × Given turns log now
   Cause limit (errors.Read end kind) turns log now =
-      AllGoOn turns × (next_end turns ≡ end) × TurnLeft limit turns × Logged base turns log × IsUnreadable turns log kind
+      AllGoOn turns × (next_end turns ≡ end) × TurnLeft limit turns × Logged base turns log × IsUnreadable turns log kind × HeadWithin log
   Cause limit (errors.Write end) turns log now =
       AllGoOn turns × (next_end turns ≡ other end) × LoggedButLast base turns log × NewestFits turns false
   Cause limit errors.LinkFault turns log now =
