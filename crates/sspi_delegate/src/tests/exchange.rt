@@ -222,6 +222,11 @@ fn is_log(log: &[Carried], sent: &[&str]) -> bool {
         })
 }
 
+/// What was sent was delivered, and read to its end.
+fn is_whole(entry: &Carried) -> bool {
+    entry.ended && entry.delivered.as_slice() == entry.sent.as_slice()
+}
+
 fn assert_log(rt: &impl std::process::Abort, log: &[Carried], sent: &[&str], delivered: usize) {
     assert!(rt; is_log(log, sent));
     if let Some(last) = log.last() {
@@ -347,6 +352,7 @@ fn exchange_over_a_carrier(rt: HostRuntime) -> Result<(), Fail> {
     let exchanged = exchange(rt.alloc(), &PLAIN, &mut link)?;
     assert!(rt; is_wanted(&exchanged.answer, Wanted::Credentials(3)));
     assert_log(&rt, link.log(), &plain_messages(), 104);
+    assert!(rt; link.log().iter().all(|entry| is_whole(entry)));
     Ok(())
 }
 
