@@ -13,7 +13,7 @@ use Rattle.sspi_delegate.specs.declared.carried.End.TheVariants.{Client, Server}
 use Rattle.sspi_delegate.specs.declared.turn.Outcome.{Outcome}
 use Rattle.sspi_delegate.specs.declared.turn.Outcome.TheVariants.{Reply, Final, Finished, Refused}
 use Rattle.sspi_delegate.specs.declared.turn.Turn.{Turn}
-use Rattle.sspi_delegate.specs.Causes.{NewestIs, IsClientRefusal, IsServerRefusal, IsFinished, MessageFits, NewestFits, NotFinished, TurnLeft, turns_of, RunEnds}
+use Rattle.sspi_delegate.specs.Causes.{NewestIs, IsClientRefusal, IsServerRefusal, IsFinished, MessageFits, NewestFits, MayLackAfter, MayLack, TurnLeft, turns_of, RunEnds}
 use Rattle.sspi_delegate.specs.Deliveries.{is_taken}
 use Rattle.sspi_delegate.specs.Exactly.{IsOnly, IsClientError, IsServerError, IsOk, Exactly}
 use Rattle.sspi_delegate.specs.Run.{Logged, LoggedButLast, OpenFor, UnreadFor, IsUnreadable, IsFault}
@@ -93,9 +93,15 @@ newest_one : (end : End) (P Q : Outcome → Type 0) (A : Type 0) → ((outcome :
 newest_one end P Q A both [] a b = absurd a
 newest_one end P Q A both (t ∷ past) a b = both t.outcome a.1 b.1
 
-newest_unfinished : (turns : List Turn) → NewestIs Server IsFinished turns → NotFinished turns → ⊥
-newest_unfinished [] a b = a
-newest_unfinished (t ∷ past) a b = b a.1
+finished_may_lack : (outcome : Outcome) → IsFinished outcome → MayLackAfter outcome → ⊥
+finished_may_lack (Reply reply) finished lacks = finished
+finished_may_lack (Final reply) finished lacks = finished
+finished_may_lack Finished finished lacks = lacks
+finished_may_lack (Refused refused reply) finished lacks = finished
+
+newest_may_lack : (turns : List Turn) → NewestIs Server IsFinished turns → MayLack turns → ⊥
+newest_may_lack [] a b = a
+newest_may_lack (t ∷ past) a b = finished_may_lack t.outcome a.1 b
 
 message_apart : (message : Option TsRequest) → MessageFits message true → MessageFits message false → ⊥
 message_apart None a b = a
@@ -167,7 +173,7 @@ module _ (base : List Carried) (start limit : ℕ) where
   only_ok (Err (errors.Write end)) turns log now ends newest = newest_goes_apart Server IsFinished finished_goes turns newest ends.cause.0
   only_ok (Err errors.LinkFault) turns log now ends newest = newest_goes_apart Server IsFinished finished_goes turns newest ends.cause.0
   only_ok (Err errors.TurnsSpent) turns log now ends newest = newest_goes_apart Server IsFinished finished_goes turns newest ends.cause.0
-  only_ok (Err errors.InsufficientMemory) turns log now ends newest = newest_unfinished turns newest ends.cause.0
+  only_ok (Err errors.InsufficientMemory) turns log now ends newest = newest_may_lack turns newest ends.cause.0
 
   only_client : (kind : ErrorKind) (result : Result Delegation DelegateError) (turns : List Turn) (log : List Carried) (now : ℕ) →
       RunEnds base start limit result turns log now → NewestIs Client (IsClientRefusal kind) turns → IsOnly (IsClientError kind) result

@@ -1,51 +1,56 @@
 -- One more turn, and what it makes of the log of an exchange.
-use Rattle.std.proofs.Common.{◌≡◌, ℕ, ◌≤◌, ◌<◌, inl, inr, List, [], ◌∷◌, sym, ◌∙◌, ap, subst, refl, arith, None, Some, IsSome, Ok, slice_get}
+use Rattle.std.proofs.Common.{◌≡◌, ℕ, ◌≤◌, ◌<◌, inl, inr, List, [], ◌∷◌, length, sym, ◌∙◌, ap, subst, refl, arith, None, Some, IsSome, Ok, slice_get}
 use Rattle.sspi_types.specs.declared.error.Error.{Error}
 use Rattle.sspi_types.specs.declared.error_kind.ErrorKind.{ErrorKind}
+use Rattle.sspi_types.specs.declared.error_kind.ErrorKind.TheVariants as kinds
+use Rattle.sspi_ber.specs.declared.wire_kind.WireKind.{WireKind}
 use Rattle.sspi_tsreq.specs.declared.request.TsRequest.{TsRequest}
 use Rattle.sspi_delegate.specs.declared.answer.DelegateError.{DelegateError}
 use Rattle.sspi_delegate.specs.declared.answer.DelegateError.TheVariants as errors
 use Rattle.sspi_delegate.specs.declared.carried.Carried.{Carried}
 use Rattle.sspi_delegate.specs.declared.carried.End.{End}
 use Rattle.sspi_delegate.specs.declared.carried.End.TheVariants.{Client, Server}
+use Rattle.sspi_delegate.specs.declared.messages.TheConstants.{DELIVERY_LIMIT}
 use Rattle.sspi_delegate.specs.declared.turn.Outcome.{Outcome}
 use Rattle.sspi_delegate.specs.declared.turn.Outcome.TheVariants.{Reply, Final, Finished, Refused}
 use Rattle.sspi_delegate.specs.declared.turn.Turn.{Turn}
-use Rattle.sspi_delegate.specs.Causes.{Between, Asked, Turned, Finishes, Stopped, NewestIs, IsClientRefusal, IsServerRefusal, IsFinished, IsAnswerTo, NotFinished, TurnLeft, HasMessage, Given, carried, too_long, link_failed, no_memory, turns_of}
-use Rattle.sspi_delegate.specs.Deliveries.{IsUnread, Fed, HeadTaken, Takes}
+use Rattle.sspi_delegate.specs.Causes.{Between, Asked, Turned, Finishes, Stopped, NewestIs, IsClientRefusal, IsServerRefusal, IsFinished, IsAnswerTo, MayLackAfter, MayLack, TurnLeft, HasMessage, Given, carried, too_long, link_failed, no_memory, turns_of}
+use Rattle.sspi_delegate.specs.Deliveries.{IsUnread, Fed, HeadTaken, HeadWithin, Takes}
 use Rattle.sspi_delegate.specs.Recorded.{PushedSuch}
-use Rattle.sspi_delegate.specs.Run.{Logged, LoggedButLast, HasLog, IsDelivered, IsRead, IsSent}
+use Rattle.sspi_delegate.specs.Run.{Logged, LoggedButLast, HasLog, IsDelivered, IsRead, IsFault, IsSent, IsUnreadable}
 use Rattle.sspi_delegate.specs.Turns.{next_end, message_of, GoesOn, AllGoOn, Alternates}
 
-goes_unfinished : (outcome : Outcome) → GoesOn outcome → IsFinished outcome → ⊥
-goes_unfinished (Reply reply) goes finished = finished
-goes_unfinished (Final reply) goes finished = finished
-goes_unfinished Finished goes finished = goes
-goes_unfinished (Refused kind reply) goes finished = finished
+goes_may_lack : (outcome : Outcome) → GoesOn outcome → MayLackAfter outcome
+goes_may_lack (Reply reply) goes = tt
+goes_may_lack (Final reply) goes = tt
+goes_may_lack Finished goes = goes
+goes_may_lack (Refused kind reply) goes = absurd goes
 
-pub going_unfinished : (turns : List Turn) → AllGoOn turns → NotFinished turns
-going_unfinished [] going = tt
-going_unfinished (t ∷ past) going = goes_unfinished t.outcome going.0
+pub going_may_lack : (turns : List Turn) → AllGoOn turns → MayLack turns
+going_may_lack [] going = tt
+going_may_lack (t ∷ past) going = goes_may_lack t.outcome going.0
 
-client_refusal_unfinished : (kind : ErrorKind) (outcome : Outcome) → IsClientRefusal kind outcome → IsFinished outcome → ⊥
-client_refusal_unfinished kind (Reply reply) refusal finished = finished
-client_refusal_unfinished kind (Final reply) refusal finished = finished
-client_refusal_unfinished kind Finished refusal finished = refusal
-client_refusal_unfinished kind (Refused refused reply) refusal finished = finished
+client_refusal_lacks : (kind : ErrorKind) (outcome : Outcome) → kind ≡ kinds.InsufficientMemory → IsClientRefusal kind outcome → MayLackAfter outcome
+client_refusal_lacks kind (Reply reply) memory refusal = tt
+client_refusal_lacks kind (Final reply) memory refusal = tt
+client_refusal_lacks kind Finished memory refusal = refusal
+client_refusal_lacks kind (Refused refused None) memory refusal = refusal ∙ memory
+client_refusal_lacks kind (Refused refused (Some reply)) memory refusal = absurd refusal
 
-client_unfinished : (kind : ErrorKind) (turns : List Turn) → NewestIs Client (IsClientRefusal kind) turns → NotFinished turns
-client_unfinished kind [] newest = tt
-client_unfinished kind (t ∷ past) newest = client_refusal_unfinished kind t.outcome newest.1
+client_lacks : (kind : ErrorKind) (turns : List Turn) → kind ≡ kinds.InsufficientMemory → NewestIs Client (IsClientRefusal kind) turns → MayLack turns
+client_lacks kind [] memory newest = tt
+client_lacks kind (t ∷ past) memory newest = client_refusal_lacks kind t.outcome memory newest.1
 
-server_refusal_unfinished : (kind : ErrorKind) (outcome : Outcome) → IsServerRefusal kind outcome → IsFinished outcome → ⊥
-server_refusal_unfinished kind (Reply reply) refusal finished = finished
-server_refusal_unfinished kind (Final reply) refusal finished = finished
-server_refusal_unfinished kind Finished refusal finished = refusal
-server_refusal_unfinished kind (Refused refused reply) refusal finished = finished
+server_refusal_lacks : (kind : ErrorKind) (outcome : Outcome) → kind ≡ kinds.InsufficientMemory → IsServerRefusal kind outcome → MayLackAfter outcome
+server_refusal_lacks kind (Reply reply) memory refusal = tt
+server_refusal_lacks kind (Final reply) memory refusal = tt
+server_refusal_lacks kind Finished memory refusal = refusal
+server_refusal_lacks kind (Refused refused None) memory refusal = absurd refusal
+server_refusal_lacks kind (Refused refused (Some reply)) memory refusal = refusal ∙ memory
 
-server_unfinished : (kind : ErrorKind) (turns : List Turn) → NewestIs Server (IsServerRefusal kind) turns → NotFinished turns
-server_unfinished kind [] newest = tt
-server_unfinished kind (t ∷ past) newest = server_refusal_unfinished kind t.outcome newest.1
+server_lacks : (kind : ErrorKind) (turns : List Turn) → kind ≡ kinds.InsufficientMemory → NewestIs Server (IsServerRefusal kind) turns → MayLack turns
+server_lacks kind [] memory newest = tt
+server_lacks kind (t ∷ past) memory newest = server_refusal_lacks kind t.outcome memory newest.1
 
 refusal_message : (kind : ErrorKind) (outcome : Outcome) → IsServerRefusal kind outcome → IsSome (message_of outcome)
 refusal_message kind (Reply reply) refusal = absurd refusal
@@ -72,7 +77,19 @@ fed_logged base t past (e ∷ log) (f ∷ more) fed entries = (
 head_delivered : (t : Turn) (past : List Turn) (log : List Carried) (text : List ℕ) (request : TsRequest) → HeadTaken log text → IsRead text request →
     IsDelivered (t ∷ past) log request
 head_delivered t past [] text request head read = absurd head
-head_delivered t past (e ∷ log) text request head read = (head.0, subst (λ (bytes : List ℕ). IsRead bytes request) (sym head.1) read)
+head_delivered t past (e ∷ log) text request head read = (
+  head.0,
+  subst (λ (bytes : List ℕ). IsRead bytes request) (sym head.1) read,
+  subst (λ (bytes : List ℕ). length bytes ≤ DELIVERY_LIMIT) (sym head.1) head.2,
+)
+
+head_unreadable : (t : Turn) (past : List Turn) (log : List Carried) (text : List ℕ) (kind : WireKind) → HeadTaken log text → IsFault text kind →
+    IsUnreadable (t ∷ past) log kind × HeadWithin log
+head_unreadable t past [] text kind head fault = absurd head
+head_unreadable t past (e ∷ log) text kind head fault = (
+  (head.0, subst (λ (bytes : List ℕ). IsFault bytes kind) (sym head.1) fault),
+  subst (λ (bytes : List ℕ). length bytes ≤ DELIVERY_LIMIT) (sym head.1) head.2,
+)
 
 module _ (base : List Carried) (start : ℕ) where
   abbrev asked_by : (d : TsRequest) (old past : List Turn) (log : List Carried) (now : ℕ) → past ≡ old →
@@ -122,7 +139,7 @@ module _ (base : List Carried) (start : ℕ) where
       Asked base start old log now d → new ≡ old → Stopped base start limit errors.InsufficientMemory new log now
   lost limit d old new log now w same =
       let v = asked_by d old new log now same w in
-      record { order = v.order; faults = v.faults; cause = (going_unfinished new v.going, inl v.entries) }
+      record { order = v.order; faults = v.faults; cause = (going_may_lack new v.going, inl v.entries) }
 
   pub client_refused : (limit : ℕ) (error : Error) (answer : DelegateError) (d : TsRequest) (old new : List Turn) (log : List Carried) (now : ℕ) →
       next_end old ≡ Client → Asked base start old log now d → PushedSuch Client d (IsClientRefusal error.error_type) old new →
@@ -131,7 +148,7 @@ module _ (base : List Carried) (start : ℕ) where
     order = in_order Client d (IsClientRefusal error.error_type) old new log now next w pushed;
     faults = w.faults;
     cause = (
-      client_unfinished error.error_type new (newest_such Client d (IsClientRefusal error.error_type) old new pushed),
+      client_lacks error.error_type new memory.0 (newest_such Client d (IsClientRefusal error.error_type) old new pushed),
       inr (but_last Client d (IsClientRefusal error.error_type) old new log now w pushed),
     );
   })
@@ -157,7 +174,7 @@ module _ (base : List Carried) (start : ℕ) where
   server_refused limit error answer d old new log log2 now now2 next w pushed (inl memory) sent later = rw memory.1 (record {
     order = in_order Server d (IsServerRefusal error.error_type) old new log now next w pushed;
     faults = omega (arith, w.faults);
-    cause = (server_unfinished error.error_type new (newest_such Server d (IsServerRefusal error.error_type) old new pushed), given_log new log2 now2 sent);
+    cause = (server_lacks error.error_type new memory.0 (newest_such Server d (IsServerRefusal error.error_type) old new pushed), given_log new log2 now2 sent);
   })
   server_refused limit error answer d old new log log2 now now2 next w pushed (inr refusal) sent later = rw refusal.1 (record {
     order = in_order Server d (IsServerRefusal error.error_type) old new log now next w pushed;
@@ -207,4 +224,17 @@ read_asked base start (t ∷ past) log log2 now now2 text request newest there b
       entries = fed_logged base t past log log2 took.0 between.entries;
       delivered = head_delivered t past log2 text request took.1 read;
       faults = omega (arith, between.faults, later);
+    }
+
+-- the newest delivery, which is no request
+pub read_unreadable : (base : List Carried) (start limit : ℕ) (turns : List Turn) (log log2 : List Carried) (now now2 : ℕ) (text : List ℕ) (to : End) (kind : WireKind) (newest : Turn) →
+    Some newest ≡ slice_get turns 0 → next_end turns ≡ to → TurnLeft limit turns → Between base start turns log now → (IsUnread log → Takes log log2 (Ok text)) → now ≤ now2 →
+    IsFault text kind → Stopped base start limit (errors.Read to kind) turns log2 now2
+read_unreadable base start limit [] log log2 now now2 text to kind newest there next left between takes later fault = absurd (cc (there))
+read_unreadable base start limit (t ∷ past) log log2 now now2 text to kind newest there next left between takes later fault =
+    let took = takes between.unread in
+    let head = head_unreadable t past log2 text kind took.1 fault in record {
+      order = between.order;
+      faults = omega (arith, between.faults, later);
+      cause = (between.going, next, left, fed_logged base t past log log2 took.0 between.entries, head.0, head.1);
     }

@@ -1,6 +1,6 @@
 -- The newest entry of a log whose entries are kept in a `Vec`, the first one first.
 use Rattle.std.proofs.Common.{◌≡◌, ℕ, ◌+◌, ◌<◌, ◌≤◌, suc, List, [], ◌∷◌, ◌++◌, length, get_or, set, take, reverse, sym, ◌∙◌, ap, arith, Result, Ok, Err, IfOk, OnErr, true}
-use Rattle.std.proofs.lemmas.List.{reverse-append, set_split, take_more, take_all, drop_all}
+use Rattle.std.proofs.lemmas.List.{length-reverse, reverse-append, set_split, take_more, take_all, drop_all}
 use Rattle.sspi_delegate.specs.declared.carried.Carried.{Carried}
 use Rattle.sspi_delegate.specs.declared.link.LinkError.{LinkError}
 use Rattle.sspi_delegate.specs.Edits.{NewestDelivers}
@@ -40,3 +40,8 @@ gives_newest old xs n e e2 into r is size there ok err =
 pub newest_delivers : (text : List ℕ) (xs : List Carried) (n : ℕ) (e : Carried) → length xs ≡ n + 1 →
     NewestDelivers text (e ∷ reverse (take n xs)) → NewestDelivers text (reverse (set xs n e))
 newest_delivers text xs n e size h = rw (reverse-set_last xs n e size) h
+
+-- entries of which one is the newest are some
+pub newest_there : {P : Type 0} (old xs : List Carried) (n : ℕ) → reverse xs ≡ old → length xs ≡ n + 1 → old ≡ [] → P
+newest_there old xs n is size empty =
+    let none : length xs ≡ 0 = sym (length-reverse xs) ∙ ap length (is ∙ empty) in absurd (omega (arith, none, size))

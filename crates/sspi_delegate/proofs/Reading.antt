@@ -1,13 +1,14 @@
 -- Reading the newest delivery of a log, piece by piece.
 use Rattle.std.proofs.Common.{◌≡◌, ℕ, ◌⊎◌, inl, inr, List, [], ◌∷◌, false, Option, None, Some, Result, Ok, Err, OnErr, ◌∙◌, sym, subst, refl}
 use Rattle.sspi_types.specs.declared.error.Error.{Error}
+use Rattle.sspi_ber.specs.Outside.{Counts}
 use Rattle.sspi_delegate.specs.declared.carried.Carried.{Carried}
 use Rattle.sspi_delegate.specs.declared.answer.DelegateError.{DelegateError}
 use Rattle.sspi_delegate.specs.declared.answer.DelegateError.TheVariants as errors
 use Rattle.sspi_delegate.specs.declared.edit.Edit.{Edit}
 use Rattle.sspi_delegate.specs.Link.{StaysTold}
 use Rattle.sspi_delegate.specs.Causes.{IsAnswerTo}
-use Rattle.sspi_delegate.specs.Messages.{CarryFails, GiveTold, AnswerTold, RequestTold}
+use Rattle.sspi_delegate.specs.Messages.{CarryFails, HasFailed, GiveTold, AnswerTold, RequestTold}
 use Rattle.sspi_tsreq.specs.declared.request.TsRequest.{TsRequest}
 
 -- so much was read of the newest delivery, and it has not ended
@@ -43,20 +44,25 @@ pub still_first : (edits : Option (List Edit)) (now : ℕ) → IsStill edits now
 still_first None now = tt
 still_first (Some edits) now = refl
 
-later : {P : Type 0} (start before now : ℕ) → before ≡ start → (now ≡ before) ⊎ P → (now ≡ start) ⊎ P
-later start before now still (inl told) = inl (told ∙ still)
-later start before now still (inr fails) = inr fails
+failed_from : (edits : List Edit) (start before now : ℕ) (log : List Carried) (message : Option TsRequest) → before ≡ start →
+    HasFailed edits before now log message → HasFailed edits start now log message
+failed_from edits start before now log message still fails = (fails.0, subst (λ (n : ℕ). Counts n now) still fails.1)
+
+later : (edits : List Edit) (start before now : ℕ) (log : List Carried) (message : Option TsRequest) → before ≡ start →
+    (now ≡ before) ⊎ HasFailed edits before now log message → (now ≡ start) ⊎ HasFailed edits start now log message
+later edits start before now log message still (inl told) = inl (told ∙ still)
+later edits start before now log message still (inr fails) = inr (failed_from edits start before now log message still fails)
 
 stopped_told : (X Y : Type 0) (edits : Option (List Edit)) (start before now : ℕ) (error : DelegateError) (log : List Carried) (message : Option TsRequest) →
     IsStill edits start before → AnswerTold {X = X} edits before now (Err error) log message → AnswerTold {X = Y} edits start now (Err error) log message
 stopped_told X Y None start before now error log message still told = tt
 stopped_told X Y (Some edits) start before now (errors.Client error) log message still told = told ∙ still
-stopped_told X Y (Some edits) start before now (errors.Server error) log message still told = later start before now still told
+stopped_told X Y (Some edits) start before now (errors.Server error) log message still told = later edits start before now log message still told
 stopped_told X Y (Some edits) start before now (errors.Read end kind) log message still told = told ∙ still
 stopped_told X Y (Some edits) start before now (errors.Write end) log message still told = told ∙ still
-stopped_told X Y (Some edits) start before now errors.LinkFault log message still told = told
+stopped_told X Y (Some edits) start before now errors.LinkFault log message still told = failed_from edits start before now log message still told
 stopped_told X Y (Some edits) start before now errors.TurnsSpent log message still told = told ∙ still
-stopped_told X Y (Some edits) start before now errors.InsufficientMemory log message still told = later start before now still told
+stopped_told X Y (Some edits) start before now errors.InsufficientMemory log message still told = later edits start before now log message still told
 
 -- an error after calls that were answered
 pub still_stopped : (X Y : Type 0) (edits edits2 : Option (List Edit)) (start before now : ℕ) (error : DelegateError) (log : List Carried)
@@ -67,7 +73,7 @@ still_stopped X Y edits edits2 start before now error log message same still tol
     (subst (λ (e : Option (List Edit)). AnswerTold {X = X} e before now (Err error) log message) same told)
 
 given_told : (edits : List Edit) (before now : ℕ) (given : Result (Unit {0}) DelegateError) (log log2 : List Carried) (message : Option TsRequest) →
-    GiveTold (Some edits) log message before now given → OnErr given (log2 ≡ log) → (now ≡ before) ⊎ CarryFails edits log2 message
+    GiveTold (Some edits) log message before now given → OnErr given (log2 ≡ log) → (now ≡ before) ⊎ HasFailed edits before now log2 message
 given_told edits before now given log log2 None told kept = inl told
 given_told edits before now (Ok done) log log2 (Some message) told kept = inl told
 given_told edits before now (Err (errors.Client error)) log log2 (Some message) told kept = inl told
@@ -75,7 +81,7 @@ given_told edits before now (Err (errors.Server error)) log log2 (Some message) 
 given_told edits before now (Err (errors.Read end kind)) log log2 (Some message) told kept = inl told
 given_told edits before now (Err (errors.Write end)) log log2 (Some message) told kept = inl told
 given_told edits before now (Err errors.LinkFault) log log2 (Some message) told kept =
-    inr (subst (λ (entries : List Carried). CarryFails edits entries (Some message)) (sym kept) told)
+    inr (subst (λ (entries : List Carried). CarryFails edits entries (Some message)) (sym kept) told.0, told.1)
 given_told edits before now (Err errors.TurnsSpent) log log2 (Some message) told kept = inl told
 given_told edits before now (Err errors.InsufficientMemory) log log2 (Some message) told kept = inl told
 
@@ -84,9 +90,9 @@ refusal_still : (X : Type 0) (edits : Option (List Edit)) (start before now : �
     OnErr given (log2 ≡ log) → IsAnswerTo error.error_type (errors.Server error) answer → AnswerTold {X = X} edits start now (Err answer) log2 message
 refusal_still X None start before now given error answer log log2 message still told kept is = tt
 refusal_still X (Some edits) start before now given error answer log log2 message still told kept (inl memory) =
-    rw memory.1 (later start before now still (given_told edits before now given log log2 message told kept))
+    rw memory.1 (later edits start before now log2 message still (given_told edits before now given log log2 message told kept))
 refusal_still X (Some edits) start before now given error answer log log2 message still told kept (inr refusal) =
-    rw refusal.1 (later start before now still (given_told edits before now given log log2 message told kept))
+    rw refusal.1 (later edits start before now log2 message still (given_told edits before now given log log2 message told kept))
 
 -- a refusing server, whose message was given to the link
 pub refused_still : (X : Type 0) (edits edits2 : Option (List Edit)) (start before now : ℕ) (given : Result (Unit {0}) DelegateError) (error : Error)

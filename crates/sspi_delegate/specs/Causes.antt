@@ -15,6 +15,7 @@ use Rattle.sspi_delegate.specs.declared.carried.End.TheVariants.{Client, Server}
 use Rattle.sspi_delegate.specs.declared.turn.Outcome.{Outcome}
 use Rattle.sspi_delegate.specs.declared.turn.Outcome.TheVariants.{Reply, Final, Finished, Refused}
 use Rattle.sspi_delegate.specs.declared.turn.Turn.{Turn}
+use Rattle.sspi_delegate.specs.Deliveries.{HeadWithin}
 use Rattle.sspi_delegate.specs.Run.{Logged, LoggedButLast, HasLog, IsDelivered, UnreadFor, OpenFor, IsUnreadable}
 use Rattle.sspi_delegate.specs.Turns.{other, next_end, message_of, AllGoOn, Alternates}
 
@@ -56,10 +57,17 @@ IsFinished (Final reply) = ⊥
 IsFinished Finished = Unit {0}
 IsFinished (Refused kind reply) = ⊥
 
--- the newest turn is not the server's last one
-abbrev pub NotFinished : List Turn → Type 0
-NotFinished [] = Unit {0}
-NotFinished (t ∷ past) = IsFinished t.outcome → ⊥
+-- want of memory may be the answer after this outcome: it went on, or it was itself refused for want of memory
+abbrev pub MayLackAfter : Outcome → Type 0
+MayLackAfter (Reply reply) = Unit {0}
+MayLackAfter (Final reply) = Unit {0}
+MayLackAfter Finished = ⊥
+MayLackAfter (Refused kind reply) = kind ≡ kinds.InsufficientMemory
+
+-- the same of the newest turn, where there is one
+abbrev pub MayLack : List Turn → Type 0
+MayLack [] = Unit {0}
+MayLack (t ∷ past) = MayLackAfter t.outcome
 
 -- the newest turn has a message, of which it is so that it fits
 abbrev pub MessageFits : Option TsRequest → Bool → Type 0
@@ -126,7 +134,7 @@ module _ (base : List Carried) (start : ℕ) where
   Cause limit (errors.Server error) turns log now =
       (error.error_type ≢ kinds.InsufficientMemory) × NewestIs Server (IsServerRefusal error.error_type) turns × Given turns log now
   Cause limit (errors.Read end kind) turns log now =
-      AllGoOn turns × (next_end turns ≡ end) × TurnLeft limit turns × Logged base turns log × IsUnreadable turns log kind
+      AllGoOn turns × (next_end turns ≡ end) × TurnLeft limit turns × Logged base turns log × IsUnreadable turns log kind × HeadWithin log
   Cause limit (errors.Write end) turns log now =
       AllGoOn turns × (next_end turns ≡ other end) × LoggedButLast base turns log × NewestFits turns false
   Cause limit errors.LinkFault turns log now =
@@ -134,7 +142,7 @@ module _ (base : List Carried) (start : ℕ) where
       × ((Logged base turns log × OpenFor turns log × TurnLeft limit turns) ⊎ (LoggedButLast base turns log × NewestFits turns true))
   Cause limit errors.TurnsSpent turns log now =
       AllGoOn turns × (next_end turns ≡ Client) × (turns_of Client turns ≡ limit) × Logged base turns log × UnreadFor turns log
-  Cause limit errors.InsufficientMemory turns log now = NotFinished turns × HasLog base turns log
+  Cause limit errors.InsufficientMemory turns log now = MayLack turns × HasLog base turns log
 
   pub record Stopped (limit : ℕ) (error : DelegateError) (turns : List Turn) (log : List Carried) (now : ℕ) : Type 0 where
     pub order : Alternates turns

@@ -1,5 +1,5 @@
 -- How the newest delivery of a log is read.
-use Rattle.std.specs.Prelude.{◌≡◌, ℕ, ◌||◌, nat_le, Bool, true, false, List, [], ◌∷◌, length, Result, Ok, Err}
+use Rattle.std.specs.Prelude.{◌≡◌, ◌≤◌, ℕ, ◌||◌, nat_le, Bool, true, false, List, [], ◌∷◌, length, Result, Ok, Err}
 use Rattle.sspi_delegate.specs.declared.carried.Carried.{Carried}
 use Rattle.sspi_delegate.specs.declared.link.LinkError.{LinkError}
 use Rattle.sspi_delegate.specs.declared.link.LinkError.TheVariants.{Failed, InsufficientMemory}
@@ -20,9 +20,15 @@ Fed [] new = new ≡ []
 Fed (e ∷ log) [] = ⊥
 Fed (e ∷ log) (f ∷ more) = (f.from ≡ e.from) × (f.sent ≡ e.sent) × (more ≡ log)
 
+-- this is the newest delivery, which was taken, and no more of it than the limit
 abbrev pub HeadTaken : List Carried → List ℕ → Type 0
 HeadTaken [] text = ⊥
-HeadTaken (e ∷ log) text = (is_taken e ≡ true) × (e.delivered ≡ text)
+HeadTaken (e ∷ log) text = (is_taken e ≡ true) × (e.delivered ≡ text) × (length text ≤ DELIVERY_LIMIT)
+
+-- no more of the newest delivery was taken than the limit
+abbrev pub HeadWithin : List Carried → Type 0
+HeadWithin [] = ⊥
+HeadWithin (e ∷ log) = length e.delivered ≤ DELIVERY_LIMIT
 
 abbrev pub HeadOpen : List Carried → Type 0
 HeadOpen [] = ⊥

@@ -1,4 +1,5 @@
--- Where each answer of an exchange must come: what the turns and the log show leaves no other. Want of memory is free.
+-- Where each answer of an exchange must come: what the turns and the log show leaves no other, but for want of memory, whose
+-- place `Causes` has.
 use Rattle.std.specs.Prelude.{◌≡◌, ℕ, true, false, List, Result, Ok, Err}
 use Rattle.sspi_types.specs.declared.error_kind.ErrorKind.{ErrorKind}
 use Rattle.sspi_ber.specs.declared.wire_kind.WireKind.{WireKind}

@@ -5,7 +5,7 @@ use Rattle.sspi_delegate.specs.declared.edit.Edit.{Edit}
 use Rattle.sspi_delegate.specs.declared.link.LinkError.{LinkError}
 use Rattle.sspi_delegate.specs.declared.link.LinkError.TheVariants.{Failed, InsufficientMemory}
 use Rattle.sspi_delegate.specs.Edits.{edited, sent_texts, FollowsEdits}
-use Rattle.sspi_ber.specs.Outside.{Rose}
+use Rattle.sspi_ber.specs.Outside.{Rose, Counts}
 use Rattle.sspi_delegate.specs.Log.{Grows}
 
 -- the count of faults never falls, and a call fails only where it rose
@@ -19,10 +19,10 @@ abbrev pub PieceGives : List Carried → List Carried → Result ℕ LinkError �
 PieceGives old new (Ok n) into = (n ≤ length into) × Grows old new n into
 PieceGives old new (Err error) into = new ≡ old
 
--- where the edits give this, `carry` fails exactly where they give nothing, and the count of faults rises only then
+-- where the edits give this, `carry` fails exactly where they give nothing, and then alone a fault is counted: one
 abbrev pub CarriesEdited : Option (List ℕ) → ℕ → ℕ → Result (Unit {0}) LinkError → Type 0
 CarriesEdited None before now (Ok done) = ⊥
-CarriesEdited None before now (Err Failed) = Unit {0}
+CarriesEdited None before now (Err Failed) = Counts before now
 CarriesEdited None before now (Err InsufficientMemory) = now ≡ before
 CarriesEdited (Some text) before now (Ok done) = now ≡ before
 CarriesEdited (Some text) before now (Err Failed) = ⊥

@@ -2,7 +2,7 @@
 use Rattle.std.specs.Prelude.{◌≡◌, ℕ, ◌≤◌, ◌⊎◌, true, false, List, [], ◌∷◌, reverse, Option, None, Some, Result, Ok, Err}
 use Rattle.sspi_ber.specs.declared.wire_kind.WireKind.{WireKind}
 use Rattle.sspi_ber.specs.declared.wire_kind.WireKind.TheVariants as wire
-use Rattle.sspi_ber.specs.Outside.{Rose}
+use Rattle.sspi_ber.specs.Outside.{Rose, Counts}
 use Rattle.sspi_tsreq.specs.declared.request.TsRequest.{TsRequest}
 use Rattle.sspi_tsreq.specs.Spelling.{fits, spelled}
 use Rattle.sspi_delegate.specs.declared.answer.DelegateError.{DelegateError}
@@ -36,11 +36,12 @@ Sends from message old new before now (Err (Server error)) = ⊥
 Sends from message old new before now (Err (Read end kind)) = ⊥
 Sends from message old new before now (Err TurnsSpent) = ⊥
 
--- where the edits are told, the link fails exactly where they say so, and no other fault is counted
+-- where the edits are told, the link fails exactly where they say so, then one fault is counted, and no other is
 abbrev pub SendTold : Option (List Edit) → List Carried → TsRequest → ℕ → ℕ → Result (Unit {0}) DelegateError → Type 0
 SendTold None log message before now result = Unit {0}
 SendTold (Some edits) log message before now (Ok done) = now ≡ before
-SendTold (Some edits) log message before now (Err LinkFault) = edited edits (sent_texts (reverse log)) (spelled message) ≡ None
+SendTold (Some edits) log message before now (Err LinkFault) =
+    (edited edits (sent_texts (reverse log)) (spelled message) ≡ None) × Counts before now
 SendTold (Some edits) log message before now (Err (Client error)) = now ≡ before
 SendTold (Some edits) log message before now (Err (Server error)) = now ≡ before
 SendTold (Some edits) log message before now (Err (Read end kind)) = now ≡ before
@@ -63,18 +64,22 @@ abbrev pub CarryFails : List Edit → List Carried → Option TsRequest → Type
 CarryFails edits log None = ⊥
 CarryFails edits log (Some message) = edited edits (sent_texts (reverse log)) (spelled message) ≡ None
 
+-- the edits failed the carry of this message, and one fault was counted
+abbrev pub HasFailed : List Edit → ℕ → ℕ → List Carried → Option TsRequest → Type 0
+HasFailed edits before now log message = CarryFails edits log message × Counts before now
+
 -- Where the edits are told, the link fails only in a carry that they fail: that of the newest turn's message. Where that is
--- a refusing server's, which changes no answer, a fault may be counted; elsewhere none is.
+-- a refusing server's, which changes no answer, one fault may be counted; elsewhere none is.
 abbrev pub AnswerTold : {X : Type 0} → Option (List Edit) → ℕ → ℕ → Result X DelegateError → List Carried → Option TsRequest → Type 0
 AnswerTold None before now result log message = Unit {0}
 AnswerTold (Some edits) before now (Ok x) log message = now ≡ before
 AnswerTold (Some edits) before now (Err (Client error)) log message = now ≡ before
-AnswerTold (Some edits) before now (Err (Server error)) log message = (now ≡ before) ⊎ CarryFails edits log message
+AnswerTold (Some edits) before now (Err (Server error)) log message = (now ≡ before) ⊎ HasFailed edits before now log message
 AnswerTold (Some edits) before now (Err (Read end kind)) log message = now ≡ before
 AnswerTold (Some edits) before now (Err (Write end)) log message = now ≡ before
-AnswerTold (Some edits) before now (Err LinkFault) log message = CarryFails edits log message
+AnswerTold (Some edits) before now (Err LinkFault) log message = HasFailed edits before now log message
 AnswerTold (Some edits) before now (Err TurnsSpent) log message = now ≡ before
-AnswerTold (Some edits) before now (Err InsufficientMemory) log message = (now ≡ before) ⊎ CarryFails edits log message
+AnswerTold (Some edits) before now (Err InsufficientMemory) log message = (now ≡ before) ⊎ HasFailed edits before now log message
 
 -- where the edits are told, reading a request never fails
 abbrev pub RequestTold : {X : Type 0} → Option (List Edit) → ℕ → ℕ → Result X DelegateError → Type 0

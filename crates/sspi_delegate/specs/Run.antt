@@ -1,6 +1,6 @@
 -- How the turns of an exchange and the entries of its log belong together. Both are lists, the newest first, and the
 -- entries are those that the exchange added to the log that it found.
-use Rattle.std.specs.Prelude.{◌≡◌, ℕ, ◌⊎◌, true, List, [], ◌∷◌, Option, None, Some}
+use Rattle.std.specs.Prelude.{◌≡◌, ◌≤◌, ℕ, ◌⊎◌, true, List, [], ◌∷◌, length, Option, None, Some}
 use Rattle.sspi_ber.specs.declared.wire_kind.WireKind.{WireKind}
 use Rattle.sspi_ber.specs.declared.wire_kind.WireKind.TheVariants.{UnexpectedEof, InvalidData, ReadFault, WriteFault, InsufficientMemory}
 use Rattle.sspi_ber.specs.Fault.{Ended, Invalid}
@@ -10,6 +10,7 @@ use Rattle.sspi_tsreq.specs.Grammar.{IsRequest}
 use Rattle.sspi_tsreq.specs.Spelling.{fits, spelled}
 use Rattle.sspi_tsreq.specs.Value.{first_request}
 use Rattle.sspi_delegate.specs.declared.carried.Carried.{Carried}
+use Rattle.sspi_delegate.specs.declared.messages.TheConstants.{DELIVERY_LIMIT}
 use Rattle.sspi_delegate.specs.declared.turn.Turn.{Turn}
 use Rattle.sspi_delegate.specs.Deliveries.{IsUnread, is_taken, HeadOpen}
 use Rattle.sspi_delegate.specs.Turns.{message_of}
@@ -27,11 +28,12 @@ IsFault bytes WriteFault = ⊥
 IsFault bytes InsufficientMemory = ⊥
 
 -- a turn after these turns is given this request: the first one its own, each other one what was delivered of the newest
--- entry, which was taken whole
+-- entry, which was taken to its end or to the limit, and no further
 abbrev pub IsDelivered : List Turn → List Carried → TsRequest → Type 0
 IsDelivered [] log request = request ≡ first_request
 IsDelivered (t ∷ past) [] request = ⊥
-IsDelivered (t ∷ past) (e ∷ log) request = (is_taken e ≡ true) × IsRead e.delivered request
+IsDelivered (t ∷ past) (e ∷ log) request =
+    (is_taken e ≡ true) × IsRead e.delivered request × (length e.delivered ≤ DELIVERY_LIMIT)
 
 -- what was sent is the spelling of the message, which fits
 abbrev pub IsSent : Option TsRequest → List ℕ → Type 0

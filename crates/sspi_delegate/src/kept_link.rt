@@ -26,7 +26,8 @@ pub trait Carrier: Drop {
         ensures cause { LinkCause (faults self.old) (faults self.new) result };
 }
 
-/// A link over a carrier, which keeps the log.
+/// A link over a carrier, which keeps the log. Memory for the log is taken before the carrier is asked, and a call that is
+/// refused leaves the log.
 #[derive(Drop)]
 pub struct KeptLink<R: Carrier> {
     alloc: Global,

@@ -29,6 +29,7 @@ pub use exchange::delegate;
 pub use kept_link::{Carrier, KeptLink};
 pub use link::{Link, LinkError};
 pub use memory_link::MemoryLink;
+pub use messages::DELIVERY_LIMIT;
 pub use transcript::Transcript;
 pub use turn::{Outcome, Turn};
 

@@ -36,7 +36,7 @@ impl<T: Drop> From<AllocFailed<T>> for LinkError {
 /// The count of faults never falls, and a call answers `Failed` only where it rose in that call, or stands at its last value.
 /// A link that tells its edits delivers what they give, and fails exactly where they say so.
 pub trait Link: Drop {
-    ghost use Rattle.std.specs.Prelude.{◌≡◌, ◌∷◌, ℕ, List, Option, OnOk, OnErr};
+    ghost use Rattle.std.specs.Prelude.{◌≡◌, [], ◌∷◌, ℕ, List, Option, OnOk, OnErr};
     ghost use Rattle.sspi_delegate.specs.declared.carried.Carried.{Carried};
     ghost use Rattle.sspi_delegate.specs.declared.edit.Edit.{Edit};
     ghost use Rattle.sspi_delegate.specs.Link.{LinkCause, PieceGives, CarryTold, NeverFails, FollowsTold};
@@ -62,10 +62,12 @@ pub trait Link: Drop {
 
     /// Writes the next bytes of the newest delivery to the front of `into`, and answers how many they are.
     /// None, where `into` is not empty, is the end of the delivery. Without an entry there are none, and nothing changes.
+    /// A call that is not `Ok` leaves the log.
     fn piece(&mut self, into: &mut [u8]) -> Result<usize, LinkError>
         ensures gives { PieceGives (log self.old) (log self.new) result into.new }
         ensures cause { LinkCause (faults self.old) (faults self.new) result }
         ensures edits { edits self.new ≡ edits self.old }
+        ensures none { log self.old ≡ [] → (result ≡ Ok 0) × (self.new ≡ self.old) }
         ensures told { NeverFails (edits self.old) (faults self.old) (faults self.new) result }
         ensures follows { FollowsTold (edits self.new) (log self.new) };
 }

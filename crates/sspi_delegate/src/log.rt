@@ -65,6 +65,7 @@ impl Log {
         ensures gives { PieceGives self.old.entries self.new.entries result into.new }
         ensures delivers { NewestDelivers text.now self.new.entries }
         ensures memory { IfErr result (λ error. error ≡ LinkError.InsufficientMemory) }
+        ensures none { self.old.entries ≡ [] → (result ≡ Ok 0) × (self.new ≡ self.old) }
     {
         let Some(last) = self.entries.len().checked_sub(1) else {
             return Ok(0);
@@ -80,6 +81,7 @@ impl Log {
     ) -> Result<usize, LinkError>
         ensures gives { PieceGives self.old.entries self.new.entries result into.new }
         ensures cause { LinkCause (R.faults carrier.old) (R.faults carrier.new) result }
+        ensures none { self.old.entries ≡ [] → (result ≡ Ok 0) × (self.new ≡ self.old) × (carrier.new ≡ carrier.old) }
     {
         let Some(last) = self.entries.len().checked_sub(1) else {
             return Ok(0);

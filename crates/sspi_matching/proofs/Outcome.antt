@@ -94,7 +94,7 @@ told_calm (Err (errors.Client error)) start now log message told = tt
 told_calm (Err (errors.Server error)) start now log message told = tt
 told_calm (Err (errors.Read to kind)) start now log message told = tt
 told_calm (Err (errors.Write from)) start now log message told = tt
-told_calm (Err errors.LinkFault) start now log message told = carry_never log message told
+told_calm (Err errors.LinkFault) start now log message told = carry_never log message told.0
 told_calm (Err errors.TurnsSpent) start now log message told = tt
 told_calm (Err errors.InsufficientMemory) start now log message told = tt
 

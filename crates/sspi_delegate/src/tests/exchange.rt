@@ -222,6 +222,11 @@ fn is_log(log: &[Carried], sent: &[&str]) -> bool {
         })
 }
 
+/// What was sent was delivered, and read to its end.
+fn is_whole(entry: &Carried) -> bool {
+    entry.ended && entry.delivered.as_slice() == entry.sent.as_slice()
+}
+
 fn assert_log(rt: &impl std::process::Abort, log: &[Carried], sent: &[&str], delivered: usize) {
     assert!(rt; is_log(log, sent));
     if let Some(last) = log.last() {
@@ -343,9 +348,25 @@ fn an_altered_proof_is_told_to_the_client(rt: HostRuntime) -> Result<(), Fail> {
 
 #[test]
 fn exchange_over_a_carrier(rt: HostRuntime) -> Result<(), Fail> {
-    let mut link = KeptLink::new(rt.alloc(), echoing(rt.alloc(), 5));
+    let mut link = KeptLink::new(rt.alloc(), echoing(rt.alloc(), Some(5), None));
     let exchanged = exchange(rt.alloc(), &PLAIN, &mut link)?;
     assert!(rt; is_wanted(&exchanged.answer, Wanted::Credentials(3)));
     assert_log(&rt, link.log(), &plain_messages(), 104);
+    assert!(rt; link.log().iter().all(|entry| is_whole(entry)));
+    Ok(())
+}
+
+/// The second message is not sent, or nothing of the first one is received: a call that is tried again would succeed.
+#[test]
+fn a_fault_of_the_carrier_ends_the_exchange(rt: HostRuntime) -> Result<(), Fail> {
+    for (sends_left, receives_left, turns) in [(Some(1), None, 2), (None, Some(0), 1)] {
+        let carrier = echoing(rt.alloc(), sends_left, receives_left);
+        let mut link = KeptLink::new(rt.alloc(), carrier);
+        let exchanged = exchange(rt.alloc(), &PLAIN, &mut link)?;
+        let wanted = Wanted::Other(DelegateError::LinkFault);
+        assert!(rt; is_wanted(&exchanged.answer, wanted));
+        assert_eq!(rt; exchanged.turns, turns);
+        assert_eq!(rt; link.log().len(), 1);
+    }
     Ok(())
 }

@@ -128,29 +128,39 @@ fn an_edit_fails_the_carry(rt: HostRuntime) -> Result<(), Fail> {
 pub struct Echo {
     text: Bytes,
     taken: usize,
-    sends_left: u32,
+    sends_left: Option<u32>,
+    receives_left: Option<u32>,
     faults: u64,
 }
 
-/// A carrier that sends so many messages, and then fails.
-pub fn echoing(alloc: Global, sends_left: u32) -> Echo {
+/// A carrier whose `send` fails once, after so many, and whose `receive` does.
+pub fn echoing(alloc: Global, sends_left: Option<u32>, receives_left: Option<u32>) -> Echo {
     Echo {
         text: Bytes::new(alloc),
         taken: 0,
         sends_left,
+        receives_left,
         faults: 0,
     }
+}
+
+/// One call more: whether it is the one that fails.
+fn fails(calls_left: &mut Option<u32>) -> bool {
+    let Some(left) = *calls_left else {
+        return false;
+    };
+    *calls_left = left.checked_sub(1);
+    left == 0
 }
 
 impl Carrier for Echo {
     ghost faults = { λ carrier. carrier.faults };
 
     fn send(&mut self, _from: End, sent: &[u8]) -> Result<(), LinkError> {
-        if self.sends_left == 0 {
+        if fails(&mut self.sends_left) {
             self.faults = self.faults.saturating_add(1);
             return Err(LinkError::Failed);
         }
-        self.sends_left -= 1;
         self.taken = 0;
         self.text.truncate(0);
         self.text.push_slice(sent)?;
@@ -158,6 +168,10 @@ impl Carrier for Echo {
     }
 
     fn receive(&mut self, into: &mut [u8]) -> Result<usize, LinkError> {
+        if fails(&mut self.receives_left) {
+            self.faults = self.faults.saturating_add(1);
+            return Err(LinkError::Failed);
+        }
         let rest = self.text.as_slice().get(self.taken..).unwrap_or(&[]);
         let count = rest.len().min(into.len());
         into[..count].copy_from_slice(&rest[..count]);
@@ -175,7 +189,7 @@ fn assert_entry(rt: &impl std::process::Abort, entry: &Carried, from: End, text:
 
 #[test]
 fn kept_link_keeps_the_log(rt: HostRuntime) -> Result<(), Fail> {
-    let mut link = KeptLink::new(rt.alloc(), echoing(rt.alloc(), 2));
+    let mut link = KeptLink::new(rt.alloc(), echoing(rt.alloc(), Some(2), None));
     assert_eq!(rt; link.piece(&mut [0u8; 4]), Ok(0));
     for (from, text) in [(End::Client, b"abc"), (End::Server, b"def")] {
         assert_eq!(rt; link.carry(from, text), Ok(()));
