@@ -1,13 +1,15 @@
 use crate::tests::asks::Asks;
 use crate::tests::ends::{
-    Client, ClientEnd, End, IDLE, at, checked, concludes, expect, is_refusal, keytab, octets, read,
-    refuses, replies, stepped, text_of, with_bare_proof, with_proof, with_token,
+    Client, ClientEnd, End, IDLE, at, checked, concludes, expect, has_no_token, identity,
+    is_refusal, keytab, octets, read, refuses, replies, stepped, text_of, with_bare_proof,
+    with_proof, with_token,
 };
 use crate::tests::values::{
     CHALLENGE, CLIENT_PROOF_BY_SERVER, CUT_PROOF_BY_SERVER, FOURTH, SERVER_PROOF, THIRD,
     THIRD_PROOF_BY_SERVER,
 };
 use sspi_mech::{Ntlm, Reply};
+use sspi_names::Credentials;
 use sspi_tsreq::{CredSspMode, TsRequest};
 use sspi_types::{Error, ErrorKind, NStatusCode, Reason, SecurityStatus};
 use std::alloc::Global;
@@ -114,6 +116,7 @@ fn refuses_proofs<E: End>(alloc: Global, client: &mut E) -> Result<(), Fail> {
     let (malformed, altered) = (ErrorKind::InvalidToken, ErrorKind::MessageAltered);
     let absent = with_token(alloc, b"N3")?;
     refuses(client, absent, malformed, Reason::NoPubKey, IDLE)?;
+    has_no_token(client)?;
     refuses_blob(alloc, client, &[0; 15], malformed, Reason::ShortBlob)?;
     refuses_blob(alloc, client, &[0; 16], altered, Reason::Tag)?;
     refuses_blob(alloc, client, &THIRD[65..113], altered, Reason::Tag)?;
@@ -143,6 +146,12 @@ fn of_the_proof(rt: HostRuntime) -> Result<(), Fail> {
     delegates_after_refusals::<Client<Ntlm>>(rt.alloc())
 }
 
+/// The last message, which no step gives.
+fn delegates<E: End>(alloc: Global, client: &mut E) -> Result<(), Fail> {
+    let _ = concludes(client, read(alloc, &FOURTH)?)?;
+    has_no_token(client)
+}
+
 fn is_over<E: End>(alloc: Global, client: &mut E) -> Result<(), Fail> {
     let fourth = read(alloc, &FOURTH)?;
     let (kind, reason) = (ErrorKind::OutOfSequence, Reason::Sequence);
@@ -152,7 +161,7 @@ fn is_over<E: End>(alloc: Global, client: &mut E) -> Result<(), Fail> {
 fn refuses_once_it_delegated<E: ClientEnd>(alloc: Global) -> Result<(), Fail> {
     let mut client = E::plain(alloc)?;
     prove(alloc, &mut client)?;
-    let _ = concludes(&mut client, read(alloc, &FOURTH)?)?;
+    delegates(alloc, &mut client)?;
     tells_code(&mut client, TsRequest::default())?;
     refuses_version(&mut client, TsRequest::default(), 2)?;
     is_over(alloc, &mut client)?;
@@ -186,25 +195,66 @@ fn of_a_key_table(rt: HostRuntime) -> Result<(), Fail> {
     begins_without_a_key_table::<Client<Ntlm>>(rt.alloc())
 }
 
-fn delegates_nothing<E: End>(alloc: Global, client: &mut E) -> Result<(), Fail> {
-    let right = with_bare_proof(alloc, &SERVER_PROOF)?;
-    let (kind, reason) = (ErrorKind::UnsupportedPreAuth, Reason::Keytab);
-    refuses(client, right, kind, reason, checked())
-}
-
-fn delegates_no_key_table<E: ClientEnd>(alloc: Global) -> Result<(), Fail> {
+/// A client that waits for the proof of a server of a mechanism that protects nothing.
+fn waits_for_proof<E: ClientEnd>(alloc: Global, credentials: Credentials) -> Result<E, Fail> {
     let mode = CredSspMode::WithCredentials;
-    let mut client = E::make(alloc, keytab(alloc)?, mode, 6, &[1, 2, 3], 0)?;
+    let mut client = E::make(alloc, credentials, mode, 6, &[1, 2, 3], 0)?;
     let (kind, reason) = (ErrorKind::InternalError, Reason::NoVersion);
     let ended = stepped(Some(SecurityStatus::Ok));
     refuses(&mut client, TsRequest::default(), kind, reason, ended)?;
     let _ = replies(&mut client, TsRequest::default())?;
-    delegates_nothing(alloc, &mut client)?;
-    delegates_nothing(alloc, &mut client)
+    Ok(client)
+}
+
+fn delegates_nothing<E: End>(
+    alloc: Global,
+    client: &mut E,
+    kind: ErrorKind,
+    reason: Reason,
+) -> Result<(), Fail> {
+    let right = with_bare_proof(alloc, &SERVER_PROOF)?;
+    refuses(client, right, kind, reason, checked())
+}
+
+/// The right proof is refused for these credentials, and refused again.
+fn delegates_none_of<E: ClientEnd>(
+    alloc: Global,
+    credentials: Credentials,
+    kind: ErrorKind,
+    reason: Reason,
+) -> Result<(), Fail> {
+    let mut client = waits_for_proof::<E>(alloc, credentials)?;
+    delegates_nothing(alloc, &mut client, kind, reason)?;
+    delegates_nothing(alloc, &mut client, kind, reason)
+}
+
+fn delegates_no_key_table<E: ClientEnd>(alloc: Global) -> Result<(), Fail> {
+    let (kind, reason) = (ErrorKind::UnsupportedPreAuth, Reason::Keytab);
+    delegates_none_of::<E>(alloc, keytab(alloc)?, kind, reason)
 }
 
 /// A mechanism may take a key table, but CredSSP has no text for it.
 #[test]
 fn of_a_key_table_to_delegate(rt: HostRuntime) -> Result<(), Fail> {
     delegates_no_key_table::<Client<Asks<0>>>(rt.alloc())
+}
+
+/// The credentials of `DOM\ann` with a password of so many letters, whose text has a content of 45 bytes and two for each.
+fn with_letters(alloc: Global, letters: usize) -> Result<Credentials, Fail> {
+    let password = "a".repeat(alloc, letters)?;
+    Ok(Credentials::AuthIdentity(identity(alloc, "DOM\\ann", password.as_str())?))
+}
+
+fn delegates_up_to_the_limit<E: ClientEnd>(alloc: Global) -> Result<(), Fail> {
+    let (kind, reason) = (ErrorKind::InternalError, Reason::TooLong);
+    delegates_none_of::<E>(alloc, with_letters(alloc, 32744)?, kind, reason)?;
+    let mut client = waits_for_proof::<E>(alloc, with_letters(alloc, 32743)?)?;
+    let last = concludes(&mut client, with_bare_proof(alloc, &SERVER_PROOF)?)?;
+    expect(text_of(&last.auth_info).len() == 65535, "another length")
+}
+
+/// A content of 65533 bytes is too long, and one of 65531 is not.
+#[test]
+fn of_credentials_past_the_limit(rt: HostRuntime) -> Result<(), Fail> {
+    delegates_up_to_the_limit::<Client<Asks<0>>>(rt.alloc())
 }

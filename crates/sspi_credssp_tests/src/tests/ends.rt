@@ -374,6 +374,12 @@ pub fn hands_back<E: End>(
     handed_back(said, Error::new(kind, reason))
 }
 
+/// The last call of this end gave no token, whatever the calls before it gave.
+pub fn has_no_token<E: End>(end: &mut E) -> Result<(), Fail> {
+    expect(end.output().is_empty(), "a token of an earlier step")?;
+    expect(end.output().is_empty(), "a token at the second call")
+}
+
 /// The text behind the tag of a sealed blob.
 pub fn text_of(field: &Option<Bytes>) -> &[u8] {
     match field {

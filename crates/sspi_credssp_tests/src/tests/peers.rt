@@ -1,3 +1,4 @@
+use crate::tests::asks::Asks;
 use crate::tests::ends::{
     End, KEY, Server, ServerEnd, account, ann, expect, hands_back, identity, read, refuses,
     replies, stepped, text_of, with_token,
@@ -74,4 +75,49 @@ fn knows_peer<S: ServerEnd>(alloc: Global) -> Result<(), Fail> {
 #[test]
 fn that_have_several_passwords(rt: HostRuntime) -> Result<(), Fail> {
     knows_peer::<Server<Ntlm>>(rt.alloc())
+}
+
+/// The server refuses the last token so, as it cannot tell who its client is.
+fn tells_no_peer<E: End>(
+    alloc: Global,
+    server: &mut E,
+    kind: ErrorKind,
+    reason: Reason,
+    code: u32,
+) -> Result<(), Fail> {
+    let ended = stepped(Some(SecurityStatus::Ok));
+    let back = hands_back(server, with_token(alloc, b"first")?, kind, reason, ended)?;
+    expect(back.error_code == Some(NStatusCode(code)), "another code")?;
+    expect(back.nego_tokens.is_none(), "a token")
+}
+
+fn asks_for_proof<E: End>(alloc: Global, server: &mut E) -> Result<(), Fail> {
+    let second = replies(server, with_token(alloc, b"first")?)?;
+    expect(second == with_token(alloc, b"last")?, "another reply")
+}
+
+/// A look-up that fails ends nothing: the next one finds the peer.
+fn looks_up_again<S: ServerEnd>(alloc: Global) -> Result<(), Fail> {
+    let mut entries = Vec::new(alloc);
+    entries.push(identity(alloc, "DOM\\ann", "pw")?)?;
+    let failing = TableProxy::new(alloc, entries, Vec::from_slice(alloc, &[0])?);
+    let mut server = S::make(alloc, failing, 6, &KEY)?;
+    let denied = ErrorKind::LogonDenied;
+    tells_no_peer(alloc, &mut server, denied, Reason::Proxy, 0xC007030C)?;
+    asks_for_proof(alloc, &mut server)
+}
+
+/// The mechanism takes any identities, and none too; the server does not.
+fn knows_nobody<S: ServerEnd>(alloc: Global) -> Result<(), Fail> {
+    let none = TableProxy::new(alloc, Vec::new(alloc), Vec::new(alloc));
+    let mut server = S::make(alloc, none, 6, &KEY)?;
+    let (nobody, reason) = (ErrorKind::NoCredentials, Reason::NoIdentity);
+    tells_no_peer(alloc, &mut server, nobody, reason, 0xC007030E)?;
+    tells_no_peer(alloc, &mut server, nobody, reason, 0xC007030E)
+}
+
+#[test]
+fn that_are_looked_up_again(rt: HostRuntime) -> Result<(), Fail> {
+    looks_up_again::<Server<Asks<0>>>(rt.alloc())?;
+    knows_nobody::<Server<Asks<0>>>(rt.alloc())
 }

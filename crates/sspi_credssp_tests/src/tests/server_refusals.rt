@@ -1,12 +1,12 @@
 use crate::tests::asks::Asks;
 use crate::tests::ends::{
-    End, IDLE, Server, ServerEnd, ann, at, checked, expect, finishes, hands_back, identity,
-    is_identity, octets, read, refuses, replies, stepped, text_of, with_bare_proof,
-    with_credentials, with_proof, with_token,
+    End, IDLE, Server, ServerEnd, ann, at, bare_blob, checked, expect, finishes, hands_back,
+    has_no_token, identity, is_identity, octets, read, refuses, replies, stepped, text_of,
+    with_bare_proof, with_credentials, with_proof, with_token,
 };
 use crate::tests::values::{
-    CLIENT_PROOF, CUT_PROOF_BY_CLIENT, FIFTH, FOURTH, LATER_CREDENTIALS, NO_CREDENTIALS,
-    SERVER_PROOF, SERVER_PROOF_BY_CLIENT, THIRD,
+    CLIENT_PROOF, CUT_PROOF_BY_CLIENT, FIFTH, FOURTH, LATER_CREDENTIALS, MIXED_NAME,
+    NO_CREDENTIALS, ODD_PASSWORD, SERVER_PROOF, SERVER_PROOF_BY_CLIENT, SMART_CARD, THIRD,
 };
 use sspi_credssp::Acts;
 use sspi_mech::Ntlm;
@@ -222,11 +222,20 @@ fn refuses_first_proof<E: End>(alloc: Global, server: &mut E) -> Result<(), Fail
     expect(back.pub_key_auth.is_some(), "a field is lost")
 }
 
+/// The right credentials, by a mechanism that protects nothing. No step gives a token where they are read.
+fn finishes_bare<E: End>(alloc: Global, server: &mut E) -> Result<(), Fail> {
+    let blob = bare_blob(alloc, &LATER_CREDENTIALS[16..])?;
+    let identity = finishes(server, with_credentials(alloc, blob.as_slice())?)?;
+    expect(is_identity(&identity, "DOM\\ann", "pw"), "another identity")?;
+    has_no_token(server)
+}
+
 fn authenticates_again<E: ServerEnd>(alloc: Global) -> Result<(), Fail> {
     let mut server = E::plain(alloc)?;
     refuses_first_proof(alloc, &mut server)?;
     refuses_first_proof(alloc, &mut server)?;
-    answers_proof(alloc, &mut server)
+    answers_proof(alloc, &mut server)?;
+    finishes_bare(alloc, &mut server)
 }
 
 /// A proof that comes with the last token and is refused leaves the server in its authentication.
@@ -284,18 +293,63 @@ fn is_over<E: End>(alloc: Global, server: &mut E) -> Result<(), Fail> {
     )
 }
 
+/// Another version is told from that of the client's other messages to the end.
+fn stays_over<E: End>(alloc: Global, server: &mut E) -> Result<(), Fail> {
+    is_over(alloc, server)?;
+    refuses_version(server, at(5, read(alloc, &FIFTH)?))?;
+    is_over(alloc, server)
+}
+
 fn finishes_after_refusals<E: ServerEnd>(alloc: Global) -> Result<(), Fail> {
     let mut server = E::plain(alloc)?;
     let _ = replies(&mut server, with_token(alloc, b"N1")?)?;
     let _ = replies(&mut server, read(alloc, &THIRD)?)?;
     refuses_infos(alloc, &mut server)?;
     finishes_at_last(alloc, &mut server)?;
-    is_over(alloc, &mut server)?;
-    is_over(alloc, &mut server)
+    stays_over(alloc, &mut server)
 }
 
 /// Absent, short, altered and malformed credentials; after all of them the right ones end the exchange.
 #[test]
 fn of_the_credentials(rt: HostRuntime) -> Result<(), Fail> {
     finishes_after_refusals::<Server<Ntlm>>(rt.alloc())
+}
+
+/// A server that waits for the credentials refuses this text in their place.
+fn refuses_text_of<E: End>(
+    alloc: Global,
+    server: &mut E,
+    text: &[u8],
+    kind: ErrorKind,
+    reason: Reason,
+) -> Result<(), Fail> {
+    let blob = bare_blob(alloc, text)?;
+    refuses_credentials(alloc, server, blob.as_slice(), kind, reason, true)?;
+    has_no_token(server)
+}
+
+/// The right credentials end the exchange after this text was refused in their place.
+fn finishes_after<E: ServerEnd>(
+    alloc: Global,
+    text: &[u8],
+    kind: ErrorKind,
+    reason: Reason,
+) -> Result<(), Fail> {
+    let mut server = E::plain(alloc)?;
+    answers_proof(alloc, &mut server)?;
+    refuses_text_of(alloc, &mut server, text, kind, reason)?;
+    finishes_bare(alloc, &mut server)
+}
+
+fn finishes_after_each<E: ServerEnd>(alloc: Global) -> Result<(), Fail> {
+    let (unsupported, invalid) = (ErrorKind::UnsupportedFunction, ErrorKind::InvalidParameter);
+    finishes_after::<E>(alloc, &SMART_CARD, unsupported, Reason::SmartCard)?;
+    finishes_after::<E>(alloc, &MIXED_NAME, invalid, Reason::UserName)?;
+    finishes_after::<E>(alloc, &ODD_PASSWORD, invalid, Reason::Utf)
+}
+
+/// A smart card, a name of both forms and a text of half a code unit; after each of them the right ones end the exchange.
+#[test]
+fn of_what_the_credentials_say(rt: HostRuntime) -> Result<(), Fail> {
+    finishes_after_each::<Server<Asks<0>>>(rt.alloc())
 }
