@@ -1,6 +1,5 @@
 -- How often a client's turn may still ask its KDC, what the KDC replied, and how often it failed.
-use Rattle.std.proofs.Common.{◌≡◌, ℕ, ◌+◌, ◌-◌, ◌^◌, ◌≤◌, min, Option, None, Some, Ok, Vec, ◌∙◌, arith}
-use Rattle.std.proofs.Math.Nat.{min-le_left, min-le_right, le-min}
+use Rattle.std.proofs.Common.{◌≡◌, ℕ, ◌+◌, ◌≤◌, Option, None, Some, Ok, Vec, ◌∙◌, arith}
 use Rattle.sspi_mech.specs.declared.step.Reply.{Reply}
 use Rattle.sspi_mech.specs.declared.step.Reply.TheVariants.{Answered, Failed}
 use Rattle.sspi_mech.specs.Asking.{counted_on, IsTold}
@@ -8,30 +7,15 @@ use Rattle.sspi_names.specs.declared.network.NetworkRequest.{NetworkRequest}
 use Rattle.sspi_credssp.specs.declared.client_state.Progress.{Progress}
 use Rattle.sspi_credssp.specs.declared.client_state.Progress.TheVariants.{Suspended, Completed}
 use Rattle.sspi_delegate.specs.Asking.{RepliesAsTold, CountsReply, IsCalmWhereTold, HasReplied, HasNoReply}
-use Rattle.sspi_delegate.specs.Refusals.{NeverFalls, KdcStays}
+use Rattle.sspi_delegate.specs.Refusals.{KdcStays}
 
 abbrev pub rounds_left : Progress → ℕ → ℕ
 rounds_left (Suspended question) left = left + 1
 rounds_left (Completed state) left = 0
 
-count_on : (a b d : ℕ) → NeverFalls a b → NeverFalls b d → NeverFalls a d
-count_on a b d first next =
-    let under : min a (2 ^ 64 - 1) ≤ min b (2 ^ 64 - 1) = le-min first (min-le_right a (2 ^ 64 - 1)) in
-    omega (arith, under, next)
-
-count_more : (before now : ℕ) → counted_on before ≤ now → NeverFalls before now
-count_more before now h =
-    let less : min before (2 ^ 64 - 1) ≤ before = min-le_left before (2 ^ 64 - 1) in
-    let more : min before (2 ^ 64 - 1) ≤ before + 1 = omega (arith, less) in
-    let under : min before (2 ^ 64 - 1) ≤ counted_on before = le-min more (min-le_right before (2 ^ 64 - 1)) in
-    omega (arith, under, h)
-
-count_risen : (before now : ℕ) → before ≤ now → NeverFalls before now
-count_risen before now h = let less : min before (2 ^ 64 - 1) ≤ before = min-le_left before (2 ^ 64 - 1) in omega (arith, less, h)
-
-reply_counted : (before now : ℕ) (reply : Reply) → CountsReply reply before now → NeverFalls before now
-reply_counted before now (Answered bytes) h = count_risen before now h
-reply_counted before now Failed h = count_more before now h
+reply_counted : (before now : ℕ) (reply : Reply) → CountsReply reply before now → before ≤ now
+reply_counted before now (Answered bytes) h = h
+reply_counted before now Failed h = h.0
 
 calm_risen : (told : Option (ℕ → NetworkRequest → Reply)) (before now : ℕ) → IsCalmWhereTold told before now → before ≤ now
 calm_risen None before now h = h
@@ -60,19 +44,18 @@ module _ {D : Type 0} (told : D → Option (ℕ → NetworkRequest → Reply)) (
       HasReplied told calls faults before question reply now → KdcStays told faults first now
   kdc_replied first before now question reply stays call = record {
     told_same = call.told_same ∙ stays.told_same;
-    counted = count_on (faults first) (faults before) (faults now) stays.counted (reply_counted (faults before) (faults now) reply call.counted);
+    counted = omega (arith, stays.counted, reply_counted (faults before) (faults now) reply call.counted);
   }
 
   pub kdc_lost : (first before now : D) → KdcStays told faults first before → HasNoReply told calls faults before now → KdcStays told faults first now
   kdc_lost first before now stays call = record {
     told_same = call.told_same ∙ stays.told_same;
-    counted = count_on (faults first) (faults before) (faults now) stays.counted
-        (count_risen (faults before) (faults now) (calm_risen (told before) (faults before) (faults now) call.calm));
+    counted = omega (arith, stays.counted, calm_risen (told before) (faults before) (faults now) call.calm);
   }
 
 module _ {D : Type 0} (told : D → Option (ℕ → NetworkRequest → Reply)) (faults : D → ℕ) where
   pub kdc_on : (a b d : D) → KdcStays told faults a b → KdcStays told faults b d → KdcStays told faults a d
   kdc_on a b d first next = record {
     told_same = next.told_same ∙ first.told_same;
-    counted = count_on (faults a) (faults b) (faults d) first.counted next.counted;
+    counted = omega (arith, first.counted, next.counted);
   }

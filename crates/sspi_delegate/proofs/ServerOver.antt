@@ -32,6 +32,7 @@ pub record SameFrame {C : Type 0} (c : Meaning ContextSetting C) (f g : ServerFr
   pub state : g.state ≡ f.state
   pub noted : UnlessStopped t.came (g.noted ≡ f.noted)
   pub proved : t.acts.proved ≡ true → (g.noted ≡ f.noted) × (g.made ≡ f.made) × (g.opened ≡ f.opened) × SameBut c f.context g.context
+  pub checked : t.acts.checked ≡ true → g.noted ≡ f.noted
   pub refused : OnceStopped t.came ((g.context ≡ f.context) × (IsSome f.context → g.noted ≡ f.noted))
 
 module _ {C : Type 0} (c : Meaning ContextSetting C) (law : IsContext c) where
@@ -46,7 +47,11 @@ module _ {C : Type 0} (c : Meaning ContextSetting C) (law : IsContext c) where
   acts_over f g t same acts = record {
     negotiated = λ was. same.state ∙ acts.negotiated was;
     answered = acts.answered;
-    checked = λ was. (subst (λ (s : CredSspState). MayCheck s t.acts.status) (sym same.state) (acts.checked was).0, (acts.checked was).1);
+    checked = λ was. (
+      subst (λ (s : CredSspState). MayCheck s t.acts.status) (sym same.state) (acts.checked was).0,
+      (acts.checked was).1,
+      at_noted c law f.noted g.noted _ _ (same.checked was) (λ noted h. h) (acts.checked was).2,
+    );
     proved = λ was. (
       (acts.proved was).0,
       at_noted c law f.noted g.noted _ _ (same.proved was).0 (λ noted h. proven_over f g t noted same was h) (acts.proved was).1,

@@ -112,6 +112,7 @@ module _ {C : Type 0} (c : Meaning ContextSetting C) where
       state = refl;
       noted = unless_given t.came _ refl;
       proved = λ was. (refl, refl, refl, touch.0 was);
+      checked = λ was. refl;
       refused = went_once t.came _ went.0;
     }) each.0,
     each_over law e e2 past same went.1 touch.2 each.1,
@@ -231,6 +232,7 @@ module _ {C : Type 0} (c : Meaning ContextSetting C) where
                     (checked_alone (server_frame c old new) t turn.turn.acts (turn.turn.acts.proved was).0),
                 same_but c new.context,
               );
+              checked = λ was. sym (turn.moves.noted_checked was ∙ noted);
               refused = once came _ (refl, λ some. sym (turn.moves.noted some ∙ noted));
             }) turn.turn,
             each_over law (server_end old) (server_end new) past (same_end old new turn.moves.same) follows.going

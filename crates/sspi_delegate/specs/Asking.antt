@@ -21,7 +21,7 @@ RepliesAsTold (Some told) call question Failed before now = told call question �
 -- a failure is counted, or finds the count at its last value; the count never falls
 abbrev pub CountsReply : Reply → ℕ → ℕ → Type 0
 CountsReply (Answered bytes) before now = before ≤ now
-CountsReply Failed before now = counted_on before ≤ now
+CountsReply Failed before now = (before ≤ now) × (counted_on before ≤ now)
 
 -- where the replies are told, no fault is counted
 abbrev pub IsCalmWhereTold : Option (ℕ → NetworkRequest → Reply) → ℕ → ℕ → Type 0

@@ -1,5 +1,5 @@
 -- Why an end refused its last turn: what it looked at, in its order, and what its context answered.
-use Rattle.std.specs.Prelude.{◌≡◌, ◌≢◌, ◌≤◌, ◌-◌, ◌^◌, min, ℕ, List, [], ◌∷◌, Option, Some, None, Result, Ok, Err}
+use Rattle.std.specs.Prelude.{◌≡◌, ◌≢◌, ◌≤◌, ℕ, List, [], ◌∷◌, Option, Some, None, Result, Ok, Err}
 use Rattle.sspi_types.specs.declared.error.Error.{Error}
 use Rattle.sspi_types.specs.declared.error_kind.ErrorKind.TheVariants.{InsufficientMemory}
 use Rattle.sspi_mech.specs.Meaning.{Meaning}
@@ -32,14 +32,10 @@ pub record ProxyStays {P : Type 0} (told : P → Option (List AuthIdentity)) (fa
   pub counted : faults old ≤ faults new
   pub calm : failing old ≡ Some [] → faults new ≡ faults old
 
--- a count that never falls, but for where it stands past the last value that is counted
-abbrev pub NeverFalls : ℕ → ℕ → Type 0
-NeverFalls before now = min before (2 ^ 64 - 1) ≤ now
-
 -- what calls on a KDC leave
 pub record KdcStays {D : Type 0} (told : D → Option (ℕ → NetworkRequest → Reply)) (faults : D → ℕ) (old new : D) : Type 0 where
   pub told_same : told new ≡ told old
-  pub counted : NeverFalls (faults old) (faults new)
+  pub counted : faults old ≤ faults new
 
 -- whatever a KDC replied
 abbrev pub any_replies : List Asked → Type 0

@@ -5,6 +5,7 @@ use Rattle.sspi_types.specs.declared.error.Error.{Error}
 use Rattle.sspi_types.specs.declared.error_kind.ErrorKind.{ErrorKind}
 use Rattle.sspi_types.specs.declared.error_kind.ErrorKind.TheVariants.{MessageAltered, InsufficientMemory}
 use Rattle.sspi_types.specs.declared.security_status.SecurityStatus.{SecurityStatus}
+use Rattle.sspi_types.specs.declared.security_status.SecurityStatus.TheVariants as statuses
 use Rattle.sspi_names.specs.declared.identity.AuthIdentity.{AuthIdentity}
 use Rattle.sspi_mech.specs.declared.step.Step.{Step}
 use Rattle.sspi_mech.specs.Calls.{AcceptArgs}
@@ -24,7 +25,7 @@ use Rattle.sspi_credssp.specs.Context.{ContextSetting, ForServer, either}
 use Rattle.sspi_credssp.specs.Requests.{token_of}
 use Rattle.sspi_credssp.specs.Server.{ServerView}
 use Rattle.sspi_credssp.specs.ServerCause.{ServerCause, StateCause, NegoCause}
-use Rattle.sspi_credssp.specs.ServerStep.{Knowing, Unknown, Identified, Completed, Accepted, AcceptedSoFar, so_far, DoneStep, OnStep, known_at, refused_step, server_args}
+use Rattle.sspi_credssp.specs.ServerStep.{Knowing, Unknown, Identified, Completed, Accepted, RefusedAt, so_far, DoneStep, OnStep, known_at, refused_step, server_args}
 use Rattle.sspi_credssp.specs.ServerTurn.{ServerActs}
 use Rattle.sspi_credssp.specs.Stops.{differs}
 use Rattle.sspi_credssp.specs.Turn.{Turn, ServerFrame}
@@ -91,11 +92,25 @@ module _ {K : Type 0} (k : Meaning Setting K) where
     pub status_done : (st : SecurityStatus) → DoneStep (either ntlm_meaning k) told (Some st) start d now → Answers (record { status = st; output = now.output })
     status_done st step = answers (known_at (either ntlm_meaning k) told st) (record { status = st; output = now.output }) step
 
-    far : (answer : Result Step Error) (context : Option (SspiContext NtlmState K)) →
-        IfContext context (AcceptedSoFar (either ntlm_meaning k) told start now.handle d.nego_tokens answer) →
+    far : (status : Option SecurityStatus) (answer : Result Step Error) (m : SspiContext NtlmState K) →
+        RefusedAt (either ntlm_meaning k) told status start now.handle d.nego_tokens answer m →
+        (known : Knowing) × Accepted (either ntlm_meaning k) told start now.handle d.nego_tokens known answer m
+    far None answer m h = (Unknown, h)
+    far (Some statuses.Ok) answer m (so_far known took) = (known, took)
+    far (Some statuses.ContinueNeeded) answer m h = (Unknown, h)
+    far (Some statuses.CompleteNeeded) answer m (so_far known took) = (known, took)
+    far (Some statuses.CompleteAndContinue) answer m h = (Unknown, h)
+    far (Some statuses.LocalLogon) answer m h = (Unknown, h)
+    far (Some statuses.ContextExpired) answer m h = (Unknown, h)
+    far (Some statuses.IncompleteCredentials) answer m h = (Unknown, h)
+    far (Some statuses.Renegotiate) answer m h = (Unknown, h)
+    far (Some statuses.NoLsaContext) answer m h = (Unknown, h)
+
+    far_in : (status : Option SecurityStatus) (answer : Result Step Error) (context : Option (SspiContext NtlmState K)) →
+        IfContext context (RefusedAt (either ntlm_meaning k) told status start now.handle d.nego_tokens answer) →
         (known : Knowing) × IfContext context (Accepted (either ntlm_meaning k) told start now.handle d.nego_tokens known answer)
-    far answer None h = absurd h
-    far answer (Some m) (so_far known took) = (known, took)
+    far_in status answer None h = absurd h
+    far_in status answer (Some m) h = far status answer m h
 
     -- what the step of a refused turn came to
     pub record RefusedStep : Type 0 where
@@ -107,16 +122,16 @@ module _ {K : Type 0} (k : Meaning Setting K) where
 
     refused_at : (status : Option SecurityStatus) (negotiated : Bool) (error : Error) → now.acts.status ≡ status → negotiated ≡ true → error.error_type ≢ InsufficientMemory →
         OnStep (either ntlm_meaning k) told negotiated
-        (IfContext now.context (AcceptedSoFar (either ntlm_meaning k) told start now.handle d.nego_tokens (refused_step status now.output error))) → RefusedStep
-    refused_at None true error is was other h = let e = far (Err error) now.context h in absurd (never e.0 error other e.1)
+        (IfContext now.context (RefusedAt (either ntlm_meaning k) told status start now.handle d.nego_tokens (refused_step status now.output error))) → RefusedStep
+    refused_at None true error is was other h = let e = far_in None (Err error) now.context h in absurd (never e.0 error other e.1)
     refused_at (Some st) true error is was other h =
-        let e = far (Ok (record { status = st; output = now.output })) now.context h in
+        let e = far_in (Some st) (Ok (record { status = st; output = now.output })) now.context h in
         record { known = e.0; status = st; status_is = is; accepted = e.1; answered = answers e.0 (record { status = st; output = now.output }) e.1 }
     refused_at status false error is was other h = absurd cc
 
     pub refused_so : (error : Error) → now.acts.negotiated ≡ true → error.error_type ≢ InsufficientMemory →
         OnStep (either ntlm_meaning k) told now.acts.negotiated
-        (IfContext now.context (AcceptedSoFar (either ntlm_meaning k) told start now.handle d.nego_tokens (refused_step now.acts.status now.output error))) → RefusedStep
+        (IfContext now.context (RefusedAt (either ntlm_meaning k) told now.acts.status start now.handle d.nego_tokens (refused_step now.acts.status now.output error))) → RefusedStep
     refused_so error was other h = refused_at now.acts.status now.acts.negotiated error refl was other h
 
   module _ {P : Type 0} (told : P → Option (List AuthIdentity)) (faults : P → ℕ) where

@@ -108,10 +108,10 @@ module _ {K P : Type 0} (k : Meaning Setting K) (told : P → Option (List AuthI
   -- an identified server refuses nothing of its own end
   complete_never : (m0 : SspiContext NtlmState K) (x : NtlmState) (entries : Option (List AuthIdentity)) (kind : ErrorKind) → IsIdentified meaning entries m0 (Ntlm x) →
       meaning.refuses (Ntlm x) ToComplete kind → ⊥
-  complete_never (Ntlm a) x entries kind (is_identified name identities named candidates sets) refuses =
+  complete_never (Ntlm a) x entries kind (is_identified name identities named candidates some sets) refuses =
       let key = key_set a x (key_at a.stage a.challenge (filter has_password (map credentials.AuthIdentity identities))) sets in
       let never : None ≡ Some kind = rw key.1 at refuses in cc
-  complete_never (Kerberos a) x entries kind (is_identified name identities named candidates sets) refuses = sets
+  complete_never (Kerberos a) x entries kind (is_identified name identities named candidates some sets) refuses = sets
 
   -- what the second turn is given
   pub record SecondGiven (b old : View) (d : TsRequest) (challenge : List ℕ) (version : ℕ) (entries : List AuthIdentity) (i : AuthIdentity) : Type 0 where
@@ -290,7 +290,7 @@ module _ {K P : Type 0} (k : Meaning Setting K) (told : P → Option (List AuthI
     identify_never x before now kind by still few (looked name named refused) =
         look_never before now kind still few
         (subst (λ (n : Name). LookUpRefused (told old.proxy) n before now kind) (name_same x name by named) refused)
-    identify_never x before now kind by still few (unset name identities named candidates refuses) =
+    identify_never x before now kind by still few (unset name identities named candidates some refuses) =
         let list = found_same name identities (name_same x name by named) candidates in
         let sets = keyed x identities entries i challenge given.entry by.stage_is by.challenge_is list in
         let never : None ≡ Some kind = rw sets at refuses in cc
@@ -366,10 +366,10 @@ module _ {K P : Type 0} (k : Meaning Setting K) (told : P → Option (List AuthI
     over_never : (mid : View) (kind : ErrorKind) (a : AfterStep mid.context) → faults mid.proxy ≡ faults old.proxy → faults old.proxy < 2 ^ 64 - 1 →
         mid.noted ≡ Some version → mid.public_key ≡ b.public_key → a.object_now.protection.sealed < 2 ^ 64 - 1 → (mid.acts.checked ≡ false → a.object_now.protection.unsealed ≡ 0) →
         OverCause meaning told faults old.proxy d.pub_key_auth d.client_nonce mid kind → ⊥
-    over_never mid kind a still calm noted public_key few next (unknown h) =
+    over_never mid kind a still calm noted public_key few next (unknown unchecked h) =
         identify_never a.object_now (faults old.proxy) (faults mid.proxy) kind a.by still calm
         (subst (λ (o : Option (SspiContext NtlmState K)). IfContext o (λ m. IdentifyCause meaning m (told old.proxy) (faults old.proxy) (faults mid.proxy) kind)) a.there h)
-    over_never mid kind a still calm noted public_key few next (incomplete m0 h) =
+    over_never mid kind a still calm noted public_key few next (incomplete unchecked m0 h) =
         let at : IsIdentified meaning (told old.proxy) m0 (Ntlm a.object_now) × meaning.refuses (Ntlm a.object_now) ToComplete kind =
         subst (λ (o : Option (SspiContext NtlmState K)). IfContext o (λ m. IsIdentified meaning (told old.proxy) m0 m × meaning.refuses m ToComplete kind)) a.there h in
         complete_never m0 a.object_now (told old.proxy) kind at.0 at.1

@@ -162,7 +162,7 @@ module _ {K : Type 0} (k : Meaning Setting K) where
 
   tell_at : (begun : NtlmState → Type 0) (entries : Option (List AuthIdentity)) (args : AcceptArgs) (answer : Result Step Error) (m m2 : SspiContext NtlmState K) →
       Taken begun args answer m → IsIdentified (either ntlm_meaning k) entries m m2 → Told begun entries args answer m2
-  tell_at begun entries args answer (Ntlm a) (Ntlm b) t (is_identified name identities named candidates sets) = record {
+  tell_at begun entries args answer (Ntlm a) (Ntlm b) t (is_identified name identities named candidates some sets) = record {
     mid = a;
     taken = t;
     name = name;
@@ -174,7 +174,7 @@ module _ {K : Type 0} (k : Meaning Setting K) where
     counts = counts_of b.protection;
     is = refl;
   }
-  tell_at begun entries args answer (Ntlm a) (Kerberos b) t (is_identified name identities named candidates sets) = absurd sets
+  tell_at begun entries args answer (Ntlm a) (Kerberos b) t (is_identified name identities named candidates some sets) = absurd sets
   tell_at begun entries args answer (Kerberos a) m2 t h = absurd (cc (t.is))
 
   recount_told : (begun : NtlmState → Type 0) (entries : Option (List AuthIdentity)) (args : AcceptArgs) (answer : Result Step Error)

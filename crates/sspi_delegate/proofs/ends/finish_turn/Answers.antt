@@ -6,7 +6,7 @@ use Rattle.sspi_delegate.proofs.ends.finish_turn.Goals as goal
 pub returns-in-Err-resume-clause-turn : goal.returns-in-Err-resume-clause-turn
 returns-in-Err-resume-clause-turn g c =
     let meaning = either g.N.Mechanism.meaning g.K.Mechanism.meaning in
-    let underway = rw c.in-Suspended.is at c.loop-progress.invariant.goes in
+    let underway = (rw c.in-Suspended.is at c.loop-progress.invariant.goes).0 in
     let turn = c.in-Err-resume.ensures.turn c.args.client.now c.args.request underway in
     let steps = c.loop-progress.invariant.steps in
     let step = c.in-Err-resume.ensures.step c.args.client.now c.args.request steps.asked c.in-Suspended.question underway
@@ -22,7 +22,7 @@ returns-in-Err-resume-clause-kdc g c = kdc_replied g.D.Kdc.told g.D.Kdc.asked g.
 
 pub loop-progress-preserved : goal.loop-progress-preserved
 loop-progress-preserved g c =
-    let underway = rw c.in-Suspended.is at c.loop-progress.invariant.goes in
+    let underway = (rw c.in-Suspended.is at c.loop-progress.invariant.goes).0 in
     let steps = c.loop-progress.invariant.steps in
     record {
       goes = c.in-Ok-resume.ensures.turn c.args.client.now c.args.request underway;
