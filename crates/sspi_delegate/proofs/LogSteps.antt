@@ -3,7 +3,6 @@ use Rattle.std.proofs.Common.{◌≡◌, ℕ, ◌≤◌, ◌<◌, inl, inr, List
 use Rattle.sspi_types.specs.declared.error.Error.{Error}
 use Rattle.sspi_types.specs.declared.error_kind.ErrorKind.{ErrorKind}
 use Rattle.sspi_types.specs.declared.error_kind.ErrorKind.TheVariants as kinds
-use Rattle.sspi_ber.specs.declared.wire_kind.WireKind.{WireKind}
 use Rattle.sspi_tsreq.specs.declared.request.TsRequest.{TsRequest}
 use Rattle.sspi_delegate.specs.declared.answer.DelegateError.{DelegateError}
 use Rattle.sspi_delegate.specs.declared.answer.DelegateError.TheVariants as errors
@@ -15,9 +14,9 @@ use Rattle.sspi_delegate.specs.declared.turn.Outcome.{Outcome}
 use Rattle.sspi_delegate.specs.declared.turn.Outcome.TheVariants.{Reply, Final, Finished, Refused}
 use Rattle.sspi_delegate.specs.declared.turn.Turn.{Turn}
 use Rattle.sspi_delegate.specs.Causes.{Between, Asked, Turned, Finishes, Stopped, NewestIs, IsClientRefusal, IsServerRefusal, IsFinished, IsAnswerTo, MayLackAfter, MayLack, TurnLeft, HasMessage, Given, carried, too_long, link_failed, no_memory, turns_of}
-use Rattle.sspi_delegate.specs.Deliveries.{IsUnread, Fed, HeadTaken, HeadWithin, Takes}
+use Rattle.sspi_delegate.specs.Deliveries.{IsUnread, Fed, HeadTaken, Takes}
 use Rattle.sspi_delegate.specs.Recorded.{PushedSuch}
-use Rattle.sspi_delegate.specs.Run.{Logged, LoggedButLast, HasLog, IsDelivered, IsRead, IsFault, IsSent, IsUnreadable}
+use Rattle.sspi_delegate.specs.Run.{Logged, LoggedButLast, HasLog, IsDelivered, IsRead, IsSent}
 use Rattle.sspi_delegate.specs.Turns.{next_end, message_of, GoesOn, AllGoOn, Alternates}
 
 goes_may_lack : (outcome : Outcome) → GoesOn outcome → MayLackAfter outcome
@@ -80,14 +79,6 @@ head_delivered t past [] text request head read = absurd head
 head_delivered t past (e ∷ log) text request head read = (
   head.0,
   subst (λ (bytes : List ℕ). IsRead bytes request) (sym head.1) read,
-  subst (λ (bytes : List ℕ). length bytes ≤ DELIVERY_LIMIT) (sym head.1) head.2,
-)
-
-head_unreadable : (t : Turn) (past : List Turn) (log : List Carried) (text : List ℕ) (kind : WireKind) → HeadTaken log text → IsFault text kind →
-    IsUnreadable (t ∷ past) log kind × HeadWithin log
-head_unreadable t past [] text kind head fault = absurd head
-head_unreadable t past (e ∷ log) text kind head fault = (
-  (head.0, subst (λ (bytes : List ℕ). IsFault bytes kind) (sym head.1) fault),
   subst (λ (bytes : List ℕ). length bytes ≤ DELIVERY_LIMIT) (sym head.1) head.2,
 )
 
@@ -224,17 +215,4 @@ read_asked base start (t ∷ past) log log2 now now2 text request newest there b
       entries = fed_logged base t past log log2 took.0 between.entries;
       delivered = head_delivered t past log2 text request took.1 read;
       faults = omega (arith, between.faults, later);
-    }
-
--- the newest delivery, which is no request
-pub read_unreadable : (base : List Carried) (start limit : ℕ) (turns : List Turn) (log log2 : List Carried) (now now2 : ℕ) (text : List ℕ) (to : End) (kind : WireKind) (newest : Turn) →
-    Some newest ≡ slice_get turns 0 → next_end turns ≡ to → TurnLeft limit turns → Between base start turns log now → (IsUnread log → Takes log log2 (Ok text)) → now ≤ now2 →
-    IsFault text kind → Stopped base start limit (errors.Read to kind) turns log2 now2
-read_unreadable base start limit [] log log2 now now2 text to kind newest there next left between takes later fault = absurd (cc (there))
-read_unreadable base start limit (t ∷ past) log log2 now now2 text to kind newest there next left between takes later fault =
-    let took = takes between.unread in
-    let head = head_unreadable t past log2 text kind took.1 fault in record {
-      order = between.order;
-      faults = omega (arith, between.faults, later);
-      cause = (between.going, next, left, fed_logged base t past log log2 took.0 between.entries, head.0, head.1);
     }
