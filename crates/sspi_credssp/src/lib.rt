@@ -45,6 +45,6 @@ pub use proxy::{CredentialsProxy, ProxyError};
 pub use public_key::{EndpointType, integer_decrement_le, integer_increment_le};
 pub use server::CredSspServer;
 pub use server_state::{ServerError, ServerState};
-pub use state::CredSspState;
 pub use sspi_tsreq::CredSspMode;
+pub use state::CredSspState;
 pub use table_proxy::TableProxy;
