@@ -1,5 +1,5 @@
 -- What credentials and their texts are to the two ends; no refusal of them has an NTSTATUS code.
-use Rattle.std.proofs.Common.{◌≡◌, ◌≢◌, ◌⊎◌, inl, inr, ◌∙◌, ℕ, ◌==◌, List, [], ◌∷◌, Option, None, Some, Result, Ok, Err, Bool, true, false, if◌then◌else◌, nat_le, refl, sym, ap, subst}
+use Rattle.std.proofs.Common.{◌≡◌, ◌≢◌, ◌⊎◌, inl, inr, ◌∙◌, ℕ, ◌==◌, List, [], ◌∷◌, None, Some, Result, Ok, Err, Bool, true, false, if◌then◌else◌, refl, sym, ap, subst}
 use Rattle.sspi_types.specs.declared.error.Error.{Error}
 use Rattle.sspi_types.specs.declared.error_kind.ErrorKind.TheVariants.{InsufficientMemory}
 use Rattle.sspi_types.specs.Memory.{memory_error}

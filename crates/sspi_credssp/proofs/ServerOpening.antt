@@ -1,8 +1,7 @@
 -- What opening the credentials did to the server, of what it did to its context.
-use Rattle.std.proofs.Common.{◌≡◌, ◌≢◌, ◌-◌, ℕ, List, Option, None, Some, Result, Ok, Err, IfOk, IfErr, OnOk, Bool, true, false, refl, sym, ◌∙◌, ap, subst, ◌+◌}
+use Rattle.std.proofs.Common.{◌≡◌, ◌≢◌, ℕ, List, Option, None, Some, Result, Ok, Err, IfOk, IfErr, OnOk, Bool, true, refl, sym, ◌∙◌, ap, subst, ◌+◌}
 use Rattle.sspi_types.specs.declared.error.Error.{Error}
-use Rattle.sspi_types.specs.declared.error_kind.ErrorKind.{ErrorKind}
-use Rattle.sspi_types.specs.declared.error_kind.ErrorKind.TheVariants.{InvalidToken, InsufficientMemory}
+use Rattle.sspi_types.specs.declared.error_kind.ErrorKind.TheVariants.{InsufficientMemory}
 use Rattle.sspi_names.specs.declared.identity.AuthIdentity.{AuthIdentity}
 use Rattle.sspi_mech.specs.Meaning.{Meaning}
 use Rattle.sspi_credssp.specs.declared.acts.Acts.{Acts}

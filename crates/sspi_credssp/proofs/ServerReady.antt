@@ -1,6 +1,5 @@
 -- A turn of the server that is under way stays so over a step of its context, and while the context only counts.
-use Rattle.std.proofs.Common.{◌≡◌, ℕ, List, Option, None, Some, Bool, true, false, refl, sym, ◌∙◌, ap, subst}
-use Rattle.sspi_mech.specs.Calls.{no_counts}
+use Rattle.std.proofs.Common.{◌≡◌, ℕ, List, Some, refl, sym, ◌∙◌, ap, subst}
 use Rattle.sspi_mech.specs.Context.{IsUnused}
 use Rattle.sspi_mech.specs.Meaning.{Meaning}
 use Rattle.sspi_tsreq.specs.declared.request.TsRequest.{TsRequest}

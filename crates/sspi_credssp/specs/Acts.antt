@@ -1,5 +1,5 @@
 -- What an end did on its security context in one call.
-use Rattle.std.specs.Prelude.{ℕ, ◌+◌, Bool, true, false, None, if◌then◌else◌}
+use Rattle.std.specs.Prelude.{ℕ, ◌+◌, Bool, true, false, None}
 use Rattle.sspi_credssp.specs.declared.acts.Acts.{Acts}
 
 abbrev pub no_acts : Acts

@@ -1,12 +1,10 @@
 -- A client's turn (MS-CSSP 3.1.5.1).
 use Rattle.std.specs.Prelude.{◌≡◌, ℕ, ◌+◌, ◌-◌, ◌||◌, List, [], Option, None, Some, IsSome, Result, Ok, Err, Bool, true, false, if◌then◌else◌}
 use Rattle.sspi_types.specs.declared.error.Error.{Error}
-use Rattle.sspi_types.specs.declared.error_kind.ErrorKind.{ErrorKind}
 use Rattle.sspi_types.specs.declared.security_status.SecurityStatus.{SecurityStatus}
 use Rattle.sspi_types.specs.declared.security_status.SecurityStatus.TheVariants as statuses
 use Rattle.sspi_mech.specs.Meaning.{Meaning}
 use Rattle.sspi_tsreq.specs.declared.request.TsRequest.{TsRequest}
-use Rattle.sspi_credssp.specs.declared.acts.Acts.{Acts}
 use Rattle.sspi_credssp.specs.declared.client_state.ClientState.{ClientState}
 use Rattle.sspi_credssp.specs.declared.client_state.ClientState.TheVariants.{ReplyNeeded, FinalMessage}
 use Rattle.sspi_credssp.specs.declared.client_state.Progress.{Progress}

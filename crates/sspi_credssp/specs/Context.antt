@@ -1,5 +1,5 @@
 -- What a security context means: what the mechanism in hand means.
-use Rattle.std.specs.Prelude.{ℕ, List, filter, take, Option, Some, Result, Ok, Err, Bool, true, false}
+use Rattle.std.specs.Prelude.{ℕ, List, filter, take, Option, Result, Bool, true, false}
 use Rattle.sspi_types.specs.declared.context.ContextSizes.{ContextSizes}
 use Rattle.sspi_types.specs.declared.credential_use.CredentialUse.{CredentialUse}
 use Rattle.sspi_types.specs.declared.error.Error.{Error}

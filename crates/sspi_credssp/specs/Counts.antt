@@ -1,6 +1,6 @@
 -- How many messages a security context has made and taken, where there is a context.
 use Rattle.std.specs.Prelude.{◌≡◌, ℕ, List, Option, None, Some, Bool, false}
-use Rattle.sspi_mech.specs.Calls.{Counts, no_counts}
+use Rattle.sspi_mech.specs.Calls.{no_counts}
 use Rattle.sspi_mech.specs.Context.{IsUnused}
 use Rattle.sspi_mech.specs.Meaning.{Meaning}
 

@@ -1,5 +1,5 @@
 -- The request by which a server tells its client that it refused.
-use Rattle.std.specs.Prelude.{ℕ, Option, None, Some, Bool, bit_and, bit_or, if◌then◌else◌}
+use Rattle.std.specs.Prelude.{ℕ, Option, None, Some, bit_and, bit_or, if◌then◌else◌}
 use Rattle.sspi_types.specs.declared.error_kind.ErrorKind.{ErrorKind}
 use Rattle.sspi_types.specs.ErrorKinds.{error_kind_number}
 use Rattle.sspi_types.specs.declared.nstatus.NStatusCode.{NStatusCode}

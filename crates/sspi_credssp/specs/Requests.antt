@@ -1,5 +1,5 @@
 -- What an end reads of a delivered request.
-use Rattle.std.specs.Prelude.{ℕ, ◌≤◌, ◌==◌, List, [], ◌∷◌, length, Option, None, Some, Bool, true, false, not, nat_le}
+use Rattle.std.specs.Prelude.{ℕ, ◌≤◌, ◌==◌, List, [], ◌∷◌, length, Option, None, Some, Bool, false, not}
 use Rattle.sspi_types.specs.declared.nstatus.NStatusCode.{NStatusCode}
 
 -- the token that the context is handed

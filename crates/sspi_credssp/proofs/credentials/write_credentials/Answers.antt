@@ -1,4 +1,3 @@
-use Rattle.std.proofs.Common.{rules}
 use Rattle.sspi_credssp.proofs.CredentialTexts.{text_written, text_unwritten, unwritten_plain}
 use Rattle.sspi_credssp.proofs.credentials.write_credentials.Goals as goal
 

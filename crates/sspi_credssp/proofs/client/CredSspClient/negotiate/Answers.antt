@@ -1,4 +1,4 @@
-use Rattle.std.proofs.Common.{◌≡◌, Some, refl, sym, subst, rules}
+use Rattle.std.proofs.Common.{◌≡◌, Some, sym, subst, rules}
 use Rattle.sspi_types.specs.declared.credential_use.CredentialUse.TheVariants.{Outbound}
 use Rattle.sspi_mech.proofs.ContextLaws.{contextual}
 use Rattle.sspi_credssp.specs.Begun.{Begun, IfContext}

@@ -1,4 +1,4 @@
-use Rattle.std.proofs.Common.{◌≡◌, sym, ap, ◌∙◌, subst, rules}
+use Rattle.std.proofs.Common.{sym, ◌∙◌, subst, rules}
 use Rattle.sspi_mech.specs.declared.step.Answer.TheVariants.{Ask}
 use Rattle.sspi_credssp.specs.ClientStep.{StepsTo}
 use Rattle.sspi_credssp.specs.ClientTurn.{IsReady}

@@ -2,7 +2,7 @@ use Rattle.std.proofs.Common.{◌≡◌, Some, None, Ok, Err, sym, subst, rules}
 use Rattle.sspi_types.specs.declared.credential_use.CredentialUse.TheVariants.{Inbound}
 use Rattle.sspi_credssp.specs.Begun.{Begun, IfContext}
 use Rattle.sspi_credssp.specs.Context.{either, ForServer}
-use Rattle.sspi_credssp.specs.ServerStep.{Unknown, RefusedAt, accepted, refused_step, server_args}
+use Rattle.sspi_credssp.specs.ServerStep.{RefusedAt, accepted, refused_step, server_args}
 use Rattle.sspi_credssp.proofs.ClientReady.{context_here}
 use Rattle.sspi_credssp.proofs.server.CredSspServer.answer.Goals as goal
 

@@ -1,7 +1,6 @@
 use Rattle.std.proofs.Common.{◌≡◌, Some, true, rules}
 use Rattle.sspi_mech.proofs.ContextLaws.{contextual}
 use Rattle.sspi_credssp.specs.Context.{either}
-use Rattle.sspi_credssp.specs.ServerStep.{Unknown}
 use Rattle.sspi_credssp.specs.ServerTurn.{IsOver}
 use Rattle.sspi_credssp.proofs.ContextLaws.{lawful}
 use Rattle.sspi_credssp.proofs.ServerCauses.{over_causes}
