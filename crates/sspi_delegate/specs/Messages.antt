@@ -68,8 +68,8 @@ CarryFails edits log (Some message) = edited edits (sent_texts (reverse log)) (s
 abbrev pub HasFailed : List Edit → ℕ → ℕ → List Carried → Option TsRequest → Type 0
 HasFailed edits before now log message = CarryFails edits log message × Counts before now
 
--- Where the edits are told, the link fails only in a carry that they fail: that of the newest turn's message. Where that is
--- a refusing server's, which changes no answer, one fault may be counted; elsewhere none is.
+-- Where the edits are told, the link fails only in a carry that they fail, that of the newest turn's message, and then one
+-- fault is counted. A refusing server's message may have failed so, which changes no answer; elsewhere no fault is counted.
 abbrev pub AnswerTold : {X : Type 0} → Option (List Edit) → ℕ → ℕ → Result X DelegateError → List Carried → Option TsRequest → Type 0
 AnswerTold None before now result log message = Unit {0}
 AnswerTold (Some edits) before now (Ok x) log message = now ≡ before
