@@ -145,7 +145,8 @@ impl<N, K> CredSspClient<N, K> {
         self.acts
     }
 
-    /// The token that the context's step gave in the last call, resumes included; empty where no step answered.
+    /// Takes the token that the context's step gave in the last call, resumes included; empty where no step answered, and
+    /// once it was taken.
     pub fn take_output(&mut self) -> Bytes
         ensures output { result ≡ self.old.output }
         ensures rest { self.new ≡ record self.old { output = [] } }
@@ -221,8 +222,10 @@ impl<N: Mechanism, K: Mechanism> CredSspClient<N, K> {
 
     /// Goes on with the suspended turn, once it is known what came of its request.
     ///
-    /// Where no turn is suspended that is `OutOfSequence` and changes nothing. After a refusal the client waits exactly where
-    /// its context still waits; it then keeps the request, and a later call goes on with it.
+    /// Where no turn is suspended that is `OutOfSequence` and changes nothing. Else it is refused with the kinds of the
+    /// context's step; with `InternalError` where the authentication ends before a version was noted; with the kinds of
+    /// sealing the proof; and for want of memory. After a refusal the client waits exactly where its context still waits; it
+    /// then keeps the request, and a later call goes on with it.
     pub fn resume(&mut self, reply: &Reply) -> Result<Progress, Error>
         ensures same { SameClient (either N.meaning K.meaning) self.old self.new }
         ensures turn { let c = either N.meaning K.meaning in (start : ClientView (SspiContext N K)) (d : TsRequest) →

@@ -15,5 +15,6 @@ pub enum ClientState {
 pub enum Progress {
     /// The turn goes on by `resume`, once it is known what came of this request to a KDC.
     Suspended(NetworkRequest),
+    /// The turn is over.
     Completed(ClientState),
 }

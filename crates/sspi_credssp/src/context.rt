@@ -17,9 +17,14 @@ use sspi_types::{CredentialUse, Error, ErrorKind, SecurityStatus};
 use std::alloc::Global;
 
 /// A security context by one of two mechanisms, which need not be those that the variants are named after.
+///
+/// Its calls answer what the mechanism in hand answers. A refusal has no NTSTATUS code; want of memory may come at any time,
+/// and each other kind only where the mechanism's `refuses` says so.
 #[derive(Drop)]
 pub enum SspiContext<N, K> {
+    /// The mechanism of NTLM.
     Ntlm(N),
+    /// The mechanism of Kerberos.
     Kerberos(K),
 }
 
@@ -82,7 +87,9 @@ impl<N: Mechanism, K: Mechanism> SspiContext<N, K> {
         }
     }
 
-    /// The buffers for the handle of these credentials (AcquireCredentialsHandle).
+    /// The buffers for the handle of these credentials, or none without credentials (AcquireCredentialsHandle).
+    ///
+    /// Plain NTLM refuses a keytab as `UnknownCredentials`, and an outbound use without credentials as `NoCredentials`.
     pub fn acquire_credentials_handle(
         &mut self,
         credential_use: CredentialUse,
@@ -160,7 +167,7 @@ impl<N: Mechanism, K: Mechanism> SspiContext<N, K> {
         }
     }
 
-    /// The name that was authenticated: on a server the peer's, on a client its own.
+    /// The name that was authenticated: on a server the peer's, on a client its own. `OutOfSequence` before it is known.
     pub fn query_context_names(&self) -> Result<ContextNames, Error>
         ensures named { IfOk result (λ names. (either N.meaning K.meaning).names self.now ≡ Some names.username) }
         ensures plain { IfErr result (λ error. error.nstatus ≡ None) }
@@ -178,6 +185,9 @@ impl<N: Mechanism, K: Mechanism> SspiContext<N, K> {
     }
 
     /// Tells a server which identities its peer may have. NTLM takes those with a password, Kerberos the first.
+    ///
+    /// Plain NTLM answers `OutOfSequence` on a client and before its peer has proved a password, `NoCredentials` where no
+    /// identity has a password, and `LogonDenied` where none has the one that was proved.
     pub fn custom_set_auth_identities(&mut self, identities: Vec<Credentials>) -> Result<(), Error>
         ensures identified { OnOk result ((either N.meaning K.meaning).identifies self.old identities.items self.new) }
         ensures count { (either N.meaning K.meaning).counts self.new ≡ (either N.meaning K.meaning).counts self.old }
@@ -192,7 +202,7 @@ impl<N: Mechanism, K: Mechanism> SspiContext<N, K> {
         }
     }
 
-    /// Completes the authentication (CompleteAuthToken).
+    /// Completes the authentication (CompleteAuthToken). `OutOfSequence` before there is a key.
     pub fn complete_auth_token(&mut self) -> Result<SecurityStatus, Error>
         ensures same { self.new ≡ self.old }
         ensures permitted { OnOk result ((either N.meaning K.meaning).permits self.old ToComplete) }
@@ -206,7 +216,9 @@ impl<N: Mechanism, K: Mechanism> SspiContext<N, K> {
         }
     }
 
-    /// Seals a text for the peer.
+    /// Seals a text for the peer, as the next of its messages: a blob of at least 16 bytes.
+    ///
+    /// `OutOfSequence` before there is a key, `ContextExpired` once all numbers of messages are used.
     pub fn seal(&mut self, text: &[u8]) -> Result<Vec<u8>, Error>
         ensures blob { let c = either N.meaning K.meaning in
             IfOk result (λ blob. c.seals self.new (c.counts self.old).sealed text.now blob.items) }
@@ -227,7 +239,10 @@ impl<N: Mechanism, K: Mechanism> SspiContext<N, K> {
         }
     }
 
-    /// Opens what the peer sealed.
+    /// Opens what the peer sealed, as the next of its messages.
+    ///
+    /// `OutOfSequence` before there is a key, `ContextExpired` once all numbers of messages are used, `InvalidToken` for a
+    /// blob of under 16 bytes, and `MessageAltered` for one that the peer did not seal as this message.
     pub fn unseal(&mut self, blob: &[u8]) -> Result<Vec<u8>, Error>
         ensures text { let c = either N.meaning K.meaning in
             IfOk result (λ text. c.opens self.new (c.counts self.old).unsealed blob.now text.items) }

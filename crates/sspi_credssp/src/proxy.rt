@@ -10,6 +10,7 @@ pub enum ProxyError {
     NotFound,
     /// The look-up could not be made.
     Failed,
+    /// There was no memory for the answer.
     InsufficientMemory,
 }
 

@@ -8,7 +8,9 @@ use std::alloc::{AllocError, Global};
 /// The two ends of a CredSSP exchange.
 #[derive(Clone, Copy, Debug, PartialEq, Eq)]
 pub enum EndpointType {
+    /// The end that delegates its credentials.
     Client,
+    /// The end that they are delegated to.
     Server,
 }
 

@@ -113,7 +113,7 @@ impl<N, K, C> CredSspServer<N, K, C> {
         self.acts
     }
 
-    /// The token that the context's step gave in the last call; empty where no step answered.
+    /// Takes the token that the context's step gave in the last call; empty where no step answered, and once it was taken.
     pub fn take_output(&mut self) -> Bytes
         ensures output { result ≡ self.old.output }
         ensures rest { self.new ≡ record self.old { output = [] } }

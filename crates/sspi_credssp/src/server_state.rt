@@ -16,5 +16,6 @@ pub enum ServerState {
 pub struct ServerError {
     /// The request with the error code; always there.
     pub ts_request: Option<TsRequest>,
+    /// Why the server refused.
     pub error: Error,
 }

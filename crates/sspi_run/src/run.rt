@@ -57,8 +57,8 @@ pub fn run<S: Source, W: Sink>(
     tell(alloc, sink, said)
 }
 
-#[tactic(auto, using(crate::proofs::TooLong::too_long))]
 /// What the words and the text of the source come to. Other words leave the source as it is.
+#[tactic(auto, using(crate::proofs::TooLong::too_long))]
 fn conduct<S: Source>(alloc: Global, words: &[String], source: &mut S) -> Said
     ensures conducts { Conducts words.now (S.left source.old) (S.faults source.old) (S.faults source.new) result }
     ensures unread { (AreDelegate words.now → ⊥) → source.new ≡ source.old }

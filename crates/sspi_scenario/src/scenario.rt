@@ -71,7 +71,9 @@ impl From<AllocError> for ScenarioError {
 }
 
 impl Scenario {
-    /// The scenario of a text. `Line` comes exactly where the text is no scenario.
+    /// The scenario of a text, which is UTF-8 of at most `TEXT_LIMIT` bytes. `Line` comes exactly where the text is no
+    /// scenario, with the number of its first faulty line; 0 for a text that is too long or is not UTF-8, and for one without
+    /// a faulty line that lacks a key.
     pub fn parse(alloc: Global, text: &[u8]) -> Result<Scenario, ScenarioError>
         ensures { Parses text.now result }
     {
