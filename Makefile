@@ -1,4 +1,4 @@
-.PHONY: run test check fmt
+.PHONY: run test check fmt size wrong-bodies
 
 # Carries one delegation and shows its messages, each with the end that sent it, and the outcome. Builds, and proves nothing.
 run:
@@ -15,3 +15,11 @@ check:
 # Lays out every crate.
 fmt:
 	@for crate in crates/*/; do (cd "$$crate" && rt fmt) || exit 1; done
+
+# The lines of each crate by kind, and what the contract of `delegate` rests on.
+size:
+	@tools/size
+
+# The wrong bodies that the gate does not try, each of which must be refused. They take about an hour.
+wrong-bodies:
+	@tools/wrong-bodies
