@@ -1,6 +1,7 @@
 pub mod Asking
 pub mod Causes
 pub mod ClientRun
+pub mod Delegates
 pub mod Deliveries
 pub mod Edits
 pub mod EndTurns

@@ -3,7 +3,8 @@ ghost use Rattle.sspi_credssp.specs.Client.{ClientView, IsFreshClient};
 ghost use Rattle.sspi_credssp.specs.Context.{either};
 ghost use Rattle.sspi_credssp.specs.Server.{ServerView, IsFreshServer};
 ghost use Rattle.sspi_delegate.specs.Asking.{kdc_calls};
-ghost use Rattle.sspi_delegate.specs.ClientRun.{ClientFollows, ClientRan, client_end};
+ghost use Rattle.sspi_delegate.specs.ClientRun.{ClientFollows, ClientRan};
+ghost use Rattle.sspi_delegate.specs.Delegates.{around_by, parties, Delegates, Accounts, Stays};
 ghost use Rattle.sspi_delegate.specs.EndTurns.{client_turns, server_turns};
 ghost use Rattle.sspi_delegate.specs.History.{ClientHistory, ClientPast, ServerHistory};
 ghost use Rattle.sspi_delegate.specs.Refusals.{RefusedBy, KdcStays, ProxyStays};
@@ -11,8 +12,7 @@ ghost use Rattle.sspi_delegate.specs.Rounds.{IsNoRefusal, ClientRanHalf, ServerR
 ghost use Rattle.sspi_delegate.specs.ServerRun.{ServerFollows, ServerRan, server_end, GivesNewest};
 ghost use Rattle.sspi_delegate.specs.declared.carried.Carried.{Carried};
 ghost use Rattle.sspi_delegate.specs.Causes.{Between, Asked, Turned, Stopped, ClientHalf, ServerHalf, RunEnds, TurnLeft, HasMessage, Given, turns_of, IsAnswerTo};
-ghost use Rattle.sspi_delegate.specs.Exactly.{Exactly};
-ghost use Rattle.sspi_delegate.specs.Headline.{IsFresh, IsRun, sealed_turns, SealsAfterProof, NeverSeals, HasExchanged};
+ghost use Rattle.sspi_delegate.specs.Headline.{IsFresh};
 ghost use Rattle.sspi_delegate.specs.Link.{StaysTold};
 ghost use Rattle.sspi_delegate.specs.Messages.{newest_message, GiveTold, AnswerTold, RequestTold};
 ghost use Rattle.sspi_delegate.specs.Run.{LoggedButLast};
@@ -55,8 +55,8 @@ use std::alloc::Global;
 /// message that it took. Both ends are as their last turn left them. Where there was no memory for a reply of the KDC, the
 /// client waits for it in one further turn, which has no record.
 ///
-/// The clauses that begin with a premise speak of ends as `new` or `new_with_version` made them and of a transcript without
-/// turns; the others hold of every call.
+/// `delegates` speaks of ends as `new` or `new_with_version` made them and of a transcript without turns, `accounts` of any ends
+/// and a transcript without turns, and `stays` of every call; the first holds the other two.
 pub fn delegate<N: Mechanism, K: Mechanism, C: CredentialsProxy, L: Link, D: Kdc>(
     alloc: Global,
     client: &mut CredSspClient<N, K>,
@@ -66,30 +66,17 @@ pub fn delegate<N: Mechanism, K: Mechanism, C: CredentialsProxy, L: Link, D: Kdc
     turns: u32,
     transcript: &mut Transcript,
 ) -> Result<Delegation, DelegateError>
-    ensures run { IsFresh client.old server.old transcript.old.turns →
-        IsRun (either N.meaning K.meaning) client.old client.new server.old server.new (L.log link.old) (L.log link.new) transcript.new.turns }
-    ensures once { IsFresh client.old server.old transcript.old.turns → sealed_turns transcript.new.turns ≤ 1 }
-    ensures sealed { IsFresh client.old server.old transcript.old.turns →
-        SealsAfterProof (either N.meaning K.meaning) (client_end client.new) (client_turns transcript.new.turns) × NeverSeals (server_turns transcript.new.turns) }
-    ensures gives { IsFresh client.old server.old transcript.old.turns → IfOk result (λ delegation.
-        GivesNewest (either N.meaning K.meaning) (server_end server.new) (server_turns transcript.new.turns) delegation.credentials) }
-    ensures exchanged { IsFresh client.old server.old transcript.old.turns → OnOk result (HasExchanged (server_turns transcript.new.turns)) }
-    ensures refused { IsFresh client.old server.old transcript.old.turns →
-        RefusedBy (either N.meaning K.meaning) C.told C.faults client.old client.new server.old server.new result
-        (client_turns transcript.new.turns) (server_turns transcript.new.turns) }
-    ensures client_history { transcript.old.turns ≡ [] →
-        ClientPast (either N.meaning K.meaning) (kdc_calls D.told D.asked D.faults) client.old kdc.old result
-        (client_turns transcript.new.turns) client.new kdc.new }
-    ensures server_history { transcript.old.turns ≡ [] →
-        ServerHistory (either N.meaning K.meaning) C.told C.faults C.failing server.old (server_turns transcript.new.turns) server.new }
-    ensures proxy { ProxyStays C.told C.failing C.faults server.old.proxy server.new.proxy }
-    ensures kdc { KdcStays D.told D.faults kdc.old kdc.new }
-    ensures cause { transcript.old.turns ≡ [] → RunEnds (L.log link.old) (L.faults link.old) turns result transcript.new.turns (L.log link.new) (L.faults link.new) }
-    ensures exactly { transcript.old.turns ≡ [] → Exactly (L.log link.old) turns result transcript.new.turns (L.log link.new) }
-    ensures told { StaysTold (L.edits link.old) (L.edits link.new) (L.log link.old) (L.log link.new) }
-    ensures still { AnswerTold (L.edits link.old) (L.faults link.old) (L.faults link.new) result (L.log link.new) (newest_message transcript.new.turns) }
-    ensures none { turns ≡ 0 → result ≡ Err DelegateError.TurnsSpent }
-    ensures within { IfOk result (λ delegation. delegation.turns ≤ turns) }
+    ensures delegates { IsFresh client.old server.old transcript.old.turns → Delegates (either N.meaning K.meaning)
+        (around_by C.told C.failing C.faults L.log L.edits L.faults D.told D.asked D.faults)
+        (parties client.old server.old link.old kdc.old transcript.old.turns) turns result
+        (parties client.new server.new link.new kdc.new transcript.new.turns) }
+    ensures accounts { transcript.old.turns ≡ [] → Accounts (either N.meaning K.meaning)
+        (around_by C.told C.failing C.faults L.log L.edits L.faults D.told D.asked D.faults)
+        (parties client.old server.old link.old kdc.old transcript.old.turns) turns result
+        (parties client.new server.new link.new kdc.new transcript.new.turns) }
+    ensures stays { Stays (around_by C.told C.failing C.faults L.log L.edits L.faults D.told D.asked D.faults)
+        (parties client.old server.old link.old kdc.old transcript.old.turns) turns result
+        (parties client.new server.new link.new kdc.new transcript.new.turns) }
 {
     rounds(alloc, client, server, link, kdc, turns, transcript)
 }

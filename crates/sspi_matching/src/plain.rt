@@ -1,4 +1,6 @@
-ghost use Rattle.std.specs.Prelude.{ℕ, ◌≤◌, ◌<◌, IfOk, IsErr};
+ghost use Rattle.std.specs.Prelude.{◌≡◌, ℕ, ◌≤◌, ◌<◌, [], IfOk, IsErr};
+ghost use Rattle.sspi_credssp.specs.Context.{either};
+ghost use Rattle.sspi_delegate.specs.Delegates.{around_by, parties, Delegates, Accounts, Stays};
 ghost use Rattle.sspi_delegate.specs.Headline.{IsFresh};
 ghost use Rattle.sspi_matching.specs.Matching.{AreMatching, IsUndisturbed, NoneFailed, delegated_as, ComesToOk, IsCutShort};
 
@@ -7,7 +9,7 @@ use sspi_delegate::{DelegateError, Delegation, Link, Transcript, delegate};
 use sspi_mech::{Kdc, Mechanism, Ntlm};
 use std::alloc::Global;
 
-/// `delegate` between two ends that authenticate by plain NTLM, with what its contract says of these.
+/// `delegate` between two ends that authenticate by plain NTLM: its promises, and what is so of these ends alone.
 ///
 /// It is Ok only after three messages of the client, whatever the link delivers. Where the ends match, the link disturbs
 /// nothing and no look-up of the proxy fails, it is Ok after exactly three, with the client's identity, or there was no memory.
@@ -21,6 +23,17 @@ pub fn delegate_plainly<K: Mechanism, C: CredentialsProxy, L: Link, D: Kdc>(
     turns: u32,
     transcript: &mut Transcript,
 ) -> Result<Delegation, DelegateError>
+    ensures delegates { IsFresh client.old server.old transcript.old.turns → Delegates (either Ntlm.meaning K.meaning)
+        (around_by C.told C.failing C.faults L.log L.edits L.faults D.told D.asked D.faults)
+        (parties client.old server.old link.old kdc.old transcript.old.turns) turns result
+        (parties client.new server.new link.new kdc.new transcript.new.turns) }
+    ensures accounts { transcript.old.turns ≡ [] → Accounts (either Ntlm.meaning K.meaning)
+        (around_by C.told C.failing C.faults L.log L.edits L.faults D.told D.asked D.faults)
+        (parties client.old server.old link.old kdc.old transcript.old.turns) turns result
+        (parties client.new server.new link.new kdc.new transcript.new.turns) }
+    ensures stays { Stays (around_by C.told C.failing C.faults L.log L.edits L.faults D.told D.asked D.faults)
+        (parties client.old server.old link.old kdc.old transcript.old.turns) turns result
+        (parties client.new server.new link.new kdc.new transcript.new.turns) }
     ensures three { IsFresh client.old server.old transcript.old.turns → IfOk result (λ delegation. 3 ≤ delegation.turns) }
     ensures few { IsFresh client.old server.old transcript.old.turns → turns < 3 → IsErr result }
     ensures comes { (matching : AreMatching C.told client.old server.old) → IsFresh client.old server.old transcript.old.turns →

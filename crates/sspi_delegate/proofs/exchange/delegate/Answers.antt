@@ -3,36 +3,43 @@ use Rattle.sspi_delegate.proofs.Exactness.{exactly}
 use Rattle.sspi_delegate.proofs.Headline.{run_log, run_order, sealed_once, seals_after_proof, server_never_seals, exchanged_ok}
 use Rattle.sspi_delegate.proofs.exchange.delegate.Goals as goal
 
-pub returns-clause-run : goal.returns-clause-run
-returns-clause-run g c fresh = record {
-  order = run_order _ _ _ _ _ _ _ (c.rounds.ensures.cause fresh.empty);
-  entries = run_log _ _ _ _ _ _ _ (c.rounds.ensures.cause fresh.empty);
-  client_ran = c.rounds.ensures.client fresh.client_is fresh.empty;
-  server_ran = c.rounds.ensures.server fresh.server_is fresh.empty;
+pub returns-clause-stays : goal.returns-clause-stays
+returns-clause-stays g c = record {
+  the_proxy_tells_what_it_told = c.rounds.ensures.proxy;
+  the_kdc_tells_what_it_told = c.rounds.ensures.kdc;
+  the_link_tells_what_it_told = c.rounds.ensures.told;
+  the_link_fails_where_its_edits_say_so = c.rounds.ensures.still;
+  no_turns_are_spent_at_once = c.rounds.ensures.none;
+  ok_comes_within_the_limit = c.rounds.ensures.within;
 }
 
-pub returns-clause-once : goal.returns-clause-once
-returns-clause-once g c fresh =
+pub returns-clause-accounts : goal.returns-clause-accounts
+returns-clause-accounts g c empty = record {
+  turns_and_log_show_the_answer = c.rounds.ensures.cause empty;
+  no_other_answer_fits = exactly _ _ _ _ _ _ _ (c.rounds.ensures.cause empty);
+  client_turns_are_its_calls = c.rounds.ensures.client_history empty;
+  server_turns_are_its_calls = c.rounds.ensures.server_history empty;
+}
+
+pub returns-clause-delegates : goal.returns-clause-delegates
+returns-clause-delegates g c fresh =
+    let m = either g.N.Mechanism.meaning g.K.Mechanism.meaning in
+    let cause = c.rounds.ensures.cause fresh.empty in
     let client = c.rounds.ensures.client fresh.client_is fresh.empty in
-    sealed_once (either g.N.Mechanism.meaning g.K.Mechanism.meaning) _ _ c.rounds.new.transcript.turns client.each client.others
-    (c.rounds.ensures.server fresh.server_is fresh.empty).each
-
-pub returns-clause-sealed : goal.returns-clause-sealed
-returns-clause-sealed g c fresh = (
-  seals_after_proof (either g.N.Mechanism.meaning g.K.Mechanism.meaning) _ _ (c.rounds.ensures.client fresh.client_is fresh.empty).each,
-  server_never_seals (either g.N.Mechanism.meaning g.K.Mechanism.meaning) _ _ (c.rounds.ensures.server fresh.server_is fresh.empty).each,
-)
-
-pub returns-clause-gives : goal.returns-clause-gives
-returns-clause-gives g c fresh = c.rounds.ensures.gives fresh.server_is fresh.empty
-
-pub returns-clause-exchanged : goal.returns-clause-exchanged
-returns-clause-exchanged g c fresh =
-    exchanged_ok (either g.N.Mechanism.meaning g.K.Mechanism.meaning) _ _ _ _ _ _ _ (c.rounds.ensures.cause fresh.empty) _
-    (c.rounds.ensures.server fresh.server_is fresh.empty).each
-
-pub returns-clause-exactly : goal.returns-clause-exactly
-returns-clause-exactly g c empty = exactly _ _ _ _ _ _ _ (c.rounds.ensures.cause empty)
-
-pub returns-clause-refused : goal.returns-clause-refused
-returns-clause-refused g c fresh = c.rounds.ensures.refused fresh.client_is fresh.server_is fresh.empty
+    let server = c.rounds.ensures.server fresh.server_is fresh.empty in
+    record {
+      the_turns_are_a_run = record {
+        order = run_order _ _ _ _ _ _ _ cause;
+        entries = run_log _ _ _ _ _ _ _ cause;
+        client_ran = client;
+        server_ran = server;
+      };
+      credentials_are_sealed_at_most_once = sealed_once m _ _ c.rounds.new.transcript.turns client.each client.others server.each;
+      the_client_seals_after_the_proof = seals_after_proof m _ _ client.each;
+      the_server_never_seals = server_never_seals m _ _ server.each;
+      the_identity_is_what_was_opened_last = c.rounds.ensures.gives fresh.server_is fresh.empty;
+      both_proofs_came_before_ok = exchanged_ok m _ _ _ _ _ _ _ cause _ server.each;
+      a_refusal_has_its_cause = c.rounds.ensures.refused fresh.client_is fresh.server_is fresh.empty;
+      accounts = returns-clause-accounts g c fresh.empty;
+      stays = returns-clause-stays g c;
+    }

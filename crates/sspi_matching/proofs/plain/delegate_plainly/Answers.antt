@@ -5,27 +5,34 @@ use Rattle.sspi_matching.proofs.plain.delegate_plainly.Goals as goal
 
 pub returns-clause-three : goal.returns-clause-three
 returns-clause-three g c fresh =
+    let made = c.delegate.ensures.delegates fresh in
     ok_three g.K.Mechanism.meaning g.C.CredentialsProxy.told g.C.CredentialsProxy.faults g.C.CredentialsProxy.failing _ _ _ _ _ _ _ _ _
-    (c.delegate.ensures.cause fresh.empty) fresh.server_is (c.delegate.ensures.run fresh).server_ran.others
-    (c.delegate.ensures.exchanged fresh) (c.delegate.ensures.server_history fresh.empty)
+    made.accounts.turns_and_log_show_the_answer fresh.server_is made.the_turns_are_a_run.server_ran.others
+    made.both_proofs_came_before_ok made.accounts.server_turns_are_its_calls
 
 pub returns-clause-few : goal.returns-clause-few
-returns-clause-few g c fresh few = too_few _ _ (returns-clause-three g c fresh) c.delegate.ensures.within few
+returns-clause-few g c fresh few = too_few _ _ (returns-clause-three g c fresh) c.delegate.ensures.stays.ok_comes_within_the_limit few
 
 pub returns-clause-comes : goal.returns-clause-comes
 returns-clause-comes g c matching fresh undisturbed none enough =
+    let made = c.delegate.ensures.delegates fresh in
+    let stays = c.delegate.ensures.stays in
     comes_to_ok _ _ _ enough
     (settled_so g.K.Mechanism.meaning g.C.CredentialsProxy.told g.C.CredentialsProxy.faults g.C.CredentialsProxy.failing c.args.client.now c.args.server.now
     fresh.client_is fresh.server_is matching _ _ _ c.args.turns c.delegate.new.client c.delegate.new.server
     (kdc_calls g.D.Kdc.told g.D.Kdc.asked g.D.Kdc.faults) _ _ _ _ _ _ _ undisturbed
-    (c.delegate.ensures.cause fresh.empty) c.delegate.ensures.told c.delegate.ensures.still (c.delegate.ensures.client_history fresh.empty)
-    (c.delegate.ensures.server_history fresh.empty) (calm_by _ _ _ none c.delegate.ensures.proxy.calm) (c.delegate.ensures.gives fresh))
+    made.accounts.turns_and_log_show_the_answer stays.the_link_tells_what_it_told stays.the_link_fails_where_its_edits_say_so
+    made.accounts.client_turns_are_its_calls made.accounts.server_turns_are_its_calls
+    (calm_by _ _ _ none stays.the_proxy_tells_what_it_told.calm) made.the_identity_is_what_was_opened_last)
 
 pub returns-clause-short : goal.returns-clause-short
 returns-clause-short g c matching fresh undisturbed none few =
-    cut_short _ _ _ few c.delegate.ensures.within
+    let made = c.delegate.ensures.delegates fresh in
+    let stays = c.delegate.ensures.stays in
+    cut_short _ _ _ few stays.ok_comes_within_the_limit
     (settled_so g.K.Mechanism.meaning g.C.CredentialsProxy.told g.C.CredentialsProxy.faults g.C.CredentialsProxy.failing c.args.client.now c.args.server.now
     fresh.client_is fresh.server_is matching _ _ _ c.args.turns c.delegate.new.client c.delegate.new.server
     (kdc_calls g.D.Kdc.told g.D.Kdc.asked g.D.Kdc.faults) _ _ _ _ _ _ _ undisturbed
-    (c.delegate.ensures.cause fresh.empty) c.delegate.ensures.told c.delegate.ensures.still (c.delegate.ensures.client_history fresh.empty)
-    (c.delegate.ensures.server_history fresh.empty) (calm_by _ _ _ none c.delegate.ensures.proxy.calm) (c.delegate.ensures.gives fresh))
+    made.accounts.turns_and_log_show_the_answer stays.the_link_tells_what_it_told stays.the_link_fails_where_its_edits_say_so
+    made.accounts.client_turns_are_its_calls made.accounts.server_turns_are_its_calls
+    (calm_by _ _ _ none stays.the_proxy_tells_what_it_told.calm) made.the_identity_is_what_was_opened_last)

@@ -1,0 +1,106 @@
+-- What `delegate` promises.
+use Rattle.std.specs.Prelude.{◌≡◌, ℕ, ◌≤◌, List, Option, Result, Err, IfOk, OnOk}
+use Rattle.sspi_names.specs.declared.identity.AuthIdentity.{AuthIdentity}
+use Rattle.sspi_names.specs.declared.network.NetworkRequest.{NetworkRequest}
+use Rattle.sspi_mech.specs.Meaning.{Meaning}
+use Rattle.sspi_mech.specs.declared.step.Reply.{Reply}
+use Rattle.sspi_credssp.specs.Client.{ClientView}
+use Rattle.sspi_credssp.specs.Context.{ContextSetting}
+use Rattle.sspi_credssp.specs.Server.{ServerView}
+use Rattle.sspi_delegate.specs.declared.answer.Delegation.{Delegation}
+use Rattle.sspi_delegate.specs.declared.answer.DelegateError.{DelegateError}
+use Rattle.sspi_delegate.specs.declared.answer.DelegateError.TheVariants.{TurnsSpent}
+use Rattle.sspi_delegate.specs.declared.carried.Carried.{Carried}
+use Rattle.sspi_delegate.specs.declared.edit.Edit.{Edit}
+use Rattle.sspi_delegate.specs.declared.turn.Turn.{Turn}
+use Rattle.sspi_delegate.specs.Asking.{KdcCalls, kdc_calls}
+use Rattle.sspi_delegate.specs.Causes.{RunEnds}
+use Rattle.sspi_delegate.specs.ClientRun.{client_end}
+use Rattle.sspi_delegate.specs.EndTurns.{client_turns, server_turns}
+use Rattle.sspi_delegate.specs.Exactly.{Exactly}
+use Rattle.sspi_delegate.specs.Headline.{IsRun, sealed_turns, SealsAfterProof, NeverSeals, HasExchanged}
+use Rattle.sspi_delegate.specs.History.{ClientPast, ServerHistory}
+use Rattle.sspi_delegate.specs.Link.{StaysTold}
+use Rattle.sspi_delegate.specs.Messages.{newest_message, AnswerTold}
+use Rattle.sspi_delegate.specs.Refusals.{RefusedBy, KdcStays, ProxyStays}
+use Rattle.sspi_delegate.specs.ServerRun.{server_end, GivesNewest}
+
+-- what proxy, link and KDC tell of themselves
+pub record Around (P L D : Type 0) : Type 0 where
+  -- the entries of the proxy, which of its calls fail, and how many did
+  pub entries : P → Option (List AuthIdentity)
+  pub failing : P → Option (List ℕ)
+  pub look_up_faults : P → ℕ
+  pub log : L → List Carried
+  pub edits : L → Option (List Edit)
+  pub link_faults : L → ℕ
+  -- the KDC's reply to each question by the number of the call, how often it was asked, and how often it failed
+  pub replies : D → Option (ℕ → NetworkRequest → Reply)
+  pub asked : D → ℕ
+  pub kdc_faults : D → ℕ
+
+abbrev pub around_by : {P L D : Type 0} → (P → Option (List AuthIdentity)) → (P → Option (List ℕ)) → (P → ℕ) →
+    (L → List Carried) → (L → Option (List Edit)) → (L → ℕ) → (D → Option (ℕ → NetworkRequest → Reply)) → (D → ℕ) → (D → ℕ) → Around P L D
+around_by entries failing look_up_faults log edits link_faults replies asked kdc_faults = record {
+  entries = entries;
+  failing = failing;
+  look_up_faults = look_up_faults;
+  log = log;
+  edits = edits;
+  link_faults = link_faults;
+  replies = replies;
+  asked = asked;
+  kdc_faults = kdc_faults;
+}
+
+-- all that takes part in an exchange, at one moment
+pub record Parties (C P L D : Type 0) : Type 0 where
+  pub client : ClientView C
+  pub server : ServerView C P
+  pub link : L
+  pub kdc : D
+  -- the transcript's turns
+  pub turns : List Turn
+
+abbrev pub parties : {C P L D : Type 0} → ClientView C → ServerView C P → L → D → List Turn → Parties C P L D
+parties client server link kdc turns = record { client = client; server = server; link = link; kdc = kdc; turns = turns }
+
+-- limit: how many turns the client may make
+module _ {P L D : Type 0} (around : Around P L D) where
+  abbrev pub calls_of_kdc : KdcCalls D
+  calls_of_kdc = kdc_calls around.replies around.asked around.kdc_faults
+
+  -- of every exchange
+  pub record Stays {C : Type 0} (old : Parties C P L D) (limit : ℕ) (result : Result Delegation DelegateError) (new : Parties C P L D) : Type 0 where
+    pub the_proxy_tells_what_it_told : ProxyStays around.entries around.failing around.look_up_faults old.server.proxy new.server.proxy
+    pub the_kdc_tells_what_it_told : KdcStays around.replies around.kdc_faults old.kdc new.kdc
+    pub the_link_tells_what_it_told : StaysTold (around.edits old.link) (around.edits new.link) (around.log old.link) (around.log new.link)
+    pub the_link_fails_where_its_edits_say_so : AnswerTold (around.edits old.link) (around.link_faults old.link) (around.link_faults new.link)
+        result (around.log new.link) (newest_message new.turns)
+    pub no_turns_are_spent_at_once : limit ≡ 0 → result ≡ Err TurnsSpent
+    pub ok_comes_within_the_limit : IfOk result (λ delegation. delegation.turns ≤ limit)
+
+-- c: what the context of either end means
+module _ {C P L D : Type 0} (c : Meaning ContextSetting C) (around : Around P L D) where
+  -- of an exchange whose transcript was empty
+  pub record Accounts (old : Parties C P L D) (limit : ℕ) (result : Result Delegation DelegateError) (new : Parties C P L D) : Type 0 where
+    pub turns_and_log_show_the_answer : RunEnds (around.log old.link) (around.link_faults old.link) limit result new.turns
+        (around.log new.link) (around.link_faults new.link)
+    pub no_other_answer_fits : Exactly (around.log old.link) limit result new.turns (around.log new.link)
+    -- each turn of an end was one of its calls, and nothing moved it between two of them
+    pub client_turns_are_its_calls : ClientPast c (calls_of_kdc around) old.client old.kdc result (client_turns new.turns) new.client new.kdc
+    pub server_turns_are_its_calls : ServerHistory c around.entries around.look_up_faults around.failing old.server (server_turns new.turns) new.server
+
+  -- of an exchange between two fresh ends
+  pub record Delegates (old : Parties C P L D) (limit : ℕ) (result : Result Delegation DelegateError) (new : Parties C P L D) : Type 0 where
+    pub the_turns_are_a_run : IsRun c old.client new.client old.server new.server (around.log old.link) (around.log new.link) new.turns
+    pub credentials_are_sealed_at_most_once : sealed_turns new.turns ≤ 1
+    pub the_client_seals_after_the_proof : SealsAfterProof c (client_end new.client) (client_turns new.turns)
+    pub the_server_never_seals : NeverSeals (server_turns new.turns)
+    pub the_identity_is_what_was_opened_last : IfOk result (λ delegation.
+        GivesNewest c (server_end new.server) (server_turns new.turns) delegation.credentials)
+    pub both_proofs_came_before_ok : OnOk result (HasExchanged (server_turns new.turns))
+    pub a_refusal_has_its_cause : RefusedBy c around.entries around.look_up_faults old.client new.client old.server new.server result
+        (client_turns new.turns) (server_turns new.turns)
+    pub accounts : Accounts old limit result new
+    pub stays : Stays around old limit result new
