@@ -1,21 +1,28 @@
 -- One more turn in the history of an end.
-use Rattle.std.proofs.Common.{◌≡◌, ℕ, List, [], ◌∷◌, refl, Option, Result, Ok, Err}
+use Rattle.std.proofs.Common.{◌≡◌, ap, refl, List, [], ◌∷◌, ℕ, Option, None, Result, Ok, Err}
+use Rattle.sspi_types.specs.declared.error.Error.{Error}
 use Rattle.sspi_mech.specs.Meaning.{Meaning}
 use Rattle.sspi_names.specs.declared.identity.AuthIdentity.{AuthIdentity}
 use Rattle.sspi_tsreq.specs.declared.request.TsRequest.{TsRequest}
 use Rattle.sspi_credssp.specs.Client.{ClientView}
+use Rattle.sspi_credssp.specs.ClientTurn.{ClientTurn}
 use Rattle.sspi_credssp.specs.Context.{ContextSetting}
 use Rattle.sspi_credssp.specs.Server.{ServerView}
+use Rattle.sspi_credssp.specs.ServerStep.{DoneStep}
+use Rattle.sspi_credssp.specs.ServerTurn.{ServerTurn, HoldsIdentity}
+use Rattle.sspi_credssp.specs.Turn.{Finished, Stopped}
 use Rattle.sspi_credssp.specs.Turn as end
+use Rattle.sspi_delegate.specs.declared.answer.Delegation.{Delegation}
 use Rattle.sspi_delegate.specs.declared.answer.DelegateError.{DelegateError}
 use Rattle.sspi_delegate.specs.declared.answer.DelegateError.TheVariants as errors
 use Rattle.sspi_delegate.specs.declared.carried.End.TheVariants.{Client, Server}
 use Rattle.sspi_delegate.specs.declared.turn.Outcome.{Outcome}
+use Rattle.sspi_delegate.specs.declared.turn.Outcome.TheVariants as outcome
 use Rattle.sspi_delegate.specs.declared.turn.Turn.{Turn}
 use Rattle.sspi_delegate.specs.Asking.{KdcCalls}
 use Rattle.sspi_delegate.specs.EndTurns.{client_turns, server_turns, came_of}
-use Rattle.sspi_delegate.specs.History.{ClientMakes, ClientHistory, between, ClientPast, ServerMakes, ServerHistory}
-use Rattle.sspi_delegate.specs.Refusals.{ProxyStays}
+use Rattle.sspi_delegate.specs.History.{ClientMakes, ClientHistory, ClientStopped, ServerMakes, ServerRefuses, ServerHistory, ServerGave, ServerStopped, ServerPast}
+use Rattle.sspi_delegate.specs.Refusals.{ClientRefuses, ProxyStays}
 use Rattle.sspi_delegate.specs.Rounds.{recorded}
 
 module _ {C D : Type 0} (c : Meaning ContextSetting C) (k : KdcCalls D) where
@@ -26,27 +33,33 @@ module _ {C D : Type 0} (c : Meaning ContextSetting C) (k : KdcCalls D) where
   client_made first old mid new kdc_first kdc kdc2 d out turns turns2 history makes rest is =
       rw is (old, kdc, history, record { mid = mid; turn = refl; makes = makes; rest = rest })
 
-  pub client_past : {X : Type 0} (first now : ClientView C) (kdc kdc2 : D) (turns : List end.Turn) (result : Result X DelegateError) →
-      ClientHistory c k first kdc turns now kdc2 → ClientPast c k first kdc result turns now kdc2
-  client_past first now kdc kdc2 turns (Ok x) h = h
-  client_past first now kdc kdc2 turns (Err (errors.Client error)) h = h
-  client_past first now kdc kdc2 turns (Err (errors.Server error)) h = h
-  client_past first now kdc kdc2 turns (Err (errors.Read to kind)) h = h
-  client_past first now kdc kdc2 turns (Err (errors.Write from)) h = h
-  client_past first now kdc kdc2 turns (Err errors.LinkFault) h = h
-  client_past first now kdc kdc2 turns (Err errors.TurnsSpent) h = h
-  client_past first now kdc kdc2 turns (Err errors.InsufficientMemory) h = between h
+  pub client_stopped : (first old mid new : ClientView C) (kdc_first kdc kdc2 : D) (d : TsRequest) (error : Error) (turns turns2 : List Turn) →
+      ClientHistory c k first kdc_first (client_turns turns) old kdc →
+      ClientTurn c old d (Stopped error.error_type None) mid × ClientRefuses c (λ asked. k.replies kdc asked kdc2) old d error mid →
+      new ≡ record mid { output = [] } → turns2 ≡ recorded Client d mid.acts mid.output (outcome.Refused error.error_type None) ∷ turns →
+      ClientStopped c k first kdc_first error (client_turns turns2) new kdc2
+  client_stopped first old mid new kdc_first kdc kdc2 d error turns turns2 history turn rest is = record {
+    old = old;
+    kdc1 = kdc;
+    mid = mid;
+    d = d;
+    past = client_turns turns;
+    newest = ap client_turns is;
+    before = history;
+    turn = turn.0;
+    refuses = turn.1;
+    rest = rest;
+  }
 
-  -- an error means the same whatever else the answer might be
-  pub client_past_on : (X Y : Type 0) (first now : ClientView C) (kdc kdc2 : D) (turns : List end.Turn) (error : DelegateError) →
-      ClientPast c k {X = X} first kdc (Err error) turns now kdc2 → ClientPast c k {X = Y} first kdc (Err error) turns now kdc2
-  client_past_on X Y first now kdc kdc2 turns (errors.Client error) h = h
-  client_past_on X Y first now kdc kdc2 turns (errors.Server error) h = h
-  client_past_on X Y first now kdc kdc2 turns (errors.Read to kind) h = h
-  client_past_on X Y first now kdc kdc2 turns (errors.Write from) h = h
-  client_past_on X Y first now kdc kdc2 turns errors.LinkFault h = h
-  client_past_on X Y first now kdc kdc2 turns errors.TurnsSpent h = h
-  client_past_on X Y first now kdc kdc2 turns errors.InsufficientMemory h = h
+  -- a turn that was refused is one of the history
+  pub client_stopped_history : (first now : ClientView C) (kdc kdc2 : D) (error : Error) (turns : List end.Turn) →
+      ClientStopped c k first kdc error turns now kdc2 → ClientHistory c k first kdc turns now kdc2
+  client_stopped_history first now kdc kdc2 error turns s = rw s.newest (
+    s.old,
+    s.kdc1,
+    s.before,
+    record { mid = s.mid; turn = refl; makes = (error, refl, s.turn, s.refuses); rest = s.rest },
+  )
 
 module _ {C : Type 0} (c : Meaning ContextSetting C) where
   module _ {P : Type 0} (told : P → Option (List AuthIdentity)) (faults : P → ℕ) (failing : P → Option (List ℕ)) where
@@ -57,3 +70,51 @@ module _ {C : Type 0} (c : Meaning ContextSetting C) where
         ServerHistory c told faults failing first (server_turns turns2) new
     server_made first old mid new d out turns turns2 history makes proxy rest is =
         rw is (old, history, record { mid = mid; turn = refl; makes = makes; proxy = proxy; rest = rest })
+
+    pub server_gave : (first old mid new : ServerView C P) (d : TsRequest) (identity : AuthIdentity) (turns turns2 : List Turn) →
+        ServerHistory c told faults failing first (server_turns turns) old →
+        ServerTurn c old d Finished mid × HoldsIdentity c mid.context d.auth_info identity → DoneStep c told mid.acts.status old d mid →
+        ProxyStays told failing faults old.proxy mid.proxy →
+        new ≡ record mid { output = [] } → turns2 ≡ recorded Server d mid.acts mid.output outcome.Finished ∷ turns →
+        ServerGave c told faults failing first identity (server_turns turns2) new
+    server_gave first old mid new d identity turns turns2 history turn step proxy rest is =
+        (server_made first old mid new d outcome.Finished turns turns2 history (turn.0, step) proxy rest is, rw (is, rest) turn.1)
+
+    pub server_stopped : (first old mid new : ServerView C P) (d : TsRequest) (error : Error) (reply : Option TsRequest) (turns turns2 : List Turn) →
+        ServerHistory c told faults failing first (server_turns turns) old →
+        ServerTurn c old d (Stopped error.error_type reply) mid → ServerRefuses c told faults old d error mid →
+        ProxyStays told failing faults old.proxy mid.proxy →
+        new ≡ record mid { output = [] } → turns2 ≡ recorded Server d mid.acts mid.output (outcome.Refused error.error_type reply) ∷ turns →
+        ServerStopped c told faults failing first error (server_turns turns2) new
+    server_stopped first old mid new d error reply turns turns2 history turn refuses proxy rest is = record {
+      old = old;
+      mid = mid;
+      d = d;
+      reply = reply;
+      past = server_turns turns;
+      newest = ap server_turns is;
+      before = history;
+      turn = turn;
+      refuses = refuses;
+      proxy = proxy;
+      rest = rest;
+    }
+
+    pub server_stopped_history : (first now : ServerView C P) (error : Error) (turns : List end.Turn) →
+        ServerStopped c told faults failing first error turns now → ServerHistory c told faults failing first turns now
+    server_stopped_history first now error turns s = rw s.newest (
+      s.old,
+      s.before,
+      record { mid = s.mid; turn = refl; makes = (error, refl, s.turn, s.refuses); proxy = s.proxy; rest = s.rest },
+    )
+
+    pub server_past_history : (first now : ServerView C P) (turns : List end.Turn) (result : Result Delegation DelegateError) →
+        ServerPast c told faults failing first result turns now → ServerHistory c told faults failing first turns now
+    server_past_history first now turns (Ok delegation) h = h.0
+    server_past_history first now turns (Err (errors.Client error)) h = h
+    server_past_history first now turns (Err (errors.Server error)) h = server_stopped_history first now error turns h
+    server_past_history first now turns (Err (errors.Read to kind)) h = h
+    server_past_history first now turns (Err (errors.Write from)) h = h
+    server_past_history first now turns (Err errors.LinkFault) h = h
+    server_past_history first now turns (Err errors.TurnsSpent) h = h
+    server_past_history first now turns (Err errors.InsufficientMemory) h = h

@@ -1,3 +1,4 @@
+mod Alternating
 mod Asking
 mod ClientOver
 mod ClientSteps
@@ -5,7 +6,8 @@ mod EndSteps
 mod Exactness
 mod Halves
 mod Headline
-mod Histories
+pub mod Histories
+pub mod HistoryRuns
 mod LogSteps
 mod Newest
 mod Reading

@@ -19,7 +19,7 @@ use Rattle.sspi_delegate.specs.ClientRun.{client_end}
 use Rattle.sspi_delegate.specs.EndTurns.{client_turns, server_turns}
 use Rattle.sspi_delegate.specs.Exactly.{Exactly}
 use Rattle.sspi_delegate.specs.Headline.{IsRun, sealed_turns, SealsAfterProof, NeverSeals, HasExchanged}
-use Rattle.sspi_delegate.specs.History.{ClientPast, ServerHistory}
+use Rattle.sspi_delegate.specs.History.{ClientPast, ServerPast}
 use Rattle.sspi_delegate.specs.Link.{StaysTold}
 use Rattle.sspi_delegate.specs.Messages.{newest_message, AnswerTold}
 use Rattle.sspi_delegate.specs.Refusals.{RefusedBy, KdcStays, ProxyStays}
@@ -87,9 +87,10 @@ module _ {C P L D : Type 0} (c : Meaning ContextSetting C) (around : Around P L 
     pub turns_and_log_show_the_answer : RunEnds (around.log old.link) (around.link_faults old.link) limit result new.turns
         (around.log new.link) (around.link_faults new.link)
     pub no_other_answer_fits : Exactly (around.log old.link) limit result new.turns (around.log new.link)
-    -- each turn of an end was one of its calls, and nothing moved it between two of them
+    -- each turn of an end was one of its calls, and nothing moved it between two of them; the last one refused with the error
+    -- that is answered, or gave the identity
     pub client_turns_are_its_calls : ClientPast c (calls_of_kdc around) old.client old.kdc result (client_turns new.turns) new.client new.kdc
-    pub server_turns_are_its_calls : ServerHistory c around.entries around.look_up_faults around.failing old.server (server_turns new.turns) new.server
+    pub server_turns_are_its_calls : ServerPast c around.entries around.look_up_faults around.failing old.server result (server_turns new.turns) new.server
 
   -- of an exchange between two fresh ends
   pub record Delegates (old : Parties C P L D) (limit : ℕ) (result : Result Delegation DelegateError) (new : Parties C P L D) : Type 0 where

@@ -18,14 +18,13 @@ use Rattle.sspi_credssp.specs.ServerStep.{DoneStep, HasAccepted}
 use Rattle.sspi_credssp.specs.ServerTurn.{ServerTurn, server_turn}
 use Rattle.sspi_credssp.specs.Turn.{Came, Replied, Ended, Finished, Stopped}
 use Rattle.sspi_credssp.specs.Turn as end
+use Rattle.sspi_delegate.specs.declared.answer.Delegation.{Delegation}
 use Rattle.sspi_delegate.specs.declared.answer.DelegateError.{DelegateError}
 use Rattle.sspi_delegate.specs.declared.answer.DelegateError.TheVariants as errors
-use Rattle.sspi_delegate.specs.declared.ends.ClientRound.{ClientRound}
-use Rattle.sspi_delegate.specs.declared.ends.ClientRound.TheVariants as client
-use Rattle.sspi_delegate.specs.declared.ends.Concluded.{Concluded}
-use Rattle.sspi_delegate.specs.declared.ends.Concluded.TheVariants as concluded
 use Rattle.sspi_delegate.specs.Asking.{KdcCalls}
+use Rattle.sspi_delegate.specs.EndTurns.{AllWentOn}
 use Rattle.sspi_delegate.specs.Refusals.{StepsSo, ClientRefuses, ProxyStays}
+use Rattle.sspi_delegate.specs.ServerRun.{server_end, GivesNewest}
 
 module _ {C D : Type 0} (c : Meaning ContextSetting C) (k : KdcCalls D) where
   -- The client took d and came to this, by a step of its context where it authenticates; a refusal has its cause. The KDC was
@@ -60,27 +59,36 @@ module _ {C D : Type 0} (c : Meaning ContextSetting C) (k : KdcCalls D) where
     pub steps : StepsSo c (λ asked. k.replies kdc asked asked_by) old d (Ok (Suspended question)) now
     pub lost : k.lost asked_by kdc2
 
-  abbrev pub WaitsWhereLost : ClientView C → D → TsRequest → Concluded → ClientView C → D → Type 0
-  WaitsWhereLost old kdc d (concluded.Answered state) now kdc2 = Unit {0}
-  WaitsWhereLost old kdc d (concluded.Refused error) now kdc2 = Unit {0}
-  WaitsWhereLost old kdc d concluded.Lost now kdc2 = IsWaiting old kdc d now kdc2
+  -- The newest of these turns was refused with this error; the turns before it led the client to `old`.
+  pub record ClientStopped (first : ClientView C) (kdc : D) (error : Error) (turns : List end.Turn) (now : ClientView C) (kdc2 : D) : Type 0 where
+    pub old : ClientView C
+    pub kdc1 : D
+    pub mid : ClientView C
+    pub d : TsRequest
+    pub past : List end.Turn
+    pub newest : turns ≡ client_turn c d (Stopped error.error_type None) mid ∷ past
+    pub before : ClientHistory first kdc past old kdc1
+    pub turn : ClientTurn c old d (Stopped error.error_type None) mid
+    pub refuses : ClientRefuses c (λ asked. k.replies kdc1 asked kdc2) old d error mid
+    -- the output was taken for the record
+    pub rest : now ≡ record mid { output = [] }
 
   -- where there was no memory the client may have been left waiting for its KDC, in a turn that is not recorded
   pub data ClientLeft (first : ClientView C) (kdc : D) (turns : List end.Turn) (now : ClientView C) (kdc2 : D) : Type 0 where
     between : ClientHistory first kdc turns now kdc2 → ClientLeft first kdc turns now kdc2
-    waiting : (old : ClientView C) (kdc1 : D) (d : TsRequest) → ClientHistory first kdc turns old kdc1 → IsWaiting old kdc1 d now kdc2 →
-        ClientLeft first kdc turns now kdc2
+    waiting : (old : ClientView C) (kdc1 : D) (d : TsRequest) → AllWentOn turns → ClientHistory first kdc turns old kdc1 →
+        IsWaiting old kdc1 d now kdc2 → ClientLeft first kdc turns now kdc2
 
-  abbrev pub ClientRoundHistory : ClientView C → D → ClientRound → List end.Turn → ClientView C → D → Type 0
-  ClientRoundHistory first kdc client.Replied turns now kdc2 = ClientHistory first kdc turns now kdc2
-  ClientRoundHistory first kdc (client.Refused error) turns now kdc2 = ClientHistory first kdc turns now kdc2
-  ClientRoundHistory first kdc client.Lost turns now kdc2 = ClientLeft first kdc turns now kdc2
+  -- the history of the client of an exchange that ended in this error
+  abbrev pub ClientStops : ClientView C → D → DelegateError → List end.Turn → ClientView C → D → Type 0
+  ClientStops first kdc (errors.Client error) turns now kdc2 = ClientStopped first kdc error turns now kdc2
+  ClientStops first kdc errors.InsufficientMemory turns now kdc2 = ClientLeft first kdc turns now kdc2
+  ClientStops first kdc other turns now kdc2 = ClientHistory first kdc turns now kdc2
 
-  -- the history of the client of an exchange, or of a part of one, by its answer
-  abbrev pub ClientPast : {X : Type 0} → ClientView C → D → Result X DelegateError → List end.Turn → ClientView C → D → Type 0
-  ClientPast first kdc (Ok x) turns now kdc2 = ClientHistory first kdc turns now kdc2
-  ClientPast first kdc (Err errors.InsufficientMemory) turns now kdc2 = ClientLeft first kdc turns now kdc2
-  ClientPast first kdc (Err error) turns now kdc2 = ClientHistory first kdc turns now kdc2
+  -- the history of the client of an exchange, by its answer
+  abbrev pub ClientPast : ClientView C → D → Result Delegation DelegateError → List end.Turn → ClientView C → D → Type 0
+  ClientPast first kdc (Ok delegation) turns now kdc2 = ClientHistory first kdc turns now kdc2
+  ClientPast first kdc (Err error) turns now kdc2 = ClientStops first kdc error turns now kdc2
 
 module _ {C : Type 0} (c : Meaning ContextSetting C) where
   module _ {P : Type 0} (told : P → Option (List AuthIdentity)) (faults : P → ℕ) where
@@ -111,3 +119,32 @@ module _ {C : Type 0} (c : Meaning ContextSetting C) where
       abbrev pub ServerHistory : ServerView C P → List end.Turn → ServerView C P → Type 0
       ServerHistory first [] now = now ≡ first
       ServerHistory first (t ∷ past) now = (old : ServerView C P) × ServerHistory first past old × ServerMade old t now
+
+      -- the newest of these turns gave this identity
+      abbrev pub ServerGave : ServerView C P → AuthIdentity → List end.Turn → ServerView C P → Type 0
+      ServerGave first identity turns now = ServerHistory first turns now × GivesNewest c (server_end now) turns identity
+
+      -- The newest of these turns was refused with this error; the turns before it led the server to `old`.
+      pub record ServerStopped (first : ServerView C P) (error : Error) (turns : List end.Turn) (now : ServerView C P) : Type 0 where
+        pub old : ServerView C P
+        pub mid : ServerView C P
+        pub d : TsRequest
+        pub reply : Option TsRequest
+        pub past : List end.Turn
+        pub newest : turns ≡ server_turn c d (Stopped error.error_type reply) mid ∷ past
+        pub before : ServerHistory first past old
+        pub turn : ServerTurn c old d (Stopped error.error_type reply) mid
+        pub refuses : ServerRefuses old d error mid
+        pub proxy : ProxyStays told failing faults old.proxy mid.proxy
+        -- the output was taken for the record
+        pub rest : now ≡ record mid { output = [] }
+
+      -- the history of the server of an exchange that ended in this error
+      abbrev pub ServerStops : ServerView C P → DelegateError → List end.Turn → ServerView C P → Type 0
+      ServerStops first (errors.Server error) turns now = ServerStopped first error turns now
+      ServerStops first other turns now = ServerHistory first turns now
+
+      -- the history of the server of an exchange, by its answer
+      abbrev pub ServerPast : ServerView C P → Result Delegation DelegateError → List end.Turn → ServerView C P → Type 0
+      ServerPast first (Ok delegation) turns now = ServerGave first delegation.credentials turns now
+      ServerPast first (Err error) turns now = ServerStops first error turns now

@@ -1,4 +1,4 @@
--- What a turn, and what half a round, makes of an end and of its turns so far.
+-- What a turn, and what half a round, makes of an end and of its history.
 use Rattle.std.specs.Prelude.{ℕ, List, Option, None, Some, Result, Ok, Err}
 use Rattle.sspi_mech.specs.Meaning.{Meaning}
 use Rattle.sspi_names.specs.declared.identity.AuthIdentity.{AuthIdentity}
@@ -24,9 +24,8 @@ use Rattle.sspi_delegate.specs.declared.ends.ServerRound.TheVariants as server
 use Rattle.sspi_delegate.specs.declared.turn.Outcome.{Outcome}
 use Rattle.sspi_delegate.specs.declared.turn.Turn.{Turn}
 use Rattle.sspi_delegate.specs.Asking.{KdcCalls}
-use Rattle.sspi_delegate.specs.ClientRun.{ClientRan, ClientFollows}
-use Rattle.sspi_delegate.specs.Refusals.{StepsSo, ClientRefuses, ClientRefused, ServerRefused}
-use Rattle.sspi_delegate.specs.ServerRun.{ServerRan, ServerFollows, server_end, GivesNewest}
+use Rattle.sspi_delegate.specs.History.{ClientHistory, IsWaiting, ClientStopped, ClientLeft, ClientStops, ServerHistory, ServerGave, ServerStopped, ServerStops}
+use Rattle.sspi_delegate.specs.Refusals.{StepsSo, ClientRefuses}
 
 -- a turn as it is recorded
 abbrev pub recorded : End → TsRequest → Acts → List ℕ → Outcome → Turn
@@ -53,36 +52,38 @@ module _ {C D : Type 0} (c : Meaning ContextSetting C) (k : KdcCalls D) where
       ClientTurn c old d (Stopped error.error_type None) new × ClientRefuses c (λ asked. k.replies kdc asked kdc2) old d error new
   ClientConcludes old kdc d concluded.Lost new kdc2 = IsUnderway c old d new
 
-module _ {C : Type 0} (c : Meaning ContextSetting C) where
-  abbrev pub ClientWent : ClientView C → ClientRound → ClientView C → List end.Turn → Type 0
-  ClientWent first client.Replied now past = ClientFollows c first now past
-  ClientWent first (client.Refused error) now past = ClientRan c first now past × ClientRefused c first error now past
-  ClientWent first client.Lost now past = ClientRan c first now past
+  abbrev pub WaitsWhereLost : ClientView C → D → TsRequest → Concluded → ClientView C → D → Type 0
+  WaitsWhereLost old kdc d (concluded.Answered state) now kdc2 = Unit {0}
+  WaitsWhereLost old kdc d (concluded.Refused error) now kdc2 = Unit {0}
+  WaitsWhereLost old kdc d concluded.Lost now kdc2 = IsWaiting c k old kdc d now kdc2
 
-  abbrev pub ClientRanHalf : ClientView C → Result (Unit {0}) DelegateError → ClientView C → List end.Turn → Type 0
-  ClientRanHalf first (Ok done) now past = ClientFollows c first now past
-  ClientRanHalf first (Err (errors.Client error)) now past = ClientRan c first now past × ClientRefused c first error now past
-  ClientRanHalf first (Err (errors.Server error)) now past = ⊥
-  ClientRanHalf first (Err (errors.Read to kind)) now past = ClientRan c first now past
-  ClientRanHalf first (Err (errors.Write from)) now past = ClientRan c first now past
-  ClientRanHalf first (Err errors.LinkFault) now past = ClientRan c first now past
-  ClientRanHalf first (Err errors.TurnsSpent) now past = ClientRan c first now past
-  ClientRanHalf first (Err errors.InsufficientMemory) now past = ClientRan c first now past
+  -- what a turn makes of the client's history
+  abbrev pub ClientRoundPast : ClientView C → D → ClientRound → List end.Turn → ClientView C → D → Type 0
+  ClientRoundPast first kdc client.Replied turns now kdc2 = ClientHistory c k first kdc turns now kdc2
+  ClientRoundPast first kdc (client.Refused error) turns now kdc2 = ClientStopped c k first kdc error turns now kdc2
+  ClientRoundPast first kdc client.Lost turns now kdc2 = ClientLeft c k first kdc turns now kdc2
 
-  module _ {P : Type 0} (told : P → Option (List AuthIdentity)) (faults : P → ℕ) where
-    abbrev pub ServerWent : ServerView C P → ServerRound → ServerView C P → List end.Turn → Type 0
-    ServerWent first server.Replied now past = ServerFollows c first now past
-    ServerWent first (server.Finished identity) now past = ServerRan c first now past × GivesNewest c (server_end now) past identity
-    ServerWent first (server.Refused error) now past = ServerRan c first now past × ServerRefused c told faults first error now past
-    ServerWent first server.Lost now past = ServerRan c first now past
+  -- what half a round makes of it
+  abbrev pub ClientHalfStops : ClientView C → D → DelegateError → List end.Turn → ClientView C → D → Type 0
+  ClientHalfStops first kdc (errors.Server error) turns now kdc2 = ⊥
+  ClientHalfStops first kdc error turns now kdc2 = ClientStops c k first kdc error turns now kdc2
 
-    abbrev pub ServerRanHalf : ServerView C P → Result (Option AuthIdentity) DelegateError → ServerView C P → List end.Turn → Type 0
-    ServerRanHalf first (Ok None) now past = ServerFollows c first now past
-    ServerRanHalf first (Ok (Some identity)) now past = ServerRan c first now past × GivesNewest c (server_end now) past identity
-    ServerRanHalf first (Err (errors.Client error)) now past = ⊥
-    ServerRanHalf first (Err (errors.Server error)) now past = ServerRan c first now past × ServerRefused c told faults first error now past
-    ServerRanHalf first (Err (errors.Read to kind)) now past = ServerRan c first now past
-    ServerRanHalf first (Err (errors.Write from)) now past = ServerRan c first now past
-    ServerRanHalf first (Err errors.LinkFault) now past = ServerRan c first now past
-    ServerRanHalf first (Err errors.TurnsSpent) now past = ServerRan c first now past
-    ServerRanHalf first (Err errors.InsufficientMemory) now past = ServerRan c first now past
+  abbrev pub ClientHalfPast : ClientView C → D → Result (Unit {0}) DelegateError → List end.Turn → ClientView C → D → Type 0
+  ClientHalfPast first kdc (Ok done) turns now kdc2 = ClientHistory c k first kdc turns now kdc2
+  ClientHalfPast first kdc (Err error) turns now kdc2 = ClientHalfStops first kdc error turns now kdc2
+
+module _ {C P : Type 0} (c : Meaning ContextSetting C) (told : P → Option (List AuthIdentity)) (faults : P → ℕ) (failing : P → Option (List ℕ)) where
+  abbrev pub ServerRoundPast : ServerView C P → ServerRound → List end.Turn → ServerView C P → Type 0
+  ServerRoundPast first server.Replied turns now = ServerHistory c told faults failing first turns now
+  ServerRoundPast first (server.Finished identity) turns now = ServerGave c told faults failing first identity turns now
+  ServerRoundPast first (server.Refused error) turns now = ServerStopped c told faults failing first error turns now
+  ServerRoundPast first server.Lost turns now = ServerHistory c told faults failing first turns now
+
+  abbrev pub ServerHalfStops : ServerView C P → DelegateError → List end.Turn → ServerView C P → Type 0
+  ServerHalfStops first (errors.Client error) turns now = ⊥
+  ServerHalfStops first error turns now = ServerStops c told faults failing first error turns now
+
+  abbrev pub ServerHalfPast : ServerView C P → Result (Option AuthIdentity) DelegateError → List end.Turn → ServerView C P → Type 0
+  ServerHalfPast first (Ok None) turns now = ServerHistory c told faults failing first turns now
+  ServerHalfPast first (Ok (Some identity)) turns now = ServerGave c told faults failing first identity turns now
+  ServerHalfPast first (Err error) turns now = ServerHalfStops first error turns now

@@ -3,13 +3,11 @@ ghost use Rattle.sspi_credssp.specs.Client.{ClientView};
 ghost use Rattle.sspi_credssp.specs.Context.{either};
 ghost use Rattle.sspi_credssp.specs.Server.{ServerView};
 ghost use Rattle.sspi_delegate.specs.Asking.{HasReplied, HasNoReply, kdc_calls};
-ghost use Rattle.sspi_delegate.specs.ClientRun.{ClientFollows};
-ghost use Rattle.sspi_delegate.specs.EndTurns.{client_turns, server_turns};
-ghost use Rattle.sspi_delegate.specs.History.{ClientHistory, ClientRoundHistory, WaitsWhereLost, ServerHistory};
+ghost use Rattle.sspi_delegate.specs.EndTurns.{client_turns, server_turns, AllWentOn};
+ghost use Rattle.sspi_delegate.specs.History.{ClientHistory, ServerHistory};
 ghost use Rattle.sspi_delegate.specs.Recorded.{ClientPushed, ServerPushed};
 ghost use Rattle.sspi_delegate.specs.Refusals.{KdcStays, ProxyStays};
-ghost use Rattle.sspi_delegate.specs.Rounds.{recorded, ClientConcludes, ClientWent, ServerWent};
-ghost use Rattle.sspi_delegate.specs.ServerRun.{ServerFollows};
+ghost use Rattle.sspi_delegate.specs.Rounds.{recorded, ClientConcludes, WaitsWhereLost, ClientRoundPast, ServerRoundPast};
 
 use crate::carried::End;
 use crate::transcript::Transcript;
@@ -103,13 +101,10 @@ pub(crate) fn client_round<N: Mechanism, K: Mechanism, D: Kdc>(
     request: TsRequest,
 ) -> ClientRound
     ensures turn { ClientPushed request result transcript.old.turns transcript.new.turns }
-    ensures client { let c = either N.meaning K.meaning in (first : ClientView (SspiContext N K)) →
-        ClientFollows c first client.old (client_turns transcript.old.turns) →
-        ClientWent c first result client.new (client_turns transcript.new.turns) }
     ensures client_history { let c = either N.meaning K.meaning in let k = kdc_calls D.told D.asked D.faults in
-        (first : ClientView (SspiContext N K)) (kdc_first : D) →
+        (first : ClientView (SspiContext N K)) (kdc_first : D) → AllWentOn (client_turns transcript.old.turns) →
         ClientHistory c k first kdc_first (client_turns transcript.old.turns) client.old kdc.old →
-        ClientRoundHistory c k first kdc_first result (client_turns transcript.new.turns) client.new kdc.new }
+        ClientRoundPast c k first kdc_first result (client_turns transcript.new.turns) client.new kdc.new }
     ensures server { server_turns transcript.new.turns ≡ server_turns transcript.old.turns }
     ensures kdc { KdcStays D.told D.faults kdc.old kdc.new }
 {
@@ -170,13 +165,9 @@ pub(crate) fn server_round<N: Mechanism, K: Mechanism, C: CredentialsProxy>(
     request: TsRequest,
 ) -> ServerRound
     ensures turn { ServerPushed request result transcript.old.turns transcript.new.turns }
-    ensures server { let c = either N.meaning K.meaning in (first : ServerView (SspiContext N K) C) →
-        ServerFollows c first server.old (server_turns transcript.old.turns) →
-        ProxyStays C.told C.failing C.faults first.proxy server.old.proxy →
-        ServerWent c C.told C.faults first result server.new (server_turns transcript.new.turns) }
     ensures server_history { let c = either N.meaning K.meaning in (first : ServerView (SspiContext N K) C) →
         ServerHistory c C.told C.faults C.failing first (server_turns transcript.old.turns) server.old →
-        ServerHistory c C.told C.faults C.failing first (server_turns transcript.new.turns) server.new }
+        ServerRoundPast c C.told C.faults C.failing first result (server_turns transcript.new.turns) server.new }
     ensures proxy { ProxyStays C.told C.failing C.faults server.old.proxy server.new.proxy }
     ensures client { client_turns transcript.new.turns ≡ client_turns transcript.old.turns }
 {

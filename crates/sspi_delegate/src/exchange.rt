@@ -1,22 +1,20 @@
 ghost use Rattle.std.specs.Prelude.{◌≡◌, ℕ, ◌+◌, ◌≤◌, List, [], Err, IfOk, IfErr, OnOk, OnErr};
-ghost use Rattle.sspi_credssp.specs.Client.{ClientView, IsFreshClient};
+ghost use Rattle.sspi_credssp.specs.Client.{ClientView};
 ghost use Rattle.sspi_credssp.specs.Context.{either};
-ghost use Rattle.sspi_credssp.specs.Server.{ServerView, IsFreshServer};
+ghost use Rattle.sspi_credssp.specs.Server.{ServerView};
 ghost use Rattle.sspi_delegate.specs.Asking.{kdc_calls};
-ghost use Rattle.sspi_delegate.specs.ClientRun.{ClientFollows, ClientRan};
 ghost use Rattle.sspi_delegate.specs.Delegates.{around_by, parties, Delegates, Accounts, Stays};
 ghost use Rattle.sspi_delegate.specs.EndTurns.{client_turns, server_turns};
-ghost use Rattle.sspi_delegate.specs.History.{ClientHistory, ClientPast, ServerHistory};
-ghost use Rattle.sspi_delegate.specs.Refusals.{RefusedBy, KdcStays, ProxyStays};
-ghost use Rattle.sspi_delegate.specs.Rounds.{IsNoRefusal, ClientRanHalf, ServerRanHalf};
-ghost use Rattle.sspi_delegate.specs.ServerRun.{ServerFollows, ServerRan, server_end, GivesNewest};
+ghost use Rattle.sspi_delegate.specs.History.{ClientHistory, ClientPast, ServerHistory, ServerPast};
+ghost use Rattle.sspi_delegate.specs.Refusals.{KdcStays, ProxyStays};
+ghost use Rattle.sspi_delegate.specs.Rounds.{IsNoRefusal, ClientHalfPast, ServerHalfPast};
 ghost use Rattle.sspi_delegate.specs.declared.carried.Carried.{Carried};
 ghost use Rattle.sspi_delegate.specs.Causes.{Between, Asked, Turned, Stopped, ClientHalf, ServerHalf, RunEnds, TurnLeft, HasMessage, Given, turns_of, IsAnswerTo};
 ghost use Rattle.sspi_delegate.specs.Headline.{IsFresh};
 ghost use Rattle.sspi_delegate.specs.Link.{StaysTold};
 ghost use Rattle.sspi_delegate.specs.Messages.{newest_message, GiveTold, AnswerTold, RequestTold};
 ghost use Rattle.sspi_delegate.specs.Run.{LoggedButLast};
-ghost use Rattle.sspi_delegate.specs.Turns.{next_end};
+ghost use Rattle.sspi_delegate.specs.Turns.{next_end, AllGoOn};
 
 use crate::answer::{DelegateError, Delegation};
 use crate::carried::End;
@@ -96,20 +94,11 @@ fn rounds<N: Mechanism, K: Mechanism, C: CredentialsProxy, L: Link, D: Kdc>(
     ensures still { AnswerTold (L.edits link.old) (L.faults link.old) (L.faults link.new) result (L.log link.new) (newest_message transcript.new.turns) }
     ensures none { turns ≡ 0 → result ≡ Err DelegateError.TurnsSpent }
     ensures within { IfOk result (λ delegation. delegation.turns ≤ turns) }
-    ensures client { IsFreshClient client.old → transcript.old.turns ≡ [] →
-        ClientRan (either N.meaning K.meaning) client.old client.new (client_turns transcript.new.turns) }
-    ensures server { IsFreshServer server.old → transcript.old.turns ≡ [] →
-        ServerRan (either N.meaning K.meaning) server.old server.new (server_turns transcript.new.turns) }
-    ensures gives { IsFreshServer server.old → transcript.old.turns ≡ [] → IfOk result (λ delegation.
-        GivesNewest (either N.meaning K.meaning) (server_end server.new) (server_turns transcript.new.turns) delegation.credentials) }
-    ensures refused { IsFreshClient client.old → IsFreshServer server.old → transcript.old.turns ≡ [] →
-        RefusedBy (either N.meaning K.meaning) C.told C.faults client.old client.new server.old server.new result
-        (client_turns transcript.new.turns) (server_turns transcript.new.turns) }
     ensures client_history { transcript.old.turns ≡ [] →
         ClientPast (either N.meaning K.meaning) (kdc_calls D.told D.asked D.faults) client.old kdc.old result
         (client_turns transcript.new.turns) client.new kdc.new }
     ensures server_history { transcript.old.turns ≡ [] →
-        ServerHistory (either N.meaning K.meaning) C.told C.faults C.failing server.old (server_turns transcript.new.turns) server.new }
+        ServerPast (either N.meaning K.meaning) C.told C.faults C.failing server.old result (server_turns transcript.new.turns) server.new }
     ensures proxy { ProxyStays C.told C.failing C.faults server.old.proxy server.new.proxy }
     ensures kdc { KdcStays D.told D.faults kdc.old kdc.new }
 {
@@ -148,13 +137,10 @@ fn client_half<N: Mechanism, K: Mechanism, L: Link, D: Kdc>(
     ensures count { OnOk result (turns_of End.Client transcript.new.turns ≡ turns_of End.Client transcript.old.turns + 1) }
     ensures told { StaysTold (L.edits link.old) (L.edits link.new) (L.log link.old) (L.log link.new) }
     ensures still { AnswerTold (L.edits link.old) (L.faults link.old) (L.faults link.new) result (L.log link.new) (newest_message transcript.new.turns) }
-    ensures client { let c = either N.meaning K.meaning in (first : ClientView (SspiContext N K)) →
-        ClientFollows c first client.old (client_turns transcript.old.turns) →
-        ClientRanHalf c first result client.new (client_turns transcript.new.turns) }
     ensures client_history { let c = either N.meaning K.meaning in let k = kdc_calls D.told D.asked D.faults in
-        (first : ClientView (SspiContext N K)) (kdc_first : D) →
+        (first : ClientView (SspiContext N K)) (kdc_first : D) → AllGoOn transcript.old.turns →
         ClientHistory c k first kdc_first (client_turns transcript.old.turns) client.old kdc.old →
-        ClientPast c k first kdc_first result (client_turns transcript.new.turns) client.new kdc.new }
+        ClientHalfPast c k first kdc_first result (client_turns transcript.new.turns) client.new kdc.new }
     ensures kdc { KdcStays D.told D.faults kdc.old kdc.new }
     ensures server { server_turns transcript.new.turns ≡ server_turns transcript.old.turns }
 {
@@ -186,13 +172,9 @@ fn server_half<N: Mechanism, K: Mechanism, C: CredentialsProxy, L: Link>(
     ensures count { OnOk result (turns_of End.Client transcript.new.turns ≡ turns_of End.Client transcript.old.turns) }
     ensures told { StaysTold (L.edits link.old) (L.edits link.new) (L.log link.old) (L.log link.new) }
     ensures still { AnswerTold (L.edits link.old) (L.faults link.old) (L.faults link.new) result (L.log link.new) (newest_message transcript.new.turns) }
-    ensures server { let c = either N.meaning K.meaning in (first : ServerView (SspiContext N K) C) →
-        ServerFollows c first server.old (server_turns transcript.old.turns) →
-        ProxyStays C.told C.failing C.faults first.proxy server.old.proxy →
-        ServerRanHalf c C.told C.faults first result server.new (server_turns transcript.new.turns) }
     ensures server_history { let c = either N.meaning K.meaning in (first : ServerView (SspiContext N K) C) →
         ServerHistory c C.told C.faults C.failing first (server_turns transcript.old.turns) server.old →
-        ServerHistory c C.told C.faults C.failing first (server_turns transcript.new.turns) server.new }
+        ServerHalfPast c C.told C.faults C.failing first result (server_turns transcript.new.turns) server.new }
     ensures proxy { ProxyStays C.told C.failing C.faults server.old.proxy server.new.proxy }
     ensures client { client_turns transcript.new.turns ≡ client_turns transcript.old.turns }
 {

@@ -6,10 +6,12 @@ use Rattle.sspi_credssp.specs.Client.{ClientView}
 use Rattle.sspi_credssp.specs.Context.{ContextSetting}
 use Rattle.sspi_credssp.specs.Turn.{Came, Replied, Ended, Finished, Stopped}
 use Rattle.sspi_credssp.specs.Turn as end
+use Rattle.sspi_delegate.specs.declared.answer.Delegation.{Delegation}
 use Rattle.sspi_delegate.specs.declared.answer.DelegateError.{DelegateError}
 use Rattle.sspi_delegate.specs.declared.answer.DelegateError.TheVariants as errors
 use Rattle.sspi_delegate.specs.Asking.{KdcCalls}
 use Rattle.sspi_delegate.specs.History.{ClientMakes, ClientMade, ClientHistory, ClientPast}
+use Rattle.sspi_delegate.proofs.Histories.{client_stopped_history}
 
 abbrev pub any_calls : KdcCalls (Unit {0})
 any_calls = record { replies = λ kdc asked kdc2. Unit {0}; lost = λ kdc kdc2. Unit {0} }
@@ -25,8 +27,8 @@ module _ {C : Type 0} (c : Meaning ContextSetting C) where
   HistoryAnyhow first [] now = now ≡ first
   HistoryAnyhow first (t ∷ past) now = (old : ClientView C) × HistoryAnyhow first past old × MadeAnyhow old t now
 
-  abbrev pub PastAnyhow : {X : Type 0} → ClientView C → Result X DelegateError → List end.Turn → ClientView C → Type 0
-  PastAnyhow first (Ok x) turns now = HistoryAnyhow first turns now
+  abbrev pub PastAnyhow : ClientView C → Result Delegation DelegateError → List end.Turn → ClientView C → Type 0
+  PastAnyhow first (Ok delegation) turns now = HistoryAnyhow first turns now
   PastAnyhow first (Err errors.InsufficientMemory) turns now = Unit {0}
   PastAnyhow first (Err error) turns now = HistoryAnyhow first turns now
 
@@ -59,10 +61,11 @@ module _ {C : Type 0} (c : Meaning ContextSetting C) where
     history_anyhow first now kdc kdc2 [] h = h.0
     history_anyhow first now kdc kdc2 (t ∷ past) h = (h.0, history_anyhow first h.0 kdc h.1 past h.2, made_anyhow h.0 now h.1 kdc2 t h.3)
 
-    pub past_anyhow : {X : Type 0} (first now : ClientView C) (kdc kdc2 : D) (result : Result X DelegateError) (turns : List end.Turn) →
+    pub past_anyhow : (first now : ClientView C) (kdc kdc2 : D) (result : Result Delegation DelegateError) (turns : List end.Turn) →
         ClientPast c k first kdc result turns now kdc2 → PastAnyhow first result turns now
-    past_anyhow first now kdc kdc2 (Ok x) turns h = history_anyhow first now kdc kdc2 turns h
-    past_anyhow first now kdc kdc2 (Err (errors.Client error)) turns h = history_anyhow first now kdc kdc2 turns h
+    past_anyhow first now kdc kdc2 (Ok delegation) turns h = history_anyhow first now kdc kdc2 turns h
+    past_anyhow first now kdc kdc2 (Err (errors.Client error)) turns h =
+        history_anyhow first now kdc kdc2 turns (client_stopped_history c k first now kdc kdc2 error turns h)
     past_anyhow first now kdc kdc2 (Err (errors.Server error)) turns h = history_anyhow first now kdc kdc2 turns h
     past_anyhow first now kdc kdc2 (Err (errors.Read to kind)) turns h = history_anyhow first now kdc kdc2 turns h
     past_anyhow first now kdc kdc2 (Err (errors.Write from)) turns h = history_anyhow first now kdc kdc2 turns h

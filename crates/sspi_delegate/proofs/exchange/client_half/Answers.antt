@@ -1,10 +1,9 @@
-use Rattle.std.proofs.Common.{Err}
 use Rattle.sspi_delegate.specs.declared.carried.End.TheVariants.{Client}
 use Rattle.sspi_credssp.specs.Context.{either}
+use Rattle.sspi_delegate.proofs.Alternating.{clients_went}
 use Rattle.sspi_delegate.proofs.Halves.{client_half_stopped, client_half_refused}
 use Rattle.sspi_delegate.proofs.LogSteps.{turned, lost, client_refused}
 use Rattle.sspi_delegate.specs.Asking.{kdc_calls}
-use Rattle.sspi_delegate.proofs.Histories.{client_past}
 use Rattle.sspi_delegate.proofs.exchange.client_half.Goals as goal
 
 pub returns-in-Ok-give-clause-half : goal.returns-in-Ok-give-clause-half
@@ -26,43 +25,27 @@ pub returns-in-Lost-clause-half : goal.returns-in-Lost-clause-half
 returns-in-Lost-clause-half g c base start limit next left w =
     lost base start limit c.in-Ok.request _ _ _ _ (c.in-Ok.ensures.ok base start w) c.in-Lost.ensures.turn
 
-pub returns-in-Ok-give-clause-client : goal.returns-in-Ok-give-clause-client
-returns-in-Ok-give-clause-client g c first follows = c.in-Replied.ensures.client first follows
-
-pub returns-in-Err-give-clause-client : goal.returns-in-Err-give-clause-client
-returns-in-Err-give-clause-client g c first follows =
-    client_half_stopped (either g.N.Mechanism.meaning g.K.Mechanism.meaning) first c.client_round.new.client _ c.in-Err-give.error
-    c.in-Err-give.ensures.link (c.in-Replied.ensures.client first follows).ran
-
-pub returns-in-Refused-clause-client : goal.returns-in-Refused-clause-client
-returns-in-Refused-clause-client g c first follows =
-    client_half_refused (either g.N.Mechanism.meaning g.K.Mechanism.meaning) first c.client_round.new.client _ c.in-Refused.error c.client_error.result
-    c.client_error.ensures (c.in-Refused.ensures.client first follows)
-
-pub returns-in-Lost-clause-client : goal.returns-in-Lost-clause-client
-returns-in-Lost-clause-client g c first follows = c.in-Lost.ensures.client first follows
-
-pub returns-in-Err-clause-client : goal.returns-in-Err-clause-client
-returns-in-Err-clause-client g c first follows =
-    client_half_stopped (either g.N.Mechanism.meaning g.K.Mechanism.meaning) first c.args.client.now _ c.in-Err.error c.in-Err.ensures.link follows.ran
-
 pub returns-in-Ok-give-clause-client_history : goal.returns-in-Ok-give-clause-client_history
-returns-in-Ok-give-clause-client_history g c first kdc_first history = c.in-Replied.ensures.client_history first kdc_first history
+returns-in-Ok-give-clause-client_history g c first kdc_first going history =
+    c.in-Replied.ensures.client_history first kdc_first (clients_went _ going) history
 
 pub returns-in-Err-give-clause-client_history : goal.returns-in-Err-give-clause-client_history
-returns-in-Err-give-clause-client_history g c first kdc_first history =
-    client_past (either g.N.Mechanism.meaning g.K.Mechanism.meaning) (kdc_calls g.D.Kdc.told g.D.Kdc.asked g.D.Kdc.faults) {X = Unit {0}} first c.client_round.new.client kdc_first
-    c.client_round.new.kdc _ (Err c.in-Err-give.error) (c.in-Replied.ensures.client_history first kdc_first history)
+returns-in-Err-give-clause-client_history g c first kdc_first going history =
+    client_half_stopped (either g.N.Mechanism.meaning g.K.Mechanism.meaning) (kdc_calls g.D.Kdc.told g.D.Kdc.asked g.D.Kdc.faults) first c.client_round.new.client kdc_first
+    c.client_round.new.kdc _ c.in-Err-give.error c.in-Err-give.ensures.link
+    (c.in-Replied.ensures.client_history first kdc_first (clients_went _ going) history)
 
 pub returns-in-Refused-clause-client_history : goal.returns-in-Refused-clause-client_history
-returns-in-Refused-clause-client_history g c first kdc_first history =
-    client_past (either g.N.Mechanism.meaning g.K.Mechanism.meaning) (kdc_calls g.D.Kdc.told g.D.Kdc.asked g.D.Kdc.faults) {X = Unit {0}} first c.client_round.new.client kdc_first
-    c.client_round.new.kdc _ (Err c.client_error.result) (c.in-Refused.ensures.client_history first kdc_first history)
+returns-in-Refused-clause-client_history g c first kdc_first going history =
+    client_half_refused (either g.N.Mechanism.meaning g.K.Mechanism.meaning) (kdc_calls g.D.Kdc.told g.D.Kdc.asked g.D.Kdc.faults) first c.client_round.new.client kdc_first
+    c.client_round.new.kdc _ c.in-Refused.error c.client_error.result c.client_error.ensures
+    (c.in-Refused.ensures.client_history first kdc_first (clients_went _ going) history)
 
 pub returns-in-Lost-clause-client_history : goal.returns-in-Lost-clause-client_history
-returns-in-Lost-clause-client_history g c first kdc_first history = c.in-Lost.ensures.client_history first kdc_first history
+returns-in-Lost-clause-client_history g c first kdc_first going history =
+    c.in-Lost.ensures.client_history first kdc_first (clients_went _ going) history
 
 pub returns-in-Err-clause-client_history : goal.returns-in-Err-clause-client_history
-returns-in-Err-clause-client_history g c first kdc_first history =
-    client_past (either g.N.Mechanism.meaning g.K.Mechanism.meaning) (kdc_calls g.D.Kdc.told g.D.Kdc.asked g.D.Kdc.faults) {X = Unit {0}} first c.args.client.now kdc_first
-    c.args.kdc.now _ (Err c.in-Err.error) history
+returns-in-Err-clause-client_history g c first kdc_first going history =
+    client_half_stopped (either g.N.Mechanism.meaning g.K.Mechanism.meaning) (kdc_calls g.D.Kdc.told g.D.Kdc.asked g.D.Kdc.faults) first c.args.client.now kdc_first
+    c.args.kdc.now _ c.in-Err.error c.in-Err.ensures.link history

@@ -1,6 +1,11 @@
+use Rattle.sspi_mech.proofs.ContextLaws.{contextual}
+use Rattle.sspi_credssp.proofs.ContextLaws.{lawful}
 use Rattle.sspi_credssp.specs.Context.{either}
+use Rattle.sspi_delegate.specs.Asking.{kdc_calls}
+use Rattle.sspi_delegate.proofs.Alternating.{clients_others, servers_others}
 use Rattle.sspi_delegate.proofs.Exactness.{exactly}
 use Rattle.sspi_delegate.proofs.Headline.{run_log, run_order, sealed_once, seals_after_proof, server_never_seals, exchanged_ok}
+use Rattle.sspi_delegate.proofs.HistoryRuns.{client_past_ran, server_past_ran, server_past_gives, past_refused}
 use Rattle.sspi_delegate.proofs.exchange.delegate.Goals as goal
 
 pub returns-clause-stays : goal.returns-clause-stays
@@ -24,22 +29,28 @@ returns-clause-accounts g c empty = record {
 pub returns-clause-delegates : goal.returns-clause-delegates
 returns-clause-delegates g c fresh =
     let m = either g.N.Mechanism.meaning g.K.Mechanism.meaning in
+    let law = lawful _ _ (contextual _ g.N.Mechanism.meaning g.met.N.Mechanism.laws) (contextual _ g.K.Mechanism.meaning g.met.K.Mechanism.laws) in
+    let k = kdc_calls g.D.Kdc.told g.D.Kdc.asked g.D.Kdc.faults in
+    let turns = c.rounds.new.transcript.turns in
+    let result = c.rounds.result in
     let cause = c.rounds.ensures.cause fresh.empty in
-    let client = c.rounds.ensures.client fresh.client_is fresh.empty in
-    let server = c.rounds.ensures.server fresh.server_is fresh.empty in
+    let client_past = c.rounds.ensures.client_history fresh.empty in
+    let server_past = c.rounds.ensures.server_history fresh.empty in
+    let order = run_order _ _ _ _ _ _ _ cause in
+    let client = client_past_ran m law k _ _ _ _ _ result fresh.client_is (clients_others turns order) client_past in
+    let server = server_past_ran m law g.C.CredentialsProxy.told g.C.CredentialsProxy.faults g.C.CredentialsProxy.failing _ _ _ result fresh.server_is
+    (servers_others turns order) server_past in
     record {
-      the_turns_are_a_run = record {
-        order = run_order _ _ _ _ _ _ _ cause;
-        entries = run_log _ _ _ _ _ _ _ cause;
-        client_ran = client;
-        server_ran = server;
-      };
-      credentials_are_sealed_at_most_once = sealed_once m _ _ c.rounds.new.transcript.turns client.each client.others server.each;
+      the_turns_are_a_run = record { order = order; entries = run_log _ _ _ _ _ _ _ cause; client_ran = client; server_ran = server };
+      credentials_are_sealed_at_most_once = sealed_once m _ _ turns client.each client.others server.each;
       the_client_seals_after_the_proof = seals_after_proof m _ _ client.each;
       the_server_never_seals = server_never_seals m _ _ server.each;
-      the_identity_is_what_was_opened_last = c.rounds.ensures.gives fresh.server_is fresh.empty;
+      the_identity_is_what_was_opened_last =
+          server_past_gives m law g.C.CredentialsProxy.told g.C.CredentialsProxy.faults g.C.CredentialsProxy.failing _ _ _ result server_past;
       both_proofs_came_before_ok = exchanged_ok m _ _ _ _ _ _ _ cause _ server.each;
-      a_refusal_has_its_cause = c.rounds.ensures.refused fresh.client_is fresh.server_is fresh.empty;
+      a_refusal_has_its_cause =
+          past_refused m law g.C.CredentialsProxy.told g.C.CredentialsProxy.faults g.C.CredentialsProxy.failing k _ _ _ _ _ _ _ _ result
+          fresh.client_is fresh.server_is (clients_others turns order) (servers_others turns order) client_past server_past;
       accounts = returns-clause-accounts g c fresh.empty;
       stays = returns-clause-stays g c;
     }

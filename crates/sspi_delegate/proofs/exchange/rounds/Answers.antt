@@ -1,17 +1,14 @@
-use Rattle.std.proofs.Common.{◌+◌, ap, sym, ◌∙◌, refl, arith, Option, Err}
+use Rattle.std.proofs.Common.{◌+◌, ap, sym, ◌∙◌, refl, arith, Option}
 use Rattle.sspi_names.specs.declared.identity.AuthIdentity.{AuthIdentity}
 use Rattle.sspi_delegate.specs.declared.answer.Delegation.{Delegation}
 use Rattle.sspi_delegate.specs.Causes.{Between}
 use Rattle.sspi_delegate.proofs.LogSteps.{at_first, left_at, spent}
-use Rattle.sspi_delegate.proofs.ClientSteps.{client_fresh}
-use Rattle.sspi_delegate.proofs.ServerSteps.{server_fresh}
 use Rattle.sspi_credssp.specs.Context.{either}
-use Rattle.sspi_delegate.proofs.Halves.{client_half_ran, server_half_ran, refused_by_client, refused_by_server}
+use Rattle.sspi_delegate.proofs.Halves.{client_half_past, server_beside, client_beside, server_half_past}
 use Rattle.sspi_delegate.specs.Asking.{kdc_calls}
 use Rattle.sspi_delegate.proofs.Asking.{kdc_on}
 use Rattle.sspi_delegate.proofs.Refusing.{proxy_on}
 use Rattle.sspi_delegate.proofs.Reading.{stays_on, still_first, still_on, still_spent, still_stopped}
-use Rattle.sspi_delegate.proofs.Histories.{client_past, client_past_on}
 use Rattle.sspi_delegate.proofs.exchange.rounds.Goals as goal
 
 pub returns-in-Err-clause-cause : goal.returns-in-Err-clause-cause
@@ -38,8 +35,6 @@ returns-in-Err-server_half-clause-cause g c empty =
 pub loop-turn-init : goal.loop-turn-init
 loop-turn-init g c = record {
   at_turn = λ empty. at_first _ _ _ empty;
-  client = λ fresh empty. rw empty (client_fresh _ c.args.client.now fresh);
-  server = λ fresh empty. rw empty (server_fresh _ c.args.server.now fresh);
   client_history = λ empty. rw empty (refl, refl);
   server_history = λ empty. rw empty refl;
   told = record { same = refl; follows = λ h. h };
@@ -59,11 +54,12 @@ loop-turn-preserved g c = record {
         next = c.in-Ok-None.ensures.next;
         made = c.in-Ok-None.ensures.count ∙ c.in-Ok.ensures.count ∙ ap (λ n. n + 1) at.made;
       };
-  client = λ fresh empty. rw c.in-Ok-None.ensures.client (c.in-Ok.ensures.client _ (c.loop-turn.invariant.client fresh empty));
-  server = λ fresh empty.
-      rw c.in-Ok-None.field-0-is at (c.in-Ok-None.ensures.server c.args.server.now (rw c.in-Ok.ensures.server (c.loop-turn.invariant.server fresh empty)) c.loop-turn.invariant.proxy);
-  client_history = λ empty. rw c.in-Ok-None.ensures.client (c.in-Ok.ensures.client_history _ _ (c.loop-turn.invariant.client_history empty));
-  server_history = λ empty. c.in-Ok-None.ensures.server_history _ (rw c.in-Ok.ensures.server (c.loop-turn.invariant.server_history empty));
+  client_history = λ empty.
+      rw c.in-Ok-None.ensures.client
+      (c.in-Ok.ensures.client_history _ _ (c.loop-turn.invariant.at_turn empty).between.going (c.loop-turn.invariant.client_history empty));
+  server_history = λ empty.
+      rw c.in-Ok-None.field-0-is at
+      (c.in-Ok-None.ensures.server_history c.args.server.now (rw c.in-Ok.ensures.server (c.loop-turn.invariant.server_history empty)));
   proxy = proxy_on _ _ _ _ _ _ c.loop-turn.invariant.proxy c.in-Ok-None.ensures.proxy;
   kdc = kdc_on _ _ _ _ _ c.loop-turn.invariant.kdc c.in-Ok.ensures.kdc;
   told = stays_on _ _ _ _ _ _ c.loop-turn.invariant.told (stays_on _ _ _ _ _ _ c.in-Ok.ensures.told c.in-Ok-None.ensures.told);
@@ -77,73 +73,40 @@ returns-clause-cause g c empty = spent _ _ _ _ _ _ _ (c.loop-turn.invariant.at_t
 pub returns-clause-still : goal.returns-clause-still
 returns-clause-still g c = still_spent _ _ _ _ _ _ c.loop-turn.invariant.still
 
-pub returns-in-Err-clause-client : goal.returns-in-Err-clause-client
-returns-in-Err-clause-client g c fresh empty =
-    client_half_ran (either g.N.Mechanism.meaning g.K.Mechanism.meaning) _ _ _ _ (c.in-Err.ensures.client _ (c.loop-turn.invariant.client fresh empty))
-
-pub returns-in-Err-clause-refused : goal.returns-in-Err-clause-refused
-returns-in-Err-clause-refused g c client server empty =
-    refused_by_client (either g.N.Mechanism.meaning g.K.Mechanism.meaning) g.C.CredentialsProxy.told g.C.CredentialsProxy.faults _ _ _ _ _ _ _
-    (c.in-Err.ensures.client _ (c.loop-turn.invariant.client client empty))
-
-pub returns-in-Err-clause-server : goal.returns-in-Err-clause-server
-returns-in-Err-clause-server g c fresh empty = rw c.in-Err.ensures.server (c.loop-turn.invariant.server fresh empty).ran
-
-pub returns-in-Ok-Some-clause-client : goal.returns-in-Ok-Some-clause-client
-returns-in-Ok-Some-clause-client g c fresh empty =
-    rw c.in-Ok-Some.ensures.client (c.in-Ok.ensures.client _ (c.loop-turn.invariant.client fresh empty)).ran
-
-pub returns-in-Ok-Some-clause-server : goal.returns-in-Ok-Some-clause-server
-returns-in-Ok-Some-clause-server g c fresh empty =
-    (rw c.in-Ok-Some.field-0-is at (c.in-Ok-Some.ensures.server c.args.server.now (rw c.in-Ok.ensures.server (c.loop-turn.invariant.server fresh empty)) c.loop-turn.invariant.proxy)).0
-
-pub returns-in-Ok-Some-clause-gives : goal.returns-in-Ok-Some-clause-gives
-returns-in-Ok-Some-clause-gives g c fresh empty =
-    (rw c.in-Ok-Some.field-0-is at (c.in-Ok-Some.ensures.server c.args.server.now (rw c.in-Ok.ensures.server (c.loop-turn.invariant.server fresh empty)) c.loop-turn.invariant.proxy)).1
-
-pub returns-in-Err-server_half-clause-client : goal.returns-in-Err-server_half-clause-client
-returns-in-Err-server_half-clause-client g c fresh empty =
-    rw c.in-Err-server_half.ensures.client (c.in-Ok.ensures.client _ (c.loop-turn.invariant.client fresh empty)).ran
-
-pub returns-in-Err-server_half-clause-server : goal.returns-in-Err-server_half-clause-server
-returns-in-Err-server_half-clause-server g c fresh empty =
-    server_half_ran (either g.N.Mechanism.meaning g.K.Mechanism.meaning) g.C.CredentialsProxy.told g.C.CredentialsProxy.faults _ _ _ _
-    (c.in-Err-server_half.ensures.server c.args.server.now (rw c.in-Ok.ensures.server (c.loop-turn.invariant.server fresh empty)) c.loop-turn.invariant.proxy)
-
-pub returns-in-Err-server_half-clause-refused : goal.returns-in-Err-server_half-clause-refused
-returns-in-Err-server_half-clause-refused g c client server empty =
-    refused_by_server (either g.N.Mechanism.meaning g.K.Mechanism.meaning) g.C.CredentialsProxy.told g.C.CredentialsProxy.faults _ _ _ _ _ _ _
-    (c.in-Err-server_half.ensures.server c.args.server.now (rw c.in-Ok.ensures.server (c.loop-turn.invariant.server server empty)) c.loop-turn.invariant.proxy)
-
-pub returns-clause-client : goal.returns-clause-client
-returns-clause-client g c fresh empty = (c.loop-turn.invariant.client fresh empty).ran
-
-pub returns-clause-server : goal.returns-clause-server
-returns-clause-server g c fresh empty = (c.loop-turn.invariant.server fresh empty).ran
-
 pub returns-in-Err-clause-client_history : goal.returns-in-Err-clause-client_history
 returns-in-Err-clause-client_history g c empty =
-    client_past_on (either g.N.Mechanism.meaning g.K.Mechanism.meaning) (kdc_calls g.D.Kdc.told g.D.Kdc.asked g.D.Kdc.faults) (Unit {0}) Delegation _ _ _ _ _ c.in-Err.error (c.in-Err.ensures.client_history _ _ (c.loop-turn.invariant.client_history empty))
+    client_half_past (either g.N.Mechanism.meaning g.K.Mechanism.meaning) (kdc_calls g.D.Kdc.told g.D.Kdc.asked g.D.Kdc.faults) _ _ _ _ _ c.in-Err.error
+    (c.in-Err.ensures.client_history _ _ (c.loop-turn.invariant.at_turn empty).between.going (c.loop-turn.invariant.client_history empty))
 
 pub returns-in-Err-clause-server_history : goal.returns-in-Err-clause-server_history
-returns-in-Err-clause-server_history g c empty = rw c.in-Err.ensures.server (c.loop-turn.invariant.server_history empty)
+returns-in-Err-clause-server_history g c empty =
+    server_beside (either g.N.Mechanism.meaning g.K.Mechanism.meaning) (kdc_calls g.D.Kdc.told g.D.Kdc.asked g.D.Kdc.faults) g.C.CredentialsProxy.told g.C.CredentialsProxy.faults g.C.CredentialsProxy.failing
+    _ _ _ _ _ c.in-Err.error _ _ _
+    (c.in-Err.ensures.client_history _ _ (c.loop-turn.invariant.at_turn empty).between.going (c.loop-turn.invariant.client_history empty))
+    (rw c.in-Err.ensures.server (c.loop-turn.invariant.server_history empty))
 
 pub returns-in-Ok-Some-clause-client_history : goal.returns-in-Ok-Some-clause-client_history
 returns-in-Ok-Some-clause-client_history g c empty =
-    rw c.in-Ok-Some.ensures.client (c.in-Ok.ensures.client_history _ _ (c.loop-turn.invariant.client_history empty))
+    rw c.in-Ok-Some.ensures.client
+    (c.in-Ok.ensures.client_history _ _ (c.loop-turn.invariant.at_turn empty).between.going (c.loop-turn.invariant.client_history empty))
 
 pub returns-in-Ok-Some-clause-server_history : goal.returns-in-Ok-Some-clause-server_history
 returns-in-Ok-Some-clause-server_history g c empty =
-    c.in-Ok-Some.ensures.server_history _ (rw c.in-Ok.ensures.server (c.loop-turn.invariant.server_history empty))
+    rw c.in-Ok-Some.field-0-is at
+    (c.in-Ok-Some.ensures.server_history c.args.server.now (rw c.in-Ok.ensures.server (c.loop-turn.invariant.server_history empty)))
 
 pub returns-in-Err-server_half-clause-client_history : goal.returns-in-Err-server_half-clause-client_history
 returns-in-Err-server_half-clause-client_history g c empty =
-    client_past (either g.N.Mechanism.meaning g.K.Mechanism.meaning) (kdc_calls g.D.Kdc.told g.D.Kdc.asked g.D.Kdc.faults) {X = Delegation} _ _ _ _ _ (Err c.in-Err-server_half.error)
-    (rw c.in-Err-server_half.ensures.client (c.in-Ok.ensures.client_history _ _ (c.loop-turn.invariant.client_history empty)))
+    client_beside (either g.N.Mechanism.meaning g.K.Mechanism.meaning) (kdc_calls g.D.Kdc.told g.D.Kdc.asked g.D.Kdc.faults) g.C.CredentialsProxy.told g.C.CredentialsProxy.faults g.C.CredentialsProxy.failing
+    _ _ _ _ _ c.in-Err-server_half.error _ _ _
+    (c.in-Err-server_half.ensures.server_history c.args.server.now (rw c.in-Ok.ensures.server (c.loop-turn.invariant.server_history empty)))
+    (rw c.in-Err-server_half.ensures.client
+    (c.in-Ok.ensures.client_history _ _ (c.loop-turn.invariant.at_turn empty).between.going (c.loop-turn.invariant.client_history empty)))
 
 pub returns-in-Err-server_half-clause-server_history : goal.returns-in-Err-server_half-clause-server_history
 returns-in-Err-server_half-clause-server_history g c empty =
-    c.in-Err-server_half.ensures.server_history _ (rw c.in-Ok.ensures.server (c.loop-turn.invariant.server_history empty))
+    server_half_past (either g.N.Mechanism.meaning g.K.Mechanism.meaning) g.C.CredentialsProxy.told g.C.CredentialsProxy.faults g.C.CredentialsProxy.failing _ _ _ c.in-Err-server_half.error
+    (c.in-Err-server_half.ensures.server_history c.args.server.now (rw c.in-Ok.ensures.server (c.loop-turn.invariant.server_history empty)))
 
 pub returns-clause-client_history : goal.returns-clause-client_history
 returns-clause-client_history g c empty = c.loop-turn.invariant.client_history empty

@@ -1,13 +1,9 @@
 use Rattle.std.proofs.Common.{◌≡◌, []}
-use Rattle.sspi_credssp.specs.Client.{IsFreshClient}
 use Rattle.sspi_credssp.specs.Context.{either}
-use Rattle.sspi_credssp.specs.Server.{IsFreshServer}
 use Rattle.sspi_delegate.specs.Asking.{kdc_calls}
-use Rattle.sspi_delegate.specs.ClientRun.{ClientFollows}
 use Rattle.sspi_delegate.specs.EndTurns.{client_turns, server_turns}
 use Rattle.sspi_delegate.specs.History.{ClientHistory, ServerHistory}
 use Rattle.sspi_delegate.specs.Refusals.{KdcStays, ProxyStays}
-use Rattle.sspi_delegate.specs.ServerRun.{ServerFollows}
 use Rattle.sspi_delegate.specs.Link.{StaysTold}
 use Rattle.sspi_delegate.proofs.Reading.{IsStill}
 use Rattle.sspi_delegate.proofs.LogSteps.{IsAtTurn}
@@ -18,10 +14,6 @@ invariant-loop-turn g l = record {
   at_turn : l.fn.transcript.turns ≡ [] →
       IsAtTurn (g.L.Link.log l.fn.link) (g.L.Link.faults l.fn.link) l.transcript.turns (g.L.Link.log l.link) (g.L.Link.faults l.link) l.turn;
   told : StaysTold (g.L.Link.edits l.fn.link) (g.L.Link.edits l.link) (g.L.Link.log l.fn.link) (g.L.Link.log l.link);
-  client : IsFreshClient l.fn.client → l.fn.transcript.turns ≡ [] →
-      ClientFollows (either g.N.Mechanism.meaning g.K.Mechanism.meaning) l.fn.client l.client (client_turns l.transcript.turns);
-  server : IsFreshServer l.fn.server → l.fn.transcript.turns ≡ [] →
-      ServerFollows (either g.N.Mechanism.meaning g.K.Mechanism.meaning) l.fn.server l.server (server_turns l.transcript.turns);
   client_history : l.fn.transcript.turns ≡ [] →
       ClientHistory (either g.N.Mechanism.meaning g.K.Mechanism.meaning) (kdc_calls g.D.Kdc.told g.D.Kdc.asked g.D.Kdc.faults)
       l.fn.client l.fn.kdc (client_turns l.transcript.turns) l.client l.kdc;

@@ -37,44 +37,29 @@ pub returns-in-Lost-clause-half : goal.returns-in-Lost-clause-half
 returns-in-Lost-clause-half g c base start limit next w =
     lost base start limit c.in-Ok.request _ _ _ _ (c.in-Ok.ensures.ok base start w) c.in-Lost.ensures.turn
 
-pub returns-in-Ok-give-clause-server : goal.returns-in-Ok-give-clause-server
-returns-in-Ok-give-clause-server g c first follows proxy = c.in-Replied.ensures.server first follows proxy
-
-pub returns-in-Err-give-clause-server : goal.returns-in-Err-give-clause-server
-returns-in-Err-give-clause-server g c first follows proxy =
-    server_half_stopped (either g.N.Mechanism.meaning g.K.Mechanism.meaning) g.C.CredentialsProxy.told g.C.CredentialsProxy.faults first
-    c.server_round.new.server _ c.in-Err-give.error c.in-Err-give.ensures.link (c.in-Replied.ensures.server first follows proxy).ran
-
-pub returns-in-Finished-clause-server : goal.returns-in-Finished-clause-server
-returns-in-Finished-clause-server g c first follows proxy = c.in-Finished.ensures.server first follows proxy
-
-pub returns-in-Refused-clause-server : goal.returns-in-Refused-clause-server
-returns-in-Refused-clause-server g c first follows proxy =
-    server_half_refused (either g.N.Mechanism.meaning g.K.Mechanism.meaning) g.C.CredentialsProxy.told g.C.CredentialsProxy.faults first
-    c.server_round.new.server _ c.in-Refused.error c.server_error.result c.server_error.ensures (c.in-Refused.ensures.server first follows proxy)
-
-pub returns-in-Lost-clause-server : goal.returns-in-Lost-clause-server
-returns-in-Lost-clause-server g c first follows proxy = c.in-Lost.ensures.server first follows proxy
-
-pub returns-in-Err-clause-server : goal.returns-in-Err-clause-server
-returns-in-Err-clause-server g c first follows proxy =
-    server_half_stopped (either g.N.Mechanism.meaning g.K.Mechanism.meaning) g.C.CredentialsProxy.told g.C.CredentialsProxy.faults first
-    c.args.server.now _ c.in-Err.error c.in-Err.ensures.link follows.ran
-
 pub returns-in-Ok-give-clause-server_history : goal.returns-in-Ok-give-clause-server_history
 returns-in-Ok-give-clause-server_history g c first history = c.in-Replied.ensures.server_history first history
 
 pub returns-in-Err-give-clause-server_history : goal.returns-in-Err-give-clause-server_history
-returns-in-Err-give-clause-server_history g c first history = c.in-Replied.ensures.server_history first history
+returns-in-Err-give-clause-server_history g c first history =
+    server_half_stopped (either g.N.Mechanism.meaning g.K.Mechanism.meaning) g.C.CredentialsProxy.told g.C.CredentialsProxy.faults g.C.CredentialsProxy.failing first
+    c.server_round.new.server _ c.in-Err-give.error c.in-Err-give.ensures.link (c.in-Replied.ensures.server_history first history)
 
 pub returns-in-Finished-clause-server_history : goal.returns-in-Finished-clause-server_history
 returns-in-Finished-clause-server_history g c first history = c.in-Finished.ensures.server_history first history
 
 pub returns-in-Refused-clause-server_history : goal.returns-in-Refused-clause-server_history
-returns-in-Refused-clause-server_history g c first history = c.in-Refused.ensures.server_history first history
+returns-in-Refused-clause-server_history g c first history =
+    server_half_refused (either g.N.Mechanism.meaning g.K.Mechanism.meaning) g.C.CredentialsProxy.told g.C.CredentialsProxy.faults g.C.CredentialsProxy.failing first
+    c.server_round.new.server _ c.in-Refused.error c.server_error.result c.server_error.ensures (c.in-Refused.ensures.server_history first history)
 
 pub returns-in-Lost-clause-server_history : goal.returns-in-Lost-clause-server_history
 returns-in-Lost-clause-server_history g c first history = c.in-Lost.ensures.server_history first history
+
+pub returns-in-Err-clause-server_history : goal.returns-in-Err-clause-server_history
+returns-in-Err-clause-server_history g c first history =
+    server_half_stopped (either g.N.Mechanism.meaning g.K.Mechanism.meaning) g.C.CredentialsProxy.told g.C.CredentialsProxy.faults g.C.CredentialsProxy.failing first
+    c.args.server.now _ c.in-Err.error c.in-Err.ensures.link history
 
 pub returns-in-Refused-clause-still : goal.returns-in-Refused-clause-still
 returns-in-Refused-clause-still g c =

@@ -1,4 +1,7 @@
+use Rattle.sspi_mech.specs.Ntlm.{ntlm_meaning}
+use Rattle.sspi_credssp.specs.Context.{either}
 use Rattle.sspi_delegate.specs.Asking.{kdc_calls}
+use Rattle.sspi_delegate.proofs.Histories.{server_past_history}
 use Rattle.sspi_matching.proofs.ThreeTurns.{ok_three, too_few}
 use Rattle.sspi_matching.proofs.Outcome.{calm_by, comes_to_ok, cut_short, settled_so}
 use Rattle.sspi_matching.proofs.plain.delegate_plainly.Goals as goal
@@ -8,7 +11,8 @@ returns-clause-three g c fresh =
     let made = c.delegate.ensures.delegates fresh in
     ok_three g.K.Mechanism.meaning g.C.CredentialsProxy.told g.C.CredentialsProxy.faults g.C.CredentialsProxy.failing _ _ _ _ _ _ _ _ _
     made.accounts.turns_and_log_show_the_answer fresh.server_is made.the_turns_are_a_run.server_ran.others
-    made.both_proofs_came_before_ok made.accounts.server_turns_are_its_calls
+    made.both_proofs_came_before_ok (server_past_history (either ntlm_meaning g.K.Mechanism.meaning) g.C.CredentialsProxy.told g.C.CredentialsProxy.faults g.C.CredentialsProxy.failing _ _ _ _
+    made.accounts.server_turns_are_its_calls)
 
 pub returns-clause-few : goal.returns-clause-few
 returns-clause-few g c fresh few = too_few _ _ (returns-clause-three g c fresh) c.delegate.ensures.stays.ok_comes_within_the_limit few
@@ -22,7 +26,8 @@ returns-clause-comes g c matching fresh undisturbed none enough =
     fresh.client_is fresh.server_is matching _ _ _ c.args.turns c.delegate.new.client c.delegate.new.server
     (kdc_calls g.D.Kdc.told g.D.Kdc.asked g.D.Kdc.faults) _ _ _ _ _ _ _ undisturbed
     made.accounts.turns_and_log_show_the_answer stays.the_link_tells_what_it_told stays.the_link_fails_where_its_edits_say_so
-    made.accounts.client_turns_are_its_calls made.accounts.server_turns_are_its_calls
+    made.accounts.client_turns_are_its_calls (server_past_history (either ntlm_meaning g.K.Mechanism.meaning) g.C.CredentialsProxy.told g.C.CredentialsProxy.faults g.C.CredentialsProxy.failing _ _ _ _
+    made.accounts.server_turns_are_its_calls)
     (calm_by _ _ _ none stays.the_proxy_tells_what_it_told.calm) made.the_identity_is_what_was_opened_last)
 
 pub returns-clause-short : goal.returns-clause-short
@@ -34,5 +39,6 @@ returns-clause-short g c matching fresh undisturbed none few =
     fresh.client_is fresh.server_is matching _ _ _ c.args.turns c.delegate.new.client c.delegate.new.server
     (kdc_calls g.D.Kdc.told g.D.Kdc.asked g.D.Kdc.faults) _ _ _ _ _ _ _ undisturbed
     made.accounts.turns_and_log_show_the_answer stays.the_link_tells_what_it_told stays.the_link_fails_where_its_edits_say_so
-    made.accounts.client_turns_are_its_calls made.accounts.server_turns_are_its_calls
+    made.accounts.client_turns_are_its_calls (server_past_history (either ntlm_meaning g.K.Mechanism.meaning) g.C.CredentialsProxy.told g.C.CredentialsProxy.faults g.C.CredentialsProxy.failing _ _ _ _
+    made.accounts.server_turns_are_its_calls)
     (calm_by _ _ _ none stays.the_proxy_tells_what_it_told.calm) made.the_identity_is_what_was_opened_last)

@@ -4,12 +4,13 @@ use Rattle.sspi_delegate.specs.Edits.{MemoryLinkView, FollowsEdits}
 use Rattle.sspi_delegate.specs.declared.edit.Edit.{Edit}
 use Rattle.sspi_delegate.specs.Headline.{IsFresh}
 use Rattle.sspi_delegate.specs.Link.{StaysTold}
+use Rattle.sspi_delegate.proofs.Histories.{server_past_history}
 use Rattle.sspi_mech.specs.Ntlm.{ntlm_meaning}
 use Rattle.sspi_tsreq.specs.declared.mode.CredSspMode.{CredSspMode}
 use Rattle.sspi_matching.specs.Matching.{delegated_as, ComesToOk}
 use Rattle.sspi_matching.proofs.ThreeTurns.{ok_three}
 use Rattle.sspi_matching.proofs.Outcome.{calm_by, comes_to_ok, cut_short, settled_so, Settled}
-use Rattle.sspi_run.specs.Exchange.{around, told_entries, told_failing, table_faults}
+use Rattle.sspi_run.specs.Exchange.{ntlm, around, told_entries, told_failing, table_faults}
 use Rattle.sspi_run.specs.Outcome.{user_identity, IsPlain}
 use Rattle.sspi_run.proofs.Plainly.{plain_match, plain_link, plain_proxy}
 use Rattle.sspi_run.proofs.exchange.meet.Goals as goal
@@ -53,18 +54,19 @@ returns-clause-outcome c ends values =
     record { client_is = ends.client_fresh; server_is = ends.server_fresh; empty = empty } in
     let delegates = ensures.delegates fresh in
     let stays = ensures.stays in
+    let server_history = server_past_history ntlm told_entries table_faults told_failing server made.server _ answer delegates.accounts.server_turns_are_its_calls in
     let settles : (plain : IsPlain s) → Settled s.turns (delegated_as client.delegation (user_identity s)) answer =
     λ plain. settled_so ntlm_meaning told_entries table_faults told_failing client server ends.client_fresh ends.server_fresh
     (plain_match s client server ends.client_named ends.server_named values plain) _ _ _ s.turns made.client made.server (calls_of_kdc around) _ _ _ _ _ _ _
     (plain_link s c.args.ends.link made.link.log made.link.faults ends.link plain)
     delegates.accounts.turns_and_log_show_the_answer stays.the_link_tells_what_it_told stays.the_link_fails_where_its_edits_say_so
-    delegates.accounts.client_turns_are_its_calls delegates.accounts.server_turns_are_its_calls
+    delegates.accounts.client_turns_are_its_calls server_history
     (calm_by _ _ _ (plain_proxy s server made.server.proxy.faults ends.server_named plain) stays.the_proxy_tells_what_it_told.calm)
     delegates.the_identity_is_what_was_opened_last in
     record {
       three = ok_three ntlm_meaning told_entries table_faults told_failing _ _ _ _ _ _ _ _ _
           delegates.accounts.turns_and_log_show_the_answer fresh.server_is delegates.the_turns_are_a_run.server_ran.others
-          delegates.both_proofs_came_before_ok delegates.accounts.server_turns_are_its_calls;
+          delegates.both_proofs_came_before_ok server_history;
       comes = λ plain enough. subst (λ (mode : CredSspMode). ComesToOk (delegated_as mode (user_identity s)) answer) ends.client_named.delegation
           (comes_to_ok s.turns (delegated_as client.delegation (user_identity s)) answer enough (settles plain));
       short = λ plain few. cut_short s.turns (delegated_as client.delegation (user_identity s)) answer few stays.ok_comes_within_the_limit (settles plain);
