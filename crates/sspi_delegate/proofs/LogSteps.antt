@@ -9,12 +9,11 @@ use Rattle.sspi_delegate.specs.declared.answer.DelegateError.TheVariants as erro
 use Rattle.sspi_delegate.specs.declared.carried.Carried.{Carried}
 use Rattle.sspi_delegate.specs.declared.carried.End.{End}
 use Rattle.sspi_delegate.specs.declared.carried.End.TheVariants.{Client, Server}
-use Rattle.sspi_delegate.specs.declared.messages.TheConstants.{DELIVERY_LIMIT}
 use Rattle.sspi_delegate.specs.declared.turn.Outcome.{Outcome}
 use Rattle.sspi_delegate.specs.declared.turn.Outcome.TheVariants.{Reply, Final, Finished, Refused}
 use Rattle.sspi_delegate.specs.declared.turn.Turn.{Turn}
 use Rattle.sspi_delegate.specs.Causes.{Between, Asked, Turned, Finishes, Stopped, NewestIs, IsClientRefusal, IsServerRefusal, IsFinished, IsAnswerTo, MayLackAfter, MayLack, TurnLeft, HasMessage, Given, carried, too_long, link_failed, no_memory, turns_of}
-use Rattle.sspi_delegate.specs.Deliveries.{IsUnread, Fed, HeadTaken, Takes}
+use Rattle.sspi_delegate.specs.Deliveries.{delivery_limit, IsUnread, Fed, HeadTaken, Takes}
 use Rattle.sspi_delegate.specs.Recorded.{PushedSuch}
 use Rattle.sspi_delegate.specs.Run.{Logged, LoggedButLast, HasLog, IsDelivered, IsRead, IsSent}
 use Rattle.sspi_delegate.specs.Turns.{next_end, message_of, GoesOn, AllGoOn, Alternates}
@@ -79,7 +78,7 @@ head_delivered t past [] text request head read = absurd head
 head_delivered t past (e ∷ log) text request head read = (
   head.0,
   subst (λ (bytes : List ℕ). IsRead bytes request) (sym head.1) read,
-  subst (λ (bytes : List ℕ). length bytes ≤ DELIVERY_LIMIT) (sym head.1) head.2,
+  subst (λ (bytes : List ℕ). length bytes ≤ delivery_limit) (sym head.1) head.2,
 )
 
 module _ (base : List Carried) (start : ℕ) where

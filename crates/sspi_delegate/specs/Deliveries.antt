@@ -3,7 +3,10 @@ use Rattle.std.specs.Prelude.{◌≡◌, ◌≤◌, ℕ, ◌||◌, nat_le, Bool,
 use Rattle.sspi_delegate.specs.declared.carried.Carried.{Carried}
 use Rattle.sspi_delegate.specs.declared.link.LinkError.{LinkError}
 use Rattle.sspi_delegate.specs.declared.link.LinkError.TheVariants.{Failed, InsufficientMemory}
-use Rattle.sspi_delegate.specs.declared.messages.TheConstants.{DELIVERY_LIMIT}
+
+-- at most so many bytes of one delivery are read
+abbrev pub delivery_limit : ℕ
+delivery_limit = 65535
 
 -- nothing was asked of the newest delivery
 abbrev pub IsUnread : List Carried → Type 0
@@ -12,7 +15,7 @@ IsUnread (e ∷ log) = (e.delivered ≡ []) × (e.ended ≡ false)
 
 -- a delivery was taken: to its end, or to the limit
 abbrev pub is_taken : Carried → Bool
-is_taken e = e.ended || nat_le DELIVERY_LIMIT (length e.delivered)
+is_taken e = e.ended || nat_le delivery_limit (length e.delivered)
 
 -- only what was delivered of the newest entry, and whether it ended, may differ
 abbrev pub Fed : List Carried → List Carried → Type 0
@@ -23,12 +26,12 @@ Fed (e ∷ log) (f ∷ more) = (f.from ≡ e.from) × (f.sent ≡ e.sent) × (mo
 -- this is the newest delivery, which was taken, and no more of it than the limit
 abbrev pub HeadTaken : List Carried → List ℕ → Type 0
 HeadTaken [] text = ⊥
-HeadTaken (e ∷ log) text = (is_taken e ≡ true) × (e.delivered ≡ text) × (length text ≤ DELIVERY_LIMIT)
+HeadTaken (e ∷ log) text = (is_taken e ≡ true) × (e.delivered ≡ text) × (length text ≤ delivery_limit)
 
 -- no more of the newest delivery was taken than the limit
 abbrev pub HeadWithin : List Carried → Type 0
 HeadWithin [] = ⊥
-HeadWithin (e ∷ log) = length e.delivered ≤ DELIVERY_LIMIT
+HeadWithin (e ∷ log) = length e.delivered ≤ delivery_limit
 
 abbrev pub HeadOpen : List Carried → Type 0
 HeadOpen [] = ⊥

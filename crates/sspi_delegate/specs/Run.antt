@@ -10,9 +10,8 @@ use Rattle.sspi_tsreq.specs.Grammar.{IsRequest}
 use Rattle.sspi_tsreq.specs.Spelling.{fits, spelled}
 use Rattle.sspi_tsreq.specs.Value.{first_request}
 use Rattle.sspi_delegate.specs.declared.carried.Carried.{Carried}
-use Rattle.sspi_delegate.specs.declared.messages.TheConstants.{DELIVERY_LIMIT}
 use Rattle.sspi_delegate.specs.declared.turn.Turn.{Turn}
-use Rattle.sspi_delegate.specs.Deliveries.{IsUnread, is_taken, HeadOpen}
+use Rattle.sspi_delegate.specs.Deliveries.{delivery_limit, IsUnread, is_taken, HeadOpen}
 use Rattle.sspi_delegate.specs.Turns.{message_of}
 
 -- the bytes begin with this request
@@ -33,7 +32,7 @@ abbrev pub IsDelivered : List Turn → List Carried → TsRequest → Type 0
 IsDelivered [] log request = request ≡ first_request
 IsDelivered (t ∷ past) [] request = ⊥
 IsDelivered (t ∷ past) (e ∷ log) request =
-    (is_taken e ≡ true) × IsRead e.delivered request × (length e.delivered ≤ DELIVERY_LIMIT)
+    (is_taken e ≡ true) × IsRead e.delivered request × (length e.delivered ≤ delivery_limit)
 
 -- what was sent is the spelling of the message, which fits
 abbrev pub IsSent : Option TsRequest → List ℕ → Type 0
