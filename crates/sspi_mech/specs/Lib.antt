@@ -16,4 +16,5 @@ pub mod NtlmSteps
 pub mod Protection
 pub mod Refusals
 pub mod Settings
+pub mod Sum
 pub mod Tags

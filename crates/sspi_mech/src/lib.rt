@@ -13,6 +13,7 @@
 pub mod args;
 pub mod config;
 pub mod kdc;
+pub mod laws;
 pub mod mechanism;
 pub mod ntlm;
 mod protection;
