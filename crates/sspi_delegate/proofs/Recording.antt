@@ -56,7 +56,7 @@ module _ {C : Type 0} (c : Meaning ContextSetting C) (law : IsContext c) where
   refused_anyhow replies old mid d error h = record {
     cause = h.cause;
     status = h.status;
-    steps = record { asked = h.steps.asked; replied = tt; step = h.steps.step };
+    steps = record { asked = h.steps.asked; replied = tt; step = h.steps.step; unasked = h.steps.unasked };
   }
 
   pub client_replies : (replies : List Asked → Type 0) (first old mid new : ClientView C) (d reply : TsRequest) (turns turns2 : List Turn) →

@@ -61,8 +61,12 @@ pub returns-in-Ok-Finished-clause-server_history : goal.returns-in-Ok-Finished-c
 returns-in-Ok-Finished-clause-server_history g c first history =
     server_made (either g.N.Mechanism.meaning g.K.Mechanism.meaning) g.C.CredentialsProxy.told g.C.CredentialsProxy.faults g.C.CredentialsProxy.failing
     first c.args.server.now c.process.new.self c.record_server-in-Ok-Finished.new.server c.args.request outcome.Finished
-    c.args.transcript.now.turns c.record_server-in-Ok-Finished.new.transcript.turns history
-    ((rw c.in-Ok-Finished.field-0-is at c.in-Ok-Finished.ensures.turn).0, c.in-Ok-Finished.ensures.step)
+    c.args.transcript.now.turns c.record_server-in-Ok-Finished.new.transcript.turns history (
+      (rw c.in-Ok-Finished.field-0-is at c.in-Ok-Finished.ensures.turn).0,
+      c.in-Ok-Finished.ensures.step,
+      c.in-Ok-Finished.identity,
+      (rw c.in-Ok-Finished.field-0-is at c.in-Ok-Finished.ensures.turn).1,
+    )
     (record { told_same = c.process.ensures.told; failing_same = c.process.ensures.failing; counted = c.process.ensures.faults; calm = c.process.ensures.calm })
     c.record_server-in-Ok-Finished.ensures.rest (rw (← c.in-Ok.ensures.turns, ← c.in-Ok-clone.ensures) c.record_server-in-Ok-Finished.ensures.turn)
 
