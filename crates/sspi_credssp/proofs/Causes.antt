@@ -24,13 +24,15 @@ pub stops_map : (b : Bool) (here kind : ErrorKind) (Later Later2 : Type 0) → (
 stops_map true here kind Later Later2 f h = h
 stops_map false here kind Later Later2 f h = f h
 
-pub made_map : {C : Type 0} (o : Option C) (Cause Later : Type 0) → MadeOr o Cause ⊥ → MadeOr o Cause Later
-made_map None Cause Later h = h
-made_map (Some m) Cause Later h = absurd h
+pub made_map : {C : Type 0} (old new : Option C) (Cause Later Later2 : Type 0) → (Later → Later2) → MadeOr old new Cause Later → MadeOr old new Cause Later2
+made_map (Some m) new Cause Later Later2 f h = f h
+made_map None (Some m) Cause Later Later2 f h = f h
+made_map None None Cause Later Later2 f h = h
 
-pub made_later : {C : Type 0} (o : Option C) (Cause Later : Type 0) → IsSome o → Later → MadeOr o Cause Later
-made_later None Cause Later some h = cc
-made_later (Some m) Cause Later some h = h
+pub made_later : {C : Type 0} (old new : Option C) (Cause Later : Type 0) → IsSome new → Later → MadeOr old new Cause Later
+made_later (Some m) new Cause Later some h = h
+made_later None (Some m) Cause Later some h = h
+made_later None None Cause Later some h = cc
 
 module _ {C : Type 0} (c : Meaning ContextSetting C) where
   pub deliver_cause : (field : Option (List ℕ)) (blob : List ℕ) (new : ClientView C) (noted : ℕ) (m : C) (kind : ErrorKind) →
@@ -59,13 +61,13 @@ module _ {C : Type 0} (c : Meaning ContextSetting C) where
       let later : StateCause c old.state d new e.error_type =
       subst (λ s. StateCause c s d new e.error_type) same_state
       (state_cause_same state d v new e.error_type (subst (λ x. StateCause c state x new e.error_type) same (h memory))) in
-      rw (idle, code, altered) (made_later new.context _ _ begun later)
+      rw (idle, code, altered) (made_later old.context new.context _ _ begun later)
 
   -- a turn that was refused as it began
   pub client_cause_begun : (old new : ClientView C) (d : TsRequest) (kind : ErrorKind) →
       is_waiting_in c old.context ≡ false → is_code d.error_code ≡ false →
       StopsIf (is_altered old.context old.noted d.version) MessageAltered kind
-      (MadeOr new.context (BeginCause c (ForClient old.mode) Outbound (Some old.credentials) kind) ⊥) →
+      (MadeOr old.context new.context (BeginCause c (ForClient old.mode) Outbound (Some old.credentials) kind) ⊥) →
       ClientCause c old d new kind
   client_cause_begun old new d kind idle code h =
-      rw (idle, code) (stops_map (is_altered old.context old.noted d.version) MessageAltered kind _ _ (made_map new.context _ _) h)
+      rw (idle, code) (stops_map (is_altered old.context old.noted d.version) MessageAltered kind _ _ (made_map old.context new.context _ _ _ (λ none. absurd none)) h)

@@ -2,18 +2,20 @@
 use Rattle.std.proofs.Common.{◌≡◌, ℕ, ◌-◌, List, Result, Ok, Err, OnOk, OnErr, true, false, refl, sym, ◌∙◌, ap, subst, add-zero}
 use Rattle.std.proofs.lemmas.Bool.{true≢false}
 use Rattle.sspi_types.specs.declared.error.Error.{Error}
-use Rattle.sspi_mech.specs.Calls.{Counts, no_counts, one_sealed, one_unsealed}
+use Rattle.sspi_mech.specs.Calls.{Counts, one_sealed, one_unsealed}
 use Rattle.sspi_mech.specs.Context.{IsContext}
 use Rattle.sspi_mech.specs.Meaning.{Meaning}
 use Rattle.sspi_credssp.specs.declared.acts.Acts.{Acts}
+use Rattle.sspi_credssp.specs.Counts.{silent, cleared}
 use Rattle.sspi_credssp.specs.Exchange.{Delivers, Exchanges}
 
 module _ {S C : Type 0} (c : Meaning S C) (laws : IsContext c) where
   counted_back : (m m2 : C) (n : Counts) → m2 ≡ c.counted m n → c.counted m2 (c.counts m) ≡ m
   counted_back m m2 n e = rw e (laws.counted_counted m n (c.counts m) ∙ laws.counted_counts m)
 
-  pub bare_after : (m m2 : C) (n : Counts) → m2 ≡ c.counted m n → c.counted m2 no_counts ≡ c.counted m no_counts
-  bare_after m m2 n e = rw e (laws.counted_counted m n no_counts)
+  pub bare_after : (m m2 : C) (n : Counts) → m2 ≡ c.counted m n → silent n ≡ silent (c.counts m) → cleared c m2 ≡ cleared c m
+  bare_after m m2 n e quiet =
+      rw e (laws.counted_counted m n (silent (c.counts (c.counted m n))) ∙ ap (λ k. c.counted m (silent k)) (laws.counts_counted m n) ∙ ap (c.counted m) quiet)
 
   pub opens_still : (m m2 : C) (n : Counts) (i : ℕ) (blob text : List ℕ) → m2 ≡ c.counted m n → c.opens m i blob text → c.opens m2 i blob text
   opens_still m m2 n i blob text e o =
@@ -38,7 +40,7 @@ module _ {S C : Type 0} (c : Meaning S C) (laws : IsContext c) where
         sealed = λ _. (is_checked, rw count2 (opens_still m1 m2 _ _ blob proof made o));
         sealed_count = rw (count2, count1, is_sealed) refl;
         unsealed_count = rw (count2, count1, is_checked) refl;
-        bare = bare_after m1 m2 _ made ∙ bare_after m m1 _ opened;
+        bare = bare_after m1 m2 _ made refl ∙ bare_after m m1 _ opened refl;
       }
   delivered m m1 m2 acts acts1 acts2 blob proof (Err e) unsealed checked opened count1 o _ _ _ same kept =
       let not_sealed : acts2.sealed ≡ false = ap (λ (a : Acts). a.sealed) kept ∙ ap (λ (a : Acts). a.sealed) checked ∙ unsealed in
@@ -47,7 +49,7 @@ module _ {S C : Type 0} (c : Meaning S C) (laws : IsContext c) where
         sealed = λ h. absurd (true≢false (sym h ∙ not_sealed));
         sealed_count = rw (same, count1, not_sealed) (sym (add-zero _));
         unsealed_count = rw (same, count1, is_checked) refl;
-        bare = rw same (bare_after m m1 _ opened);
+        bare = rw same (bare_after m m1 _ opened refl);
       }
 
   -- after the right proof the server's own is sealed, or that is refused
@@ -65,7 +67,7 @@ module _ {S C : Type 0} (c : Meaning S C) (laws : IsContext c) where
         proved = λ _. (is_checked, rw count2 (opens_still m1 m2 _ _ blob proof made o));
         sealed_count = rw (count2, count1, is_proved) refl;
         unsealed_count = rw (count2, count1, is_checked) refl;
-        bare = bare_after m1 m2 _ made ∙ bare_after m m1 _ opened;
+        bare = bare_after m1 m2 _ made refl ∙ bare_after m m1 _ opened refl;
       }
   exchanged m m1 m2 acts acts1 acts2 blob proof (Err e) unproved checked opened count1 o _ _ _ same kept =
       let not_proved : acts2.proved ≡ false = ap (λ (a : Acts). a.proved) kept ∙ ap (λ (a : Acts). a.proved) checked ∙ unproved in
@@ -74,5 +76,5 @@ module _ {S C : Type 0} (c : Meaning S C) (laws : IsContext c) where
         proved = λ h. absurd (true≢false (sym h ∙ not_proved));
         sealed_count = rw (same, count1, not_proved) (sym (add-zero _));
         unsealed_count = rw (same, count1, is_checked) refl;
-        bare = rw same (bare_after m m1 _ opened);
+        bare = rw same (bare_after m m1 _ opened refl);
       }

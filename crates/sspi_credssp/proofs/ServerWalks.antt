@@ -13,9 +13,9 @@ use Rattle.sspi_credssp.specs.Begun.{IfContext}
 use Rattle.sspi_credssp.specs.Context.{ContextSetting}
 use Rattle.sspi_credssp.specs.Counts.{SameBut}
 use Rattle.sspi_credssp.specs.Server.{ServerView}
-use Rattle.sspi_credssp.specs.ServerStep.{Knowing, Unknown, Completed, Accepted, AcceptedSoFar, RefusedAt, CompletedStep, HasAccepted, DoneStep, OnStep, refused_step, known_at, recounted, so_far}
+use Rattle.sspi_credssp.specs.ServerStep.{Knowing, Unknown, Completed, Accepted, AcceptedSoFar, RefusedAt, CompletedStep, HasAccepted, HasCome, DoneStep, OnStep, refused_step, known_at, recounted, so_far}
 use Rattle.sspi_credssp.specs.ServerTurn.{IsOver}
-use Rattle.sspi_credssp.proofs.Walks.{recounted_as}
+use Rattle.sspi_credssp.proofs.Walks.{recounted_as, silent_as}
 
 module _ {C P : Type 0} (c : Meaning ContextSetting C) (laws : IsContext c) (told : P → Option (List AuthIdentity)) where
   pub accepted_on : (start : ServerView C P) (handle : Option CredentialsBuffers) (token : Option (List ℕ)) (known : Knowing) (answer : Result Step Error)
@@ -23,7 +23,13 @@ module _ {C P : Type 0} (c : Meaning ContextSetting C) (laws : IsContext c) (tol
   accepted_on start handle token known answer None o2 same accepted = absurd accepted
   accepted_on start handle token known answer (Some m) None same accepted = absurd same
   accepted_on start handle token known answer (Some m) (Some m2) same accepted =
-      recounted m m2 (c.counts m2) known answer accepted (recounted_as c laws m m2 same)
+      recounted m m2 (c.counts m2) known answer accepted (recounted_as c laws m m2 same) (silent_as c laws m m2 same)
+
+  -- the same step of a view that has its handle and its output
+  pub come_on : (known : Knowing) (status : SecurityStatus) (start old new : ServerView C P) (d : TsRequest) → new.handle ≡ old.handle → new.output ≡ old.output →
+      IfContext new.context (Accepted c told start old.handle d.nego_tokens known (Ok (record { status = status; output = old.output }))) →
+      HasCome c told known status start d new
+  come_on known status start old new d same_handle same_output h = rw (same_handle, same_output) h
 
   pub known_so_far : (start : ServerView C P) (handle : Option CredentialsBuffers) (token : Option (List ℕ)) (known : Knowing) (answer : Result Step Error)
       (o : Option C) → IfContext o (Accepted c told start handle token known answer) → IfContext o (AcceptedSoFar c told start handle token answer)

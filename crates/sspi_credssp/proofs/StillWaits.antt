@@ -1,5 +1,5 @@
 -- A client whose refused resume waits again is under way as before.
-use Rattle.std.proofs.Common.{◌≡◌, List, [], ◌∷◌, Some, None, Result, Ok, Err, IsErr, OnErr, true, sym, ◌∙◌, ap, subst}
+use Rattle.std.proofs.Common.{◌≡◌, ℕ, ◌+◌, List, [], ◌∷◌, Some, None, Result, Ok, Err, IsErr, OnErr, true, sym, ◌∙◌, ap, subst}
 use Rattle.sspi_types.specs.declared.error.Error.{Error}
 use Rattle.sspi_names.specs.declared.network.NetworkRequest.{NetworkRequest}
 use Rattle.sspi_tsreq.specs.declared.request.TsRequest.{TsRequest}
@@ -22,22 +22,22 @@ use Rattle.sspi_credssp.proofs.ClientReady.{ready_stepped}
 
 module _ {C : Type 0} (c : Meaning ContextSetting C) (laws : IsContext c) where
   -- `v` is the client before the call, `stepped` it once its context took the reply, and `new` it as the call leaves it
-  pub still_waits : (start : ClientView C) (d : TsRequest) (log : List Asked) (q : NetworkRequest) (v stepped new : ClientView C)
+  pub still_waits : (start : ClientView C) (d : TsRequest) (tries : ℕ) (log : List Asked) (q : NetworkRequest) (v stepped new : ClientView C)
       (m m2 : C) (reply : Reply) (request : TsRequest) (progress : Result Progressing Error) (result : Result Progress Error) →
       request ≡ record d { version = v.version } → v.state ≡ NegoToken → v.output ≡ [] → v.context ≡ Some m →
       v.acts ≡ no_acts → stepped ≡ record v { context = Some m2; acts = record v.acts { negotiated = true } } →
-      IsReady c start d v → Walked c start v.handle d.nego_tokens log (Ask q) m → c.resumes m reply (answer_of progress) m2 →
+      IsReady c start d v → Walked c start v.handle d.nego_tokens tries log (Ask q) m → c.resumes m reply (answer_of progress) m2 →
       OnErr result (new.acts.status ≡ None → (new ≡ record stepped { kept = new.kept }) × IsErr progress) →
       OnErr result (new.acts.status ≡ None → is_waiting_in c new.context ≡ true → new.kept ≡ Some request) →
       OnErr result (new.acts.status ≡ None → is_waiting_in c new.context ≡ true →
-      IsUnderway c start d new × StepsTo c start d (record { question = q; reply = reply } ∷ log) (Ask q) new)
-  still_waits start d log q v stepped new m m2 reply request progress (Ok x) _ _ _ _ _ _ _ _ _ _ _ = tt
-  still_waits start d log q v stepped new m m2 reply request (Ok x) (Err error) same nego output here idle at ready walked resumed refused kept =
+      IsUnderway c start d new × StepsTo c start d (tries + 1) (record { question = q; reply = reply } ∷ log) (Ask q) new)
+  still_waits start d tries log q v stepped new m m2 reply request progress (Ok x) _ _ _ _ _ _ _ _ _ _ _ = tt
+  still_waits start d tries log q v stepped new m m2 reply request (Ok x) (Err error) same nego output here idle at ready walked resumed refused kept =
       λ none waits. absurd (false_ok (refused none).1)
     where
       false_ok : IsErr {T = Progressing} {E = Error} (Ok x) → ⊥
       false_ok h = cc
-  still_waits start d log q v stepped new m m2 reply request (Err e) (Err error) same nego output here idle at ready walked resumed refused kept =
+  still_waits start d tries log q v stepped new m m2 reply request (Err e) (Err error) same nego output here idle at ready walked resumed refused kept =
       λ none waits.
       let moved : new ≡ record v { context = Some m2; acts = record no_acts { negotiated = true }; kept = new.kept } =
       (refused none).0 ∙ ap (λ (x : ClientView C). record x { kept = new.kept })
@@ -72,9 +72,9 @@ module _ {C : Type 0} (c : Meaning ContextSetting C) (laws : IsContext c) where
         waiting = again;
         kept = kept none waits ∙ ap Some same;
       } in
-      let steps : StepsTo c start d (record { question = q; reply = reply } ∷ log) (Ask q)
+      let steps : StepsTo c start d (tries + 1) (record { question = q; reply = reply } ∷ log) (Ask q)
       (record v { context = Some m2; acts = record no_acts { negotiated = true }; kept = new.kept }) =
-      still_asked m m2 log q reply e walked resumed again in (
+      still_asked m m2 tries log q reply e walked resumed again in (
         subst (λ x. IsUnderway c start d x) (sym moved) under,
-        subst (λ x. StepsTo c start d (record { question = q; reply = reply } ∷ log) (Ask q) x) (sym moved) steps,
+        subst (λ x. StepsTo c start d (tries + 1) (record { question = q; reply = reply } ∷ log) (Ask q) x) (sym moved) steps,
       )

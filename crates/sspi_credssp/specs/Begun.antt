@@ -12,10 +12,11 @@ abbrev pub IfContext : {C : Type 0} → Option C → (C → Type 0) → Type 0
 IfContext None P = ⊥
 IfContext (Some m) P = P m
 
--- a turn that has no context was refused while it made one
-abbrev pub MadeOr : {C : Type 0} → Option C → Type 0 → Type 0 → Type 0
-MadeOr None Cause Later = Cause
-MadeOr (Some m) Cause Later = Later
+-- an end that had no context before the turn, and has none after it, was refused while it made one
+abbrev pub MadeOr : {C : Type 0} → Option C → Option C → Type 0 → Type 0 → Type 0
+MadeOr (Some m) new Cause Later = Later
+MadeOr None (Some m) Cause Later = Later
+MadeOr None None Cause Later = Cause
 
 module _ {S C : Type 0} (c : Meaning S C) where
   -- from the context and the acquired credentials that the end had; else from what they are made of

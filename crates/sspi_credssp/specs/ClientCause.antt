@@ -81,7 +81,7 @@ module _ {C : Type 0} (c : Meaning ContextSetting C) where
       StopsIf (is_waiting_in c old.context) OutOfSequence kind
       (StopsIf (is_code d.error_code) InvalidToken kind
       (StopsIf (is_altered old.context old.noted d.version) MessageAltered kind
-      (MadeOr new.context (BeginCause c (ForClient old.mode) Outbound (Some old.credentials) kind)
+      (MadeOr old.context new.context (BeginCause c (ForClient old.mode) Outbound (Some old.credentials) kind)
       (StateCause old.state d new kind))))
 
   abbrev pub KeptCause : Option TsRequest → ClientView C → ErrorKind → Type 0

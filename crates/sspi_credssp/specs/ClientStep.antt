@@ -1,5 +1,5 @@
 -- The step of its context in a client's turn, from the context before the turn to the one that it leaves.
-use Rattle.std.specs.Prelude.{◌≡◌, ℕ, List, [], ◌∷◌, Option, None, Some, Result, Ok, Err, Bool, true, false}
+use Rattle.std.specs.Prelude.{◌≡◌, ℕ, ◌+◌, List, [], ◌∷◌, Option, None, Some, Result, Ok, Err, Bool, true, false}
 use Rattle.sspi_types.specs.declared.client_request_flags.ClientRequestFlags.{ClientRequestFlags}
 use Rattle.sspi_types.specs.declared.credential_use.CredentialUse.TheVariants.{Outbound}
 use Rattle.sspi_types.specs.declared.error.Error.{Error}
@@ -17,6 +17,7 @@ use Rattle.sspi_credssp.specs.declared.client_state.Progress.TheVariants.{Suspen
 use Rattle.sspi_credssp.specs.Begun.{Begun, IfContext}
 use Rattle.sspi_credssp.specs.Client.{ClientView}
 use Rattle.sspi_credssp.specs.Context.{ContextSetting, ForClient}
+use Rattle.sspi_credssp.specs.Counts.{silent}
 use Rattle.sspi_credssp.specs.Requests.{token_of}
 
 -- MUTUAL_AUTH, USE_SESSION_KEY, INTEGRITY and CONFIDENTIALITY
@@ -48,27 +49,29 @@ refused_answer None output error = Refused error
 refused_answer (Some status) output error = Done (record { status = status; output = output })
 
 module _ {C : Type 0} (c : Meaning ContextSetting C) where
-  -- A step of the turn that began at `start`, with the questions that it asked, the newest first: how far it came, and
-  -- the context then. Counts apart, nothing but the step and its resumes moves the context.
-  pub data Walked (start : ClientView C) (handle : Option CredentialsBuffers) (token : Option (List ℕ)) : List Asked → Answer → C → Type 0 where
+  -- A step of the turn that began at `start`: how many refused resumes were tried again, the questions that it asked, the
+  -- newest first, how far it came, and the context then. Nothing else moves the context but sealing and opening.
+  pub data Walked (start : ClientView C) (handle : Option CredentialsBuffers) (token : Option (List ℕ)) :
+      ℕ → List Asked → Answer → C → Type 0 where
     stepped : (m0 m : C) (answer : Answer) →
         Begun c start.context start.handle (ForClient start.mode) Outbound (Some start.credentials) handle m0 →
-        c.steps m0 (client_args handle start.target token) answer m → Walked start handle token [] answer m
-    resumed : (m m2 : C) (log : List Asked) (q : NetworkRequest) (reply : Reply) (answer : Answer) → Walked start handle token log (Ask q) m →
-        c.resumes m reply answer m2 → Walked start handle token (record { question = q; reply = reply } ∷ log) answer m2
+        c.steps m0 (client_args handle start.target token) answer m → Walked start handle token 0 [] answer m
+    resumed : (m m2 : C) (tries : ℕ) (log : List Asked) (q : NetworkRequest) (reply : Reply) (answer : Answer) →
+        Walked start handle token tries log (Ask q) m → c.resumes m reply answer m2 →
+        Walked start handle token tries (record { question = q; reply = reply } ∷ log) answer m2
     -- a refused resume that still waits
-    still_asked : (m m2 : C) (log : List Asked) (q : NetworkRequest) (reply : Reply) (error : Error) → Walked start handle token log (Ask q) m →
-        c.resumes m reply (Refused error) m2 → c.waits m2 ≡ true →
-        Walked start handle token (record { question = q; reply = reply } ∷ log) (Ask q) m2
-    recounted : (m m2 : C) (n : Counts) (log : List Asked) (answer : Answer) → Walked start handle token log answer m →
-        m2 ≡ c.counted m n → Walked start handle token log answer m2
+    still_asked : (m m2 : C) (tries : ℕ) (log : List Asked) (q : NetworkRequest) (reply : Reply) (error : Error) →
+        Walked start handle token tries log (Ask q) m → c.resumes m reply (Refused error) m2 → c.waits m2 ≡ true →
+        Walked start handle token (tries + 1) (record { question = q; reply = reply } ∷ log) (Ask q) m2
+    recounted : (m m2 : C) (n : Counts) (tries : ℕ) (log : List Asked) (answer : Answer) → Walked start handle token tries log answer m →
+        m2 ≡ c.counted m n → silent n ≡ silent (c.counts m) → Walked start handle token tries log answer m2
 
-  abbrev pub StepsTo : ClientView C → TsRequest → List Asked → Answer → ClientView C → Type 0
-  StepsTo start d log answer now = IfContext now.context (Walked start now.handle d.nego_tokens log answer)
+  abbrev pub StepsTo : ClientView C → TsRequest → ℕ → List Asked → Answer → ClientView C → Type 0
+  StepsTo start d tries log answer now = IfContext now.context (Walked start now.handle d.nego_tokens tries log answer)
 
-  abbrev pub DoneStep : Option SecurityStatus → ClientView C → TsRequest → List Asked → ClientView C → Type 0
-  DoneStep None start d log now = Unit {0}
-  DoneStep (Some status) start d log now = StepsTo start d log (Done (record { status = status; output = now.output })) now
+  abbrev pub DoneStep : Option SecurityStatus → ClientView C → TsRequest → ℕ → List Asked → ClientView C → Type 0
+  DoneStep None start d tries log now = Unit {0}
+  DoneStep (Some status) start d tries log now = StepsTo start d tries log (Done (record { status = status; output = now.output })) now
 
   abbrev pub OnStep : Bool → Type 0 → Type 0
   OnStep true P = P
@@ -76,7 +79,8 @@ module _ {C : Type 0} (c : Meaning ContextSetting C) where
 
   -- The status and the output are the step's own answer, also where the turn was then refused; a refused step was refused
   -- with this very error; and a turn is suspended exactly where the step asked, with its question.
-  abbrev pub HasStepped : ClientView C → TsRequest → List Asked → Result Progress Error → ClientView C → Type 0
-  HasStepped start d log (Ok (Completed state)) now = DoneStep now.acts.status start d log now
-  HasStepped start d log (Ok (Suspended question)) now = StepsTo start d log (Ask question) now
-  HasStepped start d log (Err error) now = OnStep now.acts.negotiated (StepsTo start d log (refused_answer now.acts.status now.output error) now)
+  abbrev pub HasStepped : ClientView C → TsRequest → ℕ → List Asked → Result Progress Error → ClientView C → Type 0
+  HasStepped start d tries log (Ok (Completed state)) now = DoneStep now.acts.status start d tries log now
+  HasStepped start d tries log (Ok (Suspended question)) now = StepsTo start d tries log (Ask question) now
+  HasStepped start d tries log (Err error) now =
+      OnStep now.acts.negotiated (StepsTo start d tries log (refused_answer now.acts.status now.output error) now)

@@ -1,8 +1,12 @@
 -- How many messages a security context has made and taken, where there is a context.
 use Rattle.std.specs.Prelude.{◌≡◌, ℕ, List, Option, None, Some, Bool, false}
-use Rattle.sspi_mech.specs.Calls.{no_counts}
+use Rattle.sspi_mech.specs.Calls.{Counts}
 use Rattle.sspi_mech.specs.Context.{IsUnused}
 use Rattle.sspi_mech.specs.Meaning.{Meaning}
+
+-- of one that sealed and opened nothing, and made and took as many MICs
+abbrev pub silent : Counts → Counts
+silent n = record n { sealed = 0; unsealed = 0 }
 
 module _ {S C : Type 0} (c : Meaning S C) where
   abbrev pub sealed_in : Option C → ℕ
@@ -18,12 +22,16 @@ module _ {S C : Type 0} (c : Meaning S C) where
   IsUnusedIn None = Unit {0}
   IsUnusedIn (Some m) = IsUnused (c.counts m)
 
-  -- the same context, but for its counts
+  -- the context but for what it sealed and opened
+  abbrev pub cleared : C → C
+  cleared m = c.counted m (silent (c.counts m))
+
+  -- the same context, but for what it sealed and opened
   abbrev pub SameBut : Option C → Option C → Type 0
   SameBut None None = Unit {0}
   SameBut None (Some m2) = ⊥
   SameBut (Some m) None = ⊥
-  SameBut (Some m) (Some m2) = c.counted m2 no_counts ≡ c.counted m no_counts
+  SameBut (Some m) (Some m2) = cleared m2 ≡ cleared m
 
   -- the blob is the text, sealed or opened as the context's message of that number
   abbrev pub SealsIn : Option C → ℕ → List ℕ → Option (List ℕ) → Type 0

@@ -3,10 +3,10 @@ use Rattle.std.specs.Prelude.{◌≡◌, ◌≢◌, ◌≤◌, ℕ, ◌+◌, ◌
 use Rattle.sspi_names.specs.declared.identity.AuthIdentity.{AuthIdentity}
 use Rattle.sspi_types.specs.declared.error_kind.ErrorKind.{ErrorKind}
 use Rattle.sspi_types.specs.declared.error_kind.ErrorKind.TheVariants.{InvalidToken}
-use Rattle.sspi_mech.specs.Calls.{no_counts}
 use Rattle.sspi_mech.specs.Meaning.{Meaning}
 use Rattle.sspi_credssp.specs.declared.acts.Acts.{Acts}
 use Rattle.sspi_credssp.specs.Acts.{count_of}
+use Rattle.sspi_credssp.specs.Counts.{cleared}
 use Rattle.sspi_credssp.specs.Credentials.{delegated_identity}
 use Rattle.sspi_credssp.specs.Stops.{StopsIf}
 
@@ -35,21 +35,21 @@ module _ {S C : Type 0} (c : Meaning S C) where
     pub sealed : acts.sealed ≡ true → (acts.checked ≡ true) × c.opens m2 ((c.counts m2).unsealed - 1) blob proof
     pub sealed_count : (c.counts m2).sealed ≡ (c.counts m).sealed + count_of acts.sealed
     pub unsealed_count : (c.counts m2).unsealed ≡ (c.counts m).unsealed + count_of acts.checked
-    pub bare : c.counted m2 no_counts ≡ c.counted m no_counts
+    pub bare : cleared c m2 ≡ cleared c m
 
   -- the server opened the client's proof, and perhaps sealed its own: what that did to the context
   pub record Exchanges (m : C) (blob proof : List ℕ) (m2 : C) (acts : Acts) : Type 0 where
     pub proved : acts.proved ≡ true → (acts.checked ≡ true) × c.opens m2 ((c.counts m2).unsealed - 1) blob proof
     pub sealed_count : (c.counts m2).sealed ≡ (c.counts m).sealed + count_of acts.proved
     pub unsealed_count : (c.counts m2).unsealed ≡ (c.counts m).unsealed + count_of acts.checked
-    pub bare : c.counted m2 no_counts ≡ c.counted m no_counts
+    pub bare : cleared c m2 ≡ cleared c m
 
   -- the server opened the client's credentials, or did not
   pub record Opens (m m2 : C) (before acts : Acts) : Type 0 where
     pub acts_are : acts ≡ record before { opened = acts.opened }
     pub sealed_count : (c.counts m2).sealed ≡ (c.counts m).sealed
     pub unsealed_count : (c.counts m2).unsealed ≡ (c.counts m).unsealed + count_of acts.opened
-    pub bare : c.counted m2 no_counts ≡ c.counted m no_counts
+    pub bare : cleared c m2 ≡ cleared c m
 
   -- the last blob that the context opened holds this identity
   pub data OpensIdentity (m : C) (blob : List ℕ) (identity : AuthIdentity) : Type 0 where

@@ -17,14 +17,13 @@ use Rattle.sspi_credssp.specs.declared.state.CredSspState.{CredSspState}
 use Rattle.sspi_credssp.specs.declared.state.CredSspState.TheVariants.{NegoToken, PubKeyInfo, AuthInfo, Final}
 use Rattle.sspi_credssp.specs.Begun.{BeginCause, IfContext, MadeOr}
 use Rattle.sspi_credssp.specs.Context.{ContextSetting, ForServer}
-use Rattle.sspi_credssp.specs.Counts.{SameBut}
 use Rattle.sspi_credssp.specs.Credentials.{delegated_identity}
 use Rattle.sspi_credssp.specs.Exchange.{OpensOther, BlobStops}
 use Rattle.sspi_credssp.specs.Proxy.{counted_on, AreCandidates}
 use Rattle.sspi_credssp.specs.PublicKey.{prescribed}
 use Rattle.sspi_credssp.specs.Requests.{nonce_of}
 use Rattle.sspi_credssp.specs.Server.{ServerView}
-use Rattle.sspi_credssp.specs.ServerStep.{IsIdentified}
+use Rattle.sspi_credssp.specs.ServerStep.{Unknown, Identified, Completed, HasCome}
 use Rattle.sspi_credssp.specs.Stops.{StopsIf, differs}
 
 -- from version 5 on the nonce must be there
@@ -89,29 +88,30 @@ module _ {C : Type 0} (c : Meaning ContextSetting C) where
 
   module _ {P : Type 0} (told : P → Option (List AuthIdentity)) (faults : P → ℕ) where
     -- The peer is not known; or it is, and the context refuses its own end: in neither case its proof was looked at. Or the
-    -- context is at its end, and what follows is refused.
-    pub data OverCause (proxy : P) (field nonce : Option (List ℕ)) (new : ServerView C P) (kind : ErrorKind) : Type 0 where
-      unknown : new.acts.checked ≡ false → IfContext new.context (λ m. IdentifyCause m (told proxy) (faults proxy) (faults new.proxy) kind) →
-          OverCause proxy field nonce new kind
-      incomplete : new.acts.checked ≡ false → (m0 : C) → IfContext new.context (λ m. IsIdentified c (told proxy) m0 m × c.refuses m ToComplete kind) → OverCause proxy field nonce new kind
-      known : (m : C) → c.permits m ToComplete → SameBut c (Some m) new.context → AfterCause field nonce new kind → OverCause proxy field nonce new kind
+    -- context is at its end, and what follows is refused. Each with the step that the turn took of its context until then.
+    pub data OverCause (status : SecurityStatus) (old : ServerView C P) (d : TsRequest) (new : ServerView C P) (kind : ErrorKind) : Type 0 where
+      unknown : new.acts.checked ≡ false → HasCome c told Unknown status old d new →
+          IfContext new.context (λ m. IdentifyCause m (told old.proxy) (faults old.proxy) (faults new.proxy) kind) → OverCause status old d new kind
+      incomplete : new.acts.checked ≡ false → HasCome c told Identified status old d new →
+          IfContext new.context (λ m. c.refuses m ToComplete kind) → OverCause status old d new kind
+      known : HasCome c told Completed status old d new → AfterCause d.pub_key_auth d.client_nonce new kind → OverCause status old d new kind
 
     -- the context refused the step, with this error, as the clause on the step says; or its end or its status is refused
-    abbrev pub NegoCause : Option SecurityStatus → P → Option (List ℕ) → Option (List ℕ) → ServerView C P → ErrorKind → Type 0
-    NegoCause None proxy field sent_nonce new kind = new.acts.negotiated ≡ true
-    NegoCause (Some statuses.ContinueNeeded) proxy field sent_nonce new kind = ⊥
-    NegoCause (Some statuses.CompleteNeeded) proxy field sent_nonce new kind = OverCause proxy field sent_nonce new kind
-    NegoCause (Some statuses.Ok) proxy field sent_nonce new kind = OverCause proxy field sent_nonce new kind
-    NegoCause (Some other) proxy field sent_nonce new kind = kind ≡ InternalError
+    abbrev pub NegoCause : Option SecurityStatus → ServerView C P → TsRequest → ServerView C P → ErrorKind → Type 0
+    NegoCause None old d new kind = new.acts.negotiated ≡ true
+    NegoCause (Some statuses.ContinueNeeded) old d new kind = ⊥
+    NegoCause (Some statuses.CompleteNeeded) old d new kind = OverCause statuses.CompleteNeeded old d new kind
+    NegoCause (Some statuses.Ok) old d new kind = OverCause statuses.Ok old d new kind
+    NegoCause (Some other) old d new kind = kind ≡ InternalError
 
-    abbrev pub StateCause : CredSspState → P → TsRequest → ServerView C P → ErrorKind → Type 0
-    StateCause NegoToken proxy d new kind = NegoCause new.acts.status proxy d.pub_key_auth d.client_nonce new kind
-    StateCause PubKeyInfo proxy d new kind = ExchangeCause d.pub_key_auth new.noted d.client_nonce new kind
-    StateCause AuthInfo proxy d new kind = BlobStops d.auth_info kind (λ blob. OpenedCause new.acts.opened new.context blob kind)
-    StateCause Final proxy d new kind = kind ≡ UnsupportedFunction
+    abbrev pub StateCause : CredSspState → ServerView C P → TsRequest → ServerView C P → ErrorKind → Type 0
+    StateCause NegoToken old d new kind = NegoCause new.acts.status old d new kind
+    StateCause PubKeyInfo old d new kind = ExchangeCause d.pub_key_auth new.noted d.client_nonce new kind
+    StateCause AuthInfo old d new kind = BlobStops d.auth_info kind (λ blob. OpenedCause new.acts.opened new.context blob kind)
+    StateCause Final old d new kind = kind ≡ UnsupportedFunction
 
     abbrev pub ServerCause : ServerView C P → TsRequest → ServerView C P → ErrorKind → Type 0
     ServerCause old d new kind =
-        MadeOr new.context (BeginCause c (ForServer old.mode) Inbound None kind)
+        MadeOr old.context new.context (BeginCause c (ForServer old.mode) Inbound None kind)
         (StopsIf (differs old.noted d.version) MessageAltered kind
-        (StateCause old.state old.proxy d new kind))
+        (StateCause old.state old d new kind))

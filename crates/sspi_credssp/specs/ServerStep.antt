@@ -17,6 +17,7 @@ use Rattle.sspi_credssp.specs.declared.server_state.ServerError.{ServerError}
 use Rattle.sspi_credssp.specs.declared.server_state.ServerState.{ServerState}
 use Rattle.sspi_credssp.specs.Begun.{Begun, IfContext}
 use Rattle.sspi_credssp.specs.Context.{ContextSetting, ForServer}
+use Rattle.sspi_credssp.specs.Counts.{silent}
 use Rattle.sspi_credssp.specs.Proxy.{AreCandidates}
 use Rattle.sspi_credssp.specs.Requests.{token_of}
 use Rattle.sspi_credssp.specs.Server.{ServerView}
@@ -47,7 +48,7 @@ module _ {C : Type 0} (c : Meaning ContextSetting C) where
 
   module _ {P : Type 0} (told : P → Option (List AuthIdentity)) where
     -- A step of the turn that began at `start`: how far the server then knows its peer, the step's answer, and the context.
-    -- Counts apart, nothing else moves the context.
+    -- Nothing else moves the context but sealing and opening.
     pub data Accepted (start : ServerView C P) (handle : Option CredentialsBuffers) (token : Option (List ℕ)) :
         Knowing → Result Step Error → C → Type 0 where
       accepted : (m0 m : C) (answer : Result Step Error) →
@@ -58,7 +59,7 @@ module _ {C : Type 0} (c : Meaning ContextSetting C) where
       completed : (m : C) (answer : Result Step Error) → Accepted start handle token Identified answer m →
           c.permits m ToComplete → Accepted start handle token Completed answer m
       recounted : (m m2 : C) (n : Counts) (known : Knowing) (answer : Result Step Error) → Accepted start handle token known answer m →
-          m2 ≡ c.counted m n → Accepted start handle token known answer m2
+          m2 ≡ c.counted m n → silent n ≡ silent (c.counts m) → Accepted start handle token known answer m2
 
     -- however far it knows its peer
     pub data AcceptedSoFar (start : ServerView C P) (handle : Option CredentialsBuffers) (token : Option (List ℕ))
@@ -83,10 +84,14 @@ module _ {C : Type 0} (c : Meaning ContextSetting C) where
     known_at statuses.CompleteNeeded = Completed
     known_at other = Unknown
 
+    -- the turn has come so far, and its step to this status and the output
+    abbrev pub HasCome : Knowing → SecurityStatus → ServerView C P → TsRequest → ServerView C P → Type 0
+    HasCome known status start d now = IfContext now.context
+        (Accepted start now.handle d.nego_tokens known (Ok (record { status = status; output = now.output })))
+
     abbrev pub DoneStep : Option SecurityStatus → ServerView C P → TsRequest → ServerView C P → Type 0
     DoneStep None start d now = Unit {0}
-    DoneStep (Some status) start d now = IfContext now.context
-        (Accepted start now.handle d.nego_tokens (known_at status) (Ok (record { status = status; output = now.output })))
+    DoneStep (Some status) start d now = HasCome (known_at status) status start d now
 
     abbrev pub OnStep : Bool → Type 0 → Type 0
     OnStep true Q = Q

@@ -1,4 +1,4 @@
-ghost use Rattle.std.specs.Prelude.{◌≡◌, ◌≢◌, ◌<◌, List, [], ◌∷◌, None, Some, true, false, IsSome, IsErr, IfErr, OnOk, OnErr, string_bytes};
+ghost use Rattle.std.specs.Prelude.{◌≡◌, ◌≢◌, ◌<◌, ◌+◌, ℕ, List, [], ◌∷◌, None, Some, true, false, IsSome, IsErr, IfErr, OnOk, OnErr, string_bytes};
 ghost use Rattle.sspi_types.specs.declared.credential_use.CredentialUse.TheVariants as purposes;
 ghost use Rattle.sspi_names.specs.declared.network.NetworkRequest.{NetworkRequest};
 ghost use Rattle.sspi_mech.specs.declared.step.Answer.TheVariants as answers;
@@ -190,7 +190,7 @@ impl<N: Mechanism, K: Mechanism> CredSspClient<N, K> {
     /// refusal gives the request up, and keeps the state, the mode and the acquired credentials.
     pub fn process(&mut self, ts_request: TsRequest) -> Result<Progress, Error>
         ensures turn { ClientGoes (either N.meaning K.meaning) self.old ts_request result self.new }
-        ensures step { HasStepped (either N.meaning K.meaning) self.old ts_request [] result self.new }
+        ensures step { HasStepped (either N.meaning K.meaning) self.old ts_request 0 [] result self.new }
         ensures cause { IfErr result (λ error. error.error_type ≢ ErrorKind.InsufficientMemory →
             ClientCause (either N.meaning K.meaning) self.old ts_request self.new error.error_type) }
         ensures code { is_waiting_in (either N.meaning K.meaning) self.old.context ≡ false → is_code ts_request.error_code ≡ true →
@@ -202,9 +202,10 @@ impl<N: Mechanism, K: Mechanism> CredSspClient<N, K> {
         ensures status { IfErr result (λ error. error.nstatus ≡ status_of (either N.meaning K.meaning) self.old ts_request) }
         ensures waited { is_waiting_in (either N.meaning K.meaning) self.old.context ≡ true →
             IsErr result × (self.new ≡ record self.old { acts = no_acts; output = [] }) }
-        ensures intruded { let c = either N.meaning K.meaning in (start : ClientView (SspiContext N K)) (d : TsRequest) (log : List Asked) (q : NetworkRequest) →
-            IsUnderway c start d self.old → StepsTo c start d log (answers.Ask q) self.old →
-            IsUnderway c start d self.new × StepsTo c start d log (answers.Ask q) self.new }
+        ensures intruded { let c = either N.meaning K.meaning in (start : ClientView (SspiContext N K)) (d : TsRequest)
+            (tries : ℕ) (log : List Asked) (q : NetworkRequest) →
+            IsUnderway c start d self.old → StepsTo c start d tries log (answers.Ask q) self.old →
+            IsUnderway c start d self.new × StepsTo c start d tries log (answers.Ask q) self.new }
     {
         self.forget_last_call();
         if self.waiting() {
@@ -230,14 +231,17 @@ impl<N: Mechanism, K: Mechanism> CredSspClient<N, K> {
         ensures same { SameClient (either N.meaning K.meaning) self.old self.new }
         ensures turn { let c = either N.meaning K.meaning in (start : ClientView (SspiContext N K)) (d : TsRequest) →
             IsUnderway c start d self.old → ClientGoes c start d result self.new }
-        ensures step { let c = either N.meaning K.meaning in (start : ClientView (SspiContext N K)) (d : TsRequest) (log : List Asked) (q : NetworkRequest) →
-            IsUnderway c start d self.old → StepsTo c start d log (answers.Ask q) self.old →
-            HasStepped c start d (record { question = q; reply = reply.now } ∷ log) result self.new }
-        ensures still { let c = either N.meaning K.meaning in (start : ClientView (SspiContext N K)) (d : TsRequest) (log : List Asked) (q : NetworkRequest) →
-            IsUnderway c start d self.old → StepsTo c start d log (answers.Ask q) self.old →
+        ensures step { let c = either N.meaning K.meaning in (start : ClientView (SspiContext N K)) (d : TsRequest)
+            (tries : ℕ) (log : List Asked) (q : NetworkRequest) →
+            IsUnderway c start d self.old → StepsTo c start d tries log (answers.Ask q) self.old →
+            HasStepped c start d tries (record { question = q; reply = reply.now } ∷ log) result self.new }
+        ensures still { let c = either N.meaning K.meaning in (start : ClientView (SspiContext N K)) (d : TsRequest)
+            (tries : ℕ) (log : List Asked) (q : NetworkRequest) →
+            IsUnderway c start d self.old → StepsTo c start d tries log (answers.Ask q) self.old →
             OnErr result (self.new.acts.status ≡ None → is_waiting_in c self.new.context ≡ true →
-            IsUnderway c start d self.new × StepsTo c start d (record { question = q; reply = reply.now } ∷ log) (answers.Ask q) self.new) }
+            IsUnderway c start d self.new × StepsTo c start d (tries + 1) (record { question = q; reply = reply.now } ∷ log) (answers.Ask q) self.new) }
         ensures falls { let c = either N.meaning K.meaning in OnSuspended result (left_in c self.new.context < left_in c self.old.context) }
+        ensures stepped { is_waiting_in (either N.meaning K.meaning) self.old.context ≡ true → IsSome self.old.kept → self.new.acts.negotiated ≡ true }
         ensures cause { IfErr result (λ error. error.error_type ≢ ErrorKind.InsufficientMemory →
             ResumeCause (either N.meaning K.meaning) self.old self.new error.error_type) }
         ensures plain { IfErr result (λ error. error.nstatus ≡ None) }
@@ -271,7 +275,7 @@ impl<N: Mechanism, K: Mechanism> CredSspClient<N, K> {
         ensures step { let c = either N.meaning K.meaning in (start : ClientView (SspiContext N K)) (d : TsRequest) →
             d.nego_tokens ≡ request.nego_tokens → start.target ≡ self.old.target →
             IfContext self.old.context (Begun c start.context start.handle (ForClient start.mode) purposes.Outbound (Some start.credentials) self.old.handle) →
-            HasStepped c start d [] result self.new }
+            HasStepped c start d 0 [] result self.new }
         ensures cause { IfErr result (λ error. error.error_type ≢ ErrorKind.InsufficientMemory →
             StateCause (either N.meaning K.meaning) self.old.state request self.new error.error_type) }
         ensures plain { IfErr result (λ error. error.nstatus ≡ None) }
@@ -301,7 +305,7 @@ impl<N: Mechanism, K: Mechanism> CredSspClient<N, K> {
         ensures passed { OnOk result ((is_altered self.old.context self.old.noted version ≡ false) × IsSome self.new.context) }
         ensures cause { let c = either N.meaning K.meaning in IfErr result (λ error. error.error_type ≢ ErrorKind.InsufficientMemory →
             StopsIf (is_altered self.old.context self.old.noted version) ErrorKind.MessageAltered error.error_type
-            (MadeOr self.new.context (BeginCause c (ForClient self.old.mode) purposes.Outbound (Some self.old.credentials) error.error_type) ⊥)) }
+            (MadeOr self.old.context self.new.context (BeginCause c (ForClient self.old.mode) purposes.Outbound (Some self.old.credentials) error.error_type) ⊥)) }
         ensures plain { IfErr result (λ error. error.nstatus ≡ None) }
     {
         match &self.context {

@@ -1,5 +1,5 @@
 // The client's turns of the authentication (NegoToken).
-ghost use Rattle.std.specs.Prelude.{◌≡◌, ◌≢◌, ◌<◌, ℕ, List, [], ◌∷◌, None, Some, true, false, IsSome, IsErr, OnOk, OnErr, IfOk, IfErr};
+ghost use Rattle.std.specs.Prelude.{◌≡◌, ◌≢◌, ◌<◌, ◌+◌, ℕ, List, [], ◌∷◌, None, Some, true, false, IsSome, IsErr, OnOk, OnErr, IfOk, IfErr};
 ghost use Rattle.sspi_names.specs.declared.network.NetworkRequest.{NetworkRequest};
 ghost use Rattle.sspi_mech.specs.Answers.{answer_of, OnAsk};
 ghost use Rattle.sspi_mech.specs.declared.step.Answer.TheVariants as answers;
@@ -66,7 +66,7 @@ impl<N: Mechanism, K: Mechanism> CredSspClient<N, K> {
         ensures step { let c = either N.meaning K.meaning in (start : ClientView (SspiContext N K)) (d : TsRequest) →
             d.nego_tokens ≡ request.nego_tokens → start.target ≡ self.old.target →
             IfContext self.old.context (Begun c start.context start.handle (ForClient start.mode) purposes.Outbound (Some start.credentials) self.old.handle) →
-            HasStepped c start d [] result self.new }
+            HasStepped c start d 0 [] result self.new }
         ensures cause { IfErr result (λ error. error.error_type ≢ ErrorKind.InsufficientMemory →
             NegoCause (either N.meaning K.meaning) self.new.acts.status self.new error.error_type) }
         ensures plain { IfErr result (λ error. error.nstatus ≡ None) }
@@ -96,15 +96,18 @@ impl<N: Mechanism, K: Mechanism> CredSspClient<N, K> {
         ensures turn { let c = either N.meaning K.meaning in (start : ClientView (SspiContext N K)) (d : TsRequest) →
             request ≡ record d { version = self.old.version } → IsReady c start d self.old → self.old.state ≡ CredSspState.NegoToken →
             self.old.output ≡ [] → ClientGoes c start d result self.new }
-        ensures step { let c = either N.meaning K.meaning in (start : ClientView (SspiContext N K)) (d : TsRequest) (log : List Asked) (q : NetworkRequest) →
-            StepsTo c start d log (answers.Ask q) self.old →
-            HasStepped c start d (record { question = q; reply = reply.now } ∷ log) result self.new }
-        ensures still { let c = either N.meaning K.meaning in (start : ClientView (SspiContext N K)) (d : TsRequest) (log : List Asked) (q : NetworkRequest) →
+        ensures step { let c = either N.meaning K.meaning in (start : ClientView (SspiContext N K)) (d : TsRequest)
+            (tries : ℕ) (log : List Asked) (q : NetworkRequest) →
+            StepsTo c start d tries log (answers.Ask q) self.old →
+            HasStepped c start d tries (record { question = q; reply = reply.now } ∷ log) result self.new }
+        ensures still { let c = either N.meaning K.meaning in (start : ClientView (SspiContext N K)) (d : TsRequest)
+            (tries : ℕ) (log : List Asked) (q : NetworkRequest) →
             request ≡ record d { version = self.old.version } → IsReady c start d self.old → self.old.state ≡ CredSspState.NegoToken →
-            self.old.output ≡ [] → StepsTo c start d log (answers.Ask q) self.old →
+            self.old.output ≡ [] → StepsTo c start d tries log (answers.Ask q) self.old →
             OnErr result (self.new.acts.status ≡ None → is_waiting_in c self.new.context ≡ true →
-            IsUnderway c start d self.new × StepsTo c start d (record { question = q; reply = reply.now } ∷ log) (answers.Ask q) self.new) }
+            IsUnderway c start d self.new × StepsTo c start d (tries + 1) (record { question = q; reply = reply.now } ∷ log) (answers.Ask q) self.new) }
         ensures falls { let c = either N.meaning K.meaning in OnSuspended result (left_in c self.new.context < left_in c self.old.context) }
+        ensures negotiated { self.new.acts.negotiated ≡ true }
         ensures cause { IfErr result (λ error. error.error_type ≢ ErrorKind.InsufficientMemory →
             NegoCause (either N.meaning K.meaning) self.new.acts.status self.new error.error_type) }
         ensures plain { IfErr result (λ error. error.nstatus ≡ None) }
@@ -131,12 +134,13 @@ impl<N: Mechanism, K: Mechanism> CredSspClient<N, K> {
         ensures turn { let c = either N.meaning K.meaning in (start : ClientView (SspiContext N K)) (d : TsRequest) →
             request ≡ record d { version = self.old.version } → IsReady c start d self.old → self.old.state ≡ CredSspState.NegoToken →
             self.old.output ≡ [] → OnAsk (answer_of progress) (is_waiting_in c self.old.context ≡ true) → ClientGoes c start d result self.new }
-        ensures step { let c = either N.meaning K.meaning in (start : ClientView (SspiContext N K)) (d : TsRequest) (log : List Asked) →
-            StepsTo c start d log (answer_of progress) self.old → HasStepped c start d log result self.new }
+        ensures step { let c = either N.meaning K.meaning in (start : ClientView (SspiContext N K)) (d : TsRequest) (tries : ℕ) (log : List Asked) →
+            StepsTo c start d tries log (answer_of progress) self.old → HasStepped c start d tries log result self.new }
         ensures refused { OnErr result (self.new.acts.status ≡ None →
             (self.new ≡ record self.old { kept = self.new.kept }) × IsErr progress) }
         ensures kept { OnErr result (self.new.acts.status ≡ None →
             is_waiting_in (either N.meaning K.meaning) self.new.context ≡ true → self.new.kept ≡ Some request) }
+        ensures negotiated { self.new.acts.negotiated ≡ true }
         ensures falls { let c = either N.meaning K.meaning in (n : ℕ) → OnAsk (answer_of progress) (left_in c self.old.context < n) →
             OnSuspended result (left_in c self.new.context < n) }
         ensures cause { IfErr result (λ error. error.error_type ≢ ErrorKind.InsufficientMemory →

@@ -179,7 +179,7 @@ impl<N: Mechanism, K: Mechanism, C: CredentialsProxy> CredSspServer<N, K, C> {
         ensures refused { OnErr result (BeginRefused (either N.meaning K.meaning) self.old version self.new) }
         ensures err { OnErr result (self.new ≡ self.old) }
         ensures cause { let c = either N.meaning K.meaning in IfErr result (λ error. error.error_type ≢ ErrorKind.InsufficientMemory →
-            MadeOr self.new.context (BeginCause c (ForServer self.old.mode) purposes.Inbound None error.error_type)
+            MadeOr self.old.context self.new.context (BeginCause c (ForServer self.old.mode) purposes.Inbound None error.error_type)
             (StopsIf (differs self.old.noted version) ErrorKind.MessageAltered error.error_type ⊥)) }
         ensures plain { IfErr result (λ error. error.nstatus ≡ None) }
     {
@@ -256,8 +256,11 @@ impl<N: Mechanism, K: Mechanism, C: CredentialsProxy> CredSspServer<N, K, C> {
             d.nego_tokens ≡ request.nego_tokens → C.told start.proxy ≡ C.told self.old.proxy →
             IfContext self.old.context (Begun c start.context start.handle (ForServer start.mode) purposes.Inbound None self.old.handle) →
             HasAcceptedTurn c C.told start d result self.new }
-        ensures cause { IfErr result (λ refusal. refusal.error.error_type ≢ ErrorKind.InsufficientMemory →
-            StateCause (either N.meaning K.meaning) C.told C.faults self.old.state self.old.proxy request self.new refusal.error.error_type) }
+        ensures cause { let c = either N.meaning K.meaning in (start : ServerView (SspiContext N K) C) (d : TsRequest) →
+            request ≡ record d { version = self.old.version } → start.proxy ≡ self.old.proxy →
+            IfContext self.old.context (Begun c start.context start.handle (ForServer start.mode) purposes.Inbound None self.old.handle) →
+            IfErr result (λ refusal. refusal.error.error_type ≢ ErrorKind.InsufficientMemory →
+            StateCause c C.told C.faults self.old.state start d self.new refusal.error.error_type) }
         ensures plain { IfErr result (λ refusal. refusal.error.nstatus ≡ None) }
         ensures begun { IsSome self.new.context }
         ensures once { C.calls self.new.proxy ≤ C.calls self.old.proxy + 1 }

@@ -169,7 +169,7 @@ fn identify<N: Mechanism, K: Mechanism, C: CredentialsProxy>(
 impl<N: Mechanism, K: Mechanism, C: CredentialsProxy> CredSspServer<N, K, C> {
     ghost use Rattle.sspi_credssp.specs.Server.{ServerView};
     ghost use Rattle.sspi_credssp.specs.ServerCause.{NegoCause, OverCause, AfterCause};
-    ghost use Rattle.sspi_credssp.specs.ServerStep.{Unknown, Accepted, CompletedStep, HasAccepted, HasAcceptedTurn};
+    ghost use Rattle.sspi_credssp.specs.ServerStep.{Unknown, Accepted, HasCome, CompletedStep, HasAccepted, HasAcceptedTurn};
     ghost use Rattle.sspi_credssp.specs.ServerTurn.{ServerGoes, Answered, IsReady};
 
     pub(crate) fn negotiate(&mut self, request: TsRequest) -> Result<ServerState, ServerError>
@@ -183,8 +183,11 @@ impl<N: Mechanism, K: Mechanism, C: CredentialsProxy> CredSspServer<N, K, C> {
             d.nego_tokens ≡ request.nego_tokens → C.told start.proxy ≡ C.told self.old.proxy →
             IfContext self.old.context (Begun c start.context start.handle (ForServer start.mode) purposes.Inbound None self.old.handle) →
             HasAcceptedTurn c C.told start d result self.new }
-        ensures cause { IfErr result (λ refusal. refusal.error.error_type ≢ ErrorKind.InsufficientMemory →
-            NegoCause (either N.meaning K.meaning) C.told C.faults self.new.acts.status self.old.proxy request.pub_key_auth request.client_nonce self.new refusal.error.error_type) }
+        ensures cause { let c = either N.meaning K.meaning in (start : ServerView (SspiContext N K) C) (d : TsRequest) →
+            request ≡ record d { version = self.old.version } → start.proxy ≡ self.old.proxy →
+            IfContext self.old.context (Begun c start.context start.handle (ForServer start.mode) purposes.Inbound None self.old.handle) →
+            IfErr result (λ refusal. refusal.error.error_type ≢ ErrorKind.InsufficientMemory →
+            NegoCause c C.told C.faults self.new.acts.status start d self.new refusal.error.error_type) }
         ensures plain { IfErr result (λ refusal. refusal.error.nstatus ≡ None) }
         ensures begun { IsSome self.new.context }
         ensures once { C.calls self.new.proxy ≤ C.calls self.old.proxy + 1 }
@@ -213,8 +216,11 @@ impl<N: Mechanism, K: Mechanism, C: CredentialsProxy> CredSspServer<N, K, C> {
             HasAccepted c C.told start d result self.new }
         ensures state { OnErr result (self.new.state ≡ self.old.state) }
         ensures version { self.new.version ≡ self.old.version }
-        ensures cause { IfErr result (λ error. error.error_type ≢ ErrorKind.InsufficientMemory →
-            NegoCause (either N.meaning K.meaning) C.told C.faults self.new.acts.status self.old.proxy request.now.pub_key_auth request.now.client_nonce self.new error.error_type) }
+        ensures cause { let c = either N.meaning K.meaning in (start : ServerView (SspiContext N K) C) (d : TsRequest) →
+            request.now ≡ record d { version = self.old.version } → start.proxy ≡ self.old.proxy →
+            IfContext self.old.context (Begun c start.context start.handle (ForServer start.mode) purposes.Inbound None self.old.handle) →
+            IfErr result (λ error. error.error_type ≢ ErrorKind.InsufficientMemory →
+            NegoCause c C.told C.faults self.new.acts.status start d self.new error.error_type) }
         ensures plain { IfErr result (λ error. error.nstatus ≡ None) }
         ensures begun { IsSome self.new.context }
         ensures once { C.calls self.new.proxy ≤ C.calls self.old.proxy + 1 }
@@ -253,8 +259,11 @@ impl<N: Mechanism, K: Mechanism, C: CredentialsProxy> CredSspServer<N, K, C> {
         ensures state { OnErr result (self.new.state ≡ self.old.state) }
         ensures version { self.new.version ≡ self.old.version }
         ensures status { self.new.acts.status ≡ Some status }
-        ensures cause { IfErr result (λ error. error.error_type ≢ ErrorKind.InsufficientMemory →
-            NegoCause (either N.meaning K.meaning) C.told C.faults (Some status) self.old.proxy request.now.pub_key_auth request.now.client_nonce self.new error.error_type) }
+        ensures cause { let c = either N.meaning K.meaning in (start : ServerView (SspiContext N K) C) (d : TsRequest) →
+            request.now ≡ record d { version = self.old.version } → start.proxy ≡ self.old.proxy →
+            HasCome c C.told Unknown status start d self.old →
+            IfErr result (λ error. error.error_type ≢ ErrorKind.InsufficientMemory →
+            NegoCause c C.told C.faults (Some status) start d self.new error.error_type) }
         ensures plain { IfErr result (λ error. error.nstatus ≡ None) }
         ensures begun { IsSome self.new.context }
         ensures once { C.calls self.new.proxy ≤ C.calls self.old.proxy + 1 }
@@ -305,8 +314,11 @@ impl<N: Mechanism, K: Mechanism, C: CredentialsProxy> CredSspServer<N, K, C> {
         ensures state { OnErr result (self.new.state ≡ self.old.state) }
         ensures version { self.new.version ≡ self.old.version }
         ensures status { self.new.acts.status ≡ self.old.acts.status }
-        ensures cause { IfErr result (λ error. error.error_type ≢ ErrorKind.InsufficientMemory →
-            OverCause (either N.meaning K.meaning) C.told C.faults self.old.proxy request.now.pub_key_auth request.now.client_nonce self.new error.error_type) }
+        ensures cause { let c = either N.meaning K.meaning in (start : ServerView (SspiContext N K) C) (d : TsRequest) (status : SecurityStatus) →
+            request.now ≡ record d { version = self.old.version } → start.proxy ≡ self.old.proxy →
+            HasCome c C.told Unknown status start d self.old →
+            IfErr result (λ error. error.error_type ≢ ErrorKind.InsufficientMemory →
+            OverCause c C.told C.faults status start d self.new error.error_type) }
         ensures plain { IfErr result (λ error. error.nstatus ≡ None) }
         ensures begun { IsSome self.new.context }
         ensures once { C.calls self.new.proxy ≤ C.calls self.old.proxy + 1 }

@@ -1,7 +1,6 @@
 -- A client's turn over one context is a turn over another that differs in its counts alone, or over any where it says
 -- nothing of the context.
 use Rattle.std.proofs.Common.{◌≡◌, ℕ, true, List, sym, ◌∙◌, ap, subst, Option, None, Some, Result, Ok, Err}
-use Rattle.sspi_mech.specs.Calls.{no_counts}
 use Rattle.sspi_mech.specs.Context.{IsContext}
 use Rattle.sspi_mech.specs.Meaning.{Meaning}
 use Rattle.sspi_tsreq.specs.declared.request.TsRequest.{TsRequest}
@@ -12,7 +11,7 @@ use Rattle.sspi_types.specs.declared.error.Error.{Error}
 use Rattle.sspi_credssp.specs.ClientTurn.{IsClientTurn, ClientActs, ClientReplies, NegoReply, TokenReply, ProofReply, FinalReply}
 use Rattle.sspi_credssp.specs.Credentials.{IfText, delegated_text}
 use Rattle.sspi_credssp.specs.Context.{ContextSetting}
-use Rattle.sspi_credssp.specs.Counts.{SameBut, SealsIn, OpensIn}
+use Rattle.sspi_credssp.specs.Counts.{SameBut, SealsIn, OpensIn, silent, cleared}
 use Rattle.sspi_credssp.specs.PublicKey.{prescribed}
 use Rattle.sspi_credssp.specs.Turn.{Turn, ClientFrame, Came, Replied, Ended, Finished, Stopped, UnlessStopped, FitsNoted, AtNoted}
 
@@ -31,12 +30,12 @@ pub record SameFrame {C : Type 0} (c : Meaning ContextSetting C) (f g : ClientFr
 
 module _ {C : Type 0} (c : Meaning ContextSetting C) (law : IsContext c) where
   -- what differs in counts alone is the same object with other counts
-  recounted : (m m2 : C) → c.counted m2 no_counts ≡ c.counted m no_counts → m ≡ c.counted m2 (c.counts m)
+  recounted : (m m2 : C) → cleared c m2 ≡ cleared c m → m ≡ c.counted m2 (c.counts m)
   recounted m m2 same =
       sym (law.counted_counts m)
-      ∙ sym (law.counted_counted m no_counts (c.counts m))
+      ∙ sym (law.counted_counted m (silent (c.counts m)) (c.counts m))
       ∙ ap (λ (x : C). c.counted x (c.counts m)) (sym same)
-      ∙ law.counted_counted m2 no_counts (c.counts m)
+      ∙ law.counted_counted m2 (silent (c.counts m2)) (c.counts m)
 
   pub seals_still : (x y : Option C) (n : ℕ) (text : List ℕ) (blob : Option (List ℕ)) → SameBut c x y → SealsIn c x n text blob → SealsIn c y n text blob
   seals_still None y n text blob same h = absurd h

@@ -2,7 +2,6 @@
 use Rattle.std.proofs.Common.{◌≡◌, ℕ, ◌+◌, Bool, true, false, ◌&&◌, List, [], ◌∷◌, sym, ◌∙◌, ap, subst, refl, Option, None, Some, IsSome, Ok, if◌then◌else◌}
 use Rattle.sspi_types.specs.declared.security_status.SecurityStatus.{SecurityStatus}
 use Rattle.sspi_types.specs.declared.security_status.SecurityStatus.TheVariants as statuses
-use Rattle.sspi_mech.specs.Calls.{no_counts}
 use Rattle.sspi_mech.specs.Context.{IsContext}
 use Rattle.sspi_mech.specs.Meaning.{Meaning}
 use Rattle.sspi_tsreq.specs.declared.request.TsRequest.{TsRequest}
@@ -20,7 +19,7 @@ use Rattle.sspi_credssp.specs.declared.client_state.Progress.TheVariants.{Comple
 use Rattle.sspi_credssp.specs.Begun.{IfContext}
 use Rattle.sspi_credssp.specs.ClientStep.{client_args, Asked, Walked, stepped, resumed, still_asked, recounted, DoneStep}
 use Rattle.sspi_credssp.specs.Context.{ContextSetting}
-use Rattle.sspi_credssp.specs.Counts.{sealed_in, unsealed_in, SameBut, is_waiting_in}
+use Rattle.sspi_credssp.specs.Counts.{sealed_in, unsealed_in, SameBut, silent, is_waiting_in}
 use Rattle.sspi_credssp.specs.Noted.{noted_next}
 use Rattle.sspi_credssp.specs.Turn.{Turn, Came, Replied, Ended, Finished, Stopped, ClientFrame}
 use Rattle.sspi_delegate.specs.ClientRun.{client_state, client_noted, ClientEnd, client_end, client_frame_at, EachClientTurn, ClientRan, HasBegun, ClientFollows}
@@ -230,23 +229,23 @@ module _ {C : Type 0} (c : Meaning ContextSetting C) where
       rw (came, nego, s.0, s.1, or_not t.acts.proved) refl
 
   -- a context that has ended its step waits for no KDC
-  walked_idle : (law : IsContext c) (start : ClientView C) (handle : Option CredentialsBuffers) (token : Option (List ℕ)) (log : List Asked) (answer : Answer) (step : Step) (m : C) →
-      answer ≡ Done step → Walked c start handle token log answer m → c.waits m ≡ false
-  walked_idle law start handle token log answer step m is (stepped m0 m1 a begun stepped_so) =
+  walked_idle : (law : IsContext c) (start : ClientView C) (handle : Option CredentialsBuffers) (token : Option (List ℕ)) (tries : ℕ) (log : List Asked)
+      (answer : Answer) (step : Step) (m : C) → answer ≡ Done step → Walked c start handle token tries log answer m → c.waits m ≡ false
+  walked_idle law start handle token tries log answer step m is (stepped m0 m1 a begun stepped_so) =
       law.step_done m0 m (client_args handle start.target token) step (subst (λ (x : Answer). c.steps m0 (client_args handle start.target token) x m) is stepped_so)
-  walked_idle law start handle token log answer step m is (resumed m1 m2 before q reply a walked resumed_so) =
+  walked_idle law start handle token tries log answer step m is (resumed m1 m2 tried before q reply a walked resumed_so) =
       law.resume_done m1 m reply step (subst (λ (x : Answer). c.resumes m1 reply x m) is resumed_so)
-  walked_idle law start handle token log answer step m is (still_asked m1 m2 before q reply error walked resumed_so waits) = absurd (cc (is))
-  walked_idle law start handle token log answer step m is (recounted m1 m2 n before a walked counted) =
-      rw counted (law.waits_counted m1 n ∙ walked_idle law start handle token log answer step m1 is walked)
+  walked_idle law start handle token tries log answer step m is (still_asked m1 m2 tried before q reply error walked resumed_so waits) = absurd (cc (is))
+  walked_idle law start handle token tries log answer step m is (recounted m1 m2 n tried before a walked counted quiet) =
+      rw counted (law.waits_counted m1 n ∙ walked_idle law start handle token tried log answer step m1 is walked)
 
   idle_context : (law : IsContext c) (start : ClientView C) (handle : Option CredentialsBuffers) (token : Option (List ℕ)) (log : List Asked) (step : Step) (context : Option C) →
-      IfContext context (Walked c start handle token log (Done step)) → is_waiting_in c context ≡ false
+      IfContext context (Walked c start handle token 0 log (Done step)) → is_waiting_in c context ≡ false
   idle_context law start handle token log step None h = absurd h
-  idle_context law start handle token log step (Some m) h = walked_idle law start handle token log (Done step) step m refl h
+  idle_context law start handle token log step (Some m) h = walked_idle law start handle token 0 log (Done step) step m refl h
 
   idle_in : (law : IsContext c) (start : ClientView C) (d : TsRequest) (log : List Asked) (status : Option SecurityStatus) (now : ClientView C) (f : ClientFrame C) (t : Turn) (reply : TsRequest) →
-      NegoReply c f t status reply → DoneStep c status start d log now → is_waiting_in c now.context ≡ false
+      NegoReply c f t status reply → DoneStep c status start d 0 log now → is_waiting_in c now.context ≡ false
   idle_in law start d log None now f t reply h step = absurd h
   idle_in law start d log (Some status) now f t reply h step = idle_context law start now.handle d.nego_tokens log (record { status = status; output = now.output }) now.context step
 
@@ -255,7 +254,7 @@ module _ {C : Type 0} (c : Meaning ContextSetting C) where
   waits_same law None None same = refl
   waits_same law None (Some m2) same = absurd same
   waits_same law (Some m) None same = absurd same
-  waits_same law (Some m) (Some m2) same = sym (law.waits_counted m2 no_counts) ∙ ap c.waits same ∙ law.waits_counted m no_counts
+  waits_same law (Some m) (Some m2) same = sym (law.waits_counted m2 (silent (c.counts m2))) ∙ ap c.waits same ∙ law.waits_counted m (silent (c.counts m))
 
   pub client_replied : (law : IsContext c) (replies : List Asked → Type 0) (first old new : ClientView C) (past : List Turn) (d : TsRequest) (reply : TsRequest) →
       ClientFollows c first old past → ClientTurn c old d (Replied reply) new → StepsSo c replies old d (Ok (Completed (ReplyNeeded reply))) new →

@@ -78,7 +78,7 @@ module _ {C : Type 0} (c : Meaning ContextSetting C) where
         new ≡ record mid { output = [] } → turns2 ≡ recorded Server d mid.acts mid.output outcome.Finished ∷ turns →
         ServerGave c told faults failing first identity (server_turns turns2) new
     server_gave first old mid new d identity turns turns2 history turn step proxy rest is =
-        (server_made first old mid new d outcome.Finished turns turns2 history (turn.0, step) proxy rest is, rw (is, rest) turn.1)
+        (server_made first old mid new d outcome.Finished turns turns2 history (turn.0, step, identity, turn.1) proxy rest is, rw (is, rest) turn.1)
 
     pub server_stopped : (first old mid new : ServerView C P) (d : TsRequest) (error : Error) (reply : Option TsRequest) (turns turns2 : List Turn) →
         ServerHistory c told faults failing first (server_turns turns) old →

@@ -105,7 +105,7 @@ module _ {C : Type 0} (c : Meaning ContextSetting C) (law : IsContext c) where
     refused_anyhow replies old mid d error h = record {
       cause = h.cause;
       status = h.status;
-      steps = record { asked = h.steps.asked; replied = tt; step = h.steps.step };
+      steps = record { asked = h.steps.asked; replied = tt; step = h.steps.step; unasked = h.steps.unasked };
     }
 
     client_refused : (first now : ClientView C) (kdc kdc2 : D) (turns : List end.Turn) (error : Error) → IsFreshClient first → OthersWentOn turns →

@@ -1,5 +1,6 @@
 -- Why a turn was refused that asked a KDC.
 use Rattle.std.proofs.Common.{◌≡◌, ◌≢◌, ℕ, ◌==◌, Bool, true, false, not, List, Option, None, Some, IsSome, Err, sym, ◌∙◌, subst, refl, arith, eq-eqb}
+use Rattle.std.proofs.lemmas.Bool.{true≢false}
 use Rattle.sspi_types.specs.declared.error.Error.{Error}
 use Rattle.sspi_types.specs.declared.error_kind.ErrorKind.{ErrorKind}
 use Rattle.sspi_types.specs.declared.error_kind.ErrorKind.TheVariants.{OutOfSequence, InvalidToken, MessageAltered, InsufficientMemory}
@@ -36,9 +37,10 @@ stops_past test here kind Later unmet h = rw unmet h
 stops_later : (test : Bool) (here kind : ErrorKind) (Later : Type 0) → test ≡ false → StopsIf test here kind Later → Later
 stops_later test here kind Later unmet h = subst (λ (b : Bool). StopsIf b here kind Later) unmet h
 
-made_past : {C : Type 0} (context : Option C) (Q : C → Type 0) (Cause Later : Type 0) → IfContext context Q → Later → MadeOr context Cause Later
-made_past None Q Cause Later there h = absurd there
-made_past (Some m) Q Cause Later there h = h
+made_past : {C : Type 0} (old new : Option C) (Q : C → Type 0) (Cause Later : Type 0) → IfContext new Q → Later → MadeOr old new Cause Later
+made_past old None Q Cause Later there h = absurd there
+made_past (Some m) (Some m2) Q Cause Later there h = h
+made_past None (Some m2) Q Cause Later there h = h
 
 module _ {C : Type 0} (c : Meaning ContextSetting C) where
   on_step : (negotiated : Bool) (Q : Type 0) → negotiated ≡ true → OnStep c negotiated Q → Q
@@ -66,7 +68,7 @@ module _ {C : Type 0} (c : Meaning ContextSetting C) where
   state_cause state d new kind is h = rw is h
 
   resumed_cause : (start : ClientView C) (d : TsRequest) (mid new : ClientView C) (log : List Asked) (error : Error) → IsUnderway c start d mid →
-      ResumeCause c mid new error.error_type → ClientTurn c start d (Stopped error.error_type None) new → HasStepped c start d log (Err error) new →
+      ResumeCause c mid new error.error_type → ClientTurn c start d (Stopped error.error_type None) new → HasStepped c start d 0 log (Err error) new →
       ClientCause c start d new error.error_type
   resumed_cause start d mid new log error way cause turn step =
       let nego = resumed_nego start d mid new error.error_type way cause in
@@ -75,17 +77,17 @@ module _ {C : Type 0} (c : Meaning ContextSetting C) where
       (stops_past _ InvalidToken error.error_type _ way.ready.code
       (stops_past (is_altered start.context start.noted d.version) MessageAltered error.error_type _
       (fits_unaltered start.context start.noted mid.noted d.version way.ready.noted way.ready.fits)
-      (made_past new.context _ _ _ (on_step new.acts.negotiated _ negotiated step)
+      (made_past start.context new.context _ _ _ (on_step new.acts.negotiated _ negotiated step)
       (state_cause start.state d new error.error_type (sym way.ready.state ∙ way.state) nego))))
 
   pub resumed_refuses : (replies : List Asked → Type 0) (start : ClientView C) (d : TsRequest) (mid new : ClientView C) (log : List Asked) (error : Error) → IsUnderway c start d mid →
       (error.error_type ≢ InsufficientMemory → ResumeCause c mid new error.error_type) → error.nstatus ≡ None →
-      ClientTurn c start d (Stopped error.error_type None) new → HasStepped c start d log (Err error) new → replies log →
+      ClientTurn c start d (Stopped error.error_type None) new → HasStepped c start d 0 log (Err error) new → replies log → new.acts.negotiated ≡ true →
       ClientRefuses c replies start d error new
-  resumed_refuses replies start d mid new log error way cause plain turn step replied = record {
+  resumed_refuses replies start d mid new log error way cause plain turn step replied negotiated = record {
     cause = λ other. resumed_cause start d mid new log error way (cause other) turn step;
     status = rw (way.ready.idle, way.ready.code) plain;
-    steps = record { asked = log; replied = replied; step = step };
+    steps = record { asked = log; replied = replied; step = step; unasked = λ none. absurd (true≢false (sym negotiated ∙ none)) };
   }
 
 pub proxy_on : {P : Type 0} (told : P → Option (List AuthIdentity)) (failing : P → Option (List ℕ)) (faults : P → ℕ) (a b d : P) →

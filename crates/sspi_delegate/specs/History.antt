@@ -15,7 +15,7 @@ use Rattle.sspi_credssp.specs.Context.{ContextSetting}
 use Rattle.sspi_credssp.specs.Server.{ServerView}
 use Rattle.sspi_credssp.specs.ServerCause.{ServerCause}
 use Rattle.sspi_credssp.specs.ServerStep.{DoneStep, HasAccepted}
-use Rattle.sspi_credssp.specs.ServerTurn.{ServerTurn, server_turn}
+use Rattle.sspi_credssp.specs.ServerTurn.{ServerTurn, HoldsIdentity, server_turn}
 use Rattle.sspi_credssp.specs.Turn.{Came, Replied, Ended, Finished, Stopped}
 use Rattle.sspi_credssp.specs.Turn as end
 use Rattle.sspi_delegate.specs.declared.answer.Delegation.{Delegation}
@@ -98,11 +98,13 @@ module _ {C : Type 0} (c : Meaning ContextSetting C) where
       pub status : error.nstatus ≡ None
       pub step : HasAccepted c told {T = ServerState} old d (Err error) new
 
-    -- the server took d and came to this, by a step of its context where it authenticates; a refusal has its cause
+    -- the server took d and came to this, by a step of its context where it authenticates; a refusal has its cause, and the
+    -- end the identity whose credentials were opened
     abbrev pub ServerMakes : ServerView C P → TsRequest → Came → ServerView C P → Type 0
     ServerMakes old d (Replied reply) new = ServerTurn c old d (Replied reply) new × DoneStep c told new.acts.status old d new
     ServerMakes old d (Ended reply) new = ⊥
     ServerMakes old d Finished new = ServerTurn c old d Finished new × DoneStep c told new.acts.status old d new
+        × (identity : AuthIdentity) × HoldsIdentity c new.context d.auth_info identity
     ServerMakes old d (Stopped kind reply) new =
         (error : Error) × (error.error_type ≡ kind) × ServerTurn c old d (Stopped kind reply) new × ServerRefuses old d error new
 

@@ -1,5 +1,5 @@
 -- Why an end refused its last turn: what it looked at, in its order, and what its context answered.
-use Rattle.std.specs.Prelude.{◌≡◌, ◌≢◌, ◌≤◌, ℕ, List, [], ◌∷◌, Option, Some, None, Result, Ok, Err}
+use Rattle.std.specs.Prelude.{◌≡◌, ◌≢◌, ◌≤◌, ℕ, List, [], ◌∷◌, Option, Some, None, Result, Ok, Err, false}
 use Rattle.sspi_types.specs.declared.error.Error.{Error}
 use Rattle.sspi_types.specs.declared.error_kind.ErrorKind.TheVariants.{InsufficientMemory}
 use Rattle.sspi_mech.specs.Meaning.{Meaning}
@@ -43,11 +43,12 @@ any_replies asked = Unit {0}
 
 module _ {C : Type 0} (c : Meaning ContextSetting C) where
   -- the step that a client's turn took of its context, with what a KDC was asked in it, the newest request first, and the
-  -- replies that it gave
+  -- replies that it gave: no refused resume was tried again, and where no step was taken nothing was asked
   pub record StepsSo (replies : List Asked → Type 0) (old : ClientView C) (d : TsRequest) (result : Result Progress Error) (new : ClientView C) : Type 0 where
     pub asked : List Asked
     pub replied : replies asked
-    pub step : HasStepped c old d asked result new
+    pub step : HasStepped c old d 0 asked result new
+    pub unasked : new.acts.negotiated ≡ false → asked ≡ []
 
   -- a turn of the client on d was refused
   pub record ClientRefuses (replies : List Asked → Type 0) (old : ClientView C) (d : TsRequest) (error : Error) (new : ClientView C) : Type 0 where

@@ -34,8 +34,8 @@ module _ {C : Type 0} (c : Meaning ContextSetting C) where
 
   module _ {D : Type 0} (k : KdcCalls D) where
     makes_anyhow : (old new : ClientView C) (kdc kdc2 : D) (d : TsRequest) (came : Came) → ClientMakes c k old kdc d came new kdc2 → MakesAnyhow old d came new
-    makes_anyhow old new kdc kdc2 d (Replied reply) h = (h.0, record { asked = h.1.asked; replied = tt; step = h.1.step })
-    makes_anyhow old new kdc kdc2 d (Ended reply) h = (h.0, record { asked = h.1.asked; replied = tt; step = h.1.step })
+    makes_anyhow old new kdc kdc2 d (Replied reply) h = (h.0, record { asked = h.1.asked; replied = tt; step = h.1.step; unasked = h.1.unasked })
+    makes_anyhow old new kdc kdc2 d (Ended reply) h = (h.0, record { asked = h.1.asked; replied = tt; step = h.1.step; unasked = h.1.unasked })
     makes_anyhow old new kdc kdc2 d Finished h = h
     makes_anyhow old new kdc kdc2 d (Stopped kind None) h = (
       h.0,
@@ -44,7 +44,7 @@ module _ {C : Type 0} (c : Meaning ContextSetting C) where
       record {
         cause = h.3.cause;
         status = h.3.status;
-        steps = record { asked = h.3.steps.asked; replied = tt; step = h.3.steps.step };
+        steps = record { asked = h.3.steps.asked; replied = tt; step = h.3.steps.step; unasked = h.3.steps.unasked };
       },
     )
     makes_anyhow old new kdc kdc2 d (Stopped kind (Some reply)) h = h

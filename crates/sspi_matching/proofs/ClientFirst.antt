@@ -79,7 +79,7 @@ module _ {K : Type 0} (k : Meaning Setting K) where
       subst (λ (x : NtlmState). client_step x.stage x now.handle (token_of d.nego_tokens) ≡ Goes (negotiated_object x) negotiate_step) (sym begun.0) refl
 
   first_status : (a now : View) (d reply : TsRequest) (status : Option SecurityStatus) (log : List Asked) → a.context ≡ None → now.acts.status ≡ status →
-      NegoReply meaning (client_frame meaning a now) (client_turn meaning d (Replied reply) now) status reply → DoneStep meaning status a d log now →
+      NegoReply meaning (client_frame meaning a now) (client_turn meaning d (Replied reply) now) status reply → DoneStep meaning status a d 0 log now →
       Answered now.context (FirstBegun a now) negotiated_object × (status ≡ Some statuses.ContinueNeeded) × (now.output ≡ negotiate_message)
   first_status a now d reply None log none is h step = absurd h
   first_status a now d reply (Some st) log none is h step =
@@ -135,17 +135,18 @@ module _ {K : Type 0} (k : Meaning Setting K) where
 
   -- ---- refusals of a turn of the authentication
 
-  made_at : (old : View) (kind : ErrorKind) (i : AuthIdentity) (context : Option (SspiContext NtlmState K)) (Later : Type 0) → old.credentials ≡ credentials.AuthIdentity i →
-      MadeOr context (BeginCause meaning (ForClient old.mode) Outbound (Some old.credentials) kind) Later → Later
-  made_at old kind i None Later is h = absurd (begin_never k old.mode old.credentials i kind is h)
-  made_at old kind i (Some m) Later is h = h
+  made_at : (old : View) (kind : ErrorKind) (i : AuthIdentity) (was context : Option (SspiContext NtlmState K)) (Later : Type 0) → old.credentials ≡ credentials.AuthIdentity i →
+      MadeOr was context (BeginCause meaning (ForClient old.mode) Outbound (Some old.credentials) kind) Later → Later
+  made_at old kind i (Some m) context Later is h = h
+  made_at old kind i None (Some m) Later is h = h
+  made_at old kind i None None Later is h = absurd (begin_never k old.mode old.credentials i kind is h)
 
   -- a refusal is past what a turn looks at first
   pub cause_past : (old mid : View) (d : TsRequest) (kind : ErrorKind) (i : AuthIdentity) → old.credentials ≡ credentials.AuthIdentity i →
       is_waiting_in meaning old.context ≡ false → is_code d.error_code ≡ false → is_altered old.context old.noted d.version ≡ false →
       ClientCause meaning old d mid kind → StateCause meaning old.state d mid kind
   cause_past old mid d kind i is idle code fits cause =
-      made_at old kind i mid.context _ is
+      made_at old kind i old.context mid.context _ is
       (stops_later _ MessageAltered kind _ fits (stops_later _ InvalidToken kind _ code (stops_later _ OutOfSequence kind _ idle cause)))
 
   nego_cause : (state : CredSspState) (d : TsRequest) (mid : View) (kind : ErrorKind) → state ≡ NegoToken → StateCause meaning state d mid kind →
@@ -221,7 +222,7 @@ module _ {K : Type 0} (k : Meaning Setting K) where
         goes_on_as k (ForClient old.mode) old.context (Some old.credentials) old.handle now.handle m0 given.is.context_is.object Outbound given.is.context_is.there begun
 
     second_status : (now : View) (reply : TsRequest) (status : Option SecurityStatus) (log : List Asked) →
-        NegoReply meaning (client_frame meaning old now) (client_turn meaning d (Replied reply) now) status reply → DoneStep meaning status old d log now →
+        NegoReply meaning (client_frame meaning old now) (client_turn meaning d (Replied reply) now) status reply → DoneStep meaning status old d 0 log now →
         Answered now.context (SecondBegun old now given.is.context_is.object) (keyed_object i challenge) × (status ≡ Some statuses.Ok) × (now.output ≡ last_token i challenge)
     second_status now reply None log h step = absurd h
     second_status now reply (Some st) log h step =

@@ -75,11 +75,11 @@ module _ {K : Type 0} (k : Meaning Setting K) where
       Begun (either ntlm_meaning k) start.context start.handle (ForClient start.mode) Outbound (Some start.credentials) now.handle m0 → IfNtlm k m0 begun)
       (outcome : (m : NtlmState) → begun m → client_step m.stage m now.handle (token_of d.nego_tokens) ≡ Goes (f m) expected) where
     -- a step that is done answers as expected
-    pub step_done : (log : List Asked) (step : Step) → IfContext now.context (Walked (either ntlm_meaning k) start now.handle d.nego_tokens log (Done step)) →
+    pub step_done : (log : List Asked) (step : Step) → IfContext now.context (Walked (either ntlm_meaning k) start now.handle d.nego_tokens 0 log (Done step)) →
         Answered now.context begun f × (step ≡ expected)
     step_done log step walked =
         let there = in_context now.context _ walked in
-        let s = stepped_once k begun start now.handle d.nego_tokens log (Done step) there.0 begins there.2 in
+        let s = stepped_once k begun start now.handle d.nego_tokens 0 log (Done step) there.0 begins there.2 in
         let same = goes_same _ (f s.before) s.after expected step (outcome s.before s.begins) s.steps in (
           record {
             before = s.before;
@@ -95,15 +95,15 @@ module _ {K : Type 0} (k : Meaning Setting K) where
 
     -- and is refused for want of memory alone
     pub step_never : (log : List Asked) (error : Error) → error.error_type ≢ InsufficientMemory →
-        IfContext now.context (Walked (either ntlm_meaning k) start now.handle d.nego_tokens log (Refused error)) → ⊥
+        IfContext now.context (Walked (either ntlm_meaning k) start now.handle d.nego_tokens 0 log (Refused error)) → ⊥
     step_never log error other walked =
         let there = in_context now.context _ walked in
-        let s = stepped_once k begun start now.handle d.nego_tokens log (Refused error) there.0 begins there.2 in
+        let s = stepped_once k begun start now.handle d.nego_tokens 0 log (Refused error) there.0 begins there.2 in
         let goes = outcome s.before s.begins in
         let stops = s.steps.0 other in cc
 
     pub done_at : (status : Option SecurityStatus) (st : SecurityStatus) (log : List Asked) → status ≡ Some st →
-        DoneStep (either ntlm_meaning k) status start d log now → Answered now.context begun f × (st ≡ expected.status) × (now.output ≡ expected.output)
+        DoneStep (either ntlm_meaning k) status start d 0 log now → Answered now.context begun f × (st ≡ expected.status) × (now.output ≡ expected.output)
     done_at None st log is h = absurd (cc (is))
     done_at (Some s2) st log is h =
         let step : Step = record { status = s2; output = now.output } in
@@ -113,7 +113,7 @@ module _ {K : Type 0} (k : Meaning Setting K) where
 
     refused_at : (status : Option SecurityStatus) (negotiated : Bool) (log : List Asked) (error : Error) → negotiated ≡ true →
         error.error_type ≢ InsufficientMemory →
-        OnStep (either ntlm_meaning k) negotiated (IfContext now.context (Walked (either ntlm_meaning k) start now.handle d.nego_tokens log (refused_answer status now.output error))) →
+        OnStep (either ntlm_meaning k) negotiated (IfContext now.context (Walked (either ntlm_meaning k) start now.handle d.nego_tokens 0 log (refused_answer status now.output error))) →
         Answered now.context begun f × (status ≡ Some expected.status)
     refused_at None true log error was other h = absurd (step_never log error other h)
     refused_at (Some st) true log error was other h =

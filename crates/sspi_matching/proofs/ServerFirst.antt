@@ -129,9 +129,9 @@ module _ {K P : Type 0} (k : Meaning Setting K) (told : P → Option (List AuthI
     pub first_never_finishes : (mid : View) → ServerMakes meaning told faults b d Finished mid → ⊥
     first_never_finishes mid makes = let auth = makes.0.turn.reply.0 in let nego = given.fresh.state in cc
 
-    nego_cause : (mid : View) (kind : ErrorKind) → StateCause meaning told faults b.state b.proxy d mid kind →
-        NegoCause meaning told faults mid.acts.status b.proxy d.pub_key_auth d.client_nonce mid kind
-    nego_cause mid kind h = subst (λ (s : CredSspState). StateCause meaning told faults s b.proxy d mid kind) given.fresh.state h
+    nego_cause : (mid : View) (kind : ErrorKind) → StateCause meaning told faults b.state b d mid kind →
+        NegoCause meaning told faults mid.acts.status b d mid kind
+    nego_cause mid kind h = subst (λ (s : CredSspState). StateCause meaning told faults s b d mid kind) given.fresh.state h
 
     pub first_refuses : (mid : View) (kind : ErrorKind) (reply : Option TsRequest) → ServerMakes meaning told faults b d (Stopped kind reply) mid → kind ≢ InsufficientMemory → ⊥
     first_refuses mid kind reply makes other =
@@ -140,7 +140,7 @@ module _ {K P : Type 0} (k : Meaning Setting K) (told : P → Option (List AuthI
         let refuses = makes.3 in
         let others : error.error_type ≢ InsufficientMemory = λ memory. other (sym makes.1 ∙ memory) in
         let cause = nego_cause mid error.error_type (cause_past k told faults b mid d error.error_type (rw given.fresh.noted refl) (refuses.cause others)) in
-        let began = nego_began k told faults mid.acts.status b.proxy d.pub_key_auth d.client_nonce mid error.error_type refl turn.turn.acts.answered cause in
+        let began = nego_began k told faults mid.acts.status b d mid error.error_type refl turn.turn.acts.answered cause in
         let s = refused_so k told (FirstBegun b) challenged challenge_step b mid d (first_begins mid) first_outcome error began others refuses.step in
         let a = asked mid s.status s.answered in
-        subst (λ (x : Option SecurityStatus). NegoCause meaning told faults x b.proxy d.pub_key_auth d.client_nonce mid error.error_type) (s.status_is ∙ ap Some a.0) cause
+        subst (λ (x : Option SecurityStatus). NegoCause meaning told faults x b d mid error.error_type) (s.status_is ∙ ap Some a.0) cause

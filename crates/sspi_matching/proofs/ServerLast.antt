@@ -96,7 +96,7 @@ module _ {K P : Type 0} (k : Meaning Setting K) (told : P → Option (List AuthI
         let refuses = makes.3 in
         let others : error.error_type ≢ InsufficientMemory = λ memory. other (sym makes.1 ∙ memory) in
         let state = cause_past k told faults old mid d error.error_type last_fits (refuses.cause others) in
-        let stops = subst (λ (s : CredSspState). StateCause meaning told faults s old.proxy d mid error.error_type) given.is.state_is state in
+        let stops = subst (λ (s : CredSspState). StateCause meaning told faults s old d mid error.error_type) given.is.state_is state in
         let at_blob = subst (λ (f : Option (List ℕ)). BlobStops f error.error_type (λ blob. OpenedCause meaning mid.acts.opened mid.context blob error.error_type)) given.field stops in
         let later = stops_later _ InvalidToken error.error_type _ (blob_long key FromClient 1 text) at_blob in
         let same = last_object mid turn.moves.bare in

@@ -40,17 +40,18 @@ module _ {K : Type 0} (k : Meaning Setting K) where
   begin_never (server.Ntlm config) kind (unacquired (Ntlm m) made refuses) = let e : None ≡ Some kind = refuses in cc
   begin_never (server.Ntlm config) kind (unacquired (Kerberos m) made refuses) = made
 
-  made_at : (mode : ServerMode) (kind : ErrorKind) (context : Option (SspiContext NtlmState K)) (Later : Type 0) →
-      MadeOr context (BeginCause (either ntlm_meaning k) (ForServer mode) Inbound None kind) Later → Later
-  made_at mode kind None Later h = absurd (begin_never mode kind h)
-  made_at mode kind (Some m) Later h = h
+  made_at : (mode : ServerMode) (kind : ErrorKind) (was context : Option (SspiContext NtlmState K)) (Later : Type 0) →
+      MadeOr was context (BeginCause (either ntlm_meaning k) (ForServer mode) Inbound None kind) Later → Later
+  made_at mode kind (Some m) context Later h = h
+  made_at mode kind None (Some m) Later h = h
+  made_at mode kind None None Later h = absurd (begin_never mode kind h)
 
   -- a refusal is past what a turn looks at first
   pub cause_past : {P : Type 0} (told : P → Option (List AuthIdentity)) (faults : P → ℕ) (old mid : ServerView (SspiContext NtlmState K) P) (d : TsRequest) (kind : ErrorKind) →
       differs old.noted d.version ≡ false → ServerCause (either ntlm_meaning k) told faults old d mid kind →
-      StateCause (either ntlm_meaning k) told faults old.state old.proxy d mid kind
+      StateCause (either ntlm_meaning k) told faults old.state old d mid kind
   cause_past told faults old mid d kind fits cause =
-      stops_later _ MessageAltered kind _ fits (made_at old.mode kind mid.context _ cause)
+      stops_later _ MessageAltered kind _ fits (made_at old.mode kind old.context mid.context _ cause)
 
   -- the step alone, however far the server knows its peer
   any_taken : (known : Knowing) (begun : NtlmState → Type 0) (entries : Option (List AuthIdentity)) (args : AcceptArgs) (answer : Result Step Error) (m : SspiContext NtlmState K) →
@@ -135,11 +136,11 @@ module _ {K : Type 0} (k : Meaning Setting K) where
     refused_so error was other h = refused_at now.acts.status now.acts.negotiated error refl was other h
 
   module _ {P : Type 0} (told : P → Option (List AuthIdentity)) (faults : P → ℕ) where
-    pub nego_began : (status : Option SecurityStatus) (proxy : P) (field sent_nonce : Option (List ℕ)) (mid : ServerView (SspiContext NtlmState K) P) (kind : ErrorKind) →
+    pub nego_began : (status : Option SecurityStatus) (old : ServerView (SspiContext NtlmState K) P) (d : TsRequest) (mid : ServerView (SspiContext NtlmState K) P) (kind : ErrorKind) →
         mid.acts.status ≡ status → (IsSome mid.acts.status → mid.acts.negotiated ≡ true) →
-        NegoCause (either ntlm_meaning k) told faults status proxy field sent_nonce mid kind → mid.acts.negotiated ≡ true
-    nego_began None proxy field sent_nonce mid kind is answered h = h
-    nego_began (Some status) proxy field sent_nonce mid kind is answered h = answered (rw is refl)
+        NegoCause (either ntlm_meaning k) told faults status old d mid kind → mid.acts.negotiated ≡ true
+    nego_began None old d mid kind is answered h = h
+    nego_began (Some status) old d mid kind is answered h = answered (rw is refl)
 
 module _ {C : Type 0} (c : Meaning ContextSetting C) where
   -- a turn of the authentication opens no credentials

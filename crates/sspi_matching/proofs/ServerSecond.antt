@@ -1,5 +1,5 @@
 -- The second turn of a server of plain NTLM, given the client's last token with its proof.
-use Rattle.std.proofs.Common.{◌≡◌, ◌≢◌, ℕ, ◌-◌, ◌<◌, ◌^◌, List, [], ◌∷◌, length, map, filter, Bool, true, false, Option, None, Some, IsSome, Result, Ok, Err, refl, ap, sym, ◌∙◌, subst, arith, nat_lt, eq-eqb}
+use Rattle.std.proofs.Common.{◌≡◌, ◌≢◌, ℕ, ◌-◌, ◌<◌, ◌^◌, List, [], ◌∷◌, length, map, filter, Bool, true, false, Option, None, Some, IsSome, Ok, refl, ap, sym, ◌∙◌, subst, arith, nat_lt, eq-eqb}
 use Rattle.sspi_types.specs.declared.credential_use.CredentialUse.TheVariants.{Inbound}
 use Rattle.sspi_types.specs.declared.error_kind.ErrorKind.{ErrorKind}
 use Rattle.sspi_types.specs.declared.error_kind.ErrorKind.TheVariants.{InvalidToken, InsufficientMemory}
@@ -16,7 +16,7 @@ use Rattle.sspi_mech.specs.declared.protection.Direction.TheVariants.{FromClient
 use Rattle.sspi_mech.specs.declared.step.Step.{Step}
 use Rattle.sspi_mech.specs.Calls.{ToComplete}
 use Rattle.sspi_mech.specs.Meaning.{Meaning}
-use Rattle.sspi_mech.specs.Ntlm.{ntlm_meaning, absence}
+use Rattle.sspi_mech.specs.Ntlm.{ntlm_meaning}
 use Rattle.sspi_mech.specs.NtlmIdentities.{identified, with_key, key_at}
 use Rattle.sspi_mech.specs.NtlmMessages.{proof_of, key_of}
 use Rattle.sspi_mech.specs.NtlmStage.{NtlmState, name_at}
@@ -24,21 +24,21 @@ use Rattle.sspi_mech.specs.NtlmSteps.{Goes, server_step}
 use Rattle.sspi_mech.specs.Settings.{Setting}
 use Rattle.sspi_tsreq.specs.declared.request.TsRequest.{TsRequest}
 use Rattle.sspi_credssp.specs.declared.context.SspiContext.{SspiContext}
-use Rattle.sspi_credssp.specs.declared.context.SspiContext.TheVariants.{Ntlm, Kerberos}
+use Rattle.sspi_credssp.specs.declared.context.SspiContext.TheVariants.{Ntlm}
 use Rattle.sspi_credssp.specs.declared.public_key.EndpointType.TheVariants.{Client, Server}
 use Rattle.sspi_credssp.specs.declared.state.CredSspState.{CredSspState}
 use Rattle.sspi_credssp.specs.declared.state.CredSspState.TheVariants.{NegoToken, AuthInfo}
 use Rattle.sspi_credssp.specs.Acts.{sealed_by, unsealed_by}
 use Rattle.sspi_credssp.specs.Begun.{Begun, IfContext}
 use Rattle.sspi_credssp.specs.Context.{ContextSetting, ForServer, either, has_password}
-use Rattle.sspi_credssp.specs.Counts.{sealed_in, unsealed_in, SealsIn, SameBut}
+use Rattle.sspi_credssp.specs.Counts.{sealed_in, unsealed_in, SealsIn}
 use Rattle.sspi_credssp.specs.Exchange.{opens_other}
 use Rattle.sspi_credssp.specs.Proxy.{AreCandidates, candidates_of, entry_of, is_named}
 use Rattle.sspi_credssp.specs.PublicKey.{prescribed}
 use Rattle.sspi_credssp.specs.Requests.{token_of, nonce_of}
 use Rattle.sspi_credssp.specs.Server.{ServerView}
 use Rattle.sspi_credssp.specs.ServerCause.{LookUpRefused, failed, nobody, IdentifyCause, nameless, looked, unset, OverCause, unknown, incomplete, known, StateCause, NegoCause, AfterCause, ExchangeCause, BlobCause, ProofCause, AnswerCause, altered, unsealed, lacks_nonce}
-use Rattle.sspi_credssp.specs.ServerStep.{Knowing, Unknown, Identified, Completed, Accepted, DoneStep, IsIdentified, is_identified, server_args}
+use Rattle.sspi_credssp.specs.ServerStep.{Knowing, Unknown, Identified, Completed, Accepted, DoneStep, server_args}
 use Rattle.sspi_credssp.specs.ServerTurn.{StateAnswer, NegoAnswer, OverAnswer, ProofAnswer, StartsUnused, server_frame, server_turn}
 use Rattle.sspi_credssp.specs.Stops.{differs}
 use Rattle.sspi_credssp.specs.Turn.{Replied, Finished, Stopped, AtNoted}
@@ -48,7 +48,7 @@ use Rattle.sspi_matching.proofs.Blobs.{blob_of, blob_long, one_text, never_unope
 use Rattle.sspi_matching.proofs.ClientNegotiation.{stops_later}
 use Rattle.sspi_matching.proofs.NtlmRound.{last_token, claimed, first_found, key_is, proof_length}
 use Rattle.sspi_matching.proofs.ServerNegotiation.{Answers, status_done, refused_so, cause_past, nego_began, nego_acts}
-use Rattle.sspi_matching.proofs.States.{ServerIs, same_object}
+use Rattle.sspi_matching.proofs.States.{ServerIs}
 use Rattle.sspi_matching.proofs.Steps.{IfNtlm, Taken, Told, ByKnowing, goes_on_as, taken_once, with_counts}
 use Rattle.sspi_matching.proofs.ThreeTurns.{in_context}
 
@@ -85,16 +85,6 @@ keyed m identities entries i challenge has stage_is challenge_is candidates =
     (rw (stage_is, challenge_is, list) refl) ∙ key in
     ap (with_key m) at
 
-key_set : (m last : NtlmState) (result : Result (List ℕ) ErrorKind) → with_key m result ≡ Ok last → (key : List ℕ) × (last.protection.key ≡ Some key)
-key_set m last (Ok key) e =
-    let same : record m { protection = record m.protection { key = Some key } } ≡ last = cc in
-    (key, ap (λ (x : NtlmState). x.protection.key) (sym same))
-key_set m last (Err kind) e = absurd cc
-
-has_key : (key : Option (List ℕ)) → absence key ≡ None → (bytes : List ℕ) × (key ≡ Some bytes)
-has_key None e = absurd cc
-has_key (Some bytes) e = (bytes, refl)
-
 module _ {K P : Type 0} (k : Meaning Setting K) (told : P → Option (List AuthIdentity)) (faults : P → ℕ) where
   abbrev meaning : Meaning ContextSetting (SspiContext NtlmState K)
   meaning = either ntlm_meaning k
@@ -105,13 +95,9 @@ module _ {K P : Type 0} (k : Meaning Setting K) (told : P → Option (List AuthI
   abbrev SecondBegun : View → View → NtlmState → NtlmState → Type 0
   SecondBegun old now o m = (m ≡ o) × (now.handle ≡ old.handle)
 
-  -- an identified server refuses nothing of its own end
-  complete_never : (m0 : SspiContext NtlmState K) (x : NtlmState) (entries : Option (List AuthIdentity)) (kind : ErrorKind) → IsIdentified meaning entries m0 (Ntlm x) →
-      meaning.refuses (Ntlm x) ToComplete kind → ⊥
-  complete_never (Ntlm a) x entries kind (is_identified name identities named candidates some sets) refuses =
-      let key = key_set a x (key_at a.stage a.challenge (filter has_password (map credentials.AuthIdentity identities))) sets in
-      let never : None ≡ Some kind = rw key.1 at refuses in cc
-  complete_never (Kerberos a) x entries kind (is_identified name identities named candidates some sets) refuses = sets
+  -- a server with a key refuses nothing of its own end
+  complete_never : (x : NtlmState) (kind : ErrorKind) (key : List ℕ) → x.protection.key ≡ Some key → meaning.refuses (Ntlm x) ToComplete kind → ⊥
+  complete_never x kind key has refuses = let never : None ≡ Some kind = rw has at refuses in cc
 
   -- what the second turn is given
   pub record SecondGiven (b old : View) (d : TsRequest) (challenge : List ℕ) (version : ℕ) (entries : List AuthIdentity) (i : AuthIdentity) : Type 0 where
@@ -300,7 +286,6 @@ module _ {K P : Type 0} (k : Meaning Setting K) (told : P → Option (List AuthI
       pub object_now : NtlmState
       pub there : context ≡ Some (Ntlm object_now)
       pub by : ClaimedBy object_now
-      pub keyed_now : (key : List ℕ) → object_now.protection.key ≡ Some key → object_now.protection.key ≡ Some (key_for i challenge)
 
     after_by : (knows : Knowing) (now : View) (step : Step) (m : SspiContext NtlmState K) → now.context ≡ Some m →
         ByKnowing k knows (Begins now) (told old.proxy) (server_args now.handle d.nego_tokens) (Ok step) m → AfterStep now.context
@@ -310,7 +295,6 @@ module _ {K P : Type 0} (k : Meaning Setting K) (told : P → Option (List AuthI
           object_now = with_counts t.after t.counts;
           there = is ∙ ap Some t.is;
           by = record { stage_is = after.0.stage_is; challenge_is = after.0.challenge_is };
-          keyed_now = λ key some. let none = after.1 in absurd (let never : None ≡ Some key = sym none ∙ some in cc);
         }
     after_by Identified now step m is t =
         let by = told_keyed now step m t in
@@ -318,7 +302,6 @@ module _ {K P : Type 0} (k : Meaning Setting K) (told : P → Option (List AuthI
           object_now = with_counts t.last t.counts;
           there = is ∙ ap Some t.is;
           by = record { stage_is = by.stage_is; challenge_is = by.challenge_is };
-          keyed_now = λ key some. by.key_is;
         }
     after_by Completed now step m is t =
         let by = told_keyed now step m t in
@@ -326,7 +309,6 @@ module _ {K P : Type 0} (k : Meaning Setting K) (told : P → Option (List AuthI
           object_now = with_counts t.last t.counts;
           there = is ∙ ap Some t.is;
           by = record { stage_is = by.stage_is; challenge_is = by.challenge_is };
-          keyed_now = λ key some. by.key_is;
         }
 
     after_step : (knows : Knowing) (now : View) (step : Step) → IfContext now.context (Accepted meaning told old now.handle d.nego_tokens knows (Ok step)) → AfterStep now.context
@@ -349,6 +331,33 @@ module _ {K P : Type 0} (k : Meaning Setting K) (told : P → Option (List AuthI
         never_unopened x (key_for i challenge) FromClient 0 client_text kind by.key_is (rw by.stage_is refl) (next refl) (omega arith) h
     proof_never true x answer kind by few next h = answer_never x answer kind by.key_is few h
 
+    -- the key, once the peer was named
+    record HasKey (context : Option (SspiContext NtlmState K)) : Type 0 where
+      pub keyed_object : NtlmState
+      pub there : context ≡ Some (Ntlm keyed_object)
+      pub key_is : keyed_object.protection.key ≡ Some (key_for i challenge)
+
+    has_key_at : (knows : Knowing) (now : View) (step : Step) (m : SspiContext NtlmState K) → (knows ≡ Unknown → ⊥) → now.context ≡ Some m →
+        ByKnowing k knows (Begins now) (told old.proxy) (server_args now.handle d.nego_tokens) (Ok step) m → HasKey now.context
+    has_key_at Unknown now step m named is t = absurd (named refl)
+    has_key_at Identified now step m named is t =
+        record { keyed_object = with_counts t.last t.counts; there = is ∙ ap Some t.is; key_is = (told_keyed now step m t).key_is }
+    has_key_at Completed now step m named is t =
+        record { keyed_object = with_counts t.last t.counts; there = is ∙ ap Some t.is; key_is = (told_keyed now step m t).key_is }
+
+    keyed_at : (knows : Knowing) (now : View) → (knows ≡ Unknown → ⊥) →
+        IfContext now.context (Accepted meaning told old now.handle d.nego_tokens knows (Ok (record { status = statuses.CompleteNeeded; output = now.output }))) → HasKey now.context
+    keyed_at knows now named took =
+        let there = in_context now.context _ took in
+        has_key_at knows now _ there.0 named there.1
+        (taken_once k told (Begins now) old now.handle d.nego_tokens knows _ there.0 (second_begins now) there.2)
+
+    keyed_now : (now : View) (a : AfterStep now.context) → HasKey now.context → a.object_now.protection.key ≡ Some (key_for i challenge)
+    keyed_now now a has =
+        let here : Some (Ntlm has.keyed_object) ≡ Some (Ntlm a.object_now) = sym has.there ∙ a.there in
+        let same : has.keyed_object ≡ a.object_now = cc in
+        ap (λ (x : NtlmState). x.protection.key) (sym same) ∙ has.key_is
+
     -- once the context has come to its end
     exchange_never : (mid : View) (x : NtlmState) (kind : ErrorKind) → mid.context ≡ Some (Ntlm x) → KeyedBy x → mid.noted ≡ Some version → mid.public_key ≡ b.public_key →
         x.protection.sealed < 2 ^ 64 - 1 → (mid.acts.checked ≡ false → x.protection.unsealed ≡ 0) → AfterCause meaning d.pub_key_auth d.client_nonce mid kind → ⊥
@@ -365,23 +374,19 @@ module _ {K P : Type 0} (k : Meaning Setting K) (told : P → Option (List AuthI
 
     over_never : (mid : View) (kind : ErrorKind) (a : AfterStep mid.context) → faults mid.proxy ≡ faults old.proxy → faults old.proxy < 2 ^ 64 - 1 →
         mid.noted ≡ Some version → mid.public_key ≡ b.public_key → a.object_now.protection.sealed < 2 ^ 64 - 1 → (mid.acts.checked ≡ false → a.object_now.protection.unsealed ≡ 0) →
-        OverCause meaning told faults old.proxy d.pub_key_auth d.client_nonce mid kind → ⊥
-    over_never mid kind a still calm noted public_key few next (unknown unchecked h) =
+        OverCause meaning told faults statuses.CompleteNeeded old d mid kind → ⊥
+    over_never mid kind a still calm noted public_key few next (unknown unchecked come h) =
         identify_never a.object_now (faults old.proxy) (faults mid.proxy) kind a.by still calm
         (subst (λ (o : Option (SspiContext NtlmState K)). IfContext o (λ m. IdentifyCause meaning m (told old.proxy) (faults old.proxy) (faults mid.proxy) kind)) a.there h)
-    over_never mid kind a still calm noted public_key few next (incomplete unchecked m0 h) =
-        let at : IsIdentified meaning (told old.proxy) m0 (Ntlm a.object_now) × meaning.refuses (Ntlm a.object_now) ToComplete kind =
-        subst (λ (o : Option (SspiContext NtlmState K)). IfContext o (λ m. IsIdentified meaning (told old.proxy) m0 m × meaning.refuses m ToComplete kind)) a.there h in
-        complete_never m0 a.object_now (told old.proxy) kind at.0 at.1
-    over_never mid kind a still calm noted public_key few next (known (Ntlm y) permits same after) =
-        let some = has_key y.protection.key permits in
-        let so = same_object k y (Some (Ntlm y)) mid.context refl same in
-        let here : Some (Ntlm so.object) ≡ Some (Ntlm a.object_now) = sym so.there ∙ a.there in
-        let object_same : so.object ≡ a.object_now = cc in
-        let key_now = a.keyed_now some.0 (ap (λ (x : NtlmState). x.protection.key) (sym object_same) ∙ so.key_same ∙ some.1) in
-        exchange_never mid a.object_now kind a.there (record { stage_is = a.by.stage_is; challenge_is = a.by.challenge_is; key_is = key_now }) noted public_key few next after
-    over_never mid kind a still calm noted public_key few next (known (Kerberos y) permits same after) =
-        let at : SameBut meaning (Some (Kerberos y)) (Some (Ntlm a.object_now)) = subst (λ (o : Option (SspiContext NtlmState K)). SameBut meaning (Some (Kerberos y)) o) a.there same in cc
+    over_never mid kind a still calm noted public_key few next (incomplete unchecked come h) =
+        let key = keyed_at Identified mid (λ e. cc) come in
+        let at : meaning.refuses (Ntlm a.object_now) ToComplete kind =
+        subst (λ (o : Option (SspiContext NtlmState K)). IfContext o (λ m. meaning.refuses m ToComplete kind)) a.there h in
+        complete_never a.object_now kind _ (keyed_now mid a key) at
+    over_never mid kind a still calm noted public_key few next (known come after) =
+        let key = keyed_at Completed mid (λ e. cc) come in
+        exchange_never mid a.object_now kind a.there (record { stage_is = a.by.stage_is; challenge_is = a.by.challenge_is; key_is = keyed_now mid a key })
+        noted public_key few next after
 
     second_fits : differs old.noted d.version ≡ false
     second_fits = rw (given.is.noted_is, given.version_is, eq-eqb version version refl) refl
@@ -394,10 +399,10 @@ module _ {K P : Type 0} (k : Meaning Setting K) (told : P → Option (List AuthI
         let refuses = makes.3 in
         let others : error.error_type ≢ InsufficientMemory = λ memory. other (sym makes.1 ∙ memory) in
         let state = cause_past k told faults old mid d error.error_type second_fits (refuses.cause others) in
-        let cause = subst (λ (s : CredSspState). StateCause meaning told faults s old.proxy d mid error.error_type) given.is.state_is state in
-        let began = nego_began k told faults mid.acts.status old.proxy d.pub_key_auth d.client_nonce mid error.error_type refl turn.turn.acts.answered cause in
+        let cause = subst (λ (s : CredSspState). StateCause meaning told faults s old d mid error.error_type) given.is.state_is state in
+        let began = nego_began k told faults mid.acts.status old d mid error.error_type refl turn.turn.acts.answered cause in
         let s = refused_so k told (Begins mid) (claimed_object i challenge) claim_step old mid d (second_begins mid) (second_at mid) error began others refuses.step in
-        let over = subst (λ (x : Option SecurityStatus). NegoCause meaning told faults x old.proxy d.pub_key_auth d.client_nonce mid error.error_type)
+        let over = subst (λ (x : Option SecurityStatus). NegoCause meaning told faults x old d mid error.error_type)
         (s.status_is ∙ ap Some (ended mid s.status s.answered)) cause in
         let a = after_step s.known mid _ s.accepted in
         let begun : IsSome mid.context = rw a.there refl in

@@ -2,7 +2,6 @@
 use Rattle.std.proofs.Common.{◌≡◌, ℕ, List, [], Option, None, Some, refl, ap}
 use Rattle.sspi_names.specs.Credentials.{credentials_buffers_of}
 use Rattle.sspi_mech.specs.declared.ntlm.stage.Stage.{Stage}
-use Rattle.sspi_mech.specs.Calls.{no_counts}
 use Rattle.sspi_mech.specs.Meaning.{Meaning}
 use Rattle.sspi_mech.specs.Ntlm.{ntlm_meaning}
 use Rattle.sspi_mech.specs.NtlmStage.{NtlmState}
@@ -12,7 +11,8 @@ use Rattle.sspi_credssp.specs.declared.context.SspiContext.TheVariants.{Ntlm, Ke
 use Rattle.sspi_credssp.specs.declared.state.CredSspState.{CredSspState}
 use Rattle.sspi_credssp.specs.Client.{ClientView}
 use Rattle.sspi_credssp.specs.Context.{either}
-use Rattle.sspi_credssp.specs.Counts.{SameBut}
+use Rattle.sspi_credssp.specs.Counts.{SameBut, silent}
+use Rattle.sspi_mech.specs.Protection.{counts_of}
 use Rattle.sspi_credssp.specs.Server.{ServerView}
 use Rattle.sspi_matching.proofs.Steps.{with_counts}
 
@@ -90,7 +90,7 @@ module _ {K : Type 0} (k : Meaning Setting K) where
       from : (context2 : Option (SspiContext NtlmState K)) → SameBut (either ntlm_meaning k) (Some (Ntlm o)) context2 → SameObject o context2
       from None h = absurd h
       from (Some (Ntlm x)) h =
-          let bare : with_counts x no_counts ≡ with_counts o no_counts = cc in
+          let bare : with_counts x (silent (counts_of x.protection)) ≡ with_counts o (silent (counts_of o.protection)) = cc in
           record {
             object = x;
             there = refl;

@@ -106,17 +106,17 @@ module _ {K : Type 0} (k : Meaning Setting K) where
   step_at begun args answer (Kerberos a) m h steps = absurd h
 
   pub stepped_once : (begun : NtlmState → Type 0) (start : ClientView (SspiContext NtlmState K)) (handle : Option CredentialsBuffers)
-      (token : Option (List ℕ)) (log : List Asked) (answer : Answer) (m : SspiContext NtlmState K) →
+      (token : Option (List ℕ)) (tries : ℕ) (log : List Asked) (answer : Answer) (m : SspiContext NtlmState K) →
       ((m0 : SspiContext NtlmState K) → Begun (either ntlm_meaning k) start.context start.handle (ForClient start.mode) Outbound (Some start.credentials) handle m0 → IfNtlm m0 begun) →
-      Walked (either ntlm_meaning k) start handle token log answer m → Stepped begun (client_args handle start.target token) answer m
-  stepped_once begun start handle token log answer m begins (client_step.stepped m0 m1 a b steps) =
+      Walked (either ntlm_meaning k) start handle token tries log answer m → Stepped begun (client_args handle start.target token) answer m
+  stepped_once begun start handle token tries log answer m begins (client_step.stepped m0 m1 a b steps) =
       step_at begun (client_args handle start.target token) answer m0 m (begins m0 b) steps
-  stepped_once begun start handle token log answer m begins (client_step.resumed m1 m2 before q reply a walked resumes) =
-      absurd (stepped_once begun start handle token before (Ask q) m1 begins walked).steps
-  stepped_once begun start handle token log answer m begins (client_step.still_asked m1 m2 before q reply error walked resumes waits) =
-      absurd (stepped_once begun start handle token before (Ask q) m1 begins walked).steps
-  stepped_once begun start handle token log answer m begins (client_step.recounted m1 m2 n before a walked counted) =
-      let s = stepped_once begun start handle token log answer m1 begins walked in
+  stepped_once begun start handle token tries log answer m begins (client_step.resumed m1 m2 tried before q reply a walked resumes) =
+      absurd (stepped_once begun start handle token tried before (Ask q) m1 begins walked).steps
+  stepped_once begun start handle token tries log answer m begins (client_step.still_asked m1 m2 tried before q reply error walked resumes waits) =
+      absurd (stepped_once begun start handle token tried before (Ask q) m1 begins walked).steps
+  stepped_once begun start handle token tries log answer m begins (client_step.recounted m1 m2 n tried before a walked counted quiet) =
+      let s = stepped_once begun start handle token tried log answer m1 begins walked in
       record {
         before = s.before;
         after = s.after;
@@ -218,5 +218,5 @@ module _ {K : Type 0} (k : Meaning Setting K) where
         tell_at begun (told start.proxy) (server_args handle token) answer m1 m (taken_once begun start handle token Unknown answer m1 begins before) is
     taken_once begun start handle token known answer m begins (server_step.completed m1 a before permits) =
         taken_once begun start handle token Identified answer m begins before
-    taken_once begun start handle token known answer m begins (server_step.recounted m1 m2 n kn a before counted) =
+    taken_once begun start handle token known answer m begins (server_step.recounted m1 m2 n kn a before counted quiet) =
         recount_by known begun (told start.proxy) (server_args handle token) answer m1 m n counted (taken_once begun start handle token known answer m1 begins before)

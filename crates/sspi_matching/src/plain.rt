@@ -2,6 +2,7 @@ ghost use Rattle.std.specs.Prelude.{◌≡◌, ℕ, ◌≤◌, ◌<◌, [], IfOk
 ghost use Rattle.sspi_credssp.specs.Context.{either};
 ghost use Rattle.sspi_delegate.specs.Delegates.{around_by, parties, Delegates, Accounts, Stays};
 ghost use Rattle.sspi_delegate.specs.Headline.{IsFresh};
+ghost use Rattle.sspi_mech.specs.Ntlm.{ntlm_meaning};
 ghost use Rattle.sspi_matching.specs.Matching.{AreMatching, IsUndisturbed, NoneFailed, delegated_as, ComesToOk, IsCutShort};
 
 use sspi_credssp::{CredSspClient, CredSspServer, CredentialsProxy};
@@ -23,11 +24,11 @@ pub fn delegate_plainly<K: Mechanism, C: CredentialsProxy, L: Link, D: Kdc>(
     turns: u32,
     transcript: &mut Transcript,
 ) -> Result<Delegation, DelegateError>
-    ensures delegates { IsFresh client.old server.old transcript.old.turns → Delegates (either Ntlm.meaning K.meaning)
+    ensures delegates { IsFresh client.old server.old transcript.old.turns → Delegates (either ntlm_meaning K.meaning)
         (around_by C.told C.failing C.faults L.log L.edits L.faults D.told D.asked D.faults)
         (parties client.old server.old link.old kdc.old transcript.old.turns) turns result
         (parties client.new server.new link.new kdc.new transcript.new.turns) }
-    ensures accounts { transcript.old.turns ≡ [] → Accounts (either Ntlm.meaning K.meaning)
+    ensures accounts { transcript.old.turns ≡ [] → Accounts (either ntlm_meaning K.meaning)
         (around_by C.told C.failing C.faults L.log L.edits L.faults D.told D.asked D.faults)
         (parties client.old server.old link.old kdc.old transcript.old.turns) turns result
         (parties client.new server.new link.new kdc.new transcript.new.turns) }

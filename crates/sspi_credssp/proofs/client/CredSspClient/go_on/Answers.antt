@@ -9,21 +9,21 @@ use Rattle.sspi_credssp.proofs.Walks.{walked_on}
 use Rattle.sspi_credssp.proofs.client.CredSspClient.go_on.Goals as goal
 
 pub returns-in-Ok-clause-step : goal.returns-in-Ok-clause-step
-returns-in-Ok-clause-step g c = λ start d log walked.
+returns-in-Ok-clause-step g c = λ start d tries log walked.
     let it = either g.N.Mechanism.meaning g.K.Mechanism.meaning in
     let laws = lawful g.N.Mechanism.meaning g.K.Mechanism.meaning (contextual _ g.N.Mechanism.meaning g.met.N.Mechanism.laws)
     (contextual _ g.K.Mechanism.meaning g.met.K.Mechanism.laws) in
     let done : answer_of c.args.progress ≡ Done c.in-Ok-Done.step = ap answer_of (c.in-Ok-Done.is ∙ ap Ok c.in-Ok-Done.field-0-is) in
-    let walked_done = subst (λ a. StepsTo it start d log a c.args.self.now) done walked in
+    let walked_done = subst (λ a. StepsTo it start d tries log a c.args.self.now) done walked in
     rw (c.reply.ensures.status, c.reply.ensures.output, c.reply.ensures.handle)
-    (walked_on it laws start c.args.self.now.handle d.nego_tokens log _ _ _ c.reply.ensures.moved walked_done)
+    (walked_on it laws start c.args.self.now.handle d.nego_tokens tries log _ _ _ c.reply.ensures.moved walked_done)
 
 pub returns-in-Err-reply-clause-step : goal.returns-in-Err-reply-clause-step
-returns-in-Err-reply-clause-step g c = λ start d log walked.
+returns-in-Err-reply-clause-step g c = λ start d tries log walked.
     let it = either g.N.Mechanism.meaning g.K.Mechanism.meaning in
     let laws = lawful g.N.Mechanism.meaning g.K.Mechanism.meaning (contextual _ g.N.Mechanism.meaning g.met.N.Mechanism.laws)
     (contextual _ g.K.Mechanism.meaning g.met.K.Mechanism.laws) in
     let done : answer_of c.args.progress ≡ Done c.in-Ok-Done.step = ap answer_of (c.in-Ok-Done.is ∙ ap Ok c.in-Ok-Done.field-0-is) in
-    let walked_done = subst (λ a. StepsTo it start d log a c.args.self.now) done walked in
+    let walked_done = subst (λ a. StepsTo it start d tries log a c.args.self.now) done walked in
     rw (c.reply.ensures.negotiated, c.reply.ensures.status, c.reply.ensures.output, c.reply.ensures.handle)
-    (walked_on it laws start c.args.self.now.handle d.nego_tokens log _ _ _ c.reply.ensures.moved walked_done)
+    (walked_on it laws start c.args.self.now.handle d.nego_tokens tries log _ _ _ c.reply.ensures.moved walked_done)

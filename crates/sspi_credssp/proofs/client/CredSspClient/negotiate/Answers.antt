@@ -26,5 +26,5 @@ returns-clause-step g c = λ start d token target begun.
     (Begun it start.context start.handle (ForClient start.mode) Outbound (Some start.credentials) v.handle)) (sym c.self.view_is) begun in
     let here : c.self.inside.context ≡ Some c.in-Some.context = search rules in
     let same_target : start.target ≡ c.self.inside.service_principal_name = search rules in
-    c.go_on.ensures.step start d _ (stepped c.in-Some.context _ _ (context_here _ _ _ here begun_inside)
+    c.go_on.ensures.step start d _ _ (stepped c.in-Some.context _ _ (context_here _ _ _ here begun_inside)
     (rw (same_target, token) c.initialize-progress.ensures.step))

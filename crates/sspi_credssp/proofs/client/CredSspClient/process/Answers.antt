@@ -37,5 +37,5 @@ returns-in-Err-begin-clause-cause g c = λ memory.
     let kind = c.in-Err-begin.error.error_type in
     client_cause_begun it c.args.self.now _ c.args.ts_request kind idle c.in-Ok.ensures.passed
     (subst (λ v. StopsIf (is_altered v.context v.noted c.args.ts_request.version) MessageAltered kind
-    (MadeOr c.begin.new.self.context (BeginCause it (ForClient v.mode) Outbound (Some v.credentials) kind) ⊥))
+    (MadeOr v.context c.begin.new.self.context (BeginCause it (ForClient v.mode) Outbound (Some v.credentials) kind) ⊥))
     c.forget_last_call.ensures (c.in-Err-begin.ensures.cause memory))

@@ -7,16 +7,16 @@ use Rattle.sspi_credssp.proofs.ClientReady.{ready_forgot}
 use Rattle.sspi_credssp.proofs.client.CredSspClient.resume.Goals as goal
 
 pub returns-in-Some-clause-step : goal.returns-in-Some-clause-step
-returns-in-Some-clause-step g c = λ start d log q under walked.
+returns-in-Some-clause-step g c = λ start d tries log q under walked.
     let it = either g.N.Mechanism.meaning g.K.Mechanism.meaning in
     let forgot = c.self.view_is ∙ c.forget_last_call.ensures in
-    c.resume_with.ensures.step start d log q (subst (λ v. StepsTo it start d log (Ask q) v) (sym forgot) walked)
+    c.resume_with.ensures.step start d tries log q (subst (λ v. StepsTo it start d tries log (Ask q) v) (sym forgot) walked)
 
 pub returns-in-Some-clause-still : goal.returns-in-Some-clause-still
-returns-in-Some-clause-still g c = λ start d log q under walked.
+returns-in-Some-clause-still g c = λ start d tries log q under walked.
     let it = either g.N.Mechanism.meaning g.K.Mechanism.meaning in
     let forgot = c.self.view_is ∙ c.forget_last_call.ensures in
     let ready = subst (λ v. IsReady it start d (record v { kept = c.take.new.self })) (sym forgot)
     (ready_forgot it start c.args.self.now d _ _ c.take.new.self under.ready) in
-    c.resume_with.ensures.still start d log q (search rules) ready (search rules) (search rules)
-    (subst (λ v. StepsTo it start d log (Ask q) v) (sym forgot) walked)
+    c.resume_with.ensures.still start d tries log q (search rules) ready (search rules) (search rules)
+    (subst (λ v. StepsTo it start d tries log (Ask q) v) (sym forgot) walked)

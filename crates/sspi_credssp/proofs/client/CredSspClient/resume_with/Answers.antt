@@ -20,21 +20,21 @@ returns-clause-turn g c = λ start d same ready nego output.
     (search rules) (search rules) (asked_again_waits it laws _ _ _ _ c.resume-progress.ensures.step)
 
 pub returns-clause-step : goal.returns-clause-step
-returns-clause-step g c = λ start d log q walked.
+returns-clause-step g c = λ start d tries log q walked.
     let it = either g.N.Mechanism.meaning g.K.Mechanism.meaning in
-    let walked_inside = subst (λ v. StepsTo it start d log (Ask q) v) (sym c.self.view_is) walked in
+    let walked_inside = subst (λ v. StepsTo it start d tries log (Ask q) v) (sym c.self.view_is) walked in
     let here : c.self.inside.context ≡ Some c.in-Some.context = search rules in
-    c.go_on.ensures.step start d _ (resumed c.in-Some.context _ log q _ _ (context_here _ _ _ here walked_inside) c.resume-progress.ensures.step)
+    c.go_on.ensures.step start d tries _ (resumed c.in-Some.context _ tries log q _ _ (context_here _ _ _ here walked_inside) c.resume-progress.ensures.step)
 
 pub returns-clause-still : goal.returns-clause-still
-returns-clause-still g c = λ start d log q same ready nego output walked.
+returns-clause-still g c = λ start d tries log q same ready nego output walked.
     let it = either g.N.Mechanism.meaning g.K.Mechanism.meaning in
     let laws = lawful g.N.Mechanism.meaning g.K.Mechanism.meaning (contextual _ g.N.Mechanism.meaning g.met.N.Mechanism.laws)
     (contextual _ g.K.Mechanism.meaning g.met.K.Mechanism.laws) in
     let ready_inside = subst (λ v. IsReady it start d v) (sym c.self.view_is) ready in
-    let walked_inside = subst (λ v. StepsTo it start d log (Ask q) v) (sym c.self.view_is) walked in
+    let walked_inside = subst (λ v. StepsTo it start d tries log (Ask q) v) (sym c.self.view_is) walked in
     let here : c.self.inside.context ≡ Some c.in-Some.context = search rules in
-    still_waits it laws start d log q _ _ c.go_on.new.self c.in-Some.context c.resume-progress.new.self _ c.args.request c.resume-progress.result c.go_on.result
+    still_waits it laws start d tries log q _ _ c.go_on.new.self c.in-Some.context c.resume-progress.new.self _ c.args.request c.resume-progress.result c.go_on.result
     (search rules) (search rules) (search rules) here (search rules) refl ready_inside (context_here _ _ _ here walked_inside) c.resume-progress.ensures.step
     c.go_on.ensures.refused c.go_on.ensures.kept
 

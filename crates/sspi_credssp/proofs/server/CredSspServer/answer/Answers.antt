@@ -1,7 +1,10 @@
-use Rattle.std.proofs.Common.{◌≡◌, Some, None, Ok, Err, sym, subst, rules}
+use Rattle.std.proofs.Common.{◌≡◌, ◌≢◌, Some, None, Ok, Err, IfErr, ap, sym, subst, rules}
 use Rattle.sspi_types.specs.declared.credential_use.CredentialUse.TheVariants.{Inbound}
+use Rattle.sspi_types.specs.declared.error_kind.ErrorKind.TheVariants.{InsufficientMemory}
+use Rattle.sspi_tsreq.specs.declared.request.TsRequest.{TsRequest}
 use Rattle.sspi_credssp.specs.Begun.{Begun, IfContext}
 use Rattle.sspi_credssp.specs.Context.{either, ForServer}
+use Rattle.sspi_credssp.specs.ServerCause.{NegoCause}
 use Rattle.sspi_credssp.specs.ServerStep.{RefusedAt, accepted, refused_step, server_args}
 use Rattle.sspi_credssp.proofs.ClientReady.{context_here}
 use Rattle.sspi_credssp.proofs.server.CredSspServer.answer.Goals as goal
@@ -26,3 +29,16 @@ returns-in-Err-clause-step g c = λ start d token told begun.
     (sym none)
     (accepted c.in-Some.context _ _ (context_here _ _ _ here begun_inside)
     (subst (λ t. it.accepts c.in-Some.context (server_args c.self.inside.credentials_handle t) (Err c.in-Err.error) c.accept.new.context) (sym token) c.in-Err.ensures.step))
+
+pub returns-in-Ok-clause-cause : goal.returns-in-Ok-clause-cause
+returns-in-Ok-clause-cause g c = λ start d same proxy begun.
+    let it = either g.N.Mechanism.meaning g.K.Mechanism.meaning in
+    let begun_inside = subst (λ v. IfContext v.context (Begun it start.context start.handle (ForServer start.mode) Inbound None v.handle)) (sym c.self.view_is) begun in
+    let here : c.self.inside.context ≡ Some c.in-Some.context = search rules in
+    let token : d.nego_tokens ≡ c.args.request.now.nego_tokens = ap (λ (x : TsRequest). x.nego_tokens) (sym same) in
+    let new = c.answer_step.new.self in
+    subst (λ s. IfErr c.answer_step.result (λ error. error.error_type ≢ InsufficientMemory →
+    NegoCause it g.C.CredentialsProxy.told g.C.CredentialsProxy.faults s start d new error.error_type)) (sym c.answer_step.ensures.status)
+    (c.answer_step.ensures.cause start d (search rules) (search rules)
+    (accepted c.in-Some.context _ _ (context_here _ _ _ here begun_inside)
+    (subst (λ t. it.accepts c.in-Some.context (server_args c.self.inside.credentials_handle t) (Ok c.in-Ok.step) c.accept.new.context) (sym token) c.in-Ok.ensures.step)))

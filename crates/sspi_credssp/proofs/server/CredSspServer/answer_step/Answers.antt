@@ -31,10 +31,10 @@ returns-then-has_ended-clause-step g c = λ start d told accepted.
     c.complete.ensures.handle c.complete.ensures.output (c.complete.ensures.step start d.nego_tokens _ told accepted)
 
 pub returns-then-has_ended-clause-cause : goal.returns-then-has_ended-clause-cause
-returns-then-has_ended-clause-cause g c =
+returns-then-has_ended-clause-cause g c = λ start d same proxy come.
     let over : IsOver (Some c.args.status) = c.has_ended.ensures.ended c.if-has_ended.true in
     over_causes (either g.N.Mechanism.meaning g.K.Mechanism.meaning) g.C.CredentialsProxy.told g.C.CredentialsProxy.faults c.args.status
-    c.args.self.now.proxy _ _ c.complete.new.self c.complete.result over c.complete.ensures.cause
+    start d c.complete.new.self c.complete.result over (c.complete.ensures.cause start d c.args.status same proxy come)
 
 pub returns-clause-step : goal.returns-clause-step
 returns-clause-step g c = λ start d told accepted.

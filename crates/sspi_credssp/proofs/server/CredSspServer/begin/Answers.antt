@@ -14,5 +14,6 @@ returns-in-Ok-clause-begun g c =
 
 pub returns-in-Err-clause-cause : goal.returns-in-Err-clause-cause
 returns-in-Err-clause-cause g c = λ memory.
+    let none : c.args.self.now.context ≡ None = search rules in
     let gone : c.make_context.new.self.context ≡ None = search rules in
-    rw gone (c.in-Err.ensures.cause memory)
+    rw (none, gone) (c.in-Err.ensures.cause memory)

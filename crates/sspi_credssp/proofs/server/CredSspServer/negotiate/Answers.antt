@@ -1,6 +1,9 @@
-use Rattle.std.proofs.Common.{sym, subst, rules}
+use Rattle.std.proofs.Common.{◌≡◌, ◌≢◌, IfErr, sym, ◌∙◌, ap, subst, rules}
+use Rattle.sspi_types.specs.declared.error.Error.{Error}
+use Rattle.sspi_types.specs.declared.error_kind.ErrorKind.TheVariants.{InsufficientMemory}
 use Rattle.sspi_mech.proofs.ContextLaws.{contextual}
 use Rattle.sspi_credssp.specs.Context.{either}
+use Rattle.sspi_credssp.specs.ServerCause.{NegoCause}
 use Rattle.sspi_credssp.specs.ServerStep.{HasAcceptedTurn}
 use Rattle.sspi_credssp.proofs.ContextLaws.{lawful}
 use Rattle.sspi_credssp.proofs.ServerRefusals.{halted_as, went_on}
@@ -32,4 +35,20 @@ returns-clause-step g c = λ start d token told begun.
       | in-Err w ↦ subst (λ r. HasAcceptedTurn it tells start d r c.answer.new.self) (sym w.result-is)
           (refused_as it laws tells start c.answer.new.self d w.in-Err.error w.refusal.result.error (search rules)
           (w.in-Err.ensures.step start d token told begun))
+    ]
+
+pub returns-clause-cause : goal.returns-clause-cause
+returns-clause-cause g c = λ start d same proxy begun.
+    let it = either g.N.Mechanism.meaning g.K.Mechanism.meaning in
+    let tells = g.C.CredentialsProxy.told in
+    let faults = g.C.CredentialsProxy.faults in
+    let new = c.answer.new.self in
+    elim c.match-answer.branch [
+      | in-Ok w ↦ subst (λ r. IfErr r (λ refusal. refusal.error.error_type ≢ InsufficientMemory →
+          NegoCause it tells faults new.acts.status start d new refusal.error.error_type)) (sym w.result-is) tt
+      | in-Err w ↦ subst (λ r. IfErr r (λ refusal. refusal.error.error_type ≢ InsufficientMemory →
+          NegoCause it tells faults new.acts.status start d new refusal.error.error_type)) (sym w.result-is)
+          (λ memory. let e : w.refusal.result.error ≡ w.in-Err.error = search rules in
+          subst (λ (x : Error). NegoCause it tells faults new.acts.status start d new x.error_type) (sym e)
+          (w.in-Err.ensures.cause start d same proxy begun (λ lacking. memory (ap (λ (x : Error). x.error_type) e ∙ lacking))))
     ]

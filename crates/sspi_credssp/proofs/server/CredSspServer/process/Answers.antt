@@ -22,8 +22,11 @@ returns-in-Ok-clause-step g c =
 pub returns-in-Ok-clause-cause : goal.returns-in-Ok-clause-cause
 returns-in-Ok-clause-cause g c =
     let it = either g.N.Mechanism.meaning g.K.Mechanism.meaning in
-    server_cause_past it g.C.CredentialsProxy.told g.C.CredentialsProxy.faults c.args.self.now c.take-in-Ok.new.self c.args.ts_request _ _ _ _ _
-    (search rules) c.take-in-Ok.ensures.begun (search rules) (search rules) c.at_version.ensures c.take-in-Ok.ensures.cause
+    let begun = subst (λ v. IfContext c.begin.new.self.context
+    (Begun it v.context v.handle (ForServer v.mode) Inbound None c.begin.new.self.handle)) c.forget_last_call.ensures c.in-Ok.ensures.begun in
+    server_cause_past it g.C.CredentialsProxy.told g.C.CredentialsProxy.faults c.args.self.now c.take-in-Ok.new.self c.args.ts_request _ _
+    (search rules) c.take-in-Ok.ensures.begun (search rules)
+    (c.take-in-Ok.ensures.cause c.args.self.now c.args.ts_request (search rules) (search rules) begun)
 
 pub returns-in-Err-clause-cause : goal.returns-in-Err-clause-cause
 returns-in-Err-clause-cause g c = λ memory.
@@ -32,6 +35,6 @@ returns-in-Err-clause-cause g c = λ memory.
     let same : c.refusal.result.error ≡ c.in-Err.error = search rules in
     rw same
     (server_cause_begun it g.C.CredentialsProxy.told g.C.CredentialsProxy.faults c.args.self.now c.begin.new.self c.args.ts_request kind
-    (subst (λ v. MadeOr c.begin.new.self.context (BeginCause it (ForServer v.mode) Inbound None kind)
+    (subst (λ v. MadeOr v.context c.begin.new.self.context (BeginCause it (ForServer v.mode) Inbound None kind)
     (StopsIf (differs v.noted c.args.ts_request.version) MessageAltered kind ⊥))
     c.forget_last_call.ensures (c.in-Err.ensures.cause (rw (sym same) memory))))
