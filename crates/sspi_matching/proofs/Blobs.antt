@@ -1,32 +1,22 @@
 -- What an object of plain NTLM seals and opens.
-use Rattle.std.proofs.Common.{◌≡◌, ℕ, ◌≤◌, ◌<◌, ◌^◌, ◌++◌, length, List, Bool, true, false, Option, None, Some, ap, sym, ◌∙◌, subst, arith, refl, ◌-◌, nat_eq, nat_lt}
+use Rattle.std.proofs.Common.{◌≡◌, ◌+◌, ℕ, ◌<◌, ◌^◌, ◌++◌, length, List, false, Option, None, Some, sym, ◌∙◌, subst, arith, refl, ◌-◌, nat_eq, nat_lt}
 use Rattle.std.proofs.lemmas.Bool.{ne_eqb, le-ltb}
+use Rattle.std.proofs.lemmas.List.{length-append}
 use Rattle.sspi_types.specs.declared.error_kind.ErrorKind.{ErrorKind}
 use Rattle.sspi_mech.specs.declared.protection.Direction.{Direction}
 use Rattle.sspi_mech.specs.Calls.{ToSeal, ToUnseal}
 use Rattle.sspi_mech.specs.Meaning.{Meaning}
 use Rattle.sspi_mech.specs.Ntlm.{ntlm_meaning}
-use Rattle.sspi_mech.specs.NtlmStage.{NtlmState, own_direction, peer_direction}
-use Rattle.sspi_mech.specs.Protection.{SealsBy, OpensBy, seal_tag}
+use Rattle.sspi_mech.specs.NtlmStage.{NtlmState, peer_direction}
+use Rattle.sspi_mech.specs.Protection.{OpensBy, seal_tag}
 use Rattle.sspi_mech.specs.Settings.{Setting}
-use Rattle.sspi_mech.specs.Tags.{long_blob}
+use Rattle.sspi_mech.specs.Tags.{long_blob, length-seal_tag}
 use Rattle.sspi_mech.proofs.Opened.{sealed_opens}
 use Rattle.sspi_mech.proofs.Opened as opened
 use Rattle.sspi_mech.proofs.Protected.{opened_is_body, opened_is_taken, one_refusal}
-use Rattle.sspi_credssp.specs.declared.acts.Acts.{Acts}
 use Rattle.sspi_credssp.specs.declared.context.SspiContext.{SspiContext}
 use Rattle.sspi_credssp.specs.declared.context.SspiContext.TheVariants.{Ntlm}
-use Rattle.sspi_credssp.specs.Acts.{count_of, sealed_by}
 use Rattle.sspi_credssp.specs.Context.{ContextSetting, either}
-use Rattle.sspi_credssp.specs.Counts.{SealsIn}
-
-count_few : (b : Bool) → count_of b ≤ 1
-count_few true = omega arith
-count_few false = omega arith
-
--- one call seals at most two texts
-pub sealed_few : (acts : Acts) → sealed_by acts ≤ 2
-sealed_few acts = let p = count_few acts.proved in let s = count_few acts.sealed in omega arith
 
 -- the blob by which this key seals a text as the n-th message of that direction
 abbrev pub blob_of : List ℕ → Direction → ℕ → List ℕ → List ℕ
@@ -56,21 +46,12 @@ never_unopened x key direction n text kind keyed towards next few refuses =
     subst (λ (i : ℕ). ntlm_meaning.opens x i (blob_of key direction n text) text) (sym next) (opens_for x key direction n text keyed towards) in
     one_refusal x (ToUnseal (blob_of key direction n text)) kind (opened_is_taken x (blob_of key direction n text) text opens (omega (arith, next, few))) refuses
 
+pub blob_length : (key : List ℕ) (direction : Direction) (n : ℕ) (text : List ℕ) → length (blob_of key direction n text) ≡ length text + 16
+blob_length key direction n text = let e = length-append (seal_tag key direction n text) text in let t = length-seal_tag key direction n text in omega arith
+
 module _ {K : Type 0} (k : Meaning Setting K) where
   abbrev meaning : Meaning ContextSetting (SspiContext NtlmState K)
   meaning = either ntlm_meaning k
-
-  pub sealed_blob : (context : Option (SspiContext NtlmState K)) (o : NtlmState) (key : List ℕ) (n : ℕ) (text : List ℕ) (field : Option (List ℕ)) →
-      context ≡ Some (Ntlm o) → o.protection.key ≡ Some key → SealsIn meaning context n text field →
-      field ≡ Some (seal_tag key (own_direction o.stage) n text ++ text)
-  sealed_blob context o key n text field there keyed seals =
-      at field (subst (λ (x : Option (SspiContext NtlmState K)). SealsIn meaning x n text field) there seals)
-    where
-      at : (field : Option (List ℕ)) → SealsIn meaning (Some (Ntlm o)) n text field → field ≡ Some (seal_tag key (own_direction o.stage) n text ++ text)
-      at None h = absurd h
-      at (Some blob) h =
-          let by : SealsBy (Some key) (own_direction o.stage) n text blob = subst (λ (x : Option (List ℕ)). SealsBy x (own_direction o.stage) n text blob) keyed h in
-          ap Some by
 
   pub never_unsealed : (o : NtlmState) (key text : List ℕ) (kind : ErrorKind) → o.protection.key ≡ Some key → o.protection.sealed < 2 ^ 64 - 1 →
       meaning.refuses (Ntlm o) (ToSeal text) kind → ⊥

@@ -3,9 +3,12 @@
 use Rattle.std.proofs.Common.{◌≡◌, ℕ, ◌+◌, ◌≤◌, ◌<◌, Bool, true, false, ◌&&◌, ◌||◌, List, [], ◌∷◌, length, Option, None, Some, Result, Ok, Err, refl, ap, sym, ◌∙◌, subst, arith, IfOk, OnOk, IsErr}
 use Rattle.sspi_types.specs.declared.security_status.SecurityStatus.{SecurityStatus}
 use Rattle.sspi_types.specs.declared.security_status.SecurityStatus.TheVariants as statuses
+use Rattle.sspi_types.specs.declared.error.Error.{Error}
+use Rattle.sspi_names.specs.declared.credentials.CredentialsBuffers.{CredentialsBuffers}
 use Rattle.sspi_names.specs.declared.identity.AuthIdentity.{AuthIdentity}
 use Rattle.sspi_mech.specs.declared.config.NtlmConfig.{NtlmConfig}
 use Rattle.sspi_mech.specs.declared.step.Step.{Step}
+use Rattle.sspi_mech.specs.Calls.{AcceptArgs}
 use Rattle.sspi_mech.specs.Meaning.{Meaning}
 use Rattle.sspi_mech.specs.Ntlm.{ntlm_meaning, ntlm_of}
 use Rattle.sspi_mech.specs.NtlmMessages.{is_negotiate, challenge_message}
@@ -14,12 +17,13 @@ use Rattle.sspi_mech.specs.NtlmSteps.{Goes, challenges, server_step}
 use Rattle.sspi_mech.specs.Settings.{Setting}
 use Rattle.sspi_tsreq.specs.declared.request.TsRequest.{TsRequest}
 use Rattle.sspi_credssp.specs.declared.context.SspiContext.{SspiContext}
+use Rattle.sspi_credssp.specs.declared.context.SspiContext.TheVariants.{Ntlm, Kerberos}
 use Rattle.sspi_credssp.specs.declared.state.CredSspState.{CredSspState}
 use Rattle.sspi_credssp.specs.declared.state.CredSspState.TheVariants.{NegoToken}
 use Rattle.sspi_credssp.specs.Begun.{IfContext}
 use Rattle.sspi_credssp.specs.Context.{either}
 use Rattle.sspi_credssp.specs.Server.{ServerView, IsFreshServer}
-use Rattle.sspi_credssp.specs.ServerStep.{DoneStep, Completed, Accepted}
+use Rattle.sspi_credssp.specs.ServerStep.{DoneStep, Knowing, Unknown, Identified, Completed, Accepted, accepted, identified, completed, recounted, server_args}
 use Rattle.sspi_credssp.specs.ServerTurn.{IsOver, MayCheck}
 use Rattle.sspi_credssp.specs.Turn.{Came, Replied, Ended, Finished, Stopped}
 use Rattle.sspi_credssp.specs.Turn as end
@@ -34,11 +38,9 @@ use Rattle.sspi_delegate.specs.EndTurns.{as_turn, onto_server, server_turns, Wen
 use Rattle.sspi_delegate.specs.Headline.{HasExchanged}
 use Rattle.sspi_delegate.specs.History.{ServerMakes, ServerMade, ServerHistory}
 use Rattle.sspi_delegate.specs.Turns.{other, next_end, Alternates}
-use Rattle.sspi_matching.proofs.Steps.{server_config, server_first, taken_once}
-
-pub in_context : {C : Type 0} (o : Option C) (Q : C → Type 0) → IfContext o Q → (m : C) × (o ≡ Some m) × Q m
-in_context None Q h = absurd h
-in_context (Some m) Q h = (m, refl, h)
+use Rattle.sspi_matching.specs.Matching.{config_of}
+use Rattle.sspi_matching.proofs.Ends.{in_context}
+use Rattle.sspi_matching.proofs.NtlmEnds.{IfNtlm, server_first}
 
 asks_at : (b : Bool) (m m2 : NtlmState) (step : Step) → challenges m b ≡ Goes m2 step → step.status ≡ statuses.ContinueNeeded
 asks_at true m m2 step e =
@@ -55,13 +57,27 @@ first_asks config m m2 input step new e =
 -- ---- the server's turns
 
 module _ {K P : Type 0} (k : Meaning Setting K) (told : P → Option (List AuthIdentity)) (faults : P → ℕ) (failing : P → Option (List ℕ)) where
+  asks_first : (config : NtlmConfig) (handle : Option CredentialsBuffers) (m0 m : SspiContext NtlmState K) (args : AcceptArgs) (step : Step) →
+      IfNtlm k m0 (λ x. (x ≡ ntlm_of config) × (handle ≡ None)) → (either ntlm_meaning k).accepts m0 args (Ok step) m → step.status ≡ statuses.ContinueNeeded
+  asks_first config handle (Ntlm x) (Ntlm y) args step begun accepts = first_asks config x y args.input step begun.0 accepts
+  asks_first config handle (Ntlm x) (Kerberos y) args step begun accepts = absurd accepts
+  asks_first config handle (Kerberos x) m args step begun accepts = absurd begun
+
+  first_step : (start : ServerView (SspiContext NtlmState K) P) (handle : Option CredentialsBuffers) (token : Option (List ℕ)) (known : Knowing) (answer : Result Step Error)
+      (step : Step) (m : SspiContext NtlmState K) → start.context ≡ None → answer ≡ Ok step → Accepted (either ntlm_meaning k) told start handle token known answer m →
+      step.status ≡ statuses.ContinueNeeded
+  first_step start handle token known answer step m none is (accepted m0 m1 a begun accepts) =
+      asks_first (config_of start.mode) handle m0 m (server_args handle token) step (server_first k start.mode start.context start.handle handle m0 none begun)
+      (subst (λ (x : Result Step Error). (either ntlm_meaning k).accepts m0 (server_args handle token) x m) is accepts)
+  first_step start handle token known answer step m none is (identified m1 m2 a before names) = first_step start handle token Unknown answer step m1 none is before
+  first_step start handle token known answer step m none is (completed m1 a before permits) = first_step start handle token Identified answer step m none is before
+  first_step start handle token known answer step m none is (recounted m1 m2 n kn a before counted quiet) = first_step start handle token known answer step m1 none is before
+
   first_goes_on : (start now : ServerView (SspiContext NtlmState K) P) (d : TsRequest) (status : SecurityStatus) → start.context ≡ None →
       IfContext now.context (Accepted (either ntlm_meaning k) told start now.handle d.nego_tokens Completed (Ok (record { status = status; output = now.output }))) →
       status ≡ statuses.ContinueNeeded
   first_goes_on start now d status none h =
-      let there = in_context now.context _ h in
-      let t = taken_once k told _ start now.handle d.nego_tokens Completed _ there.0 (λ m0 begun. server_first k start.mode start.context start.handle now.handle m0 none begun) there.2 in
-      first_asks (server_config start.mode) t.taken.before t.taken.after _ _ t.taken.begins t.taken.accepts
+      let there = in_context now.context _ h in first_step start now.handle d.nego_tokens Completed _ _ there.0 none refl there.2
 
   -- the first step of a server does not end the authentication
   first_not_over : (start now : ServerView (SspiContext NtlmState K) P) (d : TsRequest) (status : Option SecurityStatus) → start.context ≡ None →

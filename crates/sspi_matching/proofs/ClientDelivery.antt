@@ -1,0 +1,156 @@
+-- The last turn of a client in an undisturbed exchange: it opens the server's proof and seals its credentials.
+use Rattle.std.proofs.Common.{◌≡◌, ◌≢◌, ℕ, ◌-◌, ◌<◌, ◌^◌, List, Bool, true, false, Option, None, Some, Result, Ok, refl, ap, sym, ◌∙◌, subst, arith}
+use Rattle.sspi_types.specs.declared.credential_use.CredentialUse.TheVariants.{Outbound}
+use Rattle.sspi_types.specs.declared.error.Error.{Error}
+use Rattle.sspi_types.specs.declared.error_kind.ErrorKind.{ErrorKind}
+use Rattle.sspi_types.specs.declared.error_kind.ErrorKind.TheVariants.{OutOfSequence, InvalidToken, MessageAltered, InsufficientMemory}
+use Rattle.sspi_types.specs.declared.security_status.SecurityStatus.{SecurityStatus}
+use Rattle.sspi_types.specs.declared.security_status.SecurityStatus.TheVariants as statuses
+use Rattle.sspi_tsreq.specs.declared.request.TsRequest.{TsRequest}
+use Rattle.sspi_mech.specs.Meaning.{Meaning}
+use Rattle.sspi_credssp.specs.declared.public_key.EndpointType.TheVariants.{Server}
+use Rattle.sspi_credssp.specs.declared.state.CredSspState.{CredSspState}
+use Rattle.sspi_credssp.specs.declared.state.CredSspState.TheVariants.{NegoToken, AuthInfo}
+use Rattle.sspi_credssp.specs.Acts.{sealed_by, unsealed_by}
+use Rattle.sspi_credssp.specs.Begun.{BeginCause}
+use Rattle.sspi_credssp.specs.Client.{ClientView}
+use Rattle.sspi_credssp.specs.ClientCause.{ClientCause, StateCause, DeliverCause, BlobOpens, OpenedCause, CheckedCause, SealsCause, altered, unsealed}
+use Rattle.sspi_credssp.specs.ClientTurn.{NegoReply, StartsUnused, OnceNegotiated, client_frame, client_turn}
+use Rattle.sspi_credssp.specs.Turn.{Turn, ClientFrame, Replied, Ended, Stopped}
+use Rattle.sspi_credssp.specs.Context.{ContextSetting, ForClient}
+use Rattle.sspi_credssp.specs.Counts.{sealed_in, unsealed_in, SealsIn, SameBut, cleared}
+use Rattle.sspi_credssp.specs.Credentials.{delegated_text, IfText}
+use Rattle.sspi_credssp.specs.Exchange.{opens_other, BlobStops}
+use Rattle.sspi_credssp.specs.PublicKey.{prescribed}
+use Rattle.sspi_credssp.specs.Requests.{is_code}
+use Rattle.sspi_delegate.specs.declared.turn.Outcome.{Outcome}
+use Rattle.sspi_delegate.specs.declared.turn.Outcome.TheVariants as outcome
+use Rattle.sspi_delegate.specs.Asking.{KdcCalls}
+use Rattle.sspi_delegate.specs.EndTurns.{came_of}
+use Rattle.sspi_delegate.specs.History.{ClientMakes}
+use Rattle.sspi_matching.proofs.Ends.{Comes, is_false, stops_later, made_past, sealed_few, Holds, IsMaker, IsTaker, holds_still, sealed_field, ClientIs}
+
+module _ {C D : Type 0} (c : Meaning ContextSetting C) (k : KdcCalls D) where
+  abbrev View : Type 0
+  View = ClientView C
+
+  -- what the turn is given: the server's proof, sealed as its first message, and credentials that have a text
+  pub record DeliveryGiven (a old : View) (w : ℕ) (d : TsRequest) (y : C) (own peers : ℕ → List ℕ → List ℕ) (text : List ℕ) : Type 0 where
+    pub is : ClientIs c a old w false AuthInfo 1 0
+    pub holds : Holds c old.context y
+    pub maker : IsMaker c y own
+    pub taker : IsTaker c y peers
+    pub version : d.version ≡ w
+    pub code : is_code d.error_code ≡ false
+    pub proof : d.pub_key_auth ≡ Some (peers 0 (prescribed Server w a.nonce a.public_key))
+    pub text_is : delegated_text a.credentials a.delegation ≡ Ok text
+    pub begins : (kind : ErrorKind) → BeginCause c (ForClient a.mode) Outbound (Some a.credentials) kind → ⊥
+
+  reply_nego : (frame : ClientFrame C) (t : Turn) (status : Option SecurityStatus) (reply : TsRequest) → NegoReply c frame t status reply → frame.state ≡ NegoToken
+  reply_nego frame t None reply h = absurd h
+  reply_nego frame t (Some statuses.Ok) reply h = h.state
+  reply_nego frame t (Some other) reply h = h.state
+
+  bare_at : (state : CredSspState) (P : Type 0) → state ≡ AuthInfo → OnceNegotiated state P → P
+  bare_at state P auth h = subst (λ (s : CredSspState). OnceNegotiated s P) auth h
+
+  module _ (a old : View) (w : ℕ) (d : TsRequest) (y : C) (own peers : ℕ → List ℕ → List ℕ) (text : List ℕ)
+      (given : DeliveryGiven a old w d y own peers text) (kdc : D) where
+    abbrev proof_text : List ℕ
+    proof_text = prescribed Server w a.nonce a.public_key
+
+    never_replies : (mid : View) (kdc2 : D) (r : TsRequest) → ClientMakes c k old kdc d (Replied r) mid kdc2 → ⊥
+    never_replies mid kdc2 r makes =
+        let nego = reply_nego (client_frame c old mid) (client_turn c d (Replied r) mid) mid.acts.status r makes.0.turn.reply in
+        let auth = given.is.state_is in cc
+
+    unused : StartsUnused c old
+    unused = λ nego. let auth = given.is.state_is in absurd cc
+
+    held_now : (mid : View) → OnceNegotiated old.state (SameBut c old.context mid.context) → Holds c mid.context y
+    held_now mid bare = holds_still c old.context mid.context y (bare_at old.state _ given.is.state_is bare) given.holds
+
+    texts_of : (mid : View) → mid.credentials ≡ old.credentials → mid.delegation ≡ old.delegation → delegated_text mid.credentials mid.delegation ≡ Ok text
+    texts_of mid one two = (rw (one, given.is.same.credentials, two, given.is.same.delegation) refl) ∙ given.text_is
+
+    delivered : (mid : View) (kdc2 : D) (r : TsRequest) → ClientMakes c k old kdc d (Ended r) mid kdc2 →
+        r ≡ record d { version = a.version; nego_tokens = None; pub_key_auth = None; auth_info = Some (own 1 text) }
+    delivered mid kdc2 r makes =
+        let turn = makes.0 in
+        let final = turn.turn.reply in
+        let holds = held_now mid turn.moves.bare in
+        let unproved : mid.acts.proved ≡ false = is_false mid.acts.proved (λ was.
+        let answered = turn.turn.acts.answered (rw (turn.turn.acts.proved was).0 refl) in
+        let nego = turn.turn.acts.negotiated answered in let auth = given.is.state_is in cc) in
+        let one : sealed_by mid.acts ≡ 1 = rw (unproved, final.sealed) refl in
+        let sealed_now : sealed_in c mid.context ≡ 2 = turn.moves.sealed unused ∙ (rw (given.is.sealed_is, one) refl) in
+        let seals = subst (λ (x : Result (List ℕ) Error). IfText x (λ text. SealsIn c mid.context (sealed_in c mid.context - 1) text r.auth_info))
+        (texts_of mid turn.moves.same.credentials turn.moves.same.delegation) final.credentials in
+        let field = sealed_field c mid.context y own _ text r.auth_info holds given.maker seals in
+        let field_is : r.auth_info ≡ Some (own 1 text) = field ∙ (rw sealed_now refl) in
+        let version = turn.moves.same.version ∙ given.is.same.version in
+        final.reply ∙ (rw (version, field_is) refl)
+
+    never_made : (kind : ErrorKind) → BeginCause c (ForClient old.mode) Outbound (Some old.credentials) kind → ⊥
+    never_made kind h =
+        given.begins kind (subst (λ x. BeginCause c (ForClient x) Outbound (Some a.credentials) kind) given.is.same.mode
+        (subst (λ x. BeginCause c (ForClient old.mode) Outbound (Some x) kind) given.is.same.credentials h))
+
+    deliver_cause : (mid : View) (kind : ErrorKind) → ClientCause c old d mid kind → DeliverCause c d.pub_key_auth mid kind
+    deliver_cause mid kind cause =
+        subst (λ (s : CredSspState). StateCause c s d mid kind) given.is.state_is
+        (made_past old.context mid.context _ _ (never_made kind)
+        (stops_later _ MessageAltered kind _ (rw given.version given.is.fits)
+        (stops_later _ InvalidToken kind _ given.code (stops_later _ OutOfSequence kind _ given.is.idle cause))))
+
+    seals_never : (m : C) (kind : ErrorKind) (texts : Result (List ℕ) Error) → texts ≡ Ok text → cleared c m ≡ y → (c.counts m).sealed < 2 ^ 64 - 1 →
+        SealsCause c m texts kind → ⊥
+    seals_never m kind texts is same few h = given.maker.never m text kind same few (subst (λ (r : Result (List ℕ) Error). SealsCause c m r kind) is h)
+
+    checked_never : (m : C) (kind : ErrorKind) (texts : Result (List ℕ) Error) → texts ≡ Ok text → cleared c m ≡ y → (c.counts m).sealed < 2 ^ 64 - 1 →
+        CheckedCause c m (peers 0 proof_text) proof_text texts kind → ⊥
+    checked_never m kind texts is same few (altered (opens_other text2 opens differs) kind_is) = differs (given.taker.opened m 0 _ proof_text text2 same opens)
+    checked_never m kind texts is same few (unsealed opens h) = seals_never m kind texts is same few h
+
+    opened_never : (checked : Bool) (m : C) (kind : ErrorKind) (texts : Result (List ℕ) Error) → texts ≡ Ok text → cleared c m ≡ y → (c.counts m).sealed < 2 ^ 64 - 1 →
+        (checked ≡ false → (c.counts m).unsealed ≡ 0) → OpenedCause c checked m (peers 0 proof_text) proof_text texts kind → ⊥
+    opened_never false m kind texts is same few next h = given.taker.never m 0 proof_text kind same (next refl) (omega arith) h
+    opened_never true m kind texts is same few next h = checked_never m kind texts is same few h
+
+    delivery_refused : (mid : View) (kdc2 : D) (kind : ErrorKind) → ClientMakes c k old kdc d (Stopped kind None) mid kdc2 → kind ≢ InsufficientMemory → ⊥
+    delivery_refused mid kdc2 kind makes others =
+        let error = makes.0 in
+        let turn = makes.2 in
+        let others2 : error.error_type ≢ InsufficientMemory = λ memory. others (sym makes.1 ∙ memory) in
+        let cause = deliver_cause mid error.error_type (makes.3.cause others2) in
+        let blob = peers 0 proof_text in
+        let stops = subst (λ (x : Option (List ℕ)). BlobStops x error.error_type (λ b. BlobOpens c mid.noted mid.context b mid error.error_type)) given.proof cause in
+        let later = stops_later _ InvalidToken error.error_type _ (given.taker.long 0 proof_text) stops in
+        let holds = held_now mid turn.moves.bare in
+        let noted_now : mid.noted ≡ Some w = turn.moves.noted ∙ (rw (given.is.idle, given.code, given.version) given.is.notes) in
+        let opens = subst (λ (x : Option C). BlobOpens c (Some w) x blob mid error.error_type) holds.there
+        (subst (λ (x : Option ℕ). BlobOpens c x mid.context blob mid error.error_type) noted_now later) in
+        let nonce = turn.moves.same.nonce ∙ given.is.same.nonce in
+        let public_key = turn.moves.same.public_key ∙ given.is.same.public_key in
+        let proof_is : prescribed Server w mid.nonce mid.public_key ≡ proof_text = rw (nonce, public_key) refl in
+        let at = subst (λ (p : List ℕ). OpenedCause c mid.acts.checked holds.held blob p (delegated_text mid.credentials mid.delegation) error.error_type) proof_is opens in
+        let sealed = turn.moves.sealed unused in
+        let opened = turn.moves.unsealed unused in
+        let sealed_before = given.is.sealed_is in
+        let opened_before = given.is.unsealed_is in
+        let sealed_here : sealed_in c mid.context ≡ (c.counts holds.held).sealed = ap (sealed_in c) holds.there in
+        let opened_here : unsealed_in c mid.context ≡ (c.counts holds.held).unsealed = ap (unsealed_in c) holds.there in
+        let two = sealed_few mid.acts in
+        opened_never mid.acts.checked holds.held error.error_type (delegated_text mid.credentials mid.delegation)
+        (texts_of mid turn.moves.same.credentials turn.moves.same.delegation) holds.same
+        (omega (arith, sealed, sealed_before, sealed_here, two))
+        (λ unchecked. let none : unsealed_by mid.acts ≡ 0 = rw (unchecked, turn.turn.acts.opened) refl in omega (arith, opened, opened_before, opened_here, none))
+        at
+
+    pub last_turn : (out : Outcome) (mid : View) (kdc2 : D) → ClientMakes c k old kdc d (came_of out) mid kdc2 →
+        Comes out (λ r. r ≡ record d { version = a.version; nego_tokens = None; pub_key_auth = None; auth_info = Some (own 1 text) })
+    last_turn (outcome.Reply r) mid kdc2 makes = absurd (never_replies mid kdc2 r makes)
+    last_turn (outcome.Final r) mid kdc2 makes = delivered mid kdc2 r makes
+    last_turn outcome.Finished mid kdc2 makes = makes
+    last_turn (outcome.Refused kind None) mid kdc2 makes = λ others. delivery_refused mid kdc2 kind makes others
+    last_turn (outcome.Refused kind (Some r)) mid kdc2 makes = absurd makes

@@ -1,0 +1,208 @@
+-- What the ends of an undisturbed exchange are between two turns, whatever their security contexts mean.
+use Rattle.std.proofs.Common.{◌≡◌, ◌≢◌, ℕ, ◌-◌, ◌≤◌, ◌<◌, ◌^◌, List, [], length, Bool, true, false, Option, None, Some, refl, ap, sym, ◌∙◌, subst, arith, eq-eqb, nat_lt}
+use Rattle.sspi_types.specs.declared.error_kind.ErrorKind.{ErrorKind}
+use Rattle.sspi_types.specs.declared.error_kind.ErrorKind.TheVariants.{InsufficientMemory}
+use Rattle.sspi_tsreq.specs.declared.request.TsRequest.{TsRequest}
+use Rattle.sspi_mech.specs.Calls.{Counts, ToSeal, ToUnseal}
+use Rattle.sspi_mech.specs.Context.{IsContext}
+use Rattle.sspi_mech.specs.Meaning.{Meaning}
+use Rattle.sspi_credssp.specs.declared.acts.Acts.{Acts}
+use Rattle.sspi_credssp.specs.declared.state.CredSspState.{CredSspState}
+use Rattle.sspi_credssp.specs.declared.state.CredSspState.TheVariants.{NegoToken}
+use Rattle.sspi_credssp.specs.Acts.{count_of, sealed_by}
+use Rattle.sspi_credssp.specs.Begun.{IfContext, MadeOr}
+use Rattle.sspi_credssp.specs.Client.{ClientView, IsFreshClient}
+use Rattle.sspi_credssp.specs.ClientCause.{is_altered}
+use Rattle.sspi_credssp.specs.ClientTurn.{SameClient}
+use Rattle.sspi_credssp.specs.Context.{ContextSetting}
+use Rattle.sspi_credssp.specs.Counts.{sealed_in, unsealed_in, IsUnusedIn, SameBut, SealsIn, is_waiting_in, silent, cleared}
+use Rattle.sspi_credssp.specs.Noted.{noted_next}
+use Rattle.sspi_credssp.specs.Server.{ServerView, IsFreshServer}
+use Rattle.sspi_credssp.specs.ServerTurn.{SameServer, noted_first}
+use Rattle.sspi_credssp.specs.Stops.{StopsIf, differs}
+use Rattle.sspi_delegate.specs.declared.turn.Outcome.{Outcome}
+use Rattle.sspi_delegate.specs.declared.turn.Outcome.TheVariants.{Reply, Final, Finished, Refused}
+
+-- an undisturbed turn has a message, of which this is so; or it was refused for want of memory
+abbrev pub Comes : Outcome → (TsRequest → Type 0) → Type 0
+Comes (Reply r) Q = Q r
+Comes (Final r) Q = Q r
+Comes Finished Q = ⊥
+Comes (Refused kind reply) Q = kind ≢ InsufficientMemory → ⊥
+
+-- the same of the turn that ends the exchange
+abbrev pub Ends : Outcome → Type 0 → Type 0
+Ends (Reply r) Q = ⊥
+Ends (Final r) Q = ⊥
+Ends Finished Q = Q
+Ends (Refused kind reply) Q = kind ≢ InsufficientMemory → ⊥
+
+pub in_context : {C : Type 0} (o : Option C) (Q : C → Type 0) → IfContext o Q → (m : C) × (o ≡ Some m) × Q m
+in_context None Q h = absurd h
+in_context (Some m) Q h = (m, refl, h)
+
+pub is_false : (b : Bool) → (b ≡ true → ⊥) → b ≡ false
+is_false true never = absurd (never refl)
+is_false false never = refl
+
+pub stops_later : (test : Bool) (here kind : ErrorKind) (Later : Type 0) → test ≡ false → StopsIf test here kind Later → Later
+stops_later test here kind Later unmet h = subst (λ (b : Bool). StopsIf b here kind Later) unmet h
+
+pub made_past : {C : Type 0} (old new : Option C) (Cause Later : Type 0) → (Cause → ⊥) → MadeOr old new Cause Later → Later
+made_past (Some m) new Cause Later never h = h
+made_past None (Some m) Cause Later never h = h
+made_past None None Cause Later never h = absurd (never h)
+
+count_few : (b : Bool) → count_of b ≤ 1
+count_few true = omega arith
+count_few false = omega arith
+
+-- one call seals at most two texts
+pub sealed_few : (acts : Acts) → sealed_by acts ≤ 2
+sealed_few acts = let p = count_few acts.proved in let s = count_few acts.sealed in omega arith
+
+pub differs_never : (w : ℕ) → differs (Some w) w ≡ false
+differs_never w = rw (eq-eqb w w refl) refl
+
+-- which version a client has noted once a turn is over: none after its first
+abbrev pub noted_at : Bool → ℕ → Option ℕ
+noted_at true w = None
+noted_at false w = Some w
+
+all_silent : (n : Counts) → n.sealed ≡ 0 → n.unsealed ≡ 0 → silent n ≡ n
+all_silent n sealed unsealed =
+    ap (λ (s : ℕ). record n { sealed = s; unsealed = 0 }) (sym sealed) ∙ ap (λ (u : ℕ). record n { unsealed = u }) (sym unsealed)
+
+module _ {C : Type 0} (c : Meaning ContextSetting C) where
+  -- the context is this one, but for what it sealed and opened
+  pub record Holds (context : Option C) (x : C) : Type 0 where
+    pub held : C
+    pub there : context ≡ Some held
+    pub same : cleared c held ≡ x
+
+  -- by which messages the context x seals texts
+  pub record IsMaker (x : C) (blob : ℕ → List ℕ → List ℕ) : Type 0 where
+    pub made : (m : C) (n : ℕ) (text sealed : List ℕ) → cleared c m ≡ x → c.seals m n text sealed → sealed ≡ blob n text
+    pub never : (m : C) (text : List ℕ) (kind : ErrorKind) → cleared c m ≡ x → (c.counts m).sealed < 2 ^ 64 - 1 → c.refuses m (ToSeal text) kind → ⊥
+
+  -- which messages the context x opens
+  pub record IsTaker (x : C) (blob : ℕ → List ℕ → List ℕ) : Type 0 where
+    pub opened : (m : C) (n i : ℕ) (text text2 : List ℕ) → cleared c m ≡ x → c.opens m i (blob n text) text2 → text2 ≡ text
+    pub never : (m : C) (n : ℕ) (text : List ℕ) (kind : ErrorKind) → cleared c m ≡ x → (c.counts m).unsealed ≡ n → n < 2 ^ 64 - 1 →
+        c.refuses m (ToUnseal (blob n text)) kind → ⊥
+    pub long : (n : ℕ) (text : List ℕ) → nat_lt (length (blob n text)) 16 ≡ false
+
+  pub holds_still : (o o2 : Option C) (x : C) → SameBut c o o2 → Holds o x → Holds o2 x
+  holds_still o o2 x same h = at o2 (subst (λ (y : Option C). SameBut c y o2) h.there same)
+    where
+      at : (o2 : Option C) → SameBut c (Some h.held) o2 → Holds o2 x
+      at None none = absurd none
+      at (Some m) e = record { held = m; there = refl; same = e ∙ h.same }
+
+  pub sealed_field : (o : Option C) (x : C) (blob : ℕ → List ℕ → List ℕ) (n : ℕ) (text : List ℕ) (field : Option (List ℕ)) → Holds o x → IsMaker x blob →
+      SealsIn c o n text field → field ≡ Some (blob n text)
+  sealed_field o x blob n text field h maker seals = at field (subst (λ (y : Option C). SealsIn c y n text field) h.there seals)
+    where
+      at : (field : Option (List ℕ)) → SealsIn c (Some h.held) n text field → field ≡ Some (blob n text)
+      at None none = absurd none
+      at (Some sealed) made = ap Some (maker.made h.held n text sealed h.same made)
+
+  pub unused_in : (o : Option C) → sealed_in c o ≡ 0 → unsealed_in c o ≡ 0 → IsUnusedIn c o
+  unused_in None sealed unsealed = tt
+  unused_in (Some m) sealed unsealed = record { sealed = sealed; unsealed = unsealed }
+
+  -- the client v, which began as a: whether its next turn is its first, w the version that it is given then, its state, and
+  -- how many messages its context sealed and opened
+  pub record ClientIs (a v : ClientView C) (w : ℕ) (first : Bool) (state : CredSspState) (sealed unsealed : ℕ) : Type 0 where
+    pub same : SameClient c a v
+    pub state_is : v.state ≡ state
+    pub idle : is_waiting_in c v.context ≡ false
+    pub fits : is_altered v.context v.noted w ≡ false
+    pub notes : noted_next v.context v.noted w ≡ noted_at first w
+    pub sealed_is : sealed_in c v.context ≡ sealed
+    pub unsealed_is : unsealed_in c v.context ≡ unsealed
+
+  pub fresh_client : (a : ClientView C) (w : ℕ) → IsFreshClient a → ClientIs a a w true NegoToken 0 0
+  fresh_client a w fresh = record {
+    same = record { public_key = refl; credentials = refl; delegation = refl; version = refl; mode = refl; target = refl; nonce = refl };
+    state_is = fresh.state;
+    idle = rw fresh.context refl;
+    fits = rw fresh.context refl;
+    notes = rw fresh.context refl;
+    sealed_is = rw fresh.context refl;
+    unsealed_is = rw fresh.context refl;
+  }
+
+  fits_at : (m : C) (first : Bool) (w w2 : ℕ) → (first ≡ false → w2 ≡ w) →
+      (is_altered (Some m) (noted_at first w) w2 ≡ false) × (noted_next (Some m) (noted_at first w) w2 ≡ Some w2)
+  fits_at m true w w2 same = (refl, refl)
+  fits_at m false w w2 same = rw (same refl) (differs_never w, refl)
+
+  -- once the client has a context, its peer may speak the noted version
+  pub fits_later : (v : ClientView C) (m : C) (first : Bool) (w w2 : ℕ) → (first ≡ false → w2 ≡ w) → v.context ≡ Some m → v.noted ≡ noted_at first w →
+      (is_altered v.context v.noted w2 ≡ false) × (noted_next v.context v.noted w2 ≡ Some w2)
+  fits_later v m first w w2 same there noted = rw (there, noted) (fits_at m first w w2 same)
+
+  same_emptied : (a v : ClientView C) → SameClient c a v → SameClient c a (record v { output = [] })
+  same_emptied a v same = record {
+    public_key = same.public_key;
+    credentials = same.credentials;
+    delegation = same.delegation;
+    version = same.version;
+    mode = same.mode;
+    target = same.target;
+    nonce = same.nonce;
+  }
+
+  pub client_emptied : (a v : ClientView C) (w : ℕ) (first : Bool) (state : CredSspState) (sealed unsealed : ℕ) →
+      ClientIs a v w first state sealed unsealed → ClientIs a (record v { output = [] }) w first state sealed unsealed
+  client_emptied a v w first state sealed unsealed is = record {
+    same = same_emptied a v is.same;
+    state_is = is.state_is;
+    idle = is.idle;
+    fits = is.fits;
+    notes = is.notes;
+    sealed_is = is.sealed_is;
+    unsealed_is = is.unsealed_is;
+  }
+
+  module _ {P : Type 0} where
+    -- the server v, which began as b; w is its client's version
+    pub record ServerIs (b v : ServerView C P) (w : ℕ) (state : CredSspState) (sealed unsealed : ℕ) : Type 0 where
+      pub same : SameServer c b v
+      pub state_is : v.state ≡ state
+      pub fits : differs v.noted w ≡ false
+      pub notes : noted_first v.noted w ≡ Some w
+      pub sealed_is : sealed_in c v.context ≡ sealed
+      pub unsealed_is : unsealed_in c v.context ≡ unsealed
+
+    pub fresh_server : (b : ServerView C P) (w : ℕ) → IsFreshServer b → ServerIs b b w NegoToken 0 0
+    fresh_server b w fresh = record {
+      same = record { public_key = refl; version = refl; mode = refl };
+      state_is = fresh.state;
+      fits = rw fresh.noted refl;
+      notes = rw fresh.noted refl;
+      sealed_is = rw fresh.context refl;
+      unsealed_is = rw fresh.context refl;
+    }
+
+    pub server_emptied : (b v : ServerView C P) (w : ℕ) (state : CredSspState) (sealed unsealed : ℕ) → ServerIs b v w state sealed unsealed →
+        ServerIs b (record v { output = [] }) w state sealed unsealed
+    server_emptied b v w state sealed unsealed is = record {
+      same = record { public_key = is.same.public_key; version = is.same.version; mode = is.same.mode };
+      state_is = is.state_is;
+      fits = is.fits;
+      notes = is.notes;
+      sealed_is = is.sealed_is;
+      unsealed_is = is.unsealed_is;
+    }
+
+  module _ (laws : IsContext c) where
+    -- where nothing was sealed or opened, the context is this very one
+    pub unused_is : (m x : C) → cleared c m ≡ x → (c.counts m).sealed ≡ 0 → (c.counts m).unsealed ≡ 0 → m ≡ x
+    unused_is m x is sealed unsealed =
+        sym (laws.counted_counts m) ∙ ap (c.counted m) (sym (all_silent (c.counts m) sealed unsealed)) ∙ is
+
+    pub held_is : (o : Option C) (x : C) → Holds o x → sealed_in c o ≡ 0 → unsealed_in c o ≡ 0 → o ≡ Some x
+    held_is o x h sealed unsealed =
+        h.there ∙ ap Some (unused_is h.held x h.same (sym (ap (sealed_in c) h.there) ∙ sealed) (sym (ap (unsealed_in c) h.there) ∙ unsealed))

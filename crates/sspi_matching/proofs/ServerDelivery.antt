@@ -1,0 +1,101 @@
+-- The last turn of a server in an undisturbed exchange: it opens the client's credentials.
+use Rattle.std.proofs.Common.{◌≡◌, ◌≢◌, ℕ, List, Bool, true, false, Option, None, Some, Ok, Err, refl, ap, sym, ◌∙◌, subst, arith}
+use Rattle.sspi_types.specs.declared.credential_use.CredentialUse.TheVariants.{Inbound}
+use Rattle.sspi_types.specs.declared.error_kind.ErrorKind.{ErrorKind}
+use Rattle.sspi_types.specs.declared.error_kind.ErrorKind.TheVariants.{InvalidToken, InsufficientMemory}
+use Rattle.sspi_names.specs.declared.identity.AuthIdentity.{AuthIdentity}
+use Rattle.sspi_tsreq.specs.declared.request.TsRequest.{TsRequest}
+use Rattle.sspi_mech.specs.Context.{IsContext}
+use Rattle.sspi_mech.specs.Meaning.{Meaning}
+use Rattle.sspi_credssp.specs.declared.state.CredSspState.{CredSspState}
+use Rattle.sspi_credssp.specs.declared.state.CredSspState.TheVariants.{AuthInfo}
+use Rattle.sspi_credssp.specs.Acts.{unsealed_by}
+use Rattle.sspi_credssp.specs.Begun.{BeginCause}
+use Rattle.sspi_credssp.specs.Context.{ContextSetting, ForServer}
+use Rattle.sspi_credssp.specs.Counts.{unsealed_in, SameBut, cleared}
+use Rattle.sspi_credssp.specs.Credentials.{delegated_identity}
+use Rattle.sspi_credssp.specs.Exchange.{OpensIdentity, opens_identity, BlobStops}
+use Rattle.sspi_credssp.specs.Server.{ServerView}
+use Rattle.sspi_credssp.specs.ServerCause.{UnreadCause, unread, OpenedCause}
+use Rattle.sspi_credssp.specs.ServerTurn.{StateAnswer, MayCheck, StartsUnused, OnceNegotiated, HoldsIdentity, server_frame, server_turn}
+use Rattle.sspi_credssp.specs.Turn.{Replied, Finished, Stopped}
+use Rattle.sspi_delegate.specs.declared.turn.Outcome.{Outcome}
+use Rattle.sspi_delegate.specs.declared.turn.Outcome.TheVariants as outcome
+use Rattle.sspi_delegate.specs.EndTurns.{came_of}
+use Rattle.sspi_delegate.specs.History.{ServerMakes}
+use Rattle.sspi_matching.proofs.Ends.{Ends, is_false, stops_later, Holds, IsTaker, holds_still, ServerIs}
+use Rattle.sspi_matching.proofs.ServerTurns.{cause_past}
+
+module _ {C P : Type 0} (c : Meaning ContextSetting C) (laws : IsContext c) (told : P → Option (List AuthIdentity)) (faults : P → ℕ) where
+  abbrev View : Type 0
+  View = ServerView C P
+
+  -- what the turn is given: the client's credentials, sealed as its second message
+  pub record DeliveryGiven (b old : View) (w : ℕ) (d : TsRequest) (z : C) (peers : ℕ → List ℕ → List ℕ) (text : List ℕ) (identity : AuthIdentity) : Type 0 where
+    pub is : ServerIs c b old w AuthInfo 1 1
+    pub holds : Holds c old.context z
+    pub taker : IsTaker c z peers
+    pub version : d.version ≡ w
+    pub field : d.auth_info ≡ Some (peers 1 text)
+    pub delegates : delegated_identity text ≡ Ok identity
+    pub begins : (kind : ErrorKind) → BeginCause c (ForServer b.mode) Inbound None kind → ⊥
+
+  bare_at : (state : CredSspState) (Q : Type 0) → state ≡ AuthInfo → OnceNegotiated state Q → Q
+  bare_at state Q auth h = subst (λ (s : CredSspState). OnceNegotiated s Q) auth h
+
+  module _ (b old : View) (w : ℕ) (d : TsRequest) (z : C) (peers : ℕ → List ℕ → List ℕ) (text : List ℕ) (identity : AuthIdentity)
+      (given : DeliveryGiven b old w d z peers text identity) where
+    never_replies : (mid : View) (r : TsRequest) → ServerMakes c told faults old d (Replied r) mid → ⊥
+    never_replies mid r makes =
+        subst (λ (s : CredSspState). StateAnswer c (server_frame c old mid) (server_turn c d (Replied r) mid) s r) given.is.state_is makes.0.turn.reply
+
+    held_now : (mid : View) → OnceNegotiated old.state (SameBut c old.context mid.context) → Holds c mid.context z
+    held_now mid bare = holds_still c old.context mid.context z (bare_at old.state _ given.is.state_is bare) given.holds
+
+    identity_of : (m : C) (identity2 : AuthIdentity) → cleared c m ≡ z → OpensIdentity c m (peers 1 text) identity2 → identity2 ≡ identity
+    identity_of m identity2 same (opens_identity text2 opens is) =
+        let one : text2 ≡ text = given.taker.opened m 1 _ text text2 same opens in
+        let both : Ok identity2 ≡ Ok identity = sym is ∙ ap delegated_identity one ∙ given.delegates in cc
+
+    gives : (mid : View) (identity2 : AuthIdentity) → ServerMakes c told faults old d Finished mid → HoldsIdentity c mid.context d.auth_info identity2 → identity2 ≡ identity
+    gives mid identity2 makes holds =
+        let h = held_now mid makes.0.moves.bare in
+        identity_of h.held identity2 h.same
+        (subst (λ (f : Option (List ℕ)). HoldsIdentity c (Some h.held) f identity2) given.field
+        (subst (λ (o : Option C). HoldsIdentity c o d.auth_info identity2) h.there holds))
+
+    unread_never : (m : C) (kind : ErrorKind) → cleared c m ≡ z → UnreadCause c m (peers 1 text) kind → ⊥
+    unread_never m kind same (unread text2 error opens is kind_is) =
+        let one : text2 ≡ text = given.taker.opened m 1 _ text text2 same opens in
+        let never : Err error ≡ Ok identity = sym is ∙ ap delegated_identity one ∙ given.delegates in cc
+
+    opened_never : (opened : Bool) (m : C) (kind : ErrorKind) → cleared c m ≡ z → (opened ≡ false → (c.counts m).unsealed ≡ 1) →
+        OpenedCause c opened (Some m) (peers 1 text) kind → ⊥
+    opened_never false m kind same next h = given.taker.never m 1 text kind same (next refl) (omega arith) h
+    opened_never true m kind same next h = unread_never m kind same h
+
+    delivery_refused : (mid : View) (kind : ErrorKind) (reply : Option TsRequest) → ServerMakes c told faults old d (Stopped kind reply) mid → kind ≢ InsufficientMemory → ⊥
+    delivery_refused mid kind reply makes others =
+        let error = makes.0 in
+        let turn = makes.2 in
+        let others2 : error.error_type ≢ InsufficientMemory = λ memory. others (sym makes.1 ∙ memory) in
+        let cause = cause_past c laws told faults b old mid w d AuthInfo 1 1 error.error_type given.is given.version given.begins (makes.3.cause others2) in
+        let at_blob = subst (λ (f : Option (List ℕ)). BlobStops f error.error_type (λ blob. OpenedCause c mid.acts.opened mid.context blob error.error_type)) given.field cause in
+        let later = stops_later _ InvalidToken error.error_type _ (given.taker.long 1 text) at_blob in
+        let h = held_now mid turn.moves.bare in
+        let at = subst (λ (o : Option C). OpenedCause c mid.acts.opened o (peers 1 text) error.error_type) h.there later in
+        let start : StartsUnused c old = λ nego. let auth = given.is.state_is in absurd cc in
+        let opened = turn.moves.unsealed start in
+        let before = given.is.unsealed_is in
+        let here : unsealed_in c mid.context ≡ (c.counts h.held).unsealed = ap (unsealed_in c) h.there in
+        let unchecked : mid.acts.checked ≡ false = is_false mid.acts.checked (λ was.
+        subst (λ (s : CredSspState). MayCheck s mid.acts.status) given.is.state_is (turn.turn.acts.checked was).0) in
+        opened_never mid.acts.opened h.held error.error_type h.same
+        (λ unopened. let none : unsealed_by mid.acts ≡ 0 = rw (unchecked, unopened) refl in omega (arith, opened, before, here, none)) at
+
+    pub last_turn : (out : Outcome) (mid : View) → ServerMakes c told faults old d (came_of out) mid →
+        Ends out ((identity2 : AuthIdentity) → HoldsIdentity c mid.context d.auth_info identity2 → identity2 ≡ identity)
+    last_turn (outcome.Reply r) mid makes = never_replies mid r makes
+    last_turn (outcome.Final r) mid makes = makes
+    last_turn outcome.Finished mid makes = λ identity2 holds. gives mid identity2 makes holds
+    last_turn (outcome.Refused kind reply) mid makes = λ others. delivery_refused mid kind reply makes others

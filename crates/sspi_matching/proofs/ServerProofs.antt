@@ -1,0 +1,304 @@
+-- The turns of a server in an undisturbed exchange that end its authentication, and that answer the client's proof, in one
+-- turn or in two.
+use Rattle.std.proofs.Common.{◌≡◌, ◌≢◌, ℕ, ◌-◌, ◌<◌, ◌^◌, List, [], Bool, true, false, Option, None, Some, IsSome, refl, ap, sym, ◌∙◌, subst, arith, nat_lt}
+use Rattle.sspi_types.specs.declared.credential_use.CredentialUse.TheVariants.{Inbound}
+use Rattle.sspi_types.specs.declared.error_kind.ErrorKind.{ErrorKind}
+use Rattle.sspi_types.specs.declared.error_kind.ErrorKind.TheVariants.{InvalidToken, InsufficientMemory}
+use Rattle.sspi_types.specs.declared.security_status.SecurityStatus.{SecurityStatus}
+use Rattle.sspi_types.specs.declared.security_status.SecurityStatus.TheVariants as statuses
+use Rattle.sspi_names.specs.declared.credentials.CredentialsBuffers.{CredentialsBuffers}
+use Rattle.sspi_names.specs.declared.identity.AuthIdentity.{AuthIdentity}
+use Rattle.sspi_tsreq.specs.declared.request.TsRequest.{TsRequest}
+use Rattle.sspi_mech.specs.declared.step.Step.{Step}
+use Rattle.sspi_mech.specs.Context.{IsContext}
+use Rattle.sspi_mech.specs.Meaning.{Meaning}
+use Rattle.sspi_credssp.specs.declared.public_key.EndpointType.TheVariants.{Client, Server}
+use Rattle.sspi_credssp.specs.declared.state.CredSspState.{CredSspState}
+use Rattle.sspi_credssp.specs.declared.state.CredSspState.TheVariants.{PubKeyInfo, AuthInfo}
+use Rattle.sspi_credssp.specs.Acts.{sealed_by, unsealed_by}
+use Rattle.sspi_credssp.specs.Begun.{BeginCause, IfContext}
+use Rattle.sspi_credssp.specs.Context.{ContextSetting, ForServer}
+use Rattle.sspi_credssp.specs.Counts.{sealed_in, unsealed_in, SealsIn, SameBut, cleared}
+use Rattle.sspi_credssp.specs.Exchange.{opens_other}
+use Rattle.sspi_credssp.specs.PublicKey.{prescribed}
+use Rattle.sspi_credssp.specs.Requests.{nonce_of, IsLong}
+use Rattle.sspi_credssp.specs.Server.{ServerView}
+use Rattle.sspi_credssp.specs.ServerCause.{IdentifyCause, OverCause, unknown, incomplete, known, AfterCause, ExchangeCause, BlobCause, ProofCause, AnswerCause, altered, unsealed, lacks_nonce}
+use Rattle.sspi_credssp.specs.ServerStep.{Unknown, Identified, Completed}
+use Rattle.sspi_credssp.specs.ServerTurn.{IsOver, OverAnswer, ProofAnswer, StateAnswer, StartsUnused, OnceNegotiated, ServerTurn, noted_first, after_status, server_frame, server_turn}
+use Rattle.sspi_credssp.specs.Turn.{Came, Replied, Finished, Stopped, AtNoted}
+use Rattle.sspi_mech.specs.Calls.{ToComplete}
+use Rattle.sspi_delegate.specs.declared.turn.Outcome.{Outcome}
+use Rattle.sspi_delegate.specs.declared.turn.Outcome.TheVariants as outcome
+use Rattle.sspi_delegate.specs.EndTurns.{came_of}
+use Rattle.sspi_delegate.specs.History.{ServerMakes}
+use Rattle.sspi_matching.proofs.Accepting.{IsPeer, named_is, come_at}
+use Rattle.sspi_matching.proofs.Ends.{Comes, is_false, stops_later, sealed_few, Holds, IsMaker, IsTaker, holds_still, sealed_field, ServerIs}
+use Rattle.sspi_matching.proofs.ServerTurns.{NegoGiven, nego_acts, same_on, stands_noted, cause_past, over_answer, over_cause, unused, noted_now, replies, over_left, never_finishes, refusal}
+
+asks_proof : (st : SecurityStatus) → IsOver (Some st) → after_status (Some st) ≡ PubKeyInfo
+asks_proof statuses.Ok over = refl
+asks_proof statuses.ContinueNeeded over = absurd over
+asks_proof statuses.CompleteNeeded over = refl
+asks_proof statuses.CompleteAndContinue over = absurd over
+asks_proof statuses.LocalLogon over = absurd over
+asks_proof statuses.ContextExpired over = absurd over
+asks_proof statuses.IncompleteCredentials over = absurd over
+asks_proof statuses.Renegotiate over = absurd over
+asks_proof statuses.NoLsaContext over = absurd over
+
+module _ {C P : Type 0} (c : Meaning ContextSetting C) (laws : IsContext c) (told : P → Option (List AuthIdentity)) (faults : P → ℕ) where
+  abbrev View : Type 0
+  View = ServerView C P
+
+  -- what a turn is given that answers the client's proof: that proof, which the peer's context sealed as its first message
+  pub record ProofGiven (b : View) (w : ℕ) (d : TsRequest) (z : C) (own peers : ℕ → List ℕ → List ℕ) : Type 0 where
+    pub maker : IsMaker c z own
+    pub taker : IsTaker c z peers
+    pub proof : d.pub_key_auth ≡ Some (peers 0 (prescribed Client w (nonce_of d.client_nonce) b.public_key))
+    pub nonce : lacks_nonce (nat_lt w 5) d.client_nonce ≡ false
+
+  module _ (b old : View) (w : ℕ) (d : TsRequest) (z : C) (own peers : ℕ → List ℕ → List ℕ) (proof_given : ProofGiven b w d z own peers) where
+    abbrev client_text : List ℕ
+    client_text = prescribed Client w (nonce_of d.client_nonce) b.public_key
+
+    abbrev pub answer : TsRequest
+    answer = record d {
+      version = b.version;
+      nego_tokens = None;
+      pub_key_auth = Some (own 0 (prescribed Server w (nonce_of d.client_nonce) b.public_key));
+    }
+
+    answered : (mid : View) (r : TsRequest) → ProofAnswer c (server_frame c old mid) (server_turn c d (Replied r) mid) r → Holds c mid.context z → mid.noted ≡ Some w →
+        mid.public_key ≡ b.public_key → mid.version ≡ b.version → sealed_in c mid.context ≡ 1 → r ≡ answer
+    answered mid r proof holds noted public_key version one =
+        let seals = subst (λ (x : Option ℕ). AtNoted x (λ n. SealsIn c mid.context (sealed_in c mid.context - 1)
+        (prescribed Server n (nonce_of d.client_nonce) mid.public_key) r.pub_key_auth)) noted proof.proof in
+        let field = sealed_field c mid.context z own _ _ r.pub_key_auth holds proof_given.maker seals in
+        let field_is : r.pub_key_auth ≡ Some (own 0 (prescribed Server w (nonce_of d.client_nonce) b.public_key)) = field ∙ (rw (one, public_key) refl) in
+        proof.reply ∙ (rw (version, field_is) refl)
+
+    answer_never : (m : C) (text : List ℕ) (kind : ErrorKind) → cleared c m ≡ z → (c.counts m).sealed < 2 ^ 64 - 1 →
+        AnswerCause c m (peers 0 client_text) client_text text kind → ⊥
+    answer_never m text kind same few (altered (opens_other text2 opens differs) is) = differs (proof_given.taker.opened m 0 _ client_text text2 same opens)
+    answer_never m text kind same few (unsealed opens refuses) = proof_given.maker.never m text kind same few refuses
+
+    proof_never : (checked : Bool) (m : C) (text : List ℕ) (kind : ErrorKind) → cleared c m ≡ z → (c.counts m).sealed < 2 ^ 64 - 1 →
+        (checked ≡ false → (c.counts m).unsealed ≡ 0) → ProofCause c checked m (peers 0 client_text) client_text text kind → ⊥
+    proof_never false m text kind same few next h = proof_given.taker.never m 0 client_text kind same (next refl) (omega arith) h
+    proof_never true m text kind same few next h = answer_never m text kind same few h
+
+    exchange_never : (mid : View) (kind : ErrorKind) → Holds c mid.context z → mid.noted ≡ Some w → mid.public_key ≡ b.public_key → sealed_in c mid.context < 2 ^ 64 - 1 →
+        (mid.acts.checked ≡ false → unsealed_in c mid.context ≡ 0) → ExchangeCause c d.pub_key_auth mid.noted d.client_nonce mid kind → ⊥
+    exchange_never mid kind holds noted public_key few next cause =
+        let blob = peers 0 client_text in
+        let at_noted = subst (λ (n : Option ℕ). ExchangeCause c (Some blob) n d.client_nonce mid kind) noted
+        (subst (λ (f : Option (List ℕ)). ExchangeCause c f mid.noted d.client_nonce mid kind) proof_given.proof cause) in
+        let later = stops_later _ InvalidToken kind _ (proof_given.taker.long 0 client_text) (stops_later _ InvalidToken kind _ proof_given.nonce at_noted) in
+        let at = subst (λ (x : Option C). BlobCause c w x d.client_nonce blob mid kind) holds.there later in
+        let exact = subst (λ (p : List ℕ). ProofCause c mid.acts.checked holds.held blob (prescribed Client w (nonce_of d.client_nonce) p)
+        (prescribed Server w (nonce_of d.client_nonce) p) kind) public_key at in
+        let sealed_here : sealed_in c mid.context ≡ (c.counts holds.held).sealed = ap (sealed_in c) holds.there in
+        let opened_here : unsealed_in c mid.context ≡ (c.counts holds.held).unsealed = ap (unsealed_in c) holds.there in
+        proof_never mid.acts.checked holds.held _ kind holds.same (omega (arith, few, sealed_here))
+        (λ unchecked. sym opened_here ∙ next unchecked) exact
+
+    -- ---- the proof alone
+
+    module _ (is : ServerIs c b old w PubKeyInfo 0 0) (holds : Holds c old.context z) (version : d.version ≡ w)
+        (begins : (kind : ErrorKind) → BeginCause c (ForServer b.mode) Inbound None kind → ⊥) where
+      unstarted : StartsUnused c old
+      unstarted = λ nego. let at = is.state_is in absurd cc
+
+      bare_at : (state : CredSspState) (Q : Type 0) → state ≡ PubKeyInfo → OnceNegotiated state Q → Q
+      bare_at state Q at h = subst (λ (s : CredSspState). OnceNegotiated s Q) at h
+
+      held_now : (mid : View) → OnceNegotiated old.state (SameBut c old.context mid.context) → Holds c mid.context z
+      held_now mid bare = holds_still c old.context mid.context z (bare_at old.state _ is.state_is bare) holds
+
+      noted_at : (mid : View) (m : C) → mid.context ≡ Some m → (IsSome mid.context → mid.noted ≡ noted_first old.noted d.version) → mid.noted ≡ Some w
+      noted_at mid m there noted = noted (rw there refl) ∙ ap (noted_first old.noted) version ∙ is.notes
+
+      unopened : (mid : View) (came : Came) → ServerTurn c old d came mid → mid.acts.opened ≡ false
+      unopened mid came turn = is_false mid.acts.opened (λ was. let auth = (turn.turn.acts.opened was).0 in let at = is.state_is in cc)
+
+      proof_replied : (mid : View) (r : TsRequest) → ServerMakes c told faults old d (Replied r) mid →
+          (r ≡ answer) × ServerIs c b mid w AuthInfo 1 1 × Holds c mid.context z
+      proof_replied mid r makes =
+          let turn = makes.0 in
+          let proof : ProofAnswer c (server_frame c old mid) (server_turn c d (Replied r) mid) r =
+          subst (λ (s : CredSspState). StateAnswer c (server_frame c old mid) (server_turn c d (Replied r) mid) s r) is.state_is turn.turn.reply in
+          let h = held_now mid turn.moves.bare in
+          let one : sealed_by mid.acts ≡ 1 = rw (proof.proved, turn.turn.acts.sealed) refl in
+          let opened_one : unsealed_by mid.acts ≡ 1 = rw (proof.checked, unopened mid _ turn) refl in
+          let sealed_now : sealed_in c mid.context ≡ 1 = turn.moves.sealed unstarted ∙ (rw (is.sealed_is, one) refl) in
+          let noted = noted_at mid h.held h.there turn.moves.noted in
+          let same = same_on c laws told faults b old mid is.same turn.moves.same in
+          let still = stands_noted c laws told faults mid.noted w noted in (
+            answered mid r proof h noted same.public_key same.version sealed_now,
+            record {
+              same = same;
+              state_is = turn.moves.state ∙ (rw proof.proved refl);
+              fits = still.0;
+              notes = still.1;
+              sealed_is = sealed_now;
+              unsealed_is = turn.moves.unsealed unstarted ∙ (rw (is.unsealed_is, opened_one) refl);
+            },
+            h,
+          )
+
+      proof_refused : (mid : View) (kind : ErrorKind) (reply : Option TsRequest) → ServerMakes c told faults old d (Stopped kind reply) mid → kind ≢ InsufficientMemory → ⊥
+      proof_refused mid kind reply makes others =
+          let turn = makes.2 in
+          let others2 : makes.0.error_type ≢ InsufficientMemory = λ memory. others (sym makes.1 ∙ memory) in
+          let cause = cause_past c laws told faults b old mid w d PubKeyInfo 0 0 makes.0.error_type is version begins (makes.3.cause others2) in
+          let h = held_now mid turn.moves.bare in
+          let sealed = turn.moves.sealed unstarted in
+          let opened = turn.moves.unsealed unstarted in
+          let sealed_before = is.sealed_is in
+          let opened_before = is.unsealed_is in
+          let two = sealed_few mid.acts in
+          exchange_never mid makes.0.error_type h (noted_at mid h.held h.there turn.moves.noted) (turn.moves.same.public_key ∙ is.same.public_key)
+          (omega (arith, sealed, sealed_before, two))
+          (λ unchecked. let none : unsealed_by mid.acts ≡ 0 = rw (unchecked, unopened mid _ turn) refl in omega (arith, opened, opened_before, none)) cause
+
+      proof_ends : (mid : View) → ServerMakes c told faults old d Finished mid → ⊥
+      proof_ends mid makes = let auth = makes.0.turn.reply.0 in let at = is.state_is in cc
+
+      pub proof_turn : (out : Outcome) (mid : View) → ServerMakes c told faults old d (came_of out) mid →
+          Comes out (λ r. (r ≡ answer) × ServerIs c b mid w AuthInfo 1 1 × Holds c mid.context z)
+      proof_turn (outcome.Reply r) mid makes = proof_replied mid r makes
+      proof_turn (outcome.Final r) mid makes = absurd makes
+      proof_turn outcome.Finished mid makes = proof_ends mid makes
+      proof_turn (outcome.Refused kind reply) mid makes = λ others. proof_refused mid kind reply makes others
+
+  -- ---- the end of the authentication
+
+  module _ (b old : View) (w : ℕ) (d : TsRequest) (step : Step) (y z : C) (handle : Option CredentialsBuffers) (given : NegoGiven c laws told faults b old w d step y handle)
+      (peer : IsPeer c laws (told old.proxy) y z) (over : IsOver (Some step.status)) where
+    -- a refusal is past the peer's name and the context's end
+    over_after : (mid : View) (kind : ErrorKind) → faults mid.proxy ≡ faults old.proxy → faults old.proxy < 2 ^ 64 - 1 → OverCause c told faults step.status old d mid kind →
+        Holds c mid.context z × (mid.output ≡ step.output) × AfterCause c d.pub_key_auth d.client_nonce mid kind
+    over_after mid kind still calm (unknown unchecked come h) =
+        let left = (come_at c laws told old d.nego_tokens step y handle given.takes mid Unknown step.status come).1 in
+        absurd (peer.never left.held (faults old.proxy) (faults mid.proxy) kind left.comes still calm
+        (subst (λ (o : Option C). IfContext o (λ m. IdentifyCause c m (told old.proxy) (faults old.proxy) (faults mid.proxy) kind)) left.there h))
+    over_after mid kind still calm (incomplete unchecked come h) =
+        let left = (come_at c laws told old d.nego_tokens step y handle given.takes mid Identified step.status come).1 in
+        absurd (peer.completes left.held kind (named_is c laws (told old.proxy) y z left.held peer left.comes)
+        (subst (λ (o : Option C). IfContext o (λ m. c.refuses m ToComplete kind)) left.there h))
+    over_after mid kind still calm (known come after) =
+        let left = (come_at c laws told old d.nego_tokens step y handle given.takes mid Completed step.status come).1 in
+        (record { held = left.held; there = left.there; same = named_is c laws (told old.proxy) y z left.held peer left.comes }, left.output_is, after)
+
+    -- ---- with the client's proof
+
+    module _ (own peers : ℕ → List ℕ → List ℕ) (proof_given : ProofGiven b w d z own peers) where
+      exchange_replied : (mid : View) (r : TsRequest) → ServerMakes c told faults old d (Replied r) mid →
+          (r ≡ answer b old w d z own peers proof_given) × ServerIs c b mid w AuthInfo 1 1 × Holds c mid.context z
+      exchange_replied mid r makes =
+          let turn = makes.0 in
+          let frame = server_frame c old mid in
+          let t = server_turn c d (Replied r) mid in
+          let s = replies c laws told faults b old w d step y handle given mid r makes in
+          let proof : ProofAnswer c frame t r = subst (λ (x : Option (List ℕ)). OverAnswer c frame t x r) proof_given.proof
+          (over_answer c laws told faults step.status frame t r over s.answer) in
+          let left = over_left c laws told faults b old w d step y handle given mid over s.done in
+          let h : Holds c mid.context z = record { held = left.held; there = left.there; same = named_is c laws (told old.proxy) y z left.held peer left.comes } in
+          let quiet = nego_acts c laws told faults frame t turn.turn.acts given.is.state_is in
+          let start = unused c laws told faults b old w d step y handle given in
+          let one : sealed_by mid.acts ≡ 1 = rw (proof.proved, quiet.0) refl in
+          let opened_one : unsealed_by mid.acts ≡ 1 = rw (proof.checked, quiet.1) refl in
+          let sealed_now : sealed_in c mid.context ≡ 1 = turn.moves.sealed start ∙ (rw (given.is.sealed_is, one) refl) in
+          let noted = noted_now c laws told faults b old w d step y handle given mid h.held h.there turn.moves.noted in
+          let same = same_on c laws told faults b old mid given.is.same turn.moves.same in
+          let still = stands_noted c laws told faults mid.noted w noted in (
+            answered b old w d z own peers proof_given mid r proof h noted same.public_key same.version sealed_now,
+            record {
+              same = same;
+              state_is = turn.moves.state ∙ (rw proof.proved refl);
+              fits = still.0;
+              notes = still.1;
+              sealed_is = sealed_now;
+              unsealed_is = turn.moves.unsealed start ∙ (rw (given.is.unsealed_is, opened_one) refl);
+            },
+            h,
+          )
+
+      exchange_at : (field : Option (List ℕ)) (blob : List ℕ) (mid : View) (kind : ErrorKind) → field ≡ Some blob → AfterCause c field d.client_nonce mid kind →
+          ExchangeCause c field mid.noted d.client_nonce mid kind
+      exchange_at None blob mid kind is h = absurd (cc (is))
+      exchange_at (Some x) blob mid kind is h = h
+
+      exchange_refused : (mid : View) (kind : ErrorKind) (reply : Option TsRequest) → faults mid.proxy ≡ faults old.proxy → faults old.proxy < 2 ^ 64 - 1 →
+          ServerMakes c told faults old d (Stopped kind reply) mid → kind ≢ InsufficientMemory → ⊥
+      exchange_refused mid kind reply still calm makes others =
+          let x = refusal c laws told faults b old w d step y handle given mid kind reply makes others in
+          let after = over_after mid kind still calm (over_cause c laws told faults step.status old d mid kind over x.cause) in
+          let start = unused c laws told faults b old w d step y handle given in
+          let quiet = nego_acts c laws told faults (server_frame c old mid) (server_turn c d (Stopped kind reply) mid) x.turn.turn.acts given.is.state_is in
+          let sealed = x.turn.moves.sealed start in
+          let opened = x.turn.moves.unsealed start in
+          let sealed_before = given.is.sealed_is in
+          let opened_before = given.is.unsealed_is in
+          let two = sealed_few mid.acts in
+          exchange_never b old w d z own peers proof_given mid kind after.0
+          (noted_now c laws told faults b old w d step y handle given mid after.0.held after.0.there x.turn.moves.noted)
+          (x.turn.moves.same.public_key ∙ given.is.same.public_key) (omega (arith, sealed, sealed_before, two))
+          (λ unchecked. let none : unsealed_by mid.acts ≡ 0 = rw (unchecked, quiet.1) refl in omega (arith, opened, opened_before, none))
+          (exchange_at d.pub_key_auth _ mid kind proof_given.proof after.2)
+
+      pub exchange_turn : (out : Outcome) (mid : View) → faults mid.proxy ≡ faults old.proxy → faults old.proxy < 2 ^ 64 - 1 → ServerMakes c told faults old d (came_of out) mid →
+          Comes out (λ r. (r ≡ answer b old w d z own peers proof_given) × ServerIs c b mid w AuthInfo 1 1 × Holds c mid.context z)
+      exchange_turn (outcome.Reply r) mid still calm makes = exchange_replied mid r makes
+      exchange_turn (outcome.Final r) mid still calm makes = absurd makes
+      exchange_turn outcome.Finished mid still calm makes = never_finishes c laws told faults b old w d step y handle given mid makes
+      exchange_turn (outcome.Refused kind reply) mid still calm makes = λ others. exchange_refused mid kind reply still calm makes others
+
+    -- ---- before the client's proof came
+
+    module _ (absent : d.pub_key_auth ≡ None) (speaks : step.output ≢ []) where
+      over_replied : (mid : View) (r : TsRequest) → ServerMakes c told faults old d (Replied r) mid →
+          (r ≡ record d { version = b.version; nego_tokens = Some step.output }) × ServerIs c b mid w PubKeyInfo 0 0 × Holds c mid.context z
+      over_replied mid r makes =
+          let turn = makes.0 in
+          let frame = server_frame c old mid in
+          let t = server_turn c d (Replied r) mid in
+          let s = replies c laws told faults b old w d step y handle given mid r makes in
+          let token : OverAnswer c frame t None r = subst (λ (x : Option (List ℕ)). OverAnswer c frame t x r) absent
+          (over_answer c laws told faults step.status frame t r over s.answer) in
+          let left = over_left c laws told faults b old w d step y handle given mid over s.done in
+          let h : Holds c mid.context z = record { held = left.held; there = left.there; same = named_is c laws (told old.proxy) y z left.held peer left.comes } in
+          let quiet = nego_acts c laws told faults frame t turn.turn.acts given.is.state_is in
+          let start = unused c laws told faults b old w d step y handle given in
+          let unchecked : mid.acts.checked ≡ false = is_false mid.acts.checked (λ was. subst IsLong absent (turn.turn.acts.checked was).1) in
+          let none_sealed : sealed_by mid.acts ≡ 0 = rw (token.2, quiet.0) refl in
+          let none_opened : unsealed_by mid.acts ≡ 0 = rw (unchecked, quiet.1) refl in
+          let same = same_on c laws told faults b old mid given.is.same turn.moves.same in
+          let still = stands_noted c laws told faults mid.noted w (noted_now c laws told faults b old w d step y handle given mid h.held h.there turn.moves.noted) in (
+            token.0.reply ∙ (rw (same.version, left.output_is) refl),
+            record {
+              same = same;
+              state_is = turn.moves.state ∙ (rw (given.is.state_is, token.2, s.status_is) (asks_proof step.status over));
+              fits = still.0;
+              notes = still.1;
+              sealed_is = turn.moves.sealed start ∙ (rw (given.is.sealed_is, none_sealed) refl);
+              unsealed_is = turn.moves.unsealed start ∙ (rw (given.is.unsealed_is, none_opened) refl);
+            },
+            h,
+          )
+
+      over_refused : (mid : View) (kind : ErrorKind) (reply : Option TsRequest) → faults mid.proxy ≡ faults old.proxy → faults old.proxy < 2 ^ 64 - 1 →
+          ServerMakes c told faults old d (Stopped kind reply) mid → kind ≢ InsufficientMemory → ⊥
+      over_refused mid kind reply still calm makes others =
+          let x = refusal c laws told faults b old w d step y handle given mid kind reply makes others in
+          let after = over_after mid kind still calm (over_cause c laws told faults step.status old d mid kind over x.cause) in
+          let empty : (mid.output ≡ []) × (kind ≡ InvalidToken) = subst (λ (f : Option (List ℕ)). AfterCause c f d.client_nonce mid kind) absent after.2 in
+          speaks (sym after.1 ∙ empty.0)
+
+      pub over_turn : (out : Outcome) (mid : View) → faults mid.proxy ≡ faults old.proxy → faults old.proxy < 2 ^ 64 - 1 → ServerMakes c told faults old d (came_of out) mid →
+          Comes out (λ r. (r ≡ record d { version = b.version; nego_tokens = Some step.output }) × ServerIs c b mid w PubKeyInfo 0 0 × Holds c mid.context z)
+      over_turn (outcome.Reply r) mid still calm makes = over_replied mid r makes
+      over_turn (outcome.Final r) mid still calm makes = absurd makes
+      over_turn outcome.Finished mid still calm makes = never_finishes c laws told faults b old w d step y handle given mid makes
+      over_turn (outcome.Refused kind reply) mid still calm makes = λ others. over_refused mid kind reply still calm makes others

@@ -1,0 +1,206 @@
+-- The turns of a server's authentication in an undisturbed exchange that send a token: each but the last asks for more, and
+-- the last one asks for the client's proof where that did not come yet.
+use Rattle.std.proofs.Common.{◌≡◌, ◌≢◌, ℕ, List, true, false, Option, None, Some, IsSome, refl, ap, sym, ◌∙◌, subst}
+use Rattle.sspi_types.specs.declared.credential_use.CredentialUse.TheVariants.{Inbound}
+use Rattle.sspi_types.specs.declared.error_kind.ErrorKind.{ErrorKind}
+use Rattle.sspi_types.specs.declared.error_kind.ErrorKind.TheVariants.{MessageAltered, InsufficientMemory}
+use Rattle.sspi_types.specs.declared.security_status.SecurityStatus.{SecurityStatus}
+use Rattle.sspi_types.specs.declared.security_status.SecurityStatus.TheVariants as statuses
+use Rattle.sspi_names.specs.declared.credentials.CredentialsBuffers.{CredentialsBuffers}
+use Rattle.sspi_names.specs.declared.identity.AuthIdentity.{AuthIdentity}
+use Rattle.sspi_tsreq.specs.declared.request.TsRequest.{TsRequest}
+use Rattle.sspi_mech.specs.declared.step.Step.{Step}
+use Rattle.sspi_mech.specs.Context.{IsContext}
+use Rattle.sspi_mech.specs.Meaning.{Meaning}
+use Rattle.sspi_credssp.specs.declared.state.CredSspState.{CredSspState}
+use Rattle.sspi_credssp.specs.declared.state.CredSspState.TheVariants.{NegoToken}
+use Rattle.sspi_credssp.specs.Acts.{sealed_by, unsealed_by}
+use Rattle.sspi_credssp.specs.Begun.{BeginCause}
+use Rattle.sspi_credssp.specs.Context.{ContextSetting, ForServer}
+use Rattle.sspi_credssp.specs.Server.{ServerView}
+use Rattle.sspi_credssp.specs.ServerCause.{ServerCause, StateCause, NegoCause, OverCause}
+use Rattle.sspi_credssp.specs.ServerStep.{Knowing, Unknown, Completed, DoneStep, HasCome, known_at}
+use Rattle.sspi_credssp.specs.ServerTurn.{IsOver, MayCheck, NegoAnswer, OverAnswer, StateAnswer, ServerActs, ServerTurn, SameServer, StartsUnused, noted_first, server_frame, server_turn}
+use Rattle.sspi_credssp.specs.Stops.{differs}
+use Rattle.sspi_credssp.specs.Turn.{Turn, ServerFrame, Replied, Finished, Stopped}
+use Rattle.sspi_delegate.specs.declared.turn.Outcome.{Outcome}
+use Rattle.sspi_delegate.specs.declared.turn.Outcome.TheVariants as outcome
+use Rattle.sspi_delegate.specs.EndTurns.{came_of}
+use Rattle.sspi_delegate.specs.History.{ServerMakes}
+use Rattle.sspi_matching.proofs.Accepting.{Takes, Left, come_at, refused_at}
+use Rattle.sspi_matching.proofs.Ends.{Comes, is_false, stops_later, made_past, differs_never, Holds, unused_in, ServerIs}
+
+module _ {C P : Type 0} (c : Meaning ContextSetting C) (laws : IsContext c) (told : P → Option (List AuthIdentity)) (faults : P → ℕ) where
+  abbrev View : Type 0
+  View = ServerView C P
+
+  -- a turn of the authentication seals and opens no credentials
+  pub nego_acts : (frame : ServerFrame C) (t : Turn) → ServerActs c frame t → frame.state ≡ NegoToken → (t.acts.sealed ≡ false) × (t.acts.opened ≡ false)
+  nego_acts frame t acts nego = (acts.sealed, is_false t.acts.opened (λ was. let s = (acts.opened was).0 in cc (s, nego)))
+
+  pub same_on : (b old mid : View) → SameServer c b old → SameServer c old mid → SameServer c b mid
+  same_on b old mid one two =
+      record { public_key = two.public_key ∙ one.public_key; version = two.version ∙ one.version; mode = two.mode ∙ one.mode }
+
+  noted_later : (noted noted2 : Option ℕ) (w : ℕ) → noted2 ≡ noted_first noted w → noted_first noted w ≡ Some w → noted2 ≡ Some w
+  noted_later noted noted2 w first is = first ∙ is
+
+  -- the version stays noted
+  pub stands_noted : (noted : Option ℕ) (w : ℕ) → noted ≡ Some w → (differs noted w ≡ false) × (noted_first noted w ≡ Some w)
+  stands_noted noted w is = rw is (differs_never w, refl)
+
+  -- a refusal is past what a turn looks at first
+  pub cause_past : (b old mid : View) (w : ℕ) (d : TsRequest) (state : CredSspState) (sealed unsealed : ℕ) (kind : ErrorKind) →
+      ServerIs c b old w state sealed unsealed → d.version ≡ w → ((kind : ErrorKind) → BeginCause c (ForServer b.mode) Inbound None kind → ⊥) →
+      ServerCause c told faults old d mid kind → StateCause c told faults state old d mid kind
+  cause_past b old mid w d state sealed unsealed kind is version begins cause =
+      let never : BeginCause c (ForServer old.mode) Inbound None kind → ⊥ =
+      λ h. begins kind (subst (λ x. BeginCause c (ForServer x) Inbound None kind) is.same.mode h) in
+      subst (λ (s : CredSspState). StateCause c told faults s old d mid kind) is.state_is
+      (stops_later _ MessageAltered kind _ (rw version is.fits) (made_past old.context mid.context _ _ never cause))
+
+  over_done : (st : SecurityStatus) (old : View) (d : TsRequest) (mid : View) → IsOver (Some st) → DoneStep c told (Some st) old d mid → HasCome c told Completed st old d mid
+  over_done statuses.Ok old d mid over h = h
+  over_done statuses.ContinueNeeded old d mid over h = absurd over
+  over_done statuses.CompleteNeeded old d mid over h = h
+  over_done statuses.CompleteAndContinue old d mid over h = absurd over
+  over_done statuses.LocalLogon old d mid over h = absurd over
+  over_done statuses.ContextExpired old d mid over h = absurd over
+  over_done statuses.IncompleteCredentials old d mid over h = absurd over
+  over_done statuses.Renegotiate old d mid over h = absurd over
+  over_done statuses.NoLsaContext old d mid over h = absurd over
+
+  pub over_answer : (st : SecurityStatus) (f : ServerFrame C) (t : Turn) (r : TsRequest) → IsOver (Some st) → NegoAnswer c f t (Some st) r → OverAnswer c f t t.delivered.pub_key_auth r
+  over_answer statuses.Ok f t r over h = h
+  over_answer statuses.ContinueNeeded f t r over h = absurd over
+  over_answer statuses.CompleteNeeded f t r over h = h
+  over_answer statuses.CompleteAndContinue f t r over h = absurd over
+  over_answer statuses.LocalLogon f t r over h = absurd over
+  over_answer statuses.ContextExpired f t r over h = absurd over
+  over_answer statuses.IncompleteCredentials f t r over h = absurd over
+  over_answer statuses.Renegotiate f t r over h = absurd over
+  over_answer statuses.NoLsaContext f t r over h = absurd over
+
+  pub over_cause : (st : SecurityStatus) (old : View) (d : TsRequest) (mid : View) (kind : ErrorKind) → IsOver (Some st) →
+      NegoCause c told faults (Some st) old d mid kind → OverCause c told faults st old d mid kind
+  over_cause statuses.Ok old d mid kind over h = h
+  over_cause statuses.ContinueNeeded old d mid kind over h = absurd over
+  over_cause statuses.CompleteNeeded old d mid kind over h = h
+  over_cause statuses.CompleteAndContinue old d mid kind over h = absurd over
+  over_cause statuses.LocalLogon old d mid kind over h = absurd over
+  over_cause statuses.ContextExpired old d mid kind over h = absurd over
+  over_cause statuses.IncompleteCredentials old d mid kind over h = absurd over
+  over_cause statuses.Renegotiate old d mid kind over h = absurd over
+  over_cause statuses.NoLsaContext old d mid kind over h = absurd over
+
+  -- what a turn of the authentication is given
+  pub record NegoGiven (b old : View) (w : ℕ) (d : TsRequest) (step : Step) (y : C) (handle : Option CredentialsBuffers) : Type 0 where
+    pub is : ServerIs c b old w NegoToken 0 0
+    pub takes : Takes c laws told old d.nego_tokens step y handle
+    pub version : d.version ≡ w
+    pub begins : (kind : ErrorKind) → BeginCause c (ForServer b.mode) Inbound None kind → ⊥
+
+  module _ (b old : View) (w : ℕ) (d : TsRequest) (step : Step) (y : C) (handle : Option CredentialsBuffers) (given : NegoGiven b old w d step y handle) where
+    abbrev pub Leaves : View → Knowing → Type 0
+    Leaves = Left c laws told old d.nego_tokens step y handle given.takes
+
+    pub unused : StartsUnused c old
+    unused = λ nego. unused_in c old.context given.is.sealed_is given.is.unsealed_is
+
+    pub noted_now : (mid : View) (m : C) → mid.context ≡ Some m → (IsSome mid.context → mid.noted ≡ noted_first old.noted d.version) → mid.noted ≡ Some w
+    noted_now mid m there noted = noted (rw there refl) ∙ ap (noted_first old.noted) given.version ∙ given.is.notes
+
+    came : (mid : View) (status : Option SecurityStatus) (r : TsRequest) → NegoAnswer c (server_frame c old mid) (server_turn c d (Replied r) mid) status r →
+        DoneStep c told status old d mid → status ≡ Some step.status
+    came mid None r h done = absurd h
+    came mid (Some st) r h done = ap Some (come_at c laws told old d.nego_tokens step y handle given.takes mid (known_at c told st) st done).0
+
+    -- the answer and the step of a turn that replied
+    pub record Replies (mid : View) (r : TsRequest) : Type 0 where
+      pub status_is : mid.acts.status ≡ Some step.status
+      pub answer : NegoAnswer c (server_frame c old mid) (server_turn c d (Replied r) mid) (Some step.status) r
+      pub done : DoneStep c told (Some step.status) old d mid
+
+    pub replies : (mid : View) (r : TsRequest) → ServerMakes c told faults old d (Replied r) mid → Replies mid r
+    replies mid r makes =
+        let frame = server_frame c old mid in
+        let t = server_turn c d (Replied r) mid in
+        let answer = subst (λ (s : CredSspState). StateAnswer c frame t s r) given.is.state_is makes.0.turn.reply in
+        let status = came mid mid.acts.status r answer makes.1 in
+        record {
+          status_is = status;
+          answer = subst (λ (x : Option SecurityStatus). NegoAnswer c frame t x r) status answer;
+          done = subst (λ (x : Option SecurityStatus). DoneStep c told x old d mid) status makes.1;
+        }
+
+    pub over_left : (mid : View) → IsOver (Some step.status) → DoneStep c told (Some step.status) old d mid → Leaves mid Completed
+    over_left mid over done = (come_at c laws told old d.nego_tokens step y handle given.takes mid Completed step.status (over_done step.status old d mid over done)).1
+
+    pub never_finishes : (mid : View) → ServerMakes c told faults old d Finished mid → ⊥
+    never_finishes mid makes = let auth = makes.0.turn.reply.0 in let nego = given.is.state_is in cc
+
+    began : (status : Option SecurityStatus) (mid : View) (kind : ErrorKind) → mid.acts.status ≡ status → (IsSome mid.acts.status → mid.acts.negotiated ≡ true) →
+        NegoCause c told faults status old d mid kind → mid.acts.negotiated ≡ true
+    began None mid kind is answered h = h
+    began (Some status) mid kind is answered h = answered (rw is refl)
+
+    -- what a refusal rests on
+    pub record Refusal (mid : View) (kind : ErrorKind) (reply : Option TsRequest) : Type 0 where
+      pub turn : ServerTurn c old d (Stopped kind reply) mid
+      pub cause : NegoCause c told faults (Some step.status) old d mid kind
+
+    pub refusal : (mid : View) (kind : ErrorKind) (reply : Option TsRequest) → ServerMakes c told faults old d (Stopped kind reply) mid → kind ≢ InsufficientMemory →
+        Refusal mid kind reply
+    refusal mid kind reply makes others =
+        let error = makes.0 in
+        let turn = makes.2 in
+        let others2 : error.error_type ≢ InsufficientMemory = λ memory. others (sym makes.1 ∙ memory) in
+        let cause = cause_past b old mid w d NegoToken 0 0 error.error_type given.is given.version given.begins (makes.3.cause others2) in
+        let was = began mid.acts.status mid error.error_type refl turn.turn.acts.answered cause in
+        let status = refused_at c laws told old d.nego_tokens step y handle given.takes mid mid.acts.status mid.acts.negotiated error was others2 makes.3.step in
+        record {
+          turn = turn;
+          cause = subst (λ (x : ErrorKind). NegoCause c told faults (Some step.status) old d mid x) makes.1
+              (subst (λ (x : Option SecurityStatus). NegoCause c told faults x old d mid error.error_type) status cause);
+        }
+
+    -- ---- a token, and more to come
+
+    token_replied : (mid : View) (r : TsRequest) → step.status ≡ statuses.ContinueNeeded → ServerMakes c told faults old d (Replied r) mid →
+        (r ≡ record d { version = b.version; nego_tokens = Some step.output }) × ServerIs c b mid w NegoToken 0 0 × Holds c mid.context y × (mid.handle ≡ handle)
+    token_replied mid r goes makes =
+        let turn = makes.0 in
+        let s = replies mid r makes in
+        let answer = subst (λ (x : SecurityStatus). NegoAnswer c (server_frame c old mid) (server_turn c d (Replied r) mid) (Some x) r) goes s.answer in
+        let done = subst (λ (x : SecurityStatus). DoneStep c told (Some x) old d mid) goes s.done in
+        let left = (come_at c laws told old d.nego_tokens step y handle given.takes mid Unknown statuses.ContinueNeeded done).1 in
+        let status : mid.acts.status ≡ Some statuses.ContinueNeeded = s.status_is ∙ ap Some goes in
+        let quiet = nego_acts (server_frame c old mid) (server_turn c d (Replied r) mid) turn.turn.acts given.is.state_is in
+        let unproved : mid.acts.proved ≡ false = answer.1 in
+        let unchecked : mid.acts.checked ≡ false = is_false mid.acts.checked (λ was.
+        subst (λ (x : Option SecurityStatus). MayCheck NegoToken x) status
+        (subst (λ (x : CredSspState). MayCheck x mid.acts.status) given.is.state_is (turn.turn.acts.checked was).0)) in
+        let none_sealed : sealed_by mid.acts ≡ 0 = rw (unproved, quiet.0) refl in
+        let none_opened : unsealed_by mid.acts ≡ 0 = rw (unchecked, quiet.1) refl in
+        let noted = stands_noted mid.noted w (noted_now mid left.held left.there turn.moves.noted) in
+        let same = same_on b old mid given.is.same turn.moves.same in (
+          answer.0.reply ∙ (rw (same.version, left.output_is) refl),
+          record {
+            same = same;
+            state_is = turn.moves.state ∙ (rw (given.is.state_is, unproved, status) refl);
+            fits = noted.0;
+            notes = noted.1;
+            sealed_is = turn.moves.sealed unused ∙ (rw (given.is.sealed_is, none_sealed) refl);
+            unsealed_is = turn.moves.unsealed unused ∙ (rw (given.is.unsealed_is, none_opened) refl);
+          },
+          record { held = left.held; there = left.there; same = left.comes },
+          left.handle_is,
+        )
+
+    pub token_turn : (out : Outcome) (mid : View) → step.status ≡ statuses.ContinueNeeded → ServerMakes c told faults old d (came_of out) mid →
+        Comes out (λ r. (r ≡ record d { version = b.version; nego_tokens = Some step.output }) × ServerIs c b mid w NegoToken 0 0 × Holds c mid.context y × (mid.handle ≡ handle))
+    token_turn (outcome.Reply r) mid goes makes = token_replied mid r goes makes
+    token_turn (outcome.Final r) mid goes makes = absurd makes
+    token_turn outcome.Finished mid goes makes = never_finishes mid makes
+    token_turn (outcome.Refused kind reply) mid goes makes =
+        λ others. subst (λ (x : SecurityStatus). NegoCause c told faults (Some x) old d mid kind) goes (refusal mid kind reply makes others).cause
