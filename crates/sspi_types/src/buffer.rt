@@ -14,7 +14,9 @@ use std::alloc::{AllocError, Global};
 /// A buffer that a caller and a security package hand to each other (SecBuffer).
 #[derive(Drop, PartialEq, Eq)]
 pub struct SecurityBuffer {
+    /// The bytes.
     pub buffer: Bytes,
+    /// What they are, and what may be done with them.
     pub buffer_type: SecurityBufferType,
 }
 

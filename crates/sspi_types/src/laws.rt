@@ -20,7 +20,10 @@ ghost use Rattle.sspi_types.specs.CertTrustFlags.{cert_trust_error_flags, cert_t
 ghost use Rattle.sspi_types.specs.BufferFlags.{security_buffer_flags};
 ghost use Rattle.sspi_types.specs.ProtectionFlags.{encryption_flags, decryption_flags};
 ghost use Rattle.sspi_types.specs.StatusCodes.{status_codes};
-ghost use Rattle.sspi_types.specs.NamedConstants.{client_request_constants, server_request_constants, client_response_constants, server_response_constants, capability_constants, cert_trust_error_constants, cert_trust_info_constants, security_buffer_constants, encryption_constants, decryption_constants, status_constants};
+ghost use Rattle.sspi_types.specs.NamedConstants.{client_request_constants, server_request_constants};
+ghost use Rattle.sspi_types.specs.NamedConstants.{client_response_constants, server_response_constants};
+ghost use Rattle.sspi_types.specs.NamedConstants.{capability_constants, cert_trust_error_constants, cert_trust_info_constants};
+ghost use Rattle.sspi_types.specs.NamedConstants.{security_buffer_constants, encryption_constants, decryption_constants, status_constants};
 
 use crate::buffer_type::BufferType;
 use crate::certificate::CertEncodingType;
