@@ -1,12 +1,12 @@
 -- The laws that public functions state.
-use Rattle.std.proofs.Common.{◌≡◌, ℕ, ◌<◌, ◌≤◌, List, [], ◌∷◌, ◌++◌, length, get_or, Ok, refl, arith, inl, inr}
+use Rattle.std.proofs.Common.{◌≡◌, ℕ, ◌<◌, ◌≤◌, ◌^◌, sym, subst, List, [], ◌∷◌, ◌++◌, length, get_or, Ok, refl, arith, inl, inr}
 use Rattle.std.proofs.lemmas.Bool.{cases_lt, lt-ltb, le-ltb}
-use Rattle.sspi_ber.specs.Forms.{IsLength, IsElement, IsInteger}
+use Rattle.sspi_ber.specs.Forms.{IsLength, IsElement, IsInteger, IsNotNegative, big_endian}
 use Rattle.sspi_ber.specs.Limit.{max_content}
 use Rattle.sspi_ber.specs.Pieces.{length_at, element_at, integer_at}
-use Rattle.sspi_ber.specs.Short.{len_short, element, int_short}
+use Rattle.sspi_ber.specs.Short.{len_short, element, int_content, int_short}
 use Rattle.sspi_ber.proofs.PiecesMatch.{length_match, integer_match, element_match}
-use Rattle.sspi_ber.proofs.Short.{short_length, short_integer, short_element}
+use Rattle.sspi_ber.proofs.Short.{short_length, short_integer, short_element, int_one, int_two, int_three, int_four}
 
 pub length_takes : (bytes : List ℕ) (n : ℕ) (rest : List ℕ) → length_at bytes ≡ Ok (n, rest) → (text : List ℕ) × IsLength text n × (bytes ≡ text ++ rest)
 length_takes = length_match.takes
@@ -54,4 +54,42 @@ none_shorter (a ∷ b ∷ []) n bytes t = let byte : b < 256 = bytes 1 in two_by
 none_shorter (a ∷ b ∷ c ∷ []) n bytes t = three_bytes n
 none_shorter (a ∷ b ∷ c ∷ d ∷ more) n bytes t = absurd t
 
-pub ruleset agreement = (length_takes, length_again, integer_takes, integer_again, element_takes, element_again, short_length_again, short_integer_again, short_element_again, none_shorter)
+content_one : (v : ℕ) → v < 0x80 → length (int_content v) ≡ 1
+content_one v lt = rw (int_one v lt) refl
+
+content_two : (v : ℕ) → v < 0x8000 → length (int_content v) ≤ 2
+content_two v lt = elim (cases_lt v 0x80) [ inl small ↦ (let e = content_one v small in omega arith) | inr ge ↦ rw (int_two v ge lt) (omega arith) ]
+
+content_three : (v : ℕ) → v < 0x800000 → length (int_content v) ≤ 3
+content_three v lt = elim (cases_lt v 0x8000) [ inl small ↦ (let e = content_two v small in omega arith) | inr ge ↦ rw (int_three v ge lt) (omega arith) ]
+
+content_four : (v : ℕ) → length (int_content v) ≤ 4
+content_four v = elim (cases_lt v 0x800000) [ inl small ↦ (let e = content_three v small in omega arith) | inr ge ↦ rw (int_four v ge) (omega arith) ]
+
+pub no_content_shorter : (content : List ℕ) → ((i : ℕ) → get_or content i 0 < 256) → IsNotNegative content → length (int_content (big_endian content)) ≤ length content
+no_content_shorter [] bytes clear = absurd clear
+no_content_shorter (a ∷ []) bytes clear = let one = content_one (big_endian (a ∷ [])) (omega arith) in omega arith
+no_content_shorter (a ∷ b ∷ []) bytes clear = let low : b < 256 = bytes 1 in content_two (big_endian (a ∷ b ∷ [])) (omega arith)
+no_content_shorter (a ∷ b ∷ c ∷ []) bytes clear =
+    let second : b < 256 = bytes 1 in
+    let low : c < 256 = bytes 2 in
+    content_three (big_endian (a ∷ b ∷ c ∷ [])) (omega arith)
+no_content_shorter (a ∷ b ∷ c ∷ d ∷ more) bytes clear = let four = content_four (big_endian (a ∷ b ∷ c ∷ d ∷ more)) in omega arith
+
+pub content_not_negative : (v : ℕ) → v < 2 ^ 31 → IsNotNegative (int_content v)
+content_not_negative v lt =
+    elim (cases_lt v 0x80) [
+      | inl one ↦ subst IsNotNegative (sym (int_one v one)) one
+      | inr ge ↦ elim (cases_lt v 0x8000) [
+        | inl two ↦ subst IsNotNegative (sym (int_two v ge two)) (omega arith)
+        | inr more ↦ elim (cases_lt v 0x800000) [
+          | inl three ↦ subst IsNotNegative (sym (int_three v more three)) (omega arith)
+          | inr most ↦ subst IsNotNegative (sym (int_four v most)) (omega arith)
+        ]
+      ]
+    ]
+
+pub content_is_four : (v : ℕ) → 2 ^ 31 ≤ v → length (int_content v) ≡ 4
+content_is_four v ge = let most : 0x800000 ≤ v = omega arith in rw (int_four v most) refl
+
+pub ruleset agreement = (length_takes, length_again, integer_takes, integer_again, element_takes, element_again, short_length_again, short_integer_again, short_element_again, none_shorter, no_content_shorter, content_not_negative, content_is_four)

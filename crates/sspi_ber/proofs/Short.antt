@@ -41,19 +41,19 @@ record IsContent (v : ℕ) (content : List ℕ) : Type 0 where
   sized : is_integer_size (length content) ≡ true
   stands_for : v ≡ big_endian content
 
-int_one : (v : ℕ) → v < 0x80 → int_content v ≡ v ∷ []
+pub int_one : (v : ℕ) → v < 0x80 → int_content v ≡ v ∷ []
 unfolding int_content
 int_one v lt = rw (lt-ltb v 0x80 lt) refl
 
-int_two : (v : ℕ) → 0x80 ≤ v → v < 0x8000 → int_content v ≡ v / 0x100 ∷ v % 0x100 ∷ []
+pub int_two : (v : ℕ) → 0x80 ≤ v → v < 0x8000 → int_content v ≡ v / 0x100 ∷ v % 0x100 ∷ []
 unfolding int_content
 int_two v ge lt = rw (le-ltb v 0x80 ge, lt-ltb v 0x8000 lt) refl
 
-int_three : (v : ℕ) → 0x8000 ≤ v → v < 0x800000 → int_content v ≡ v / 0x10000 ∷ v / 0x100 % 0x100 ∷ v % 0x100 ∷ []
+pub int_three : (v : ℕ) → 0x8000 ≤ v → v < 0x800000 → int_content v ≡ v / 0x10000 ∷ v / 0x100 % 0x100 ∷ v % 0x100 ∷ []
 unfolding int_content
 int_three v ge lt = let above : 0x80 ≤ v = omega arith in rw (le-ltb v 0x80 above, le-ltb v 0x8000 ge, lt-ltb v 0x800000 lt) refl
 
-int_four : (v : ℕ) → 0x800000 ≤ v → int_content v ≡ v / 0x1000000 ∷ v / 0x10000 % 0x100 ∷ v / 0x100 % 0x100 ∷ v % 0x100 ∷ []
+pub int_four : (v : ℕ) → 0x800000 ≤ v → int_content v ≡ v / 0x1000000 ∷ v / 0x10000 % 0x100 ∷ v / 0x100 % 0x100 ∷ v % 0x100 ∷ []
 unfolding int_content
 int_four v ge =
     let above : 0x80 ≤ v = omega arith in

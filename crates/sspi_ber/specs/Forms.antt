@@ -34,6 +34,11 @@ pub record IsTagged (tag : ℕ) (text inner : List ℕ) : Type 0 where
 abbrev pub big_endian : List ℕ → ℕ
 big_endian bytes = fold (λ high byte. high * 256 + byte) 0 bytes
 
+-- content bytes that stand for a number which is not negative: the highest bit, the sign, is clear (X.690 8.3.3)
+abbrev pub IsNotNegative : List ℕ → Type 0
+IsNotNegative [] = ⊥
+IsNotNegative (high ∷ rest) = high < 0x80
+
 -- how many content bytes an integer may have
 abbrev pub is_integer_size : ℕ → Bool
 is_integer_size n = n == 1 || n == 2 || n == 3 || n == 4 || n == 8

@@ -29,11 +29,11 @@ NextConsumes before after (Ok (Some byte)) = Consumes before after (byte ∷ [])
 NextConsumes before after (Ok None) = Keeps before after × IsAtEnd after
 NextConsumes before after (Err error) = Keeps before after
 
--- what a call of `write` says of the count
+-- what a call of `write` says of the count: a failure has it rise, and nothing else moves it
 abbrev pub SinkCause : {X : Type 0} → ℕ → ℕ → Result X SinkError → Type 0
-SinkCause before now (Ok x) = before ≤ now
+SinkCause before now (Ok x) = now ≡ before
 SinkCause before now (Err sink_errors.Failed) = (before ≤ now) × Rose before now
-SinkCause before now (Err sink_errors.InsufficientMemory) = before ≤ now
+SinkCause before now (Err sink_errors.InsufficientMemory) = now ≡ before
 
 -- ---- readers
 
@@ -111,11 +111,12 @@ abbrev pub WritesIf : {X W : Type 0} → Bool → (W → Option (List ℕ)) → 
 WritesIf true written old new result text = Writes (written old) (written new) result text
 WritesIf false written old new result text = (result ≡ Err InvalidData) × (new ≡ old)
 
--- what a writer says of the sink's count: `WriteFault` only where it rose
+-- What a writer says of the sink's count: `WriteFault` only where it rose, and after a fault of the sink, which moves the
+-- count below its last value, no other answer: want of memory does not stand in its place.
 abbrev pub WriteCause : {X : Type 0} → ℕ → ℕ → Result X WireKind → Type 0
-WriteCause before now (Ok x) = before ≤ now
-WriteCause before now (Err UnexpectedEof) = before ≤ now
-WriteCause before now (Err InvalidData) = before ≤ now
-WriteCause before now (Err ReadFault) = before ≤ now
+WriteCause before now (Ok x) = now ≡ before
+WriteCause before now (Err UnexpectedEof) = now ≡ before
+WriteCause before now (Err InvalidData) = now ≡ before
+WriteCause before now (Err ReadFault) = now ≡ before
 WriteCause before now (Err WriteFault) = (before ≤ now) × Rose before now
-WriteCause before now (Err InsufficientMemory) = before ≤ now
+WriteCause before now (Err InsufficientMemory) = now ≡ before

@@ -11,9 +11,13 @@ use std::alloc::Global;
 /// A source over bytes in memory whose call numbered `failing`, counted from 0, fails. For tests.
 #[derive(Drop)]
 pub struct FaultySource<'a> {
+    /// What it gives.
     pub source: SliceSource<'a>,
+    /// The number of the call that fails.
     pub failing: u64,
+    /// How many calls there were, up to `u64::MAX`.
     pub calls: u64,
+    /// How many of them failed, up to `u64::MAX`.
     pub faults: u64,
 }
 
@@ -60,9 +64,13 @@ impl Source for FaultySource<'_> {
 /// A sink in memory whose call numbered `failing`, counted from 0, fails. For tests.
 #[derive(Drop)]
 pub struct FaultySink {
+    /// What it takes.
     pub sink: VecSink,
+    /// The number of the call that fails.
     pub failing: u64,
+    /// How many calls there were, up to `u64::MAX`.
     pub calls: u64,
+    /// How many of them failed, up to `u64::MAX`.
     pub faults: u64,
 }
 

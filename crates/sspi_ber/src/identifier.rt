@@ -4,19 +4,28 @@ ghost use Rattle.sspi_ber.specs.Identifier.{encoding_bit, tag_number, universal_
 /// Whether an encoding is primitive or constructed (bit 6 of the identifier octet, X.690 8.1.2.5).
 #[derive(Clone, Copy, Debug, PartialEq, Eq)]
 pub enum Pc {
+    /// The content is the value itself.
     Primitive = 0x00,
+    /// The content is further elements.
     Construct = 0x20,
 }
 
 /// The tag numbers of the universal class that are spelled here.
 #[derive(Clone, Copy, Debug, PartialEq, Eq)]
 pub enum Tag {
+    /// BOOLEAN (X.690 8.2).
     Boolean = 0x01,
+    /// INTEGER (X.690 8.3).
     Integer = 0x02,
+    /// BIT STRING (X.690 8.6).
     BitString = 0x03,
+    /// OCTET STRING (X.690 8.7).
     OctetString = 0x04,
+    /// OBJECT IDENTIFIER (X.690 8.19).
     ObjectIdentifier = 0x06,
+    /// ENUMERATED (X.690 8.4).
     Enumerated = 0x0A,
+    /// SEQUENCE and SEQUENCE OF (X.690 8.9, 8.10).
     Sequence = 0x10,
 }
 

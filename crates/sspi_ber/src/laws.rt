@@ -1,10 +1,13 @@
 //! Laws about the pieces, each on a function that does nothing.
 
-ghost use Rattle.std.specs.Prelude.{◌≡◌, ℕ, ◌<◌, ◌≤◌, List, ◌++◌, length, slice_index, Ok};
-ghost use Rattle.sspi_ber.specs.Forms.{IsLength, IsElement, IsInteger};
+ghost use Rattle.std.specs.Prelude.{◌≡◌, ℕ, ◌<◌, ◌≤◌, ◌^◌, List, ◌++◌, length, slice_index, Ok};
+ghost use Rattle.sspi_ber.specs.Forms.{IsLength, IsElement, IsInteger, IsNotNegative, big_endian};
 ghost use Rattle.sspi_ber.specs.Limit.{max_content};
 ghost use Rattle.sspi_ber.specs.Pieces.{length_at, element_at, integer_at};
-ghost use Rattle.sspi_ber.specs.Short.{len_short, element, element_size, int_short};
+ghost use Rattle.sspi_ber.specs.Short.{len_short, element, element_size, int_content, int_short};
+
+use crate::identifier::{INTEGER, OCTET_STRING, SEQUENCE};
+use crate::limit::MAX_CONTENT;
 
 /// A length is read exactly where a form of one begins the bytes, and then exactly that form is taken.
 #[tactic(auto, using(crate::proofs::Agreement::agreement))]
@@ -39,10 +42,25 @@ pub fn shortest_is_read()
         → element_at tag (element tag content ++ more) ≡ Ok (content, more) }
 {}
 
-/// No bytes that form a length are fewer than those that are written.
+/// No bytes that form a length are fewer than those that are written. No content bytes of an INTEGER that stand for a number
+/// which is not negative are fewer than those that are written of it; below 2 ^ 31 these are such bytes, and above they are
+/// always four, where X.690 8.3.3 has five.
 #[tactic(auto, using(crate::proofs::Agreement::agreement))]
 pub fn shortest_is_shortest()
-    ensures { (text : List ℕ) (n : ℕ) → ((i : ℕ) → slice_index text i < 256) → IsLength text n → length (len_short n) ≤ length text }
+    ensures length { (text : List ℕ) (n : ℕ) → ((i : ℕ) → slice_index text i < 256) → IsLength text n
+        → length (len_short n) ≤ length text }
+    ensures integer { (content : List ℕ) → ((i : ℕ) → slice_index content i < 256) → IsNotNegative content
+        → length (int_content (big_endian content)) ≤ length content }
+    ensures not_negative { (value : ℕ) → value < 2 ^ 31 → IsNotNegative (int_content value) }
+    ensures four { (value : ℕ) → 2 ^ 31 ≤ value → length (int_content value) ≡ 4 }
+{}
+
+/// The named constants are the limit of all lengths, and the identifier octets of X.690 8.1.2 for these types.
+pub fn constants_have_their_numbers()
+    ensures limit { MAX_CONTENT ≡ 65531 }
+    ensures sequence { SEQUENCE ≡ 0x30 }
+    ensures integer { INTEGER ≡ 0x02 }
+    ensures octet_string { OCTET_STRING ≡ 0x04 }
 {}
 
 /// The sizes are the lengths of the spellings.

@@ -5,7 +5,7 @@
 //! (`UnexpectedEof`), or a tag or a length is not as it must be (`InvalidData`).
 //!
 //! `Source` and `Sink` are the world outside, with a count of their faults: a read or write fault is answered only where that
-//! count rose. `SliceSource` and `VecSink` stand over memory, `FaultySource` and `FaultySink` fail once for tests, and
+//! count rose, or stands at `u64::MAX`, and after a fault of a sink a writer answers nothing else. `SliceSource` and `VecSink` stand over memory, `FaultySource` and `FaultySink` fail once for tests, and
 //! `StdSource` and `StdSink` stand over std's readers and writers.
 #![tactic(auto)]
 
@@ -49,6 +49,3 @@ pub use writing::{
     write_octet_string, write_octet_string_tag, write_sequence_octet_string, write_sequence_tag,
     write_universal_tag, write_wrapped_octets,
 };
-
-#[cfg(test)]
-mod tests;

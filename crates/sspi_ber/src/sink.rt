@@ -5,7 +5,9 @@ ghost use Rattle.sspi_ber.specs.Outside.{SinkCause};
 /// Why a sink took no bytes.
 #[derive(Clone, Copy, Debug, PartialEq, Eq)]
 pub enum SinkError {
+    /// The sink failed, and its count of faults rose. A later call may succeed.
     Failed,
+    /// There was no memory for the bytes; no fault.
     InsufficientMemory,
 }
 

@@ -5,6 +5,7 @@ ghost use Rattle.sspi_ber.specs.Outside.{SourceCause, NextConsumes};
 /// Why a source gave no bytes.
 #[derive(Clone, Copy, Debug, PartialEq, Eq)]
 pub enum SourceError {
+    /// The source failed. Nothing was taken, and a later call may succeed.
     Failed,
 }
 

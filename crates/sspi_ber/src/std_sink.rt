@@ -3,8 +3,8 @@ ghost use Rattle.std.specs.Prelude.{◌≡◌};
 use crate::sink::{Sink, SinkError};
 use std::io::Write;
 
-/// A sink over std's writer. It tells nothing of its bytes, and counts each error of the writer as a fault; so too a write
-/// of no byte of a nonempty piece.
+/// A sink over std's writer. It tells the bytes that the writer tells, asks for one write of it in a call, never flushes it, and
+/// counts each error of the writer, an interruption too, as a fault; so too a write of no byte of a nonempty piece.
 #[derive(Drop)]
 pub struct StdSink<W> {
     writer: W,
@@ -14,16 +14,15 @@ pub struct StdSink<W> {
 impl<W: Write> StdSink<W> {
     /// A sink over this writer that never failed.
     pub fn new(writer: W) -> StdSink<W>
-        ensures { ⟦<StdSink<W> as Sink>⟧.faults result ≡ 0 }
+        ensures faults { ⟦<StdSink<W> as Sink>⟧.faults result ≡ 0 }
+        ensures written { ⟦<StdSink<W> as Sink>⟧.written result ≡ W.contents writer }
     {
         StdSink { writer, faults: 0 }
     }
 }
 
 impl<W: Write> Sink for StdSink<W> {
-    ghost use Rattle.std.specs.Prelude.{None};
-
-    ghost written = { λ _. None };
+    ghost written = { λ sink. W.contents sink.writer };
 
     ghost faults = { λ sink. sink.faults };
 

@@ -3,7 +3,8 @@ ghost use Rattle.std.specs.Prelude.{◌≡◌};
 use crate::source::{Source, SourceError};
 use std::io::Read;
 
-/// A source over std's reader. It tells nothing of its bytes, and counts each error of the reader as a fault.
+/// A source over std's reader. It tells the bytes that the reader tells, asks for no more than one read of it in a call, and
+/// counts each error of the reader, an interruption too, as a fault.
 #[derive(Drop)]
 pub struct StdSource<R> {
     reader: R,
@@ -13,16 +14,15 @@ pub struct StdSource<R> {
 impl<R: Read> StdSource<R> {
     /// A source over this reader that never failed.
     pub fn new(reader: R) -> StdSource<R>
-        ensures { ⟦<StdSource<R> as Source>⟧.faults result ≡ 0 }
+        ensures faults { ⟦<StdSource<R> as Source>⟧.faults result ≡ 0 }
+        ensures left { ⟦<StdSource<R> as Source>⟧.left result ≡ R.remaining reader }
     {
         StdSource { reader, faults: 0 }
     }
 }
 
 impl<R: Read> Source for StdSource<R> {
-    ghost use Rattle.std.specs.Prelude.{None};
-
-    ghost left = { λ _. None };
+    ghost left = { λ source. R.remaining source.reader };
 
     ghost faults = { λ source. source.faults };
 

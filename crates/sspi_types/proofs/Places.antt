@@ -18,6 +18,9 @@ found_at p xs place x at read =
     let inside : place < length xs = search (tests, arith) in
     find_at p xs ∙ ap (slice_get xs) (sym h.1) ∙ slice_get_read xs (length xs) place x refl inside read
 
+pub place_of_first : {X : Type 0} (p : X → Bool) (xs : List X) (place : ℕ) → Some place ≡ position p xs → place ≡ position_or_len p xs
+place_of_first p xs place at = (chosen (ltb (position_or_len p xs) (length xs)) (position_or_len p xs) place at).1
+
 pub not_found : {X : Type 0} (p : X → Bool) (xs : List X) → None ≡ position p xs → find p xs ≡ None
 not_found p xs at =
     let h = passed_over (ltb (position_or_len p xs) (length xs)) (position_or_len p xs) at in

@@ -1,5 +1,9 @@
-use Rattle.std.specs.Prelude.{ℕ, List, Bool, None, Option, ◌==◌, slice_set}
-use Rattle.std.specs.Borrow.{LendsIf, MutBor, Fml, Array}
+use Rattle.std.specs.Prelude.{ℕ, List, Bool, None, Option, Result, ◌==◌, slice_set}
+use Rattle.std.specs.Borrow.{LendsIf, LendsIfOk, MutBor, Fml, Array, RattleType}
+use Rattle.std.specs.Vec.{with_item}
+use Rattle.std.specs.contracts.vec.Vec as vec
+use Rattle.std.specs.contracts.alloc.Global as global
+use Rattle.std.specs.contracts.impls.GlobalAllocator.TheImpl.{ghosts}
 use Rattle.std.specs.List.{position_or_len}
 use Rattle.sspi_types.specs.declared.buffer.SecurityBuffer.{SecurityBuffer}
 use Rattle.sspi_types.specs.declared.buffer_type.BufferType.{BufferType}
@@ -28,3 +32,12 @@ no_buffer = record { error_type = InvalidToken; description = NoBuffer; nstatus 
 abbrev pub LendsFirst : MutBor (List SecurityBuffer) → BufferType → Option (MutBor SecurityBuffer) → Fml
 LendsFirst buffers type lent =
     LendsIf (Array the_row 0) the_row buffers lent (slice_set buffers.now (position_or_len (has_type type) buffers.now)) buffers.now
+
+-- a list of buffers on the heap
+abbrev pub list_row : RattleType
+list_row = vec.the_row the_row global.the_row ghosts
+
+-- the same of a list on the heap, by a call that refuses where there is none
+abbrev pub LendsFound : MutBor list_row.Denot → BufferType → Result (MutBor SecurityBuffer) Error → Fml
+LendsFound buffers type lent =
+    LendsIfOk list_row the_row buffers lent (with_item buffers.now (position_or_len (has_type type) buffers.now.items)) buffers.now

@@ -10,6 +10,7 @@ pub mod DataRepresentations
 pub mod ErrorKinds
 pub mod Errors
 pub mod Memory
+pub mod NamedConstants
 pub mod Numbers
 pub mod PackageNames
 pub mod Packages

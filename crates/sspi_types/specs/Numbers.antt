@@ -1,4 +1,4 @@
-use Rattle.std.specs.Prelude.{◌≡◌, ◌≢◌, ◌==◌, ℕ, Bool, Option, Some, IfSome, IfNone}
+use Rattle.std.specs.Prelude.{◌≡◌, ◌≢◌, ◌==◌, ℕ, Bool, List, map, Option, Some, IfSome, IfNone}
 
 -- What reading a number gives, where each value of K has a number: the value that has it, and `None` where none has.
 pub record ReadsNumber {K : Type 0} (number_of : K → ℕ) (number : ℕ) (read : Option K) : Type 0 where
@@ -17,3 +17,7 @@ ComparesNumbers {K} eq number_of = (a b : K) → eq a b ≡ (number_of a == numb
 -- what is read at the number of a value is that value
 abbrev pub AreReadBack : {K : Type 0} → (K → ℕ) → Type 0
 AreReadBack {K} number_of = (value : K) (read : Option K) → ReadsNumber number_of (number_of value) read → read ≡ Some value
+
+-- the numbers of a table of names and numbers, in its order
+abbrev pub numbers_of : List (List ℕ × ℕ) → List ℕ
+numbers_of table = map (λ row. row.1) table

@@ -1,6 +1,6 @@
 ghost use Rattle.std.specs.Prelude.{◌≡◌, Some, None, find, option_map, position, IfOk, IfErr};
 ghost use Rattle.std.specs.Borrow.{sem};
-ghost use Rattle.sspi_types.specs.Buffers.{has_type, no_buffer, plain_buffer, LendsFirst};
+ghost use Rattle.sspi_types.specs.Buffers.{has_type, no_buffer, plain_buffer, LendsFirst, LendsFound};
 
 use crate::buffer_flags::SecurityBufferFlags;
 use crate::buffer_type::BufferType;
@@ -14,7 +14,9 @@ use std::alloc::{AllocError, Global};
 /// A buffer that a caller and a security package hand to each other (SecBuffer).
 #[derive(Drop, PartialEq, Eq)]
 pub struct SecurityBuffer {
+    /// The bytes.
     pub buffer: Bytes,
+    /// What they are, and what may be done with them.
     pub buffer_type: SecurityBufferType,
 }
 
@@ -44,31 +46,33 @@ impl SecurityBuffer {
         ensures missing { IfErr result
             (λ error. (error ≡ no_buffer) × (find (has_type buffer_type) buffers.now ≡ None)) }
     {
+        let Some(place) = SecurityBuffer::place(buffers, buffer_type) else {
+            return Err(Error::new(ErrorKind::InvalidToken, Reason::NoBuffer));
+        };
+        Ok(&buffers[place])
+    }
+
+    /// The same as `find_buffer`, to change the buffer in its place. Afterwards the list is as before, but for
+    /// what is left there; at a refusal all of it is as before. `first_mut` does the same at a slice.
+    #[tactic(auto, using(crate::proofs::Places::not_found))]
+    pub fn find_buffer_mut(
+        buffers: &mut Vec<SecurityBuffer>,
+        buffer_type: BufferType,
+    ) -> Result<&mut SecurityBuffer, Error>
+        ensures* writes_back { sem 𝓛 (LendsFound buffers.entry buffer_type result) }
+        ensures found { IfOk result
+            (λ buffer. find (has_type buffer_type) buffers.old.items ≡ Some buffer.now) }
+        ensures missing { IfErr result
+            (λ error. (error ≡ no_buffer) × (find (has_type buffer_type) buffers.old.items ≡ None)) }
+    {
         match SecurityBuffer::place(buffers, buffer_type) {
-            Some(place) => Ok(&buffers[place]),
+            Some(place) => Ok(&mut buffers[place]),
             None => Err(Error::new(ErrorKind::InvalidToken, Reason::NoBuffer)),
         }
     }
 
-    /// The same as `find_buffer`, to change the buffer in its place.
-    #[tactic(auto, using(crate::proofs::Places::found_at, crate::proofs::Places::not_found))]
-    pub fn find_buffer_mut(
-        buffers: &mut [SecurityBuffer],
-        buffer_type: BufferType,
-    ) -> Result<&mut SecurityBuffer, Error>
-        ensures found { IfOk result
-            (λ buffer. find (has_type buffer_type) buffers.old ≡ Some buffer.now) }
-        ensures missing { IfErr result
-            (λ error. (error ≡ no_buffer) × (find (has_type buffer_type) buffers.old ≡ None)) }
-    {
-        if let Some(place) = SecurityBuffer::place(buffers, buffer_type) {
-            return Ok(&mut buffers[place]);
-        }
-        Err(Error::new(ErrorKind::InvalidToken, Reason::NoBuffer))
-    }
-
-    /// The same as `find_buffer_mut`, with `None` where there is none. A contract that speaks of the
-    /// buffers afterwards can be proved of this call: they are as before, but for what is left there.
+    /// The first buffer of this type at a slice, to change it in its place; `None` exactly where there is none.
+    /// Afterwards the buffers are as before, but for what is left there.
     #[tactic(auto, using(crate::proofs::Places::found_at, crate::proofs::Places::not_found))]
     pub fn first_mut(
         buffers: &mut [SecurityBuffer],

@@ -10,10 +10,13 @@ use std::ops::BitOr;
 pub struct SecurityBufferFlags(u32);
 
 impl SecurityBufferFlags {
+    /// No flag.
     pub const NONE: SecurityBufferFlags = SecurityBufferFlags(0x00000000);
 
+    /// The package reads the buffer and does not write it.
     pub const SECBUFFER_READONLY: SecurityBufferFlags = SecurityBufferFlags(0x80000000);
 
+    /// The same, and the buffer is covered by the checksum of the message.
     pub const SECBUFFER_READONLY_WITH_CHECKSUM: SecurityBufferFlags = SecurityBufferFlags(
         0x10000000,
     );

@@ -5,27 +5,49 @@ ghost use Rattle.sspi_types.specs.Numbers.{ReadsNumber};
 /// What a buffer holds (`BufferType` of SecBuffer in sspi.h, without its flags).
 #[derive(Clone, Copy, Debug, PartialEq, Eq)]
 pub enum BufferType {
+    /// Nothing; the buffer is passed over (SECBUFFER_EMPTY).
     Empty = 0,
+    /// Data that is signed or sealed (SECBUFFER_DATA).
     Data = 1,
+    /// A token or a signature (SECBUFFER_TOKEN).
     Token = 2,
+    /// Parameters of the transport for the package (SECBUFFER_PKG_PARAMS).
     TransportToPackageParameters = 3,
+    /// How many bytes are missing (SECBUFFER_MISSING).
     Missing = 4,
+    /// Bytes that were not used (SECBUFFER_EXTRA).
     Extra = 5,
+    /// The trailer of a message in a stream (SECBUFFER_STREAM_TRAILER).
     StreamTrailer = 6,
+    /// The header of a message in a stream (SECBUFFER_STREAM_HEADER).
     StreamHeader = 7,
+    /// Hints of a negotiation (SECBUFFER_NEGOTIATION_INFO).
     NegotiationInfo = 8,
+    /// Bytes that pad the data (SECBUFFER_PADDING).
     Padding = 9,
+    /// A whole message of a stream (SECBUFFER_STREAM).
     Stream = 10,
+    /// A list of object identifiers (SECBUFFER_MECHLIST).
     ObjectIdsList = 11,
+    /// The signature of such a list (SECBUFFER_MECHLIST_SIGNATURE).
     ObjectIdsListSignature = 12,
+    /// The name of a target (SECBUFFER_TARGET; no longer used).
     Target = 13,
+    /// Channel bindings (SECBUFFER_CHANNEL_BINDINGS).
     ChannelBindings = 14,
+    /// The answer to a change of the password (SECBUFFER_CHANGE_PASS_RESPONSE).
     ChangePasswordResponse = 15,
+    /// The name of the target's host (SECBUFFER_TARGET_HOST).
     TargetHost = 16,
+    /// An alert of TLS (SECBUFFER_ALERT).
     Alert = 17,
+    /// A list of application protocols (SECBUFFER_APPLICATION_PROTOCOLS).
     ApplicationProtocol = 18,
+    /// The bits that are flags, as a number of the table (SECBUFFER_ATTRMASK).
     AttributeMark = 0xf0000000,
+    /// A flag, as a number of the table (SECBUFFER_READONLY).
     ReadOnly = 0x80000000,
+    /// A flag, as a number of the table (SECBUFFER_READONLY_WITH_CHECKSUM).
     ReadOnlyWithChecksum = 0x10000000,
 }
 

@@ -10,50 +10,74 @@ use std::ops::BitOr;
 pub struct CertTrustInfoStatus(u32);
 
 impl CertTrustInfoStatus {
+    /// The issuer was found by its name and serial number (CERT_TRUST_HAS_EXACT_MATCH_ISSUER).
     pub const HAS_EXACT_MATCH_ISSUER: CertTrustInfoStatus = CertTrustInfoStatus(0x00000001);
 
+    /// The issuer was found by its key (CERT_TRUST_HAS_KEY_MATCH_ISSUER).
     pub const HAS_KEY_MATCH_ISSUER: CertTrustInfoStatus = CertTrustInfoStatus(0x00000002);
 
+    /// The issuer was found by its name (CERT_TRUST_HAS_NAME_MATCH_ISSUER).
     pub const HAS_NAME_MATCH_ISSUER: CertTrustInfoStatus = CertTrustInfoStatus(0x00000004);
 
+    /// The certificate is signed by its own key (CERT_TRUST_IS_SELF_SIGNED).
     pub const IS_SELF_SIGNED: CertTrustInfoStatus = CertTrustInfoStatus(0x00000008);
 
+    /// The revocation list of an authority was updated (CERT_TRUST_AUTO_UPDATE_CA_REVOCATION).
     pub const AUTO_UPDATE_CA_REVOCATION: CertTrustInfoStatus = CertTrustInfoStatus(0x00000010);
 
+    /// The revocation list of the end certificate was updated
+    /// (CERT_TRUST_AUTO_UPDATE_END_REVOCATION).
     pub const AUTO_UPDATE_END_REVOCATION: CertTrustInfoStatus = CertTrustInfoStatus(0x00000020);
 
+    /// Where OCSP failed no list was asked for (CERT_TRUST_NO_OCSP_FAILOVER_TO_CRL).
     pub const NO_OCSP_FAILOVER_TO_CRL: CertTrustInfoStatus = CertTrustInfoStatus(0x00000040);
 
+    /// The certificate signs the next key of its holder (CERT_TRUST_IS_KEY_ROLLOVER).
     pub const IS_KEY_ROLLOVER: CertTrustInfoStatus = CertTrustInfoStatus(0x00000080);
 
+    /// The issuer is the preferred one (CERT_TRUST_HAS_PREFERRED_ISSUER).
     pub const HAS_PREFERRED_ISSUER: CertTrustInfoStatus = CertTrustInfoStatus(0x00000100);
 
+    /// The chain has a policy of issuance (CERT_TRUST_HAS_ISSUANCE_CHAIN_POLICY).
     pub const HAS_ISSUANCE_CHAIN_POLICY: CertTrustInfoStatus = CertTrustInfoStatus(0x00000200);
 
+    /// The name constraints hold (CERT_TRUST_HAS_VALID_NAME_CONSTRAINTS).
     pub const HAS_VALID_NAME_CONSTRAINTS: CertTrustInfoStatus = CertTrustInfoStatus(0x00000400);
 
+    /// The certificate is trusted by itself (CERT_TRUST_IS_PEER_TRUSTED).
     pub const IS_PEER_TRUSTED: CertTrustInfoStatus = CertTrustInfoStatus(0x00000800);
 
+    /// A revocation list counts past its time (CERT_TRUST_HAS_CRL_VALIDITY_EXTENDED).
     pub const HAS_CRL_VALIDITY_EXTENDED: CertTrustInfoStatus = CertTrustInfoStatus(0x00001000);
 
+    /// The root is of a store that alone is trusted (CERT_TRUST_IS_FROM_EXCLUSIVE_TRUST_STORE).
     pub const IS_FROM_EXCLUSIVE_TRUST_STORE: CertTrustInfoStatus = CertTrustInfoStatus(0x00002000);
 
+    /// The authority is trusted by itself (CERT_TRUST_IS_CA_TRUSTED).
     pub const IS_CA_TRUSTED: CertTrustInfoStatus = CertTrustInfoStatus(0x00004000);
 
+    /// The settings of weak signatures were updated (CERT_TRUST_HAS_AUTO_UPDATE_WEAK_SIGNATURE).
     pub const HAS_AUTO_UPDATE_WEAK_SIGNATURE: CertTrustInfoStatus = CertTrustInfoStatus(0x00008000);
 
+    /// The chain is more than one simple chain (CERT_TRUST_IS_COMPLEX_CHAIN).
     pub const IS_COMPLEX_CHAIN: CertTrustInfoStatus = CertTrustInfoStatus(0x00010000);
 
+    /// Weak signatures are let through (CERT_TRUST_HAS_ALLOW_WEAK_SIGNATURE).
     pub const HAS_ALLOW_WEAK_SIGNATURE: CertTrustInfoStatus = CertTrustInfoStatus(0x00020000);
 
+    /// OCSP was answered in the handshake of TLS (CERT_TRUST_SSL_HANDSHAKE_OCSP).
     pub const SSL_HANDSHAKE_OCSP: CertTrustInfoStatus = CertTrustInfoStatus(0x00040000);
 
+    /// That answer is valid at this time (CERT_TRUST_SSL_TIME_VALID_OCSP).
     pub const SSL_TIME_VALID_OCSP: CertTrustInfoStatus = CertTrustInfoStatus(0x00080000);
 
+    /// That answer is of an earlier connection (CERT_TRUST_SSL_RECONNECT_OCSP).
     pub const SSL_RECONNECT_OCSP: CertTrustInfoStatus = CertTrustInfoStatus(0x00100000);
 
+    /// The chain is valid at this time for TLS (CERT_TRUST_SSL_TIME_VALID).
     pub const SSL_TIME_VALID: CertTrustInfoStatus = CertTrustInfoStatus(0x01000000);
 
+    /// Times were not judged (CERT_TRUST_NO_TIME_CHECK).
     pub const NO_TIME_CHECK: CertTrustInfoStatus = CertTrustInfoStatus(0x02000000);
 
     /// The flags that have a name, in the order of their table.

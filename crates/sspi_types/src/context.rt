@@ -7,19 +7,28 @@ use std::alloc::{AllocError, Global};
 /// The sizes that matter to users of a context (SecPkgContext_Sizes), in bytes.
 #[derive(Clone, Copy, PartialEq, Eq)]
 pub struct ContextSizes {
+    /// The most bytes of a token.
     pub max_token: u32,
+    /// The most bytes of a signature.
     pub max_signature: u32,
+    /// Sealed bytes come in blocks of so many; 0 where they do not.
     pub block: u32,
+    /// The most bytes that sealing adds to a message.
     pub security_trailer: u32,
 }
 
 /// The sizes of a stream's messages (SecPkgContext_StreamSizes), in bytes; `buffers` is a count.
 #[derive(Clone, Copy, PartialEq, Eq)]
 pub struct StreamSizes {
+    /// The bytes of a message's header.
     pub header: u32,
+    /// The most bytes of its trailer.
     pub trailer: u32,
+    /// The most bytes of its data.
     pub max_message: u32,
+    /// How many buffers a call takes.
     pub buffers: u32,
+    /// Data comes best in multiples of so many bytes.
     pub block_size: u32,
 }
 
@@ -29,6 +38,7 @@ pub type Luid = u64;
 /// The session key of a context (SecPkgContext_SessionKey).
 #[derive(Drop, PartialEq, Eq)]
 pub struct SessionKeys {
+    /// The bytes of the key.
     pub session_key: Secret<Bytes>,
 }
 

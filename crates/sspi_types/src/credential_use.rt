@@ -5,9 +5,13 @@ ghost use Rattle.sspi_types.specs.Numbers.{ReadsNumber};
 /// What acquired credentials are used for (`fCredentialUse` of AcquireCredentialsHandle).
 #[derive(Clone, Copy, Debug, PartialEq, Eq)]
 pub enum CredentialUse {
+    /// By a server, to accept clients (SECPKG_CRED_INBOUND).
     Inbound = 1,
+    /// By a client, to log on (SECPKG_CRED_OUTBOUND).
     Outbound = 2,
+    /// By either (SECPKG_CRED_BOTH).
     Both = 3,
+    /// As the package's default says (SECPKG_CRED_DEFAULT).
     Default = 4,
 }
 

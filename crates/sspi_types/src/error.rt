@@ -14,8 +14,11 @@ use std::str::Utf8Error;
 /// one. It takes no memory.
 #[derive(Clone, Copy, PartialEq, Eq)]
 pub struct Error {
+    /// What kind of refusal it is: the code of winerror.h.
     pub error_type: ErrorKind,
+    /// Why, as a fixed text; callers decide by `error_type` alone.
     pub description: Reason,
+    /// The code that the peer's request had; none where the refusal is this end's own.
     pub nstatus: Option<NStatusCode>,
 }
 

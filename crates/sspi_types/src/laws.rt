@@ -1,10 +1,10 @@
 //! Laws of the tables. Their functions do nothing: what they say stands in their contracts.
 
-ghost use Rattle.std.specs.Prelude.{◌≡◌, ◌≤◌, ◌<◌, ◌^◌, ◌==◌, ◌&&◌, ℕ, Result, Ok};
+ghost use Rattle.std.specs.Prelude.{◌≡◌, ◌≤◌, ◌<◌, ◌^◌, ◌==◌, ◌&&◌, ℕ, Result, Ok, map, codes};
 ghost use Rattle.std.specs.Int.RustNames.{bit_and};
 ghost use Rattle.sspi_types.specs.declared.error.Error.{Error};
 ghost use Rattle.sspi_types.specs.declared.security_buffer_type.SecurityBufferType.{SecurityBufferType};
-ghost use Rattle.sspi_types.specs.Numbers.{AreDistinct, AreReadBack, ComparesNumbers};
+ghost use Rattle.sspi_types.specs.Numbers.{AreDistinct, AreReadBack, ComparesNumbers, numbers_of};
 ghost use Rattle.sspi_types.specs.SecurityBufferTypes.{ReadsBufferType, packed_buffer_type};
 ghost use Rattle.sspi_types.specs.ErrorKinds.{error_kind_number};
 ghost use Rattle.sspi_types.specs.SecurityStatuses.{security_status_number};
@@ -13,6 +13,17 @@ ghost use Rattle.sspi_types.specs.DataRepresentations.{data_representation_numbe
 ghost use Rattle.sspi_types.specs.CredentialUses.{credential_use_number};
 ghost use Rattle.sspi_types.specs.Connections.{connection_protocol_number, connection_cipher_number, connection_hash_number, connection_key_exchange_number};
 ghost use Rattle.sspi_types.specs.Certificates.{cert_encoding_type_number};
+ghost use Rattle.sspi_types.specs.RequestFlags.{client_request_flags, server_request_flags};
+ghost use Rattle.sspi_types.specs.ResponseFlags.{client_response_flags, server_response_flags};
+ghost use Rattle.sspi_types.specs.Capabilities.{package_capabilities};
+ghost use Rattle.sspi_types.specs.CertTrustFlags.{cert_trust_error_flags, cert_trust_info_flags};
+ghost use Rattle.sspi_types.specs.BufferFlags.{security_buffer_flags};
+ghost use Rattle.sspi_types.specs.ProtectionFlags.{encryption_flags, decryption_flags};
+ghost use Rattle.sspi_types.specs.StatusCodes.{status_codes};
+ghost use Rattle.sspi_types.specs.NamedConstants.{client_request_constants, server_request_constants};
+ghost use Rattle.sspi_types.specs.NamedConstants.{client_response_constants, server_response_constants};
+ghost use Rattle.sspi_types.specs.NamedConstants.{capability_constants, cert_trust_error_constants, cert_trust_info_constants};
+ghost use Rattle.sspi_types.specs.NamedConstants.{security_buffer_constants, encryption_constants, decryption_constants, status_constants};
 
 use crate::buffer_type::BufferType;
 use crate::certificate::CertEncodingType;
@@ -23,7 +34,8 @@ use crate::credential_use::CredentialUse;
 use crate::data_representation::DataRepresentation;
 use crate::error_kind::ErrorKind;
 use crate::nstatus::NStatusCode;
-use crate::security_buffer_type::SecurityBufferType;
+use crate::package::PKG_NAME;
+use crate::security_buffer_type::{SECBUFFER_ATTRMASK, SecurityBufferType};
 use crate::security_status::SecurityStatus;
 
 /// No two values of a number enum have the same number.
@@ -75,6 +87,45 @@ pub fn equality_is_of_numbers()
     ensures cert_encoding_type { ComparesNumbers ⟦<CertEncodingType as PartialEq>⟧.eq
         cert_encoding_type_number }
     ensures status { ComparesNumbers ⟦<NStatusCode as PartialEq>⟧.eq (λ code. code.0) }
+{}
+
+/// The named flags of contexts have the numbers of their tables.
+pub fn context_flags_have_their_numbers()
+    ensures client_request { map (λ flags. flags.0) client_request_constants
+        ≡ numbers_of client_request_flags }
+    ensures server_request { map (λ flags. flags.0) server_request_constants
+        ≡ numbers_of server_request_flags }
+    ensures client_response { map (λ flags. flags.0) client_response_constants
+        ≡ numbers_of client_response_flags }
+    ensures server_response { map (λ flags. flags.0) server_response_constants
+        ≡ numbers_of server_response_flags }
+{}
+
+/// So have the named flags of packages, certificates, buffers and sealed messages.
+pub fn other_flags_have_their_numbers()
+    ensures capability { map (λ flags. flags.0) capability_constants
+        ≡ numbers_of package_capabilities }
+    ensures cert_trust_error { map (λ flags. flags.0) cert_trust_error_constants
+        ≡ numbers_of cert_trust_error_flags }
+    ensures cert_trust_info { map (λ flags. flags.0) cert_trust_info_constants
+        ≡ numbers_of cert_trust_info_flags }
+    ensures security_buffer { map (λ flags. flags.0) security_buffer_constants
+        ≡ numbers_of security_buffer_flags }
+    ensures encryption { map (λ flags. flags.0) encryption_constants
+        ≡ numbers_of encryption_flags }
+    ensures decryption { map (λ flags. flags.0) decryption_constants
+        ≡ numbers_of decryption_flags }
+{}
+
+/// So have the named NTSTATUS codes.
+pub fn status_codes_have_their_numbers()
+    ensures { map (λ code. code.0) status_constants ≡ numbers_of status_codes }
+{}
+
+/// The name of the package that negotiates, and the mask of a buffer's flags.
+pub fn name_and_mask_are_fixed()
+    ensures name { PKG_NAME.now ≡ codes "Negotiate" }
+    ensures mask { SECBUFFER_ATTRMASK ≡ 0xf0000000 }
 {}
 
 /// `==` at `SecurityBufferType` compares both fields.

@@ -73,6 +73,3 @@ pub use security_status::SecurityStatus;
 pub use server_request_flags::ServerRequestFlags;
 pub use server_response_flags::ServerResponseFlags;
 pub use text::Text;
-
-#[cfg(test)]
-mod tests;

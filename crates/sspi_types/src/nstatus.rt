@@ -3,95 +3,139 @@ ghost use Rattle.sspi_types.specs.StatusCodes.{status_name, status_text, status_
 
 use std::fmt;
 
-/// An NTSTATUS code, of ntstatus.h. Every number is one; 43 have a name here.
+/// An NTSTATUS code, of ntstatus.h. Every number is one; 43 have a name here. The highest two bits are its severity, of
+/// which 0b11 is an error.
 #[derive(Clone, Copy, PartialEq, Eq)]
 pub struct NStatusCode(pub u32);
 
 impl NStatusCode {
+    /// No failure.
     pub const SUCCESS: NStatusCode = NStatusCode(0x00000000);
 
+    /// No quota is set for the account; no failure.
     pub const NO_QUOTAS_FOR_ACCOUNT: NStatusCode = NStatusCode(0x0000010d);
 
+    /// No server that logs users on could be reached.
     pub const NO_LOGON_SERVERS: NStatusCode = NStatusCode(0xc000005e);
 
+    /// There is no such logon session, or it has ended.
     pub const NO_SUCH_LOGON_SESSION: NStatusCode = NStatusCode(0xc000005f);
 
+    /// There is no such privilege.
     pub const NO_SUCH_PRIVILEGE: NStatusCode = NStatusCode(0xc0000060);
 
+    /// The client lacks a privilege.
     pub const PRIVILEGE_NOT_HELD: NStatusCode = NStatusCode(0xc0000061);
 
+    /// The name is no account's name.
     pub const INVALID_ACCOUNT_NAME: NStatusCode = NStatusCode(0xc0000062);
 
+    /// The account exists already.
     pub const USER_EXISTS: NStatusCode = NStatusCode(0xc0000063);
 
+    /// There is no such account.
     pub const NO_SUCH_USER: NStatusCode = NStatusCode(0xc0000064);
 
+    /// The group exists already.
     pub const GROUP_EXISTS: NStatusCode = NStatusCode(0xc0000065);
 
+    /// There is no such group.
     pub const NO_SUCH_GROUP: NStatusCode = NStatusCode(0xc0000066);
 
+    /// The account is in the group, or the group still has members.
     pub const MEMBER_IN_GROUP: NStatusCode = NStatusCode(0xc0000067);
 
+    /// The account is not in the group.
     pub const MEMBER_NOT_IN_GROUP: NStatusCode = NStatusCode(0xc0000068);
 
+    /// The last administrator cannot be taken away.
     pub const LAST_ADMIN: NStatusCode = NStatusCode(0xc0000069);
 
+    /// The password is wrong where it is to be changed.
     pub const WRONG_PASSWORD: NStatusCode = NStatusCode(0xc000006a);
 
+    /// The password has characters that are not allowed.
     pub const ILL_FORMED_PASSWORD: NStatusCode = NStatusCode(0xc000006b);
 
+    /// The new password breaks the rules for passwords.
     pub const PASSWORD_RESTRICTION: NStatusCode = NStatusCode(0xc000006c);
 
+    /// The user name or the password is wrong.
     pub const LOGON_FAILURE: NStatusCode = NStatusCode(0xc000006d);
 
+    /// The account may not log on so, as with an empty password.
     pub const ACCOUNT_RESTRICTION: NStatusCode = NStatusCode(0xc000006e);
 
+    /// The account may not log on at this hour.
     pub const INVALID_LOGON_HOURS: NStatusCode = NStatusCode(0xc000006f);
 
+    /// The account may not log on from this machine.
     pub const INVALID_WORKSTATION: NStatusCode = NStatusCode(0xc0000070);
 
+    /// The password has expired.
     pub const PASSWORD_EXPIRED: NStatusCode = NStatusCode(0xc0000071);
 
+    /// The account is disabled.
     pub const ACCOUNT_DISABLED: NStatusCode = NStatusCode(0xc0000072);
 
+    /// The operation took too long.
     pub const IO_TIMEOUT: NStatusCode = NStatusCode(0xc00000b5);
 
+    /// The caller is no logon process.
     pub const NOT_LOGON_PROCESS: NStatusCode = NStatusCode(0xc00000ed);
 
+    /// The logon session exists already.
     pub const LOGON_SESSION_EXISTS: NStatusCode = NStatusCode(0xc00000ee);
 
+    /// The logon session is not in the state for this.
     pub const BAD_LOGON_SESSION_STATE: NStatusCode = NStatusCode(0xc0000104);
 
+    /// The identifier of the logon session is in use.
     pub const LOGON_SESSION_COLLISION: NStatusCode = NStatusCode(0xc0000105);
 
+    /// The type of logon is none that there is.
     pub const INVALID_LOGON_TYPE: NStatusCode = NStatusCode(0xc000010b);
 
+    /// The account is built in and cannot be changed so.
     pub const SPECIAL_ACCOUNT: NStatusCode = NStatusCode(0xc0000124);
 
+    /// The access token is in use already.
     pub const TOKEN_ALREADY_IN_USE: NStatusCode = NStatusCode(0xc000012b);
 
+    /// The server that logs users on is of another role in the domain.
     pub const LOGON_SERVER_CONFLICT: NStatusCode = NStatusCode(0xc0000132);
 
+    /// The clocks of the machine and of the domain controller differ too much.
     pub const TIME_DIFFERENCE_AT_DC: NStatusCode = NStatusCode(0xc0000133);
 
+    /// The account is not in the local group.
     pub const MEMBER_NOT_IN_ALIAS: NStatusCode = NStatusCode(0xc0000152);
 
+    /// The account is in the local group already.
     pub const MEMBER_IN_ALIAS: NStatusCode = NStatusCode(0xc0000153);
 
+    /// The account may not log on in this way.
     pub const LOGON_NOT_GRANTED: NStatusCode = NStatusCode(0xc0000155);
 
+    /// The account lacks the right to this type of logon.
     pub const LOGON_TYPE_NOT_GRANTED: NStatusCode = NStatusCode(0xc000015b);
 
+    /// The request to the server took too long.
     pub const TRANSACTION_TIMED_OUT: NStatusCode = NStatusCode(0xc0000210);
 
+    /// The password has to be changed before the first logon.
     pub const PASSWORD_MUST_CHANGE: NStatusCode = NStatusCode(0xc0000224);
 
+    /// The account is locked, after too many wrong passwords.
     pub const ACCOUNT_LOCKED_OUT: NStatusCode = NStatusCode(0xc0000234);
 
+    /// What was given does not suffice to log on.
     pub const INSUFFICIENT_LOGON_INFO: NStatusCode = NStatusCode(0xc0000250);
 
+    /// The account logs on with a smart card only.
     pub const SMARTCARD_LOGON_REQUIRED: NStatusCode = NStatusCode(0xc00002fa);
 
+    /// Remote logons are disabled.
     pub const CTX_LOGON_DISABLED: NStatusCode = NStatusCode(0xc00a0037);
 
     /// The code's name in ntstatus.h, as `STATUS_LOGON_FAILURE`, where it has one here.

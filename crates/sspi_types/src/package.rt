@@ -19,8 +19,11 @@ pub const PKG_NAME: &str = "Negotiate";
 /// A security package by its name.
 #[derive(Drop, PartialEq, Eq)]
 pub enum SecurityPackageType {
+    /// NTLM, named `NTLM`.
     Ntlm,
+    /// Kerberos, named `Kerberos`.
     Kerberos,
+    /// SPNEGO over the others, named `Negotiate` (`PKG_NAME`).
     Negotiate,
     /// A package that this library does not have.
     Other(Text),
@@ -82,12 +85,15 @@ impl fmt::Display for SecurityPackageType {
 /// What is known of a security package (SecPkgInfo).
 #[derive(Drop, PartialEq, Eq)]
 pub struct PackageInfo {
+    /// What the package can do; nothing is claimed of this library's.
     pub capabilities: PackageCapabilities,
     /// The identifier of the package for RPC; 0xFFFF where it has none.
     pub rpc_id: u16,
     /// The most bytes that a token of this package has.
     pub max_token_len: u32,
+    /// Which package it is.
     pub name: SecurityPackageType,
+    /// A text for people.
     pub comment: Text,
 }
 

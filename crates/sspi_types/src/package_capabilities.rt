@@ -10,52 +10,76 @@ use std::ops::BitOr;
 pub struct PackageCapabilities(u32);
 
 impl PackageCapabilities {
+    /// Messages can be signed and verified (SECPKG_FLAG_INTEGRITY).
     pub const INTEGRITY: PackageCapabilities = PackageCapabilities(0x00000001);
 
+    /// Messages can be sealed (SECPKG_FLAG_PRIVACY).
     pub const PRIVACY: PackageCapabilities = PackageCapabilities(0x00000002);
 
+    /// Only the token buffer of a message is read (SECPKG_FLAG_TOKEN_ONLY).
     pub const TOKEN_ONLY: PackageCapabilities = PackageCapabilities(0x00000004);
 
+    /// Messages can go as datagrams (SECPKG_FLAG_DATAGRAM).
     pub const DATAGRAM: PackageCapabilities = PackageCapabilities(0x00000008);
 
+    /// Messages can go over a connection (SECPKG_FLAG_CONNECTION).
     pub const CONNECTION: PackageCapabilities = PackageCapabilities(0x00000010);
 
+    /// The client sends more than one message (SECPKG_FLAG_MULTI_REQUIRED).
     pub const MULTI_REQUIRED: PackageCapabilities = PackageCapabilities(0x00000020);
 
+    /// The package has no server (SECPKG_FLAG_CLIENT_ONLY).
     pub const CLIENT_ONLY: PackageCapabilities = PackageCapabilities(0x00000040);
 
+    /// The peer can be told of failures (SECPKG_FLAG_EXTENDED_ERROR).
     pub const EXTENDED_ERROR: PackageCapabilities = PackageCapabilities(0x00000080);
 
+    /// A server can act as its client (SECPKG_FLAG_IMPERSONATION).
     pub const IMPERSONATION: PackageCapabilities = PackageCapabilities(0x00000100);
 
+    /// Names of Win32 are taken for targets (SECPKG_FLAG_ACCEPT_WIN32_NAME).
     pub const ACCEPT_WIN32_NAME: PackageCapabilities = PackageCapabilities(0x00000200);
 
+    /// Messages can go as a stream (SECPKG_FLAG_STREAM).
     pub const STREAM: PackageCapabilities = PackageCapabilities(0x00000400);
 
+    /// Negotiate can choose the package (SECPKG_FLAG_NEGOTIABLE).
     pub const NEGOTIABLE: PackageCapabilities = PackageCapabilities(0x00000800);
 
+    /// The package speaks with GSS-API (SECPKG_FLAG_GSS_COMPATIBLE).
     pub const GSS_COMPATIBLE: PackageCapabilities = PackageCapabilities(0x00001000);
 
+    /// The package can log a user on (SECPKG_FLAG_LOGON).
     pub const LOGON: PackageCapabilities = PackageCapabilities(0x00002000);
 
+    /// Tokens are ASCII texts (SECPKG_FLAG_ASCII_BUFFERS).
     pub const ASCII_BUFFERS: PackageCapabilities = PackageCapabilities(0x00004000);
 
+    /// Tokens can be cut into fragments (SECPKG_FLAG_FRAGMENT).
     pub const FRAGMENT: PackageCapabilities = PackageCapabilities(0x00008000);
 
+    /// The server can prove who it is (SECPKG_FLAG_MUTUAL_AUTH).
     pub const MUTUAL_AUTH: PackageCapabilities = PackageCapabilities(0x00010000);
 
+    /// Credentials can be delegated (SECPKG_FLAG_DELEGATION).
     pub const DELEGATION: PackageCapabilities = PackageCapabilities(0x00020000);
 
+    /// Read-only buffers can be covered by a checksum (SECPKG_FLAG_READONLY_WITH_CHECKSUM).
     pub const READONLY_WITH_CHECKSUM: PackageCapabilities = PackageCapabilities(0x00040000);
 
+    /// A caller with a restricted token is let in (SECPKG_FLAG_RESTRICTED_TOKENS).
     pub const RESTRICTED_TOKENS: PackageCapabilities = PackageCapabilities(0x00080000);
 
+    /// The package extends Negotiate (SECPKG_FLAG_NEGO_EXTENDER).
     pub const NEGO_EXTENDER: PackageCapabilities = PackageCapabilities(0x00100000);
 
+    /// The Negotiate of extenders can choose the package (SECPKG_FLAG_NEGOTIABLE2).
     pub const NEGOTIABLE2: PackageCapabilities = PackageCapabilities(0x00200000);
 
+    /// A caller in an app container is let in (SECPKG_FLAG_APPCONTAINER_PASSTHROUGH).
     pub const APP_CONTAINER_PASSTHROUGH: PackageCapabilities = PackageCapabilities(0x00400000);
 
+    /// A caller in an app container is checked (SECPKG_FLAG_APPCONTAINER_CHECKS).
     pub const APP_CONTAINER_CHECKS: PackageCapabilities = PackageCapabilities(0x00800000);
 
     /// The flags that have a name, in the order of their table.

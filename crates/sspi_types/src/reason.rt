@@ -4,47 +4,89 @@ ghost use Rattle.sspi_types.specs.Reasons.{reason_text};
 /// Why a call refused, in words that are fixed, so that a refusal takes no memory.
 #[derive(Clone, Copy, Debug, PartialEq, Eq)]
 pub enum Reason {
+    /// The peer's request has an error code (MS-CSSP 2.2.1, `errorCode`), which `nstatus` is.
     ErrorStatus,
+    /// The peer's version is another than in its request before.
     PeerVersion,
+    /// A request lacks `pubKeyAuth` (MS-CSSP 2.2.1) where it has to come.
     NoPubKey,
+    /// A request lacks `authInfo` (MS-CSSP 2.2.1) where it has to come.
     NoAuthInfo,
+    /// A request lacks `clientNonce` (MS-CSSP 2.2.1), and the version is 5 or above.
     NoNonce,
+    /// Sealed bytes are fewer than a tag's 16.
     ShortBlob,
+    /// The package's token is empty where one has to go.
     EmptyToken,
+    /// The opened proof of the key is not the prescribed one, below version 5 (MS-CSSP 3.1.5).
     EchoDiffers,
+    /// The opened proof of the key is not the prescribed one, from version 5 on (MS-CSSP 3.1.5).
     HashDiffers,
+    /// The call does not come in the state that the object is in.
     Sequence,
+    /// The authentication ended before any request of the peer came, so no version is known.
     NoVersion,
+    /// A step answered a status that may not come there.
     Status,
+    /// A content has more bytes than its limit.
     TooLong,
+    /// The credentials are malformed or of a type that there is not (MS-CSSP 2.2.1.2).
     CredType,
+    /// The credentials are of a smart card (MS-CSSP 2.2.1.2.2).
     SmartCard,
+    /// The credentials are a keytab, which cannot be delegated.
     Keytab,
+    /// The client was made without credentials.
     NoAuthData,
+    /// No package is left that may be used.
     NoPackage,
+    /// The package that was chosen is disabled in the package list.
     Disabled,
+    /// A mechanism's OID is none of those known here.
     MechUnknown,
+    /// The offered mechanisms (RFC 4178 4.2.1) have none that may be used.
     NoSharedMech,
+    /// A token lacks `mechTypes` (RFC 4178 4.2.1).
     NoMechTypes,
+    /// `negState` (RFC 4178 4.2.2) is one that may not come there.
     NegResult,
+    /// A token lacks `mechListMIC` (RFC 4178 5) where it has to come.
     NoMic,
+    /// No identity is known to the server.
     NoIdentity,
+    /// The look-up of the peer gave no identity.
     NoCandidate,
+    /// The credentials are not a name and a password.
     NotPassword,
+    /// The look-up of credentials failed.
     Proxy,
+    /// A token is not spelled as it must be.
     TokenForm,
+    /// No buffer is of the type that is needed.
     NoBuffer,
+    /// A number does not stand for a value.
     Number,
+    /// Bytes are no text in their encoding.
     Utf,
+    /// A user name mixes the forms of a name.
     UserName,
+    /// The peer's proof is that of no candidate.
     Proof,
+    /// A tag or a MIC is not the one that the bytes have.
     Tag,
+    /// The KDC refused, or could not be asked.
     Kdc,
+    /// A count of calls or messages is used up.
     Spent,
+    /// The function is not there.
     Unsupported,
+    /// The package is none of this library.
     Package,
+    /// Reading or writing failed, for whatever cause.
     Io,
+    /// There was no memory.
     Memory,
+    /// The mechanism refused.
     Mechanism,
 }
 

@@ -6,6 +6,7 @@ ghost use Rattle.sspi_types.specs.Secrets.{LendsValue};
 /// memory.
 #[derive(Drop, PartialEq, Eq)]
 pub struct Secret<T> {
+    /// The value, which anyone may read and change.
     pub value: T,
 }
 

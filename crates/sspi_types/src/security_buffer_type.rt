@@ -14,7 +14,9 @@ pub const SECBUFFER_ATTRMASK: u32 = 0xF0000000;
 /// What a buffer holds, and what may be done with it (`BufferType` of SecBuffer).
 #[derive(Clone, Copy, Default, PartialEq, Eq)]
 pub struct SecurityBufferType {
+    /// What the buffer holds.
     pub buffer_type: BufferType,
+    /// What may be done with it.
     pub buffer_flags: SecurityBufferFlags,
 }
 

@@ -6,14 +6,23 @@ ghost use Rattle.sspi_types.specs.Numbers.{ReadsNumber};
 /// are no errors.
 #[derive(Clone, Copy, Debug, PartialEq, Eq)]
 pub enum SecurityStatus {
+    /// The step was the last one (SEC_E_OK).
     Ok = 0x00000,
+    /// The token has to go to the peer, and its answer into another step (SEC_I_CONTINUE_NEEDED).
     ContinueNeeded = 0x90312,
+    /// The token has to be completed before it goes (SEC_I_COMPLETE_NEEDED).
     CompleteNeeded = 0x90313,
+    /// Both of these (SEC_I_COMPLETE_AND_CONTINUE).
     CompleteAndContinue = 0x90314,
+    /// The logon was done on the machine, for want of a server (SEC_I_LOCAL_LOGON).
     LocalLogon = 0x90315,
+    /// The peer ended the connection (SEC_I_CONTEXT_EXPIRED).
     ContextExpired = 0x90317,
+    /// The peer asks for credentials that were not given (SEC_I_INCOMPLETE_CREDENTIALS).
     IncompleteCredentials = 0x90320,
+    /// The peer asks for a new handshake (SEC_I_RENEGOTIATE).
     Renegotiate = 0x90321,
+    /// The context is not known to the local authority (SEC_I_NO_LSA_CONTEXT).
     NoLsaContext = 0x90323,
 }
 

@@ -1,0 +1,150 @@
+use sspi_ber::{
+    SliceSource, VecSink, WireKind, read_integer, read_length, sizeof_integer, sizeof_length,
+    write_integer, write_length,
+};
+use std::alloc::Global;
+use std::process::Abort;
+
+/// Lengths (X.690 8.1.3.4, 8.1.3.5) and integers (X.690 8.3), at the ends of each form. `length` and `integer` are spelled so
+/// and read back; `long-` forms are read alone, and `bad-` ones refused. The bytes stand in hex, none as a dot.
+const SPELLINGS: &str = "\
+length 0 00
+length 127 7f
+length 128 8180
+length 255 81ff
+length 256 820100
+length 625 820271
+length 65531 82fffb
+long-length 0 8100
+long-length 127 817f
+long-length 127 82007f
+bad-length invalid 82fffc
+bad-length invalid 80
+bad-length invalid 83000001
+bad-length invalid 8a01
+bad-length end .
+bad-length end 81
+bad-length end 82ff
+integer 0 020100
+integer 127 02017f
+integer 128 02020080
+integer 32767 02027fff
+integer 32768 0203008000
+integer 524288 0203080000
+integer 8388607 02037fffff
+integer 8388608 020400800000
+integer 4294967295 0204ffffffff
+long-integer 128 020180
+long-integer 258 02810400000102
+long-integer 72623859790382856 02080102030405060708
+long-integer 18446744073709551615 0208ffffffffffffffff
+bad-integer invalid 0200
+bad-integer invalid 0205
+bad-integer invalid 020679
+bad-integer invalid 0209
+bad-integer invalid 040100
+bad-integer end 0204000000
+bad-integer end 02";
+
+#[test]
+fn spellings_are_written_and_read(rt: HostRuntime) {
+    for line in SPELLINGS.lines() {
+        try_line(&rt, rt.alloc(), line);
+    }
+}
+
+fn try_line(rt: &impl Abort, alloc: Global, line: &str) {
+    match line.split_once(' ') {
+        None => assert!(rt; false, "{line}"),
+        Some((verb, rest)) => match rest.split_once(' ') {
+            None => assert!(rt; false, "{line}"),
+            Some((value, digits)) => try_digits(rt, alloc, verb, value, digits),
+        },
+    }
+}
+
+fn try_digits(rt: &impl Abort, alloc: Global, verb: &str, value: &str, digits: &str) {
+    let digits = if digits == "." { "" } else { digits };
+    match hex::decode(alloc, digits) {
+        Err(_) => assert!(rt; false, "{digits}"),
+        Ok(bytes) => match verb {
+            "length" => spells_length(rt, alloc, number(value) as usize, &bytes),
+            "long-length" => reads_length(rt, number(value), &bytes),
+            "bad-length" => refuses_length(rt, kind(value), &bytes),
+            "integer" => spells_integer(rt, alloc, number32(value), &bytes),
+            "long-integer" => reads_integer(rt, number(value), &bytes),
+            "bad-integer" => refuses_integer(rt, kind(value), &bytes),
+            _ => assert!(rt; false, "{verb}"),
+        },
+    }
+}
+
+// 7 where the text is no number, which no line has.
+fn number(text: &str) -> u64 {
+    text.parse().unwrap_or(7)
+}
+
+fn number32(text: &str) -> u32 {
+    text.parse().unwrap_or(7)
+}
+
+fn kind(text: &str) -> WireKind {
+    match text {
+        "end" => WireKind::UnexpectedEof,
+        _ => WireKind::InvalidData,
+    }
+}
+
+fn spells_length(rt: &impl Abort, alloc: Global, len: usize, spelled: &[u8]) {
+    let mut sink = VecSink::new(alloc);
+    assert_eq!(rt; write_length(&mut sink, len), Ok(spelled.len()), "{len}");
+    assert!(rt; sink.written() == spelled, "{len}");
+    assert_eq!(rt; sizeof_length(len), Ok(spelled.len()), "{len}");
+    reads_length(rt, len as u64, spelled);
+}
+
+fn reads_length(rt: &impl Abort, len: u64, bytes: &[u8]) {
+    let mut source = SliceSource::new(bytes);
+    assert_eq!(rt;
+        read_length(&mut source).map(|read| u64::from(read)),
+        Ok(len),
+        "{len}"
+    );
+    assert_eq!(rt; source.rest().len(), 0, "{len}");
+}
+
+fn refuses_length(rt: &impl Abort, kind: WireKind, bytes: &[u8]) {
+    assert_eq!(rt;
+        read_length(&mut SliceSource::new(bytes)),
+        Err(kind),
+        "{bytes:?}"
+    );
+}
+
+fn spells_integer(rt: &impl Abort, alloc: Global, value: u32, spelled: &[u8]) {
+    let mut sink = VecSink::new(alloc);
+    assert_eq!(rt;
+        write_integer(&mut sink, value),
+        Ok(spelled.len()),
+        "{value}"
+    );
+    assert!(rt; sink.written() == spelled, "{value}");
+    assert_eq!(rt; sizeof_integer(value), spelled.len(), "{value}");
+    reads_integer(rt, u64::from(value), spelled);
+}
+
+fn reads_integer(rt: &impl Abort, value: u64, bytes: &[u8]) {
+    assert_eq!(rt;
+        read_integer(&mut SliceSource::new(bytes)),
+        Ok(value),
+        "{value}"
+    );
+}
+
+fn refuses_integer(rt: &impl Abort, kind: WireKind, bytes: &[u8]) {
+    assert_eq!(rt;
+        read_integer(&mut SliceSource::new(bytes)),
+        Err(kind),
+        "{bytes:?}"
+    );
+}
