@@ -31,6 +31,3 @@ pub use creds_writing::write_ts_credentials;
 pub use early::{EARLY_USER_AUTH_RESULT_PDU_SIZE, EarlyUserAuthResult};
 pub use mode::CredSspMode;
 pub use request::TsRequest;
-
-#[cfg(test)]
-mod tests;
