@@ -1,34 +1,37 @@
 -- What a reader over the bytes of a token gave, as the answer of `decode`.
-use Rattle.std.proofs.Common.{◌≡◌, ℕ, List, Option, None, Some, Result, Ok, Err, refl, ap, inl, inr}
+use Rattle.std.proofs.Common.{◌≡◌, List, ℕ, Option, None, Some, Ok, Err, refl, sym, ap, ◌∙◌}
 use Rattle.sspi_ber.specs.Fault.{Read}
-use Rattle.sspi_ber.specs.Outside.{Gives}
+use Rattle.sspi_ber.specs.Outside.{Gives, NeedsNoMemory}
 use Rattle.sspi_ber.specs.declared.wire_kind.WireKind.{WireKind}
 use Rattle.sspi_ber.specs.declared.wire_kind.WireKind.TheVariants.{UnexpectedEof, InvalidData, ReadFault, WriteFault, InsufficientMemory}
-use Rattle.sspi_types.specs.declared.error.Error.{Error}
-use Rattle.sspi_tokens.specs.Answers.{ReadsAs, refusal_of, malformed}
+use Rattle.sspi_types.specs.Memory.{memory_error}
+use Rattle.sspi_tokens.specs.Answers.{ReadsAs, malformed}
 use Rattle.sspi_tokens.specs.Reading.{value_of}
 
--- the answer of decode, made of what the reader gave
-abbrev pub answered : {T : Type 0} → Result T WireKind → Result T Error
-answered (Ok token) = Ok token
-answered (Err kind) = Err (refusal_of kind)
+is_malformed : {T : Type 0} (o : Option T) → o ≡ None → ReadsAs o (Err malformed)
+is_malformed (Some token) e = absurd cc
+is_malformed None e = refl
 
-want_of_memory : {T : Type 0} (o : Option T) → ReadsAs o (Err (refusal_of InsufficientMemory))
-want_of_memory (Some token) = refl
-want_of_memory None = inr refl
+is_wanting : {T : Type 0} (o : Option T) (token : T) → o ≡ Some token → ReadsAs o (Err memory_error)
+is_wanting (Some x) token e = refl
+is_wanting None token e = absurd cc
 
-refused : {T : Type 0} (o : Option T) → o ≡ None → ReadsAs o (Err malformed)
-refused (Some token) e = absurd cc
-refused None e = inl refl
+is_token : {T : Type 0} (o : Option T) (token : T) → o ≡ Some token → ReadsAs o (Ok token)
+is_token (Some x) token e = cc
+is_token None token e = absurd cc
 
-read_ok : {T : Type 0} (o : Option T) (token : T) → o ≡ Some token → ReadsAs o (Ok token)
-read_ok (Some x) token e = cc
-read_ok None token e = absurd cc
+-- nothing was read, and no memory was wanted for that
+pub read_refused : {X T : Type 0} (view : X → T) (after : List ℕ) (kind : WireKind) (read : Read T) → Gives view after (Err kind) read → NeedsNoMemory {X = X} (Err kind) → ReadsAs (value_of read) (Err malformed)
+read_refused view after UnexpectedEof read given none = is_malformed (value_of read) (ap value_of given)
+read_refused view after InvalidData read given none = is_malformed (value_of read) (ap value_of given)
+read_refused view after ReadFault read given none = absurd given
+read_refused view after WriteFault read given none = absurd given
+read_refused view after InsufficientMemory read given none = absurd none
 
-pub read_as : {T : Type 0} (result : Result T WireKind) (after : List ℕ) (read : Read T) → Gives (λ token. token) after result read → ReadsAs (value_of read) (answered result)
-read_as (Ok token) after read given = read_ok (value_of read) token (ap value_of given)
-read_as (Err UnexpectedEof) after read given = refused (value_of read) (ap value_of given)
-read_as (Err InvalidData) after read given = refused (value_of read) (ap value_of given)
-read_as (Err ReadFault) after read given = absurd given
-read_as (Err WriteFault) after read given = absurd given
-read_as (Err InsufficientMemory) after read given = want_of_memory (value_of read)
+-- the parts were read, and memory was wanting for the token
+pub read_unkept : {T : Type 0} (token : T) (after : List ℕ) (read : Read T) → read ≡ Ok (token, after) → ReadsAs (value_of read) (Err memory_error)
+read_unkept token after read given = is_wanting (value_of read) token (ap value_of given)
+
+-- the parts were read, and the token is that of these parts
+pub read_kept : {T : Type 0} (token seen : T) (after : List ℕ) (read : Read T) → read ≡ Ok (seen, after) → token ≡ seen → ReadsAs (value_of read) (Ok token)
+read_kept token seen after read given same = is_token (value_of read) token (ap value_of given ∙ ap Some (sym same))

@@ -1,8 +1,8 @@
 -- The kind of an identifier tells the identifiers that are known.
-use Rattle.std.proofs.Common.{◌≡◌, ℕ, Bool, true, false, cond, List, refl, ap}
+use Rattle.std.proofs.Common.{◌≡◌, ℕ, Bool, true, false, cond, List, Some, refl, sym, ap, ◌∙◌}
 use lib.Pointwise.{bytes_decides}
 use Rattle.std.specs.Str.{bytes_eq}
-use Rattle.sspi_tokens.specs.Oids.{ms_krb5, krb5, ntlm_ssp, kind_of}
+use Rattle.sspi_tokens.specs.Oids.{ms_krb5, krb5, ntlm_ssp, kind_of, identifier_of}
 use Rattle.sspi_tokens.specs.declared.oid.MechKind.{MechKind}
 use Rattle.sspi_tokens.specs.declared.oid.MechKind.TheVariants.{MsKerberos, Kerberos, Ntlm, Other}
 
@@ -38,3 +38,9 @@ kerberos_is oid = (λ e. (bytes_decides oid krb5).0 (second_is (bytes_eq oid ms_
 pub ntlm_is : (oid : List ℕ) → (kind_of oid ≡ Ntlm → oid ≡ ntlm_ssp) × (oid ≡ ntlm_ssp → kind_of oid ≡ Ntlm)
 unfolding kind_of
 ntlm_is oid = (λ e. (bytes_decides oid ntlm_ssp).0 (third_is (bytes_eq oid ms_krb5) (bytes_eq oid krb5) (bytes_eq oid ntlm_ssp) e), λ e. ap kind_of e)
+
+pub known_is : (kind : MechKind) (oid : List ℕ) → identifier_of kind ≡ Some oid → kind_of oid ≡ kind
+known_is MsKerberos oid e = let same : ms_krb5 ≡ oid = cc in (ms_kerberos_is oid).1 (sym same)
+known_is Kerberos oid e = let same : krb5 ≡ oid = cc in (kerberos_is oid).1 (sym same)
+known_is Ntlm oid e = let same : ntlm_ssp ≡ oid = cc in (ntlm_is oid).1 (sym same)
+known_is Other oid e = absurd cc

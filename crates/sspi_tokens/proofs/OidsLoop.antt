@@ -9,6 +9,7 @@ use Rattle.sspi_ber.specs.declared.wire_kind.WireKind.{WireKind}
 use Rattle.sspi_ber.specs.declared.wire_kind.WireKind.TheVariants.{UnexpectedEof, InvalidData, ReadFault, WriteFault, InsufficientMemory}
 use Rattle.sspi_ber.proofs.PiecesMatch.{element_match}
 use Rattle.sspi_ber.proofs.Match.{read_of}
+use Rattle.sspi_tokens.specs.Parts.{list_or_none, oids_in}
 use Rattle.sspi_tokens.specs.Reading.{is_next, oids_up_to, oids_at}
 
 -- what is read so far, before what is still read
@@ -86,6 +87,22 @@ reading_end {bytes} {oids} {left} reading next =
 
 pub reading_fault : {bytes : List ℕ} {oids : List (List ℕ)} {left : List ℕ} (fault : Fault) → Reading bytes oids left → is_next 0x06 left ≡ true → element_at 0x06 left ≡ Err fault → oids_at bytes ≡ Err fault
 reading_fault {bytes} {oids} {left} fault reading next e = reading.read ∙ ap (λ (r : Read (List (List ℕ))). r >>= before oids) (bad_oid left fault next e)
+
+-- the same where what was read so far is not kept
+pub record Passed (bytes left : List ℕ) : Type 0 where
+  pub oids : List (List ℕ)
+  pub reading : Reading bytes oids left
+
+pub passed_start : (bytes : List ℕ) → Passed bytes bytes
+passed_start bytes = record { oids = []; reading = reading_start bytes }
+
+pub passed_step : {bytes left : List ℕ} (content rest : List ℕ) → Passed bytes left → is_next 0x06 left ≡ true → element_at 0x06 left ≡ Ok (content, rest) → Passed bytes rest
+passed_step content rest passed next e = record { oids = passed.oids ++ content ∷ []; reading = reading_step content rest passed.reading next e }
+
+pub passed_end : {bytes left : List ℕ} → Passed bytes left → is_next 0x06 left ≡ false → oids_at bytes ≡ Ok (oids_in bytes, left)
+passed_end {bytes} {left} passed next =
+    let e = reading_end passed.reading next in
+    e ∙ ap (λ (l : List (List ℕ)). read_of l left) (sym (ap list_or_none e))
 
 -- a fault is passed on, whatever would have been the value
 pub fault_given : (kind : WireKind) (read : Read (List ℕ)) (read2 : Read (List (List ℕ))) → ((fault : Fault) → read ≡ Err fault → read2 ≡ Err fault)

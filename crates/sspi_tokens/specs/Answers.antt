@@ -1,8 +1,6 @@
 -- What the calls on tokens answer.
-use Rattle.std.specs.Prelude.{◌≡◌, ◌⊎◌, ℕ, List, Option, None, Some, Result, Ok, Err}
+use Rattle.std.specs.Prelude.{◌≡◌, ℕ, List, Option, None, Some, Result, Ok, Err}
 use Rattle.std.specs.Global.{Vec}
-use Rattle.sspi_ber.specs.declared.wire_kind.WireKind.{WireKind}
-use Rattle.sspi_ber.specs.declared.wire_kind.WireKind.TheVariants.{UnexpectedEof, InvalidData, ReadFault, WriteFault, InsufficientMemory}
 use Rattle.sspi_types.specs.Memory.{memory_error}
 use Rattle.sspi_types.specs.declared.error.Error.{Error}
 use Rattle.sspi_types.specs.declared.error_kind.ErrorKind.TheVariants.{InvalidToken, InternalError}
@@ -16,20 +14,12 @@ malformed = record { error_type = InvalidToken; description = TokenForm; nstatus
 abbrev pub too_long : Error
 too_long = record { error_type = InternalError; description = TooLong; nstatus = None }
 
--- want of memory stays what it is, and every other fault is of the bytes
-abbrev pub refusal_of : WireKind → Error
-refusal_of InsufficientMemory = memory_error
-refusal_of UnexpectedEof = malformed
-refusal_of InvalidData = malformed
-refusal_of ReadFault = malformed
-refusal_of WriteFault = malformed
-
--- the token that the bytes begin with, or `malformed` where they begin with none; want of memory may come of either
+-- The token that the bytes begin with, for which memory may be wanting; exactly `malformed` where they begin with none.
 abbrev pub ReadsAs : {T : Type 0} → Option T → Result T Error → Type 0
 ReadsAs (Some token) (Ok x) = x ≡ token
 ReadsAs (Some token) (Err error) = error ≡ memory_error
 ReadsAs None (Ok x) = ⊥
-ReadsAs None (Err error) = (error ≡ malformed) ⊎ (error ≡ memory_error)
+ReadsAs None (Err error) = error ≡ malformed
 
 -- the spelling, for which memory may be wanting; where there is none, `too_long`
 abbrev pub WritesAs : Option (List ℕ) → Result (Vec ℕ) Error → Type 0

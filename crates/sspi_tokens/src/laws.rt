@@ -3,7 +3,7 @@
 ghost use Rattle.std.specs.Prelude.{◌≡◌, ◌↔◌, ℕ, List, ◌++◌, Some};
 ghost use Rattle.sspi_tokens.specs.Grammar.{IsInit, IsTarg};
 ghost use Rattle.sspi_tokens.specs.Nested.{Begins};
-ghost use Rattle.sspi_tokens.specs.Oids.{ms_krb5, krb5, ntlm_ssp, kind_of};
+ghost use Rattle.sspi_tokens.specs.Oids.{ms_krb5, krb5, ntlm_ssp, kind_of, identifier_of};
 ghost use Rattle.sspi_tokens.specs.Reading.{init_of, targ_of};
 ghost use Rattle.sspi_tokens.specs.Spelling.{spelled_init, spelled_targ, spelled_list};
 ghost use Rattle.sspi_tokens.specs.declared.neg_token_init.NegTokenInit.{NegTokenInit};
@@ -36,9 +36,10 @@ pub fn list_is_known_by_spelling()
     ensures { (list other : List (List ℕ)) (text : List ℕ) → spelled_list list ≡ Some text → spelled_list other ≡ Some text → list ≡ other }
 {}
 
-/// Each known mechanism has one identifier.
+/// Each known mechanism has one identifier, by which it is known.
 pub fn kinds_are_identifiers()
     ensures ms_kerberos { (oid : List ℕ) → (kind_of oid ≡ MechKind.MsKerberos) ↔ (oid ≡ ms_krb5) }
     ensures kerberos { (oid : List ℕ) → (kind_of oid ≡ MechKind.Kerberos) ↔ (oid ≡ krb5) }
     ensures ntlm { (oid : List ℕ) → (kind_of oid ≡ MechKind.Ntlm) ↔ (oid ≡ ntlm_ssp) }
+    ensures known { (kind : MechKind) (oid : List ℕ) → identifier_of kind ≡ Some oid → kind_of oid ≡ kind }
 {}

@@ -4,17 +4,19 @@
 //! mechanism and `MechTypeList` lists them in the order of preference. `encode_mech_types` spells a list alone, which is the
 //! text that the MICs of a negotiation are made over.
 //!
-//! `decode` refuses exactly where the bytes begin with no token, and `encode` exactly where a length passes the limit. The
-//! grammar is `specs/Grammar.antt`, the spelling `specs/Spelling.antt`. `laws.rt` has what follows: a token that was written
-//! reads back, whatever follows it, and a list is known by its spelling.
+//! `decode` refuses exactly where the bytes begin with no token, and `encode` exactly where a length passes the limit; neither
+//! takes memory before it refuses. The grammar is `specs/Grammar.antt`, the spelling `specs/Spelling.antt`. `laws.rt` has what
+//! follows: a token that was written reads back, whatever follows it, and a list is known by its spelling.
 #![tactic(auto)]
 
+mod copying;
 pub mod laws;
 pub mod mech_type_list;
 pub mod neg_result;
 pub mod neg_token_init;
 pub mod neg_token_targ;
 pub mod oid;
+mod parts;
 mod reading;
 mod refusal;
 mod sizes;

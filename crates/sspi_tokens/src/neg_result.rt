@@ -5,7 +5,9 @@ ghost use Rattle.sspi_tokens.specs.Spelling.{result_code};
 /// What a token says of the negotiation (negState, RFC 4178, section 4.2.2).
 #[derive(Clone, Copy, Debug, PartialEq, Eq)]
 pub enum NegResult {
+    /// The sender is content, and expects no further token: content 0.
     AcceptComplete,
+    /// A further token is needed: content 1.
     AcceptIncomplete,
     /// Any other content of the ENUMERATED; it is written as `reject` (2).
     Other,

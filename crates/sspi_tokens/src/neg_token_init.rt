@@ -5,9 +5,10 @@ ghost use Rattle.sspi_tokens.specs.Reading.{init_of};
 ghost use Rattle.sspi_tokens.specs.Spelling.{init_content, spelled_init};
 ghost use Rattle.sspi_tokens.specs.Writing.{IsInitLengths};
 
+use crate::copying::copy_init;
 use crate::mech_type_list::MechTypeList;
 use crate::reading::read_init;
-use crate::refusal::{refusal, too_long};
+use crate::refusal::{malformed, too_long};
 use crate::sizes::{InitLengths, element_len, init_lengths};
 use crate::writing::put_init;
 use sspi_ber::{SliceSource, VecSink};
@@ -18,7 +19,9 @@ use std::alloc::{AllocError, Global};
 /// the one that it likes best.
 #[derive(Drop, PartialEq, Eq)]
 pub struct NegTokenInit {
+    /// The mechanisms that are offered (`mechTypes`), in the order of the client's preference.
     pub mech_types: Option<MechTypeList>,
+    /// The first token of the mechanism that comes first (`mechToken`), as its octets.
     pub mech_token: Option<Bytes>,
 }
 
@@ -30,14 +33,15 @@ impl NegTokenInit {
     /// Mechanisms that are not known stay in the list.
     ///
     /// `InvalidToken` with the reason `TokenForm` exactly where the bytes begin with no such token: where one is cut off or
-    /// another tag stands in its place, and where its mechanism is another than SPNEGO.
-    #[tactic(auto, using(crate::proofs::Decode::read_as))]
+    /// another tag stands in its place, and where its mechanism is another than SPNEGO. Memory is taken only once the whole
+    /// token was found there, so want of memory never comes in place of that refusal.
+    #[tactic(auto, using(crate::proofs::Decode::read_refused, crate::proofs::Decode::read_unkept, crate::proofs::Decode::read_kept))]
     pub fn decode(alloc: Global, bytes: &[u8]) -> Result<NegTokenInit, Error>
         ensures { ReadsAs (init_of bytes.now) result }
     {
-        match read_init(alloc, &mut SliceSource::new(bytes)) {
-            Ok(token) => Ok(token),
-            Err(kind) => Err(refusal(kind)),
+        match read_init(&mut SliceSource::new(bytes)) {
+            Ok(parts) => Ok(copy_init(alloc, &parts)?),
+            Err(_) => Err(malformed()),
         }
     }
 

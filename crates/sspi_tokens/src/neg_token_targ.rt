@@ -5,11 +5,12 @@ ghost use Rattle.sspi_ber.specs.Short.{element};
 ghost use Rattle.sspi_tokens.specs.Reading.{targ_of};
 ghost use Rattle.sspi_tokens.specs.Spelling.{targ_fields, targ_content, spelled_targ};
 
+use crate::copying::copy_targ;
 use crate::neg_result::NegResult;
 use crate::neg_token_init::clone_bytes;
 use crate::oid::Oid;
 use crate::reading::read_targ;
-use crate::refusal::{refusal, too_long};
+use crate::refusal::{malformed, too_long};
 use crate::sizes::{element_len, targ_fields_len};
 use crate::writing::put_targ;
 use sspi_ber::{SliceSource, VecSink};
@@ -19,9 +20,13 @@ use std::alloc::{AllocError, Global};
 /// Every later token, of either side (NegTokenResp, RFC 4178, section 4.2.2).
 #[derive(Drop, PartialEq, Eq)]
 pub struct NegTokenTarg {
+    /// What the sender says of the negotiation (`negState`).
     pub neg_result: Option<NegResult>,
+    /// The mechanism that a server picked (`supportedMech`).
     pub supported_mech: Option<Oid>,
+    /// The next token of the mechanism (`responseToken`), as its octets.
     pub response_token: Option<Bytes>,
+    /// The MIC over the client's list, as `encode_mech_types` spells it (`mechListMIC`), as its octets.
     pub mech_list_mic: Option<Bytes>,
 }
 
@@ -30,14 +35,15 @@ impl NegTokenTarg {
     ///
     /// A field that is absent, or whose place another field has, is `None`, and whatever is left over in an element is ignored.
     ///
-    /// `InvalidToken` with the reason `TokenForm` exactly where the bytes begin with no such token.
-    #[tactic(auto, using(crate::proofs::Decode::read_as))]
+    /// `InvalidToken` with the reason `TokenForm` exactly where the bytes begin with no such token. Memory is taken only once the
+    /// whole token was found there, so want of memory never comes in place of that refusal.
+    #[tactic(auto, using(crate::proofs::Decode::read_refused, crate::proofs::Decode::read_unkept, crate::proofs::Decode::read_kept))]
     pub fn decode(alloc: Global, bytes: &[u8]) -> Result<NegTokenTarg, Error>
         ensures { ReadsAs (targ_of bytes.now) result }
     {
-        match read_targ(alloc, &mut SliceSource::new(bytes)) {
-            Ok(token) => Ok(token),
-            Err(kind) => Err(refusal(kind)),
+        match read_targ(&mut SliceSource::new(bytes)) {
+            Ok(parts) => Ok(copy_targ(alloc, &parts)?),
+            Err(_) => Err(malformed()),
         }
     }
 

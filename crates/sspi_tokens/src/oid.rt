@@ -1,5 +1,5 @@
 ghost use Rattle.std.specs.Prelude.{◌≡◌, IfOk};
-ghost use Rattle.sspi_tokens.specs.Oids.{spnego, ms_krb5, krb5, ntlm_ssp, kind_of};
+ghost use Rattle.sspi_tokens.specs.Oids.{spnego, ms_krb5, krb5, ntlm_ssp, kind_of, identifier_of};
 
 use sspi_types::Bytes;
 use std::alloc::{AllocError, Global};
@@ -47,7 +47,8 @@ impl Eq for Oid {
     ghost laws = { nat_list_eq_equiv };
 }
 
-/// The mechanisms that a negotiation here knows, by their identifiers.
+/// The mechanisms that a negotiation here knows, by their identifiers. It is `Copy`, and stands for an `Oid` where memory is not
+/// to be taken.
 #[derive(Clone, Copy, Debug, PartialEq, Eq)]
 pub enum MechKind {
     /// Kerberos under the identifier with the bit error of Windows 2000 (MS-SPNG 1.9).
@@ -58,6 +59,20 @@ pub enum MechKind {
     Ntlm,
     /// Any other, SPNEGO itself among them.
     Other,
+}
+
+impl MechKind {
+    /// The identifier that names this mechanism, as a token says it (`supported_mech`); `None` for `Other`.
+    pub fn identifier(self, alloc: Global) -> Result<Option<Oid>, AllocError>
+        ensures { IfOk result (λ oid. oid ≡ identifier_of self) }
+    {
+        match self {
+            MechKind::MsKerberos => Ok(Some(Oid::ms_krb5(alloc)?)),
+            MechKind::Kerberos => Ok(Some(Oid::krb5(alloc)?)),
+            MechKind::Ntlm => Ok(Some(Oid::ntlm_ssp(alloc)?)),
+            MechKind::Other => Ok(None),
+        }
+    }
 }
 
 impl Oid {
@@ -105,7 +120,7 @@ impl Oid {
         Oid::from_content(alloc, &NTLM_SSP)
     }
 
-    /// Which mechanism this identifier names.
+    /// Which mechanism this identifier names. Takes no memory.
     #[tactic(auto, unfolding(crate::specs::Oids::kind_of))]
     pub fn kind(&self) -> MechKind
         ensures { result ≡ kind_of self.now }

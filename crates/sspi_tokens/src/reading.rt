@@ -1,23 +1,22 @@
+//! Tokens read where they stand, without memory. So every refusal is reached before memory is taken.
+
 ghost use Rattle.std.specs.Prelude.{◌≡◌};
-ghost use Rattle.std.specs.Option.{option_copied};
-ghost use Rattle.sspi_ber.specs.Outside.{Gives};
+ghost use Rattle.std.specs.Option.{option_copied, option_map};
+ghost use Rattle.sspi_ber.specs.Outside.{Gives, NeedsNoMemory};
 ghost use Rattle.sspi_ber.specs.Pieces.{element_at};
+ghost use Rattle.sspi_tokens.specs.Parts.{oids_in, init_seen, targ_seen};
 ghost use Rattle.sspi_tokens.specs.Reading.{is_next, around_at, optional_at, oids_at, mech_types_at, octets_at, result_at, init_fields_at, init_content_at, init_at, targ_fields_at, targ_at};
 
-use crate::mech_type_list::MechTypeList;
 use crate::neg_result::NegResult;
-use crate::neg_token_init::NegTokenInit;
-use crate::neg_token_targ::NegTokenTarg;
-use crate::oid::{Oid, SPNEGO};
+use crate::oid::SPNEGO;
+use crate::parts::{InitParts, TargParts};
 use crate::tags::{
     ENUMERATED, FIELD_0, FIELD_1, FIELD_2, FIELD_3, INITIAL_TOKEN, OBJECT_IDENTIFIER, OCTET_STRING,
     SEQUENCE,
 };
 use sspi_ber::{SliceSource, WireKind, read_element};
-use sspi_types::Bytes;
-use std::alloc::Global;
 
-fn is_next(source: &SliceSource<'_>, tag: u8) -> bool
+pub(crate) fn is_next(source: &SliceSource<'_>, tag: u8) -> bool
     ensures { result ≡ is_next tag source.now }
 {
     match source.rest().first() {
@@ -28,7 +27,8 @@ fn is_next(source: &SliceSource<'_>, tag: u8) -> bool
 
 /// The content of the element that is next, to be read in turn.
 fn enter<'a>(source: &mut SliceSource<'a>, tag: u8) -> Result<SliceSource<'a>, WireKind>
-    ensures { Gives (λ inside. inside) source.new result (element_at tag source.old) }
+    ensures read { Gives (λ inside. inside) source.new result (element_at tag source.old) }
+    ensures memory { NeedsNoMemory result }
 {
     let content = read_element(source, tag)?;
     Ok(SliceSource::new(content))
@@ -41,7 +41,8 @@ fn read_field<'a>(
     tag: u8,
     inner: u8,
 ) -> Result<Option<&'a [u8]>, WireKind>
-    ensures { Gives (λ content. option_copied content) source.new result (optional_at tag (around_at tag (element_at inner)) source.old) }
+    ensures read { Gives (λ content. option_copied content) source.new result (optional_at tag (around_at tag (element_at inner)) source.old) }
+    ensures memory { NeedsNoMemory result }
 {
     if !is_next(source, tag) {
         return Ok(None);
@@ -54,7 +55,8 @@ fn read_field<'a>(
 /// Passes over an optional field by its length.
 #[tactic(auto, unfolding(crate::specs::Reading::optional_at))]
 fn skip_field<'a>(source: &mut SliceSource<'a>, tag: u8) -> Result<Option<&'a [u8]>, WireKind>
-    ensures { Gives (λ content. option_copied content) source.new result (optional_at tag (element_at tag) source.old) }
+    ensures read { Gives (λ content. option_copied content) source.new result (optional_at tag (element_at tag) source.old) }
+    ensures memory { NeedsNoMemory result }
 {
     if !is_next(source, tag) {
         return Ok(None);
@@ -63,72 +65,68 @@ fn skip_field<'a>(source: &mut SliceSource<'a>, tag: u8) -> Result<Option<&'a [u
     Ok(Some(content))
 }
 
-fn read_octets(
-    alloc: Global,
-    source: &mut SliceSource<'_>,
-    tag: u8,
-) -> Result<Option<Bytes>, WireKind>
-    ensures { Gives (λ octets. octets) source.new result (octets_at tag source.old) }
+fn read_octets<'a>(source: &mut SliceSource<'a>, tag: u8) -> Result<Option<&'a [u8]>, WireKind>
+    ensures read { Gives (λ octets. option_copied octets) source.new result (octets_at tag source.old) }
+    ensures memory { NeedsNoMemory result }
 {
-    match read_field(source, tag, OCTET_STRING)? {
-        None => Ok(None),
-        Some(content) => Ok(Some(Bytes::from_slice(alloc, content)?)),
-    }
+    read_field(source, tag, OCTET_STRING)
 }
 
-/// Object identifiers up to the first other tag.
-fn read_oids(alloc: Global, source: &mut SliceSource<'_>) -> Result<Vec<Oid>, WireKind>
-    ensures { Gives (λ oids. oids.items) source.new result (oids_at source.old) }
+/// Passes over object identifiers up to the first other tag.
+fn pass_oids(source: &mut SliceSource<'_>) -> Result<(), WireKind>
+    ensures read { Gives (λ _. oids_in source.old) source.new result (oids_at source.old) }
+    ensures memory { NeedsNoMemory result }
 {
-    let mut oids = Vec::new(alloc);
     'oids: while is_next(source, OBJECT_IDENTIFIER) {
-        let content = read_element(source, OBJECT_IDENTIFIER)?;
-        oids.push(Oid::from_content(alloc, content)?)?;
+        read_element(source, OBJECT_IDENTIFIER)?;
     }
-    Ok(oids)
+    Ok(())
 }
 
+/// The content of a list, which begins with object identifiers.
 #[tactic(auto, unfolding(crate::specs::Reading::around_at))]
-fn read_mech_types(alloc: Global, source: &mut SliceSource<'_>) -> Result<MechTypeList, WireKind>
-    ensures { Gives (λ list. list) source.new result (mech_types_at source.old) }
+fn read_mech_types<'a>(source: &mut SliceSource<'a>) -> Result<&'a [u8], WireKind>
+    ensures read { Gives (λ list. oids_in list.now) source.new result (mech_types_at source.old) }
+    ensures memory { NeedsNoMemory result }
 {
-    let mut inside = enter(source, SEQUENCE)?;
-    let oids = read_oids(alloc, &mut inside)?;
-    Ok(MechTypeList::from_vec(oids))
+    let content = read_element(source, SEQUENCE)?;
+    pass_oids(&mut SliceSource::new(content))?;
+    Ok(content)
 }
 
 #[tactic(auto, unfolding(crate::specs::Reading::optional_at, crate::specs::Reading::around_at))]
-fn read_mech_types_field(
-    alloc: Global,
-    source: &mut SliceSource<'_>,
-) -> Result<Option<MechTypeList>, WireKind>
-    ensures { Gives (λ list. list) source.new result (optional_at 0xA0 (around_at 0xA0 mech_types_at) source.old) }
+fn read_mech_types_field<'a>(source: &mut SliceSource<'a>) -> Result<Option<&'a [u8]>, WireKind>
+    ensures read { Gives (λ list. option_map oids_in (option_copied list)) source.new result
+        (optional_at 0xA0 (around_at 0xA0 mech_types_at) source.old) }
+    ensures memory { NeedsNoMemory result }
 {
     if !is_next(source, FIELD_0) {
         return Ok(None);
     }
     let mut inside = enter(source, FIELD_0)?;
-    let list = read_mech_types(alloc, &mut inside)?;
+    let list = read_mech_types(&mut inside)?;
     Ok(Some(list))
 }
 
 #[tactic(auto, unfolding(crate::specs::Reading::init_fields_at))]
-fn read_init_fields(alloc: Global, source: &mut SliceSource<'_>) -> Result<NegTokenInit, WireKind>
-    ensures { Gives (λ token. token) source.new result (init_fields_at source.old) }
+fn read_init_fields<'a>(source: &mut SliceSource<'a>) -> Result<InitParts<'a>, WireKind>
+    ensures read { Gives (λ parts. init_seen parts) source.new result (init_fields_at source.old) }
+    ensures memory { NeedsNoMemory result }
 {
-    let mech_types = read_mech_types_field(alloc, source)?;
+    let mech_types = read_mech_types_field(source)?;
     skip_field(source, FIELD_1)?;
-    let mech_token = read_octets(alloc, source, FIELD_2)?;
+    let mech_token = read_octets(source, FIELD_2)?;
     skip_field(source, FIELD_3)?;
-    Ok(NegTokenInit {
+    Ok(InitParts {
         mech_types,
         mech_token,
     })
 }
 
 #[tactic(auto, unfolding(crate::specs::Reading::init_content_at, crate::specs::Reading::around_at))]
-fn read_init_content(alloc: Global, source: &mut SliceSource<'_>) -> Result<NegTokenInit, WireKind>
-    ensures { Gives (λ token. token) source.new result (init_content_at source.old) }
+fn read_init_content<'a>(source: &mut SliceSource<'a>) -> Result<InitParts<'a>, WireKind>
+    ensures read { Gives (λ parts. init_seen parts) source.new result (init_content_at source.old) }
+    ensures memory { NeedsNoMemory result }
 {
     let mech = read_element(source, OBJECT_IDENTIFIER)?;
     if mech != SPNEGO.as_slice() {
@@ -136,24 +134,23 @@ fn read_init_content(alloc: Global, source: &mut SliceSource<'_>) -> Result<NegT
     }
     let mut body = enter(source, FIELD_0)?;
     let mut fields = enter(&mut body, SEQUENCE)?;
-    read_init_fields(alloc, &mut fields)
+    read_init_fields(&mut fields)
 }
 
 /// The `NegTokenInit` that the bytes begin with.
 #[tactic(auto, unfolding(crate::specs::Reading::init_at, crate::specs::Reading::around_at))]
-pub(crate) fn read_init(
-    alloc: Global,
-    source: &mut SliceSource<'_>,
-) -> Result<NegTokenInit, WireKind>
-    ensures { Gives (λ token. token) source.new result (init_at source.old) }
+pub(crate) fn read_init<'a>(source: &mut SliceSource<'a>) -> Result<InitParts<'a>, WireKind>
+    ensures read { Gives (λ parts. init_seen parts) source.new result (init_at source.old) }
+    ensures memory { NeedsNoMemory result }
 {
     let mut inside = enter(source, INITIAL_TOKEN)?;
-    read_init_content(alloc, &mut inside)
+    read_init_content(&mut inside)
 }
 
 #[tactic(auto, unfolding(crate::specs::Reading::optional_at, crate::specs::Reading::around_at, crate::specs::Reading::result_at))]
 fn read_result(source: &mut SliceSource<'_>) -> Result<Option<NegResult>, WireKind>
-    ensures { Gives (λ result. result) source.new result (optional_at 0xA0 (around_at 0xA0 result_at) source.old) }
+    ensures read { Gives (λ result. result) source.new result (optional_at 0xA0 (around_at 0xA0 result_at) source.old) }
+    ensures memory { NeedsNoMemory result }
 {
     match read_field(source, FIELD_0, ENUMERATED)? {
         None => Ok(None),
@@ -161,24 +158,16 @@ fn read_result(source: &mut SliceSource<'_>) -> Result<Option<NegResult>, WireKi
     }
 }
 
-fn read_oid(alloc: Global, source: &mut SliceSource<'_>) -> Result<Option<Oid>, WireKind>
-    ensures { Gives (λ oid. oid) source.new result (optional_at 0xA1 (around_at 0xA1 (element_at 0x06)) source.old) }
-{
-    match read_field(source, FIELD_1, OBJECT_IDENTIFIER)? {
-        None => Ok(None),
-        Some(content) => Ok(Some(Oid::from_content(alloc, content)?)),
-    }
-}
-
 #[tactic(auto, unfolding(crate::specs::Reading::targ_fields_at))]
-fn read_targ_fields(alloc: Global, source: &mut SliceSource<'_>) -> Result<NegTokenTarg, WireKind>
-    ensures { Gives (λ token. token) source.new result (targ_fields_at source.old) }
+fn read_targ_fields<'a>(source: &mut SliceSource<'a>) -> Result<TargParts<'a>, WireKind>
+    ensures read { Gives (λ parts. targ_seen parts) source.new result (targ_fields_at source.old) }
+    ensures memory { NeedsNoMemory result }
 {
     let neg_result = read_result(source)?;
-    let supported_mech = read_oid(alloc, source)?;
-    let response_token = read_octets(alloc, source, FIELD_2)?;
-    let mech_list_mic = read_octets(alloc, source, FIELD_3)?;
-    Ok(NegTokenTarg {
+    let supported_mech = read_field(source, FIELD_1, OBJECT_IDENTIFIER)?;
+    let response_token = read_octets(source, FIELD_2)?;
+    let mech_list_mic = read_octets(source, FIELD_3)?;
+    Ok(TargParts {
         neg_result,
         supported_mech,
         response_token,
@@ -188,13 +177,11 @@ fn read_targ_fields(alloc: Global, source: &mut SliceSource<'_>) -> Result<NegTo
 
 /// The `NegTokenTarg` that the bytes begin with.
 #[tactic(auto, unfolding(crate::specs::Reading::targ_at, crate::specs::Reading::around_at))]
-pub(crate) fn read_targ(
-    alloc: Global,
-    source: &mut SliceSource<'_>,
-) -> Result<NegTokenTarg, WireKind>
-    ensures { Gives (λ token. token) source.new result (targ_at source.old) }
+pub(crate) fn read_targ<'a>(source: &mut SliceSource<'a>) -> Result<TargParts<'a>, WireKind>
+    ensures read { Gives (λ parts. targ_seen parts) source.new result (targ_at source.old) }
+    ensures memory { NeedsNoMemory result }
 {
     let mut inside = enter(source, FIELD_1)?;
     let mut fields = enter(&mut inside, SEQUENCE)?;
-    read_targ_fields(alloc, &mut fields)
+    read_targ_fields(&mut fields)
 }

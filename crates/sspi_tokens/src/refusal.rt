@@ -1,20 +1,13 @@
 ghost use Rattle.std.specs.Prelude.{◌≡◌};
-ghost use Rattle.sspi_tokens.specs.Answers.{refusal_of, too_long};
+ghost use Rattle.sspi_tokens.specs.Answers.{malformed, too_long};
 
-use sspi_ber::WireKind;
 use sspi_types::{Error, ErrorKind, Reason};
 
-/// What `decode` answers where the bytes could not be read.
-pub(crate) fn refusal(kind: WireKind) -> Error
-    ensures { result ≡ refusal_of kind }
+/// What `decode` answers where the bytes begin with no token.
+pub(crate) fn malformed() -> Error
+    ensures { result ≡ malformed }
 {
-    match kind {
-        WireKind::InsufficientMemory => Error::new(ErrorKind::InsufficientMemory, Reason::Memory),
-        WireKind::UnexpectedEof
-        | WireKind::InvalidData
-        | WireKind::ReadFault
-        | WireKind::WriteFault => Error::new(ErrorKind::InvalidToken, Reason::TokenForm),
-    }
+    Error::new(ErrorKind::InvalidToken, Reason::TokenForm)
 }
 
 /// What `encode` answers where a length passes the limit.

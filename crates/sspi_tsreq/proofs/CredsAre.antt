@@ -122,7 +122,7 @@ decoded bytes = by_tests bytes (units_le bytes) (eqb (length bytes % 2) 0) (has_
 abbrev buffers_with : List ℕ → List ℕ → List ℕ → AuthIdentityBuffers
 buffers_with domain user password = record { user = user; domain = domain; password = record { value = password } }
 
-texts_answer : (texts : Passwords) (buffers : AuthIdentityBuffers) → AreTextsOf texts buffers → texts_of texts ≡ Ok (buffered.AuthIdentity buffers)
+pub texts_answer : (texts : Passwords) (buffers : AuthIdentityBuffers) → AreTextsOf texts buffers → texts_of texts ≡ Ok (buffered.AuthIdentity buffers)
 unfolding texts_of
 texts_answer texts buffers t = rw (t.domain_text, t.user_text, t.password_text) refl
 
@@ -140,7 +140,7 @@ password_refused : (texts : Passwords) (domain user : List ℕ) (error : Utf16Er
 unfolding texts_of
 password_refused texts domain user error d u e f = rw (d, u, e, f) refl
 
-texts_cases : (texts : Passwords) → ((buffers : AuthIdentityBuffers) × AreTextsOf texts buffers) ⊎ (HasBadText texts × (texts_of texts ≡ Err bad_text))
+pub texts_cases : (texts : Passwords) → ((buffers : AuthIdentityBuffers) × AreTextsOf texts buffers) ⊎ (HasBadText texts × (texts_of texts ≡ Err bad_text))
 texts_cases texts =
     elim (decoded texts.domain) [
       | inr (error, e, f) ↦ inr (inl (ap is_err e), domain_refused texts error e f)
@@ -217,7 +217,7 @@ bad_text_refused text (credentials, texts, t, p, h) = password_answer text crede
 
 -- ---- each text has one of these forms
 
-data Form (text : List ℕ) : Type 0 where
+pub data Form (text : List ℕ) : Type 0 where
   malformed_form : (IsNoCreds text ⊎ LacksPasswords text) → Form text
   unknown_form : IsUnknown text → Form text
   smart_card_form : IsSmartCard text → Form text
@@ -246,7 +246,7 @@ with_type text cred_type credentials t =
       | inr (inr other) ↦ unknown_form (cred_type, credentials, t, other)
     ]
 
-form_of : (text : List ℕ) → Form text
+pub form_of : (text : List ℕ) → Form text
 form_of text =
     elim (found text) [
       | inl (cred_type, credentials, t) ↦ with_type text cred_type credentials t

@@ -1,32 +1,56 @@
 -- What the reader gives is the answer that the grammar and the first fault ask for.
-use Rattle.std.proofs.Common.{◌≡◌, ℕ, List, Result, Ok, Err, sym, ap, ◌∙◌, drop}
+use Rattle.std.proofs.Common.{◌≡◌, ℕ, List, Result, Ok, Err, sym, ap, subst, ◌∙◌, drop}
+use Rattle.std.specs.Result.{IfOk, IfErr}
 use Rattle.sspi_ber.specs.declared.wire_kind.WireKind.{WireKind}
 use Rattle.sspi_ber.specs.declared.wire_kind.WireKind.TheVariants.{UnexpectedEof, InvalidData, ReadFault, WriteFault, InsufficientMemory}
 use Rattle.sspi_ber.specs.Fault.{Fault, Ended, Invalid, Read, fault_of}
-use Rattle.sspi_ber.specs.Outside.{Gives}
+use Rattle.sspi_ber.specs.Outside.{Gives, NeedsNoMemory}
 use Rattle.sspi_ber.proofs.Match.{both_are}
 use Rattle.sspi_tsreq.specs.declared.request.TsRequest.{TsRequest}
 use Rattle.sspi_tsreq.specs.Answer.{fault, IsAnswer, IsUnlessMemory}
+use Rattle.sspi_tsreq.specs.Parts.{HasOctets}
 use Rattle.sspi_tsreq.specs.Grammar.{IsRequest}
 use Rattle.sspi_tsreq.specs.Reading.{request_at}
 use Rattle.sspi_tsreq.proofs.RequestMatch.{request_takes, request_again}
 
-pub is_answer : (bytes after : List ℕ) (result : Result TsRequest WireKind) → Gives (λ (r : TsRequest). r) after result (request_at bytes) → IsAnswer bytes result
-is_answer bytes after (Ok r) h = let t = request_takes bytes r after h in ((t.0, t.1), ap (λ (x : Read TsRequest). fault_of x) h)
-is_answer bytes after (Err UnexpectedEof) h = ap (λ (x : Read TsRequest). fault_of x) h
-is_answer bytes after (Err InvalidData) h = ap (λ (x : Read TsRequest). fault_of x) h
-is_answer bytes after (Err ReadFault) h = h
-is_answer bytes after (Err WriteFault) h = h
-is_answer bytes after (Err InsufficientMemory) h = tt
+-- nothing was read, and no memory was wanted for that
+pub refused_answer : {X : Type 0} (view : X → TsRequest) (bytes after : List ℕ) (kind : WireKind) → Gives view after (Err kind) (request_at bytes) → NeedsNoMemory {X = X} (Err kind) → IsAnswer bytes (Err kind)
+refused_answer view bytes after UnexpectedEof h m = ap (λ (x : Read TsRequest). fault_of x) h
+refused_answer view bytes after InvalidData h m = ap (λ (x : Read TsRequest). fault_of x) h
+refused_answer view bytes after ReadFault h m = h
+refused_answer view bytes after WriteFault h m = h
+refused_answer view bytes after InsufficientMemory h m = absurd m
+
+-- what was read was copied
+pub kept_answer : (bytes after : List ℕ) (r s : TsRequest) → request_at bytes ≡ Ok (s, after) → r ≡ s → IsAnswer bytes (Ok r)
+kept_answer bytes after r s h same =
+    let e : request_at bytes ≡ Ok (r, after) = h ∙ ap (λ (x : TsRequest). Ok (x, after)) (sym same) in
+    let t = request_takes bytes r after e in
+    ((t.0, t.1), ap (λ (x : Read TsRequest). fault_of x) e)
+
+-- memory was wanting for what was read
+pub unkept_answer : (bytes after : List ℕ) (s : TsRequest) → request_at bytes ≡ Ok (s, after) → HasOctets s → IsAnswer bytes (Err InsufficientMemory)
+unkept_answer bytes after s h octets = let t = request_takes bytes s after h in (s, t.0, t.1, octets)
 
 not_fault : (bytes : List ℕ) (r : TsRequest) (rest : List ℕ) (fault : Fault) → request_at bytes ≡ Ok (r, rest) → request_at bytes ≡ Err fault → ⊥
 not_fault bytes r rest fault e f = cc
 
-pub is_only : (bytes after : List ℕ) (result : Result TsRequest WireKind) → Gives (λ (r : TsRequest). r) after result (request_at bytes)
+pub refused_only : {X : Type 0} (view : X → TsRequest) (bytes after : List ℕ) (kind : WireKind) → Gives view after (Err kind) (request_at bytes) → NeedsNoMemory {X = X} (Err kind)
+    → (r : TsRequest) (count : ℕ) → IsRequest bytes r count → IsUnlessMemory {X = TsRequest} (Err kind) r
+refused_only view bytes after UnexpectedEof h m r count t = not_fault bytes r (drop count bytes) Ended (request_again bytes r count t) h
+refused_only view bytes after InvalidData h m r count t = not_fault bytes r (drop count bytes) Invalid (request_again bytes r count t) h
+refused_only view bytes after ReadFault h m r count t = h
+refused_only view bytes after WriteFault h m r count t = h
+refused_only view bytes after InsufficientMemory h m r count t = tt
+
+abbrev Copied : TsRequest → Result TsRequest WireKind → Type 0
+Copied s result = IfOk result (λ r. r ≡ s) × IfErr result (λ kind. (kind ≡ InsufficientMemory) × HasOctets s)
+
+pub copied_answer : (bytes after : List ℕ) (s : TsRequest) (result : Result TsRequest WireKind) → request_at bytes ≡ Ok (s, after) → Copied s result → IsAnswer bytes result
+copied_answer bytes after s (Ok r) h (same, none) = kept_answer bytes after r s h same
+copied_answer bytes after s (Err kind) h (none, (is, octets)) = subst (λ (k : WireKind). IsAnswer bytes (Err k)) (sym is) (unkept_answer bytes after s h octets)
+
+pub copied_only : (bytes after : List ℕ) (s : TsRequest) (result : Result TsRequest WireKind) → request_at bytes ≡ Ok (s, after) → Copied s result
     → (r : TsRequest) (count : ℕ) → IsRequest bytes r count → IsUnlessMemory result r
-is_only bytes after (Ok x) h r count t = (both_are x r after (drop count bytes) (sym h ∙ request_again bytes r count t)).0
-is_only bytes after (Err UnexpectedEof) h r count t = not_fault bytes r (drop count bytes) Ended (request_again bytes r count t) h
-is_only bytes after (Err InvalidData) h r count t = not_fault bytes r (drop count bytes) Invalid (request_again bytes r count t) h
-is_only bytes after (Err ReadFault) h r count t = h
-is_only bytes after (Err WriteFault) h r count t = h
-is_only bytes after (Err InsufficientMemory) h r count t = tt
+copied_only bytes after s (Ok x) h (same, none) r count t = same ∙ (both_are s r after (drop count bytes) (sym h ∙ request_again bytes r count t)).0
+copied_only bytes after s (Err kind) h (none, (is, octets)) r count t = subst (λ (k : WireKind). IsUnlessMemory {X = TsRequest} (Err k) r) (sym is) tt

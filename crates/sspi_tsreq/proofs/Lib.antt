@@ -3,6 +3,7 @@ pub mod CredsBack
 pub mod CredsMatch
 pub mod CredsAre
 pub mod Refused
+pub mod Unwanted
 pub mod Room
 pub mod FieldsMatch
 pub mod BodyMatch

@@ -13,9 +13,15 @@ use Rattle.sspi_names.specs.Refusals.{bad_text, utf16_refusal}
 use Rattle.sspi_names.specs.Utf16.{decode_le}
 use Rattle.sspi_names.specs.declared.error.Utf16Error.{Utf16Error}
 use Rattle.sspi_names.specs.declared.error.Utf16Error.TheVariants as utf16
+use Rattle.sspi_ber.proofs.Match.{both_are}
+use Rattle.sspi_names.specs.declared.identity.AuthIdentityBuffers.{AuthIdentityBuffers}
 use Rattle.sspi_names.specs.declared.credentials.CredentialsBuffers.{CredentialsBuffers}
+use Rattle.sspi_names.specs.declared.credentials.CredentialsBuffers.TheVariants as buffered
 use Rattle.sspi_tsreq.specs.Creds.{Passwords, malformed, unknown_type, smart_card, spelled_or_malformed, ◌and_then◌, creds_of, creds_in, fields_at, passwords_at, password_type, texts_of, text_or_refused}
-use Rattle.sspi_tsreq.specs.CredsAnswers.{IsCredsRefusal, IsOrMemory, ReadsCreds, CredsCause, behind, refusal_by}
+use Rattle.sspi_tsreq.specs.CredsAnswers.{IsCredsRefusal, IsOrMemory, ReadsCreds, CredsCause, refusal_by}
+use Rattle.sspi_tsreq.specs.CredsGrammar.{IsCreds}
+use Rattle.sspi_tsreq.proofs.CredsAre.{password_stands, keytab_never}
+use Rattle.sspi_tsreq.proofs.CredsMatch.{whole_again}
 
 refused_at : {A : Type 0} (read : Read A) (fault : Fault) → read ≡ Err fault → spelled_or_malformed read ≡ Err malformed
 refused_at read fault e = ap spelled_or_malformed e
@@ -106,9 +112,21 @@ content_refused (Some text) mid after n size kind f g same h r c =
     (subst (λ k. Reads {X = List ℕ} (λ b. b) (Some t.0) after (Err kind) (bytes_at k)) same
     (subst (λ m. Reads {X = List ℕ} (λ b. b) m after (Err kind) (bytes_at size)) t.2 r)) c
 
+-- what stands behind the SEQUENCE
+behind_is : (text body rest cred_type credentials : List ℕ) → element_at 0x30 text ≡ Ok (body, rest) → (t : IsCreds text cred_type credentials) → t.behind ≡ rest
+behind_is text body rest cred_type credentials e t = (both_are t.content body t.behind rest (sym (whole_again text cred_type credentials t) ∙ e)).1
+
+buffers_stand : (text body rest : List ℕ) (after : Option (List ℕ)) (buffers : AuthIdentityBuffers) → element_at 0x30 text ≡ Ok (body, rest) → after ≡ Some rest → creds_of text ≡ Ok (buffered.AuthIdentity buffers)
+    → ReadsCreds (Some text) after (Ok (buffered.AuthIdentity buffers))
+buffers_stand text body rest after buffers e left is =
+    let t = password_stands text buffers is in
+    let creds = t.creds_is in
+    (rest, (t, behind_is text body rest (1 ∷ creds.0) t.credentials e creds.1), left)
+
 whole_answer : (text body rest : List ℕ) (after : Option (List ℕ)) (result : Result CredentialsBuffers Error) → element_at 0x30 text ≡ Ok (body, rest) → after ≡ Some rest
     → IsOrMemory (λ b. b) result (creds_in body) → ReadsCreds (Some text) after result
-whole_answer text body rest after (Ok b) e left h = (body_read text body rest e ∙ h, left ∙ ap behind (sym e))
+whole_answer text body rest after (Ok (buffered.AuthIdentity buffers)) e left h = buffers_stand text body rest after buffers e left (body_read text body rest e ∙ h)
+whole_answer text body rest after (Ok (buffered.Keytab identity)) e left h = keytab_never text identity (body_read text body rest e ∙ h)
 whole_answer text body rest after (Err error) e left (inl h) = inl (body_read text body rest e ∙ h)
 whole_answer text body rest after (Err error) e left (inr h) = inr (inl h)
 

@@ -5,6 +5,7 @@ use Rattle.sspi_ber.specs.declared.wire_kind.WireKind.TheVariants.{UnexpectedEof
 use Rattle.sspi_ber.specs.Fault.{Fault, Ended, Invalid, fault_of}
 use Rattle.sspi_tsreq.specs.declared.request.TsRequest.{TsRequest}
 use Rattle.sspi_tsreq.specs.Grammar.{IsRequest}
+use Rattle.sspi_tsreq.specs.Parts.{HasOctets}
 use Rattle.sspi_tsreq.specs.Reading.{request_at, body_at}
 
 -- the first fault of bytes that begin with no request
@@ -15,14 +16,14 @@ fault bytes = fault_of (request_at bytes)
 abbrev pub body_fault : List ℕ → Option Fault
 body_fault body = fault_of (body_at body)
 
--- the answer has its cause; want of memory is free
+-- The answer has its cause. Memory is wanted only for a request that the bytes do begin with, and only for its OCTET STRINGs.
 abbrev pub IsAnswer : List ℕ → Result TsRequest WireKind → Type 0
 IsAnswer bytes (Ok r) = ((count : ℕ) × IsRequest bytes r count) × (fault bytes ≡ None)
 IsAnswer bytes (Err UnexpectedEof) = fault bytes ≡ Some Ended
 IsAnswer bytes (Err InvalidData) = fault bytes ≡ Some Invalid
 IsAnswer bytes (Err ReadFault) = ⊥
 IsAnswer bytes (Err WriteFault) = ⊥
-IsAnswer bytes (Err InsufficientMemory) = Unit {0}
+IsAnswer bytes (Err InsufficientMemory) = (r : TsRequest) × (count : ℕ) × IsRequest bytes r count × HasOctets r
 
 -- this value, or want of memory
 abbrev pub IsUnlessMemory : {X : Type 0} → Result X WireKind → X → Type 0

@@ -3,15 +3,15 @@ use Rattle.std.specs.Prelude.{◌≡◌, ◌⊎◌, ◌≤◌, ℕ, List, Option
 use Rattle.sspi_types.specs.Memory.{memory_error}
 use Rattle.sspi_types.specs.declared.error.Error.{Error}
 use Rattle.sspi_types.specs.declared.error_kind.ErrorKind.TheVariants.{InternalError}
-use Rattle.sspi_ber.specs.Fault.{Read}
 use Rattle.sspi_ber.specs.Kinds.{io_error, error_of}
 use Rattle.sspi_ber.specs.declared.wire_kind.WireKind.{WireKind}
 use Rattle.sspi_ber.specs.declared.wire_kind.WireKind.TheVariants.{UnexpectedEof, InvalidData, ReadFault, WriteFault, InsufficientMemory}
 use Rattle.sspi_ber.specs.Outside.{Rose}
-use Rattle.sspi_ber.specs.Pieces.{element_at}
 use Rattle.sspi_names.specs.Refusals.{bad_text}
 use Rattle.sspi_names.specs.declared.credentials.CredentialsBuffers.{CredentialsBuffers}
-use Rattle.sspi_tsreq.specs.Creds.{creds_of, malformed, smart_card, unknown_type}
+use Rattle.sspi_names.specs.declared.credentials.CredentialsBuffers.TheVariants as buffered
+use Rattle.sspi_tsreq.specs.Creds.{creds_of, keytab_refused, malformed, smart_card, unknown_type}
+use Rattle.sspi_tsreq.specs.CredsGrammar.{StandsBefore}
 
 -- exactly this answer, with the value seen by view
 abbrev pub Is : {X A : Type 0} → (X → A) → Result X Error → Result A Error → Type 0
@@ -23,16 +23,22 @@ abbrev pub IsOrMemory : {X A : Type 0} → (X → A) → Result X Error → Resu
 IsOrMemory view (Ok x) answer = answer ≡ Ok (view x)
 IsOrMemory view (Err error) answer = (answer ≡ Err error) ⊎ (error ≡ memory_error)
 
--- what follows an element, where there is one
-abbrev pub behind : {A : Type 0} → Read A → Option (List ℕ)
-behind (Ok x) = Some x.1
-behind (Err fault) = None
+-- no refusal that is reached before the texts are copied
+abbrev pub IsLate : Result CredentialsBuffers Error → Type 0
+IsLate (Ok buffers) = Unit {0}
+IsLate (Err error) = error ≡ bad_text
 
--- Of a source that tells its bytes: the buffers that they stand for, and then exactly what follows them is left; or the
+-- a keytab is refused before memory is taken
+abbrev pub RefusesKeytab : {X : Type 0} → CredentialsBuffers → Result X Error → Type 0
+RefusesKeytab (buffered.AuthIdentity buffers) result = Unit {0}
+RefusesKeytab (buffered.Keytab identity) result = result ≡ Err keytab_refused
+
+-- Of a source that tells its bytes: the buffers that they stand for, and then exactly what stands behind them is left; or the
 -- refusal that they have, want of memory, or a fault of the source.
 abbrev pub ReadsCreds : Option (List ℕ) → Option (List ℕ) → Result CredentialsBuffers Error → Type 0
 ReadsCreds None after result = Unit {0}
-ReadsCreds (Some text) after (Ok buffers) = (creds_of text ≡ Ok buffers) × (after ≡ behind (element_at 0x30 text))
+ReadsCreds (Some text) after (Ok (buffered.AuthIdentity buffers)) = (rest : List ℕ) × StandsBefore text buffers rest × (after ≡ Some rest)
+ReadsCreds (Some text) after (Ok (buffered.Keytab identity)) = ⊥
 ReadsCreds (Some text) after (Err error) = (creds_of text ≡ Err error) ⊎ ((error ≡ memory_error) ⊎ (error ≡ io_error))
 
 -- the count of faults never falls, and an internal error has it rise

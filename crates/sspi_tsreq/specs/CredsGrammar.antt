@@ -5,7 +5,7 @@
 --
 -- Bytes behind the last piece that an element needs are left, and not looked at.
 use Rattle.std.specs.Prelude.{◌≡◌, ◌≢◌, ◌⊎◌, ℕ, List, [], ◌∷◌, ◌++◌, Ok, IsErr}
-use Rattle.sspi_ber.specs.Forms.{IsElement}
+use Rattle.sspi_ber.specs.Forms.{IsElement, IsLength}
 use Rattle.sspi_names.specs.Utf16.{decode_le}
 use Rattle.sspi_names.specs.declared.identity.AuthIdentityBuffers.{AuthIdentityBuffers}
 use Rattle.sspi_tsreq.specs.Creds.{Passwords}
@@ -72,6 +72,10 @@ pub record AreTextsOf (texts : Passwords) (buffers : AuthIdentityBuffers) : Type
   pub user_text : decode_le texts.user ≡ Ok buffers.user
   pub password_text : decode_le texts.password ≡ Ok buffers.password.value
 
+-- TSCredentials of a password, and TSPasswordCreds in them
+abbrev pub HasPasswords : List ℕ → Type 0
+HasPasswords text = (credentials : List ℕ) × (texts : Passwords) × IsCredsOfType 1 text credentials × IsPasswordCreds credentials texts
+
 -- one of the texts is not UTF-16
 abbrev pub HasBadText : Passwords → Type 0
 HasBadText texts = IsErr (decode_le texts.domain) ⊎ (IsErr (decode_le texts.user) ⊎ IsErr (decode_le texts.password))
@@ -91,3 +95,11 @@ IsNoCreds text = (cred_type credentials : List ℕ) → ¬ IsCreds text cred_typ
 -- TSCredentials of a password, in which no TSPasswordCreds stand
 abbrev pub LacksPasswords : List ℕ → Type 0
 LacksPasswords text = (credentials : List ℕ) × IsCredsOfType 1 text credentials × ((texts : Passwords) → ¬ IsPasswordCreds credentials texts)
+
+-- The text begins with TSCredentials of a password that stand for these buffers, and behind their SEQUENCE stands the rest.
+abbrev pub StandsBefore : List ℕ → AuthIdentityBuffers → List ℕ → Type 0
+StandsBefore text buffers rest = (t : StandsFor text buffers) × (t.creds_is.1.behind ≡ rest)
+
+-- the text begins with the header of a SEQUENCE
+abbrev pub BeginsSequence : List ℕ → Type 0
+BeginsSequence text = (len following : List ℕ) × (n : ℕ) × IsLength len n × (text ≡ (0x30 ∷ len) ++ following)

@@ -5,6 +5,7 @@ pub mod CredsSizes
 pub mod Early
 pub mod Filled
 pub mod Value
+pub mod Parts
 pub mod Reading
 pub mod Grammar
 pub mod Answer

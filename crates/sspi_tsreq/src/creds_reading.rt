@@ -1,7 +1,9 @@
-ghost use Rattle.std.specs.Prelude.{◌≡◌, Ok, Err, IfErr};
+ghost use Rattle.std.specs.Prelude.{◌≡◌, Ok, Err, IfErr, IfSome};
 ghost use Rattle.sspi_ber.specs.Outside.{Gives, LeavesRest, NeedsNoMemory};
 ghost use Rattle.sspi_names.specs.Utf16.{decode_le};
-ghost use Rattle.sspi_tsreq.specs.CredsAnswers.{CredsCause, refusal_by, Is, IsCredsRefusal, IsOrMemory, ReadsCreds};
+ghost use Rattle.sspi_tsreq.specs.CredsAnswers.{CredsCause, refusal_by, Is, IsCredsRefusal, IsLate, IsOrMemory, ReadsCreds};
+ghost use Rattle.sspi_tsreq.specs.CredsGrammar.{BeginsSequence, HasPasswords};
+ghost use Rattle.sspi_types.specs.Memory.{memory_error};
 ghost use Rattle.sspi_tsreq.specs.Creds.{creds_in, creds_of, fields_at, malformed, octets_in, password_type, passwords_at, spelled_or_malformed, text_or_refused, texts_of};
 
 use crate::block::read_block;
@@ -16,13 +18,16 @@ use std::alloc::Global;
 /// `InvalidToken` comes for a structure that is not spelled and for a credType without content; then, by its first content
 /// byte, `UnsupportedFunction` for a smart card (2) and `InvalidToken` for another type than a password (1); then
 /// `InvalidToken` for password credentials that are not spelled; and `InvalidParameter` for a text of odd length or with an
-/// unpaired surrogate. `InternalError` comes only where the source failed.
+/// unpaired surrogate. `InternalError` comes only where the source failed. The content is read into memory once its header was
+/// read, so want of memory comes in place of each refusal but that of the header.
+#[tactic(auto, using(crate::proofs::Unwanted::header_unwanted, crate::proofs::Unwanted::header_begins))]
 pub fn read_ts_credentials<S: Source>(
     alloc: Global,
     source: &mut S,
 ) -> Result<CredentialsBuffers, Error>
     ensures read { ReadsCreds (S.left source.old) (S.left source.new) result }
     ensures kinds { IfErr result IsCredsRefusal }
+    ensures memory { IfErr result (λ error. error ≡ memory_error → IfSome (S.left source.old) BeginsSequence) }
     ensures cause { CredsCause (S.faults source.old) (S.faults source.new) result }
     ensures rest { LeavesRest (S.left source.old) (S.left source.new) }
 {
@@ -37,13 +42,15 @@ pub fn read_ts_credentials<S: Source>(
     }
 }
 
-/// The same of bytes in memory, which are read where they stand.
-#[tactic(auto, unfolding(crate::specs::Creds::creds_of))]
+/// The same of bytes in memory, which are read where they stand. Memory is taken for the texts alone, so want of memory comes
+/// only where both structures were found: never in place of `UnsupportedFunction` or `InvalidToken`.
+#[tactic(auto, using(crate::proofs::Unwanted::late_has), unfolding(crate::specs::Creds::creds_of))]
 pub fn read_ts_credentials_from_slice(
     alloc: Global,
     bytes: &[u8],
 ) -> Result<CredentialsBuffers, Error>
-    ensures { IsOrMemory (λ buffers. buffers) result (creds_of bytes.now) }
+    ensures read { IsOrMemory (λ buffers. buffers) result (creds_of bytes.now) }
+    ensures memory { IfErr result (λ error. error ≡ memory_error → HasPasswords bytes.now) }
 {
     match read_element(&mut SliceSource::new(bytes), SEQUENCE) {
         Ok(body) => read_creds(alloc, body),
@@ -68,9 +75,10 @@ struct Passwords<'a> {
 }
 
 /// The buffers inside TSCredentials.
-#[tactic(auto, unfolding(crate::specs::Creds::creds_in))]
+#[tactic(auto, using(crate::proofs::Unwanted::spelled_unwanted, crate::proofs::Unwanted::type_unwanted, crate::proofs::Unwanted::texts_late), unfolding(crate::specs::Creds::creds_in))]
 fn read_creds(alloc: Global, body: &[u8]) -> Result<CredentialsBuffers, Error>
-    ensures { IsOrMemory (λ buffers. buffers) result (creds_in body.now) }
+    ensures read { IsOrMemory (λ buffers. buffers) result (creds_in body.now) }
+    ensures late { IfErr result (λ error. error ≡ memory_error → IsLate (creds_in body.now)) }
 {
     let fields = spelled_fields(body)?;
     expect_password(fields.cred_type)?;

@@ -4,7 +4,7 @@ ghost use Rattle.sspi_ber.specs.Outside.{Writes, WriteCause};
 ghost use Rattle.sspi_ber.specs.Short.{element, element_size};
 ghost use Rattle.sspi_names.specs.Identity.{AreBuffers};
 ghost use Rattle.sspi_tsreq.specs.Creds.{buffers_text, delegated_credentials, creds_body, creds_of, creds_text, wrapped_octets, password_fields, password_type_field, spelled_if_fits};
-ghost use Rattle.sspi_tsreq.specs.CredsAnswers.{IsOrMemory};
+ghost use Rattle.sspi_tsreq.specs.CredsAnswers.{IsOrMemory, RefusesKeytab};
 ghost use Rattle.sspi_tsreq.specs.CredsSizes.{FitTexts, body_size, password_fields_size};
 ghost use Rattle.sspi_tsreq.specs.Size.{IsCapped};
 
@@ -30,14 +30,15 @@ struct Texts<'a> {
 /// Writes TSCredentials (MS-CSSP 2.2.1.2) with a password, in their shortest spelling; without the credentials, in
 /// `CredentialLess`, with three empty texts.
 ///
-/// `UnsupportedPreAuth` comes exactly for a keytab, in both modes, and `InternalError` exactly where the content passes the
-/// limit of all lengths.
+/// `UnsupportedPreAuth` comes exactly for a keytab, in both modes, and then no memory is taken; `InternalError` exactly where the
+/// content passes the limit of all lengths, which is seen once the texts are spelled.
 pub fn write_ts_credentials(
     alloc: Global,
     credentials: &CredentialsBuffers,
     cred_ssp_mode: CredSspMode,
 ) -> Result<Vec<u8>, Error>
     ensures text { IsOrMemory (λ text. text.items) result (creds_text credentials.now cred_ssp_mode) }
+    ensures keytab { RefusesKeytab credentials.now result }
     ensures read_back { IfOk result (λ text. creds_of text.items ≡ Ok (delegated_credentials cred_ssp_mode credentials.now)) }
 {
     match credentials {

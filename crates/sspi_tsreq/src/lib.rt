@@ -9,7 +9,7 @@
 //! `specs/Creds.antt`, `creds_laws.rt`), and `EarlyUserAuthResult` is the server's four bytes.
 //!
 //! `request.rt` has the message with its calls, `reading.rt` and `writing.rt` what stands behind them, one function for each
-//! field and for what follows it. `specs/Reading.antt` has the same chain on lists, and `specs/Spelling.antt` the spelling.
+//! field and for what follows it. Reading takes no memory; `parts.rt` copies what was found whole. `specs/Reading.antt` has the same chain on lists, and `specs/Spelling.antt` the spelling.
 #![tactic(auto)]
 
 mod block;
@@ -20,6 +20,7 @@ pub mod early;
 pub mod early_laws;
 pub mod laws;
 pub mod mode;
+mod parts;
 mod reading;
 pub mod request;
 mod sizes;
@@ -30,6 +31,3 @@ pub use creds_writing::write_ts_credentials;
 pub use early::{EARLY_USER_AUTH_RESULT_PDU_SIZE, EarlyUserAuthResult};
 pub use mode::CredSspMode;
 pub use request::TsRequest;
-
-#[cfg(test)]
-mod tests;

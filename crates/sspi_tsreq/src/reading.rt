@@ -1,20 +1,25 @@
-ghost use Rattle.std.specs.Prelude.{◌≡◌, ◌<◌, ◌^◌, IfOk};
+//! A request read where it stands, without memory. So every refusal is reached before memory is taken.
+
+ghost use Rattle.std.specs.Prelude.{◌≡◌};
+ghost use Rattle.std.specs.Option.{option_copied};
 ghost use Rattle.sspi_ber.specs.Fault.{as_ended};
-ghost use Rattle.sspi_ber.specs.Outside.{Gives};
+ghost use Rattle.sspi_ber.specs.Outside.{Gives, NeedsNoMemory};
 ghost use Rattle.sspi_ber.specs.Pieces.{element_at, field_at, header_at, tagged_at};
+ghost use Rattle.sspi_tsreq.specs.Parts.{seen};
+ghost use Rattle.sspi_tsreq.specs.Value.{bare};
 ghost use Rattle.sspi_tsreq.specs.Reading.{low_at, version_at, octets_at, token_at, code_at, nonce_at, after_code, after_key, after_auth, after_nego, after_version, body_at, request_at};
 
-use crate::request::TsRequest;
+use crate::parts::Parts;
 use sspi_ber::{
     SliceSource, WireKind, read_element, read_header, read_integer, read_tag_or_absent,
 };
-use sspi_types::{Bytes, NStatusCode};
-use std::alloc::Global;
+use sspi_types::NStatusCode;
 
 /// The low 32 bits of an INTEGER.
 #[tactic(auto, unfolding(crate::specs::Reading::low_at))]
 fn read_low(source: &mut SliceSource<'_>) -> Result<u32, WireKind>
-    ensures { Gives (λ low. low) source.new result (low_at source.old) }
+    ensures read { Gives (λ low. low) source.new result (low_at source.old) }
+    ensures memory { NeedsNoMemory result }
 {
     let whole = read_integer(source)?;
     Ok((whole % 0x1_0000_0000) as u32)
@@ -22,32 +27,33 @@ fn read_low(source: &mut SliceSource<'_>) -> Result<u32, WireKind>
 
 #[tactic(auto, unfolding(sspi_ber::specs::Pieces::tagged_at))]
 fn read_version(source: &mut SliceSource<'_>) -> Result<u32, WireKind>
-    ensures { Gives (λ version. version) source.new result (version_at source.old) }
+    ensures read { Gives (λ version. version) source.new result (version_at source.old) }
+    ensures memory { NeedsNoMemory result }
 {
     read_header(source, 0xA0)?;
     read_low(source)
 }
 
-/// A copy of an OCTET STRING's bytes.
-fn read_octets(alloc: Global, source: &mut SliceSource<'_>) -> Result<Bytes, WireKind>
-    ensures { Gives (λ octets. octets) source.new result (octets_at source.old) }
+/// An OCTET STRING's bytes.
+fn read_octets<'a>(source: &mut SliceSource<'a>) -> Result<&'a [u8], WireKind>
+    ensures read { Gives (λ octets. octets.now) source.new result (octets_at source.old) }
+    ensures memory { NeedsNoMemory result }
 {
-    let text = read_element(source, 0x04)?;
-    Ok(Bytes::from_slice(alloc, text)?)
+    read_element(source, 0x04)
 }
 
 #[tactic(auto, unfolding(sspi_ber::specs::Pieces::field_at))]
-fn read_octets_field(
-    alloc: Global,
-    source: &mut SliceSource<'_>,
+fn read_octets_field<'a>(
+    source: &mut SliceSource<'a>,
     tag: u8,
-) -> Result<Option<Bytes>, WireKind>
-    ensures { Gives (λ field. field) source.new result (field_at tag octets_at source.old) }
+) -> Result<Option<&'a [u8]>, WireKind>
+    ensures read { Gives (λ field. option_copied field) source.new result (field_at tag octets_at source.old) }
+    ensures memory { NeedsNoMemory result }
 {
     match read_tag_or_absent(source, tag)? {
         None => Ok(None),
         Some(_) => {
-            let octets = read_octets(alloc, source)?;
+            let octets = read_octets(source)?;
             Ok(Some(octets))
         }
     }
@@ -55,23 +61,25 @@ fn read_octets_field(
 
 /// The first item of the list of tokens.
 #[tactic(auto, unfolding(sspi_ber::specs::Pieces::tagged_at))]
-fn read_token(alloc: Global, source: &mut SliceSource<'_>) -> Result<Bytes, WireKind>
-    ensures { Gives (λ token. token) source.new result (token_at source.old) }
+fn read_token<'a>(source: &mut SliceSource<'a>) -> Result<&'a [u8], WireKind>
+    ensures read { Gives (λ token. token.now) source.new result (token_at source.old) }
+    ensures memory { NeedsNoMemory result }
 {
     read_header(source, 0x30)?;
     read_header(source, 0x30)?;
     read_header(source, 0xA0)?;
-    read_octets(alloc, source)
+    read_octets(source)
 }
 
 #[tactic(auto, unfolding(sspi_ber::specs::Pieces::field_at))]
-fn read_nego_field(alloc: Global, source: &mut SliceSource<'_>) -> Result<Option<Bytes>, WireKind>
-    ensures { Gives (λ field. field) source.new result (field_at 0xA1 token_at source.old) }
+fn read_nego_field<'a>(source: &mut SliceSource<'a>) -> Result<Option<&'a [u8]>, WireKind>
+    ensures read { Gives (λ field. option_copied field) source.new result (field_at 0xA1 token_at source.old) }
+    ensures memory { NeedsNoMemory result }
 {
     match read_tag_or_absent(source, 0xA1)? {
         None => Ok(None),
         Some(_) => {
-            let token = read_token(alloc, source)?;
+            let token = read_token(source)?;
             Ok(Some(token))
         }
     }
@@ -79,7 +87,8 @@ fn read_nego_field(alloc: Global, source: &mut SliceSource<'_>) -> Result<Option
 
 #[tactic(auto, unfolding(sspi_ber::specs::Pieces::field_at, crate::specs::Reading::code_at))]
 fn read_code_field(source: &mut SliceSource<'_>) -> Result<Option<NStatusCode>, WireKind>
-    ensures { Gives (λ field. field) source.new result (field_at 0xA4 code_at source.old) }
+    ensures read { Gives (λ field. field) source.new result (field_at 0xA4 code_at source.old) }
+    ensures memory { NeedsNoMemory result }
 {
     match read_tag_or_absent(source, 0xA4)? {
         None => Ok(None),
@@ -92,7 +101,8 @@ fn read_code_field(source: &mut SliceSource<'_>) -> Result<Option<NStatusCode>, 
 
 #[tactic(auto, unfolding(crate::specs::Reading::nonce_at))]
 fn read_nonce(source: &mut SliceSource<'_>) -> Result<[u8; 32], WireKind>
-    ensures { Gives (λ nonce. nonce) source.new result (nonce_at source.old) }
+    ensures read { Gives (λ nonce. nonce) source.new result (nonce_at source.old) }
+    ensures memory { NeedsNoMemory result }
 {
     let len = read_header(source, 0x04)?;
     if len != 32 {
@@ -106,7 +116,8 @@ fn read_nonce(source: &mut SliceSource<'_>) -> Result<[u8; 32], WireKind>
 
 #[tactic(auto, unfolding(sspi_ber::specs::Pieces::field_at))]
 fn read_nonce_field(source: &mut SliceSource<'_>) -> Result<Option<[u8; 32]>, WireKind>
-    ensures { Gives (λ field. field) source.new result (field_at 0xA5 nonce_at source.old) }
+    ensures read { Gives (λ field. field) source.new result (field_at 0xA5 nonce_at source.old) }
+    ensures memory { NeedsNoMemory result }
 {
     match read_tag_or_absent(source, 0xA5)? {
         None => Ok(None),
@@ -118,10 +129,11 @@ fn read_nonce_field(source: &mut SliceSource<'_>) -> Result<Option<[u8; 32]>, Wi
 }
 
 #[tactic(auto, unfolding(crate::specs::Reading::after_code))]
-fn read_after_code(request: &mut TsRequest, source: &mut SliceSource<'_>) -> Result<(), WireKind>
-    ensures { Gives (λ done. request.new) source.new result (after_code request.old source.old) }
+fn read_after_code<'a>(parts: &mut Parts<'a>, source: &mut SliceSource<'a>) -> Result<(), WireKind>
+    ensures read { Gives (λ _. seen parts.new) source.new result (after_code (seen parts.old) source.old) }
+    ensures memory { NeedsNoMemory result }
 {
-    request.client_nonce = if request.version >= 5 {
+    parts.client_nonce = if parts.version >= 5 {
         read_nonce_field(source)?
     } else {
         None
@@ -130,65 +142,76 @@ fn read_after_code(request: &mut TsRequest, source: &mut SliceSource<'_>) -> Res
 }
 
 #[tactic(auto, unfolding(crate::specs::Reading::after_key))]
-fn read_after_key(request: &mut TsRequest, source: &mut SliceSource<'_>) -> Result<(), WireKind>
-    ensures { Gives (λ done. request.new) source.new result (after_key request.old source.old) }
+fn read_after_key<'a>(parts: &mut Parts<'a>, source: &mut SliceSource<'a>) -> Result<(), WireKind>
+    ensures read { Gives (λ _. seen parts.new) source.new result (after_key (seen parts.old) source.old) }
+    ensures memory { NeedsNoMemory result }
 {
-    request.error_code = if request.version >= 3 {
+    parts.error_code = if parts.version >= 3 {
         read_code_field(source)?
     } else {
         None
     };
-    read_after_code(request, source)
+    read_after_code(parts, source)
 }
 
 #[tactic(auto, unfolding(crate::specs::Reading::after_auth))]
-fn read_after_auth(
-    alloc: Global,
-    request: &mut TsRequest,
-    source: &mut SliceSource<'_>,
-) -> Result<(), WireKind>
-    ensures { Gives (λ done. request.new) source.new result (after_auth request.old source.old) }
+fn read_after_auth<'a>(parts: &mut Parts<'a>, source: &mut SliceSource<'a>) -> Result<(), WireKind>
+    ensures read { Gives (λ _. seen parts.new) source.new result (after_auth (seen parts.old) source.old) }
+    ensures memory { NeedsNoMemory result }
 {
-    request.pub_key_auth = read_octets_field(alloc, source, 0xA3)?;
-    read_after_key(request, source)
+    parts.pub_key_auth = read_octets_field(source, 0xA3)?;
+    read_after_key(parts, source)
 }
 
 #[tactic(auto, unfolding(crate::specs::Reading::after_nego))]
-fn read_after_nego(
-    alloc: Global,
-    request: &mut TsRequest,
-    source: &mut SliceSource<'_>,
-) -> Result<(), WireKind>
-    ensures { Gives (λ done. request.new) source.new result (after_nego request.old source.old) }
+fn read_after_nego<'a>(parts: &mut Parts<'a>, source: &mut SliceSource<'a>) -> Result<(), WireKind>
+    ensures read { Gives (λ _. seen parts.new) source.new result (after_nego (seen parts.old) source.old) }
+    ensures memory { NeedsNoMemory result }
 {
-    request.auth_info = read_octets_field(alloc, source, 0xA2)?;
-    read_after_auth(alloc, request, source)
+    parts.auth_info = read_octets_field(source, 0xA2)?;
+    read_after_auth(parts, source)
 }
 
 #[tactic(auto, unfolding(crate::specs::Reading::after_version))]
-fn read_after_version(
-    alloc: Global,
-    request: &mut TsRequest,
-    source: &mut SliceSource<'_>,
+fn read_after_version<'a>(
+    parts: &mut Parts<'a>,
+    source: &mut SliceSource<'a>,
 ) -> Result<(), WireKind>
-    ensures { Gives (λ done. request.new) source.new result (after_version request.old source.old) }
+    ensures read { Gives (λ _. seen parts.new) source.new result (after_version (seen parts.old) source.old) }
+    ensures memory { NeedsNoMemory result }
 {
-    request.nego_tokens = read_nego_field(alloc, source)?;
-    read_after_nego(alloc, request, source)
+    parts.nego_tokens = read_nego_field(source)?;
+    read_after_nego(parts, source)
 }
 
 #[tactic(auto, unfolding(crate::specs::Reading::body_at))]
-fn read_body(alloc: Global, source: &mut SliceSource<'_>) -> Result<TsRequest, WireKind>
-    ensures { Gives (λ request. request) source.new result (body_at source.old) }
+fn read_body<'a>(source: &mut SliceSource<'a>) -> Result<Parts<'a>, WireKind>
+    ensures read { Gives (λ parts. seen parts) source.new result (body_at source.old) }
+    ensures memory { NeedsNoMemory result }
 {
     let version = read_version(source)?;
-    let mut request = TsRequest::bare(version);
-    read_after_version(alloc, &mut request, source)?;
-    Ok(request)
+    let mut parts: Parts<'a> = bare_parts(version);
+    read_after_version(&mut parts, source)?;
+    Ok(parts)
+}
+
+/// The parts of a request of this version and nothing else.
+fn bare_parts<'a>(version: u32) -> Parts<'a>
+    ensures { seen result ≡ bare version }
+{
+    Parts {
+        version,
+        nego_tokens: None,
+        auth_info: None,
+        pub_key_auth: None,
+        error_code: None,
+        client_nonce: None,
+    }
 }
 
 fn read_outer_header(source: &mut SliceSource<'_>) -> Result<u16, WireKind>
-    ensures { Gives (λ len. len) source.new result (as_ended (header_at 0x30 source.old)) }
+    ensures read { Gives (λ len. len) source.new result (as_ended (header_at 0x30 source.old)) }
+    ensures memory { NeedsNoMemory result }
 {
     match read_header(source, 0x30) {
         Ok(len) => Ok(len),
@@ -198,13 +221,11 @@ fn read_outer_header(source: &mut SliceSource<'_>) -> Result<u16, WireKind>
 
 /// The request that the source begins with.
 #[tactic(auto, unfolding(crate::specs::Reading::request_at))]
-pub(crate) fn read_request(
-    alloc: Global,
-    source: &mut SliceSource<'_>,
-) -> Result<TsRequest, WireKind>
-    ensures { Gives (λ request. request) source.new result (request_at source.old) }
+pub(crate) fn read_request<'a>(source: &mut SliceSource<'a>) -> Result<Parts<'a>, WireKind>
+    ensures read { Gives (λ parts. seen parts) source.new result (request_at source.old) }
+    ensures memory { NeedsNoMemory result }
 {
     let len = read_outer_header(source)?;
     let body = source.take(usize::from(len))?;
-    read_body(alloc, &mut SliceSource::new(body))
+    read_body(&mut SliceSource::new(body))
 }

@@ -9,6 +9,7 @@ ghost use Rattle.sspi_tsreq.specs.Status.{ChecksCode};
 ghost use Rattle.sspi_tsreq.specs.declared.request.TsRequest.{TsRequest};
 ghost use Rattle.sspi_tsreq.specs.Value.{bare, first_request};
 
+use crate::parts::copy_request;
 use crate::reading::read_request;
 use crate::sizes::fields_size;
 use crate::writing::write_request;
@@ -94,13 +95,15 @@ impl TsRequest {
     ///
     /// `UnexpectedEof` where the outer header is bad, the buffer is shorter than header and content, or the content ends
     /// inside an element; `InvalidData` where the first element that is not spelled as it must be is refused for another
-    /// reason. Lengths of tags are judged by their form alone.
-    #[tactic(auto, using(crate::proofs::FromBuffer::is_answer, crate::proofs::FromBuffer::is_only))]
+    /// reason. Lengths of tags are judged by their form alone. Memory is taken only for the OCTET STRINGs of a request that was
+    /// found whole, so want of memory never comes in place of a fault, nor for a request that has none.
+    #[tactic(auto, using(crate::proofs::FromBuffer::refused_answer))]
     pub fn from_buffer(alloc: Global, buffer: &[u8]) -> Result<TsRequest, WireKind>
         ensures answer { IsAnswer buffer.now result }
         ensures only { (r : TsRequest) (count : ℕ) → IsRequest buffer.now r count → IsUnlessMemory result r }
     {
-        read_request(alloc, &mut SliceSource::new(buffer))
+        let parts = read_request(&mut SliceSource::new(buffer))?;
+        copy_request(alloc, &parts)
     }
 
     /// How many bytes the request takes that the source begins with: those of its header, which are read, and those of the

@@ -1,10 +1,15 @@
-use crate::*;
-use sspi_ber::{FaultySource, SliceSource, Source};
-use sspi_names::{AuthIdentityBuffers, CredentialsBuffers, KeytabIdentity, Username, Utf16Text};
+use crate::tests::unmade;
+use sspi_ber::{FaultySource, SliceSource};
+use sspi_names::{
+    AuthIdentityBuffers, CredentialsBuffers, KeytabIdentity, Username, UsernameError, Utf16Error,
+    Utf16Text,
+};
+use sspi_tsreq::{
+    CredSspMode, read_ts_credentials, read_ts_credentials_from_slice, write_ts_credentials,
+};
 use sspi_types::{Bytes, Error, ErrorKind, Secret};
 use std::alloc::{AllocError, Global};
 use std::process::Abort;
-use std::test::Fail;
 
 /// The user `a` with the password `1`.
 const SHORT: &[u8] = &[
@@ -56,51 +61,103 @@ fn kind_of<T: Drop>(answer: Result<T, Error>) -> Option<ErrorKind> {
     }
 }
 
-fn writes(
+fn is_text(rt: &impl Abort, written: Result<Vec<u8>, Error>, text: &[u8]) {
+    match written {
+        Ok(written) => assert!(rt; written.as_slice() == text),
+        Err(_) => unmade(rt),
+    }
+}
+
+/// The credentials are written as this text, and are read from it by both readers.
+fn exchanged(
     rt: &impl Abort,
     alloc: Global,
-    credentials: &CredentialsBuffers,
-    mode: CredSspMode,
+    buffers: Result<CredentialsBuffers, AllocError>,
     text: &[u8],
-) -> Result<(), Fail> {
-    let written = write_ts_credentials(alloc, credentials, mode).ok();
-    assert!(rt; written.ok_or("refused")?.as_slice() == text);
-    Ok(())
+) {
+    match buffers {
+        Ok(buffers) => {
+            is_text(
+                rt,
+                write_ts_credentials(alloc, &buffers, CredSspMode::WithCredentials),
+                text,
+            );
+            reads(rt, alloc, text, &buffers);
+        }
+        Err(_) => unmade(rt),
+    }
+}
+
+/// What is written where the credentials stay at the client.
+fn kept_back(rt: &impl Abort, alloc: Global, buffers: Result<CredentialsBuffers, AllocError>) {
+    match buffers {
+        Ok(buffers) => {
+            is_text(
+                rt,
+                write_ts_credentials(alloc, &buffers, CredSspMode::CredentialLess),
+                EMPTY,
+            );
+        }
+        Err(_) => unmade(rt),
+    }
 }
 
 #[test]
-fn written_and_read(rt: HostRuntime) -> Result<(), Fail> {
-    let (alloc, with) = (rt.alloc(), CredSspMode::WithCredentials);
-    let short = buffers(alloc, "", "a", "1")?;
-    writes(&rt, alloc, &short, with, SHORT)?;
-    reads(&rt, alloc, SHORT, &short);
-    let long = buffers(alloc, "Domain", "Username", "Password")?;
-    writes(&rt, alloc, &long, with, LONG)?;
-    reads(&rt, alloc, LONG, &long);
-    let none = buffers(alloc, "", "", "")?;
-    writes(&rt, alloc, &none, with, EMPTY)?;
-    writes(&rt, alloc, &long, CredSspMode::CredentialLess, EMPTY)?;
-    reads(&rt, alloc, EMPTY, &none);
-    Ok(())
+fn written_and_read(rt: HostRuntime) {
+    let alloc = rt.alloc();
+    exchanged(&rt, alloc, buffers(alloc, "", "a", "1"), SHORT);
+    exchanged(
+        &rt,
+        alloc,
+        buffers(alloc, "Domain", "Username", "Password"),
+        LONG,
+    );
+    exchanged(&rt, alloc, buffers(alloc, "", "", ""), EMPTY);
+    kept_back(&rt, alloc, buffers(alloc, "Domain", "Username", "Password"));
+}
+
+fn reads_as(
+    rt: &impl Abort,
+    alloc: Global,
+    text: &[u8],
+    buffers: Result<CredentialsBuffers, AllocError>,
+) {
+    match buffers {
+        Ok(buffers) => reads(rt, alloc, text, &buffers),
+        Err(_) => unmade(rt),
+    }
+}
+
+/// The two bytes behind the structure stay in the source.
+fn leaves_two(
+    rt: &impl Abort,
+    alloc: Global,
+    text: &[u8],
+    buffers: Result<CredentialsBuffers, AllocError>,
+) {
+    let mut source = SliceSource::new(text);
+    match (read_ts_credentials(alloc, &mut source), buffers) {
+        (Ok(read), Ok(buffers)) => assert!(rt; read == buffers),
+        _ => unmade(rt),
+    }
+    assert!(rt; source.rest() == &[1u8, 2][..]);
 }
 
 // What follows the structure stays where it is.
 #[test]
-fn followed_by_more(rt: HostRuntime) -> Result<(), Fail> {
-    let mut followed = SHORT.to_vec(rt.alloc())?;
-    followed.extend_from_slice(&[1, 2])?;
-    let mut source = SliceSource::new(&followed);
-    let read = read_ts_credentials(rt.alloc(), &mut source).ok();
-    assert!(rt; read == Some(buffers(rt.alloc(), "", "a", "1")?));
-    assert!(rt; source.rest() == &[1u8, 2][..]);
-    Ok(())
+fn followed_by_more(rt: HostRuntime) {
+    let followed = &[
+        0x30, 0x1b, 0xa0, 0x03, 0x02, 0x01, 0x01, 0xa1, 0x14, 0x04, 0x12, 0x30, 0x10, 0xa0, 0x02,
+        0x04, 0x00, 0xa1, 0x04, 0x04, 0x02, 0x61, 0x00, 0xa2, 0x04, 0x04, 0x02, 0x31, 0x00, 0x01,
+        0x02,
+    ];
+    leaves_two(&rt, rt.alloc(), followed, buffers(rt.alloc(), "", "a", "1"));
 }
 
 // The length forms that are not the shortest, an octet more of credType, and what is left inside and behind a structure.
 #[test]
-fn longer_spellings(rt: HostRuntime) -> Result<(), Fail> {
-    let short = buffers(rt.alloc(), "", "a", "1")?;
-    reads(
+fn longer_spellings(rt: HostRuntime) {
+    reads_as(
         &rt,
         rt.alloc(),
         &[
@@ -108,9 +165,9 @@ fn longer_spellings(rt: HostRuntime) -> Result<(), Fail> {
             0x12, 0x30, 0x10, 0xa0, 0x02, 0x04, 0x00, 0xa1, 0x04, 0x04, 0x02, 0x61, 0x00, 0xa2,
             0x04, 0x04, 0x02, 0x31, 0x00, 0x05,
         ],
-        &short,
+        buffers(rt.alloc(), "", "a", "1"),
     );
-    reads(
+    reads_as(
         &rt,
         rt.alloc(),
         &[
@@ -118,9 +175,8 @@ fn longer_spellings(rt: HostRuntime) -> Result<(), Fail> {
             0x12, 0xa0, 0x02, 0x04, 0x00, 0xa1, 0x04, 0x04, 0x02, 0x61, 0x00, 0xa2, 0x04, 0x04,
             0x02, 0x31, 0x00, 0x05, 0x00,
         ],
-        &short,
+        buffers(rt.alloc(), "", "a", "1"),
     );
-    Ok(())
 }
 
 fn refuses(rt: &impl Abort, alloc: Global, text: &[u8], kind: ErrorKind) {
@@ -174,56 +230,54 @@ fn refused_structures(rt: HostRuntime) {
 }
 
 /// The short credentials with another byte at one place.
-fn damaged(rt: &impl Abort, alloc: Global, at: usize, byte: u8) -> Result<(), AllocError> {
-    let mut text = SHORT.to_vec(alloc)?;
+fn damaged(rt: &impl Abort, alloc: Global, at: usize, byte: u8) {
+    let mut text = [0u8; 29];
+    text.copy_from_slice(SHORT);
     if let Some(place) = text.get_mut(at) {
         *place = byte;
     }
     assert!(rt; text.as_slice() != SHORT);
     refuses(rt, alloc, &text, ErrorKind::InvalidToken);
-    Ok(())
 }
 
 // Another tag at each place of one.
 #[test]
-fn damaged_tags(rt: HostRuntime) -> Result<(), Fail> {
+fn damaged_tags(rt: HostRuntime) {
     let alloc = rt.alloc();
-    damaged(&rt, alloc, 0, 0x31)?;
-    damaged(&rt, alloc, 2, 0xa1)?;
-    damaged(&rt, alloc, 4, 0x04)?;
-    damaged(&rt, alloc, 7, 0xa0)?;
-    damaged(&rt, alloc, 9, 0x05)?;
-    damaged(&rt, alloc, 11, 0x31)?;
-    damaged(&rt, alloc, 13, 0xa1)?;
-    damaged(&rt, alloc, 15, 0x02)?;
-    damaged(&rt, alloc, 17, 0xa2)?;
-    damaged(&rt, alloc, 19, 0x05)?;
-    damaged(&rt, alloc, 23, 0xa1)?;
-    damaged(&rt, alloc, 25, 0x05)?;
-    Ok(())
+    damaged(&rt, alloc, 0, 0x31);
+    damaged(&rt, alloc, 2, 0xa1);
+    damaged(&rt, alloc, 4, 0x04);
+    damaged(&rt, alloc, 7, 0xa0);
+    damaged(&rt, alloc, 9, 0x05);
+    damaged(&rt, alloc, 11, 0x31);
+    damaged(&rt, alloc, 13, 0xa1);
+    damaged(&rt, alloc, 15, 0x02);
+    damaged(&rt, alloc, 17, 0xa2);
+    damaged(&rt, alloc, 19, 0x05);
+    damaged(&rt, alloc, 23, 0xa1);
+    damaged(&rt, alloc, 25, 0x05);
 }
 
 // A length that has no form, or that passes what the structure round it has.
 #[test]
-fn damaged_lengths(rt: HostRuntime) -> Result<(), Fail> {
+fn damaged_lengths(rt: HostRuntime) {
     let alloc = rt.alloc();
     for at in [1usize, 3, 5, 8, 10, 12, 14, 16, 18, 20, 24, 26] {
-        damaged(&rt, alloc, at, 0x80)?;
-        damaged(&rt, alloc, at, 0x83)?;
-        damaged(&rt, alloc, at, 0x7f)?;
+        damaged(&rt, alloc, at, 0x80);
+        damaged(&rt, alloc, at, 0x83);
+        damaged(&rt, alloc, at, 0x7f);
     }
     // One byte too few for what stands inside: the bytes behind are not taken.
-    damaged(&rt, alloc, 3, 0x02)?;
-    damaged(&rt, alloc, 8, 0x13)?;
-    damaged(&rt, alloc, 10, 0x11)?;
-    damaged(&rt, alloc, 12, 0x0f)?;
-    damaged(&rt, alloc, 14, 0x01)?;
-    damaged(&rt, alloc, 18, 0x03)?;
-    damaged(&rt, alloc, 24, 0x03)?;
+    damaged(&rt, alloc, 3, 0x02);
+    damaged(&rt, alloc, 8, 0x13);
+    damaged(&rt, alloc, 10, 0x11);
+    damaged(&rt, alloc, 12, 0x0f);
+    damaged(&rt, alloc, 14, 0x01);
+    damaged(&rt, alloc, 18, 0x03);
+    damaged(&rt, alloc, 24, 0x03);
     // The first byte of the number decides.
-    damaged(&rt, alloc, 6, 0x00)?;
-    damaged(&rt, alloc, 6, 0xff)?;
-    Ok(())
+    damaged(&rt, alloc, 6, 0x00);
+    damaged(&rt, alloc, 6, 0xff);
 }
 
 // A front is never read.
@@ -268,42 +322,82 @@ fn refused_texts(rt: HostRuntime) {
     );
 }
 
-#[test]
-fn refused_credentials(rt: HostRuntime) -> Result<(), Fail> {
-    let keytab = CredentialsBuffers::Keytab(KeytabIdentity {
-        username: Username::parse(rt.alloc(), "ann")?,
-        keytab: Bytes::from_slice(rt.alloc(), &[5, 2])?,
-    });
-    let refusal = Some(ErrorKind::UnsupportedPreAuth);
-    let written = write_ts_credentials(rt.alloc(), &keytab, CredSspMode::WithCredentials);
-    assert!(rt; kind_of(written) == refusal);
-    let written = write_ts_credentials(rt.alloc(), &keytab, CredSspMode::CredentialLess);
-    assert!(rt; kind_of(written) == refusal);
-    Ok(())
+fn ann(alloc: Global) -> Result<CredentialsBuffers, UsernameError> {
+    Ok(CredentialsBuffers::Keytab(KeytabIdentity {
+        username: Username::parse(alloc, "ann")?,
+        keytab: Bytes::from_slice(alloc, &[5, 2])?,
+    }))
+}
+
+fn refuses_keytab(
+    rt: &impl Abort,
+    alloc: Global,
+    keytab: Result<CredentialsBuffers, UsernameError>,
+    mode: CredSspMode,
+) {
+    match keytab {
+        Ok(keytab) => {
+            let refusal = kind_of(write_ts_credentials(alloc, &keytab, mode));
+            assert!(rt; refusal == Some(ErrorKind::UnsupportedPreAuth));
+        }
+        Err(_) => unmade(rt),
+    }
 }
 
 #[test]
-fn the_limit(rt: HostRuntime) -> Result<(), Fail> {
-    // A password of 32749 code units has 65498 bytes; with what stands around it the content has 33 more.
-    let units = vec![in rt.alloc(); 0x61u8; 65498]?;
-    let password = Utf16Text::from_bytes_le(rt.alloc(), &units)?;
-    let fits = with_password(rt.alloc(), password)?;
-    let written = write_ts_credentials(rt.alloc(), &fits, CredSspMode::WithCredentials).ok();
-    assert!(rt; written.ok_or("refused")?.len() == 65535);
-    let units = vec![in rt.alloc(); 0x61u8; 65500]?;
-    let password = Utf16Text::from_bytes_le(rt.alloc(), &units)?;
-    let passes = with_password(rt.alloc(), password)?;
-    let refusal = kind_of(write_ts_credentials(rt.alloc(), &passes, CredSspMode::WithCredentials));
-    assert!(rt; refusal == Some(ErrorKind::InternalError));
-    Ok(())
+fn refused_credentials(rt: HostRuntime) {
+    let alloc = rt.alloc();
+    refuses_keytab(&rt, alloc, ann(alloc), CredSspMode::WithCredentials);
+    refuses_keytab(&rt, alloc, ann(alloc), CredSspMode::CredentialLess);
 }
 
-fn with_password(alloc: Global, password: Utf16Text) -> Result<CredentialsBuffers, AllocError> {
+/// A password of so many bytes.
+fn with_password(alloc: Global, len: usize) -> Result<CredentialsBuffers, Utf16Error> {
+    let units = vec![in alloc; 0x61u8; len]?;
     Ok(CredentialsBuffers::AuthIdentity(AuthIdentityBuffers {
         user: Utf16Text::from_str(alloc, "")?,
         domain: Utf16Text::from_str(alloc, "")?,
-        password: Secret { value: password },
+        password: Secret {
+            value: Utf16Text::from_bytes_le(alloc, &units)?,
+        },
     }))
+}
+
+/// The text of the credentials.
+fn written(
+    alloc: Global,
+    credentials: Result<CredentialsBuffers, Utf16Error>,
+) -> Option<Result<Vec<u8>, Error>> {
+    match credentials {
+        Ok(credentials) => Some(write_ts_credentials(
+            alloc,
+            &credentials,
+            CredSspMode::WithCredentials,
+        )),
+        Err(_) => None,
+    }
+}
+
+fn has_length(rt: &impl Abort, written: Option<Result<Vec<u8>, Error>>, len: usize) {
+    match written {
+        Some(Ok(text)) => assert_eq!(rt; text.len(), len),
+        _ => unmade(rt),
+    }
+}
+
+fn is_too_long(rt: &impl Abort, written: Option<Result<Vec<u8>, Error>>) {
+    match written {
+        Some(Err(error)) => assert_eq!(rt; error.error_type, ErrorKind::InternalError),
+        _ => unmade(rt),
+    }
+}
+
+// A password of 32749 code units has 65498 bytes; with what stands around it the content has 33 more.
+#[test]
+fn the_limit(rt: HostRuntime) {
+    let alloc = rt.alloc();
+    has_length(&rt, written(alloc, with_password(alloc, 65498)), 65535);
+    is_too_long(&rt, written(alloc, with_password(alloc, 65500)));
 }
 
 fn fails_at(rt: &impl Abort, alloc: Global, call: u64) {

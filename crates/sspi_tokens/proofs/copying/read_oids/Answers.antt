@@ -3,7 +3,7 @@ use Rattle.std.proofs.lemmas.Result.{err_from_is_err_and}
 use Rattle.sspi_ber.specs.Pieces.{element_at}
 use Rattle.sspi_tokens.specs.Reading.{oids_at}
 use Rattle.sspi_tokens.proofs.OidsLoop.{reading_step, reading_end, reading_fault, fault_given, shorter}
-use Rattle.sspi_tokens.proofs.reading.read_oids.Goals as goal
+use Rattle.sspi_tokens.proofs.copying.read_oids.Goals as goal
 
 pub returns-in_err-content : goal.returns-in_err-content
 returns-in_err-content c =

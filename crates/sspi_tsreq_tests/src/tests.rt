@@ -1,5 +1,5 @@
-use super::*;
 use sspi_ber::{VecSink, WireKind};
+use sspi_tsreq::TsRequest;
 use sspi_types::Bytes;
 use std::alloc::{AllocError, Global};
 use std::process::Abort;
@@ -7,11 +7,10 @@ use std::process::Abort;
 mod creds;
 mod early;
 mod faults;
+mod limits;
 mod requests;
 mod streams;
-
-/// The field of version 6.
-const VERSION: &[u8] = &[0xa0, 0x03, 0x02, 0x01, 0x06];
+mod tails;
 
 /// A request with its encrypted credentials and nonce, of 92 bytes.
 const AUTH_INFO: &[u8] = &[
@@ -63,4 +62,16 @@ fn of_version(version: u32) -> TsRequest {
 
 fn octets(alloc: Global, bytes: &[u8]) -> Result<Option<Bytes>, AllocError> {
     Ok(Some(Bytes::from_slice(alloc, bytes)?))
+}
+
+/// A SEQUENCE of this content, which has less than 256 bytes.
+fn framed(alloc: Global, content: &[u8]) -> Result<Vec<u8>, AllocError> {
+    let mut bytes = vec![in alloc; 0x30, 0x81, (content.len() % 0x100) as u8]?;
+    bytes.extend_from_slice(content)?;
+    Ok(bytes)
+}
+
+/// What the test stands on could not be made.
+fn unmade(rt: &impl Abort) {
+    assert!(rt; false, "want of memory, or a text of digits that is none");
 }

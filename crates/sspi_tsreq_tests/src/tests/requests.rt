@@ -1,60 +1,137 @@
-use crate::tests::{AUTH_INFO, ERROR_CODE, VERSION, octets, of_version, reads, refuses, writes};
-use crate::*;
-use sspi_ber::{SliceSource, VecSink, WireKind};
-use sspi_types::{Bytes, ErrorKind, NStatusCode, Reason};
+use crate::tests::{AUTH_INFO, ERROR_CODE, octets, of_version, reads, unmade, writes};
+use sspi_tsreq::TsRequest;
+use sspi_types::{Error, ErrorKind, NStatusCode, Reason};
 use std::alloc::{AllocError, Global};
 use std::process::Abort;
-use std::test::Fail;
 
 fn both(rt: &impl Abort, alloc: Global, request: &TsRequest, bytes: &[u8]) {
     reads(rt, alloc, bytes, request);
     writes(rt, alloc, request, bytes);
 }
 
-#[test]
-fn credentials_message(rt: HostRuntime) -> Result<(), Fail> {
+/// The same of a request that was just made.
+fn both_of(rt: &impl Abort, alloc: Global, request: Result<TsRequest, AllocError>, bytes: &[u8]) {
+    match request {
+        Ok(request) => both(rt, alloc, &request, bytes),
+        Err(_) => unmade(rt),
+    }
+}
+
+fn reads_as(rt: &impl Abort, alloc: Global, bytes: &[u8], request: Result<TsRequest, AllocError>) {
+    match request {
+        Ok(request) => reads(rt, alloc, bytes, &request),
+        Err(_) => unmade(rt),
+    }
+}
+
+/// A copy is equal to the request, and the request is not the default one.
+fn is_copied(rt: &impl Abort, alloc: Global, request: Result<TsRequest, AllocError>) {
+    match request {
+        Ok(request) => {
+            assert!(rt; request != TsRequest::default());
+            has_copy(rt, &request, request.clone(alloc));
+        }
+        Err(_) => unmade(rt),
+    }
+}
+
+fn has_copy(rt: &impl Abort, request: &TsRequest, copy: Result<TsRequest, AllocError>) {
+    match copy {
+        Ok(copy) => assert!(rt; copy == *request),
+        Err(_) => unmade(rt),
+    }
+}
+
+/// The request of `AUTH_INFO`.
+fn credentials_request(alloc: Global) -> Result<TsRequest, AllocError> {
     let mut request = TsRequest::default();
-    request.auth_info = octets(rt.alloc(), &AUTH_INFO[11..56])?;
+    request.auth_info = octets(alloc, &AUTH_INFO[11..56])?;
     request.client_nonce = AUTH_INFO.last_chunk::<32>().copied();
-    both(&rt, rt.alloc(), &request, AUTH_INFO);
-    let mut longer = AUTH_INFO.to_vec(rt.alloc())?;
+    Ok(request)
+}
+
+/// `AUTH_INFO` and ten zeros.
+fn longer(alloc: Global) -> Result<Vec<u8>, AllocError> {
+    let mut longer = AUTH_INFO.to_vec(alloc)?;
     longer.extend_from_slice(&[0; 10])?;
-    reads(&rt, rt.alloc(), &longer, &request);
-    let copy = request.clone(rt.alloc())?;
-    assert!(rt; copy == request);
-    assert!(rt; copy != TsRequest::default());
-    Ok(())
+    Ok(longer)
+}
+
+fn longer_reads_as(rt: &impl Abort, alloc: Global, bytes: Result<Vec<u8>, AllocError>) {
+    match bytes {
+        Ok(bytes) => reads_as(rt, alloc, &bytes, credentials_request(alloc)),
+        Err(_) => unmade(rt),
+    }
 }
 
 #[test]
-fn error_message(rt: HostRuntime) -> Result<(), Fail> {
+fn credentials_message(rt: HostRuntime) {
+    both_of(&rt, rt.alloc(), credentials_request(rt.alloc()), AUTH_INFO);
+    longer_reads_as(&rt, rt.alloc(), longer(rt.alloc()));
+    is_copied(&rt, rt.alloc(), credentials_request(rt.alloc()));
+}
+
+/// The request of `ERROR_CODE`.
+fn error_request(alloc: Global) -> Result<TsRequest, AllocError> {
     let mut request = TsRequest::default();
-    request.pub_key_auth = octets(rt.alloc(), &ERROR_CODE[11..59])?;
+    request.pub_key_auth = octets(alloc, &ERROR_CODE[11..59])?;
     request.error_code = Some(NStatusCode(0xC00700EA));
     request.client_nonce = ERROR_CODE.last_chunk::<32>().copied();
-    both(&rt, rt.alloc(), &request, ERROR_CODE);
-    let copy = request.clone(rt.alloc())?;
-    assert!(rt; copy == request);
-    let refusal = request.check_error().err().ok_or("no refusal")?;
-    assert_eq!(rt; refusal.error_type, ErrorKind::InvalidToken);
-    assert_eq!(rt; refusal.description, Reason::ErrorStatus);
-    assert!(rt; refusal.nstatus == Some(NStatusCode(0xC00700EA)));
-    request.error_code = Some(NStatusCode::SUCCESS);
-    assert!(rt; request.check_error().is_ok());
-    assert!(rt; TsRequest::default().check_error().is_ok());
-    Ok(())
+    Ok(request)
+}
+
+/// What `check_error` answers to a request with this code alone.
+fn checked(code: Option<NStatusCode>) -> Result<(), Error> {
+    let mut request = TsRequest::default();
+    request.error_code = code;
+    request.check_error()
+}
+
+fn is_error(rt: &impl Abort, answer: Result<(), Error>, code: u32) {
+    match answer {
+        Ok(()) => unmade(rt),
+        Err(error) => {
+            assert_eq!(rt; error.error_type, ErrorKind::InvalidToken);
+            assert_eq!(rt; error.description, Reason::ErrorStatus);
+            assert!(rt; error.nstatus == Some(NStatusCode(code)));
+        }
+    }
+}
+
+fn has_error(rt: &impl Abort, request: Result<TsRequest, AllocError>, code: u32) {
+    match request {
+        Ok(request) => is_error(rt, request.check_error(), code),
+        Err(_) => unmade(rt),
+    }
+}
+
+fn is_no_error(rt: &impl Abort, answer: Result<(), Error>) {
+    assert!(rt; answer.is_ok());
 }
 
 #[test]
-fn empty_token(rt: HostRuntime) -> Result<(), Fail> {
+fn error_message(rt: HostRuntime) {
+    both_of(&rt, rt.alloc(), error_request(rt.alloc()), ERROR_CODE);
+    is_copied(&rt, rt.alloc(), error_request(rt.alloc()));
+    has_error(&rt, error_request(rt.alloc()), 0xC00700EA);
+    is_no_error(&rt, checked(Some(NStatusCode::SUCCESS)));
+    is_no_error(&rt, checked(None));
+}
+
+/// Version 2 with an empty token.
+fn empty_token_request(alloc: Global) -> Result<TsRequest, AllocError> {
     let mut request = of_version(2);
-    request.nego_tokens = octets(rt.alloc(), &[])?;
+    request.nego_tokens = octets(alloc, &[])?;
+    Ok(request)
+}
+
+#[test]
+fn empty_token(rt: HostRuntime) {
     let bytes = &[
         0x30, 0x0f, 0xa0, 0x03, 0x02, 0x01, 0x02, 0xa1, 0x08, 0x30, 0x06, 0x30, 0x04, 0xa0, 0x02,
         0x04, 0x00,
     ];
-    both(&rt, rt.alloc(), &request, bytes);
-    Ok(())
+    both_of(&rt, rt.alloc(), empty_token_request(rt.alloc()), bytes);
 }
 
 fn version(rt: &impl Abort, alloc: Global, number: u32, bytes: &[u8]) {
@@ -217,111 +294,23 @@ fn nonces(rt: HostRuntime) {
     reads(&rt, rt.alloc(), &bytes, &of_version(4));
 }
 
+/// A token, credentials, a proof and a code, of a byte each.
+fn request_of_each(alloc: Global) -> Result<TsRequest, AllocError> {
+    let mut request = of_version(6);
+    request.nego_tokens = octets(alloc, b"A")?;
+    request.auth_info = octets(alloc, b"B")?;
+    request.pub_key_auth = octets(alloc, b"C")?;
+    request.error_code = Some(NStatusCode(5));
+    Ok(request)
+}
+
 // The lengths round a field are judged by their form alone; that of the content itself counts, in any form.
 #[test]
-fn nested_lengths(rt: HostRuntime) -> Result<(), Fail> {
-    let mut request = of_version(6);
-    request.nego_tokens = octets(rt.alloc(), b"A")?;
-    request.auth_info = octets(rt.alloc(), b"B")?;
-    request.pub_key_auth = octets(rt.alloc(), b"C")?;
-    request.error_code = Some(NStatusCode(5));
-    reads(
-        &rt,
-        rt.alloc(),
-        &[
-            0x30, 0x23, 0xa0, 0x7f, 0x02, 0x01, 0x06, 0xa1, 0x00, 0x30, 0x7f, 0x30, 0x05, 0xa0,
-            0x81, 0xff, 0x04, 0x01, 0x41, 0xa2, 0x82, 0xff, 0xfb, 0x04, 0x81, 0x01, 0x42, 0xa3,
-            0x00, 0x04, 0x01, 0x43, 0xa4, 0x7f, 0x02, 0x01, 0x05,
-        ],
-        &request,
-    );
-    Ok(())
-}
-
-/// A content behind the field of version 6, and what is read of it.
-fn content(
-    rt: &impl Abort,
-    alloc: Global,
-    fields: &[u8],
-    request: &TsRequest,
-) -> Result<(), AllocError> {
-    let mut bytes = vec![in alloc; 0x30, 0x81, ((VERSION.len() + fields.len()) % 0x100) as u8]?;
-    bytes.extend_from_slice(VERSION)?;
-    bytes.extend_from_slice(fields)?;
-    reads(rt, alloc, &bytes, request);
-    Ok(())
-}
-
-// A second token, a field out of its order and what begins with no field's tag are a tail, which may be damaged.
-#[test]
-fn tails(rt: HostRuntime) -> Result<(), Fail> {
-    let alloc = rt.alloc();
-    let mut first = of_version(6);
-    first.nego_tokens = octets(alloc, b"A")?;
-    content(
-        &rt,
-        alloc,
-        &[
-            0xa1, 0x09, 0x30, 0x07, 0x30, 0x05, 0xa0, 0x03, 0x04, 0x01, 0x41, 0x30, 0x05, 0xa0,
-            0x03, 0x04, 0x01, 0x42,
-        ],
-        &first,
-    )?;
-    let mut late = of_version(6);
-    late.pub_key_auth = octets(alloc, b"A")?;
-    content(
-        &rt,
-        alloc,
-        &[0xa3, 0x03, 0x04, 0x01, 0x41, 0xa2, 0x02, 0x04, 0x00],
-        &late,
-    )?;
-    content(
-        &rt,
-        alloc,
-        &[0xa3, 0x03, 0x04, 0x01, 0x41, 0xa2, 0x80],
-        &late,
-    )?;
-    content(&rt, alloc, &[0xa0, 0x80], &of_version(6))?;
-    content(&rt, alloc, &[0xa6, 0x80], &of_version(6))?;
-    content(&rt, alloc, &[0x00, 0xa2, 0x80], &of_version(6))?;
-    // A code is not looked for at version 2, nor a nonce at version 4.
-    reads(
-        &rt,
-        alloc,
-        &[0x30, 0x06, 0xa0, 0x03, 0x02, 0x01, 0x02, 0xa4],
-        &of_version(2),
-    );
-    reads(
-        &rt,
-        alloc,
-        &[0x30, 0x06, 0xa0, 0x03, 0x02, 0x01, 0x04, 0xa5],
-        &of_version(4),
-    );
-    Ok(())
-}
-
-#[test]
-fn the_limit(rt: HostRuntime) -> Result<(), Fail> {
-    let mut request = TsRequest::default();
-    let mut octets = vec![in rt.alloc(); 7u8; 65518]?;
-    request.auth_info = octets_of(octets.clone()?);
-    assert_eq!(rt; request.buffer_len(), Ok(65535));
-    let mut sink = VecSink::new(rt.alloc());
-    assert_eq!(rt; request.encode_ts_request(&mut sink), Ok(()));
-    assert_eq!(rt; sink.written().len(), 65535);
-    reads(&rt, rt.alloc(), sink.written(), &request);
-    octets.push(7)?;
-    request.auth_info = octets_of(octets);
-    let mut sink = VecSink::new(rt.alloc());
-    assert_eq!(rt;
-        request.encode_ts_request(&mut sink),
-        Err(WireKind::InvalidData)
-    );
-    assert_eq!(rt; sink.written().len(), 0);
-    assert_eq!(rt; request.buffer_len(), Err(WireKind::InvalidData));
-    Ok(())
-}
-
-fn octets_of(bytes: Vec<u8>) -> Option<Bytes> {
-    Some(Bytes::from_vec(bytes))
+fn nested_lengths(rt: HostRuntime) {
+    let bytes = &[
+        0x30, 0x23, 0xa0, 0x7f, 0x02, 0x01, 0x06, 0xa1, 0x00, 0x30, 0x7f, 0x30, 0x05, 0xa0, 0x81,
+        0xff, 0x04, 0x01, 0x41, 0xa2, 0x82, 0xff, 0xfb, 0x04, 0x81, 0x01, 0x42, 0xa3, 0x00, 0x04,
+        0x01, 0x43, 0xa4, 0x7f, 0x02, 0x01, 0x05,
+    ];
+    reads_as(&rt, rt.alloc(), bytes, request_of_each(rt.alloc()));
 }

@@ -1,9 +1,8 @@
-use crate::tests::{ERROR_CODE, reads};
-use crate::*;
+use crate::tests::{ERROR_CODE, reads, unmade};
 use sspi_ber::{FaultySink, FaultySource, SliceSource, WireKind};
+use sspi_tsreq::TsRequest;
 use std::alloc::Global;
 use std::process::Abort;
-use std::test::Fail;
 
 fn measures(rt: &impl Abort, bytes: &[u8], size: usize, rest: &[u8]) {
     let mut source = SliceSource::new(bytes);
@@ -56,15 +55,18 @@ fn writing_fails_at(rt: &impl Abort, alloc: Global, request: &TsRequest, call: u
     assert!(rt; ERROR_CODE.starts_with(sink.written()));
 }
 
-// A sink that fails has a front of the spelling.
+/// A sink that fails at this call has a front of the spelling.
+fn sink_fails_at(rt: &impl Abort, alloc: Global, call: u64) {
+    match TsRequest::from_buffer(alloc, ERROR_CODE) {
+        Ok(request) => writing_fails_at(rt, alloc, &request, call),
+        Err(_) => unmade(rt),
+    }
+}
+
 #[test]
-fn failing_sinks(rt: HostRuntime) -> Result<(), Fail> {
-    let request = TsRequest::from_buffer(rt.alloc(), ERROR_CODE)
-        .ok()
-        .ok_or("refused")?;
-    writing_fails_at(&rt, rt.alloc(), &request, 0);
-    writing_fails_at(&rt, rt.alloc(), &request, 1);
-    writing_fails_at(&rt, rt.alloc(), &request, 2);
-    writing_fails_at(&rt, rt.alloc(), &request, 5);
-    Ok(())
+fn failing_sinks(rt: HostRuntime) {
+    sink_fails_at(&rt, rt.alloc(), 0);
+    sink_fails_at(&rt, rt.alloc(), 1);
+    sink_fails_at(&rt, rt.alloc(), 2);
+    sink_fails_at(&rt, rt.alloc(), 5);
 }

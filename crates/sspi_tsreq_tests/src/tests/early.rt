@@ -1,5 +1,5 @@
-use crate::*;
 use sspi_ber::{FaultySink, FaultySource, SliceSource, VecSink, WireKind};
+use sspi_tsreq::{EARLY_USER_AUTH_RESULT_PDU_SIZE, EarlyUserAuthResult};
 use std::alloc::Global;
 use std::process::Abort;
 

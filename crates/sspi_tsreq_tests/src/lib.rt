@@ -1,0 +1,8 @@
+//! Tests of the messages of CredSSP by the calls that every caller has: worked requests, credentials and results, and each place
+//! where the first fault can be.
+//!
+//! The codec stands in `sspi_tsreq`, which is then proved once: a crate with tests is proved with them and without.
+#![tactic(auto)]
+
+#[cfg(test)]
+mod tests;
