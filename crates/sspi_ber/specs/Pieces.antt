@@ -1,5 +1,5 @@
--- The pieces of BER read from left to right, with the first fault. A length's first byte and an integer's length are
--- judged before the bytes that they announce.
+-- The pieces of BER read from left to right, with the first fault. What is wrong with a length's first byte, or with the
+-- length of an integer, comes before a want of the bytes behind it.
 use Rattle.std.specs.Prelude.{ℕ, ◌+◌, ◌-◌, ◌*◌, nat_lt, nat_le, ◌==◌, List, [], ◌∷◌, length, take, drop, Option, None, Some, Ok, Err, if◌then◌else◌}
 use Rattle.sspi_ber.specs.Limit.{max_content}
 use Rattle.sspi_ber.specs.Fault.{Ended, Invalid, Read, ◌>>=◌}

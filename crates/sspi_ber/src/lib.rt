@@ -1,8 +1,9 @@
 //! The pieces of BER (X.690) that CredSSP and SPNEGO are spelled in: tags, lengths, integers and octet strings.
 //!
-//! Writers spell the shortest form or refuse before a byte is written; the `sizeof_*` calls are the lengths of these spellings.
-//! Readers take each form of a length, shortest or not, and say the first fault from the left: the bytes end
-//! (`UnexpectedEof`), or a tag or a length is not as it must be (`InvalidData`).
+//! What is written has its lengths and integers in their shortest form, and a content past the limit is refused with nothing
+//! written; each `sizeof_*` says beforehand how many bytes come. What is read may have a length in a longer form than it
+//! needs. A reader goes from left to right and refuses at the first fault: the bytes end (`UnexpectedEof`), or a tag or a
+//! length is not as it must be (`InvalidData`).
 //!
 //! `Source` and `Sink` are the world outside, with a count of their faults: a read or write fault is answered only where that
 //! count rose, or stands at `u64::MAX`, and after a fault of a sink a writer answers nothing else. `SliceSource` and `VecSink` stand over memory, `FaultySource` and `FaultySink` fail once for tests, and

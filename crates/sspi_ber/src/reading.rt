@@ -138,7 +138,8 @@ fn is_integer_size(size: u16) -> bool
     size == 1 || size == 2 || size == 3 || size == 4 || size == 8
 }
 
-/// An INTEGER without sign, of 1, 2, 3, 4 or 8 content bytes. Another length is `InvalidData`, whatever follows it.
+/// An INTEGER without sign, whose content has 1, 2, 3, 4 or 8 bytes. A length other than these is `InvalidData`, whatever
+/// stands behind it.
 #[tactic(auto, unfolding(crate::specs::Pieces::integer_at))]
 pub fn read_integer<S: Source>(source: &mut S) -> Result<u64, WireKind>
     ensures read { Reads (λ n. n) (S.left source.old) (S.left source.new) result integer_at }

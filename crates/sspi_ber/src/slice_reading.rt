@@ -8,7 +8,7 @@ use crate::reading::{read_header, read_length};
 use crate::slice_source::SliceSource;
 use crate::wire_kind::WireKind;
 
-/// The length behind this identifier octet. Takes nothing and answers `None` where the next byte is another or none.
+/// The length behind this identifier octet. Answers `None`, and takes nothing, at the end and where another byte stands.
 #[tactic(auto, using(crate::proofs::Absent::absent), unfolding(crate::specs::Pieces::tag_or_absent_at))]
 pub fn read_tag_or_absent(source: &mut SliceSource<'_>, tag: u8) -> Result<Option<u16>, WireKind>
     ensures read { Gives (λ len. len) source.new result (tag_or_absent_at tag source.old) }
@@ -21,8 +21,8 @@ pub fn read_tag_or_absent(source: &mut SliceSource<'_>, tag: u8) -> Result<Optio
     Ok(Some(len))
 }
 
-/// The length behind a context-specific identifier octet. Takes nothing and answers `None` where the next byte is another or
-/// none. Of `tagnum` the low five bits count.
+/// The length behind a context-specific identifier octet. Answers `None`, and takes nothing, at the end and where another byte
+/// stands. Of `tagnum` the low five bits count.
 pub fn read_contextual_tag_or_absent(
     source: &mut SliceSource<'_>,
     tagnum: u8,

@@ -9,8 +9,8 @@ use crate::username::Username;
 use std::alloc::{AllocError, Global};
 
 impl Username {
-    /// The name that the text is. With a `@` it is a user principal name, split at the last one; with a `\` the
-    /// domain stands before it; with neither it is an account alone.
+    /// The name that the text is. With a `@` it is a user principal name, split at the last one; with a `\` it is a
+    /// down-level name, whose domain comes first; any other text is an account alone.
     /// `MixedFormat` comes exactly where both stand in the text, or `\` more than once.
     pub fn parse(alloc: Global, value: &str) -> Result<Username, UsernameError>
         ensures { IsNamed result (parse_name value.now) }

@@ -81,7 +81,8 @@ impl Username {
         })
     }
 
-    /// The text that shows the name: `account@domain`, `domain\account`, or the account alone.
+    /// The text that shows the name: of a UPN `account@domain`, of a down-level name `domain\account` (or, where it has no
+    /// domain, just the account).
     pub fn inner(&self) -> &str
         ensures text { result.now ≡ inner_of self.now }
         ensures name { IsName self.now }

@@ -4,9 +4,10 @@
 //! mechanism and `MechTypeList` lists them in the order of preference. `encode_mech_types` spells a list alone, which is the
 //! text that the MICs of a negotiation are made over.
 //!
-//! `decode` refuses exactly where the bytes begin with no token, and `encode` exactly where a length passes the limit; neither
-//! takes memory before it refuses. The grammar is `specs/Grammar.antt`, the spelling `specs/Spelling.antt`. `laws.rt` has what
-//! follows: a token that was written reads back, whatever follows it, and a list is known by its spelling.
+//! `decode` reads whatever bytes begin with a token and refuses all others; `encode` refuses where a length passes the limit,
+//! and there alone. Neither takes memory before it refuses. The grammar is `specs/Grammar.antt`, the spelling
+//! `specs/Spelling.antt`. `laws.rt` has what follows: a token that was written reads back, whatever follows it, and a list is
+//! known by its spelling.
 #![tactic(auto)]
 
 mod copying;

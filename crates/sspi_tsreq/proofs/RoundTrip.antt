@@ -1,4 +1,4 @@
--- What was spelled is read again, whatever follows it; and what else the two laws of the grammar give.
+-- The spelling of a value, with any bytes behind it, is read as that value; and what else the two laws of the grammar give.
 use Rattle.std.proofs.Common.{◌≡◌, ℕ, ◌^◌, ◌<◌, ◌≤◌, Bool, true, false, cond, leb, List, [], ◌∷◌, ◌++◌, length, take, drop, Option, None, Some, refl, sym, ap, ◌∙◌, subst, append_assoc, arith}
 use Rattle.std.specs.Prelude.{IfSome, IsTrue}
 use Rattle.std.proofs.lemmas.Bool.{leb-true}

@@ -135,8 +135,8 @@ pub fn buffer_types_are_compared_by_both_fields()
         && (a.buffer_flags.0 == b.buffer_flags.0)) }
 {}
 
-/// A `SecurityBufferType` as a number is read back, if its type is at most 18 and its flags have no
-/// bit but the two named ones; and a number that is read is what its parts are as a number.
+/// A `SecurityBufferType` as a number is read back, if its type is at most 18 and its flags are some of
+/// the two that have names; and a number that is read is what its parts are as a number.
 pub fn buffer_types_are_read_back()
     ensures there_and_back { (t : SecurityBufferType) → buffer_type_number t.buffer_type ≤ 18
         → bit_and t.buffer_flags.0 0x90000000 ≡ t.buffer_flags.0

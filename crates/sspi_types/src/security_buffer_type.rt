@@ -21,8 +21,8 @@ pub struct SecurityBufferType {
 }
 
 /// Reads the type from the low 28 bits and the flags from the high 4. `InternalError` exactly where
-/// the type is above 18, or a high bit other than `SECBUFFER_READONLY` and
-/// `SECBUFFER_READONLY_WITH_CHECKSUM` is set.
+/// the type is past the last one (18), or one of the four flag bits is set that neither
+/// `SECBUFFER_READONLY` nor `SECBUFFER_READONLY_WITH_CHECKSUM` has.
 impl TryFrom<u32> for SecurityBufferType {
     type Error = Error;
 

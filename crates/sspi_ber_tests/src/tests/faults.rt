@@ -3,7 +3,7 @@ use sspi_ber::{
     write_octet_string,
 };
 
-// A source that fails in mid-element, and goes on afterwards.
+// A source that fails inside an element, and goes on afterwards.
 #[test]
 fn a_failing_source(rt: HostRuntime) {
     let mut source = FaultySource::new(&[0x30, 0x82, 0x01, 0x00, 0x05], 2);
@@ -11,7 +11,7 @@ fn a_failing_source(rt: HostRuntime) {
     assert_eq!(rt; read_length(&mut source), Ok(1));
 }
 
-// A sink that fails in mid-element, and goes on afterwards.
+// A sink that fails inside an element, and goes on afterwards.
 #[test]
 fn a_failing_sink(rt: HostRuntime) {
     let mut sink = FaultySink::new(rt.alloc(), 1);
