@@ -6,7 +6,7 @@ use Rattle.sspi_credssp.specs.Server.{ServerView}
 use Rattle.sspi_credssp.specs.Table.{TableView}
 use Rattle.sspi_delegate.specs.Edits.{MemoryLinkView}
 use Rattle.sspi_delegate.specs.declared.carried.Carried.{Carried}
-use Rattle.sspi_matching.specs.Matching.{challenge_of, AreMatching, IsUndisturbed, unedited, NoneFailed, none_told}
+use Rattle.sspi_completeness.specs.Matching.{challenge_of, AreMatching, IsUndisturbed, unedited, NoneFailed, none_told}
 use Rattle.sspi_scenario.specs.declared.scenario.Scenario.{Scenario}
 use Rattle.sspi_run.specs.Ends.{NtlmContext, credentials_by, IsClientOf, IsServerOf, link_in}
 use Rattle.sspi_run.specs.Exchange.{told_entries, told_failing, table_faults}

@@ -2,7 +2,7 @@
 use Rattle.std.specs.Prelude.{◌≡◌, ◌^◌, ◌<◌, ◌≤◌, [], length, None, IfOk, nat_lt}
 use Rattle.sspi_names.specs.declared.identity.AuthIdentity.{AuthIdentity}
 use Rattle.sspi_names.specs.Identity.{IsIdentity}
-use Rattle.sspi_matching.specs.Matching.{HasEntry, IsShort, delegated_as, ComesToOk, IsCutShort}
+use Rattle.sspi_completeness.specs.Matching.{HasEntry, IsShort, delegated_as, ComesToOk, IsCutShort}
 use Rattle.sspi_scenario.specs.declared.scenario.Scenario.{Scenario}
 use Rattle.sspi_scenario.specs.Scenario.{own_identity}
 use Rattle.sspi_run.specs.declared.record.Record.{Record}

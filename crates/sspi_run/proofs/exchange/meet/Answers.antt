@@ -7,9 +7,9 @@ use Rattle.sspi_delegate.specs.Link.{StaysTold}
 use Rattle.sspi_delegate.proofs.Histories.{server_past_history}
 use Rattle.sspi_mech.specs.Ntlm.{ntlm_meaning}
 use Rattle.sspi_tsreq.specs.declared.mode.CredSspMode.{CredSspMode}
-use Rattle.sspi_matching.specs.Matching.{delegated_as, ComesToOk}
-use Rattle.sspi_matching.proofs.ThreeTurns.{ok_three}
-use Rattle.sspi_matching.proofs.Outcome.{calm_by, comes_to_ok, cut_short, settled_so, Settled}
+use Rattle.sspi_completeness.specs.Matching.{delegated_as, ComesToOk}
+use Rattle.sspi_completeness.proofs.ThreeTurns.{ok_three}
+use Rattle.sspi_completeness.proofs.Outcome.{calm_by, comes_to_ok, cut_short, settled_so, Settled}
 use Rattle.sspi_run.specs.Exchange.{ntlm, around, told_entries, told_failing, table_faults}
 use Rattle.sspi_run.specs.Outcome.{user_identity, IsPlain}
 use Rattle.sspi_run.proofs.Plainly.{plain_match, plain_link, plain_proxy}

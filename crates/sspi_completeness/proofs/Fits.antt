@@ -12,7 +12,7 @@ use Rattle.sspi_credssp.specs.declared.public_key.EndpointType.TheVariants.{Clie
 use Rattle.sspi_credssp.specs.PublicKey.{bytes_of, little_endian, incremented, magic, echo, prescribed}
 use Rattle.sspi_credssp.specs.Requests.{nonce_of}
 use Rattle.sspi_credssp.specs.ServerCause.{lacks_nonce}
-use Rattle.sspi_matching.proofs.Lengths.{size_of, message_fits}
+use Rattle.sspi_completeness.proofs.Lengths.{size_of, message_fits}
 
 -- ---- proofs of the key
 

@@ -13,8 +13,8 @@ use Rattle.sspi_tsreq.specs.declared.mode.CredSspMode.TheVariants.{WithCredentia
 use Rattle.sspi_tsreq.specs.Creds.{buffers_text, creds_of, delegated, delegated_credentials}
 use Rattle.sspi_tsreq.proofs.CredsBack.{credentials_back_alone}
 use Rattle.sspi_credssp.specs.Credentials.{delegated_text, delegated_identity, identity_in, named_or_refused}
-use Rattle.sspi_matching.specs.Matching.{IsShort, delegated_as}
-use Rattle.sspi_matching.proofs.Lengths.{HasText, short_credentials}
+use Rattle.sspi_completeness.specs.Matching.{IsShort, delegated_as}
+use Rattle.sspi_completeness.proofs.Lengths.{HasText, short_credentials}
 
 abbrev empty_identity : AuthIdentity
 empty_identity = record { username = down_level [] []; password = record { value = [] } }

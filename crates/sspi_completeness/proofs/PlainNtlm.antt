@@ -48,15 +48,15 @@ use Rattle.sspi_credssp.specs.ServerCause.{LookUpRefused, failed, nobody, Identi
 use Rattle.sspi_credssp.specs.ServerStep.{IsIdentified, is_identified, server_args}
 use Rattle.sspi_credssp.specs.ServerTurn.{SameServer}
 use Rattle.sspi_delegate.specs.Asking.{KdcCalls}
-use Rattle.sspi_matching.specs.Matching.{config_of, challenge_of, HasEntry, AreMatching, delegated_as}
-use Rattle.sspi_matching.proofs.Accepting.{IsPeer, Takes}
-use Rattle.sspi_matching.proofs.Blobs.{blob_of, blob_length}
-use Rattle.sspi_matching.proofs.ClientTurns.{Walks}
-use Rattle.sspi_matching.proofs.Negotiation.{IsNegotiation, AreAlike}
-use Rattle.sspi_matching.proofs.NtlmEnds.{client_config, at_rest, as_ntlm, IfNtlm, client_first, server_first, goes_on_as, stepped_once, maker, taker}
-use Rattle.sspi_matching.proofs.NtlmRound.{last_token, logs_on, claimed, first_found, key_is, proof_length, token_length}
-use Rattle.sspi_matching.proofs.Shortness.{short_name}
-use Rattle.sspi_matching.proofs.Texts.{HasDelegated, delegates}
+use Rattle.sspi_completeness.specs.Matching.{config_of, challenge_of, HasEntry, AreMatching, delegated_as}
+use Rattle.sspi_completeness.proofs.Accepting.{IsPeer, Takes}
+use Rattle.sspi_completeness.proofs.Blobs.{blob_of, blob_length}
+use Rattle.sspi_completeness.proofs.ClientTurns.{Walks}
+use Rattle.sspi_completeness.proofs.Negotiation.{IsNegotiation, AreAlike}
+use Rattle.sspi_completeness.proofs.NtlmEnds.{client_config, at_rest, as_ntlm, IfNtlm, client_first, server_first, goes_on_as, stepped_once, maker, taker}
+use Rattle.sspi_completeness.proofs.NtlmRound.{last_token, logs_on, claimed, first_found, key_is, proof_length, token_length}
+use Rattle.sspi_completeness.proofs.Shortness.{short_name}
+use Rattle.sspi_completeness.proofs.Texts.{HasDelegated, delegates}
 
 -- ---- what the steps come to
 

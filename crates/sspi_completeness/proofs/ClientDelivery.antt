@@ -28,7 +28,7 @@ use Rattle.sspi_delegate.specs.declared.turn.Outcome.TheVariants as outcome
 use Rattle.sspi_delegate.specs.Asking.{KdcCalls}
 use Rattle.sspi_delegate.specs.EndTurns.{came_of}
 use Rattle.sspi_delegate.specs.History.{ClientMakes}
-use Rattle.sspi_matching.proofs.Ends.{Comes, is_false, stops_later, made_past, sealed_few, Holds, IsMaker, IsTaker, holds_still, sealed_field, ClientIs}
+use Rattle.sspi_completeness.proofs.Ends.{Comes, is_false, stops_later, made_past, sealed_few, Holds, IsMaker, IsTaker, holds_still, sealed_field, ClientIs}
 
 module _ {C D : Type 0} (c : Meaning ContextSetting C) (k : KdcCalls D) where
   abbrev View : Type 0

@@ -23,10 +23,10 @@ use Rattle.sspi_delegate.specs.History.{ClientPast, ServerHistory}
 use Rattle.sspi_delegate.specs.Link.{StaysTold}
 use Rattle.sspi_delegate.specs.Messages.{newest_message, AnswerTold}
 use Rattle.sspi_delegate.specs.ServerRun.{server_end, GivesNewest}
-use Rattle.sspi_matching.specs.Matching.{AreMatching, IsUndisturbed, IsCalm, delegated_as, ComesToOk, IsCutShort}
-use Rattle.sspi_matching.proofs.Negotiated.{known}
-use Rattle.sspi_matching.proofs.PlainNtlm.{negotiation, delegated, alike}
-use Rattle.sspi_matching.proofs.Settling.{Settled, settled}
+use Rattle.sspi_completeness.specs.Matching.{AreMatching, IsUndisturbed, IsCalm, delegated_as, ComesToOk, IsCutShort}
+use Rattle.sspi_completeness.proofs.Negotiated.{known}
+use Rattle.sspi_completeness.proofs.PlainNtlm.{negotiation, delegated, alike}
+use Rattle.sspi_completeness.proofs.Settling.{Settled, settled}
 
 pub comes_to_ok : (limit : ℕ) (identity : AuthIdentity) (result : Result Delegation DelegateError) → 3 ≤ limit → Settled 3 limit identity result → ComesToOk identity result
 comes_to_ok limit identity (Ok delegation) enough settled = settled

@@ -5,7 +5,7 @@ ghost use Rattle.sspi_names.specs.declared.credentials.Credentials.TheVariants a
 ghost use Rattle.sspi_names.specs.Identity.{IsIdentity};
 ghost use Rattle.sspi_credssp.specs.Client.{IsFreshClient};
 ghost use Rattle.sspi_credssp.specs.Server.{IsFreshServer};
-ghost use Rattle.sspi_matching.specs.Matching.{challenge_of, IsShort, delegated_as, ComesToOk, IsCutShort};
+ghost use Rattle.sspi_completeness.specs.Matching.{challenge_of, IsShort, delegated_as, ComesToOk, IsCutShort};
 
 use crate::delegate_plainly;
 use sspi_credssp::{ClientMode, CredSspClient, CredSspServer, ServerMode, TableProxy};

@@ -32,11 +32,11 @@ use Rattle.sspi_delegate.specs.Messages.{newest_message, CarryFails, AnswerTold}
 use Rattle.sspi_delegate.specs.Run.{LoggedButLast}
 use Rattle.sspi_delegate.specs.ServerRun.{server_end, GivesNewest}
 use Rattle.sspi_delegate.specs.Turns.{next_end, message_of, Alternates}
-use Rattle.sspi_matching.specs.Matching.{AreWhole, IsUndisturbed, unedited, shown, IsCalm, NoneFailed, none_told, none_counted}
-use Rattle.sspi_matching.proofs.Deliveries.{always_readable, never_too_long}
-use Rattle.sspi_matching.proofs.Ends.{Comes, Ends}
-use Rattle.sspi_matching.proofs.Fits.{IsMessage}
-use Rattle.sspi_matching.proofs.Points.{IsKnown, IsCalmAt, wrong_end, server_none, Stands, client_next, server_next, TurnIs, client_turn, server_turn, server_end as ends_here, stands, stands_on, newest_turn}
+use Rattle.sspi_completeness.specs.Matching.{AreWhole, IsUndisturbed, unedited, shown, IsCalm, NoneFailed, none_told, none_counted}
+use Rattle.sspi_completeness.proofs.Deliveries.{always_readable, never_too_long}
+use Rattle.sspi_completeness.proofs.Ends.{Comes, Ends}
+use Rattle.sspi_completeness.proofs.Fits.{IsMessage}
+use Rattle.sspi_completeness.proofs.Points.{IsKnown, IsCalmAt, wrong_end, server_none, Stands, client_next, server_next, TurnIs, client_turn, server_turn, server_end as ends_here, stands, stands_on, newest_turn}
 
 -- what an undisturbed exchange is settled by: Ok after this many messages of the client, or it may not make as many, or
 -- there was no memory

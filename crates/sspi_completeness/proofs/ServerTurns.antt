@@ -27,8 +27,8 @@ use Rattle.sspi_delegate.specs.declared.turn.Outcome.{Outcome}
 use Rattle.sspi_delegate.specs.declared.turn.Outcome.TheVariants as outcome
 use Rattle.sspi_delegate.specs.EndTurns.{came_of}
 use Rattle.sspi_delegate.specs.History.{ServerMakes}
-use Rattle.sspi_matching.proofs.Accepting.{Takes, Left, come_at, refused_at}
-use Rattle.sspi_matching.proofs.Ends.{Comes, is_false, stops_later, made_past, differs_never, Holds, unused_in, ServerIs}
+use Rattle.sspi_completeness.proofs.Accepting.{Takes, Left, come_at, refused_at}
+use Rattle.sspi_completeness.proofs.Ends.{Comes, is_false, stops_later, made_past, differs_never, Holds, unused_in, ServerIs}
 
 module _ {C P : Type 0} (c : Meaning ContextSetting C) (laws : IsContext c) (told : P → Option (List AuthIdentity)) (faults : P → ℕ) where
   abbrev View : Type 0

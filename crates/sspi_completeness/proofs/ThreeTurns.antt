@@ -38,9 +38,9 @@ use Rattle.sspi_delegate.specs.EndTurns.{as_turn, onto_server, server_turns, Wen
 use Rattle.sspi_delegate.specs.Headline.{HasExchanged}
 use Rattle.sspi_delegate.specs.History.{ServerMakes, ServerMade, ServerHistory}
 use Rattle.sspi_delegate.specs.Turns.{other, next_end, Alternates}
-use Rattle.sspi_matching.specs.Matching.{config_of}
-use Rattle.sspi_matching.proofs.Ends.{in_context}
-use Rattle.sspi_matching.proofs.NtlmEnds.{IfNtlm, server_first}
+use Rattle.sspi_completeness.specs.Matching.{config_of}
+use Rattle.sspi_completeness.proofs.Ends.{in_context}
+use Rattle.sspi_completeness.proofs.NtlmEnds.{IfNtlm, server_first}
 
 asks_at : (b : Bool) (m m2 : NtlmState) (step : Step) → challenges m b ≡ Goes m2 step → step.status ≡ statuses.ContinueNeeded
 asks_at true m m2 step e =

@@ -22,9 +22,9 @@ use Rattle.sspi_delegate.specs.EndTurns.{as_turn, came_of, onto_client, onto_ser
 use Rattle.sspi_delegate.specs.History.{ClientMakes, ClientMade, ClientHistory, ServerMakes, ServerMade, ServerHistory}
 use Rattle.sspi_delegate.specs.Run.{IsDelivered, Logged}
 use Rattle.sspi_delegate.specs.Turns.{other, next_end, message_of, GoesOn, AllGoOn, Alternates}
-use Rattle.sspi_matching.proofs.Deliveries.{next_request}
-use Rattle.sspi_matching.proofs.Ends.{Comes, Ends}
-use Rattle.sspi_matching.proofs.Fits.{IsMessage}
+use Rattle.sspi_completeness.proofs.Deliveries.{next_request}
+use Rattle.sspi_completeness.proofs.Ends.{Comes, Ends}
+use Rattle.sspi_completeness.proofs.Fits.{IsMessage}
 
 pub wrong_end : (e : End) → e ≡ Client → e ≡ Server → ⊥
 wrong_end e one two = cc

@@ -23,8 +23,8 @@ use Rattle.sspi_delegate.specs.declared.turn.Outcome.{Outcome}
 use Rattle.sspi_delegate.specs.declared.turn.Outcome.TheVariants as outcome
 use Rattle.sspi_delegate.specs.EndTurns.{came_of}
 use Rattle.sspi_delegate.specs.History.{ServerMakes}
-use Rattle.sspi_matching.proofs.Ends.{Ends, is_false, stops_later, Holds, IsTaker, holds_still, ServerIs}
-use Rattle.sspi_matching.proofs.ServerTurns.{cause_past}
+use Rattle.sspi_completeness.proofs.Ends.{Ends, is_false, stops_later, Holds, IsTaker, holds_still, ServerIs}
+use Rattle.sspi_completeness.proofs.ServerTurns.{cause_past}
 
 module _ {C P : Type 0} (c : Meaning ContextSetting C) (laws : IsContext c) (told : P → Option (List AuthIdentity)) (faults : P → ℕ) where
   abbrev View : Type 0

@@ -5,10 +5,10 @@ use Rattle.sspi_credssp.proofs.ContextLaws.{lawful}
 use Rattle.sspi_credssp.specs.Context.{either}
 use Rattle.sspi_delegate.specs.Asking.{kdc_calls}
 use Rattle.sspi_delegate.proofs.Histories.{server_past_history}
-use Rattle.sspi_matching.proofs.PlainSettled.{comes_to_ok, cut_short, settled_plainly}
-use Rattle.sspi_matching.proofs.Settling.{calm_by}
-use Rattle.sspi_matching.proofs.ThreeTurns.{ok_three, too_few}
-use Rattle.sspi_matching.proofs.plain.delegate_plainly.Goals as goal
+use Rattle.sspi_completeness.proofs.PlainSettled.{comes_to_ok, cut_short, settled_plainly}
+use Rattle.sspi_completeness.proofs.Settling.{calm_by}
+use Rattle.sspi_completeness.proofs.ThreeTurns.{ok_three, too_few}
+use Rattle.sspi_completeness.proofs.plain.delegate_plainly.Goals as goal
 
 pub returns-clause-three : goal.returns-clause-three
 returns-clause-three g c fresh =

@@ -32,9 +32,9 @@ use Rattle.sspi_delegate.specs.declared.turn.Outcome.{Outcome}
 use Rattle.sspi_delegate.specs.declared.turn.Outcome.TheVariants as outcome
 use Rattle.sspi_delegate.specs.EndTurns.{came_of}
 use Rattle.sspi_delegate.specs.History.{ServerMakes}
-use Rattle.sspi_matching.proofs.Accepting.{IsPeer, named_is, come_at}
-use Rattle.sspi_matching.proofs.Ends.{Comes, is_false, stops_later, sealed_few, Holds, IsMaker, IsTaker, holds_still, sealed_field, ServerIs}
-use Rattle.sspi_matching.proofs.ServerTurns.{NegoGiven, nego_acts, same_on, stands_noted, cause_past, over_answer, over_cause, unused, noted_now, replies, over_left, never_finishes, refusal}
+use Rattle.sspi_completeness.proofs.Accepting.{IsPeer, named_is, come_at}
+use Rattle.sspi_completeness.proofs.Ends.{Comes, is_false, stops_later, sealed_few, Holds, IsMaker, IsTaker, holds_still, sealed_field, ServerIs}
+use Rattle.sspi_completeness.proofs.ServerTurns.{NegoGiven, nego_acts, same_on, stands_noted, cause_past, over_answer, over_cause, unused, noted_now, replies, over_left, never_finishes, refusal}
 
 asks_proof : (st : SecurityStatus) → IsOver (Some st) → after_status (Some st) ≡ PubKeyInfo
 asks_proof statuses.Ok over = refl

@@ -28,9 +28,9 @@ use Rattle.sspi_credssp.specs.ClientStep.{Asked, Walked, stepped, resumed, still
 use Rattle.sspi_credssp.specs.Context.{ContextSetting, ForClient, ForServer, either}
 use Rattle.sspi_credssp.specs.Counts.{silent, cleared}
 use Rattle.sspi_credssp.proofs.Deliver.{bare_after}
-use Rattle.sspi_matching.specs.Matching.{config_of}
-use Rattle.sspi_matching.proofs.Blobs.{blob_of, blob_long, one_text, never_unopened, never_unsealed}
-use Rattle.sspi_matching.proofs.Ends.{IsMaker, IsTaker}
+use Rattle.sspi_completeness.specs.Matching.{config_of}
+use Rattle.sspi_completeness.proofs.Blobs.{blob_of, blob_long, one_text, never_unopened, never_unsealed}
+use Rattle.sspi_completeness.proofs.Ends.{IsMaker, IsTaker}
 
 abbrev pub client_config : ClientMode → NtlmConfig
 client_config (client.Ntlm config) = config

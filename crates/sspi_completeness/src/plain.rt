@@ -3,7 +3,7 @@ ghost use Rattle.sspi_credssp.specs.Context.{either};
 ghost use Rattle.sspi_delegate.specs.Delegates.{around_by, parties, Delegates, Accounts, Stays};
 ghost use Rattle.sspi_delegate.specs.Headline.{IsFresh};
 ghost use Rattle.sspi_mech.specs.Ntlm.{ntlm_meaning};
-ghost use Rattle.sspi_matching.specs.Matching.{AreMatching, IsUndisturbed, NoneFailed, delegated_as, ComesToOk, IsCutShort};
+ghost use Rattle.sspi_completeness.specs.Matching.{AreMatching, IsUndisturbed, NoneFailed, delegated_as, ComesToOk, IsCutShort};
 
 use sspi_credssp::{CredSspClient, CredSspServer, CredentialsProxy};
 use sspi_delegate::{DelegateError, Delegation, Link, Transcript, delegate};

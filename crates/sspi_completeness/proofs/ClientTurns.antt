@@ -33,7 +33,7 @@ use Rattle.sspi_delegate.specs.declared.turn.Outcome.TheVariants as outcome
 use Rattle.sspi_delegate.specs.Asking.{KdcCalls}
 use Rattle.sspi_delegate.specs.EndTurns.{came_of}
 use Rattle.sspi_delegate.specs.History.{ClientMakes}
-use Rattle.sspi_matching.proofs.Ends.{Comes, in_context, is_false, stops_later, made_past, sealed_few, noted_at, Holds, IsMaker, sealed_field, unused_in, ClientIs, fits_later}
+use Rattle.sspi_completeness.proofs.Ends.{Comes, in_context, is_false, stops_later, made_past, sealed_few, noted_at, Holds, IsMaker, sealed_field, unused_in, ClientIs, fits_later}
 
 module _ {C : Type 0} (c : Meaning ContextSetting C) (laws : IsContext c) where
   abbrev View : Type 0

@@ -19,7 +19,7 @@ use Rattle.sspi_credssp.specs.Server.{ServerView}
 use Rattle.sspi_credssp.specs.ServerCause.{IdentifyCause}
 use Rattle.sspi_credssp.specs.ServerStep.{Knowing, Unknown, Identified, Completed, IsIdentified, Accepted, accepted, identified, completed, recounted, AcceptedSoFar, so_far, RefusedAt, OnStep, refused_step, server_args}
 use Rattle.sspi_credssp.proofs.Deliver.{bare_after}
-use Rattle.sspi_matching.proofs.Ends.{in_context}
+use Rattle.sspi_completeness.proofs.Ends.{in_context}
 
 module _ {C : Type 0} (c : Meaning ContextSetting C) (laws : IsContext c) where
   -- what comes of the name of the peer of context y, by these entries: the context z, which is complete

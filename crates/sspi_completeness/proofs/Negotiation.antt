@@ -22,11 +22,11 @@ use Rattle.sspi_credssp.specs.Requests.{nonce_of, unless_empty}
 use Rattle.sspi_credssp.specs.Server.{ServerView}
 use Rattle.sspi_credssp.specs.ServerTurn.{IsOver, SameServer}
 use Rattle.sspi_delegate.specs.Asking.{KdcCalls}
-use Rattle.sspi_matching.proofs.Accepting.{IsPeer, Takes}
-use Rattle.sspi_matching.proofs.ClientTurns.{Walks}
-use Rattle.sspi_matching.proofs.Ends.{IsMaker, IsTaker}
-use Rattle.sspi_matching.proofs.Fits.{IsMessage, IsNonce, is_message, nonce_kept, nonce_size, prescribed_length}
-use Rattle.sspi_matching.proofs.Lengths.{size_of, no_code}
+use Rattle.sspi_completeness.proofs.Accepting.{IsPeer, Takes}
+use Rattle.sspi_completeness.proofs.ClientTurns.{Walks}
+use Rattle.sspi_completeness.proofs.Ends.{IsMaker, IsTaker}
+use Rattle.sspi_completeness.proofs.Fits.{IsMessage, IsNonce, is_message, nonce_kept, nonce_size, prescribed_length}
+use Rattle.sspi_completeness.proofs.Lengths.{size_of, no_code}
 
 -- What the ends of every mode have: one key and one kind of proof, and credentials with a text that delegates this identity.
 pub record AreAlike {C P : Type 0} (a : ClientView C) (b : ServerView C P) (text : List ℕ) (identity : AuthIdentity) : Type 0 where

@@ -10,8 +10,8 @@ use Rattle.sspi_credssp.specs.Server.{ServerView}
 use Rattle.sspi_credssp.specs.Table.{TableView}
 use Rattle.sspi_delegate.specs.declared.edit.Edit.{Edit}
 use Rattle.sspi_delegate.specs.Edits.{MemoryLinkView}
-use Rattle.sspi_matching.specs.Matching.{challenge_of, AreMatching, unedited, none_told, IsShort, delegated_as, ComesToOk}
-use Rattle.sspi_matching.proofs.tests.delegate_matched.Goals as goal
+use Rattle.sspi_completeness.specs.Matching.{challenge_of, AreMatching, unedited, none_told, IsShort, delegated_as, ComesToOk}
+use Rattle.sspi_completeness.proofs.tests.delegate_matched.Goals as goal
 
 alone : (i : AuthIdentity) → entry_of (i ∷ []) i.username ≡ Some i
 unfolding entry_of

@@ -16,8 +16,8 @@ use Rattle.sspi_names.specs.Identity.{IsIdentity, buffers_of, user_text, domain_
 use Rattle.sspi_names.specs.Name.{Name, IsName, inner_of}
 use Rattle.sspi_names.specs.Utf16.{units_of}
 use Rattle.sspi_names.proofs.Identities.{inner_of-IsUtf8}
-use Rattle.sspi_matching.specs.Matching.{IsShort}
-use Rattle.sspi_matching.proofs.NtlmRound.{inner_length}
+use Rattle.sspi_completeness.specs.Matching.{IsShort}
+use Rattle.sspi_completeness.proofs.NtlmRound.{inner_length}
 
 -- a character of one unit has three bytes at most, and one of two units four
 char_bytes : (c : ℕ) → length (encode c) ≤ 3 * length (encode_utf16 c)

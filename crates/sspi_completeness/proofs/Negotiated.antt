@@ -21,17 +21,17 @@ use Rattle.sspi_delegate.specs.declared.turn.Outcome.TheVariants.{Reply, Final, 
 use Rattle.sspi_delegate.specs.Asking.{KdcCalls}
 use Rattle.sspi_delegate.specs.EndTurns.{came_of}
 use Rattle.sspi_delegate.specs.History.{ClientMakes, ServerMakes}
-use Rattle.sspi_matching.proofs.Accepting.{IsPeer, Takes}
-use Rattle.sspi_matching.proofs.ClientDelivery as client_last
-use Rattle.sspi_matching.proofs.ClientTurns as client
-use Rattle.sspi_matching.proofs.Ends.{Comes, Ends, Holds, held_is, ClientIs, ServerIs, fresh_client, fresh_server, client_emptied, server_emptied}
-use Rattle.sspi_matching.proofs.Fits.{IsMessage, same_proof, carried_nonce, nonce_there}
-use Rattle.sspi_matching.proofs.Lengths.{no_code}
-use Rattle.sspi_matching.proofs.Negotiation.{AreAlike, IsNegotiation, last_step, given_token, up_token, down_token, proof_message, sent_nonce, answer_message, last_message, given_only, taken_only, up_fits, down_fits, proof_fits, answer_code, answer_fits, last_fits}
-use Rattle.sspi_matching.proofs.Points.{IsKnown}
-use Rattle.sspi_matching.proofs.ServerDelivery as server_last
-use Rattle.sspi_matching.proofs.ServerProofs as proofs
-use Rattle.sspi_matching.proofs.ServerTurns as server
+use Rattle.sspi_completeness.proofs.Accepting.{IsPeer, Takes}
+use Rattle.sspi_completeness.proofs.ClientDelivery as client_last
+use Rattle.sspi_completeness.proofs.ClientTurns as client
+use Rattle.sspi_completeness.proofs.Ends.{Comes, Ends, Holds, held_is, ClientIs, ServerIs, fresh_client, fresh_server, client_emptied, server_emptied}
+use Rattle.sspi_completeness.proofs.Fits.{IsMessage, same_proof, carried_nonce, nonce_there}
+use Rattle.sspi_completeness.proofs.Lengths.{no_code}
+use Rattle.sspi_completeness.proofs.Negotiation.{AreAlike, IsNegotiation, last_step, given_token, up_token, down_token, proof_message, sent_nonce, answer_message, last_message, given_only, taken_only, up_fits, down_fits, proof_fits, answer_code, answer_fits, last_fits}
+use Rattle.sspi_completeness.proofs.Points.{IsKnown}
+use Rattle.sspi_completeness.proofs.ServerDelivery as server_last
+use Rattle.sspi_completeness.proofs.ServerProofs as proofs
+use Rattle.sspi_completeness.proofs.ServerTurns as server
 
 -- The round of a token that asks for more, with the number of those that follow it, of the client's proof, and the last.
 pub data Round (j : ℕ) : Type 0 where
