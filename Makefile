@@ -4,7 +4,7 @@
 run:
 	@cd crates/sspi_run && rt try -- delegate < ../../examples/delegate.scenario
 
-# The gate, as the merge runs it.
+# Every proof, every wrong body of must-fail/, every test and program.
 test:
 	@rt ci
 
