@@ -22,8 +22,6 @@ pub mod network;
 mod parsing;
 mod separators;
 mod shape;
-#[cfg(test)]
-mod tests;
 pub mod username;
 pub mod utf16;
 
