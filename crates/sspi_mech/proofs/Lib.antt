@@ -1,8 +1,8 @@
 pub mod ContextLaws
+pub mod Lives
 pub mod Messages
 pub mod Opened
 pub mod Protected
-pub mod Rounds
 pub mod SumLaws
 pub mod SumMechanism
 pub mod Text

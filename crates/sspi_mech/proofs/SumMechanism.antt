@@ -33,6 +33,16 @@ module _ {S T A B : Type 0} (r q : ℕ) (n : Meaning S A) (k : Meaning T B) (ln 
         (λ x x2. c.left x2 < c.left x) (λ x x2 h. ln.step_asks x x2 a e h) (λ y y2 h. lk.step_asks y y2 a e h) m m2;
     resume_asks = λ m m2 b e. by_both (λ x x2. n.resumes x b (Ask e) x2) (λ y y2. k.resumes y b (Ask e) y2)
         (λ x x2. c.left x2 < c.left x) (λ x x2 h. ln.resume_asks x x2 b e h) (λ y y2 h. lk.resume_asks y y2 b e h) m m2;
+    acquire_left = λ m m2 u d b. by_both (λ x x2. n.acquires x u d b x2) (λ y y2. k.acquires y u d b y2)
+        (λ x x2. c.left x2 ≤ c.left x) (λ x x2 h. ln.acquire_left x x2 u d b h) (λ y y2 h. lk.acquire_left y y2 u d b h) m m2;
+    step_left = λ m m2 a e. by_both (λ x x2. n.steps x a e x2) (λ y y2. k.steps y a e y2)
+        (λ x x2. c.left x2 ≤ c.left x) (λ x x2 h. ln.step_left x x2 a e h) (λ y y2 h. lk.step_left y y2 a e h) m m2;
+    resume_left = λ m m2 b e. by_both (λ x x2. n.resumes x b e x2) (λ y y2. k.resumes y b e y2)
+        (λ x x2. c.left x2 ≤ c.left x) (λ x x2 h. ln.resume_left x x2 b e h) (λ y y2 h. lk.resume_left y y2 b e h) m m2;
+    accept_left = λ m m2 a e. by_both (λ x x2. n.accepts x a e x2) (λ y y2. k.accepts y a e y2)
+        (λ x x2. c.left x2 ≤ c.left x) (λ x x2 h. ln.accept_left x x2 a e h) (λ y y2 h. lk.accept_left y y2 a e h) m m2;
+    identify_left = λ m m2 ids. by_both (λ x x2. n.identifies x ids x2) (λ y y2. k.identifies y ids y2)
+        (λ x x2. c.left x2 ≤ c.left x) (λ x x2 h. ln.identify_left x x2 ids h) (λ y y2 h. lk.identify_left y y2 ids h) m m2;
     step_waits = λ m m2 a e. by_both (λ x x2. n.steps x a (Ask e) x2) (λ y y2. k.steps y a (Ask e) y2)
         (λ x x2. c.waits x2 ≡ true) (λ x x2 h. ln.step_waits x x2 a e h) (λ y y2 h. lk.step_waits y y2 a e h) m m2;
     resume_waits = λ m m2 b e. by_both (λ x x2. n.resumes x b (Ask e) x2) (λ y y2. k.resumes y b (Ask e) y2)

@@ -1,4 +1,4 @@
-use Rattle.std.specs.Prelude.{◌≡◌, ℕ, ◌<◌, ◌≤◌, List, length, Option, Result, Ok, true, false}
+use Rattle.std.specs.Prelude.{◌≡◌, ℕ, ◌<◌, ◌≤◌, List, length, Option, Result, true, false}
 use Rattle.sspi_types.specs.declared.credential_use.CredentialUse.{CredentialUse}
 use Rattle.sspi_types.specs.declared.error.Error.{Error}
 use Rattle.sspi_names.specs.declared.credentials.Credentials.{Credentials}

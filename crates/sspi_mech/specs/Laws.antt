@@ -20,9 +20,16 @@ pub record IsMechanism {S M : Type 0} (requests : ℕ) (it : Meaning S M) : Type
   pub step_refused : (m m2 : M) (a : StepArgs) (e : Error) → it.steps m a (Refused e) m2 → m2 ≡ m
   pub resume_refused : (m m2 : M) (b : Reply) (e : Error) → it.resumes m b (Refused e) m2 → m2 ≡ m
   pub accept_refused : (m m2 : M) (a : AcceptArgs) (e : Error) → it.accepts m a (Err e) m2 → m2 ≡ m
-  -- each question to a KDC is one fewer to come, and the object waits; done, it does not
+  -- each question to a KDC is one fewer to come, and no call has more of them come
+  pub acquire_left : (m m2 : M) (u : CredentialUse) (d : Option Credentials) (b : Option CredentialsBuffers) →
+      it.acquires m u d b m2 → it.left m2 ≤ it.left m
+  pub step_left : (m m2 : M) (a : StepArgs) (r : Answer) → it.steps m a r m2 → it.left m2 ≤ it.left m
+  pub resume_left : (m m2 : M) (b : Reply) (r : Answer) → it.resumes m b r m2 → it.left m2 ≤ it.left m
+  pub accept_left : (m m2 : M) (a : AcceptArgs) (r : Result Step Error) → it.accepts m a r m2 → it.left m2 ≤ it.left m
+  pub identify_left : (m m2 : M) (ids : List Credentials) → it.identifies m ids m2 → it.left m2 ≤ it.left m
   pub step_asks : (m m2 : M) (a : StepArgs) (q : NetworkRequest) → it.steps m a (Ask q) m2 → it.left m2 < it.left m
   pub resume_asks : (m m2 : M) (b : Reply) (q : NetworkRequest) → it.resumes m b (Ask q) m2 → it.left m2 < it.left m
+  -- an object that asked waits; done, it does not
   pub step_waits : (m m2 : M) (a : StepArgs) (q : NetworkRequest) → it.steps m a (Ask q) m2 → it.waits m2 ≡ true
   pub resume_waits : (m m2 : M) (b : Reply) (q : NetworkRequest) → it.resumes m b (Ask q) m2 → it.waits m2 ≡ true
   pub step_done : (m m2 : M) (a : StepArgs) (s : Step) → it.steps m a (Done s) m2 → it.waits m2 ≡ false

@@ -3,6 +3,7 @@ pub mod Asking
 pub mod Calls
 pub mod Context
 pub mod Laws
+pub mod Life
 pub mod Meaning
 pub mod Ntlm
 pub mod NtlmAcquire

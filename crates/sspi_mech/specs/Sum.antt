@@ -1,5 +1,5 @@
 -- What a value means that is one of two, each with a meaning of its own.
-use Rattle.std.specs.Prelude.{◌⊎◌, ℕ, List}
+use Rattle.std.specs.Prelude.{◌⊎◌, List}
 use mathlib.Core.Logic.{inl, inr}
 use Rattle.sspi_names.specs.declared.credentials.Credentials.{Credentials}
 use Rattle.sspi_mech.specs.Calls.{Call, ToIdentify}

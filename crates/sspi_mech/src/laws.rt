@@ -1,8 +1,9 @@
 //! What holds of mechanisms taken together, and of what stands for one.
-ghost use Rattle.std.specs.Prelude.{◌≡◌, List, max};
+ghost use Rattle.std.specs.Prelude.{◌≡◌, ℕ, ◌+◌, ◌≤◌, List, max};
 ghost use Rattle.sspi_names.specs.declared.credentials.Credentials.{Credentials};
 ghost use Rattle.sspi_mech.specs.Context.{IsContext};
 ghost use Rattle.sspi_mech.specs.Laws.{IsMechanism};
+ghost use Rattle.sspi_mech.specs.Life.{HasLived};
 ghost use Rattle.sspi_mech.specs.Settings.{Setting};
 ghost use Rattle.sspi_mech.specs.Sum.{sum, taking, seen};
 
@@ -22,4 +23,9 @@ pub fn sum_is_context<N: Mechanism, K: Mechanism>()
 pub fn seen_is_context<M: Mechanism, R, C>()
     ensures { (parts : R → Setting) (view : C → M) (back : M → C) →
         ((m : M) → view (back m) ≡ m) → ((context : C) → back (view context) ≡ context) → IsContext (seen parts view back M.meaning) }
+{}
+
+/// Whatever its calls, an object has asked a KDC at most as often as `REQUESTS` says, and `requests_left` is what is left of that.
+pub fn object_asks_at_most<M: Mechanism>()
+    ensures { (m : M) (n : ℕ) → HasLived M.meaning m n → n + M.meaning.left m ≤ M.REQUESTS }
 {}

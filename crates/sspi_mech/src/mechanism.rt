@@ -23,7 +23,7 @@ use std::alloc::Global;
 /// code. `meaning` says what each call does, in the words of `specs/Meaning.antt`; `specs/Laws.antt` has what holds of
 /// every mechanism.
 pub trait Mechanism: Sized + Drop {
-    /// At most how often one object asks a KDC.
+    /// At most how often one object asks a KDC, whatever its calls (`laws::object_asks_at_most`).
     const REQUESTS: u32;
 
     ghost use Rattle.std.specs.Prelude.{ℕ};

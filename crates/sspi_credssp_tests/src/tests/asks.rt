@@ -93,12 +93,12 @@ impl<const TIMES: u32> Mechanism for Asks<TIMES> {
       made = λ _ m. (m.left ≡ TIMES) × (m.sealed ≡ 0) × (m.unsealed ≡ 0) × (m.signed ≡ 0) × (m.verified ≡ 0);
       unmade = λ _ _. ⊥;
       acquires = λ m _ _ _ m2. m2 ≡ m;
-      steps = λ m _ answer m2. (m2 ≡ record m { left = m2.left; waiting = m2.waiting }) × elim answer as (λ _. Type 0) [
+      steps = λ m _ answer m2. (m2 ≡ record m { left = m2.left; waiting = m2.waiting }) × (m2.left ≤ m.left) × elim answer as (λ _. Type 0) [
         | answers.Done _ ↦ m2.waiting ≡ false
         | answers.Ask _ ↦ (m2.left < m.left) × (m2.waiting ≡ true)
         | answers.Refused _ ↦ m2 ≡ m
       ];
-      resumes = λ m _ answer m2. (m2 ≡ record m { left = m2.left; waiting = m2.waiting }) × elim answer as (λ _. Type 0) [
+      resumes = λ m _ answer m2. (m2 ≡ record m { left = m2.left; waiting = m2.waiting }) × (m2.left ≤ m.left) × elim answer as (λ _. Type 0) [
         | answers.Done _ ↦ m2.waiting ≡ false
         | answers.Ask _ ↦ (m2.left < m.left) × (m2.waiting ≡ true)
         | answers.Refused _ ↦ m2 ≡ m
@@ -271,15 +271,20 @@ impl<const TIMES: u32> Mechanism for Asks<TIMES> {
     ghost laws = { record {
       made_fresh = λ s m made. Prim.cc;
       made_left = λ s m made. Prim.omega (arith, made.0);
-      step_refused = λ m m2 a e stepped. stepped.1;
-      resume_refused = λ m m2 b e resumed. resumed.1;
+      step_refused = λ m m2 a e stepped. stepped.2;
+      resume_refused = λ m m2 b e resumed. resumed.2;
       accept_refused = λ m m2 a e accepted. accepted.2;
-      step_asks = λ m m2 a q stepped. stepped.1.0;
-      resume_asks = λ m m2 b q resumed. resumed.1.0;
-      step_waits = λ m m2 a q stepped. stepped.1.1;
-      resume_waits = λ m m2 b q resumed. resumed.1.1;
-      step_done = λ m m2 a s stepped. stepped.1;
-      resume_done = λ m m2 b s resumed. resumed.1;
+      step_asks = λ m m2 a q stepped. stepped.2.0;
+      resume_asks = λ m m2 b q resumed. resumed.2.0;
+      acquire_left = λ m m2 u d b acquired. Prim.omega (arith, ap (λ x. x.left) acquired);
+      step_left = λ m m2 a r stepped. stepped.1;
+      resume_left = λ m m2 b r resumed. resumed.1;
+      accept_left = λ m m2 a r accepted. Prim.omega (arith, ap (λ x. x.left) accepted.0);
+      identify_left = λ m m2 ids is. Prim.omega (arith, ap (λ x. x.left) is);
+      step_waits = λ m m2 a q stepped. stepped.2.1;
+      resume_waits = λ m m2 b q resumed. resumed.2.1;
+      step_done = λ m m2 a s stepped. stepped.2;
+      resume_done = λ m m2 b s resumed. resumed.2;
       accept_done = λ m m2 a s accepted. accepted.1;
       acquire_counts = λ m m2 u d b acquired. Prim.cc;
       step_counts = λ m m2 a r stepped. Prim.cc;

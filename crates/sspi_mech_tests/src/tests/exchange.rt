@@ -1,8 +1,8 @@
-use crate::mechanism::Mechanism;
-use crate::tests::ends::{keyed_client, keyed_server};
+use crate::tests::ends::{given, holds, keyed_client, keyed_server};
+use sspi_mech::Mechanism;
 use sspi_types::{Error, ErrorKind, Reason};
 use std::alloc::{AllocError, Global};
-use std::test::Fail;
+use std::process::Abort;
 
 /// The tag of the first blob, of the second blob, of the first MIC and of the second MIC of an end, computed apart.
 struct Tags {
@@ -110,23 +110,32 @@ fn is_altered<T: Drop>(answer: Result<T, Error>) -> bool {
     }
 }
 
+fn are_carried<M: Mechanism>(rt: &impl Abort, from: &mut M, to: &mut M, tags: &Tags) {
+    for (text, (tag, mic)) in TEXTS.iter().zip(tags.blobs.iter().zip(tags.mics.iter())) {
+        holds(rt, is_carried(from, to, *text, tag, mic), "not carried");
+    }
+}
+
 #[test]
-fn both_directions(rt: HostRuntime) -> Result<(), Fail> {
-    let mut client = keyed_client(rt.alloc())?;
-    let mut server = keyed_server(rt.alloc())?;
-    for (text, (tag, mic)) in TEXTS
-        .iter()
-        .zip(CLIENT.blobs.iter().zip(CLIENT.mics.iter()))
-    {
-        assert!(rt; is_carried(&mut client, &mut server, *text, tag, mic));
-    }
-    for (text, (tag, mic)) in TEXTS
-        .iter()
-        .zip(SERVER.blobs.iter().zip(SERVER.mics.iter()))
-    {
-        assert!(rt; is_carried(&mut server, &mut client, *text, tag, mic));
-    }
-    Ok(())
+fn both_directions(rt: HostRuntime) {
+    let mut client = keyed_client(&rt, rt.alloc());
+    let mut server = keyed_server(&rt, rt.alloc());
+    are_carried(&rt, &mut client, &mut server, &CLIENT);
+    are_carried(&rt, &mut server, &mut client, &SERVER);
+}
+
+/// The tag of `text` as the client's first blob.
+const OF_TEXT: [u8; 16] = [
+    0xf3, 0x8b, 0x32, 0x85, 0x39, 0xac, 0xd4, 0x60, 0x51, 0x26, 0x0d, 0x22, 0x2c, 0x41, 0x22, 0x11,
+];
+
+fn seals_first<M: Mechanism>(rt: &impl Abort, mut client: M) {
+    holds(rt, seals(&mut client, b"text", &OF_TEXT), "another blob");
+}
+
+#[test]
+fn a_first_blob(rt: HostRuntime) {
+    seals_first(&rt, keyed_client(&rt, rt.alloc()));
 }
 
 /// The blob of a text with this tag.
@@ -149,13 +158,15 @@ fn counts_apart<M: Mechanism>(client: &mut M, blobs: &[Vec<u8>; 2]) -> bool {
         && client.verify(&SERVER.mics[0], b"first") == Ok(())
 }
 
+fn blobs_of_server(rt: &impl Abort, alloc: Global) -> [Vec<u8>; 2] {
+    let first = given(rt, blob_of(alloc, &SERVER.blobs[0], b"first"));
+    let second = given(rt, blob_of(alloc, &SERVER.blobs[1], b"second"));
+    [first, second]
+}
+
 #[test]
-fn a_mixed_sequence(rt: HostRuntime) -> Result<(), Fail> {
-    let blobs = [
-        blob_of(rt.alloc(), &SERVER.blobs[0], b"first")?,
-        blob_of(rt.alloc(), &SERVER.blobs[1], b"second")?,
-    ];
-    let mut client = keyed_client(rt.alloc())?;
-    assert!(rt; counts_apart(&mut client, &blobs));
-    Ok(())
+fn a_mixed_sequence(rt: HostRuntime) {
+    let blobs = blobs_of_server(&rt, rt.alloc());
+    let mut client = keyed_client(&rt, rt.alloc());
+    holds(&rt, counts_apart(&mut client, &blobs), "not apart");
 }

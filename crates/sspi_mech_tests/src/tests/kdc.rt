@@ -3,15 +3,15 @@
 ghost use Rattle.std.specs.Prelude.{◌≡◌, ◌≤◌, false, length, IfOk, OnOk};
 ghost use Rattle.sspi_mech.specs.Calls.{no_counts, one_sealed};
 
-use crate::args::InitializeSecurityContext;
-use crate::config::{MechConfig, NtlmConfig};
-use crate::mechanism::Mechanism;
-use crate::ntlm::Ntlm;
-use crate::step::{Answer, Reply, Step};
 use crate::tests::asks::Asks;
+use crate::tests::ends::{config, holds};
 use bitflags::Flags;
-use sspi_types::{Bytes, ClientRequestFlags, DataRepresentation, Error, ErrorKind, Reason, Text};
+use sspi_mech::{
+    Answer, InitializeSecurityContext, MechConfig, Mechanism, Ntlm, NtlmConfig, Reply, Step,
+};
+use sspi_types::{Bytes, ClientRequestFlags, DataRepresentation, Error, ErrorKind, Reason};
 use std::alloc::Global;
+use std::process::Abort;
 
 /// A client's step with no token, each of its questions answered by `reply`, and how many they were.
 fn first_step<M: Mechanism>(client: &mut M, reply: &Reply) -> (Result<Step, Error>, u32)
@@ -53,6 +53,7 @@ struct FirstBlob<M> {
 /// A new client after its first step, with its first blob.
 fn seal_first<M: Mechanism>(
     alloc: Global,
+    config: &NtlmConfig,
     reply: &Reply,
     text: &[u8],
 ) -> Result<FirstBlob<M>, Error>
@@ -61,8 +62,7 @@ fn seal_first<M: Mechanism>(
     ensures long { IfOk result (λ first. 16 ≤ length first.blob.items) }
     ensures count { IfOk result (λ first. M.meaning.counts first.client ≡ one_sealed no_counts) }
 {
-    let config = NtlmConfig::new(Text::from_text(alloc, "computer")?);
-    let mut client = M::make(alloc, &MechConfig::Ntlm(&config))?;
+    let mut client = M::make(alloc, &MechConfig::Ntlm(config))?;
     let (step, questions) = first_step(&mut client, reply);
     step?;
     let blob = client.seal(text)?;
@@ -73,38 +73,71 @@ fn seal_first<M: Mechanism>(
     })
 }
 
-/// The tag of `text` as the first message of a client whose key is 32 times the byte 7, computed apart.
-const TAG: [u8; 16] = [
-    0xc3, 0xf5, 0xf0, 0xb8, 0x3b, 0xa5, 0xb2, 0x83, 0xd1, 0xf8, 0xa2, 0x1c, 0xe5, 0x95, 0x6e, 0xfd,
-];
-
 /// Whether a new client seals after so many questions, each answered by `reply`.
-fn seals_after<M: Mechanism>(alloc: Global, reply: &Reply, questions: u32) -> bool {
-    match seal_first::<M>(alloc, reply, b"text") {
+fn seals_after<M: Mechanism>(
+    alloc: Global,
+    config: &NtlmConfig,
+    reply: &Reply,
+    questions: u32,
+) -> bool {
+    match seal_first::<M>(alloc, config, reply, b"text") {
         Ok(first) => {
             first.questions == questions
-                && first.blob.strip_prefix(TAG.as_slice()) == Some(b"text".as_slice())
+                && first.blob.strip_prefix([0; 16].as_slice()) == Some(b"text".as_slice())
         }
         Err(_) => false,
     }
 }
 
-fn is_refused<M: Mechanism>(alloc: Global, reply: &Reply, refusal: &Error) -> bool {
-    match seal_first::<M>(alloc, reply, b"text") {
+fn is_refused<M: Mechanism>(
+    alloc: Global,
+    config: &NtlmConfig,
+    reply: &Reply,
+    refusal: &Error,
+) -> bool {
+    match seal_first::<M>(alloc, config, reply, b"text") {
         Ok(_) => false,
         Err(error) => error == *refusal,
     }
 }
 
+fn seal(rt: &impl Abort, alloc: Global, config: &NtlmConfig, reply: &Reply) {
+    holds(
+        rt,
+        seals_after::<Asks<0>>(alloc, config, &Reply::Failed, 0),
+        "of no question",
+    );
+    holds(
+        rt,
+        seals_after::<Asks<1>>(alloc, config, reply, 1),
+        "of one question",
+    );
+    holds(
+        rt,
+        seals_after::<Asks<3>>(alloc, config, reply, 3),
+        "of three questions",
+    );
+}
+
+fn do_not_seal(rt: &impl Abort, alloc: Global, config: &NtlmConfig, reply: &Reply) {
+    let no_kdc = Error::new(ErrorKind::NoAuthenticatingAuthority, Reason::Kdc);
+    holds(
+        rt,
+        is_refused::<Asks<1>>(alloc, config, &Reply::Failed, &no_kdc),
+        "without a KDC",
+    );
+    let no_key = Error::new(ErrorKind::OutOfSequence, Reason::Sequence);
+    holds(
+        rt,
+        is_refused::<Ntlm>(alloc, config, reply, &no_key),
+        "without a key",
+    );
+}
+
 #[test]
 fn a_mechanism_may_ask(rt: HostRuntime) {
-    let alloc = rt.alloc();
-    let reply = Reply::Answered(Bytes::new(alloc));
-    assert!(rt; seals_after::<Asks<0>>(alloc, &Reply::Failed, 0));
-    assert!(rt; seals_after::<Asks<1>>(alloc, &reply, 1));
-    assert!(rt; seals_after::<Asks<3>>(alloc, &reply, 3));
-    let no_kdc = Error::new(ErrorKind::NoAuthenticatingAuthority, Reason::Kdc);
-    assert!(rt; is_refused::<Asks<1>>(alloc, &Reply::Failed, &no_kdc));
-    let no_key = Error::new(ErrorKind::OutOfSequence, Reason::Sequence);
-    assert!(rt; is_refused::<Ntlm>(alloc, &reply, &no_key));
+    let reply = Reply::Answered(Bytes::new(rt.alloc()));
+    let config = config(&rt, rt.alloc());
+    seal(&rt, rt.alloc(), &config, &reply);
+    do_not_seal(&rt, rt.alloc(), &config, &reply);
 }

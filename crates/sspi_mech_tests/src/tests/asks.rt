@@ -1,17 +1,13 @@
-ghost use Rattle.std.specs.Prelude.{◌≡◌, ◌<◌, None, false, true, is_some, refl, IfOk, IfErr, OnErr, IsErr, MatchOption};
+ghost use Rattle.std.specs.Prelude.{◌≡◌, ◌<◌, ◌≤◌, None, false, true, refl, length, IfOk, IfErr, OnErr, IsErr, MatchOption};
 ghost use Rattle.std.proofs.Common.{ap, arith};
 ghost use Rattle.sspi_types.specs.Packages.{ntlm_entry};
-ghost use Rattle.sspi_mech.specs.declared.step.Answer.TheVariants as answers;
-ghost use Rattle.sspi_mech.specs.declared.protection.Direction.TheVariants.{FromClient, FromServer};
 ghost use Rattle.sspi_mech.specs.Ntlm.{ntlm_sizes};
-ghost use Rattle.sspi_mech.specs.Protection.{SealsBy, OpensBy, SignsBy, VerifiesBy, counts_of, recounted, no_protection};
-ghost use Rattle.sspi_mech.specs.Tags.{long_blob};
+ghost use Rattle.sspi_mech.specs.Calls.{no_counts};
+ghost use Rattle.sspi_mech.specs.declared.step.Answer.TheVariants as answers;
 
-use crate::args::{AcceptSecurityContext, InitializeSecurityContext};
-use crate::config::MechConfig;
-use crate::mechanism::Mechanism;
-use crate::protection::{Direction, Protection};
-use crate::step::{Answer, Reply, Step};
+use sspi_mech::{
+    AcceptSecurityContext, Answer, InitializeSecurityContext, MechConfig, Mechanism, Reply, Step,
+};
 use sspi_names::{Credentials, CredentialsBuffers, NetworkProtocol, NetworkRequest, Username};
 use sspi_types::{
     Bytes, ContextSizes, CredentialUse, Error, ErrorKind, PackageInfo, Reason, SecurityPackageType,
@@ -19,26 +15,31 @@ use sspi_types::{
 };
 use std::alloc::Global;
 
-/// A client that asks a KDC `TIMES` times before its first token, and then is done. With 0 it ends in its first step.
+/// A client that asks a KDC `TIMES` times in its first step, and then is done. With 0 it is done at once. It protects nothing: a
+/// blob is sixteen zeros and the text.
 #[derive(Drop)]
 pub struct Asks<const TIMES: u32> {
     alloc: Global,
     left: u32,
     waiting: bool,
-    protection: Protection,
+    sealed: u64,
+    unsealed: u64,
+    signed: u64,
+    verified: u64,
 }
 
 impl<const TIMES: u32> Asks<TIMES> {
-    /// The next question, or none where all are asked; then there is a key.
+    /// The next question, or none where all are asked.
     fn question(&mut self) -> Result<Option<NetworkRequest>, Error>
-        ensures asked { IfOk result (λ question. MatchOption question (self.new.waiting ≡ false) (λ _. (self.new.left < self.old.left) × (self.new.waiting ≡ true))) }
-        ensures counts { counts_of self.new.protection ≡ counts_of self.old.protection }
+        ensures asked { IfOk result (λ question. MatchOption question (self.new.waiting ≡ false)
+            (λ _. (self.new.left < self.old.left) × (self.new.waiting ≡ true))) }
+        ensures fewer { self.new.left ≤ self.old.left }
+        ensures rest { self.new ≡ record self.old { left = self.new.left; waiting = self.new.waiting } }
         ensures err { OnErr result (self.new ≡ self.old) }
         ensures plain { IfErr result (λ error. error.nstatus ≡ None) }
     {
         if self.left == 0 {
             self.waiting = false;
-            self.protection.set_key([7; 32]);
             return Ok(None);
         }
         let url = Text::from_text(self.alloc, "tcp://kdc")?;
@@ -58,21 +59,27 @@ fn out_of_sequence() -> Error
     Error::new(ErrorKind::OutOfSequence, Reason::Sequence)
 }
 
+fn spent() -> Error
+    ensures { result.nstatus ≡ None }
+{
+    Error::new(ErrorKind::ContextExpired, Reason::Spent)
+}
+
 impl<const TIMES: u32> Mechanism for Asks<TIMES> {
     const REQUESTS: u32 = TIMES;
 
     ghost REQUESTS = { TIMES };
 
     ghost meaning = { record {
-      made = λ _ m. (m.left ≡ TIMES) × (m.protection ≡ no_protection);
+      made = λ _ m. (m.left ≡ TIMES) × (m.sealed ≡ 0) × (m.unsealed ≡ 0) × (m.signed ≡ 0) × (m.verified ≡ 0);
       unmade = λ _ _. ⊥;
       acquires = λ m _ _ _ m2. m2 ≡ m;
-      steps = λ m _ answer m2. (counts_of m2.protection ≡ counts_of m.protection) × elim answer as (λ _. Type 0) [
+      steps = λ m _ answer m2. (m2 ≡ record m { left = m2.left; waiting = m2.waiting }) × (m2.left ≤ m.left) × elim answer as (λ _. Type 0) [
         | answers.Done _ ↦ m2.waiting ≡ false
         | answers.Ask _ ↦ (m2.left < m.left) × (m2.waiting ≡ true)
         | answers.Refused _ ↦ m2 ≡ m
       ];
-      resumes = λ m _ answer m2. (counts_of m2.protection ≡ counts_of m.protection) × elim answer as (λ _. Type 0) [
+      resumes = λ m _ answer m2. (m2 ≡ record m { left = m2.left; waiting = m2.waiting }) × (m2.left ≤ m.left) × elim answer as (λ _. Type 0) [
         | answers.Done _ ↦ m2.waiting ≡ false
         | answers.Ask _ ↦ (m2.left < m.left) × (m2.waiting ≡ true)
         | answers.Refused _ ↦ m2 ≡ m
@@ -80,17 +87,17 @@ impl<const TIMES: u32> Mechanism for Asks<TIMES> {
       accepts = λ m _ answer m2. IsErr answer × (m2 ≡ m);
       identifies = λ m _ m2. m2 ≡ m;
       names = λ _. None;
-      keyed = λ m. is_some m.protection.key;
-      session_key = λ m. m.protection.key;
+      keyed = λ _. true;
+      session_key = λ _. None;
       waits = λ m. m.waiting;
       left = λ m. m.left;
       pairs = λ _. false;
-      counts = λ m. counts_of m.protection;
-      counted = λ m n. record m { protection = recounted m.protection n };
-      seals = λ m n text blob. SealsBy m.protection.key FromClient n text blob;
-      opens = λ m n blob text. OpensBy m.protection.key FromServer n blob text;
-      signs = λ m n text mic. SignsBy m.protection.key FromClient n text mic;
-      verifies = λ m n mic text. VerifiesBy m.protection.key FromServer n mic text;
+      counts = λ m. record { sealed = m.sealed; unsealed = m.unsealed; signed = m.signed; verified = m.verified };
+      counted = λ m n. record m { sealed = n.sealed; unsealed = n.unsealed; signed = n.signed; verified = n.verified };
+      seals = λ _ _ _ blob. 16 ≤ length blob;
+      opens = λ _ _ _ _. Unit {0};
+      signs = λ _ _ _ _. Unit {0};
+      verifies = λ _ _ _ _. Unit {0};
       permits = λ _ _. Unit {0};
       refuses = λ _ _ _. Unit {0};
       entry = λ _. ntlm_entry;
@@ -102,20 +109,26 @@ impl<const TIMES: u32> Mechanism for Asks<TIMES> {
             alloc,
             left: TIMES,
             waiting: false,
-            protection: Protection::new(),
+            sealed: 0,
+            unsealed: 0,
+            signed: 0,
+            verified: 0,
         })
     }
 
     fn acquire(
         &mut self,
         _credential_use: CredentialUse,
-        _auth_data: Option<&Credentials>,
+        auth_data: Option<&Credentials>,
     ) -> Result<Option<CredentialsBuffers>, Error> {
-        Ok(None)
+        match auth_data {
+            None => Ok(None),
+            Some(credentials) => Ok(Some(credentials.to_buffers(self.alloc)?)),
+        }
     }
 
     fn initialize(&mut self, _args: &InitializeSecurityContext<'_>) -> Answer {
-        if self.waiting || self.protection.key().is_ok() {
+        if self.waiting {
             return Answer::Refused(out_of_sequence());
         }
         match self.question() {
@@ -159,7 +172,6 @@ impl<const TIMES: u32> Mechanism for Asks<TIMES> {
     }
 
     fn complete(&mut self) -> Result<SecurityStatus, Error> {
-        self.protection.key()?;
         Ok(SecurityStatus::Ok)
     }
 
@@ -172,22 +184,33 @@ impl<const TIMES: u32> Mechanism for Asks<TIMES> {
     }
 
     fn seal(&mut self, text: &[u8]) -> Result<Vec<u8>, Error> {
-        self.protection
-            .seal(self.alloc, Direction::FromClient, text)
+        let Some(count) = self.sealed.checked_add(1) else {
+            return Err(spent());
+        };
+        let mut blob = Vec::from_slice(self.alloc, &[0; 16])?;
+        blob.extend_from_slice(text)?;
+        self.sealed = count;
+        Ok(blob)
     }
 
     fn unseal(&mut self, blob: &[u8]) -> Result<Vec<u8>, Error> {
-        self.protection
-            .unseal(self.alloc, Direction::FromServer, blob)
+        let Some(count) = self.unsealed.checked_add(1) else {
+            return Err(spent());
+        };
+        if blob.len() < 16 {
+            return Err(out_of_sequence());
+        }
+        let text = Vec::from_slice(self.alloc, &blob[16..])?;
+        self.unsealed = count;
+        Ok(text)
     }
 
-    fn sign(&mut self, text: &[u8]) -> Result<Vec<u8>, Error> {
-        self.protection
-            .sign(self.alloc, Direction::FromClient, text)
+    fn sign(&mut self, _text: &[u8]) -> Result<Vec<u8>, Error> {
+        Err(out_of_sequence())
     }
 
-    fn verify(&mut self, mic: &[u8], text: &[u8]) -> Result<(), Error> {
-        self.protection.verify(Direction::FromServer, mic, text)
+    fn verify(&mut self, _mic: &[u8], _text: &[u8]) -> Result<(), Error> {
+        Err(out_of_sequence())
     }
 
     fn user_to_user(&self) -> bool {
@@ -208,31 +231,32 @@ impl<const TIMES: u32> Mechanism for Asks<TIMES> {
     }
 
     fn session_key(&self) -> Result<SessionKeys, Error> {
-        let key = self.protection.key()?;
-        let session_key = Bytes::from_slice(self.alloc, key.as_slice())?;
-        Ok(SessionKeys {
-            session_key: session_key.into(),
-        })
+        Err(out_of_sequence())
     }
 
     ghost laws = { record {
-      made_fresh = λ s m made. ap counts_of made.1;
+      made_fresh = λ s m made. Prim.cc;
       made_left = λ s m made. Prim.omega (arith, made.0);
-      step_refused = λ m m2 a e stepped. stepped.1;
-      resume_refused = λ m m2 b e resumed. resumed.1;
+      step_refused = λ m m2 a e stepped. stepped.2;
+      resume_refused = λ m m2 b e resumed. resumed.2;
       accept_refused = λ m m2 a e accepted. accepted.1;
-      step_asks = λ m m2 a q stepped. stepped.1.0;
-      resume_asks = λ m m2 b q resumed. resumed.1.0;
-      step_waits = λ m m2 a q stepped. stepped.1.1;
-      resume_waits = λ m m2 b q resumed. resumed.1.1;
-      step_done = λ m m2 a s stepped. stepped.1;
-      resume_done = λ m m2 b s resumed. resumed.1;
+      step_asks = λ m m2 a q stepped. stepped.2.0;
+      resume_asks = λ m m2 b q resumed. resumed.2.0;
+      acquire_left = λ m m2 u d b acquired. Prim.omega (arith, ap (λ x. x.left) acquired);
+      step_left = λ m m2 a r stepped. stepped.1;
+      resume_left = λ m m2 b r resumed. resumed.1;
+      accept_left = λ m m2 a r accepted. Prim.omega (arith, ap (λ x. x.left) accepted.1);
+      identify_left = λ m m2 ids is. Prim.omega (arith, ap (λ x. x.left) is);
+      step_waits = λ m m2 a q stepped. stepped.2.1;
+      resume_waits = λ m m2 b q resumed. resumed.2.1;
+      step_done = λ m m2 a s stepped. stepped.2;
+      resume_done = λ m m2 b s resumed. resumed.2;
       accept_done = λ m m2 a s accepted. Prim.cc;
-      acquire_counts = λ m m2 u d b acquired. ap (λ x. counts_of x.protection) acquired;
-      step_counts = λ m m2 a r stepped. stepped.0;
-      resume_counts = λ m m2 b r resumed. resumed.0;
-      accept_counts = λ m m2 a r accepted. ap (λ x. counts_of x.protection) accepted.1;
-      identify_counts = λ m m2 ids is. ap (λ x. counts_of x.protection) is;
+      acquire_counts = λ m m2 u d b acquired. Prim.cc;
+      step_counts = λ m m2 a r stepped. Prim.cc;
+      resume_counts = λ m m2 b r resumed. Prim.cc;
+      accept_counts = λ m m2 a r accepted. Prim.cc;
+      identify_counts = λ m m2 ids is. Prim.cc;
       counts_counted = λ m n. refl;
       counted_counted = λ m n k. refl;
       counted_counts = λ m. refl;
@@ -246,6 +270,6 @@ impl<const TIMES: u32> Mechanism for Asks<TIMES> {
       opens_counted = λ m n i blob text opened. opened;
       signs_counted = λ m n i text mic signed. signed;
       verifies_counted = λ m n i mic text verified. verified;
-      long_blob = λ m i text blob sealed. long_blob m.protection.key FromClient i text blob sealed;
+      long_blob = λ m i text blob sealed. sealed;
     } };
 }

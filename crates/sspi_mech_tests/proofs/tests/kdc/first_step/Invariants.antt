@@ -1,6 +1,6 @@
 use Rattle.std.proofs.Common.{◌≡◌}
-use Rattle.sspi_mech.proofs.Rounds.{rounds_left, Asked}
-use Rattle.sspi_mech.proofs.tests.kdc.first_step.Given as goal
+use Rattle.sspi_mech_tests.proofs.Rounds.{rounds_left, Asked}
+use Rattle.sspi_mech_tests.proofs.tests.kdc.first_step.Given as goal
 
 abbrev pub invariant-questions : goal.invariant-questions
 invariant-questions g l = record {
