@@ -1,5 +1,11 @@
+pub mod Acquiring
 pub mod Colons
+pub mod Follow
 pub mod InTurn
+pub mod KnownEntries
 pub mod Names
 pub mod OneGap
 pub mod Parts
+pub mod Passing
+pub mod Slash
+pub mod Tokens

@@ -11,19 +11,40 @@
 //! The texts are grammars on the parts of a text: `specs/PackageList.antt`, `specs/IpText.antt`.
 #![tactic(auto)]
 
+mod acquire;
+mod answering;
+mod branch;
+mod client;
+mod context;
 pub mod fallback;
+mod hand;
 pub mod ip_text;
+mod known;
 pub mod laws;
+mod mic;
+pub mod negotiate;
 pub mod negotiate_config;
+mod new;
+mod opening;
 pub mod package_list;
+mod pick;
 pub mod protocol;
 pub mod protocol_config;
+mod refusal;
+mod rows;
+mod rule;
+mod server;
+mod spelled;
+pub mod state;
+mod target;
 #[cfg(test)]
 mod tests;
 
 pub use fallback::FALLBACK_ERROR_KINDS;
 pub use ip_text::is_ip_text;
+pub use negotiate::Negotiate;
 pub use negotiate_config::NegotiateConfig;
 pub use package_list::PackageListConfig;
 pub use protocol::NegotiatedProtocol;
 pub use protocol_config::ProtocolConfig;
+pub use state::NegotiateState;

@@ -1,4 +1,5 @@
 ghost use Rattle.std.specs.Prelude.{◌≡◌};
+ghost use Rattle.sspi_negotiate.specs.Hand.{hand_of, is_kerberos_hand};
 ghost use Rattle.sspi_negotiate.specs.Protocol.{is_kerberos, is_ntlm, protocol_name};
 
 /// The mechanism in hand.
@@ -8,7 +9,34 @@ pub enum NegotiatedProtocol<N, K> {
     Ntlm(N),
 }
 
+/// Its name.
+#[derive(Clone, Copy, Debug, PartialEq, Eq)]
+pub(crate) enum Protocol {
+    Kerberos,
+    Ntlm,
+}
+
+impl Protocol {
+    pub(crate) fn is_kerberos(self) -> bool
+        ensures { result ≡ is_kerberos_hand self }
+    {
+        match self {
+            Protocol::Kerberos => true,
+            Protocol::Ntlm => false,
+        }
+    }
+}
+
 impl<N, K> NegotiatedProtocol<N, K> {
+    pub(crate) fn protocol(&self) -> Protocol
+        ensures { result ≡ hand_of self.now }
+    {
+        match self {
+            NegotiatedProtocol::Kerberos(_) => Protocol::Kerberos,
+            NegotiatedProtocol::Ntlm(_) => Protocol::Ntlm,
+        }
+    }
+
     /// `Kerberos` or `NTLM`, the name of the package in hand.
     pub fn protocol_name(&self) -> &'static str
         ensures { result.now ≡ protocol_name self.now }

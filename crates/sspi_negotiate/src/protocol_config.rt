@@ -1,7 +1,7 @@
 ghost use Rattle.std.specs.Prelude.{◌≡◌, IfOk, IfErr};
 ghost use Rattle.sspi_types.specs.Memory.{memory_error};
 ghost use Rattle.sspi_mech.specs.Calls.{no_counts};
-ghost use Rattle.sspi_negotiate.specs.Protocol.{IsInstance, counts_of};
+ghost use Rattle.sspi_negotiate.specs.Hand.{Configured, hand};
 
 use crate::protocol::NegotiatedProtocol;
 use sspi_mech::{MechConfig, Mechanism, NtlmConfig};
@@ -20,8 +20,8 @@ impl ProtocolConfig {
         &self,
         alloc: Global,
     ) -> Result<NegotiatedProtocol<N, K>, Error>
-        ensures made { IfOk result (λ protocol. IsInstance N.meaning K.meaning self.now protocol) }
-        ensures fresh { IfOk result (λ protocol. counts_of N.meaning K.meaning protocol ≡ no_counts) }
+        ensures made { IfOk result (λ protocol. (hand N.meaning K.meaning).made (Configured self.now) protocol) }
+        ensures fresh { IfOk result (λ protocol. (hand N.meaning K.meaning).counts protocol ≡ no_counts) }
         ensures err { IfErr result (λ error. error ≡ memory_error) }
     {
         match self {

@@ -1,0 +1,8 @@
+use Rattle.std.proofs.Common.{rules, refl}
+use Rattle.sspi_negotiate.proofs.Follow.{took}
+use Rattle.sspi_negotiate.specs.Client.{falls_back}
+use Rattle.sspi_negotiate.proofs.negotiate.Negotiate.fall_back.Goals as goal
+
+pub returns-in-Ok-clause-step : goal.returns-in-Ok-clause-step
+unfolding falls_back
+returns-in-Ok-clause-step g c = took c.in-Ok.protocol (search rules) (search rules)

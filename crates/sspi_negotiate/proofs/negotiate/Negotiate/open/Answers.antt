@@ -1,0 +1,16 @@
+use Rattle.std.proofs.Common.{rules, refl}
+use Rattle.sspi_negotiate.proofs.Follow.{stepped, asks, not_stepped}
+use Rattle.sspi_negotiate.specs.Client.{first_step}
+use Rattle.sspi_negotiate.proofs.negotiate.Negotiate.open.Goals as goal
+
+pub returns-in-Done-clause-step : goal.returns-in-Done-clause-step
+unfolding first_step
+returns-in-Done-clause-step g c = stepped c.step_with.new.protocol c.in-Done.step (search rules) (search rules)
+
+pub returns-in-Ask-clause-step : goal.returns-in-Ask-clause-step
+unfolding first_step
+returns-in-Ask-clause-step g c = asks c.in-Ask.request (search rules) (search rules)
+
+pub returns-in-Refused-clause-step : goal.returns-in-Refused-clause-step
+unfolding first_step
+returns-in-Refused-clause-step g c = not_stepped c.step_with.new.protocol c.in-Refused.error (search rules) (search rules) (search rules)

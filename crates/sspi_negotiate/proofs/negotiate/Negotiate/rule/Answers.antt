@@ -1,0 +1,8 @@
+use Rattle.std.proofs.Common.{rules}
+use Rattle.sspi_negotiate.specs.Rule.{rule_url}
+use Rattle.sspi_negotiate.specs.Values.{values_of}
+use Rattle.sspi_negotiate.proofs.Passing.{ruled_met}
+use Rattle.sspi_negotiate.proofs.negotiate.Negotiate.rule.Goals as goal
+
+pub returns-in-Ok-clause-step : goal.returns-in-Ok-clause-step
+returns-in-Ok-clause-step g c = ruled_met {m1 = c.take_by_rule.new.self.mech} (rule_url (values_of c.args.self.now) c.args.name.now) _ _ (search rules) (search rules)

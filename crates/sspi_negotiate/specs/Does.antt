@@ -1,0 +1,60 @@
+-- That a call does what a plan says.
+use Rattle.std.specs.Prelude.{◌≡◌, ◌≢◌, true, Result, Ok, Err}
+use Rattle.sspi_types.specs.declared.error.Error.{Error}
+use Rattle.sspi_types.specs.declared.error_kind.ErrorKind.TheVariants.{InsufficientMemory}
+use Rattle.sspi_mech.specs.declared.step.Answer.{Answer}
+use Rattle.sspi_mech.specs.declared.step.Answer.TheVariants.{Done, Ask, Refused}
+use Rattle.sspi_mech.specs.declared.step.Step.{Step}
+use Rattle.sspi_mech.specs.Context.{IsUnused}
+use Rattle.sspi_mech.specs.Meaning.{Meaning}
+use Rattle.sspi_mech.specs.Settings.{Setting}
+use Rattle.sspi_negotiate.specs.declared.protocol.NegotiatedProtocol.{NegotiatedProtocol}
+use Rattle.sspi_negotiate.specs.Follows.{Follows}
+use Rattle.sspi_negotiate.specs.Hand.{Origin, hand}
+use Rattle.sspi_negotiate.specs.Plan.{Plan}
+use Rattle.sspi_negotiate.specs.Values.{Values, Negotiation, values_of}
+
+-- a fact, but for a refusal for want of memory, which may come at any time
+abbrev pub UnlessMemory : Answer → Type 0 → Type 0
+UnlessMemory (Done step) P = P
+UnlessMemory (Ask request) P = P
+UnlessMemory (Refused error) P = error.error_type ≢ InsufficientMemory → P
+
+-- what a server's step answered
+abbrev pub told : Result Step Error → Answer
+told (Ok step) = Done step
+told (Err error) = Refused error
+
+pub record Meets {M : Type 0} (c : Meaning Origin M) (p : Plan) (m : M) (r : Answer) (v2 : Values) (m2 : M) : Type 0 where
+  pub as_planned : UnlessMemory r (Follows c p m r v2 m2)
+
+module _ {N K : Type 0} (n : Meaning Setting N) (k : Meaning Setting K) where
+  -- the plan leads from the old state to the answer and the new state
+  abbrev pub Does : Plan → Negotiation (NegotiatedProtocol N K) → Answer → Negotiation (NegotiatedProtocol N K) → Type 0
+  Does p old r new = Meets (hand n k) p old.mech r (values_of new) new.mech
+
+  -- where nothing was sealed or opened, nothing is
+  abbrev pub StaysUnused : Negotiation (NegotiatedProtocol N K) → Negotiation (NegotiatedProtocol N K) → Type 0
+  StaysUnused old new = IsUnused ((hand n k).counts old.mech) → IsUnused ((hand n k).counts new.mech)
+
+  -- a part of a step: done, whatever follows comes after it; refused, the whole step is refused
+  abbrev pub Onward : {T : Type 0} → (Plan → Plan) → Values → Negotiation (NegotiatedProtocol N K) → Result T Error →
+      Negotiation (NegotiatedProtocol N K) → Type 0
+  Onward p v old (Ok x) new = (values_of new ≡ v)
+      × ((rest : Plan) (r : Answer) (v2 : Values) (m2 : NegotiatedProtocol N K) → Meets (hand n k) rest new.mech r v2 m2 → Meets (hand n k) (p rest) old.mech r v2 m2)
+  Onward p v old (Err error) new = (rest : Plan) → Meets (hand n k) (p rest) old.mech (Refused error) (values_of new) new.mech
+
+pub record Passes {N K T : Type 0} (n : Meaning Setting N) (k : Meaning Setting K) (p : Plan → Plan) (v : Values)
+    (old : Negotiation (NegotiatedProtocol N K)) (result : Result T Error) (new : Negotiation (NegotiatedProtocol N K)) : Type 0 where
+  pub onward : Onward n k p v old result new
+
+-- what a refused call leaves as it was: all but the mechanism in hand, the kept list and credentials and the need, and packages, which
+-- never grow
+pub record Stays (old new : Values) : Type 0 where
+  pub role : new.role ≡ old.role
+  pub state : new.state ≡ old.state
+  pub ntlm : new.packages.ntlm ≡ true → old.packages.ntlm ≡ true
+  pub kerberos : new.packages.kerberos ≡ true → old.packages.kerberos ≡ true
+  pub known : new.known ≡ old.known
+  pub computer : new.computer ≡ old.computer
+  pub kdcs : new.kdcs ≡ old.kdcs

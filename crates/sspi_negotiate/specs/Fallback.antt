@@ -1,0 +1,11 @@
+use Rattle.std.specs.Prelude.{Bool, true, false}
+use Rattle.sspi_types.specs.declared.error_kind.ErrorKind.{ErrorKind}
+use Rattle.sspi_types.specs.declared.error_kind.ErrorKind.TheVariants.{TimeSkew, NoAuthenticatingAuthority, CertificateUnknown, UnknownCredentials}
+
+-- the kinds of a Kerberos refusal after which a client goes on with NTLM
+unfoldable pub is_fallback : ErrorKind → Bool
+is_fallback TimeSkew = true
+is_fallback NoAuthenticatingAuthority = true
+is_fallback CertificateUnknown = true
+is_fallback UnknownCredentials = true
+is_fallback kind = false

@@ -1,0 +1,68 @@
+-- The mechanism in hand, as one meaning: an NTLM of type N or a Kerberos of type K.
+use Rattle.std.specs.Prelude.{ℕ, ◌+◌, List, ◌⊎◌, Option, Some, None, filter, take, replicate, Bool, true, false}
+use mathlib.Core.Logic.{inl, inr}
+use Rattle.sspi_names.specs.declared.credentials.Credentials.{Credentials}
+use Rattle.sspi_names.specs.declared.credentials.Credentials.TheVariants.{AuthIdentity, Keytab}
+use Rattle.sspi_names.specs.declared.kdc_table.KdcEntry.{KdcEntry}
+use Rattle.sspi_mech.specs.Meaning.{Meaning}
+use Rattle.sspi_mech.specs.Settings.{Setting, OfNtlm}
+use Rattle.sspi_mech.specs.Sum.{sum, taking, seen}
+use Rattle.sspi_negotiate.specs.declared.protocol.NegotiatedProtocol.{NegotiatedProtocol}
+use Rattle.sspi_negotiate.specs.declared.protocol.NegotiatedProtocol.TheVariants as hands
+use Rattle.sspi_negotiate.specs.declared.protocol.Protocol.{Protocol}
+use Rattle.sspi_negotiate.specs.declared.protocol.Protocol.TheVariants.{Kerberos, Ntlm}
+use Rattle.sspi_negotiate.specs.declared.protocol_config.ProtocolConfig.{ProtocolConfig}
+use Rattle.sspi_negotiate.specs.declared.protocol_config.ProtocolConfig.TheVariants as configs
+
+-- What a mechanism that is taken in hand is made of: a configuration, or, in the place of an NTLM, a Kerberos with this URL,
+-- these KDCs and this computer name.
+pub data Origin : Type 0 where
+  Configured : ProtocolConfig → Origin
+  InPlaceOfNtlm : Option (List ℕ) → List KdcEntry → List ℕ → Origin
+
+-- an NTLM that takes the place of a Kerberos: its challenge is eight zero bytes
+abbrev pub in_place_of_kerberos : List ℕ → Origin
+in_place_of_kerberos computer = Configured (configs.Ntlm (record { client_computer_name = Some computer; challenge = replicate 8 0 }))
+
+-- As long as `MechConfig` has no configuration of Kerberos, a Kerberos is made of one of NTLM, and so without URL and KDCs.
+abbrev pub kerberos_setting : Option (List ℕ) → List KdcEntry → List ℕ → Setting
+kerberos_setting url kdcs computer = OfNtlm (record { client_computer_name = Some computer; challenge = replicate 8 0 })
+
+abbrev pub configured : Origin → Setting ⊎ Setting
+configured (Configured (configs.Ntlm config)) = inl (OfNtlm config)
+configured (InPlaceOfNtlm url kdcs computer) = inr (kerberos_setting url kdcs computer)
+
+abbrev pub as_sum : {N K : Type 0} → NegotiatedProtocol N K → N ⊎ K
+as_sum (hands.Ntlm m) = inl m
+as_sum (hands.Kerberos m) = inr m
+
+abbrev pub of_sum : {N K : Type 0} → N ⊎ K → NegotiatedProtocol N K
+of_sum (inl m) = hands.Ntlm m
+of_sum (inr m) = hands.Kerberos m
+
+abbrev pub has_password : Credentials → Bool
+has_password (AuthIdentity identity) = true
+has_password (Keytab identity) = false
+
+-- NTLM takes the identities with a password, Kerberos the first identity
+abbrev pub hand : {N K : Type 0} → Meaning Setting N → Meaning Setting K → Meaning Origin (NegotiatedProtocol N K)
+hand n k = seen configured as_sum of_sum (sum (taking (filter has_password) n) (taking (take 1) k))
+
+-- its name
+abbrev pub hand_of : {N K : Type 0} → NegotiatedProtocol N K → Protocol
+hand_of (hands.Ntlm m) = Ntlm
+hand_of (hands.Kerberos m) = Kerberos
+
+-- whether it is Kerberos
+abbrev pub is_kerberos_hand : Protocol → Bool
+is_kerberos_hand Kerberos = true
+is_kerberos_hand Ntlm = false
+
+abbrev pub is_ntlm_hand : Protocol → Bool
+is_ntlm_hand Kerberos = false
+is_ntlm_hand Ntlm = true
+
+-- How often it may still ask a KDC. An NTLM may take the place of a Kerberos, and ask `requests` times in its turn.
+abbrev pub asks_left : {N K : Type 0} → ℕ → Meaning Setting N → Meaning Setting K → NegotiatedProtocol N K → ℕ
+asks_left requests n k (hands.Ntlm m) = n.left m
+asks_left requests n k (hands.Kerberos m) = k.left m + requests

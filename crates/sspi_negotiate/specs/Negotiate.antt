@@ -1,0 +1,70 @@
+-- What a negotiation means as a security context.
+use Rattle.std.specs.Prelude.{◌≡◌, ◌↔◌, ℕ, List, Option, Result, Bool, IsTrue}
+use Rattle.sspi_types.specs.declared.error.Error.{Error}
+use Rattle.sspi_types.specs.declared.error_kind.ErrorKind.{ErrorKind}
+use Rattle.sspi_types.specs.Packages.{negotiate_entry}
+use Rattle.sspi_mech.specs.declared.step.Answer.{Answer}
+use Rattle.sspi_mech.specs.declared.step.Reply.{Reply}
+use Rattle.sspi_mech.specs.declared.step.Step.{Step}
+use Rattle.sspi_mech.specs.Answers.{OnRefused}
+use Rattle.sspi_mech.specs.Calls.{StepArgs, AcceptArgs, Counts, Call, ToAcquire, ToDescribe}
+use Rattle.sspi_mech.specs.Meaning.{Meaning}
+use Rattle.sspi_mech.specs.Settings.{Setting}
+use Rattle.sspi_negotiate.specs.declared.protocol.NegotiatedProtocol.{NegotiatedProtocol}
+use Rattle.sspi_negotiate.specs.Acquire.{Acquires, RefusesToAcquire}
+use Rattle.sspi_negotiate.specs.Client.{spnego_client, spnego_resumed}
+use Rattle.sspi_negotiate.specs.Does.{Does, Stays, StaysUnused, told}
+use Rattle.sspi_negotiate.specs.Hand.{hand, asks_left}
+use Rattle.sspi_negotiate.specs.New.{NegotiateSetting, MadeOf, UnmadeOf}
+use Rattle.sspi_negotiate.specs.Plan.{Plan}
+use Rattle.sspi_negotiate.specs.Server.{spnego_server}
+use Rattle.sspi_negotiate.specs.Target.{IsNamedByIp}
+use Rattle.sspi_negotiate.specs.Values.{Negotiation, values_of, is_waiting}
+
+-- A step by a plan. The plan says nothing of want of memory, and the other two hold of that too.
+pub record Moves {N K : Type 0} (n : Meaning Setting N) (k : Meaning Setting K) (p : Plan) (s : Negotiation (NegotiatedProtocol N K)) (r : Answer)
+    (s2 : Negotiation (NegotiatedProtocol N K)) : Type 0 where
+  pub follows : Does n k p s r s2
+  pub stays : OnRefused r (Stays (values_of s) (values_of s2))
+  pub unused : StaysUnused n k s s2
+
+-- a client's step, whose plan depends on whether the target is named by its IP address
+pub record ClientMoves {N K : Type 0} (n : Meaning Setting N) (k : Meaning Setting K) (s : Negotiation (NegotiatedProtocol N K)) (args : StepArgs) (r : Answer)
+    (s2 : Negotiation (NegotiatedProtocol N K)) : Type 0 where
+  pub ip : Bool
+  pub ip_is : IsTrue ip ↔ IsNamedByIp args.target
+  pub moves : Moves n k (spnego_client ip (values_of s) args) s r s2
+
+module _ {N K : Type 0} (requests : ℕ) (n : Meaning Setting N) (k : Meaning Setting K) where
+  -- the entry of the package is always there
+  abbrev pub Refuses : Negotiation (NegotiatedProtocol N K) → Call → ErrorKind → Type 0
+  Refuses s (ToAcquire use_ asked) kind = RefusesToAcquire n k s use_ asked kind
+  Refuses s ToDescribe kind = ⊥
+  Refuses s call kind = (hand n k).refuses s.mech call kind
+
+  abbrev pub negotiate : Meaning NegotiateSetting (Negotiation (NegotiatedProtocol N K))
+  negotiate = record {
+    made = MadeOf n k;
+    unmade = UnmadeOf;
+    acquires = Acquires n k;
+    steps = ClientMoves n k;
+    resumes = λ s reply r s2. Moves n k (spnego_resumed (values_of s) reply) s r s2;
+    accepts = λ s args r s2. Moves n k (spnego_server (values_of s) args) s (told r) s2;
+    identifies = λ s identities s2. (hand n k).identifies s.mech identities s2.mech × (s2 ≡ record s { mech = s2.mech });
+    names = λ s. (hand n k).names s.mech;
+    keyed = λ s. (hand n k).keyed s.mech;
+    session_key = λ s. (hand n k).session_key s.mech;
+    waits = λ s. is_waiting s.branch;
+    left = λ s. asks_left requests n k s.mech;
+    pairs = λ s. (hand n k).pairs s.mech;
+    counts = λ s. (hand n k).counts s.mech;
+    counted = λ s counts. record s { mech = (hand n k).counted s.mech counts };
+    seals = λ s i text blob. (hand n k).seals s.mech i text blob;
+    opens = λ s i blob text. (hand n k).opens s.mech i blob text;
+    signs = λ s i text mic. (hand n k).signs s.mech i text mic;
+    verifies = λ s i mic text. (hand n k).verifies s.mech i mic text;
+    permits = λ s call. (hand n k).permits s.mech call;
+    refuses = Refuses;
+    entry = λ s. negotiate_entry;
+    sizes = λ s. (hand n k).sizes s.mech;
+  }

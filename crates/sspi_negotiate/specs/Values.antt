@@ -1,0 +1,70 @@
+-- What one end of a negotiation knows beside the mechanism in hand.
+use Rattle.std.specs.Prelude.{ℕ, List, Option, Some, None, Bool, true, false}
+use Rattle.sspi_types.specs.declared.client_request_flags.ClientRequestFlags.{ClientRequestFlags}
+use Rattle.sspi_names.specs.declared.credentials.CredentialsBuffers.{CredentialsBuffers}
+use Rattle.sspi_names.specs.declared.identity.AuthIdentity.{AuthIdentity}
+use Rattle.sspi_names.specs.declared.kdc_table.KdcEntry.{KdcEntry}
+use Rattle.sspi_tokens.specs.declared.neg_token_targ.NegTokenTarg.{NegTokenTarg}
+use Rattle.sspi_negotiate.specs.declared.branch.Branch.{Branch}
+use Rattle.sspi_negotiate.specs.declared.branch.Branch.TheVariants as branches
+use Rattle.sspi_negotiate.specs.declared.package_list.PackageListConfig.{PackageListConfig}
+use Rattle.sspi_negotiate.specs.declared.protocol.NegotiatedProtocol.{NegotiatedProtocol}
+use Rattle.sspi_negotiate.specs.declared.protocol.Protocol.{Protocol}
+use Rattle.sspi_negotiate.specs.declared.state.NegotiateState.{NegotiateState}
+use Rattle.sspi_negotiate.specs.declared.state.Role.{Role}
+use Rattle.sspi_negotiate.specs.Hand.{hand_of}
+
+-- what the steps look at and change
+pub record Values : Type 0 where
+  pub role : Role
+  pub state : NegotiateState
+  -- the name of the mechanism in hand, and the packages that may be used
+  pub hand : Protocol
+  pub packages : PackageListConfig
+  -- the mechanisms that the client offered; empty until then
+  pub list : List (List ℕ)
+  -- whether the list is to be protected by MICs
+  pub need : Bool
+  -- the credentials that a client keeps, and the identities that a server knows
+  pub kept : Option CredentialsBuffers
+  pub known : List AuthIdentity
+  -- what a mechanism is made of that is taken later
+  pub computer : List ℕ
+  pub kdcs : List KdcEntry
+  -- which step waits for a KDC
+  pub branch : Branch
+
+-- one end: the same without the name, and the mechanism itself
+pub record Negotiation (M : Type 0) : Type 0 where
+  pub role : Role
+  pub state : NegotiateState
+  pub packages : PackageListConfig
+  pub list : List (List ℕ)
+  pub need : Bool
+  pub kept : Option CredentialsBuffers
+  pub known : List AuthIdentity
+  pub computer : List ℕ
+  pub kdcs : List KdcEntry
+  pub branch : Branch
+  pub mech : M
+
+abbrev pub values_of : {N K : Type 0} → Negotiation (NegotiatedProtocol N K) → Values
+values_of s = record {
+  role = s.role;
+  state = s.state;
+  hand = hand_of s.mech;
+  packages = s.packages;
+  list = s.list;
+  need = s.need;
+  kept = s.kept;
+  known = s.known;
+  computer = s.computer;
+  kdcs = s.kdcs;
+  branch = s.branch;
+}
+
+-- whether a step waits for a KDC
+abbrev pub is_waiting : Branch → Bool
+is_waiting branches.Idle = false
+is_waiting (branches.Opening opening) = true
+is_waiting (branches.Answering token) = true

@@ -1,0 +1,126 @@
+ghost use Rattle.std.specs.Prelude.{◌≡◌, ◌≢◌, ◌&&◌, Option, None, Some, true, false, IfOk, IfErr, OnOk, OnErr, option_map, option_copied};
+ghost use Rattle.sspi_names.specs.Credentials.{credentials_buffers_of};
+ghost use Rattle.sspi_mech.specs.Calls.{ToAcquire};
+ghost use Rattle.sspi_negotiate.specs.Acquire.{is_outbound, lacks, acquired_url, Acquires, RefusedBy, RefusesToAcquire};
+ghost use Rattle.sspi_negotiate.specs.Does.{Stays, StaysUnused};
+ghost use Rattle.sspi_negotiate.specs.Hand.{hand, hand_of};
+ghost use Rattle.sspi_negotiate.specs.Rule.{TakenBy};
+ghost use Rattle.sspi_negotiate.specs.Values.{values_of};
+
+use crate::negotiate::Negotiate;
+use crate::protocol::Protocol;
+use crate::state::Role;
+use sspi_mech::Mechanism;
+use sspi_names::{Credentials, CredentialsBuffers};
+use sspi_types::{CredentialUse, Error, ErrorKind, Reason};
+use std::alloc::{AllocError, Global};
+
+fn is_outbound(credential_use: CredentialUse) -> bool
+    ensures { result ≡ is_outbound credential_use }
+{
+    matches!(credential_use, CredentialUse::Outbound)
+}
+
+fn lacks(protocol: Protocol, auth_data: Option<&Credentials>) -> bool
+    ensures { result ≡ lacks protocol (option_copied auth_data.entry) }
+{
+    match auth_data {
+        None => true,
+        Some(Credentials::AuthIdentity(_)) => false,
+        Some(Credentials::Keytab(_)) => match protocol {
+            Protocol::Ntlm => true,
+            Protocol::Kerberos => false,
+        },
+    }
+}
+
+fn buffers_of(
+    alloc: Global,
+    auth_data: Option<&Credentials>,
+) -> Result<Option<CredentialsBuffers>, AllocError>
+    ensures { IfOk result (λ kept. kept ≡ option_map credentials_buffers_of (option_copied auth_data.entry)) }
+{
+    match auth_data {
+        None => Ok(None),
+        Some(credentials) => Ok(Some(credentials.to_buffers(alloc)?)),
+    }
+}
+
+impl<N, K> Negotiate<N, K> {
+    fn lacks(&self, credential_use: CredentialUse, auth_data: Option<&Credentials>) -> bool
+        ensures { result ≡ (is_outbound credential_use && lacks (hand_of self.now.mech) (option_copied auth_data.entry)) }
+    {
+        is_outbound(credential_use) && lacks(self.protocol.protocol(), auth_data)
+    }
+}
+
+impl<N: Mechanism, K: Mechanism> Negotiate<N, K> {
+    /// The buffers for the handle of these credentials (AcquireCredentialsHandle), which are kept; none without credentials.
+    ///
+    /// `NoCredentials` for an outbound use without credentials, or with a keytab while NTLM is in hand. Else a client in whose
+    /// table a KDC serves the domain of the name takes Kerberos, where that may be used, and the mechanism in hand answers.
+    pub fn acquire_credentials_handle(
+        &mut self,
+        credential_use: CredentialUse,
+        auth_data: Option<&Credentials>,
+    ) -> Result<Option<CredentialsBuffers>, Error>
+        ensures acquired { IfOk result (λ buffers.
+            Acquires N.meaning K.meaning self.old credential_use (option_copied auth_data.entry) buffers self.new) }
+        ensures stays { OnErr result (Stays (values_of self.old) (values_of self.new)) }
+        ensures unused { StaysUnused N.meaning K.meaning self.old self.new }
+        ensures plain { IfErr result (λ error. error.nstatus ≡ None) }
+        ensures cause { IfErr result (λ error. error.error_type ≢ ErrorKind.InsufficientMemory →
+            RefusesToAcquire N.meaning K.meaning self.old credential_use (option_copied auth_data.entry) error.error_type) }
+    {
+        if self.lacks(credential_use, auth_data) {
+            return Err(Error::new(ErrorKind::NoCredentials, Reason::NoAuthData));
+        }
+        let kept = buffers_of(self.alloc, auth_data)?;
+        match self.rule_for(auth_data) {
+            Err(error) => Err(error),
+            Ok(()) => self.acquire_in_hand(credential_use, auth_data, kept),
+        }
+    }
+
+    /// Takes Kerberos in the place of NTLM on a client, where a KDC serves the domain of a name with a password.
+    fn rule_for(&mut self, auth_data: Option<&Credentials>) -> Result<(), Error>
+        ensures taken { OnOk result (TakenBy (hand N.meaning K.meaning) (acquired_url self.old.role (values_of self.old) (option_copied auth_data.entry))
+            self.old.kdcs self.old.computer self.old.mech self.new.mech) }
+        ensures rest { self.new ≡ record self.old { mech = self.new.mech } }
+        ensures unused { StaysUnused N.meaning K.meaning self.old self.new }
+        ensures plain { IfErr result (λ error. error.nstatus ≡ None) }
+        ensures err { IfErr result (λ error. error.error_type ≡ ErrorKind.InsufficientMemory) }
+    {
+        match self.role {
+            Role::Server => Ok(()),
+            Role::Client => match auth_data {
+                None => Ok(()),
+                Some(Credentials::Keytab(_)) => Ok(()),
+                Some(Credentials::AuthIdentity(identity)) => self.take_by_rule(&identity.username),
+            },
+        }
+    }
+
+    fn acquire_in_hand(
+        &mut self,
+        credential_use: CredentialUse,
+        auth_data: Option<&Credentials>,
+        kept: Option<CredentialsBuffers>,
+    ) -> Result<Option<CredentialsBuffers>, Error>
+        ensures acquired { IfOk result (λ buffers. (hand N.meaning K.meaning).acquires self.old.mech credential_use (option_copied auth_data.entry) buffers self.new.mech) }
+        ensures kept { OnOk result (self.new ≡ record self.old { kept = kept; mech = self.new.mech }) }
+        ensures err { OnErr result (self.new ≡ self.old) }
+        ensures unused { StaysUnused N.meaning K.meaning self.old self.new }
+        ensures plain { IfErr result (λ error. error.nstatus ≡ None) }
+        ensures cause { IfErr result (λ error. error.error_type ≢ ErrorKind.InsufficientMemory →
+            (hand N.meaning K.meaning).refuses self.old.mech (ToAcquire credential_use (option_copied auth_data.entry)) error.error_type) }
+    {
+        match self.protocol.acquire(credential_use, auth_data) {
+            Err(error) => Err(error),
+            Ok(buffers) => {
+                self.auth_identity = kept;
+                Ok(buffers)
+            }
+        }
+    }
+}

@@ -1,0 +1,390 @@
+// A client's later steps (states InProgress and VerifyMic), and `resume`.
+ghost use Rattle.std.specs.Prelude.{◌≡◌, ◌≢◌, [], false, true, not, None, Some, IfOk, IfErr, OnOk, OnErr, option_map, option_copied};
+ghost use Rattle.sspi_mech.specs.Answers.{answer_of, IfRefused};
+ghost use Rattle.sspi_mech.specs.Calls.{step_args};
+ghost use Rattle.sspi_mech.specs.Context.{IsUnused};
+ghost use Rattle.sspi_tokens.specs.Oids.{kind_of};
+ghost use Rattle.sspi_tokens.specs.Reading.{targ_of};
+ghost use Rattle.sspi_negotiate.specs.declared.protocol.Protocol.TheVariants as protocols;
+ghost use Rattle.sspi_negotiate.specs.declared.state.NegotiateState.TheVariants as states;
+ghost use Rattle.sspi_types.specs.declared.security_status.SecurityStatus.TheVariants as statuses;
+ghost use Rattle.sspi_negotiate.specs.Client.{at_progress, chosen, chooses_kerberos, chooses_ntlm, in_kerberos, answers, stepped, settles, unprotected, verified, at_verify_mic, confirmed, last_mic, is_guest, handle_for, step_of, resumes_answering, spnego_resumed};
+ghost use Rattle.sspi_negotiate.specs.Does.{Does, Passes, Stays, StaysUnused, told};
+ghost use Rattle.sspi_negotiate.specs.Hand.{InPlaceOfNtlm, hand, hand_of};
+ghost use Rattle.sspi_negotiate.specs.Plan.{Goes, Takes};
+ghost use Rattle.sspi_negotiate.specs.Rows.{or_empty, in_ntlm, verifies};
+ghost use Rattle.sspi_negotiate.specs.Values.{values_of};
+
+use crate::branch::Branch;
+use crate::negotiate::Negotiate;
+use crate::opening::{done, step_with};
+use crate::protocol::{NegotiatedProtocol, Protocol};
+use crate::refusal::{invalid_token, out_of_sequence};
+use crate::rows::{is_complete, is_guest, is_ok};
+use sspi_mech::{Answer, InitializeSecurityContext, Mechanism, Progressing, Reply, Step};
+use sspi_names::CredentialsBuffers;
+use sspi_tokens::{MechKind, NegTokenTarg};
+use sspi_types::{Bytes, Error, Reason, SecurityStatus};
+use std::mem;
+
+/// Which mechanism a server's token chooses.
+fn choice_of(token: &NegTokenTarg) -> Option<MechKind>
+    ensures { result ≡ option_map kind_of token.now.supported_mech }
+{
+    match &token.supported_mech {
+        None => None,
+        Some(oid) => Some(oid.kind()),
+    }
+}
+
+/// The step of the mechanism in hand on this token, or on none.
+fn answer_with<N: Mechanism, K: Mechanism>(
+    protocol: &mut NegotiatedProtocol<N, K>,
+    kept: &Option<CredentialsBuffers>,
+    args: &InitializeSecurityContext<'_>,
+    token: &Option<Bytes>,
+) -> Answer
+    ensures step { (hand N.meaning K.meaning).steps protocol.old (record (step_args args.now) {
+      handle = handle_for (hand_of protocol.old) kept.now (option_copied args.now.credentials_handle);
+      input = or_empty token.now;
+    }) result protocol.new }
+    ensures unused { IsUnused ((hand N.meaning K.meaning).counts protocol.old) → IsUnused ((hand N.meaning K.meaning).counts protocol.new) }
+    ensures named { hand_of protocol.new ≡ hand_of protocol.old }
+    ensures plain { IfRefused result (λ error. error.nstatus ≡ None) }
+{
+    let input = match token {
+        None => &[],
+        Some(token) => token.as_slice(),
+    };
+    step_with(
+        protocol,
+        kept,
+        &InitializeSecurityContext {
+            credentials_handle: args.credentials_handle,
+            context_requirements: args.context_requirements,
+            target_data_representation: args.target_data_representation,
+            target_name: args.target_name,
+            input,
+        },
+    )
+}
+
+impl<N: Mechanism, K: Mechanism> Negotiate<N, K> {
+    pub(crate) fn read_answer(
+        &mut self,
+        args: &InitializeSecurityContext<'_>,
+    ) -> Result<Progressing, Error>
+        ensures step { Does N.meaning K.meaning (at_progress (targ_of args.now.input.now) (values_of self.old) (step_args args.now)) self.old (answer_of result) self.new }
+        ensures stays { OnErr result (Stays (values_of self.old) (values_of self.new)) }
+        ensures unused { StaysUnused N.meaning K.meaning self.old self.new }
+        ensures plain { IfErr result (λ error. error.nstatus ≡ None) }
+    {
+        match NegTokenTarg::decode(self.alloc, args.input) {
+            Err(error) => Err(error),
+            Ok(token) => self.choose(token, args),
+        }
+    }
+
+    fn choose(
+        &mut self,
+        token: NegTokenTarg,
+        args: &InitializeSecurityContext<'_>,
+    ) -> Result<Progressing, Error>
+        ensures step { Does N.meaning K.meaning (chosen (option_map kind_of token.supported_mech) token (values_of self.old) (step_args args.now)) self.old (answer_of result) self.new }
+        ensures stays { OnErr result (Stays (values_of self.old) (values_of self.new)) }
+        ensures unused { StaysUnused N.meaning K.meaning self.old self.new }
+        ensures plain { IfErr result (λ error. error.nstatus ≡ None) }
+    {
+        match choice_of(&token) {
+            None => self.answer(token, args),
+            Some(MechKind::MsKerberos) => self.choose_kerberos(token, args),
+            Some(MechKind::Kerberos) => self.choose_kerberos(token, args),
+            Some(MechKind::Ntlm) => self.choose_ntlm(token, args),
+            Some(MechKind::Other) => Err(invalid_token(Reason::MechUnknown)),
+        }
+    }
+
+    #[tactic(auto, unfolding(crate::specs::Client::chooses_kerberos))]
+    fn choose_kerberos(
+        &mut self,
+        token: NegTokenTarg,
+        args: &InitializeSecurityContext<'_>,
+    ) -> Result<Progressing, Error>
+        ensures step { Does N.meaning K.meaning (chooses_kerberos token (values_of self.old) (step_args args.now)) self.old (answer_of result) self.new }
+        ensures stays { OnErr result (Stays (values_of self.old) (values_of self.new)) }
+        ensures unused { StaysUnused N.meaning K.meaning self.old self.new }
+        ensures plain { IfErr result (λ error. error.nstatus ≡ None) }
+    {
+        if self.packages.kerberos {
+            self.packages.ntlm = false;
+            self.go_to_kerberos(token, args)
+        } else {
+            Err(invalid_token(Reason::Disabled))
+        }
+    }
+
+    fn go_to_kerberos(
+        &mut self,
+        token: NegTokenTarg,
+        args: &InitializeSecurityContext<'_>,
+    ) -> Result<Progressing, Error>
+        ensures step { Does N.meaning K.meaning (in_kerberos (hand_of self.old.mech) token (values_of self.old) (step_args args.now)) self.old (answer_of result) self.new }
+        ensures stays { OnErr result (Stays (values_of self.old) (values_of self.new)) }
+        ensures unused { StaysUnused N.meaning K.meaning self.old self.new }
+        ensures plain { IfErr result (λ error. error.nstatus ≡ None) }
+    {
+        match self.protocol.protocol() {
+            Protocol::Kerberos => self.answer(token, args),
+            Protocol::Ntlm => self.replace_ntlm(token, args),
+        }
+    }
+
+    fn replace_ntlm(
+        &mut self,
+        token: NegTokenTarg,
+        args: &InitializeSecurityContext<'_>,
+    ) -> Result<Progressing, Error>
+        ensures step { Does N.meaning K.meaning (in_kerberos protocols.Ntlm token (values_of self.old) (step_args args.now)) self.old (answer_of result) self.new }
+        ensures stays { OnErr result (Stays (values_of self.old) (values_of self.new)) }
+        ensures unused { StaysUnused N.meaning K.meaning self.old self.new }
+        ensures plain { IfErr result (λ error. error.nstatus ≡ None) }
+    {
+        match NegotiatedProtocol::new_kerberos(self.alloc, &self.client_computer_name) {
+            Err(error) => Err(error),
+            Ok(protocol) => {
+                self.protocol = protocol;
+                self.mic_needed = true;
+                self.answer(token, args)
+            }
+        }
+    }
+
+    #[tactic(auto, unfolding(crate::specs::Client::chooses_ntlm))]
+    fn choose_ntlm(
+        &mut self,
+        token: NegTokenTarg,
+        args: &InitializeSecurityContext<'_>,
+    ) -> Result<Progressing, Error>
+        ensures step { Does N.meaning K.meaning (chooses_ntlm token (values_of self.old) (step_args args.now)) self.old (answer_of result) self.new }
+        ensures stays { OnErr result (Stays (values_of self.old) (values_of self.new)) }
+        ensures unused { StaysUnused N.meaning K.meaning self.old self.new }
+        ensures plain { IfErr result (λ error. error.nstatus ≡ None) }
+    {
+        if self.packages.ntlm {
+            let guest = is_guest(self.alloc, args.credentials_handle)?;
+            self.go_to_ntlm(token, args, guest)
+        } else {
+            Err(invalid_token(Reason::Disabled))
+        }
+    }
+
+    fn go_to_ntlm(
+        &mut self,
+        token: NegTokenTarg,
+        args: &InitializeSecurityContext<'_>,
+        guest: bool,
+    ) -> Result<Progressing, Error>
+        ensures step { Does N.meaning K.meaning (in_ntlm (hand_of self.old.mech) self.old.computer (answers token (record (values_of self.old) { hand = protocols.Ntlm; packages = record self.old.packages { kerberos = false }; need = not guest }) (step_args args.now))) self.old (answer_of result) self.new }
+        ensures stays { OnErr result (Stays (values_of self.old) (values_of self.new)) }
+        ensures unused { StaysUnused N.meaning K.meaning self.old self.new }
+        ensures plain { IfErr result (λ error. error.nstatus ≡ None) }
+    {
+        match self.take_ntlm() {
+            Err(error) => Err(error),
+            Ok(()) => self.answer_in_ntlm(token, args, guest),
+        }
+    }
+
+    fn answer_in_ntlm(
+        &mut self,
+        token: NegTokenTarg,
+        args: &InitializeSecurityContext<'_>,
+        guest: bool,
+    ) -> Result<Progressing, Error>
+        ensures step { Does N.meaning K.meaning (answers token (record (values_of self.old) { packages = record self.old.packages { kerberos = false }; need = not guest }) (step_args args.now)) self.old (answer_of result) self.new }
+        ensures stays { OnErr result (Stays (values_of self.old) (values_of self.new)) }
+        ensures unused { StaysUnused N.meaning K.meaning self.old self.new }
+        ensures plain { IfErr result (λ error. error.nstatus ≡ None) }
+    {
+        self.packages.kerberos = false;
+        self.mic_needed = !guest;
+        self.answer(token, args)
+    }
+
+    #[tactic(auto, unfolding(crate::specs::Client::answers))]
+    fn answer(
+        &mut self,
+        token: NegTokenTarg,
+        args: &InitializeSecurityContext<'_>,
+    ) -> Result<Progressing, Error>
+        ensures step { Does N.meaning K.meaning (answers token (values_of self.old) (step_args args.now)) self.old (answer_of result) self.new }
+        ensures stays { OnErr result (Stays (values_of self.old) (values_of self.new)) }
+        ensures unused { StaysUnused N.meaning K.meaning self.old self.new }
+        ensures plain { IfErr result (λ error. error.nstatus ≡ None) }
+    {
+        let response = &token.response_token;
+        match answer_with(&mut self.protocol, &self.auth_identity, args, response) {
+            Answer::Done(step) => done(self.conclude(token, step)),
+            Answer::Ask(request) => {
+                self.branch = Branch::Answering(token);
+                Ok(Progressing::Suspended(request))
+            }
+            Answer::Refused(error) => Err(error),
+        }
+    }
+
+    fn conclude(&mut self, token: NegTokenTarg, step: Step) -> Result<Step, Error>
+        ensures step { Does N.meaning K.meaning (stepped token (values_of self.old) step) self.old (told result) self.new }
+        ensures stays { OnErr result (Stays (values_of self.old) (values_of self.new)) }
+        ensures unused { StaysUnused N.meaning K.meaning self.old self.new }
+        ensures plain { IfErr result (λ error. error.nstatus ≡ None) }
+    {
+        if is_ok(step.status) {
+            let complete = is_complete(token.neg_result);
+            self.settle_client(self.mic_needed, token.mech_list_mic, complete, step.output)
+        } else {
+            self.carry_on(step.output, step.status)
+        }
+    }
+
+    fn settle_client(
+        &mut self,
+        need: bool,
+        mic: Option<Bytes>,
+        complete: bool,
+        token: Bytes,
+    ) -> Result<Step, Error>
+        ensures step { Does N.meaning K.meaning (settles need mic complete (values_of self.old) token) self.old (told result) self.new }
+        ensures stays { OnErr result (Stays (values_of self.old) (values_of self.new)) }
+        ensures unused { StaysUnused N.meaning K.meaning self.old self.new }
+        ensures plain { IfErr result (λ error. error.nstatus ≡ None) }
+    {
+        if need {
+            match mic {
+                Some(mic) => self.verify_and_end(&mic, complete, token),
+                None => self.hand_mic(token),
+            }
+        } else if complete {
+            self.end()
+        } else {
+            self.complete(token, None)
+        }
+    }
+
+    fn verify_and_end(&mut self, mic: &Bytes, complete: bool, token: Bytes) -> Result<Step, Error>
+        ensures step { Does N.meaning K.meaning (verifies mic.now (values_of self.old) (verified complete (values_of self.old) token)) self.old (told result) self.new }
+        ensures stays { OnErr result (Stays (values_of self.old) (values_of self.new)) }
+        ensures unused { StaysUnused N.meaning K.meaning self.old self.new }
+        ensures plain { IfErr result (λ error. error.nstatus ≡ None) }
+    {
+        match self.verify(mic) {
+            Err(error) => Err(error),
+            Ok(()) => self.end_verified(complete, token),
+        }
+    }
+
+    fn end_verified(&mut self, complete: bool, token: Bytes) -> Result<Step, Error>
+        ensures step { Does N.meaning K.meaning (verified complete (values_of self.old) token) self.old (told result) self.new }
+        ensures stays { OnErr result (Stays (values_of self.old) (values_of self.new)) }
+        ensures unused { StaysUnused N.meaning K.meaning self.old self.new }
+        ensures plain { IfErr result (λ error. error.nstatus ≡ None) }
+    {
+        if complete {
+            self.end()
+        } else {
+            self.complete_signed(token)
+        }
+    }
+
+    pub(crate) fn confirm(
+        &mut self,
+        args: &InitializeSecurityContext<'_>,
+    ) -> Result<Progressing, Error>
+        ensures step { Does N.meaning K.meaning (at_verify_mic (targ_of args.now.input.now) (values_of self.old)) self.old (answer_of result) self.new }
+        ensures stays { OnErr result (Stays (values_of self.old) (values_of self.new)) }
+        ensures unused { StaysUnused N.meaning K.meaning self.old self.new }
+        ensures plain { IfErr result (λ error. error.nstatus ≡ None) }
+    {
+        match NegTokenTarg::decode(self.alloc, args.input) {
+            Err(error) => Err(error),
+            Ok(token) => done(self.confirm_by(token)),
+        }
+    }
+
+    fn confirm_by(&mut self, token: NegTokenTarg) -> Result<Step, Error>
+        ensures step { Does N.meaning K.meaning (confirmed token (values_of self.old)) self.old (told result) self.new }
+        ensures stays { OnErr result (Stays (values_of self.old) (values_of self.new)) }
+        ensures unused { StaysUnused N.meaning K.meaning self.old self.new }
+        ensures plain { IfErr result (λ error. error.nstatus ≡ None) }
+    {
+        if is_complete(token.neg_result) {
+            self.confirm_mic(token.mech_list_mic)
+        } else {
+            Err(invalid_token(Reason::NegResult))
+        }
+    }
+
+    fn confirm_mic(&mut self, mic: Option<Bytes>) -> Result<Step, Error>
+        ensures step { Does N.meaning K.meaning (last_mic mic (values_of self.old)) self.old (told result) self.new }
+        ensures stays { OnErr result (Stays (values_of self.old) (values_of self.new)) }
+        ensures unused { StaysUnused N.meaning K.meaning self.old self.new }
+        ensures plain { IfErr result (λ error. error.nstatus ≡ None) }
+    {
+        match mic {
+            None => Ok(Step {
+                status: SecurityStatus::ContinueNeeded,
+                output: Bytes::new(self.alloc),
+            }),
+            Some(mic) => self.verify_last(&mic),
+        }
+    }
+
+    fn verify_last(&mut self, mic: &Bytes) -> Result<Step, Error>
+        ensures step { Does N.meaning K.meaning (verifies mic.now (values_of self.old) (Goes (record (values_of self.old) { state = states.Ok }) (record { status = statuses.Ok; output = [] }))) self.old (told result) self.new }
+        ensures stays { OnErr result (Stays (values_of self.old) (values_of self.new)) }
+        ensures unused { StaysUnused N.meaning K.meaning self.old self.new }
+        ensures plain { IfErr result (λ error. error.nstatus ≡ None) }
+    {
+        match self.verify(mic) {
+            Err(error) => Err(error),
+            Ok(()) => self.end(),
+        }
+    }
+
+    /// Goes on with the step that was suspended, once it is known what came of its request.
+    ///
+    /// `OutOfSequence` where no step is suspended. Else as the step that was suspended; refused, it stays suspended, but where
+    /// NTLM took the place of Kerberos.
+    pub fn resume(&mut self, reply: &Reply) -> Result<Progressing, Error>
+        ensures step { Does N.meaning K.meaning (spnego_resumed (values_of self.old) reply.now) self.old (answer_of result) self.new }
+        ensures stays { OnErr result (Stays (values_of self.old) (values_of self.new)) }
+        ensures unused { StaysUnused N.meaning K.meaning self.old self.new }
+        ensures plain { IfErr result (λ error. error.nstatus ≡ None) }
+    {
+        match mem::replace(&mut self.branch, Branch::Idle) {
+            Branch::Idle => Err(out_of_sequence()),
+            Branch::Opening(first) => self.resume_opening(first, reply),
+            Branch::Answering(token) => self.resume_answering(token, reply),
+        }
+    }
+
+    #[tactic(auto, unfolding(crate::specs::Client::resumes_answering))]
+    fn resume_answering(&mut self, token: NegTokenTarg, reply: &Reply) -> Result<Progressing, Error>
+        ensures step { Does N.meaning K.meaning (resumes_answering token (values_of self.old) reply.now) self.old (answer_of result) self.new }
+        ensures stays { OnErr result (Stays (values_of self.old) (values_of self.new)) }
+        ensures unused { StaysUnused N.meaning K.meaning self.old self.new }
+        ensures plain { IfErr result (λ error. error.nstatus ≡ None) }
+    {
+        match self.protocol.resume(reply) {
+            Answer::Done(step) => done(self.conclude(token, step)),
+            Answer::Ask(request) => {
+                self.branch = Branch::Answering(token);
+                Ok(Progressing::Suspended(request))
+            }
+            Answer::Refused(error) => {
+                self.branch = Branch::Answering(token);
+                Err(error)
+            }
+        }
+    }
+}

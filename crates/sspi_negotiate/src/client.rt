@@ -1,0 +1,194 @@
+// What comes before each step of a client, and the states.
+ghost use Rattle.std.specs.Prelude.{◌≡◌, ◌≢◌, ◌↔◌, Bool, false, true, None, Some, IsTrue, IfOk, IfErr, OnOk, OnErr, option_copied};
+ghost use Rattle.sspi_names.specs.Identity.{identity_of, buffers_of};
+ghost use Rattle.sspi_names.specs.declared.credentials.CredentialsBuffers.TheVariants as buffered;
+ghost use Rattle.sspi_mech.specs.Answers.{answer_of};
+ghost use Rattle.sspi_mech.specs.Calls.{step_args};
+ghost use Rattle.sspi_negotiate.specs.declared.protocol.Protocol.TheVariants as protocols;
+ghost use Rattle.sspi_negotiate.specs.Client.{is_closed, spnego_client, by_target, with_handle, converts, keeps, ruled, client_at};
+ghost use Rattle.sspi_negotiate.specs.Does.{Does, Passes, Stays, StaysUnused, told};
+ghost use Rattle.sspi_negotiate.specs.Hand.{hand_of};
+ghost use Rattle.sspi_negotiate.specs.Rows.{in_ntlm};
+ghost use Rattle.sspi_negotiate.specs.Rule.{rule_url, by_rule, ruled_values};
+ghost use Rattle.sspi_negotiate.specs.Target.{IsNamedByIp};
+ghost use Rattle.sspi_negotiate.specs.Values.{values_of};
+
+use crate::negotiate::Negotiate;
+use crate::refusal::out_of_sequence;
+use crate::state::{NegotiateState, Role};
+use crate::target::is_named_by_ip;
+use sspi_mech::{InitializeSecurityContext, Mechanism, Progressing};
+use sspi_names::{AuthIdentity, AuthIdentityBuffers, CredentialsBuffers, Username};
+use sspi_types::Error;
+
+impl<N, K> Negotiate<N, K> {
+    /// Whether no client's step can begin.
+    fn is_closed(&self) -> bool
+        ensures { result ≡ is_closed self.now.role self.now.state self.now.branch }
+    {
+        match self.role {
+            Role::Server => true,
+            Role::Client => match self.state {
+                NegotiateState::Initial => self.branch.is_waiting(),
+                NegotiateState::InProgress => self.branch.is_waiting(),
+                NegotiateState::VerifyMic => self.branch.is_waiting(),
+                NegotiateState::Ok => true,
+            },
+        }
+    }
+}
+
+impl<N: Mechanism, K: Mechanism> Negotiate<N, K> {
+    /// A client's step (InitializeSecurityContext). Suspended, it goes on by `resume`.
+    ///
+    /// `OutOfSequence` while a step waits for a KDC, on a server, and after the end. `InvalidParameter` where the handle's user
+    /// and domain mix the forms of a name. `InvalidToken` for a token of another form than the state has, for a choice of a
+    /// mechanism that may not be used, and in the last state for one that is not complete. Else the refusals of the mechanism in
+    /// hand, which may have moved then; the state stays.
+    pub fn initialize_security_context(
+        &mut self,
+        args: &InitializeSecurityContext<'_>,
+    ) -> Result<Progressing, Error>
+        ensures step { (ip : Bool) × (IsTrue ip ↔ IsNamedByIp (option_copied args.now.target_name))
+            × Does N.meaning K.meaning (spnego_client ip (values_of self.old) (step_args args.now)) self.old (answer_of result) self.new }
+        ensures stays { OnErr result (Stays (values_of self.old) (values_of self.new)) }
+        ensures unused { StaysUnused N.meaning K.meaning self.old self.new }
+        ensures plain { IfErr result (λ error. error.nstatus ≡ None) }
+    {
+        let ip = is_named_by_ip(args.target_name);
+        self.step(ip, args)
+    }
+
+    fn step(&mut self, ip: bool, args: &InitializeSecurityContext<'_>) -> Result<Progressing, Error>
+        ensures step { Does N.meaning K.meaning (spnego_client ip (values_of self.old) (step_args args.now)) self.old (answer_of result) self.new }
+        ensures stays { OnErr result (Stays (values_of self.old) (values_of self.new)) }
+        ensures unused { StaysUnused N.meaning K.meaning self.old self.new }
+        ensures plain { IfErr result (λ error. error.nstatus ≡ None) }
+    {
+        if self.is_closed() {
+            Err(out_of_sequence())
+        } else {
+            self.data_representation = args.target_data_representation;
+            self.step_to(ip, args)
+        }
+    }
+
+    fn step_to(
+        &mut self,
+        ip: bool,
+        args: &InitializeSecurityContext<'_>,
+    ) -> Result<Progressing, Error>
+        ensures step { Does N.meaning K.meaning (by_target ip (values_of self.old) (step_args args.now)) self.old (answer_of result) self.new }
+        ensures stays { OnErr result (Stays (values_of self.old) (values_of self.new)) }
+        ensures unused { StaysUnused N.meaning K.meaning self.old self.new }
+        ensures plain { IfErr result (λ error. error.nstatus ≡ None) }
+    {
+        if ip && self.packages.ntlm {
+            self.leave_kerberos(args)
+        } else {
+            self.with_handle(args)
+        }
+    }
+
+    fn leave_kerberos(&mut self, args: &InitializeSecurityContext<'_>) -> Result<Progressing, Error>
+        ensures step { Does N.meaning K.meaning (in_ntlm (hand_of self.old.mech) self.old.computer (with_handle (record (values_of self.old) { hand = protocols.Ntlm; packages = record self.old.packages { kerberos = false } }) (step_args args.now))) self.old (answer_of result) self.new }
+        ensures stays { OnErr result (Stays (values_of self.old) (values_of self.new)) }
+        ensures unused { StaysUnused N.meaning K.meaning self.old self.new }
+        ensures plain { IfErr result (λ error. error.nstatus ≡ None) }
+    {
+        match self.take_ntlm() {
+            Err(error) => Err(error),
+            Ok(()) => self.disable_kerberos(args),
+        }
+    }
+
+    fn disable_kerberos(
+        &mut self,
+        args: &InitializeSecurityContext<'_>,
+    ) -> Result<Progressing, Error>
+        ensures step { Does N.meaning K.meaning (with_handle (record (values_of self.old) { packages = record self.old.packages { kerberos = false } }) (step_args args.now)) self.old (answer_of result) self.new }
+        ensures stays { OnErr result (Stays (values_of self.old) (values_of self.new)) }
+        ensures unused { StaysUnused N.meaning K.meaning self.old self.new }
+        ensures plain { IfErr result (λ error. error.nstatus ≡ None) }
+    {
+        self.packages.kerberos = false;
+        self.with_handle(args)
+    }
+
+    #[tactic(auto, unfolding(crate::specs::Client::with_handle))]
+    fn with_handle(&mut self, args: &InitializeSecurityContext<'_>) -> Result<Progressing, Error>
+        ensures step { Does N.meaning K.meaning (with_handle (values_of self.old) (step_args args.now)) self.old (answer_of result) self.new }
+        ensures stays { OnErr result (Stays (values_of self.old) (values_of self.new)) }
+        ensures unused { StaysUnused N.meaning K.meaning self.old self.new }
+        ensures plain { IfErr result (λ error. error.nstatus ≡ None) }
+    {
+        match args.credentials_handle {
+            None => self.step_at(args),
+            Some(CredentialsBuffers::Keytab(_)) => self.step_at(args),
+            Some(CredentialsBuffers::AuthIdentity(buffers)) => self.convert(buffers, args),
+        }
+    }
+
+    #[tactic(auto, unfolding(crate::specs::Client::keeps))]
+    fn convert(
+        &mut self,
+        buffers: &AuthIdentityBuffers,
+        args: &InitializeSecurityContext<'_>,
+    ) -> Result<Progressing, Error>
+        ensures step { Does N.meaning K.meaning (keeps (identity_of buffers.now) (values_of self.old) (step_args args.now)) self.old (answer_of result) self.new }
+        ensures stays { OnErr result (Stays (values_of self.old) (values_of self.new)) }
+        ensures unused { StaysUnused N.meaning K.meaning self.old self.new }
+        ensures plain { IfErr result (λ error. error.nstatus ≡ None) }
+    {
+        match AuthIdentity::from_buffers(self.alloc, buffers) {
+            Err(error) => Err(error),
+            Ok(identity) => self.keep(&identity, args),
+        }
+    }
+
+    fn keep(
+        &mut self,
+        identity: &AuthIdentity,
+        args: &InitializeSecurityContext<'_>,
+    ) -> Result<Progressing, Error>
+        ensures step { Does N.meaning K.meaning (ruled (rule_url (values_of self.old) identity.now.username) (record (values_of self.old) { kept = Some (buffered.AuthIdentity (buffers_of identity.now)) }) (step_args args.now)) self.old (answer_of result) self.new }
+        ensures stays { OnErr result (Stays (values_of self.old) (values_of self.new)) }
+        ensures unused { StaysUnused N.meaning K.meaning self.old self.new }
+        ensures plain { IfErr result (λ error. error.nstatus ≡ None) }
+    {
+        let kept = identity.to_buffers(self.alloc)?;
+        self.auth_identity = Some(CredentialsBuffers::AuthIdentity(kept));
+        self.rule(&identity.username, args)
+    }
+
+    fn rule(
+        &mut self,
+        name: &Username,
+        args: &InitializeSecurityContext<'_>,
+    ) -> Result<Progressing, Error>
+        ensures step { Does N.meaning K.meaning (ruled (rule_url (values_of self.old) name.now) (values_of self.old) (step_args args.now)) self.old (answer_of result) self.new }
+        ensures stays { OnErr result (Stays (values_of self.old) (values_of self.new)) }
+        ensures unused { StaysUnused N.meaning K.meaning self.old self.new }
+        ensures plain { IfErr result (λ error. error.nstatus ≡ None) }
+    {
+        match self.take_by_rule(name) {
+            Err(error) => Err(error),
+            Ok(()) => self.step_at(args),
+        }
+    }
+
+    #[tactic(auto, unfolding(crate::specs::Client::client_at))]
+    fn step_at(&mut self, args: &InitializeSecurityContext<'_>) -> Result<Progressing, Error>
+        ensures step { Does N.meaning K.meaning (client_at self.old.state (values_of self.old) (step_args args.now)) self.old (answer_of result) self.new }
+        ensures stays { OnErr result (Stays (values_of self.old) (values_of self.new)) }
+        ensures unused { StaysUnused N.meaning K.meaning self.old self.new }
+        ensures plain { IfErr result (λ error. error.nstatus ≡ None) }
+    {
+        match self.state {
+            NegotiateState::Initial => self.first_step(args),
+            NegotiateState::InProgress => self.read_answer(args),
+            NegotiateState::VerifyMic => self.confirm(args),
+            NegotiateState::Ok => Err(out_of_sequence()),
+        }
+    }
+}

@@ -1,0 +1,123 @@
+// What a negotiation is as a security context: the mechanism in hand, once it has authenticated.
+ghost use Rattle.std.specs.Prelude.{◌≡◌, ◌≢◌, ◌-◌, [], ◌∷◌, None, true, false, IsTrue, IsErr, IfOk, IfErr, OnOk, OnErr};
+ghost use Rattle.sspi_mech.specs.Calls.{one_sealed, one_unsealed, ToName, ToIdentify, ToComplete, ToSeal, ToUnseal};
+ghost use Rattle.sspi_negotiate.specs.Hand.{hand_of};
+ghost use Rattle.sspi_negotiate.specs.Identity.{is_refused_identity};
+ghost use Rattle.sspi_negotiate.specs.Negotiate.{negotiate};
+
+use crate::negotiate::Negotiate;
+use crate::protocol::Protocol;
+use sspi_mech::Mechanism;
+use sspi_names::{ContextNames, Credentials};
+use sspi_types::{Error, ErrorKind, Reason, SecurityStatus};
+
+/// A keytab, while NTLM is in hand.
+fn is_refused_identity(protocol: Protocol, identity: &Credentials) -> bool
+    ensures { result ≡ is_refused_identity protocol identity.now }
+{
+    match identity {
+        Credentials::AuthIdentity(_) => false,
+        Credentials::Keytab(_) => match protocol {
+            Protocol::Ntlm => true,
+            Protocol::Kerberos => false,
+        },
+    }
+}
+
+impl<N: Mechanism, K: Mechanism> Negotiate<N, K> {
+    /// The name that was authenticated: on a server the peer's, on a client its own. `OutOfSequence` before it is known.
+    pub fn query_context_names(&self) -> Result<ContextNames, Error>
+        ensures named { IfOk result (λ names. (negotiate N.REQUESTS N.meaning K.meaning).names self.now ≡ Some names.username) }
+        ensures plain { IfErr result (λ error. error.nstatus ≡ None) }
+        ensures cause { IfErr result (λ error. error.error_type ≢ ErrorKind.InsufficientMemory →
+            (negotiate N.REQUESTS N.meaning K.meaning).refuses self.now ToName error.error_type) }
+    {
+        match self.protocol.names() {
+            Ok(username) => Ok(ContextNames { username }),
+            Err(error) => Err(error),
+        }
+    }
+
+    /// Tells a server which identity its peer may have. `IncompleteCredentials` exactly for a keytab with NTLM in hand; else
+    /// as `custom_set_auth_identities`. The kept credentials stay.
+    pub fn custom_set_auth_identity(&mut self, identity: Credentials) -> Result<(), Error>
+        ensures identified { OnOk result ((negotiate N.REQUESTS N.meaning K.meaning).identifies self.old (identity ∷ []) self.new) }
+        ensures count { (negotiate N.REQUESTS N.meaning K.meaning).counts self.new ≡ (negotiate N.REQUESTS N.meaning K.meaning).counts self.old }
+        ensures err { OnErr result (self.new ≡ self.old) }
+        ensures plain { IfErr result (λ error. error.nstatus ≡ None) }
+        ensures keytab { is_refused_identity (hand_of self.old.mech) identity ≡ true → IfErr result (λ error. error.error_type ≡ ErrorKind.IncompleteCredentials) × IsErr result }
+        ensures cause { is_refused_identity (hand_of self.old.mech) identity ≡ false → IfErr result (λ error. error.error_type ≢ ErrorKind.InsufficientMemory →
+            (negotiate N.REQUESTS N.meaning K.meaning).refuses self.old (ToIdentify (identity ∷ [])) error.error_type) }
+    {
+        if is_refused_identity(self.protocol.protocol(), &identity) {
+            return Err(Error::new(ErrorKind::IncompleteCredentials, Reason::NotPassword));
+        }
+        let mut identities = Vec::new(self.alloc);
+        identities.push(identity)?;
+        self.custom_set_auth_identities(identities)
+    }
+
+    /// Tells a server which identities its peer may have. NTLM takes those with a password, Kerberos the first. The kept
+    /// credentials stay.
+    pub fn custom_set_auth_identities(&mut self, identities: Vec<Credentials>) -> Result<(), Error>
+        ensures identified { OnOk result ((negotiate N.REQUESTS N.meaning K.meaning).identifies self.old identities.items self.new) }
+        ensures count { (negotiate N.REQUESTS N.meaning K.meaning).counts self.new ≡ (negotiate N.REQUESTS N.meaning K.meaning).counts self.old }
+        ensures err { OnErr result (self.new ≡ self.old) }
+        ensures plain { IfErr result (λ error. error.nstatus ≡ None) }
+        ensures cause { IfErr result (λ error. error.error_type ≢ ErrorKind.InsufficientMemory →
+            (negotiate N.REQUESTS N.meaning K.meaning).refuses self.old (ToIdentify identities.items) error.error_type) }
+    {
+        self.protocol.set_identities(identities)
+    }
+
+    /// Completes the authentication (CompleteAuthToken). `OutOfSequence` before there is a key.
+    pub fn complete_auth_token(&mut self) -> Result<SecurityStatus, Error>
+        ensures same { self.new ≡ self.old }
+        ensures keyed { IsTrue ((negotiate N.REQUESTS N.meaning K.meaning).keyed self.old) → result ≡ Ok SecurityStatus.Ok }
+        ensures permitted { OnOk result ((negotiate N.REQUESTS N.meaning K.meaning).permits self.old ToComplete) }
+        ensures plain { IfErr result (λ error. error.nstatus ≡ None) }
+        ensures cause { IfErr result (λ error. error.error_type ≢ ErrorKind.InsufficientMemory →
+            (negotiate N.REQUESTS N.meaning K.meaning).refuses self.old ToComplete error.error_type) }
+    {
+        self.protocol.complete()
+    }
+
+    /// Seals a text for the peer, as the next of its messages: a blob of at least 16 bytes.
+    ///
+    /// `OutOfSequence` before there is a key, `ContextExpired` once all numbers of messages are used.
+    pub fn seal(&mut self, text: &[u8]) -> Result<Vec<u8>, Error>
+        ensures blob { let c = negotiate N.REQUESTS N.meaning K.meaning in
+            IfOk result (λ blob. c.seals self.new (c.counts self.old).sealed text.now blob.items) }
+        ensures last { let c = negotiate N.REQUESTS N.meaning K.meaning in
+            IfOk result (λ blob. c.seals self.new ((c.counts self.new).sealed - 1) text.now blob.items) }
+        ensures ok { let c = negotiate N.REQUESTS N.meaning K.meaning in OnOk result (self.new ≡ c.counted self.old (one_sealed (c.counts self.old))) }
+        ensures count { let c = negotiate N.REQUESTS N.meaning K.meaning in OnOk result (c.counts self.new ≡ one_sealed (c.counts self.old)) }
+        ensures permitted { OnOk result ((negotiate N.REQUESTS N.meaning K.meaning).permits self.old (ToSeal text.now)) }
+        ensures err { OnErr result (self.new ≡ self.old) }
+        ensures plain { IfErr result (λ error. error.nstatus ≡ None) }
+        ensures cause { IfErr result (λ error. error.error_type ≢ ErrorKind.InsufficientMemory →
+            (negotiate N.REQUESTS N.meaning K.meaning).refuses self.new (ToSeal text.now) error.error_type) }
+    {
+        self.protocol.seal(text)
+    }
+
+    /// Opens what the peer sealed, as the next of its messages.
+    ///
+    /// `OutOfSequence` before there is a key, `ContextExpired` once all numbers of messages are used, `InvalidToken` for a
+    /// blob of under 16 bytes, and `MessageAltered` for one that the peer did not seal as this message.
+    pub fn unseal(&mut self, blob: &[u8]) -> Result<Vec<u8>, Error>
+        ensures text { let c = negotiate N.REQUESTS N.meaning K.meaning in
+            IfOk result (λ text. c.opens self.new (c.counts self.old).unsealed blob.now text.items) }
+        ensures last { let c = negotiate N.REQUESTS N.meaning K.meaning in
+            IfOk result (λ text. c.opens self.new ((c.counts self.new).unsealed - 1) blob.now text.items) }
+        ensures ok { let c = negotiate N.REQUESTS N.meaning K.meaning in OnOk result (self.new ≡ c.counted self.old (one_unsealed (c.counts self.old))) }
+        ensures count { let c = negotiate N.REQUESTS N.meaning K.meaning in OnOk result (c.counts self.new ≡ one_unsealed (c.counts self.old)) }
+        ensures permitted { OnOk result ((negotiate N.REQUESTS N.meaning K.meaning).permits self.old (ToUnseal blob.now)) }
+        ensures err { OnErr result (self.new ≡ self.old) }
+        ensures plain { IfErr result (λ error. error.nstatus ≡ None) }
+        ensures cause { IfErr result (λ error. error.error_type ≢ ErrorKind.InsufficientMemory →
+            (negotiate N.REQUESTS N.meaning K.meaning).refuses self.new (ToUnseal blob.now) error.error_type) }
+    {
+        self.protocol.unseal(blob)
+    }
+}

@@ -1,0 +1,260 @@
+// The calls of the mechanism in hand.
+ghost use Rattle.std.specs.Prelude.{ℕ, List, Option, ◌≡◌, ◌≢◌, ◌<◌, IsTrue, IfOk, IfErr, OnOk, OnErr, Some, None, option_copied, filter, take};
+ghost use Rattle.sspi_types.specs.Memory.{memory_error};
+ghost use Rattle.sspi_names.specs.declared.kdc_table.KdcEntry.{KdcEntry};
+ghost use Rattle.sspi_mech.specs.Answers.{IfRefused, OnRefused, OnAsk};
+ghost use Rattle.sspi_mech.specs.Calls.{step_args, accept_args, no_counts, one_sealed, one_unsealed, one_signed, one_verified};
+ghost use Rattle.sspi_mech.specs.Calls.{ToAcquire, ToName, ToIdentify, ToComplete, ToSeal, ToUnseal, ToSign, ToVerify, ToDescribe, ToShowKey};
+ghost use Rattle.sspi_mech.specs.Context.{IsUnused};
+ghost use Rattle.sspi_negotiate.specs.declared.protocol.Protocol.TheVariants as protocols;
+ghost use Rattle.sspi_negotiate.specs.Hand.{InPlaceOfNtlm, in_place_of_kerberos, hand, hand_of, has_password, asks_left};
+
+use crate::protocol::NegotiatedProtocol;
+use sspi_mech::{
+    AcceptSecurityContext, Answer, InitializeSecurityContext, MechConfig, Mechanism, NtlmConfig,
+    Reply, Step,
+};
+use sspi_names::{Credentials, CredentialsBuffers, Username};
+use sspi_types::{
+    ContextSizes, CredentialUse, Error, ErrorKind, PackageInfo, SecurityStatus, SessionKeys, Text,
+};
+use std::alloc::Global;
+
+fn with_passwords(identities: Vec<Credentials>) -> Vec<Credentials>
+    ensures { result.items ≡ filter has_password identities.items }
+{
+    let mut identities = identities;
+    identities.retain(|identity| matches!(identity, Credentials::AuthIdentity(_)));
+    identities
+}
+
+fn first_of(identities: Vec<Credentials>) -> Vec<Credentials>
+    ensures { result.items ≡ take 1 identities.items }
+{
+    let mut identities = identities;
+    identities.truncate(1);
+    identities
+}
+
+impl<N: Mechanism, K: Mechanism> NegotiatedProtocol<N, K> {
+    /// An NTLM that takes the place of a Kerberos.
+    pub(crate) fn new_ntlm(alloc: Global, client_computer_name: &Text) -> Result<Self, Error>
+        ensures made { IfOk result (λ it. (hand N.meaning K.meaning).made (in_place_of_kerberos client_computer_name.now) it) }
+        ensures fresh { IfOk result (λ it. (hand N.meaning K.meaning).counts it ≡ no_counts) }
+        ensures named { IfOk result (λ it. hand_of it ≡ protocols.Ntlm) }
+        ensures err { IfErr result (λ error. error ≡ memory_error) }
+    {
+        let config = NtlmConfig::new(client_computer_name.clone(alloc)?);
+        match N::make(alloc, &MechConfig::Ntlm(&config)) {
+            Ok(ntlm) => Ok(NegotiatedProtocol::Ntlm(ntlm)),
+            Err(error) => Err(error),
+        }
+    }
+
+    /// A Kerberos that takes the place of an NTLM. As long as `MechConfig` has no configuration of Kerberos it is made of one
+    /// of NTLM, without URL and KDCs.
+    pub(crate) fn new_kerberos(alloc: Global, client_computer_name: &Text) -> Result<Self, Error>
+        ensures made { (url : Option (List ℕ)) (kdcs : List KdcEntry) → IfOk result (λ it. (hand N.meaning K.meaning).made
+            (InPlaceOfNtlm url kdcs client_computer_name.now) it) }
+        ensures fresh { IfOk result (λ it. (hand N.meaning K.meaning).counts it ≡ no_counts) }
+        ensures named { IfOk result (λ it. hand_of it ≡ protocols.Kerberos) }
+        ensures err { IfErr result (λ error. error ≡ memory_error) }
+    {
+        let config = NtlmConfig::new(client_computer_name.clone(alloc)?);
+        match K::make(alloc, &MechConfig::Ntlm(&config)) {
+            Ok(kerberos) => Ok(NegotiatedProtocol::Kerberos(kerberos)),
+            Err(error) => Err(error),
+        }
+    }
+
+    pub(crate) fn acquire(
+        &mut self,
+        credential_use: CredentialUse,
+        auth_data: Option<&Credentials>,
+    ) -> Result<Option<CredentialsBuffers>, Error>
+        ensures acquired { IfOk result (λ buffers.
+            (hand N.meaning K.meaning).acquires self.old credential_use (option_copied auth_data.entry) buffers self.new) }
+        ensures count { (hand N.meaning K.meaning).counts self.new ≡ (hand N.meaning K.meaning).counts self.old }
+        ensures named { hand_of self.new ≡ hand_of self.old }
+        ensures err { OnErr result (self.new ≡ self.old) }
+        ensures plain { IfErr result (λ error. error.nstatus ≡ None) }
+        ensures cause { IfErr result (λ error. error.error_type ≢ ErrorKind.InsufficientMemory →
+            (hand N.meaning K.meaning).refuses self.old (ToAcquire credential_use (option_copied auth_data.entry)) error.error_type) }
+    {
+        match self {
+            NegotiatedProtocol::Ntlm(mechanism) => mechanism.acquire(credential_use, auth_data),
+            NegotiatedProtocol::Kerberos(mechanism) => mechanism.acquire(credential_use, auth_data),
+        }
+    }
+
+    pub(crate) fn initialize(&mut self, args: &InitializeSecurityContext<'_>) -> Answer
+        ensures step { (hand N.meaning K.meaning).steps self.old (step_args args.now) result self.new }
+        ensures unused { IsUnused ((hand N.meaning K.meaning).counts self.old) → IsUnused ((hand N.meaning K.meaning).counts self.new) }
+        ensures named { hand_of self.new ≡ hand_of self.old }
+        ensures plain { IfRefused result (λ error. error.nstatus ≡ None) }
+    {
+        match self {
+            NegotiatedProtocol::Ntlm(mechanism) => mechanism.initialize(args),
+            NegotiatedProtocol::Kerberos(mechanism) => mechanism.initialize(args),
+        }
+    }
+
+    pub(crate) fn resume(&mut self, reply: &Reply) -> Answer
+        ensures step { (hand N.meaning K.meaning).resumes self.old reply.now result self.new }
+        ensures unused { IsUnused ((hand N.meaning K.meaning).counts self.old) → IsUnused ((hand N.meaning K.meaning).counts self.new) }
+        ensures named { hand_of self.new ≡ hand_of self.old }
+        ensures plain { IfRefused result (λ error. error.nstatus ≡ None) }
+    {
+        match self {
+            NegotiatedProtocol::Ntlm(mechanism) => mechanism.resume(reply),
+            NegotiatedProtocol::Kerberos(mechanism) => mechanism.resume(reply),
+        }
+    }
+
+    pub(crate) fn accept(&mut self, args: &AcceptSecurityContext<'_>) -> Result<Step, Error>
+        ensures step { (hand N.meaning K.meaning).accepts self.old (accept_args args.now) result self.new }
+        ensures unused { IsUnused ((hand N.meaning K.meaning).counts self.old) → IsUnused ((hand N.meaning K.meaning).counts self.new) }
+        ensures named { hand_of self.new ≡ hand_of self.old }
+        ensures plain { IfErr result (λ error. error.nstatus ≡ None) }
+    {
+        match self {
+            NegotiatedProtocol::Ntlm(mechanism) => mechanism.accept(args),
+            NegotiatedProtocol::Kerberos(mechanism) => mechanism.accept(args),
+        }
+    }
+
+    pub(crate) fn requests_left(&self) -> u64
+        ensures { result ≡ asks_left N.REQUESTS N.meaning K.meaning self.now }
+    {
+        match self {
+            NegotiatedProtocol::Ntlm(mechanism) => u64::from(mechanism.requests_left()),
+            NegotiatedProtocol::Kerberos(mechanism) => {
+                u64::from(mechanism.requests_left()) + u64::from(N::REQUESTS)
+            }
+        }
+    }
+
+    pub(crate) fn complete(&mut self) -> Result<SecurityStatus, Error>
+        ensures same { self.new ≡ self.old }
+        ensures keyed { IsTrue ((hand N.meaning K.meaning).keyed self.old) → result ≡ Ok SecurityStatus.Ok }
+        ensures permitted { OnOk result ((hand N.meaning K.meaning).permits self.old ToComplete) }
+        ensures plain { IfErr result (λ error. error.nstatus ≡ None) }
+        ensures cause { IfErr result (λ error. error.error_type ≢ ErrorKind.InsufficientMemory →
+            (hand N.meaning K.meaning).refuses self.old ToComplete error.error_type) }
+    {
+        match self {
+            NegotiatedProtocol::Ntlm(mechanism) => mechanism.complete(),
+            NegotiatedProtocol::Kerberos(mechanism) => mechanism.complete(),
+        }
+    }
+
+    pub(crate) fn names(&self) -> Result<Username, Error>
+        ensures named { IfOk result (λ name. (hand N.meaning K.meaning).names self.now ≡ Some name) }
+        ensures plain { IfErr result (λ error. error.nstatus ≡ None) }
+        ensures cause { IfErr result (λ error. error.error_type ≢ ErrorKind.InsufficientMemory →
+            (hand N.meaning K.meaning).refuses self.now ToName error.error_type) }
+    {
+        match self {
+            NegotiatedProtocol::Ntlm(mechanism) => mechanism.names(),
+            NegotiatedProtocol::Kerberos(mechanism) => mechanism.names(),
+        }
+    }
+
+    pub(crate) fn set_identities(&mut self, identities: Vec<Credentials>) -> Result<(), Error>
+        ensures identified { OnOk result ((hand N.meaning K.meaning).identifies self.old identities.items self.new) }
+        ensures count { (hand N.meaning K.meaning).counts self.new ≡ (hand N.meaning K.meaning).counts self.old }
+        ensures named { hand_of self.new ≡ hand_of self.old }
+        ensures err { OnErr result (self.new ≡ self.old) }
+        ensures plain { IfErr result (λ error. error.nstatus ≡ None) }
+        ensures cause { IfErr result (λ error. error.error_type ≢ ErrorKind.InsufficientMemory →
+            (hand N.meaning K.meaning).refuses self.old (ToIdentify identities.items) error.error_type) }
+    {
+        match self {
+            NegotiatedProtocol::Ntlm(mechanism) => {
+                mechanism.set_identities(&with_passwords(identities))
+            }
+            NegotiatedProtocol::Kerberos(mechanism) => {
+                mechanism.set_identities(&first_of(identities))
+            }
+        }
+    }
+
+    pub(crate) fn seal(&mut self, text: &[u8]) -> Result<Vec<u8>, Error>
+        ensures blob { let c = hand N.meaning K.meaning in IfOk result (λ blob. c.seals self.new (c.counts self.old).sealed text.now blob.items) }
+        ensures ok { let c = hand N.meaning K.meaning in OnOk result (self.new ≡ c.counted self.old (one_sealed (c.counts self.old))) }
+        ensures count { let c = hand N.meaning K.meaning in OnOk result (c.counts self.new ≡ one_sealed (c.counts self.old)) }
+        ensures permitted { OnOk result ((hand N.meaning K.meaning).permits self.old (ToSeal text.now)) }
+        ensures err { OnErr result (self.new ≡ self.old) }
+        ensures plain { IfErr result (λ error. error.nstatus ≡ None) }
+        ensures cause { IfErr result (λ error. error.error_type ≢ ErrorKind.InsufficientMemory →
+            (hand N.meaning K.meaning).refuses self.old (ToSeal text.now) error.error_type) }
+    {
+        match self {
+            NegotiatedProtocol::Ntlm(mechanism) => mechanism.seal(text),
+            NegotiatedProtocol::Kerberos(mechanism) => mechanism.seal(text),
+        }
+    }
+
+    pub(crate) fn unseal(&mut self, blob: &[u8]) -> Result<Vec<u8>, Error>
+        ensures text { let c = hand N.meaning K.meaning in IfOk result (λ text. c.opens self.new (c.counts self.old).unsealed blob.now text.items) }
+        ensures ok { let c = hand N.meaning K.meaning in OnOk result (self.new ≡ c.counted self.old (one_unsealed (c.counts self.old))) }
+        ensures count { let c = hand N.meaning K.meaning in OnOk result (c.counts self.new ≡ one_unsealed (c.counts self.old)) }
+        ensures permitted { OnOk result ((hand N.meaning K.meaning).permits self.old (ToUnseal blob.now)) }
+        ensures err { OnErr result (self.new ≡ self.old) }
+        ensures plain { IfErr result (λ error. error.nstatus ≡ None) }
+        ensures cause { IfErr result (λ error. error.error_type ≢ ErrorKind.InsufficientMemory →
+            (hand N.meaning K.meaning).refuses self.old (ToUnseal blob.now) error.error_type) }
+    {
+        match self {
+            NegotiatedProtocol::Ntlm(mechanism) => mechanism.unseal(blob),
+            NegotiatedProtocol::Kerberos(mechanism) => mechanism.unseal(blob),
+        }
+    }
+
+    /// The MIC of a text for the peer, as the next of its MICs (MakeSignature). `OutOfSequence` before there is a key,
+    /// `ContextExpired` once all numbers of MICs are used.
+    pub fn generate_mic_token(&mut self, text: &[u8]) -> Result<Vec<u8>, Error>
+        ensures mic { let c = hand N.meaning K.meaning in IfOk result (λ mic. c.signs self.new (c.counts self.old).signed text.now mic.items) }
+        ensures ok { let c = hand N.meaning K.meaning in OnOk result (self.new ≡ c.counted self.old (one_signed (c.counts self.old))) }
+        ensures count { let c = hand N.meaning K.meaning in OnOk result (c.counts self.new ≡ one_signed (c.counts self.old)) }
+        ensures named { hand_of self.new ≡ hand_of self.old }
+        ensures permitted { OnOk result ((hand N.meaning K.meaning).permits self.old (ToSign text.now)) }
+        ensures err { OnErr result (self.new ≡ self.old) }
+        ensures plain { IfErr result (λ error. error.nstatus ≡ None) }
+        ensures cause { IfErr result (λ error. error.error_type ≢ ErrorKind.InsufficientMemory →
+            (hand N.meaning K.meaning).refuses self.old (ToSign text.now) error.error_type) }
+    {
+        match self {
+            NegotiatedProtocol::Ntlm(mechanism) => mechanism.sign(text),
+            NegotiatedProtocol::Kerberos(mechanism) => mechanism.sign(text),
+        }
+    }
+
+    /// Whether `token` is the MIC that the peer made of `text` as the next of its MICs (VerifySignature): `Ok`, or
+    /// `MessageAltered`, also where it has another length. `OutOfSequence` and `ContextExpired` as `generate_mic_token`.
+    pub fn verify_mic_token(&mut self, token: &[u8], text: &[u8]) -> Result<(), Error>
+        ensures mic { let c = hand N.meaning K.meaning in OnOk result (c.verifies self.new (c.counts self.old).verified token.now text.now) }
+        ensures ok { let c = hand N.meaning K.meaning in OnOk result (self.new ≡ c.counted self.old (one_verified (c.counts self.old))) }
+        ensures count { let c = hand N.meaning K.meaning in OnOk result (c.counts self.new ≡ one_verified (c.counts self.old)) }
+        ensures named { hand_of self.new ≡ hand_of self.old }
+        ensures permitted { OnOk result ((hand N.meaning K.meaning).permits self.old (ToVerify token.now text.now)) }
+        ensures err { OnErr result (self.new ≡ self.old) }
+        ensures plain { IfErr result (λ error. error.nstatus ≡ None) }
+        ensures cause { IfErr result (λ error. error.error_type ≢ ErrorKind.InsufficientMemory →
+            (hand N.meaning K.meaning).refuses self.old (ToVerify token.now text.now) error.error_type) }
+    {
+        match self {
+            NegotiatedProtocol::Ntlm(mechanism) => mechanism.verify(token, text),
+            NegotiatedProtocol::Kerberos(mechanism) => mechanism.verify(token, text),
+        }
+    }
+
+    pub(crate) fn user_to_user(&self) -> bool
+        ensures { result ≡ (hand N.meaning K.meaning).pairs self.now }
+    {
+        match self {
+            NegotiatedProtocol::Ntlm(mechanism) => mechanism.user_to_user(),
+            NegotiatedProtocol::Kerberos(mechanism) => mechanism.user_to_user(),
+        }
+    }
+}

@@ -1,0 +1,37 @@
+ghost use Rattle.std.specs.Prelude.{◌≡◌, IfOk, map};
+ghost use Rattle.sspi_names.specs.declared.credentials.Credentials.TheVariants as credentials;
+ghost use Rattle.sspi_negotiate.specs.Known.{named};
+
+use sspi_names::{AuthIdentity, Credentials, Username};
+use std::alloc::{AllocError, Global};
+
+/// Copies of the identities whose name this is, but for the case of ASCII letters.
+fn copy_named(
+    alloc: Global,
+    name: &Username,
+    known: &[AuthIdentity],
+) -> Result<Vec<AuthIdentity>, AllocError>
+    ensures { IfOk result (λ copies. copies.items ≡ named name.now known.now) }
+{
+    let mut copies = Vec::new(alloc);
+    for entry in known {
+        if entry.username.eq_ignore_ascii_case(name) {
+            copies.push(entry.clone(alloc)?)?;
+        }
+    }
+    Ok(copies)
+}
+
+/// The same as credentials.
+pub(crate) fn named(
+    alloc: Global,
+    name: &Username,
+    known: &[AuthIdentity],
+) -> Result<Vec<Credentials>, AllocError>
+    ensures { IfOk result (λ found. found.items ≡ map credentials.AuthIdentity (named name.now known.now)) }
+{
+    copy_named(alloc, name, known)?
+        .into_iter()
+        .map(|identity| Credentials::AuthIdentity(identity))
+        .collect(alloc)
+}

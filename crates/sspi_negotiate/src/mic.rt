@@ -1,0 +1,213 @@
+// The MICs over the mechanism list (RFC 4178, section 5).
+ghost use Rattle.std.specs.Prelude.{◌≡◌, ◌≢◌, None, Some, IfOk, IfErr, OnOk, OnErr, map, option_map, length, ◌==◌};
+ghost use Rattle.sspi_mech.specs.Calls.{one_signed, one_verified, ToSign, ToVerify};
+ghost use Rattle.sspi_negotiate.specs.Hand.{hand, hand_of};
+ghost use Rattle.sspi_names.specs.declared.credentials.Credentials.TheVariants as credentials;
+ghost use Rattle.sspi_negotiate.specs.Does.{Does, Passes, Stays, StaysUnused, told};
+ghost use Rattle.sspi_negotiate.specs.Rows.{identifies_among, identifies, verifies, verifies_text, checks, signs_text, writes, targ, if_some, answers_signed, completes_signed, hands_mic};
+ghost use Rattle.sspi_negotiate.specs.Known.{named};
+ghost use Rattle.sspi_negotiate.specs.Plan.{Names, Identifies, Verifies, Signs};
+ghost use Rattle.sspi_negotiate.specs.Values.{values_of};
+
+use crate::known::named;
+use crate::negotiate::Negotiate;
+use crate::protocol::NegotiatedProtocol;
+use crate::rows::if_some;
+use crate::spelled::spelled_list;
+use crate::state::NegotiateState;
+use sspi_mech::{Mechanism, Step};
+use sspi_names::{Credentials, Username};
+use sspi_tokens::{NegResult, NegTokenTarg};
+use sspi_types::{Bytes, Error, ErrorKind, Reason, SecurityStatus};
+
+fn verify_with<N: Mechanism, K: Mechanism>(
+    protocol: &mut NegotiatedProtocol<N, K>,
+    mic: &Bytes,
+    text: &Bytes,
+) -> Result<(), Error>
+    ensures mic { let c = hand N.meaning K.meaning in OnOk result (c.verifies protocol.new (c.counts protocol.old).verified mic.now text.now) }
+    ensures ok { let c = hand N.meaning K.meaning in OnOk result (protocol.new ≡ c.counted protocol.old (one_verified (c.counts protocol.old))) }
+    ensures count { let c = hand N.meaning K.meaning in OnOk result (c.counts protocol.new ≡ one_verified (c.counts protocol.old)) }
+    ensures named { hand_of protocol.new ≡ hand_of protocol.old }
+    ensures permitted { OnOk result ((hand N.meaning K.meaning).permits protocol.old (ToVerify mic.now text.now)) }
+    ensures err { OnErr result (protocol.new ≡ protocol.old) }
+    ensures plain { IfErr result (λ error. error.nstatus ≡ None) }
+    ensures cause { IfErr result (λ error. error.error_type ≢ ErrorKind.InsufficientMemory →
+        (hand N.meaning K.meaning).refuses protocol.old (ToVerify mic.now text.now) error.error_type) }
+{
+    protocol.verify_mic_token(mic.as_slice(), text.as_slice())
+}
+
+fn sign_with<N: Mechanism, K: Mechanism>(
+    protocol: &mut NegotiatedProtocol<N, K>,
+    text: &Bytes,
+) -> Result<Bytes, Error>
+    ensures mic { let c = hand N.meaning K.meaning in IfOk result (λ mic. c.signs protocol.new (c.counts protocol.old).signed text.now mic) }
+    ensures ok { let c = hand N.meaning K.meaning in OnOk result (protocol.new ≡ c.counted protocol.old (one_signed (c.counts protocol.old))) }
+    ensures count { let c = hand N.meaning K.meaning in OnOk result (c.counts protocol.new ≡ one_signed (c.counts protocol.old)) }
+    ensures named { hand_of protocol.new ≡ hand_of protocol.old }
+    ensures permitted { OnOk result ((hand N.meaning K.meaning).permits protocol.old (ToSign text.now)) }
+    ensures err { OnErr result (protocol.new ≡ protocol.old) }
+    ensures plain { IfErr result (λ error. error.nstatus ≡ None) }
+    ensures cause { IfErr result (λ error. error.error_type ≢ ErrorKind.InsufficientMemory →
+        (hand N.meaning K.meaning).refuses protocol.old (ToSign text.now) error.error_type) }
+{
+    match protocol.generate_mic_token(text.as_slice()) {
+        Err(error) => Err(error),
+        Ok(mic) => Ok(Bytes::from_vec(mic)),
+    }
+}
+
+impl<N: Mechanism, K: Mechanism> Negotiate<N, K> {
+    /// Takes the MIC of the client, of whom a server must know the identity first.
+    pub(crate) fn check(&mut self, mic: &Bytes) -> Result<(), Error>
+        ensures step { Passes N.meaning K.meaning (checks mic.now (values_of self.old)) (values_of self.old) self.old result self.new }
+        ensures stays { Stays (values_of self.old) (values_of self.new) }
+        ensures unused { StaysUnused N.meaning K.meaning self.old self.new }
+        ensures plain { IfErr result (λ error. error.nstatus ≡ None) }
+    {
+        match self.identify() {
+            Err(error) => Err(error),
+            Ok(()) => self.verify(mic),
+        }
+    }
+
+    fn identify(&mut self) -> Result<(), Error>
+        ensures step { Passes N.meaning K.meaning (identifies (values_of self.old)) (values_of self.old) self.old result self.new }
+        ensures stays { Stays (values_of self.old) (values_of self.new) }
+        ensures unused { StaysUnused N.meaning K.meaning self.old self.new }
+        ensures plain { IfErr result (λ error. error.nstatus ≡ None) }
+    {
+        match self.protocol.names() {
+            Err(error) => Err(error),
+            Ok(name) => self.identify_as(&name),
+        }
+    }
+
+    fn identify_as(&mut self, name: &Username) -> Result<(), Error>
+        ensures step { Passes N.meaning K.meaning
+            (λ rest. identifies_among (map credentials.AuthIdentity (named name.now self.old.known)) (values_of self.old) rest) (values_of self.old) self.old result self.new }
+        ensures stays { Stays (values_of self.old) (values_of self.new) }
+        ensures unused { StaysUnused N.meaning K.meaning self.old self.new }
+        ensures plain { IfErr result (λ error. error.nstatus ≡ None) }
+    {
+        let found = named(self.alloc, name, &self.known)?;
+        if found.is_empty() {
+            Err(Error::new(ErrorKind::NoCredentials, Reason::NoIdentity))
+        } else {
+            self.identify_by(found)
+        }
+    }
+
+    fn identify_by(&mut self, found: Vec<Credentials>) -> Result<(), Error>
+        ensures step { Passes N.meaning K.meaning (Identifies found.items (values_of self.old)) (values_of self.old) self.old result self.new }
+        ensures stays { Stays (values_of self.old) (values_of self.new) }
+        ensures unused { StaysUnused N.meaning K.meaning self.old self.new }
+        ensures plain { IfErr result (λ error. error.nstatus ≡ None) }
+    {
+        self.protocol.set_identities(found)
+    }
+
+    /// Takes the peer's MIC, which must be over the list as it is kept.
+    pub(crate) fn verify(&mut self, mic: &Bytes) -> Result<(), Error>
+        ensures step { Passes N.meaning K.meaning (verifies mic.now (values_of self.old)) (values_of self.old) self.old result self.new }
+        ensures stays { Stays (values_of self.old) (values_of self.new) }
+        ensures unused { StaysUnused N.meaning K.meaning self.old self.new }
+        ensures plain { IfErr result (λ error. error.nstatus ≡ None) }
+    {
+        match spelled_list(self.alloc, &self.mech_types) {
+            Err(error) => Err(error),
+            Ok(text) => self.verify_over(mic, &text),
+        }
+    }
+
+    fn verify_over(&mut self, mic: &Bytes, text: &Bytes) -> Result<(), Error>
+        ensures step { Passes N.meaning K.meaning (Verifies mic.now text.now (values_of self.old)) (values_of self.old) self.old result self.new }
+        ensures stays { Stays (values_of self.old) (values_of self.new) }
+        ensures unused { StaysUnused N.meaning K.meaning self.old self.new }
+        ensures plain { IfErr result (λ error. error.nstatus ≡ None) }
+    {
+        self.protocol
+            .verify_mic_token(mic.as_slice(), text.as_slice())
+    }
+
+    /// Ends a step with a token that has the own MIC over the list.
+    #[tactic(auto, unfolding(crate::specs::Rows::answers_signed))]
+    pub(crate) fn answer_signed(
+        &mut self,
+        result_field: NegResult,
+        state: NegotiateState,
+        status: SecurityStatus,
+        token: Bytes,
+    ) -> Result<Step, Error>
+        ensures step { Does N.meaning K.meaning
+            (answers_signed result_field state status (values_of self.old) token) self.old (told result) self.new }
+        ensures stays { OnErr result (Stays (values_of self.old) (values_of self.new)) }
+        ensures unused { StaysUnused N.meaning K.meaning self.old self.new }
+        ensures plain { IfErr result (λ error. error.nstatus ≡ None) }
+    {
+        match spelled_list(self.alloc, &self.mech_types) {
+            Err(error) => Err(error),
+            Ok(text) => self.answer_over(result_field, state, status, token, &text),
+        }
+    }
+
+    fn answer_over(
+        &mut self,
+        result_field: NegResult,
+        state: NegotiateState,
+        status: SecurityStatus,
+        token: Bytes,
+        text: &Bytes,
+    ) -> Result<Step, Error>
+        ensures step { let v = values_of self.old in Does N.meaning K.meaning
+            (Signs text.now v (λ mic. writes (targ result_field None (if_some token) (Some mic)) v (record v { state = state }) status))
+            self.old (told result) self.new }
+        ensures stays { OnErr result (Stays (values_of self.old) (values_of self.new)) }
+        ensures unused { StaysUnused N.meaning K.meaning self.old self.new }
+        ensures plain { IfErr result (λ error. error.nstatus ≡ None) }
+    {
+        match sign_with(&mut self.protocol, text) {
+            Err(error) => Err(error),
+            Ok(mic) => {
+                let token = NegTokenTarg {
+                    neg_result: Some(result_field),
+                    supported_mech: None,
+                    response_token: if_some(token),
+                    mech_list_mic: Some(mic),
+                };
+                self.write(&token, self.mic_needed, state, status)
+            }
+        }
+    }
+
+    /// Both MICs are made.
+    pub(crate) fn complete_signed(&mut self, token: Bytes) -> Result<Step, Error>
+        ensures step { Does N.meaning K.meaning (completes_signed (values_of self.old) token) self.old (told result) self.new }
+        ensures stays { OnErr result (Stays (values_of self.old) (values_of self.new)) }
+        ensures unused { StaysUnused N.meaning K.meaning self.old self.new }
+        ensures plain { IfErr result (λ error. error.nstatus ≡ None) }
+    {
+        self.answer_signed(
+            NegResult::AcceptComplete,
+            NegotiateState::Ok,
+            SecurityStatus::Ok,
+            token,
+        )
+    }
+
+    /// The own MIC goes first, and the peer's is to come.
+    pub(crate) fn hand_mic(&mut self, token: Bytes) -> Result<Step, Error>
+        ensures step { Does N.meaning K.meaning (hands_mic (values_of self.old) token) self.old (told result) self.new }
+        ensures stays { OnErr result (Stays (values_of self.old) (values_of self.new)) }
+        ensures unused { StaysUnused N.meaning K.meaning self.old self.new }
+        ensures plain { IfErr result (λ error. error.nstatus ≡ None) }
+    {
+        self.answer_signed(
+            NegResult::AcceptIncomplete,
+            NegotiateState::VerifyMic,
+            SecurityStatus::ContinueNeeded,
+            token,
+        )
+    }
+}

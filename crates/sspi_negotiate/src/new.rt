@@ -1,0 +1,151 @@
+// How the ends of a negotiation begin.
+ghost use Rattle.std.specs.Prelude.{◌≡◌, ◌≢◌, None, IfOk, IfErr, OnErr};
+ghost use Rattle.sspi_mech.specs.Calls.{no_counts};
+ghost use Rattle.sspi_negotiate.specs.declared.state.Role.TheVariants as roles;
+ghost use Rattle.sspi_negotiate.specs.Hand.{hand};
+ghost use Rattle.sspi_negotiate.specs.New.{ForClient, ForServer, without_kerberos, packages_in, without_ntlm, first_by, first_in_hand, IsFirst, IsUnmade, Begins, MadeOf, UnmadeOf};
+
+use crate::branch::Branch;
+use crate::negotiate::Negotiate;
+use crate::negotiate_config::NegotiateConfig;
+use crate::package_list::PackageListConfig;
+use crate::protocol::NegotiatedProtocol;
+use crate::protocol_config::ProtocolConfig;
+use crate::state::{NegotiateState, Role};
+use sspi_mech::Mechanism;
+use sspi_names::AuthIdentity;
+use sspi_tokens::MechTypeList;
+use sspi_types::{DataRepresentation, Error, ErrorKind, Reason, Text};
+use std::alloc::Global;
+
+/// Until there is a mechanism of Kerberos, it counts as disabled, whatever the list of packages says.
+fn without_kerberos(packages: PackageListConfig) -> PackageListConfig
+    ensures { result ≡ without_kerberos packages }
+{
+    PackageListConfig {
+        ntlm: packages.ntlm,
+        kerberos: false,
+    }
+}
+
+fn packages_in(config: &NegotiateConfig) -> PackageListConfig
+    ensures { result ≡ packages_in config.now }
+{
+    let list = match &config.package_list {
+        None => None,
+        Some(list) => Some(list.as_str()),
+    };
+    without_kerberos(PackageListConfig::parse(list))
+}
+
+/// What takes the place of an NTLM that may not be used.
+fn make_without_ntlm<N: Mechanism, K: Mechanism>(
+    alloc: Global,
+    role: Role,
+    config: &NegotiateConfig,
+    kerberos: bool,
+) -> Result<NegotiatedProtocol<N, K>, Error>
+    ensures made { IfOk result (λ it. IsFirst (hand N.meaning K.meaning) (without_ntlm role config.now kerberos) it) }
+    ensures fresh { IfOk result (λ it. (hand N.meaning K.meaning).counts it ≡ no_counts) }
+    ensures plain { IfErr result (λ error. error.nstatus ≡ None) }
+    ensures cause { IfErr result (λ error. error.error_type ≢ ErrorKind.InsufficientMemory →
+        IsUnmade (without_ntlm role config.now kerberos) error.error_type) }
+{
+    if !kerberos {
+        return Err(Error::new(ErrorKind::NoCredentials, Reason::NoPackage));
+    }
+    match role {
+        Role::Client => NegotiatedProtocol::new_kerberos(alloc, &config.client_computer_name),
+        Role::Server => Err(Error::new(ErrorKind::InternalError, Reason::Disabled)),
+    }
+}
+
+/// The mechanism that is in hand at first.
+fn make_first<N: Mechanism, K: Mechanism>(
+    alloc: Global,
+    role: Role,
+    config: &NegotiateConfig,
+    packages: PackageListConfig,
+) -> Result<NegotiatedProtocol<N, K>, Error>
+    ensures made { IfOk result (λ it. IsFirst (hand N.meaning K.meaning) (first_by role config.now config.now.protocol_config packages) it) }
+    ensures fresh { IfOk result (λ it. (hand N.meaning K.meaning).counts it ≡ no_counts) }
+    ensures plain { IfErr result (λ error. error.nstatus ≡ None) }
+    ensures cause { IfErr result (λ error. error.error_type ≢ ErrorKind.InsufficientMemory →
+        IsUnmade (first_by role config.now config.now.protocol_config packages) error.error_type) }
+{
+    match &config.protocol_config {
+        ProtocolConfig::Ntlm(_) => {
+            if packages.ntlm {
+                config.protocol_config.new_instance(alloc)
+            } else {
+                make_without_ntlm(alloc, role, config, packages.kerberos)
+            }
+        }
+    }
+}
+
+fn begin<N: Mechanism, K: Mechanism>(
+    alloc: Global,
+    role: Role,
+    config: &NegotiateConfig,
+    known: Vec<AuthIdentity>,
+) -> Result<Negotiate<N, K>, Error>
+    ensures made { IfOk result (λ it. Begins N.meaning K.meaning role config.now known.items it) }
+    ensures fresh { IfOk result (λ it. (hand N.meaning K.meaning).counts it.mech ≡ no_counts) }
+    ensures plain { IfErr result (λ error. error.nstatus ≡ None) }
+    ensures cause { IfErr result (λ error. error.error_type ≢ ErrorKind.InsufficientMemory → IsUnmade (first_in_hand role config.now) error.error_type) }
+{
+    let packages = packages_in(config);
+    let protocol = match make_first(alloc, role, config, packages) {
+        Err(error) => return Err(error),
+        Ok(protocol) => protocol,
+    };
+    let client_computer_name = config.client_computer_name.clone(alloc)?;
+    let kdcs = config.kdcs.clone(alloc)?;
+    Ok(Negotiate {
+        alloc,
+        role,
+        state: NegotiateState::Initial,
+        protocol,
+        packages,
+        mech_types: MechTypeList::from_vec(Vec::new(alloc)),
+        mic_needed: true,
+        auth_identity: None,
+        known,
+        client_computer_name,
+        kdcs,
+        branch: Branch::Idle,
+        data_representation: DataRepresentation::Native,
+    })
+}
+
+impl<N: Mechanism, K: Mechanism> Negotiate<N, K> {
+    /// The client of a negotiation.
+    ///
+    /// Until there is a mechanism of Kerberos it counts as disabled. `NoCredentials` exactly where no package is enabled.
+    pub fn new_client(alloc: Global, config: &NegotiateConfig) -> Result<Self, Error>
+        ensures made { IfOk result (λ it. MadeOf N.meaning K.meaning (ForClient config.now) it) }
+        ensures fresh { IfOk result (λ it. (hand N.meaning K.meaning).counts it.mech ≡ no_counts) }
+        ensures plain { IfErr result (λ error. error.nstatus ≡ None) }
+        ensures cause { IfErr result (λ error. error.error_type ≢ ErrorKind.InsufficientMemory → UnmadeOf (ForClient config.now) error.error_type) }
+    {
+        begin(alloc, Role::Client, config, Vec::new(alloc))
+    }
+
+    /// The server of a negotiation, which knows these identities of its peers.
+    ///
+    /// As `new_client`; `InternalError` where it is configured with NTLM, which is disabled, and Kerberos is enabled.
+    pub fn new_server(
+        alloc: Global,
+        config: &NegotiateConfig,
+        auth_data: Vec<AuthIdentity>,
+    ) -> Result<Self, Error>
+        ensures made { IfOk result (λ it. MadeOf N.meaning K.meaning (ForServer config.now auth_data.items) it) }
+        ensures fresh { IfOk result (λ it. (hand N.meaning K.meaning).counts it.mech ≡ no_counts) }
+        ensures plain { IfErr result (λ error. error.nstatus ≡ None) }
+        ensures cause { IfErr result (λ error. error.error_type ≢ ErrorKind.InsufficientMemory →
+            UnmadeOf (ForServer config.now auth_data.items) error.error_type) }
+    {
+        begin(alloc, Role::Server, config, auth_data)
+    }
+}

@@ -1,0 +1,261 @@
+// A client's first step, and what comes of it where it is refused (state Initial).
+ghost use Rattle.std.specs.Prelude.{◌≡◌, ◌≢◌, ◌&&◌, None, Some, IfOk, IfErr, OnOk, OnErr, option_copied};
+ghost use Rattle.sspi_mech.specs.Answers.{answer_of, IfRefused};
+ghost use Rattle.sspi_mech.specs.Calls.{step_args};
+ghost use Rattle.sspi_mech.specs.Context.{IsUnused};
+ghost use Rattle.sspi_negotiate.specs.Client.{at_initial, first_step, begun, offers, falls, falls_back, steps_again, handle_for, passwords, resumes_opening};
+ghost use Rattle.sspi_negotiate.specs.Does.{Does, Stays, StaysUnused, UnlessMemory, told};
+ghost use Rattle.sspi_negotiate.specs.Hand.{hand, hand_of, is_kerberos_hand};
+ghost use Rattle.sspi_negotiate.specs.Fallback.{is_fallback};
+ghost use Rattle.sspi_negotiate.specs.declared.branch.Branch.TheVariants as branches;
+ghost use Rattle.sspi_negotiate.specs.Values.{values_of};
+
+use crate::branch::{Branch, Opening};
+use crate::fallback::is_fallback;
+use crate::negotiate::Negotiate;
+use crate::pick::offered;
+use crate::protocol::NegotiatedProtocol;
+use crate::rows::{client_wants_mic, handle_for, has_begun, passwords};
+use crate::spelled::spelled_init;
+use crate::state::NegotiateState;
+use sspi_mech::{Answer, InitializeSecurityContext, Mechanism, Progressing, Reply, Step};
+use sspi_names::CredentialsBuffers;
+use sspi_tokens::NegTokenInit;
+use sspi_types::{Bytes, DataRepresentation, Error, ErrorKind, Reason, SecurityStatus};
+
+/// A step that asks nothing more.
+pub(crate) fn done(ended: Result<Step, Error>) -> Result<Progressing, Error>
+    ensures { answer_of result ≡ told ended }
+{
+    match ended {
+        Ok(step) => Ok(Progressing::Done(step)),
+        Err(error) => Err(error),
+    }
+}
+
+/// The step of the mechanism in hand.
+pub(crate) fn step_with<N: Mechanism, K: Mechanism>(
+    protocol: &mut NegotiatedProtocol<N, K>,
+    kept: &Option<CredentialsBuffers>,
+    args: &InitializeSecurityContext<'_>,
+) -> Answer
+    ensures step { (hand N.meaning K.meaning).steps protocol.old
+        (record (step_args args.now) { handle = handle_for (hand_of protocol.old) kept.now (option_copied args.now.credentials_handle) }) result protocol.new }
+    ensures unused { IsUnused ((hand N.meaning K.meaning).counts protocol.old) → IsUnused ((hand N.meaning K.meaning).counts protocol.new) }
+    ensures named { hand_of protocol.new ≡ hand_of protocol.old }
+    ensures plain { IfRefused result (λ error. error.nstatus ≡ None) }
+{
+    let handle = handle_for(protocol.protocol(), kept.as_ref(), args.credentials_handle);
+    protocol.initialize(&InitializeSecurityContext {
+        credentials_handle: handle,
+        context_requirements: args.context_requirements,
+        target_data_representation: args.target_data_representation,
+        target_name: args.target_name,
+        input: args.input,
+    })
+}
+
+/// The step that NTLM makes in the place of Kerberos.
+fn step_again<N: Mechanism, K: Mechanism>(
+    protocol: &mut NegotiatedProtocol<N, K>,
+    kept: &Option<CredentialsBuffers>,
+    first: &Opening,
+    data_representation: DataRepresentation,
+) -> Answer
+    ensures step { (hand N.meaning K.meaning).steps protocol.old (record {
+      handle = passwords kept.now;
+      requirements = first.now.context_requirements;
+      target = first.now.target_name;
+      input = first.now.input;
+    }) result protocol.new }
+    ensures unused { IsUnused ((hand N.meaning K.meaning).counts protocol.old) → IsUnused ((hand N.meaning K.meaning).counts protocol.new) }
+    ensures named { hand_of protocol.new ≡ hand_of protocol.old }
+    ensures plain { IfRefused result (λ error. error.nstatus ≡ None) }
+{
+    let target_name = match &first.target_name {
+        None => None,
+        Some(target) => Some(target.as_str()),
+    };
+    protocol.initialize(&InitializeSecurityContext {
+        credentials_handle: passwords(kept.as_ref()),
+        context_requirements: first.context_requirements,
+        target_data_representation: data_representation,
+        target_name,
+        input: first.input.as_slice(),
+    })
+}
+
+impl<N: Mechanism, K: Mechanism> Negotiate<N, K> {
+    #[tactic(auto, unfolding(crate::specs::Client::at_initial))]
+    pub(crate) fn first_step(
+        &mut self,
+        args: &InitializeSecurityContext<'_>,
+    ) -> Result<Progressing, Error>
+        ensures step { Does N.meaning K.meaning (at_initial (values_of self.old) (step_args args.now)) self.old (answer_of result) self.new }
+        ensures stays { OnErr result (Stays (values_of self.old) (values_of self.new)) }
+        ensures unused { StaysUnused N.meaning K.meaning self.old self.new }
+        ensures plain { IfErr result (λ error. error.nstatus ≡ None) }
+    {
+        let first = Opening::of(self.alloc, args)?;
+        self.mic_needed = client_wants_mic(args.context_requirements);
+        self.open(first, args)
+    }
+
+    #[tactic(auto, unfolding(crate::specs::Client::first_step))]
+    fn open(
+        &mut self,
+        first: Opening,
+        args: &InitializeSecurityContext<'_>,
+    ) -> Result<Progressing, Error>
+        ensures step { Does N.meaning K.meaning (first_step first (values_of self.old) (step_args args.now)) self.old (answer_of result) self.new }
+        ensures stays { OnErr result (Stays (values_of self.old) (values_of self.new)) }
+        ensures unused { StaysUnused N.meaning K.meaning self.old self.new }
+        ensures plain { IfErr result (λ error. error.nstatus ≡ None) }
+    {
+        match step_with(&mut self.protocol, &self.auth_identity, args) {
+            Answer::Done(step) => done(self.begin(step)),
+            Answer::Ask(request) => {
+                self.branch = Branch::Opening(first);
+                Ok(Progressing::Suspended(request))
+            }
+            Answer::Refused(error) => self.fall(error, first),
+        }
+    }
+
+    fn begin(&mut self, step: Step) -> Result<Step, Error>
+        ensures step { Does N.meaning K.meaning (begun (values_of self.old) step) self.old (told result) self.new }
+        ensures stays { OnErr result (Stays (values_of self.old) (values_of self.new)) }
+        ensures unused { StaysUnused N.meaning K.meaning self.old self.new }
+        ensures plain { IfErr result (λ error. error.nstatus ≡ None) }
+    {
+        if has_begun(step.status) {
+            self.offer(step.output)
+        } else {
+            Err(Error::new(ErrorKind::InternalError, Reason::Status))
+        }
+    }
+
+    #[tactic(auto, unfolding(crate::specs::Client::offers))]
+    fn offer(&mut self, token: Bytes) -> Result<Step, Error>
+        ensures step { Does N.meaning K.meaning (offers (values_of self.old) token) self.old (told result) self.new }
+        ensures stays { OnErr result (Stays (values_of self.old) (values_of self.new)) }
+        ensures unused { StaysUnused N.meaning K.meaning self.old self.new }
+        ensures plain { IfErr result (λ error. error.nstatus ≡ None) }
+    {
+        let list = offered(self.alloc, self.protocol.protocol(), self.packages)?;
+        let token = NegTokenInit {
+            mech_types: Some(list.clone(self.alloc)?),
+            mech_token: Some(token),
+        };
+        match spelled_init(self.alloc, &token) {
+            Err(error) => Err(error),
+            Ok(output) => {
+                self.mech_types = list;
+                self.state = NegotiateState::InProgress;
+                Ok(Step {
+                    status: SecurityStatus::ContinueNeeded,
+                    output,
+                })
+            }
+        }
+    }
+
+    /// Whether NTLM takes the place of Kerberos after this refusal.
+    fn falls_back(&self, error: &Error) -> bool
+        ensures { result ≡ (is_fallback error.now.error_type && is_kerberos_hand (hand_of self.now.mech) && self.now.packages.ntlm) }
+    {
+        is_fallback(error.error_type) && self.protocol.is_kerberos() && self.packages.ntlm
+    }
+
+    #[tactic(auto, using(crate::proofs::Tokens::fallback_is_other))]
+    fn fall(&mut self, error: Error, first: Opening) -> Result<Progressing, Error>
+        ensures step { Does N.meaning K.meaning (falls (values_of self.old) (values_of self.old) first error.error_type) self.old (answer_of result) self.new }
+        ensures stays { OnErr result (Stays (values_of self.old) (values_of self.new)) }
+        ensures unused { StaysUnused N.meaning K.meaning self.old self.new }
+        ensures other { UnlessMemory (answer_of result) (error.error_type ≢ ErrorKind.InsufficientMemory) }
+        ensures plain { error.nstatus ≡ None → IfErr result (λ answer. answer.nstatus ≡ None) }
+    {
+        if self.falls_back(&error) {
+            self.fall_back(first)
+        } else {
+            Err(error)
+        }
+    }
+
+    #[tactic(auto, using(crate::proofs::Tokens::fallback_is_other))]
+    fn fall_waiting(&mut self, error: Error, first: Opening) -> Result<Progressing, Error>
+        ensures step { Does N.meaning K.meaning (falls (record (values_of self.old) { branch = branches.Opening first }) (values_of self.old) first error.error_type) self.old (answer_of result) self.new }
+        ensures stays { OnErr result (Stays (values_of self.old) (values_of self.new)) }
+        ensures unused { StaysUnused N.meaning K.meaning self.old self.new }
+        ensures other { UnlessMemory (answer_of result) (error.error_type ≢ ErrorKind.InsufficientMemory) }
+        ensures plain { error.nstatus ≡ None → IfErr result (λ answer. answer.nstatus ≡ None) }
+    {
+        if self.falls_back(&error) {
+            self.fall_back(first)
+        } else {
+            self.branch = Branch::Opening(first);
+            Err(error)
+        }
+    }
+
+    #[tactic(auto, unfolding(crate::specs::Client::falls_back))]
+    fn fall_back(&mut self, first: Opening) -> Result<Progressing, Error>
+        ensures step { Does N.meaning K.meaning (falls_back (values_of self.old) first) self.old (answer_of result) self.new }
+        ensures stays { OnErr result (Stays (values_of self.old) (values_of self.new)) }
+        ensures unused { StaysUnused N.meaning K.meaning self.old self.new }
+        ensures plain { IfErr result (λ error. error.nstatus ≡ None) }
+    {
+        match NegotiatedProtocol::new_ntlm(self.alloc, &self.client_computer_name) {
+            Err(error) => Err(error),
+            Ok(protocol) => {
+                self.protocol = protocol;
+                self.packages.kerberos = false;
+                self.open_again(first)
+            }
+        }
+    }
+
+    #[tactic(auto, unfolding(crate::specs::Client::steps_again))]
+    fn open_again(&mut self, first: Opening) -> Result<Progressing, Error>
+        ensures step { Does N.meaning K.meaning (steps_again (values_of self.old) first) self.old (answer_of result) self.new }
+        ensures stays { OnErr result (Stays (values_of self.old) (values_of self.new)) }
+        ensures unused { StaysUnused N.meaning K.meaning self.old self.new }
+        ensures plain { IfErr result (λ error. error.nstatus ≡ None) }
+    {
+        let representation = self.data_representation;
+        match step_again(
+            &mut self.protocol,
+            &self.auth_identity,
+            &first,
+            representation,
+        ) {
+            Answer::Done(step) => done(self.begin(step)),
+            Answer::Ask(request) => {
+                self.branch = Branch::Opening(first);
+                Ok(Progressing::Suspended(request))
+            }
+            Answer::Refused(error) => Err(error),
+        }
+    }
+
+    #[tactic(auto, unfolding(crate::specs::Client::resumes_opening))]
+    pub(crate) fn resume_opening(
+        &mut self,
+        first: Opening,
+        reply: &Reply,
+    ) -> Result<Progressing, Error>
+        ensures step { Does N.meaning K.meaning (resumes_opening first (values_of self.old) reply.now) self.old (answer_of result) self.new }
+        ensures stays { OnErr result (Stays (values_of self.old) (values_of self.new)) }
+        ensures unused { StaysUnused N.meaning K.meaning self.old self.new }
+        ensures plain { IfErr result (λ error. error.nstatus ≡ None) }
+    {
+        match self.protocol.resume(reply) {
+            Answer::Done(step) => done(self.begin(step)),
+            Answer::Ask(request) => {
+                self.branch = Branch::Opening(first);
+                Ok(Progressing::Suspended(request))
+            }
+            Answer::Refused(error) => self.fall_waiting(error, first),
+        }
+    }
+}

@@ -1,0 +1,68 @@
+ghost use Rattle.std.specs.Prelude.{◌≡◌, ◌≢◌, ℕ, List, None, Some, IfErr, OnOk, option_copied};
+ghost use Rattle.sspi_types.specs.declared.error_kind.ErrorKind.TheVariants as kinds;
+ghost use Rattle.sspi_names.specs.Name.{domain_of};
+ghost use Rattle.sspi_negotiate.specs.Does.{StaysUnused};
+ghost use Rattle.sspi_negotiate.specs.Rule.{url_for, rule_url, ruled_values, TakenBy};
+ghost use Rattle.sspi_negotiate.specs.declared.protocol.Protocol.TheVariants as protocols;
+ghost use Rattle.sspi_negotiate.specs.Hand.{hand, hand_of};
+ghost use Rattle.sspi_negotiate.specs.Values.{values_of};
+
+use crate::negotiate::Negotiate;
+use crate::protocol::NegotiatedProtocol;
+use sspi_mech::Mechanism;
+use sspi_names::{KdcTable, Username};
+use sspi_types::Error;
+
+/// The URL of the KDC that serves the domain of a name.
+fn url_for<'a>(kdcs: &'a KdcTable, name: &Username) -> Option<&'a str>
+    ensures { option_copied result ≡ url_for kdcs.now (domain_of name.now) }
+{
+    match name.domain_name() {
+        None => None,
+        Some(domain) => kdcs.find(domain),
+    }
+}
+
+impl<N: Mechanism, K: Mechanism> Negotiate<N, K> {
+    fn rule_url(&self, name: &Username) -> Option<&str>
+        ensures { option_copied result ≡ rule_url (values_of self.now) name.now }
+    {
+        if self.protocol.is_ntlm() && self.packages.kerberos {
+            url_for(&self.kdcs, name)
+        } else {
+            None
+        }
+    }
+
+    /// Takes Kerberos in the place of NTLM, where a KDC serves the name's domain.
+    pub(crate) fn take_by_rule(&mut self, name: &Username) -> Result<(), Error>
+        ensures taken { OnOk result (TakenBy (hand N.meaning K.meaning) (rule_url (values_of self.old) name.now) self.old.kdcs self.old.computer self.old.mech self.new.mech) }
+        ensures named { OnOk result (values_of self.new ≡ ruled_values (rule_url (values_of self.old) name.now) (values_of self.old)) }
+        ensures rest { self.new ≡ record self.old { mech = self.new.mech } }
+        ensures unused { StaysUnused N.meaning K.meaning self.old self.new }
+        ensures plain { IfErr result (λ error. error.nstatus ≡ None) }
+        ensures err { IfErr result (λ error. error.error_type ≡ kinds.InsufficientMemory) }
+    {
+        match self.rule_url(name) {
+            None => Ok(()),
+            Some(_) => self.take_kerberos(),
+        }
+    }
+
+    fn take_kerberos(&mut self) -> Result<(), Error>
+        ensures taken { (url : List ℕ) → OnOk result (TakenBy (hand N.meaning K.meaning) (Some url) self.old.kdcs self.old.computer self.old.mech self.new.mech) }
+        ensures named { OnOk result (hand_of self.new.mech ≡ protocols.Kerberos) }
+        ensures rest { self.new ≡ record self.old { mech = self.new.mech } }
+        ensures unused { StaysUnused N.meaning K.meaning self.old self.new }
+        ensures plain { IfErr result (λ error. error.nstatus ≡ None) }
+        ensures err { IfErr result (λ error. error.error_type ≡ kinds.InsufficientMemory) }
+    {
+        match NegotiatedProtocol::new_kerberos(self.alloc, &self.client_computer_name) {
+            Err(error) => Err(error),
+            Ok(protocol) => {
+                self.protocol = protocol;
+                Ok(())
+            }
+        }
+    }
+}

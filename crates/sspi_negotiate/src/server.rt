@@ -1,0 +1,525 @@
+// The server's steps, in the order of `specs/Server.antt`.
+ghost use Rattle.std.specs.Prelude.{◌≡◌, ◌≢◌, [], None, Some, IfOk, IfErr, OnOk, OnErr, if◌then◌else◌};
+ghost use Rattle.sspi_mech.specs.Calls.{accept_args};
+ghost use Rattle.sspi_mech.specs.Context.{IsUnused};
+ghost use Rattle.sspi_tokens.specs.Reading.{init_of, targ_of};
+ghost use Rattle.sspi_negotiate.specs.Does.{Does, Passes, Stays, StaysUnused, told};
+ghost use Rattle.sspi_negotiate.specs.declared.protocol.Protocol.TheVariants as protocols;
+ghost use Rattle.sspi_negotiate.specs.Hand.{hand, hand_of};
+ghost use Rattle.sspi_negotiate.specs.Pick.{pick, oid_of};
+ghost use Rattle.sspi_negotiate.specs.Plan.{Accepts, Pairs, Names, Goes};
+ghost use Rattle.sspi_negotiate.specs.Rows.{targ, or_empty, in_ntlm, checks, completes_signed};
+ghost use Rattle.sspi_negotiate.specs.Server.{drops, waits_for_token, goes_on, awaits_mic, ends_at_once, opens, needs_mic, first_token, placed, takes_pick, picks, reads_list, at_initial, excuses, without_mic, settles, accepted, at_progress, last_mic, at_verify_mic, spnego_server};
+ghost use Rattle.sspi_negotiate.specs.Values.{values_of};
+ghost use Rattle.sspi_negotiate.specs.declared.state.NegotiateState.TheVariants as states;
+ghost use Rattle.sspi_types.specs.declared.security_status.SecurityStatus.TheVariants as statuses;
+
+use crate::negotiate::Negotiate;
+use crate::pick::{Choice, Picked, pick};
+use crate::protocol::NegotiatedProtocol;
+use crate::refusal::{invalid_token, out_of_sequence};
+use crate::rows::{is_complete, is_guest_text, is_over, server_wants_mic};
+use crate::state::{NegotiateState, Role};
+use sspi_mech::{AcceptSecurityContext, Mechanism, Step};
+use sspi_names::Username;
+use sspi_tokens::{MechTypeList, NegResult, NegTokenInit, NegTokenTarg};
+use sspi_types::{Bytes, Error, Reason, SecurityStatus};
+use std::alloc::{AllocError, Global};
+
+/// The mechanism's step on this token, or on none.
+fn accept_with<N: Mechanism, K: Mechanism>(
+    protocol: &mut NegotiatedProtocol<N, K>,
+    args: &AcceptSecurityContext<'_>,
+    token: &Option<Bytes>,
+) -> Result<Step, Error>
+    ensures step { (hand N.meaning K.meaning).accepts protocol.old (record (accept_args args.now) { input = or_empty token.now }) result protocol.new }
+    ensures unused { IsUnused ((hand N.meaning K.meaning).counts protocol.old) → IsUnused ((hand N.meaning K.meaning).counts protocol.new) }
+    ensures named { hand_of protocol.new ≡ hand_of protocol.old }
+    ensures plain { IfErr result (λ error. error.nstatus ≡ None) }
+{
+    let input = match token {
+        None => &[],
+        Some(token) => token.as_slice(),
+    };
+    protocol.accept(&AcceptSecurityContext {
+        credentials_handle: args.credentials_handle,
+        context_requirements: args.context_requirements,
+        target_data_representation: args.target_data_representation,
+        input,
+    })
+}
+
+/// A token with the pick.
+fn picked_targ(
+    alloc: Global,
+    result_field: NegResult,
+    choice: Choice,
+    token: Option<Bytes>,
+) -> Result<NegTokenTarg, AllocError>
+    ensures { IfOk result (λ made. made ≡ targ result_field (Some (oid_of choice)) token None) }
+{
+    let oid = choice.oid(alloc)?;
+    Ok(NegTokenTarg {
+        neg_result: Some(result_field),
+        supported_mech: Some(oid),
+        response_token: token,
+        mech_list_mic: None,
+    })
+}
+
+impl<N: Mechanism, K: Mechanism> Negotiate<N, K> {
+    /// A server's step (AcceptSecurityContext).
+    ///
+    /// `OutOfSequence` on a client and after the end. `InvalidToken` for a token of another form than the state has, for a
+    /// list that is absent or has nothing to pick, and where a MIC is missing that is needed. `NoCredentials` where no known
+    /// identity has the peer's name. Else the refusals of the mechanism in hand, which may have moved then; the state stays.
+    pub fn accept_security_context(
+        &mut self,
+        args: &AcceptSecurityContext<'_>,
+    ) -> Result<Step, Error>
+        ensures step { Does N.meaning K.meaning (spnego_server (values_of self.old) (accept_args args.now)) self.old (told result) self.new }
+        ensures stays { OnErr result (Stays (values_of self.old) (values_of self.new)) }
+        ensures unused { StaysUnused N.meaning K.meaning self.old self.new }
+        ensures plain { IfErr result (λ error. error.nstatus ≡ None) }
+    {
+        match self.role {
+            Role::Client => Err(out_of_sequence()),
+            Role::Server => match self.state {
+                NegotiateState::Initial => self.read_init(args),
+                NegotiateState::InProgress => self.read_response(args),
+                NegotiateState::VerifyMic => self.read_last(args),
+                NegotiateState::Ok => Err(out_of_sequence()),
+            },
+        }
+    }
+
+    fn read_init(&mut self, args: &AcceptSecurityContext<'_>) -> Result<Step, Error>
+        ensures step { Does N.meaning K.meaning (at_initial (init_of args.now.input.now) (values_of self.old) (accept_args args.now)) self.old (told result) self.new }
+        ensures stays { OnErr result (Stays (values_of self.old) (values_of self.new)) }
+        ensures unused { StaysUnused N.meaning K.meaning self.old self.new }
+        ensures plain { IfErr result (λ error. error.nstatus ≡ None) }
+    {
+        match NegTokenInit::decode(self.alloc, args.input) {
+            Err(error) => Err(error),
+            Ok(token) => self.read_list(token.mech_types, token.mech_token, args),
+        }
+    }
+
+    #[tactic(auto, unfolding(crate::specs::Server::reads_list))]
+    fn read_list(
+        &mut self,
+        list: Option<MechTypeList>,
+        token: Option<Bytes>,
+        args: &AcceptSecurityContext<'_>,
+    ) -> Result<Step, Error>
+        ensures step { Does N.meaning K.meaning (reads_list list token (values_of self.old) (accept_args args.now)) self.old (told result) self.new }
+        ensures stays { OnErr result (Stays (values_of self.old) (values_of self.new)) }
+        ensures unused { StaysUnused N.meaning K.meaning self.old self.new }
+        ensures plain { IfErr result (λ error. error.nstatus ≡ None) }
+    {
+        match list {
+            None => Err(invalid_token(Reason::NoMechTypes)),
+            Some(list) => {
+                let picked = pick(list.as_slice(), self.packages, self.protocol.protocol());
+                self.keep_list(picked, list, token, args)
+            }
+        }
+    }
+
+    #[tactic(auto, unfolding(crate::specs::Server::picks))]
+    fn keep_list(
+        &mut self,
+        picked: Option<Picked>,
+        list: MechTypeList,
+        token: Option<Bytes>,
+        args: &AcceptSecurityContext<'_>,
+    ) -> Result<Step, Error>
+        ensures step { Does N.meaning K.meaning (picks picked list token (values_of self.old) (accept_args args.now)) self.old (told result) self.new }
+        ensures stays { OnErr result (Stays (values_of self.old) (values_of self.new)) }
+        ensures unused { StaysUnused N.meaning K.meaning self.old self.new }
+        ensures plain { IfErr result (λ error. error.nstatus ≡ None) }
+    {
+        match picked {
+            None => Err(invalid_token(Reason::NoSharedMech)),
+            Some(picked) => {
+                self.mech_types = list;
+                self.take_pick(picked, token, args)
+            }
+        }
+    }
+
+    fn take_pick(
+        &mut self,
+        picked: Picked,
+        token: Option<Bytes>,
+        args: &AcceptSecurityContext<'_>,
+    ) -> Result<Step, Error>
+        ensures step { Does N.meaning K.meaning (takes_pick picked.choice token picked (values_of self.old) (accept_args args.now)) self.old (told result) self.new }
+        ensures stays { OnErr result (Stays (values_of self.old) (values_of self.new)) }
+        ensures unused { StaysUnused N.meaning K.meaning self.old self.new }
+        ensures plain { IfErr result (λ error. error.nstatus ≡ None) }
+    {
+        match picked.choice {
+            Choice::MsKerberos => self.place(picked, token, args),
+            Choice::Kerberos => self.place(picked, token, args),
+            Choice::Ntlm => self.place_ntlm(picked, token, args),
+        }
+    }
+
+    fn place_ntlm(
+        &mut self,
+        picked: Picked,
+        token: Option<Bytes>,
+        args: &AcceptSecurityContext<'_>,
+    ) -> Result<Step, Error>
+        ensures step { Does N.meaning K.meaning (in_ntlm (hand_of self.old.mech) self.old.computer
+            (placed token picked (record (values_of self.old) { hand = protocols.Ntlm }) (accept_args args.now))) self.old (told result) self.new }
+        ensures stays { OnErr result (Stays (values_of self.old) (values_of self.new)) }
+        ensures unused { StaysUnused N.meaning K.meaning self.old self.new }
+        ensures plain { IfErr result (λ error. error.nstatus ≡ None) }
+    {
+        match self.take_ntlm() {
+            Err(error) => Err(error),
+            Ok(()) => self.place(picked, token, args),
+        }
+    }
+
+    #[tactic(auto, unfolding(crate::specs::Server::placed))]
+    fn place(
+        &mut self,
+        picked: Picked,
+        token: Option<Bytes>,
+        args: &AcceptSecurityContext<'_>,
+    ) -> Result<Step, Error>
+        ensures step { Does N.meaning K.meaning (placed token picked (values_of self.old) (accept_args args.now)) self.old (told result) self.new }
+        ensures stays { OnErr result (Stays (values_of self.old) (values_of self.new)) }
+        ensures unused { StaysUnused N.meaning K.meaning self.old self.new }
+        ensures plain { IfErr result (λ error. error.nstatus ≡ None) }
+    {
+        if picked.index == 0 {
+            self.take_first(picked, token, args)
+        } else {
+            self.drop_token(picked)
+        }
+    }
+
+    #[tactic(auto, unfolding(crate::specs::Server::drops))]
+    fn drop_token(&mut self, picked: Picked) -> Result<Step, Error>
+        ensures step { Does N.meaning K.meaning (drops picked (values_of self.old)) self.old (told result) self.new }
+        ensures stays { OnErr result (Stays (values_of self.old) (values_of self.new)) }
+        ensures unused { StaysUnused N.meaning K.meaning self.old self.new }
+        ensures plain { IfErr result (λ error. error.nstatus ≡ None) }
+    {
+        let token = picked_targ(self.alloc, NegResult::AcceptIncomplete, picked.choice, None)?;
+        let (need, state) = (true, NegotiateState::InProgress);
+        self.write(&token, need, state, SecurityStatus::ContinueNeeded)
+    }
+
+    #[tactic(auto, unfolding(crate::specs::Server::first_token))]
+    fn take_first(
+        &mut self,
+        picked: Picked,
+        token: Option<Bytes>,
+        args: &AcceptSecurityContext<'_>,
+    ) -> Result<Step, Error>
+        ensures step { Does N.meaning K.meaning (first_token token picked (values_of self.old) (accept_args args.now)) self.old (told result) self.new }
+        ensures stays { OnErr result (Stays (values_of self.old) (values_of self.new)) }
+        ensures unused { StaysUnused N.meaning K.meaning self.old self.new }
+        ensures plain { IfErr result (λ error. error.nstatus ≡ None) }
+    {
+        match token {
+            None => self.await_token(picked, args),
+            Some(token) => self.accept_first(picked, Some(token), args),
+        }
+    }
+
+    fn needs_mic(&self, args: &AcceptSecurityContext<'_>) -> bool
+        ensures { result ≡ needs_mic (values_of self.now) (accept_args args.now) ((hand N.meaning K.meaning).pairs self.now.mech) }
+    {
+        self.protocol.is_ntlm()
+            || self.protocol.user_to_user()
+            || server_wants_mic(args.context_requirements)
+    }
+
+    #[tactic(auto, unfolding(crate::specs::Server::waits_for_token))]
+    fn await_token(
+        &mut self,
+        picked: Picked,
+        args: &AcceptSecurityContext<'_>,
+    ) -> Result<Step, Error>
+        ensures step { let v = values_of self.old in Does N.meaning K.meaning
+            (Pairs (λ pairs. waits_for_token picked v (needs_mic v (accept_args args.now) pairs))) self.old (told result) self.new }
+        ensures stays { OnErr result (Stays (values_of self.old) (values_of self.new)) }
+        ensures unused { StaysUnused N.meaning K.meaning self.old self.new }
+        ensures plain { IfErr result (λ error. error.nstatus ≡ None) }
+    {
+        let need = self.needs_mic(args);
+        let token = picked_targ(self.alloc, NegResult::AcceptIncomplete, picked.choice, None)?;
+        self.write(
+            &token,
+            need,
+            NegotiateState::InProgress,
+            SecurityStatus::ContinueNeeded,
+        )
+    }
+
+    fn accept_first(
+        &mut self,
+        picked: Picked,
+        token: Option<Bytes>,
+        args: &AcceptSecurityContext<'_>,
+    ) -> Result<Step, Error>
+        ensures step { let v = values_of self.old in Does N.meaning K.meaning
+            (Accepts (record (accept_args args.now) { input = or_empty token }) v (λ step. Pairs (λ pairs. opens picked v step (needs_mic v (accept_args args.now) pairs))))
+            self.old (told result) self.new }
+        ensures stays { OnErr result (Stays (values_of self.old) (values_of self.new)) }
+        ensures unused { StaysUnused N.meaning K.meaning self.old self.new }
+        ensures plain { IfErr result (λ error. error.nstatus ≡ None) }
+    {
+        match accept_with(&mut self.protocol, args, &token) {
+            Err(error) => Err(error),
+            Ok(step) => self.decide_need(picked, step, args),
+        }
+    }
+
+    fn decide_need(
+        &mut self,
+        picked: Picked,
+        step: Step,
+        args: &AcceptSecurityContext<'_>,
+    ) -> Result<Step, Error>
+        ensures step { let v = values_of self.old in Does N.meaning K.meaning
+            (Pairs (λ pairs. opens picked v step (needs_mic v (accept_args args.now) pairs))) self.old (told result) self.new }
+        ensures stays { OnErr result (Stays (values_of self.old) (values_of self.new)) }
+        ensures unused { StaysUnused N.meaning K.meaning self.old self.new }
+        ensures plain { IfErr result (λ error. error.nstatus ≡ None) }
+    {
+        let need = self.needs_mic(args);
+        self.open_by_need(picked, step, need)
+    }
+
+    fn open_by_need(&mut self, picked: Picked, step: Step, need: bool) -> Result<Step, Error>
+        ensures step { Does N.meaning K.meaning (opens picked (values_of self.old) step need) self.old (told result) self.new }
+        ensures stays { OnErr result (Stays (values_of self.old) (values_of self.new)) }
+        ensures unused { StaysUnused N.meaning K.meaning self.old self.new }
+        ensures plain { IfErr result (λ error. error.nstatus ≡ None) }
+    {
+        if is_over(step.status) {
+            if need {
+                self.await_mic(picked, step)
+            } else {
+                self.end_at_once(picked, step)
+            }
+        } else {
+            self.go_on(picked, step, need)
+        }
+    }
+
+    #[tactic(auto, unfolding(crate::specs::Server::goes_on))]
+    fn go_on(&mut self, picked: Picked, step: Step, need: bool) -> Result<Step, Error>
+        ensures step { Does N.meaning K.meaning (goes_on picked (values_of self.old) need step) self.old (told result) self.new }
+        ensures stays { OnErr result (Stays (values_of self.old) (values_of self.new)) }
+        ensures unused { StaysUnused N.meaning K.meaning self.old self.new }
+        ensures plain { IfErr result (λ error. error.nstatus ≡ None) }
+    {
+        let output = Some(step.output);
+        let token = picked_targ(
+            self.alloc,
+            NegResult::AcceptIncomplete,
+            picked.choice,
+            output,
+        )?;
+        self.write(
+            &token,
+            need,
+            NegotiateState::InProgress,
+            SecurityStatus::ContinueNeeded,
+        )
+    }
+
+    #[tactic(auto, unfolding(crate::specs::Server::awaits_mic))]
+    fn await_mic(&mut self, picked: Picked, step: Step) -> Result<Step, Error>
+        ensures step { Does N.meaning K.meaning (awaits_mic picked (values_of self.old) step) self.old (told result) self.new }
+        ensures stays { OnErr result (Stays (values_of self.old) (values_of self.new)) }
+        ensures unused { StaysUnused N.meaning K.meaning self.old self.new }
+        ensures plain { IfErr result (λ error. error.nstatus ≡ None) }
+    {
+        let output = Some(step.output);
+        let token = picked_targ(
+            self.alloc,
+            NegResult::AcceptIncomplete,
+            picked.choice,
+            output,
+        )?;
+        self.write(
+            &token,
+            true,
+            NegotiateState::VerifyMic,
+            SecurityStatus::ContinueNeeded,
+        )
+    }
+
+    #[tactic(auto, unfolding(crate::specs::Server::ends_at_once))]
+    fn end_at_once(&mut self, picked: Picked, step: Step) -> Result<Step, Error>
+        ensures step { Does N.meaning K.meaning (ends_at_once picked (values_of self.old) step) self.old (told result) self.new }
+        ensures stays { OnErr result (Stays (values_of self.old) (values_of self.new)) }
+        ensures unused { StaysUnused N.meaning K.meaning self.old self.new }
+        ensures plain { IfErr result (λ error. error.nstatus ≡ None) }
+    {
+        let output = Some(step.output);
+        let token = picked_targ(self.alloc, NegResult::AcceptComplete, picked.choice, output)?;
+        self.write(&token, false, NegotiateState::Ok, SecurityStatus::Ok)
+    }
+
+    fn read_response(&mut self, args: &AcceptSecurityContext<'_>) -> Result<Step, Error>
+        ensures step { Does N.meaning K.meaning (at_progress (targ_of args.now.input.now) (values_of self.old) (accept_args args.now)) self.old (told result) self.new }
+        ensures stays { OnErr result (Stays (values_of self.old) (values_of self.new)) }
+        ensures unused { StaysUnused N.meaning K.meaning self.old self.new }
+        ensures plain { IfErr result (λ error. error.nstatus ≡ None) }
+    {
+        match NegTokenTarg::decode(self.alloc, args.input) {
+            Err(error) => Err(error),
+            Ok(token) => self.take_response(token, args),
+        }
+    }
+
+    fn take_response(
+        &mut self,
+        token: NegTokenTarg,
+        args: &AcceptSecurityContext<'_>,
+    ) -> Result<Step, Error>
+        ensures step { Does N.meaning K.meaning (Accepts (record (accept_args args.now) { input = or_empty token.response_token }) (values_of self.old) (λ step. accepted token (values_of self.old) step)) self.old (told result) self.new }
+        ensures stays { OnErr result (Stays (values_of self.old) (values_of self.new)) }
+        ensures unused { StaysUnused N.meaning K.meaning self.old self.new }
+        ensures plain { IfErr result (λ error. error.nstatus ≡ None) }
+    {
+        match accept_with(&mut self.protocol, args, &token.response_token) {
+            Err(error) => Err(error),
+            Ok(step) => self.respond(token, step),
+        }
+    }
+
+    fn respond(&mut self, token: NegTokenTarg, step: Step) -> Result<Step, Error>
+        ensures step { Does N.meaning K.meaning (accepted token (values_of self.old) step) self.old (told result) self.new }
+        ensures stays { OnErr result (Stays (values_of self.old) (values_of self.new)) }
+        ensures unused { StaysUnused N.meaning K.meaning self.old self.new }
+        ensures plain { IfErr result (λ error. error.nstatus ≡ None) }
+    {
+        if is_over(step.status) {
+            let complete = is_complete(token.neg_result);
+            self.settle(self.mic_needed, token.mech_list_mic, complete, step.output)
+        } else {
+            self.carry_on(step.output, step.status)
+        }
+    }
+
+    fn settle(
+        &mut self,
+        need: bool,
+        mic: Option<Bytes>,
+        complete: bool,
+        token: Bytes,
+    ) -> Result<Step, Error>
+        ensures step { Does N.meaning K.meaning (settles need mic complete (values_of self.old) token) self.old (told result) self.new }
+        ensures stays { OnErr result (Stays (values_of self.old) (values_of self.new)) }
+        ensures unused { StaysUnused N.meaning K.meaning self.old self.new }
+        ensures plain { IfErr result (λ error. error.nstatus ≡ None) }
+    {
+        if need {
+            match mic {
+                Some(mic) => self.check_and_sign(&mic, token),
+                None => self.go_without_mic(complete, token),
+            }
+        } else {
+            self.complete(token, None)
+        }
+    }
+
+    fn check_and_sign(&mut self, mic: &Bytes, token: Bytes) -> Result<Step, Error>
+        ensures step { Does N.meaning K.meaning (checks mic.now (values_of self.old) (completes_signed (values_of self.old) token)) self.old (told result) self.new }
+        ensures stays { OnErr result (Stays (values_of self.old) (values_of self.new)) }
+        ensures unused { StaysUnused N.meaning K.meaning self.old self.new }
+        ensures plain { IfErr result (λ error. error.nstatus ≡ None) }
+    {
+        match self.check(mic) {
+            Err(error) => Err(error),
+            Ok(()) => self.complete_signed(token),
+        }
+    }
+
+    #[tactic(auto, unfolding(crate::specs::Server::without_mic))]
+    fn go_without_mic(&mut self, complete: bool, token: Bytes) -> Result<Step, Error>
+        ensures step { Does N.meaning K.meaning (without_mic complete (values_of self.old) token) self.old (told result) self.new }
+        ensures stays { OnErr result (Stays (values_of self.old) (values_of self.new)) }
+        ensures unused { StaysUnused N.meaning K.meaning self.old self.new }
+        ensures plain { IfErr result (λ error. error.nstatus ≡ None) }
+    {
+        if complete {
+            self.excuse(token)
+        } else {
+            self.hand_mic(token)
+        }
+    }
+
+    fn excuse(&mut self, token: Bytes) -> Result<Step, Error>
+        ensures step { Does N.meaning K.meaning (Names (values_of self.old) (λ name. excuses (values_of self.old) token name)) self.old (told result) self.new }
+        ensures stays { OnErr result (Stays (values_of self.old) (values_of self.new)) }
+        ensures unused { StaysUnused N.meaning K.meaning self.old self.new }
+        ensures plain { IfErr result (λ error. error.nstatus ≡ None) }
+    {
+        match self.protocol.names() {
+            Err(error) => Err(error),
+            Ok(name) => self.excuse_name(token, &name),
+        }
+    }
+
+    fn excuse_name(&mut self, token: Bytes, name: &Username) -> Result<Step, Error>
+        ensures step { Does N.meaning K.meaning (excuses (values_of self.old) token name.now) self.old (told result) self.new }
+        ensures stays { OnErr result (Stays (values_of self.old) (values_of self.new)) }
+        ensures unused { StaysUnused N.meaning K.meaning self.old self.new }
+        ensures plain { IfErr result (λ error. error.nstatus ≡ None) }
+    {
+        if is_guest_text(name.inner()) {
+            self.mic_needed = false;
+            self.complete(token, None)
+        } else {
+            Err(invalid_token(Reason::NoMic))
+        }
+    }
+
+    fn read_last(&mut self, args: &AcceptSecurityContext<'_>) -> Result<Step, Error>
+        ensures step { Does N.meaning K.meaning (at_verify_mic (targ_of args.now.input.now) (values_of self.old)) self.old (told result) self.new }
+        ensures stays { OnErr result (Stays (values_of self.old) (values_of self.new)) }
+        ensures unused { StaysUnused N.meaning K.meaning self.old self.new }
+        ensures plain { IfErr result (λ error. error.nstatus ≡ None) }
+    {
+        match NegTokenTarg::decode(self.alloc, args.input) {
+            Err(error) => Err(error),
+            Ok(token) => self.take_last(token.mech_list_mic),
+        }
+    }
+
+    fn take_last(&mut self, mic: Option<Bytes>) -> Result<Step, Error>
+        ensures step { Does N.meaning K.meaning (last_mic mic (values_of self.old)) self.old (told result) self.new }
+        ensures stays { OnErr result (Stays (values_of self.old) (values_of self.new)) }
+        ensures unused { StaysUnused N.meaning K.meaning self.old self.new }
+        ensures plain { IfErr result (λ error. error.nstatus ≡ None) }
+    {
+        match mic {
+            None => Err(invalid_token(Reason::NoMic)),
+            Some(mic) => self.check_last(&mic),
+        }
+    }
+
+    fn check_last(&mut self, mic: &Bytes) -> Result<Step, Error>
+        ensures step { Does N.meaning K.meaning (checks mic.now (values_of self.old) (Goes (record (values_of self.old) { state = states.Ok }) (record { status = statuses.Ok; output = [] }))) self.old (told result) self.new }
+        ensures stays { OnErr result (Stays (values_of self.old) (values_of self.new)) }
+        ensures unused { StaysUnused N.meaning K.meaning self.old self.new }
+        ensures plain { IfErr result (λ error. error.nstatus ≡ None) }
+    {
+        match self.check(mic) {
+            Err(error) => Err(error),
+            Ok(()) => self.end(),
+        }
+    }
+}

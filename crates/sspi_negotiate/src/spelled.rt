@@ -1,0 +1,38 @@
+ghost use Rattle.std.specs.Prelude.{◌≡◌, None, IfErr};
+ghost use Rattle.sspi_tokens.specs.Spelling.{spelled_init, spelled_list, spelled_targ};
+ghost use Rattle.sspi_negotiate.specs.Spelled.{IsSpelled};
+
+use sspi_tokens::{MechTypeList, NegTokenInit, NegTokenTarg, encode_mech_types};
+use sspi_types::{Bytes, Error};
+use std::alloc::Global;
+
+pub(crate) fn spelled_init(alloc: Global, token: &NegTokenInit) -> Result<Bytes, Error>
+    ensures text { IsSpelled (spelled_init token.now) result }
+    ensures plain { IfErr result (λ error. error.nstatus ≡ None) }
+{
+    match token.encode(alloc) {
+        Ok(text) => Ok(Bytes::from_vec(text)),
+        Err(error) => Err(error),
+    }
+}
+
+pub(crate) fn spelled_targ(alloc: Global, token: &NegTokenTarg) -> Result<Bytes, Error>
+    ensures text { IsSpelled (spelled_targ token.now) result }
+    ensures plain { IfErr result (λ error. error.nstatus ≡ None) }
+{
+    match token.encode(alloc) {
+        Ok(text) => Ok(Bytes::from_vec(text)),
+        Err(error) => Err(error),
+    }
+}
+
+/// The text over which MICs are made.
+pub(crate) fn spelled_list(alloc: Global, list: &MechTypeList) -> Result<Bytes, Error>
+    ensures text { IsSpelled (spelled_list list.now) result }
+    ensures plain { IfErr result (λ error. error.nstatus ≡ None) }
+{
+    match encode_mech_types(alloc, list) {
+        Ok(text) => Ok(Bytes::from_vec(text)),
+        Err(error) => Err(error),
+    }
+}
