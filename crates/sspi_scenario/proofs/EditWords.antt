@@ -3,7 +3,7 @@ use Rattle.std.proofs.Common.{◌≡◌, ℕ, List, Some, None, refl}
 use Rattle.std.specs.Prelude.{codes}
 use Rattle.sspi_delegate.specs.declared.edit.EditKind.TheVariants as edit
 use Rattle.sspi_scenario.specs.Edits.{kind_alone, kind_by_number, kind_with, add_of, give_of, cut_of, set_of, again_of}
-use Rattle.sspi_scenario.proofs.Names.{differs}
+use Rattle.sspi_scenario.proofs.Wording.{differs}
 
 module _ (word : List ℕ) where
   pub is_drop : word ≡ codes "drop" → Some edit.Drop ≡ kind_alone word

@@ -1,8 +1,8 @@
 mod SourceTexts
 mod More
-mod Excluded
+mod Seen
 pub mod Walk
-pub mod Names
+pub mod Wording
 pub mod EditWords
 pub mod Parting
 pub mod Numerals

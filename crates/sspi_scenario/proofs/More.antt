@@ -1,108 +1,48 @@
--- What one more setting makes of the values that settings have.
-use Rattle.std.proofs.Common.{◌≡◌, List, [], ◌∷◌, ◌++◌, Option, Some, None, refl, ap, ◌∙◌}
-use Rattle.std.specs.List.{filter_map, cons_option, last_or}
-use Rattle.std.proofs.lemmas.List.Elements.{filter_map-append}
-use Rattle.std.proofs.lemmas.List.{append-nil}
-use Rattle.sspi_scenario.specs.declared.draft.Draft.{Draft}
-use Rattle.sspi_scenario.specs.declared.setting.Setting.{Setting}
-use Rattle.sspi_scenario.specs.declared.setting.Setting.TheVariants as setting
-use Rattle.sspi_scenario.specs.Values
-use Rattle.sspi_scenario.specs.Values.{the, each}
-use Rattle.sspi_scenario.specs.Drafts.{draft_of, with_setting}
+-- What one more line makes of the draft, and what the draft of lines tells of them.
+use Rattle.std.proofs.Common.{◌≡◌, Bool, ◌&&◌, List, [], ◌∷◌, ◌++◌, Option, Some, None, refl, ap, sym, ◌∙◌}
+use Rattle.std.specs.Prelude.{fold, if◌then◌else◌}
+use Rattle.std.proofs.lemmas.List.Sums.{fold-append}
+use Rattle.sspi_scenario.specs.declared.key.Key.{Key}
+use Rattle.sspi_scenario.specs.declared.key.Key.TheVariants as key
+use Rattle.sspi_scenario.specs.declared.scenario.Scenario.{Scenario}
+use Rattle.sspi_scenario.specs.declared.values.Values.{Values}
+use Rattle.sspi_scenario.specs.Drafts.{draft_of, noted, draft_completed}
+use Rattle.sspi_scenario.specs.Faults.{Told, keys_of}
+use Rattle.sspi_scenario.specs.Keys.{is_same, excludes, is_excluded, has}
+use Rattle.sspi_scenario.specs.Scenario.{defaults, values_of, completed, completed_by, proxy_table, own_identity}
+use Rattle.sspi_scenario.proofs.Seen.{seen-any}
 
--- the newer value, if there is one
-abbrev newer : {A : Type 0} → Option A → Option A → Option A
-newer older None = older
-newer older (Some x) = Some x
+keys-more : (lines : List Told) (told : Told) → keys_of (lines ++ told ∷ []) ≡ keys_of lines ++ told.key ∷ []
+keys-more [] told = refl
+keys-more (first ∷ lines) told = ap (λ (keys : List Key). first.key ∷ keys) (keys-more lines told)
 
-abbrev pushed : {A : Type 0} → List A → Option A → List A
-pushed xs None = xs
-pushed xs (Some x) = xs ++ x ∷ []
+seen-more : (lines : List Told) (told : Told) → fold noted [] (keys_of (lines ++ told ∷ [])) ≡ noted (fold noted [] (keys_of lines)) told.key
+seen-more lines told = ap (fold noted []) (keys-more lines told) ∙ fold-append noted [] (keys_of lines) (told.key ∷ [])
 
-last-push : {A : Type 0} (older : Option A) (xs : List A) (x : A) → last_or older (xs ++ x ∷ []) ≡ Some x
-last-push older [] x = refl
-last-push older (y ∷ xs) x = last-push (Some y) xs x
-
-append-one : {A : Type 0} (xs : List A) (o : Option A) → xs ++ cons_option o [] ≡ pushed xs o
-append-one xs None = append-nil xs
-append-one xs (Some x) = refl
-
-last-pushed : {A : Type 0} (xs : List A) (o : Option A) → last_or None (pushed xs o) ≡ newer (last_or None xs) o
-last-pushed xs None = refl
-last-pushed xs (Some x) = last-push None xs x
-
-each-more : {A : Type 0} (value : Setting → Option A) (xs : List Setting) (s : Setting) → each value (xs ++ s ∷ []) ≡ pushed (each value xs) (value s)
-unfolding each
-each-more value xs s = filter_map-append value xs (s ∷ []) ∙ append-one (filter_map value xs) (value s)
-
-the-more : {A : Type 0} (value : Setting → Option A) (xs : List Setting) (s : Setting) → the value (xs ++ s ∷ []) ≡ newer (the value xs) (value s)
-unfolding the
-the-more value xs s = ap (last_or None) (each-more value xs s) ∙ last-pushed (each value xs) (value s)
-
-abbrev added : Draft → Setting → Draft
-added draft s = record {
-  mode = newer draft.mode (Values.mode_in s);
-  user = newer draft.user (Values.user_in s);
-  password = newer draft.password (Values.password_in s);
-  key = newer draft.key (Values.key_in s);
-  server_key = newer draft.server_key (Values.server_key_in s);
-  client_version = newer draft.client_version (Values.client_version_in s);
-  server_version = newer draft.server_version (Values.server_version_in s);
-  nonce = newer draft.nonce (Values.nonce_in s);
-  challenge = newer draft.challenge (Values.challenge_in s);
-  computer = newer draft.computer (Values.computer_in s);
-  target = newer draft.target (Values.target_in s);
-  delegation = newer draft.delegation (Values.delegation_in s);
-  keytab = newer draft.keytab (Values.keytab_in s);
-  account = pushed draft.account (Values.account_in s);
-  accounts = newer draft.accounts (Values.accounts_in s);
-  proxy_fail = pushed draft.proxy_fail (Values.proxy_fail_in s);
-  turns = newer draft.turns (Values.turns_in s);
-  edit = pushed draft.edit (Values.edit_in s);
+pub draft-more : (lines : List Told) (told : Told)
+    → draft_of (lines ++ told ∷ []) ≡ record { values = told.change (draft_of lines).values; seen = noted (draft_of lines).seen told.key }
+unfolding draft_of values_of
+draft-more lines told = λ i. record {
+  values = fold-append (λ (values : Values) (t : Told). t.change values) defaults lines (told ∷ []) i;
+  seen = seen-more lines told i;
 }
 
-draft-added : (xs : List Setting) (s : Setting) → draft_of (xs ++ s ∷ []) ≡ added (draft_of xs) s
+pub draft-excluded : (lines : List Told) (k : Key) → is_excluded (draft_of lines).seen k ≡ is_excluded (keys_of lines) k
 unfolding draft_of
-draft-added xs s = λ i. record {
-  mode = the-more Values.mode_in xs s i;
-  user = the-more Values.user_in xs s i;
-  password = the-more Values.password_in xs s i;
-  key = the-more Values.key_in xs s i;
-  server_key = the-more Values.server_key_in xs s i;
-  client_version = the-more Values.client_version_in xs s i;
-  server_version = the-more Values.server_version_in xs s i;
-  nonce = the-more Values.nonce_in xs s i;
-  challenge = the-more Values.challenge_in xs s i;
-  computer = the-more Values.computer_in xs s i;
-  target = the-more Values.target_in xs s i;
-  delegation = the-more Values.delegation_in xs s i;
-  keytab = the-more Values.keytab_in xs s i;
-  account = each-more Values.account_in xs s i;
-  accounts = the-more Values.accounts_in xs s i;
-  proxy_fail = each-more Values.proxy_fail_in xs s i;
-  turns = the-more Values.turns_in xs s i;
-  edit = each-more Values.edit_in xs s i;
-}
+draft-excluded lines k = seen-any (λ e. excludes e k) (keys_of lines)
 
-added-is : (draft : Draft) (s : Setting) → added draft s ≡ with_setting draft s
-added-is draft (setting.Mode x) = refl
-added-is draft (setting.User x) = refl
-added-is draft (setting.Password x) = refl
-added-is draft (setting.Key x) = refl
-added-is draft (setting.ServerKey x) = refl
-added-is draft (setting.ClientVersion x) = refl
-added-is draft (setting.ServerVersion x) = refl
-added-is draft (setting.Nonce x) = refl
-added-is draft (setting.Challenge x) = refl
-added-is draft (setting.Computer x) = refl
-added-is draft (setting.Target x) = refl
-added-is draft (setting.Delegation x) = refl
-added-is draft (setting.Keytab x) = refl
-added-is draft (setting.Account x) = refl
-added-is draft (setting.Accounts x) = refl
-added-is draft (setting.ProxyFail x) = refl
-added-is draft (setting.Turns x) = refl
-added-is draft (setting.Edit x) = refl
+abbrev completed_at : Bool → Bool → Values → Option Scenario
+completed_at required told values = if required then Some (record values.scenario {
+  server_key = if told then values.scenario.server_key else values.scenario.key;
+  account = proxy_table values.scenario.account values.accounts (own_identity values.scenario.user values.scenario.password);
+}) else None
 
-pub draft-more : (xs : List Setting) (s : Setting) → draft_of (xs ++ s ∷ []) ≡ with_setting (draft_of xs) s
-draft-more xs s = draft-added xs s ∙ added-is (draft_of xs) s
+completed-same : (keys seen : List Key) (values : Values) → ((k : Key) → has keys k ≡ has seen k) → completed_by keys values ≡ completed_by seen values
+completed-same keys seen values e = λ i.
+    completed_at (e key.Mode i && e key.User i && e key.Password i && e key.Key i) (e key.ServerKey i) values
+
+pub draft-ends : (lines : List Told) → completed lines ≡ draft_completed (draft_of lines)
+unfolding completed draft_of
+draft-ends lines =
+    completed-same (keys_of lines) (fold noted [] (keys_of lines)) (values_of lines)
+    (λ k. sym (seen-any (λ e. is_same e k) (keys_of lines)))

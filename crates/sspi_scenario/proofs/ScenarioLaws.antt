@@ -7,10 +7,9 @@ use Rattle.std.proofs.lemmas.Bool.{or_parts}
 use Rattle.std.proofs.lemmas.List.{append_assoc, append-nil}
 use Rattle.std.proofs.lemmas.List.Splits.{slice_split-cons_yes, slice_split-cons_no, length-slice_split}
 use Rattle.sspi_scenario.specs.declared.scenario.Scenario.{Scenario}
-use Rattle.sspi_scenario.specs.declared.setting.Setting.{Setting}
 use Rattle.sspi_scenario.specs.Lines.{lines_of, is_line_feed, is_skipped}
-use Rattle.sspi_scenario.specs.Settings.{key_of, line_setting}
-use Rattle.sspi_scenario.specs.Faults.{Line, telling, broken, judged, numbered, lines_from, is_excluded, first_fault, told_by, settings_of}
+use Rattle.sspi_scenario.specs.Faults.{Line, Told, telling, broken, judged, numbered, line_told, lines_from, keys_of, first_fault, told_by, told_in}
+use Rattle.sspi_scenario.specs.Keys.{is_excluded}
 use Rattle.sspi_scenario.specs.Scenario.{decided, completed, is_readable, scenario_of_lines, scenario_of}
 
 -- a text without LF before an LF is a line of its own
@@ -47,11 +46,11 @@ abbrev later_line : Line → Line
 later_line (telling number told) = telling (number + 1) told
 later_line (broken number) = broken (number + 1)
 
-judged-later : (number : ℕ) (told : Option Setting) → judged (number + 1) told ≡ later_line (judged number told)
+judged-later : (number : ℕ) (told : Option Told) → judged (number + 1) told ≡ later_line (judged number told)
 judged-later number None = refl
 judged-later number (Some told) = refl
 
-numbered-at : (number : ℕ) (skip : Bool) (told : Option Setting)
+numbered-at : (number : ℕ) (skip : Bool) (told : Option Told)
     → (if skip then None else Some (judged (number + 1) told)) ≡ option_map later_line (if skip then None else Some (judged number told))
 numbered-at number true told = refl
 numbered-at number false told = ap Some (judged-later number told)
@@ -64,30 +63,30 @@ lines-later : (number : ℕ) (lines : List (List ℕ)) → lines_from (number + 
 unfolding lines_from
 lines-later number [] = refl
 lines-later number (line ∷ lines) =
-    (λ i. cons_option (numbered-at number (is_skipped line) (line_setting line) i) (lines-later (number + 1) lines i))
+    (λ i. cons_option (numbered-at number (is_skipped line) (line_told line) i) (lines-later (number + 1) lines i))
     ∙ cons-map (numbered (number, line)) (filter_map numbered (enumerate_from (number + 1) lines))
 
-fault-barred : (earlier : List Setting) (number : ℕ) (told : Setting) (lines : List Line) (b : Bool)
+fault-barred : (earlier : List Told) (number : ℕ) (told : Told) (lines : List Line) (b : Bool)
     → first_fault (earlier ++ told ∷ []) (map later_line lines) ≡ option_map (λ n. n + 1) (first_fault (earlier ++ told ∷ []) lines)
     → (if b then Some (number + 1) else first_fault (earlier ++ told ∷ []) (map later_line lines))
     ≡ option_map (λ n. n + 1) (if b then Some number else first_fault (earlier ++ told ∷ []) lines)
 fault-barred earlier number told lines true e = refl
 fault-barred earlier number told lines false e = e
 
-fault-later : (earlier : List Setting) (lines : List Line) → first_fault earlier (map later_line lines) ≡ option_map (λ n. n + 1) (first_fault earlier lines)
+fault-later : (earlier : List Told) (lines : List Line) → first_fault earlier (map later_line lines) ≡ option_map (λ n. n + 1) (first_fault earlier lines)
 unfolding first_fault
 fault-later earlier [] = refl
 fault-later earlier (broken number ∷ lines) = refl
 fault-later earlier (telling number told ∷ lines) =
-    fault-barred earlier number told lines (is_excluded earlier (key_of told)) (fault-later (earlier ++ told ∷ []) lines)
+    fault-barred earlier number told lines (is_excluded (keys_of earlier) told.key) (fault-later (earlier ++ told ∷ []) lines)
 
-settings-later : (lines : List Line) → settings_of (map later_line lines) ≡ settings_of lines
-unfolding settings_of
+settings-later : (lines : List Line) → told_in (map later_line lines) ≡ told_in lines
+unfolding told_in
 settings-later [] = refl
 settings-later (broken number ∷ lines) = settings-later lines
-settings-later (telling number told ∷ lines) = ap (λ (rest : List Setting). told ∷ rest) (settings-later lines)
+settings-later (telling number told ∷ lines) = ap (λ (rest : List Told). told ∷ rest) (settings-later lines)
 
-scenario-later : (lines : List Line) → scenario_of_lines (map later_line lines) ≡ decided (option_map (λ n. n + 1) (first_fault [] lines)) (completed (settings_of lines))
+scenario-later : (lines : List Line) → scenario_of_lines (map later_line lines) ≡ decided (option_map (λ n. n + 1) (first_fault [] lines)) (completed (told_in lines))
 unfolding scenario_of_lines
 scenario-later lines = λ i. decided (fault-later [] lines i) (completed (settings-later lines i))
 
@@ -124,26 +123,26 @@ module _ (line text : List ℕ) (skip : is_skipped line ≡ true) (within : list
   skip-lines = ap (lines_from 1) (split-front is_line_feed line 10 text within refl) ∙ (lines-skipped ∙ lines-later 1 (lines_of text))
 
   skip-scenario : scenario_of (line ++ 10 ∷ text)
-      ≡ decided (option_map (λ n. n + 1) (first_fault [] (lines_from 1 (lines_of text)))) (completed (settings_of (lines_from 1 (lines_of text))))
+      ≡ decided (option_map (λ n. n + 1) (first_fault [] (lines_from 1 (lines_of text)))) (completed (told_in (lines_from 1 (lines_of text))))
   skip-scenario = readable-lines (line ++ 10 ∷ text) readable ∙ (ap scenario_of_lines skip-lines ∙ scenario-later (lines_from 1 (lines_of text)))
 
   pub skip-ok : (scenario : Scenario) → scenario_of text ≡ Ok scenario → scenario_of (line ++ 10 ∷ text) ≡ Ok scenario
   unfolding scenario_of_lines
   skip-ok scenario e =
       let whole = sym (readable-lines text (readable-by text (Ok scenario) (λ (h : Ok scenario ≡ Err 0). absurd cc) e (is_readable text) refl)) ∙ e in
-      let none = decided-ok (first_fault [] (lines_from 1 (lines_of text))) (completed (settings_of (lines_from 1 (lines_of text)))) scenario whole in
+      let none = decided-ok (first_fault [] (lines_from 1 (lines_of text))) (completed (told_in (lines_from 1 (lines_of text)))) scenario whole in
       skip-scenario
-      ∙ (ap (λ (f : Option ℕ). decided (option_map (λ n. n + 1) f) (completed (settings_of (lines_from 1 (lines_of text))))) none
-      ∙ (ap (λ (f : Option ℕ). decided f (completed (settings_of (lines_from 1 (lines_of text))))) (sym none) ∙ whole))
+      ∙ (ap (λ (f : Option ℕ). decided (option_map (λ n. n + 1) f) (completed (told_in (lines_from 1 (lines_of text))))) none
+      ∙ (ap (λ (f : Option ℕ). decided f (completed (told_in (lines_from 1 (lines_of text))))) (sym none) ∙ whole))
 
   pub skip-fault : (n : ℕ) → 0 < n → scenario_of text ≡ Err n → scenario_of (line ++ 10 ∷ text) ≡ Err (n + 1)
   unfolding scenario_of_lines
   skip-fault n some e =
       let other = err-other n some in
       let whole = sym (readable-lines text (readable-by text (Err n) other e (is_readable text) refl)) ∙ e in
-      let fault = decided-fault (first_fault [] (lines_from 1 (lines_of text))) (completed (settings_of (lines_from 1 (lines_of text)))) n whole some in
+      let fault = decided-fault (first_fault [] (lines_from 1 (lines_of text))) (completed (told_in (lines_from 1 (lines_of text)))) n whole some in
       skip-scenario
-      ∙ ap (λ (f : Option ℕ). decided (option_map (λ n. n + 1) f) (completed (settings_of (lines_from 1 (lines_of text))))) fault
+      ∙ ap (λ (f : Option ℕ). decided (option_map (λ n. n + 1) f) (completed (told_in (lines_from 1 (lines_of text))))) fault
 
 cons-append : (o : Option Line) (lines more : List Line) → cons_option o (lines ++ more) ≡ cons_option o lines ++ more
 cons-append None lines more = refl
@@ -160,12 +159,12 @@ fault-kept-at : (b : Bool) (number n : ℕ) (a c : Option ℕ) → (a ≡ Some n
 fault-kept-at true number n a c more e = e
 fault-kept-at false number n a c more e = more e
 
-fault-kept : (earlier : List Setting) (lines rest : List Line) (n : ℕ) → first_fault earlier lines ≡ Some n → first_fault earlier (lines ++ rest) ≡ Some n
+fault-kept : (earlier : List Told) (lines rest : List Line) (n : ℕ) → first_fault earlier lines ≡ Some n → first_fault earlier (lines ++ rest) ≡ Some n
 unfolding first_fault
 fault-kept earlier [] rest n e = absurd cc
 fault-kept earlier (broken number ∷ lines) rest n e = e
 fault-kept earlier (telling number told ∷ lines) rest n e =
-    fault-kept-at (is_excluded earlier (key_of told)) number n (first_fault (earlier ++ told ∷ []) lines) (first_fault (earlier ++ told ∷ []) (lines ++ rest))
+    fault-kept-at (is_excluded (keys_of earlier) told.key) number n (first_fault (earlier ++ told ∷ []) lines) (first_fault (earlier ++ told ∷ []) (lines ++ rest))
     (fault-kept (earlier ++ told ∷ []) lines rest n) e
 
 pub fault-stays : (text more : List ℕ) (n : ℕ) → 0 < n → scenario_of text ≡ Err n → is_readable (text ++ 10 ∷ more) ≡ true → scenario_of (text ++ 10 ∷ more) ≡ Err n
@@ -173,39 +172,39 @@ unfolding scenario_of_lines
 fault-stays text more n some e readable =
     let other = err-other n some in
     let whole = sym (readable-lines text (readable-by text (Err n) other e (is_readable text) refl)) ∙ e in
-    let fault = decided-fault (first_fault [] (lines_from 1 (lines_of text))) (completed (settings_of (lines_from 1 (lines_of text)))) n whole some in
+    let fault = decided-fault (first_fault [] (lines_from 1 (lines_of text))) (completed (told_in (lines_from 1 (lines_of text)))) n whole some in
     let both = lines-append 1 (lines_of text) (lines_of more) in
     let all = ap (lines_from 1) (split-append is_line_feed text 10 more refl) ∙ both.1 in
     readable-lines (text ++ 10 ∷ more) readable
     ∙ (ap scenario_of_lines all
-    ∙ ap (λ (f : Option ℕ). decided f (completed (settings_of (lines_from 1 (lines_of text) ++ both.0)))) (fault-kept [] (lines_from 1 (lines_of text)) both.0 n fault))
+    ∙ ap (λ (f : Option ℕ). decided f (completed (told_in (lines_from 1 (lines_of text) ++ both.0)))) (fault-kept [] (lines_from 1 (lines_of text)) both.0 n fault))
 
 -- no setting is excluded by those before it
 bar-false : (b : Bool) (number : ℕ) (rest : Option ℕ) → (if b then Some number else rest) ≡ None → (b ≡ false) × (rest ≡ None)
 bar-false true number rest e = absurd cc
 bar-false false number rest e = (refl, e)
 
-apart-in : (earlier : List Setting) (lines : List Line) (before : List Setting) (told : Setting) (after : List Setting)
-    → first_fault earlier lines ≡ None → settings_of lines ≡ before ++ told ∷ after → is_excluded (earlier ++ before) (key_of told) ≡ false
-unfolding first_fault settings_of
+apart-in : (earlier : List Told) (lines : List Line) (before : List Told) (told : Told) (after : List Told)
+    → first_fault earlier lines ≡ None → told_in lines ≡ before ++ told ∷ after → is_excluded (keys_of (earlier ++ before)) told.key ≡ false
+unfolding first_fault told_in
 apart-in earlier [] [] told after none e = absurd cc
 apart-in earlier [] (x ∷ before) told after none e = absurd cc
 apart-in earlier (broken number ∷ lines) before told after none e = absurd cc
 apart-in earlier (telling number first ∷ lines) [] told after none e =
     let same : first ≡ told = cc in
-    let free = (bar-false (is_excluded earlier (key_of first)) number (first_fault (earlier ++ first ∷ []) lines) none).0 in
-    rw append-nil (ap (λ (t : Setting). is_excluded earlier (key_of t)) (sym same) ∙ free)
+    let free = (bar-false (is_excluded (keys_of earlier) first.key) number (first_fault (earlier ++ first ∷ []) lines) none).0 in
+    rw append-nil (ap (λ (t : Told). is_excluded (keys_of earlier) t.key) (sym same) ∙ free)
 apart-in earlier (telling number first ∷ lines) (x ∷ before) told after none e =
     let same : first ≡ x = cc in
     let tail : filter_map told_by lines ≡ before ++ told ∷ after = cc in
-    let rest = (bar-false (is_excluded earlier (key_of first)) number (first_fault (earlier ++ first ∷ []) lines) none).1 in
+    let rest = (bar-false (is_excluded (keys_of earlier) first.key) number (first_fault (earlier ++ first ∷ []) lines) none).1 in
     let inner = apart-in (earlier ++ first ∷ []) lines before told after rest tail in
-    ap (λ (t : Setting). is_excluded (earlier ++ t ∷ before) (key_of told)) (sym same) ∙ rw append_assoc at inner
+    ap (λ (t : Told). is_excluded (keys_of (earlier ++ t ∷ before)) told.key) (sym same) ∙ rw append_assoc at inner
 
-pub apart : (text : List ℕ) (scenario : Scenario) (before : List Setting) (told : Setting) (after : List Setting)
-    → scenario_of text ≡ Ok scenario → settings_of (lines_from 1 (lines_of text)) ≡ before ++ told ∷ after → is_excluded before (key_of told) ≡ false
+pub apart : (text : List ℕ) (scenario : Scenario) (before : List Told) (told : Told) (after : List Told)
+    → scenario_of text ≡ Ok scenario → told_in (lines_from 1 (lines_of text)) ≡ before ++ told ∷ after → is_excluded (keys_of before) told.key ≡ false
 unfolding scenario_of_lines
 apart text scenario before told after e settings =
     let whole = sym (readable-lines text (readable-by text (Ok scenario) (λ (h : Ok scenario ≡ Err 0). absurd cc) e (is_readable text) refl)) ∙ e in
-    let none = decided-ok (first_fault [] (lines_from 1 (lines_of text))) (completed (settings_of (lines_from 1 (lines_of text)))) scenario whole in
+    let none = decided-ok (first_fault [] (lines_from 1 (lines_of text))) (completed (told_in (lines_from 1 (lines_of text)))) scenario whole in
     apart-in [] (lines_from 1 (lines_of text)) before told after none settings

@@ -4,8 +4,7 @@ use Rattle.std.proofs.lemmas.List.{length-take, take-append-le}
 use Rattle.std.specs.Global.{Vec}
 use Rattle.std.specs.Io.KnownBytes.{Consumes, Keeps, IsAtEnd}
 use Rattle.sspi_scenario.specs.declared.reading.TextError.TheVariants.{TooLong}
-use Rattle.sspi_scenario.specs.declared.reading.TheConstants.{TEXT_LIMIT}
-use Rattle.sspi_scenario.specs.Reading.{TakesAtMost, ReadsText}
+use Rattle.sspi_scenario.specs.Reading.{text_limit, TakesAtMost, ReadsText}
 
 consumes_on : (a b c : Option (List ℕ)) (x y : List ℕ) → Consumes a b x → Consumes b c y → Consumes a c (x ++ y)
 consumes_on None b c x y first then = tt
@@ -31,7 +30,7 @@ takes_kept most a b c x first kept short = record { taken = x; consumed = consum
 
 -- a source that is at its end gave all that it had
 reads_all : (left after : Option (List ℕ)) (text : Vec ℕ) →
-    Consumes left after text.items → IsAtEnd after → length text.items ≤ TEXT_LIMIT → ReadsText left (Ok text)
+    Consumes left after text.items → IsAtEnd after → length text.items ≤ text_limit → ReadsText left (Ok text)
 reads_all None after text read end short = tt
 reads_all (Some bytes) None text read end short = elim read [ ]
 reads_all (Some bytes) (Some []) text read end short = (rw (read, append-nil) refl, rw (read, append-nil) short)
@@ -48,7 +47,7 @@ consumes_nothing (Some bytes) (Some xs) (Some ys) taken (suc n) into read last n
 
 -- and its last call gave nothing
 pub reads_to_end : (left before after : Option (List ℕ)) (text : Vec ℕ) (n : ℕ) (into : List ℕ) →
-    Consumes left before text.items → Consumes before after (take n into) → n ≡ 0 → IsAtEnd after → length text.items ≤ TEXT_LIMIT →
+    Consumes left before text.items → Consumes before after (take n into) → n ≡ 0 → IsAtEnd after → length text.items ≤ text_limit →
     ReadsText left (Ok text)
 reads_to_end left before after text n into read last none end short =
     reads_all left after text (consumes_nothing left before after text.items n into read last none) end short
@@ -65,7 +64,7 @@ front_is_short most x n into rest fits short =
 
 -- a source that gave more than the limit had more
 pub reads_too_long : (left rest : Option (List ℕ)) (taken : List ℕ) →
-    Consumes left rest taken → TEXT_LIMIT < length taken → ReadsText left (Err TooLong)
+    Consumes left rest taken → text_limit < length taken → ReadsText left (Err TooLong)
 reads_too_long None rest taken read long = tt
 reads_too_long (Some bytes) None taken read long = elim read [ ]
 reads_too_long (Some bytes) (Some more) taken read long = rw (read, length-append) (omega arith)

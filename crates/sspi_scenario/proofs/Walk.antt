@@ -8,104 +8,102 @@ use Rattle.sspi_scenario.specs.declared.draft.Draft.{Draft}
 use Rattle.sspi_scenario.specs.declared.scenario.Scenario.{Scenario}
 use Rattle.sspi_scenario.specs.declared.scenario.ScenarioError.{ScenarioError}
 use Rattle.sspi_scenario.specs.declared.scenario.ScenarioError.TheVariants as error
-use Rattle.sspi_scenario.specs.declared.setting.Setting.{Setting}
 use Rattle.sspi_scenario.specs.Lines.{is_skipped, lines_of}
-use Rattle.sspi_scenario.specs.Settings.{key_of, line_setting}
-use Rattle.sspi_scenario.specs.Faults.{Line, telling, broken, judged, lines_from, is_excluded, first_fault, settings_of}
+use Rattle.sspi_scenario.specs.Faults.{Line, Told, telling, broken, judged, line_told, lines_from, keys_of, first_fault, told_in}
+use Rattle.sspi_scenario.specs.Keys.{is_excluded}
 use Rattle.sspi_scenario.specs.Scenario.{decided, completed, scenario_of_lines, scenario_of, Parses, is_readable}
-use Rattle.sspi_scenario.specs.Drafts.{draft_of, with_line, with_told, with_setting, has_value, draft_completed, Gathers, Completes}
-use Rattle.sspi_scenario.proofs.More.{draft-more}
-use Rattle.sspi_scenario.proofs.Excluded.{excluded}
+use Rattle.sspi_scenario.specs.Drafts.{draft_of, with_line, with_told, noted, draft_completed, Gathers, Completes}
+use Rattle.sspi_scenario.proofs.More.{draft-more, draft-excluded, draft-ends}
 
 -- how much of a text is left
 abbrev pub left : Option (List ℕ) → ℕ
 left None = 0
 left (Some rest) = length rest + 1
 
--- what lines decide that stand behind lines which told these settings
-unfoldable pub outcome : List Setting → List Line → Result Scenario ℕ
-outcome earlier lines = decided (first_fault earlier lines) (completed (earlier ++ settings_of lines))
+-- what lines decide that stand behind lines which told these
+unfoldable pub outcome : List Told → List Line → Result Scenario ℕ
+outcome earlier lines = decided (first_fault earlier lines) (completed (earlier ++ told_in lines))
 
 pub outcome-start : (lines : List Line) → outcome [] lines ≡ scenario_of_lines lines
 unfolding outcome scenario_of_lines
 outcome-start lines = refl
 
-pub outcome-end : (earlier : List Setting) (number : ℕ) → outcome earlier (lines_from number []) ≡ decided None (draft_completed (draft_of earlier))
-unfolding outcome lines_from settings_of first_fault completed draft_completed draft_of
-outcome-end earlier number = ap (λ settings. decided None (completed settings)) (append-nil earlier)
+pub outcome-end : (earlier : List Told) (number : ℕ) → outcome earlier (lines_from number []) ≡ decided None (draft_completed (draft_of earlier))
+unfolding outcome lines_from told_in first_fault
+outcome-end earlier number = ap (λ (lines : List Told). decided None (completed lines)) (append-nil earlier) ∙ ap (decided None) (draft-ends earlier)
 
-outcome-broken : (earlier : List Setting) (number : ℕ) (lines : List Line) → outcome earlier (broken number ∷ lines) ≡ Err number
+outcome-broken : (earlier : List Told) (number : ℕ) (lines : List Line) → outcome earlier (broken number ∷ lines) ≡ Err number
 unfolding outcome first_fault
 outcome-broken earlier number lines = refl
 
-outcome-excluded : (earlier : List Setting) (number : ℕ) (told : Setting) (lines : List Line) → is_excluded earlier (key_of told) ≡ true
+outcome-excluded : (earlier : List Told) (number : ℕ) (told : Told) (lines : List Line) → is_excluded (keys_of earlier) told.key ≡ true
     → outcome earlier (telling number told ∷ lines) ≡ Err number
 unfolding outcome first_fault
 outcome-excluded earlier number told lines h = rw h refl
 
-outcome-told : (earlier : List Setting) (number : ℕ) (told : Setting) (lines : List Line) → is_excluded earlier (key_of told) ≡ false
+outcome-told : (earlier : List Told) (number : ℕ) (told : Told) (lines : List Line) → is_excluded (keys_of earlier) told.key ≡ false
     → outcome earlier (telling number told ∷ lines) ≡ outcome (earlier ++ told ∷ []) lines
-unfolding outcome first_fault settings_of
+unfolding outcome first_fault told_in
 outcome-told earlier number told lines h = rw (h, append_assoc) refl
 
 -- what a line does: it is at fault with its number, or lines that told more lead to the values after it
-abbrev Step : List Setting → Option Draft → ℕ → List Line → List Line → Type 0
+abbrev Step : List Told → Option Draft → ℕ → List Line → List Line → Type 0
 Step earlier None number lines rest = outcome earlier lines ≡ Err number
-Step earlier (Some new) number lines rest = (later : List Setting) × (new ≡ draft_of later) × (outcome earlier lines ≡ outcome later rest)
+Step earlier (Some new) number lines rest = (later : List Told) × (new ≡ draft_of later) × (outcome earlier lines ≡ outcome later rest)
 
-module _ (earlier : List Setting) (number : ℕ) (rest : List Line) where
-  step-barred : (told : Setting) (b : Bool) → has_value (draft_of earlier) (key_of told) ≡ b
-      → Step earlier (if b then None else Some (with_setting (draft_of earlier) told)) number (telling number told ∷ rest) rest
-  step-barred told true e = outcome-excluded earlier number told rest (sym (excluded earlier (key_of told)) ∙ e)
+module _ (earlier : List Told) (number : ℕ) (rest : List Line) where
+  step-barred : (told : Told) (b : Bool) → is_excluded (draft_of earlier).seen told.key ≡ b
+      → Step earlier (if b then None else Some (record { values = told.change (draft_of earlier).values; seen = noted (draft_of earlier).seen told.key })) number (telling number told ∷ rest) rest
+  step-barred told true e = outcome-excluded earlier number told rest (sym (draft-excluded earlier told.key) ∙ e)
   step-barred told false e =
-      (earlier ++ told ∷ [], sym (draft-more earlier told), outcome-told earlier number told rest (sym (excluded earlier (key_of told)) ∙ e))
+      (earlier ++ told ∷ [], sym (draft-more earlier told), outcome-told earlier number told rest (sym (draft-excluded earlier told.key) ∙ e))
 
-  step-told : (told : Option Setting) → Step earlier (with_told (draft_of earlier) told) number (judged number told ∷ rest) rest
+  step-told : (told : Option Told) → Step earlier (with_told (draft_of earlier) told) number (judged number told ∷ rest) rest
   step-told None = outcome-broken earlier number rest
-  step-told (Some told) = step-barred told (has_value (draft_of earlier) (key_of told)) refl
+  step-told (Some told) = step-barred told (is_excluded (draft_of earlier).seen told.key) refl
 
-  step-line : (skipped : Bool) (told : Option Setting)
+  step-line : (skipped : Bool) (told : Option Told)
       → Step earlier (if skipped then Some (draft_of earlier) else with_told (draft_of earlier) told) number
       (cons_option (if skipped then None else Some (judged number told)) rest) rest
   step-line true told = (earlier, refl, refl)
   step-line false told = step-told told
 
-pub step : (earlier : List Setting) (number : ℕ) (line : List ℕ) (rest : List (List ℕ))
+pub step : (earlier : List Told) (number : ℕ) (line : List ℕ) (rest : List (List ℕ))
     → Step earlier (with_line (draft_of earlier) line) number (lines_from number (line ∷ rest)) (lines_from (number + 1) rest)
 unfolding with_line lines_from
-step earlier number line rest = step-line earlier number (lines_from (number + 1) rest) (is_skipped line) (line_setting line)
+step earlier number line rest = step-line earlier number (lines_from (number + 1) rest) (is_skipped line) (line_told line)
 
 -- the same of a line that is taken, and of one that is at fault
-pub step-taken : (earlier : List Setting) (number : ℕ) (line : List ℕ) (rest : List (List ℕ)) (new : Draft)
+pub step-taken : (earlier : List Told) (number : ℕ) (line : List ℕ) (rest : List (List ℕ)) (new : Draft)
     → with_line (draft_of earlier) line ≡ Some new
-    → (later : List Setting) × (new ≡ draft_of later) × (outcome earlier (lines_from number (line ∷ rest)) ≡ outcome later (lines_from (number + 1) rest))
+    → (later : List Told) × (new ≡ draft_of later) × (outcome earlier (lines_from number (line ∷ rest)) ≡ outcome later (lines_from (number + 1) rest))
 step-taken earlier number line rest new e =
     subst (λ o. Step earlier o number (lines_from number (line ∷ rest)) (lines_from (number + 1) rest)) e (step earlier number line rest)
 
-pub step-refused : (earlier : List Setting) (number : ℕ) (line : List ℕ) (rest : List (List ℕ))
+pub step-refused : (earlier : List Told) (number : ℕ) (line : List ℕ) (rest : List (List ℕ))
     → with_line (draft_of earlier) line ≡ None
     → outcome earlier (lines_from number (line ∷ rest)) ≡ Err number
 step-refused earlier number line rest e =
     subst (λ o. Step earlier o number (lines_from number (line ∷ rest)) (lines_from (number + 1) rest)) e (step earlier number line rest)
 
 -- the values so far, and what the lines that are left decide: that is what all lines decide
-abbrev pub Told : Draft → ℕ → List (List ℕ) → Result Scenario ℕ → Type 0
-Told draft number lines all = (earlier : List Setting) × (draft ≡ draft_of earlier) × (outcome earlier (lines_from number lines) ≡ all)
+abbrev pub Sofar : Draft → ℕ → List (List ℕ) → Result Scenario ℕ → Type 0
+Sofar draft number lines all = (earlier : List Told) × (draft ≡ draft_of earlier) × (outcome earlier (lines_from number lines) ≡ all)
 
-pub told-start : (draft : Draft) (lines : List (List ℕ)) → draft ≡ draft_of [] → Told draft 1 lines (scenario_of_lines (lines_from 1 lines))
+pub told-start : (draft : Draft) (lines : List (List ℕ)) → draft ≡ draft_of [] → Sofar draft 1 lines (scenario_of_lines (lines_from 1 lines))
 told-start draft lines e = ([], e, outcome-start (lines_from 1 lines))
 
-pub told-end : (draft : Draft) (number : ℕ) (all : Result Scenario ℕ) → Told draft number [] all → all ≡ decided None (draft_completed draft)
+pub told-end : (draft : Draft) (number : ℕ) (all : Result Scenario ℕ) → Sofar draft number [] all → all ≡ decided None (draft_completed draft)
 told-end draft number all told =
     sym told.2 ∙ (outcome-end told.0 number ∙ ap (λ (d : Draft). decided None (draft_completed d)) (sym told.1))
 
 module _ (draft : Draft) (number : ℕ) (all : Result Scenario ℕ) (lines : List (List ℕ)) (line : List ℕ) (rest : List (List ℕ)) (cut : lines ≡ line ∷ rest) where
-  pub told-more : (new : Draft) → with_line draft line ≡ Some new → Told draft number lines all → Told new (number + 1) rest all
+  pub told-more : (new : Draft) → with_line draft line ≡ Some new → Sofar draft number lines all → Sofar new (number + 1) rest all
   told-more new h told =
       let next = step-taken told.0 number line rest new (ap (λ (d : Draft). with_line d line) (sym told.1) ∙ h) in
       (next.0, next.1, sym next.2 ∙ (ap (λ (ls : List (List ℕ)). outcome told.0 (lines_from number ls)) (sym cut) ∙ told.2))
 
-  pub told-fault : with_line draft line ≡ None → Told draft number lines all → all ≡ Err number
+  pub told-fault : with_line draft line ≡ None → Sofar draft number lines all → all ≡ Err number
   told-fault h told =
       sym told.2
       ∙ (ap (λ (ls : List (List ℕ)). outcome told.0 (lines_from number ls)) cut

@@ -6,8 +6,8 @@ pub mod Hex
 pub mod Words
 pub mod Edits
 pub mod Keys
-pub mod Settings
-pub mod Values
+pub mod Accounts
+pub mod Table
 pub mod Faults
 pub mod Reads
 pub mod Scenario

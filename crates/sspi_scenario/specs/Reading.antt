@@ -5,13 +5,16 @@ use Rattle.std.specs.Io.KnownBytes.{Consumes, IsAtEnd}
 use Rattle.sspi_ber.specs.Outside.{Rose}
 use Rattle.sspi_scenario.specs.declared.reading.TextError.{TextError}
 use Rattle.sspi_scenario.specs.declared.reading.TextError.TheVariants.{TooLong, Failed, InsufficientMemory}
-use Rattle.sspi_scenario.specs.declared.reading.TheConstants.{TEXT_LIMIT}
+
+-- the text of a scenario has at most so many bytes, 1 MiB
+abbrev pub text_limit : ℕ
+text_limit = 1048576
 
 -- where a source tells what it has left, its text is all of that, or that is too long
 abbrev pub ReadsText : Option (List ℕ) → Result (Vec ℕ) TextError → Type 0
 ReadsText None result = Unit {0}
-ReadsText (Some bytes) (Ok text) = (text.items ≡ bytes) × (length bytes ≤ TEXT_LIMIT)
-ReadsText (Some bytes) (Err TooLong) = TEXT_LIMIT < length bytes
+ReadsText (Some bytes) (Ok text) = (text.items ≡ bytes) × (length bytes ≤ text_limit)
+ReadsText (Some bytes) (Err TooLong) = text_limit < length bytes
 ReadsText (Some bytes) (Err Failed) = Unit {0}
 ReadsText (Some bytes) (Err InsufficientMemory) = Unit {0}
 
@@ -29,12 +32,12 @@ pub record TakesJust (count : ℕ) (before after : Option (List ℕ)) : Type 0 w
 
 -- the source is at its end; or the first byte past the longest text was taken of it, and none after that
 abbrev pub IsReadWhole : Option (List ℕ) → Option (List ℕ) → Type 0
-IsReadWhole before after = IsAtEnd after ⊎ TakesJust (TEXT_LIMIT + 1) before after
+IsReadWhole before after = IsAtEnd after ⊎ TakesJust (text_limit + 1) before after
 
 -- how far a source is read: to its end for its text, and to the first byte past the limit where it is too long
 abbrev pub ReadsSoFar : Option (List ℕ) → Option (List ℕ) → Result (Vec ℕ) TextError → Type 0
 ReadsSoFar before after (Ok text) = Consumes before after text.items × IsAtEnd after
-ReadsSoFar before after (Err TooLong) = TakesJust (TEXT_LIMIT + 1) before after
+ReadsSoFar before after (Err TooLong) = TakesJust (text_limit + 1) before after
 ReadsSoFar before after (Err Failed) = Unit {0}
 ReadsSoFar before after (Err InsufficientMemory) = Unit {0}
 

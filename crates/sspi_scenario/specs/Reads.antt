@@ -1,10 +1,13 @@
 -- What the parsers of the parts of a text promise.
-use Rattle.std.specs.Prelude.{◌≡◌, ℕ, Bool, true, false, List, [], Option, Some, None, Result, Ok, Err}
-use Rattle.sspi_scenario.specs.Lines.{lines_of}
+use Rattle.std.specs.Prelude.{◌≡◌, ℕ, List, [], ◌∷◌, Option, Some, None, Result, Ok, Err, if◌then◌else◌}
+use Rattle.std.specs.Borrow.{Bor}
+use Rattle.std.specs.Str.{bytes_eq}
 use Rattle.sspi_scenario.specs.declared.key.Key.{Key}
-use Rattle.sspi_scenario.specs.declared.key.Key.TheVariants as key
+use Rattle.std.specs.Option.{option_map}
+use Rattle.sspi_scenario.specs.Lines.{lines_of}
 use Rattle.sspi_scenario.specs.declared.error.LineError.{LineError}
 use Rattle.sspi_scenario.specs.declared.error.LineError.TheVariants.{Fault, InsufficientMemory}
+use Rattle.sspi_scenario.specs.declared.values.Values.{Values}
 
 -- exactly the value that there is; a fault exactly where there is none; want of memory is free
 abbrev pub Reads : {T : Type 0} → Result T LineError → Option T → Type 0
@@ -12,20 +15,18 @@ Reads (Ok value) found = found ≡ Some value
 Reads (Err Fault) found = found ≡ None
 Reads (Err InsufficientMemory) found = Unit {0}
 
+-- the same of what a value makes of the values before
+abbrev pub Puts : Values → Values → Result (Unit {0}) LineError → Option (Values → Values) → Type 0
+Puts old new (Ok done) change = option_map (λ c. c old) change ≡ Some new
+Puts old new (Err Fault) change = change ≡ None
+Puts old new (Err InsufficientMemory) change = Unit {0}
+
+-- the first key of some with names that has this one
+abbrev pub first_named : List ℕ → List (Key × Bor (List ℕ)) → Option Key
+first_named name [] = None
+first_named name (row ∷ rows) = if bytes_eq name row.1.now then Some row.0 else first_named name rows
+
 -- the lines of what is left of a text, if anything is
 abbrev pub lines_after : Option (List ℕ) → List (List ℕ)
 lines_after None = []
 lines_after (Some rest) = lines_of rest
-
--- whether a key's values are read without memory
-abbrev pub takes_no_memory : Key → Bool
-takes_no_memory key.User = false
-takes_no_memory key.Password = false
-takes_no_memory key.Key = false
-takes_no_memory key.ServerKey = false
-takes_no_memory key.Computer = false
-takes_no_memory key.Target = false
-takes_no_memory key.Keytab = false
-takes_no_memory key.Account = false
-takes_no_memory key.Edit = false
-takes_no_memory other = true

@@ -1,5 +1,8 @@
 ghost use Rattle.std.specs.Prelude.{◌≡◌};
+ghost use Rattle.sspi_scenario.specs.Keys;
 ghost use Rattle.sspi_scenario.specs.Keys.{key_named};
+ghost use Rattle.sspi_scenario.specs.Reads.{first_named};
+ghost use Rattle.sspi_scenario.specs.Table.{row};
 
 /// The keys of a scenario.
 #[derive(Clone, Copy, Debug, PartialEq, Eq)]
@@ -24,32 +27,90 @@ pub enum Key {
     Edit,
 }
 
+const NAMES: [(Key, &str); 18] = [
+    (Key::Mode, "mode"),
+    (Key::User, "user"),
+    (Key::Password, "password"),
+    (Key::Key, "key"),
+    (Key::ServerKey, "server-key"),
+    (Key::ClientVersion, "client-version"),
+    (Key::ServerVersion, "server-version"),
+    (Key::Nonce, "nonce"),
+    (Key::Challenge, "challenge"),
+    (Key::Computer, "computer"),
+    (Key::Target, "target"),
+    (Key::Delegation, "delegation"),
+    (Key::Keytab, "keytab"),
+    (Key::Account, "account"),
+    (Key::Accounts, "accounts"),
+    (Key::ProxyFail, "proxy-fail"),
+    (Key::Turns, "turns"),
+    (Key::Edit, "edit"),
+];
+
 impl Key {
     /// The key of this name.
-    #[tactic(auto, using(crate::proofs::Names::key_names, crate::proofs::Names::unnamed))]
+    #[tactic(auto, unfolding(crate::specs::Keys::key_named))]
     pub fn from_name(name: &str) -> Option<Key>
         ensures { result ≡ key_named name.now }
     {
-        Some(match name {
-            "mode" => Key::Mode,
-            "user" => Key::User,
-            "password" => Key::Password,
-            "key" => Key::Key,
-            "server-key" => Key::ServerKey,
-            "client-version" => Key::ClientVersion,
-            "server-version" => Key::ServerVersion,
-            "nonce" => Key::Nonce,
-            "challenge" => Key::Challenge,
-            "computer" => Key::Computer,
-            "target" => Key::Target,
-            "delegation" => Key::Delegation,
-            "keytab" => Key::Keytab,
-            "account" => Key::Account,
-            "accounts" => Key::Accounts,
-            "proxy-fail" => Key::ProxyFail,
-            "turns" => Key::Turns,
-            "edit" => Key::Edit,
-            _ => return None,
-        })
+        named(name, &NAMES)
     }
+
+    /// Whether these two are one.
+    pub fn is(self, other: Key) -> bool
+        ensures { result ≡ Keys.is_same self other }
+    {
+        self == other
+    }
+
+    /// Whether a line of this key allows no later line of that one.
+    pub fn excludes(self, later: Key) -> bool
+        ensures { result ≡ Keys.excludes self later }
+    {
+        match (self, later) {
+            (Key::Account, Key::Accounts) | (Key::Accounts, Key::Account) => true,
+            _ => self.is(later) && !later.repeats(),
+        }
+    }
+
+    /// Whether a key may stand again.
+    fn repeats(self) -> bool
+        ensures { result ≡ (row self).repeats }
+    {
+        matches!(self, Key::Account | Key::ProxyFail | Key::Edit)
+    }
+}
+
+/// The first key of these that has this name.
+fn named(name: &str, rows: &[(Key, &str)]) -> Option<Key>
+    ensures { result ≡ first_named name.now rows.now }
+{
+    for (key, known) in rows {
+        if name == *known {
+            return Some(*key);
+        }
+    }
+    None
+}
+
+/// Whether a key is among these.
+pub fn has(keys: &[Key], key: Key) -> bool
+    ensures { result ≡ Keys.has keys.now key }
+{
+    keys.iter().any(|earlier| earlier.is(key))
+}
+
+/// Whether these keys allow no later line of this one.
+pub fn is_excluded(keys: &[Key], key: Key) -> bool
+    ensures { result ≡ Keys.is_excluded keys.now key }
+{
+    keys.iter().any(|earlier| earlier.excludes(key))
+}
+
+/// Whether the keys that each scenario names are among these.
+pub fn has_required(keys: &[Key]) -> bool
+    ensures { result ≡ Keys.has_required keys.now }
+{
+    has(keys, Key::Mode) && has(keys, Key::User) && has(keys, Key::Password) && has(keys, Key::Key)
 }

@@ -3,10 +3,9 @@
 ghost use Rattle.std.specs.Prelude.{◌≡◌, ◌+◌, ◌<◌, ◌∷◌, ◌++◌, ℕ, List, true, false, Ok, Err};
 ghost use Rattle.std.specs.List.{list_any};
 ghost use Rattle.sspi_scenario.specs.declared.scenario.Scenario.{Scenario};
-ghost use Rattle.sspi_scenario.specs.declared.setting.Setting.{Setting};
 ghost use Rattle.sspi_scenario.specs.Lines.{lines_of, is_line_feed, is_skipped};
-ghost use Rattle.sspi_scenario.specs.Settings.{key_of};
-ghost use Rattle.sspi_scenario.specs.Faults.{lines_from, is_excluded, settings_of};
+ghost use Rattle.sspi_scenario.specs.Faults.{Told, keys_of, lines_from, told_in};
+ghost use Rattle.sspi_scenario.specs.Keys.{is_excluded};
 ghost use Rattle.sspi_scenario.specs.Scenario.{is_readable, scenario_of};
 
 /// A comment or an empty line in front of a text changes nothing but the numbers of its lines.
@@ -28,7 +27,7 @@ pub fn a_fault_stays_whatever_follows()
 /// In a text that is a scenario no line is excluded by those before it: a key that is not repeatable stands once, and
 /// `accounts` never beside `account`.
 pub fn lines_of_a_scenario_stand_together()
-    ensures { (text : List ℕ) (scenario : Scenario) (before : List Setting) (told : Setting) (after : List Setting)
-        → scenario_of text ≡ Ok scenario → settings_of (lines_from 1 (lines_of text)) ≡ before ++ told ∷ after
-        → is_excluded before (key_of told) ≡ false }
+    ensures { (text : List ℕ) (scenario : Scenario) (before : List Told) (told : Told) (after : List Told)
+        → scenario_of text ≡ Ok scenario → told_in (lines_from 1 (lines_of text)) ≡ before ++ told ∷ after
+        → is_excluded (keys_of before) told.key ≡ false }
 {}

@@ -4,9 +4,10 @@
 //! but are counted. A line is a key up to the first space, and its value after that. `Scenario::parse` gives the scenario
 //! of a text or the number of its first faulty line.
 //!
-//! `specs/Scenario.antt` has the scenario of a text, `specs/Keys.antt` the keys and which of them exclude each other,
-//! `specs/Settings.antt` the values of each key, and `specs/Faults.antt` which line is the first at fault. `laws` has what
-//! follows from these.
+//! `specs/Table.antt` has the table of keys, a row for each, `specs/Keys.antt` which of them exclude each other,
+//! `specs/Faults.antt` which line is the first at fault, and `specs/Scenario.antt` the defaults and the scenario of a text.
+//! `laws` has what follows from these. A key is a variant of `Key` with its name, a row of `Values::put`, and a field of
+//! `Scenario` with its default; and in the definitions a row with its place among all keys, and the same default.
 #![tactic(auto)]
 
 mod draft;
@@ -20,9 +21,9 @@ mod number;
 pub mod reading;
 pub mod rows;
 pub mod scenario;
-mod setting;
 #[cfg(test)]
 mod tests;
+mod values;
 mod words;
 
 pub use reading::{TEXT_LIMIT, TextError, read_text};

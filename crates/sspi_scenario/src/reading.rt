@@ -1,5 +1,5 @@
 ghost use Rattle.std.specs.Prelude.{◌+◌, ◌<◌, ◌≤◌, length, IfOk};
-ghost use Rattle.sspi_scenario.specs.Reading.{ReadsText, ReadsSoFar, TextCause, TakesAtMost};
+ghost use Rattle.sspi_scenario.specs.Reading.{text_limit, ReadsText, ReadsSoFar, TextCause, TakesAtMost};
 
 use sspi_ber::Source;
 use std::alloc::Global;
@@ -25,8 +25,8 @@ pub enum TextError {
 /// call on the source fails. What was read is lost with a refusal.
 pub fn read_text<S: Source>(alloc: Global, source: &mut S) -> Result<Vec<u8>, TextError>
     ensures text { ReadsText (S.left source.old) result }
-    ensures short { IfOk result (λ text. length text.items ≤ TEXT_LIMIT) }
-    ensures taken { TakesAtMost (TEXT_LIMIT + 1) (S.left source.old) (S.left source.new) }
+    ensures short { IfOk result (λ text. length text.items ≤ text_limit) }
+    ensures taken { TakesAtMost (text_limit + 1) (S.left source.old) (S.left source.new) }
     ensures so_far { ReadsSoFar (S.left source.old) (S.left source.new) result }
     ensures cause { TextCause (S.faults source.old) (S.faults source.new) result }
 {
@@ -49,10 +49,10 @@ pub fn read_text<S: Source>(alloc: Global, source: &mut S) -> Result<Vec<u8>, Te
 
 /// How many bytes are asked for, once so many were read: never more than one past the limit.
 fn most_at(read: usize) -> usize
-    requires { read ≤ TEXT_LIMIT }
+    requires { read ≤ text_limit }
     ensures some { 0 < result }
     ensures room { result ≤ PIECE_LENGTH }
-    ensures limit { read + result ≤ TEXT_LIMIT + 1 }
+    ensures limit { read + result ≤ text_limit + 1 }
 {
     PIECE_LENGTH.min(TEXT_LIMIT + 1 - read)
 }

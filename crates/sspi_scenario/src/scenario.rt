@@ -2,6 +2,7 @@ ghost use Rattle.std.specs.Prelude.{◌≡◌, ◌≤◌, true, false, length, I
 ghost use Rattle.sspi_scenario.specs.declared.scenario.ScenarioError.TheVariants.{Line};
 ghost use Rattle.sspi_scenario.specs.Scenario.{Parses, is_readable};
 ghost use Rattle.sspi_scenario.specs.Drafts.{Gathers};
+ghost use Rattle.sspi_scenario.specs.Reading.{text_limit};
 
 use crate::draft::Draft;
 use crate::error::LineError;
@@ -97,10 +98,10 @@ fn checked(text: &[u8]) -> Result<&str, ScenarioError>
 
 /// The values of all lines.
 fn read(alloc: Global, text: &str) -> Result<Draft, ScenarioError>
-    requires { length text.now ≤ TEXT_LIMIT }
+    requires { length text.now ≤ text_limit }
     ensures { Gathers text.now result }
 {
-    let mut draft = Draft::new(alloc);
+    let mut draft = Draft::new(alloc)?;
     let mut number = 1;
     let mut rest = Some(text);
     while let Some(text) = rest {

@@ -12,7 +12,7 @@ pub enum Accounts {
     None,
 }
 
-#[tactic(auto, using(crate::proofs::Names::is_ntlm, crate::proofs::Names::no_mode))]
+#[tactic(auto, using(crate::proofs::Wording::is_ntlm, crate::proofs::Wording::no_mode))]
 pub fn mode_named(word: &str) -> Option<Mode>
     ensures { result ≡ mode_of word.now }
 {
@@ -22,7 +22,7 @@ pub fn mode_named(word: &str) -> Option<Mode>
     }
 }
 
-#[tactic(auto, using(crate::proofs::Names::is_with, crate::proofs::Names::is_less, crate::proofs::Names::no_delegation))]
+#[tactic(auto, using(crate::proofs::Wording::is_with, crate::proofs::Wording::is_less, crate::proofs::Wording::no_delegation))]
 pub fn delegation_named(word: &str) -> Option<CredSspMode>
     ensures { result ≡ delegation_of word.now }
 {
@@ -33,7 +33,7 @@ pub fn delegation_named(word: &str) -> Option<CredSspMode>
     }
 }
 
-#[tactic(auto, using(crate::proofs::Names::is_own, crate::proofs::Names::is_none, crate::proofs::Names::no_accounts))]
+#[tactic(auto, using(crate::proofs::Wording::is_own, crate::proofs::Wording::is_none, crate::proofs::Wording::no_accounts))]
 pub fn accounts_named(word: &str) -> Option<Accounts>
     ensures { result ≡ accounts_of word.now }
 {

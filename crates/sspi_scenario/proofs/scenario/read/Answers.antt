@@ -9,7 +9,7 @@ use Rattle.sspi_scenario.proofs.Walk.{left, told-start, told-more, told-fault, t
 use Rattle.sspi_scenario.proofs.scenario.read.Goals as goal
 
 pub loop-rest-init : goal.loop-rest-init
-loop-rest-init c = record { told = told-start c.new-draft.result (lines_of c.args.text.now) c.new-draft.ensures; fits = omega arith }
+loop-rest-init c = record { told = told-start c.in_ok-draft.draft (lines_of c.args.text.now) c.in_ok-draft.ensures; fits = omega arith }
 
 pub returns-in-Err-Fault : goal.returns-in-Err-Fault
 returns-in-Err-Fault c =

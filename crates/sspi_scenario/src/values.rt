@@ -1,0 +1,189 @@
+ghost use Rattle.std.specs.Prelude.{◌≡◌, Some, IfOk, if◌then◌else◌};
+ghost use Rattle.sspi_names.specs.Name.{parse_name};
+ghost use Rattle.sspi_scenario.specs.Accounts.{account_of};
+ghost use Rattle.sspi_scenario.specs.Reads.{Reads, Puts};
+ghost use Rattle.sspi_scenario.specs.Scenario.{defaults, finished, proxy_table, own_identity};
+ghost use Rattle.sspi_scenario.specs.Table.{row};
+
+use crate::edits::edit;
+use crate::error::LineError;
+use crate::hexadecimal;
+use crate::key::{Key, has};
+use crate::lines::parted;
+use crate::number::number;
+use crate::rows::Rows;
+use crate::scenario::{Mode, Scenario};
+use crate::words::{self, Accounts};
+use sspi_names::{AuthIdentity, Username, UsernameError};
+use sspi_tsreq::CredSspMode;
+use sspi_types::{Bytes, Secret, Text};
+use std::alloc::{AllocError, Global};
+
+/// What some lines tell, with the defaults of the keys that they lack.
+#[derive(Drop)]
+pub struct Values {
+    pub scenario: Scenario,
+    /// What the proxy's table holds where no line tells an account.
+    pub accounts: Accounts,
+}
+
+impl Values {
+    /// The defaults. An empty value stands for each key that has none of its own.
+    #[tactic(auto, unfolding(sspi_names::specs::Name::parse_name))]
+    pub fn new(alloc: Global) -> Result<Values, LineError>
+        ensures { Reads result (Some defaults) }
+    {
+        let scenario = Scenario {
+            mode: Mode::Ntlm,
+            user: user(alloc, "")?,
+            password: text(alloc, "")?,
+            key: Bytes::from_vec(Vec::new(alloc)),
+            server_key: Bytes::from_vec(Vec::new(alloc)),
+            client_version: 6,
+            server_version: 6,
+            nonce: [0; 32],
+            challenge: [0; 8],
+            computer: text(alloc, "CLIENT")?,
+            target: text(alloc, "TERMSRV/host.example.com")?,
+            delegation: CredSspMode::WithCredentials,
+            keytab: None,
+            account: Rows::new(alloc),
+            proxy_fail: Rows::new(alloc),
+            turns: 5,
+            edit: Rows::new(alloc),
+        };
+        Ok(Values {
+            scenario,
+            accounts: Accounts::Own,
+        })
+    }
+
+    /// Puts what a value of a key tells in its place.
+    pub fn put(&mut self, alloc: Global, key: Key, value: &str) -> Result<(), LineError>
+        ensures { Puts self.old self.new result ((row key).value value.now) }
+    {
+        let told = &mut self.scenario;
+        match key {
+            Key::Mode => told.mode = found(words::mode_named(value))?,
+            Key::User => told.user = user(alloc, value)?,
+            Key::Password => told.password = text(alloc, value)?,
+            Key::Key => told.key = hexadecimal::bytes(alloc, value)?,
+            Key::ServerKey => told.server_key = hexadecimal::bytes(alloc, value)?,
+            Key::ClientVersion => told.client_version = found(number(value))?,
+            Key::ServerVersion => told.server_version = found(number(value))?,
+            Key::Nonce => told.nonce = found(hexadecimal::nonce(value))?,
+            Key::Challenge => told.challenge = found(hexadecimal::challenge(value))?,
+            Key::Computer => told.computer = text(alloc, value)?,
+            Key::Target => told.target = text(alloc, value)?,
+            Key::Delegation => told.delegation = found(words::delegation_named(value))?,
+            Key::Keytab => told.keytab = Some(hexadecimal::bytes(alloc, value)?),
+            Key::Account => told.account.push(account(alloc, value)?)?,
+            Key::Accounts => self.accounts = found(words::accounts_named(value))?,
+            Key::ProxyFail => told.proxy_fail.push(u64::from(found(number(value))?))?,
+            Key::Turns => told.turns = found(number(value))?,
+            Key::Edit => told.edit.push(edit(alloc, value)?)?,
+        }
+        Ok(())
+    }
+
+    /// The scenario of these values, where these are the keys of their lines.
+    pub fn finish(self, alloc: Global, keys: &[Key]) -> Result<Scenario, AllocError>
+        ensures { IfOk result (λ scenario. scenario ≡ finished keys.now self) }
+    {
+        let Values {
+            mut scenario,
+            accounts,
+        } = self;
+        scenario.server_key = key_or(
+            alloc,
+            has(keys, Key::ServerKey),
+            scenario.server_key,
+            &scenario.key,
+        )?;
+        scenario.account = accounts_or(
+            alloc,
+            scenario.account,
+            accounts,
+            &scenario.user,
+            &scenario.password,
+        )?;
+        Ok(scenario)
+    }
+}
+
+/// The key that was told, or where none was the other one.
+fn key_or(alloc: Global, is_told: bool, told: Bytes, other: &Bytes) -> Result<Bytes, AllocError>
+    ensures { IfOk result (λ key. key ≡ (if is_told then told else other.now)) }
+{
+    if is_told {
+        Ok(told)
+    } else {
+        other.clone(alloc)
+    }
+}
+
+/// The table of the proxy: the accounts that lines tell, or, where none does, the user's own unless there shall be none.
+fn accounts_or(
+    alloc: Global,
+    told: Rows<AuthIdentity>,
+    word: Accounts,
+    user: &Username,
+    password: &Text,
+) -> Result<Rows<AuthIdentity>, AllocError>
+    ensures { IfOk result (λ table. table ≡ proxy_table told word (own_identity user.now password.now)) }
+{
+    let mut accounts = told;
+    if accounts.is_empty() && word == Accounts::Own {
+        accounts.push(AuthIdentity {
+            username: user.clone(alloc)?,
+            password: Secret {
+                value: password.clone(alloc)?,
+            },
+        })?;
+    }
+    Ok(accounts)
+}
+
+/// A value that is there; a fault where there is none.
+fn found<T>(value: Option<T>) -> Result<T, LineError>
+    ensures { Reads result value }
+{
+    match value {
+        Some(value) => Ok(value),
+        None => Err(LineError::Fault),
+    }
+}
+
+fn user(alloc: Global, value: &str) -> Result<Username, LineError>
+    ensures { Reads result (parse_name value.now) }
+{
+    match Username::parse(alloc, value) {
+        Ok(name) => Ok(name),
+        Err(UsernameError::MixedFormat) => Err(LineError::Fault),
+        Err(UsernameError::InsufficientMemory) => Err(LineError::InsufficientMemory),
+    }
+}
+
+fn text(alloc: Global, value: &str) -> Result<Text, LineError>
+    ensures { Reads result (Some value.now) }
+{
+    match Text::from_text(alloc, value) {
+        Ok(copy) => Ok(copy),
+        Err(_) => Err(LineError::InsufficientMemory),
+    }
+}
+
+#[tactic(auto, unfolding(crate::specs::Accounts::account_of))]
+fn account(alloc: Global, value: &str) -> Result<AuthIdentity, LineError>
+    ensures { Reads result (account_of value.now) }
+{
+    let Some((name, password)) = parted(value) else {
+        return Err(LineError::Fault);
+    };
+    Ok(AuthIdentity {
+        username: user(alloc, name)?,
+        password: Secret {
+            value: text(alloc, password)?,
+        },
+    })
+}
