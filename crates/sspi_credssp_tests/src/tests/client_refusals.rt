@@ -1,8 +1,8 @@
 use crate::tests::asks::Asks;
 use crate::tests::ends::{
-    Client, ClientEnd, End, IDLE, at, checked, concludes, expect, has_no_token, identity,
-    is_refusal, keytab, octets, read, refuses, replies, stepped, text_of, with_bare_proof,
-    with_proof, with_token,
+    Client, ClientEnd, End, IDLE, KEY, at, checked, client_parts, concludes, given, has_no_token,
+    holds, identity, is_refusal, keytab, octets, plain_client, read, refuses, replies, stepped,
+    text_of, with_bare_proof, with_proof, with_token,
 };
 use crate::tests::values::{
     CHALLENGE, CLIENT_PROOF_BY_SERVER, CUT_PROOF_BY_SERVER, FOURTH, SERVER_PROOF, THIRD,
@@ -13,20 +13,21 @@ use sspi_names::Credentials;
 use sspi_tsreq::{CredSspMode, TsRequest};
 use sspi_types::{Error, ErrorKind, NStatusCode, Reason, SecurityStatus};
 use std::alloc::Global;
-use std::test::Fail;
+use std::process::Abort;
 
 /// The client refuses this request with a code in it, and tells the code.
-fn tells_code<E: End>(client: &mut E, request: TsRequest) -> Result<(), Fail> {
+fn tells_code<E: End>(rt: &impl Abort, client: &mut E, request: TsRequest) {
     let code = NStatusCode(0xC0070308);
     let mut request = request;
     request.error_code = Some(code);
     let told = Error::new_with_nstatus(ErrorKind::InvalidToken, Reason::ErrorStatus, code);
-    is_refusal(client.process(request), told)?;
-    expect(client.acts() == IDLE, "acts on a code")
+    is_refusal(rt, client.process(request), told);
+    holds(rt, client.acts() == IDLE, "acts on a code");
 }
 
-fn refuses_version<E: End>(client: &mut E, request: TsRequest, version: u32) -> Result<(), Fail> {
+fn refuses_version<E: End>(rt: &impl Abort, client: &mut E, request: TsRequest, version: u32) {
     refuses(
+        rt,
         client,
         at(version, request),
         ErrorKind::MessageAltered,
@@ -35,155 +36,169 @@ fn refuses_version<E: End>(client: &mut E, request: TsRequest, version: u32) -> 
     )
 }
 
-fn refuses_resuming<E: ClientEnd>(client: &mut E) -> Result<(), Fail> {
+fn refuses_resuming<E: ClientEnd>(rt: &impl Abort, client: &mut E) {
     let idle = Error::new(ErrorKind::OutOfSequence, Reason::Sequence);
-    is_refusal(client.resume(&Reply::Failed), idle)
+    is_refusal(rt, client.resume(&Reply::Failed), idle);
 }
 
 /// A refused call notes no version, and the first one that is answered notes none either.
-fn begins<E: ClientEnd>(client: &mut E) -> Result<(), Fail> {
-    tells_code(client, at(2, TsRequest::default()))?;
-    refuses_resuming(client)?;
-    let first = replies(client, at(3, TsRequest::default()))?;
-    expect(first.version == 6, "another version")
+fn begins<E: ClientEnd>(rt: &impl Abort, client: &mut E) {
+    tells_code(rt, client, at(2, TsRequest::default()));
+    refuses_resuming(rt, client);
+    let first = replies(rt, client, at(3, TsRequest::default()));
+    holds(rt, first.version == 6, "another version");
 }
 
-fn refuses_tokens<E: ClientEnd>(alloc: Global, client: &mut E) -> Result<(), Fail> {
-    tells_code(client, at(4, with_token(alloc, &CHALLENGE)?))?;
-    let malformed = with_token(alloc, b"N2")?;
+fn refuses_tokens<E: ClientEnd>(rt: &impl Abort, alloc: Global, client: &mut E) {
+    tells_code(rt, client, at(4, with_token(rt, alloc, &CHALLENGE)));
+    let malformed = with_token(rt, alloc, b"N2");
     let (kind, reason) = (ErrorKind::InvalidToken, Reason::TokenForm);
-    refuses(client, malformed, kind, reason, stepped(None))?;
-    refuses_version(client, with_token(alloc, &CHALLENGE)?, 5)?;
-    refuses_resuming(client)
+    refuses(rt, client, malformed, kind, reason, stepped(None));
+    refuses_version(rt, client, with_token(rt, alloc, &CHALLENGE), 5);
+    refuses_resuming(rt, client);
 }
 
 /// This request with a code of success and a field that no step of the authentication sets.
-fn filled(alloc: Global, request: TsRequest) -> Result<TsRequest, Fail> {
+fn filled(rt: &impl Abort, alloc: Global, request: TsRequest) -> TsRequest {
     let mut request = request;
     request.error_code = Some(NStatusCode::SUCCESS);
-    request.auth_info = octets(alloc, b"info")?;
-    Ok(request)
+    request.auth_info = octets(rt, alloc, b"info");
+    request
 }
 
-fn proves_at_last<E: End>(alloc: Global, client: &mut E) -> Result<(), Fail> {
-    let third = replies(client, filled(alloc, with_token(alloc, &CHALLENGE)?)?)?;
-    expect(
-        third == filled(alloc, read(alloc, &THIRD)?)?,
+fn proves_at_last<E: End>(rt: &impl Abort, alloc: Global, client: &mut E) {
+    let third = replies(
+        rt,
+        client,
+        filled(rt, alloc, with_token(rt, alloc, &CHALLENGE)),
+    );
+    holds(
+        rt,
+        third == filled(rt, alloc, read(rt, alloc, &THIRD)),
         "another reply",
     )
 }
 
-fn authenticates_after_refusals<E: ClientEnd>(alloc: Global) -> Result<(), Fail> {
-    let mut client = E::plain(alloc)?;
-    begins(&mut client)?;
-    refuses_tokens(alloc, &mut client)?;
-    proves_at_last(alloc, &mut client)
+fn authenticates_after_refusals<E: ClientEnd>(rt: &impl Abort, alloc: Global) {
+    let mut client = plain_client::<E>(rt, alloc);
+    begins(rt, &mut client);
+    refuses_tokens(rt, alloc, &mut client);
+    proves_at_last(rt, alloc, &mut client);
 }
 
 #[test]
-fn in_the_authentication(rt: HostRuntime) -> Result<(), Fail> {
-    authenticates_after_refusals::<Client<Ntlm>>(rt.alloc())
+fn in_the_authentication(rt: HostRuntime) {
+    authenticates_after_refusals::<Client<Ntlm>>(&rt, rt.alloc());
 }
 
 /// Takes the client to where it waits for the server's proof.
-fn prove<E: End>(alloc: Global, client: &mut E) -> Result<(), Fail> {
-    let _ = replies(client, TsRequest::default())?;
-    let _ = replies(client, with_token(alloc, &CHALLENGE)?)?;
-    Ok(())
+fn prove<E: End>(rt: &impl Abort, alloc: Global, client: &mut E) {
+    let _ = replies(rt, client, TsRequest::default());
+    let _ = replies(rt, client, with_token(rt, alloc, &CHALLENGE));
 }
 
 /// This blob is refused unopened.
 fn refuses_blob<E: End>(
+    rt: &impl Abort,
     alloc: Global,
     client: &mut E,
     blob: &[u8],
     kind: ErrorKind,
     reason: Reason,
-) -> Result<(), Fail> {
-    let request = with_proof(alloc, blob)?;
-    refuses(client, request, kind, reason, IDLE)
+) {
+    let request = with_proof(rt, alloc, blob);
+    refuses(rt, client, request, kind, reason, IDLE);
 }
 
 /// What this blob opens to is not the proof that the server owes.
-fn refuses_proof<E: End>(alloc: Global, client: &mut E, blob: &[u8]) -> Result<(), Fail> {
+fn refuses_proof<E: End>(rt: &impl Abort, alloc: Global, client: &mut E, blob: &[u8]) {
     let (kind, reason) = (ErrorKind::MessageAltered, Reason::HashDiffers);
-    refuses(client, with_proof(alloc, blob)?, kind, reason, checked())
+    refuses(
+        rt,
+        client,
+        with_proof(rt, alloc, blob),
+        kind,
+        reason,
+        checked(),
+    );
 }
 
 /// No proof, a short and an altered one, the client's own one sent back, the client's own one by the server, and the first
 /// half of the right one.
-fn refuses_proofs<E: End>(alloc: Global, client: &mut E) -> Result<(), Fail> {
+fn refuses_proofs<E: End>(rt: &impl Abort, alloc: Global, client: &mut E) {
     let (malformed, altered) = (ErrorKind::InvalidToken, ErrorKind::MessageAltered);
-    let absent = with_token(alloc, b"N3")?;
-    refuses(client, absent, malformed, Reason::NoPubKey, IDLE)?;
-    has_no_token(client)?;
-    refuses_blob(alloc, client, &[0; 15], malformed, Reason::ShortBlob)?;
-    refuses_blob(alloc, client, &[0; 16], altered, Reason::Tag)?;
-    refuses_blob(alloc, client, &THIRD[65..113], altered, Reason::Tag)?;
-    refuses_proof(alloc, client, &CLIENT_PROOF_BY_SERVER)?;
-    refuses_proof(alloc, client, &CUT_PROOF_BY_SERVER)
+    let absent = with_token(rt, alloc, b"N3");
+    refuses(rt, client, absent, malformed, Reason::NoPubKey, IDLE);
+    has_no_token(rt, client);
+    refuses_blob(rt, alloc, client, &[0; 15], malformed, Reason::ShortBlob);
+    refuses_blob(rt, alloc, client, &[0; 16], altered, Reason::Tag);
+    refuses_blob(rt, alloc, client, &THIRD[65..113], altered, Reason::Tag);
+    refuses_proof(rt, alloc, client, &CLIENT_PROOF_BY_SERVER);
+    refuses_proof(rt, alloc, client, &CUT_PROOF_BY_SERVER);
 }
 
-fn delegates_at_last<E: ClientEnd>(alloc: Global, client: &mut E) -> Result<(), Fail> {
-    refuses_version(client, with_proof(alloc, &THIRD_PROOF_BY_SERVER)?, 5)?;
-    tells_code(client, with_proof(alloc, &THIRD_PROOF_BY_SERVER)?)?;
-    refuses_resuming(client)?;
-    let last = concludes(client, with_proof(alloc, &THIRD_PROOF_BY_SERVER)?)?;
+fn delegates_at_last<E: ClientEnd>(rt: &impl Abort, alloc: Global, client: &mut E) {
+    refuses_version(rt, client, with_proof(rt, alloc, &THIRD_PROOF_BY_SERVER), 5);
+    tells_code(rt, client, with_proof(rt, alloc, &THIRD_PROOF_BY_SERVER));
+    refuses_resuming(rt, client);
+    let last = concludes(rt, client, with_proof(rt, alloc, &THIRD_PROOF_BY_SERVER));
     let sealed = text_of(&last.auth_info).len() == 41;
-    expect(sealed && last.pub_key_auth.is_none(), "no credentials")
+    holds(rt, sealed && last.pub_key_auth.is_none(), "no credentials");
 }
 
-fn delegates_after_refusals<E: ClientEnd>(alloc: Global) -> Result<(), Fail> {
-    let mut client = E::plain(alloc)?;
-    prove(alloc, &mut client)?;
-    refuses_proofs(alloc, &mut client)?;
-    delegates_at_last(alloc, &mut client)
+fn delegates_after_refusals<E: ClientEnd>(rt: &impl Abort, alloc: Global) {
+    let mut client = plain_client::<E>(rt, alloc);
+    prove(rt, alloc, &mut client);
+    refuses_proofs(rt, alloc, &mut client);
+    delegates_at_last(rt, alloc, &mut client);
 }
 
 /// No refusal brings the credentials; after all of them the right proof does.
 #[test]
-fn of_the_proof(rt: HostRuntime) -> Result<(), Fail> {
-    delegates_after_refusals::<Client<Ntlm>>(rt.alloc())
+fn of_the_proof(rt: HostRuntime) {
+    delegates_after_refusals::<Client<Ntlm>>(&rt, rt.alloc());
 }
 
 /// The last message, which no step gives.
-fn delegates<E: End>(alloc: Global, client: &mut E) -> Result<(), Fail> {
-    let _ = concludes(client, read(alloc, &FOURTH)?)?;
-    has_no_token(client)
+fn delegates<E: End>(rt: &impl Abort, alloc: Global, client: &mut E) {
+    let _ = concludes(rt, client, read(rt, alloc, &FOURTH));
+    has_no_token(rt, client);
 }
 
-fn is_over<E: End>(alloc: Global, client: &mut E) -> Result<(), Fail> {
-    let fourth = read(alloc, &FOURTH)?;
+fn is_over<E: End>(rt: &impl Abort, alloc: Global, client: &mut E) {
+    let fourth = read(rt, alloc, &FOURTH);
     let (kind, reason) = (ErrorKind::OutOfSequence, Reason::Sequence);
-    refuses(client, fourth, kind, reason, IDLE)
+    refuses(rt, client, fourth, kind, reason, IDLE);
 }
 
-fn refuses_once_it_delegated<E: ClientEnd>(alloc: Global) -> Result<(), Fail> {
-    let mut client = E::plain(alloc)?;
-    prove(alloc, &mut client)?;
-    delegates(alloc, &mut client)?;
-    tells_code(&mut client, TsRequest::default())?;
-    refuses_version(&mut client, TsRequest::default(), 2)?;
-    is_over(alloc, &mut client)?;
-    is_over(alloc, &mut client)
+fn refuses_once_it_delegated<E: ClientEnd>(rt: &impl Abort, alloc: Global) {
+    let mut client = plain_client::<E>(rt, alloc);
+    prove(rt, alloc, &mut client);
+    delegates(rt, alloc, &mut client);
+    tells_code(rt, &mut client, TsRequest::default());
+    refuses_version(rt, &mut client, TsRequest::default(), 2);
+    is_over(rt, alloc, &mut client);
+    is_over(rt, alloc, &mut client);
 }
 
 #[test]
-fn after_the_last_message(rt: HostRuntime) -> Result<(), Fail> {
-    refuses_once_it_delegated::<Client<Ntlm>>(rt.alloc())
+fn after_the_last_message(rt: HostRuntime) {
+    refuses_once_it_delegated::<Client<Ntlm>>(&rt, rt.alloc());
 }
 
-fn finds_no_credentials<E: End>(client: &mut E) -> Result<(), Fail> {
+fn finds_no_credentials<E: End>(rt: &impl Abort, client: &mut E) {
     let (kind, reason) = (ErrorKind::UnknownCredentials, Reason::Keytab);
-    refuses(client, TsRequest::default(), kind, reason, IDLE)
+    refuses(rt, client, TsRequest::default(), kind, reason, IDLE);
 }
 
-fn begins_without_a_key_table<E: ClientEnd>(alloc: Global) -> Result<(), Fail> {
+fn begins_without_a_key_table<E: ClientEnd>(rt: &impl Abort, alloc: Global) {
     let mode = CredSspMode::WithCredentials;
-    let mut client = E::make(alloc, keytab(alloc)?, mode, 6, &[1, 2, 3], 0)?;
-    finds_no_credentials(&mut client)?;
-    finds_no_credentials(&mut client)?;
-    expect(
+    let parts = client_parts(rt, alloc, keytab(rt, alloc), &KEY);
+    let mut client = E::make(alloc, parts, mode, 6, 0);
+    finds_no_credentials(rt, &mut client);
+    finds_no_credentials(rt, &mut client);
+    holds(
+        rt,
         !client.waiting() && client.requests_left() == 0,
         "a context",
     )
@@ -191,70 +206,77 @@ fn begins_without_a_key_table<E: ClientEnd>(alloc: Global) -> Result<(), Fail> {
 
 /// NTLM takes no key table, so the client comes to no context.
 #[test]
-fn of_a_key_table(rt: HostRuntime) -> Result<(), Fail> {
-    begins_without_a_key_table::<Client<Ntlm>>(rt.alloc())
+fn of_a_key_table(rt: HostRuntime) {
+    begins_without_a_key_table::<Client<Ntlm>>(&rt, rt.alloc());
 }
 
 /// A client that waits for the proof of a server of a mechanism that protects nothing.
-fn waits_for_proof<E: ClientEnd>(alloc: Global, credentials: Credentials) -> Result<E, Fail> {
+fn waits_for_proof<E: ClientEnd>(rt: &impl Abort, alloc: Global, credentials: Credentials) -> E {
     let mode = CredSspMode::WithCredentials;
-    let mut client = E::make(alloc, credentials, mode, 6, &[1, 2, 3], 0)?;
+    let parts = client_parts(rt, alloc, credentials, &KEY);
+    let mut client = E::make(alloc, parts, mode, 6, 0);
     let (kind, reason) = (ErrorKind::InternalError, Reason::NoVersion);
     let ended = stepped(Some(SecurityStatus::Ok));
-    refuses(&mut client, TsRequest::default(), kind, reason, ended)?;
-    let _ = replies(&mut client, TsRequest::default())?;
-    Ok(client)
+    refuses(rt, &mut client, TsRequest::default(), kind, reason, ended);
+    let _ = replies(rt, &mut client, TsRequest::default());
+    client
 }
 
 fn delegates_nothing<E: End>(
+    rt: &impl Abort,
     alloc: Global,
     client: &mut E,
     kind: ErrorKind,
     reason: Reason,
-) -> Result<(), Fail> {
-    let right = with_bare_proof(alloc, &SERVER_PROOF)?;
-    refuses(client, right, kind, reason, checked())
+) {
+    let right = with_bare_proof(rt, alloc, &SERVER_PROOF);
+    refuses(rt, client, right, kind, reason, checked());
 }
 
 /// The right proof is refused for these credentials, and refused again.
 fn delegates_none_of<E: ClientEnd>(
+    rt: &impl Abort,
     alloc: Global,
     credentials: Credentials,
     kind: ErrorKind,
     reason: Reason,
-) -> Result<(), Fail> {
-    let mut client = waits_for_proof::<E>(alloc, credentials)?;
-    delegates_nothing(alloc, &mut client, kind, reason)?;
-    delegates_nothing(alloc, &mut client, kind, reason)
+) {
+    let mut client = waits_for_proof::<E>(rt, alloc, credentials);
+    delegates_nothing(rt, alloc, &mut client, kind, reason);
+    delegates_nothing(rt, alloc, &mut client, kind, reason);
 }
 
-fn delegates_no_key_table<E: ClientEnd>(alloc: Global) -> Result<(), Fail> {
+fn delegates_no_key_table<E: ClientEnd>(rt: &impl Abort, alloc: Global) {
     let (kind, reason) = (ErrorKind::UnsupportedPreAuth, Reason::Keytab);
-    delegates_none_of::<E>(alloc, keytab(alloc)?, kind, reason)
+    delegates_none_of::<E>(rt, alloc, keytab(rt, alloc), kind, reason);
 }
 
 /// A mechanism may take a key table, but CredSSP has no text for it.
 #[test]
-fn of_a_key_table_to_delegate(rt: HostRuntime) -> Result<(), Fail> {
-    delegates_no_key_table::<Client<Asks<0>>>(rt.alloc())
+fn of_a_key_table_to_delegate(rt: HostRuntime) {
+    delegates_no_key_table::<Client<Asks<0>>>(&rt, rt.alloc());
 }
 
 /// The credentials of `DOM\ann` with a password of so many letters, whose text has a content of 45 bytes and two for each.
-fn with_letters(alloc: Global, letters: usize) -> Result<Credentials, Fail> {
-    let password = "a".repeat(alloc, letters)?;
-    Ok(Credentials::AuthIdentity(identity(alloc, "DOM\\ann", password.as_str())?))
+fn with_letters(rt: &impl Abort, alloc: Global, letters: usize) -> Credentials {
+    let password = given(rt, "a".repeat(alloc, letters));
+    Credentials::AuthIdentity(identity(rt, alloc, "DOM\\ann", password.as_str()))
 }
 
-fn delegates_up_to_the_limit<E: ClientEnd>(alloc: Global) -> Result<(), Fail> {
+fn delegates_up_to_the_limit<E: ClientEnd>(rt: &impl Abort, alloc: Global) {
     let (kind, reason) = (ErrorKind::InternalError, Reason::TooLong);
-    delegates_none_of::<E>(alloc, with_letters(alloc, 32744)?, kind, reason)?;
-    let mut client = waits_for_proof::<E>(alloc, with_letters(alloc, 32743)?)?;
-    let last = concludes(&mut client, with_bare_proof(alloc, &SERVER_PROOF)?)?;
-    expect(text_of(&last.auth_info).len() == 65535, "another length")
+    delegates_none_of::<E>(rt, alloc, with_letters(rt, alloc, 32744), kind, reason);
+    let mut client = waits_for_proof::<E>(rt, alloc, with_letters(rt, alloc, 32743));
+    let last = concludes(rt, &mut client, with_bare_proof(rt, alloc, &SERVER_PROOF));
+    holds(
+        rt,
+        text_of(&last.auth_info).len() == 65535,
+        "another length",
+    );
 }
 
 /// A content of 65533 bytes is too long, and one of 65531 is not.
 #[test]
-fn of_credentials_past_the_limit(rt: HostRuntime) -> Result<(), Fail> {
-    delegates_up_to_the_limit::<Client<Asks<0>>>(rt.alloc())
+fn of_credentials_past_the_limit(rt: HostRuntime) {
+    delegates_up_to_the_limit::<Client<Asks<0>>>(&rt, rt.alloc());
 }

@@ -1,6 +1,6 @@
 use crate::tests::ends::{
-    Client, ClientEnd, End, IDLE, KEY, Server, ServerEnd, ann, checked, concludes, expect,
-    finishes, identity, is_identity, is_spelled, replies, stepped, text_of,
+    Client, ClientEnd, End, IDLE, KEY, Server, ServerEnd, ann, client_parts, concludes, finishes,
+    gave, holds, is_identity, is_spelled, plain_client, plain_server, replies, stepped, text_of,
 };
 use crate::tests::values::{CHALLENGE, EMPTY_CREDENTIALS, FIFTH, FIRST, FOURTH, SECOND, THIRD};
 use sspi_credssp::Acts;
@@ -8,112 +8,105 @@ use sspi_mech::Ntlm;
 use sspi_tsreq::{CredSspMode, TsRequest};
 use sspi_types::SecurityStatus;
 use std::alloc::Global;
-use std::test::Fail;
+use std::process::Abort;
 
-fn client_did<E: End>(client: &mut E, acts: Acts, output: &[u8]) -> Result<(), Fail> {
-    expect(client.acts() == acts, "other acts of the client")?;
-    expect(
-        client.output().as_slice() == output,
-        "another token of the client",
-    )?;
-    expect(client.output().is_empty(), "a token is there twice")
+/// What the last call of this end did on its context, and the token that its step gave.
+fn did<E: End>(rt: &impl Abort, end: &mut E, acts: Acts, output: &[u8]) {
+    holds(rt, end.acts() == acts, "other acts");
+    gave(rt, end, output);
 }
 
-fn server_did<E: End>(server: &mut E, acts: Acts, output: &[u8]) -> Result<(), Fail> {
-    expect(server.acts() == acts, "other acts of the server")?;
-    expect(
-        server.output().as_slice() == output,
-        "another token of the server",
-    )?;
-    expect(server.output().is_empty(), "a token is there twice")
+fn spelled(rt: &impl Abort, alloc: Global, request: &TsRequest, bytes: &[u8]) {
+    holds(rt, is_spelled(alloc, request, bytes), "another message");
 }
 
 /// The first three messages.
 fn authenticates<C: End, S: End>(
+    rt: &impl Abort,
     alloc: Global,
     client: &mut C,
     server: &mut S,
-) -> Result<TsRequest, Fail> {
+) -> TsRequest {
     let going = stepped(Some(SecurityStatus::ContinueNeeded));
-    let first = replies(client, TsRequest::default())?;
-    expect(is_spelled(alloc, &first, &FIRST), "another first message")?;
-    client_did(client, going, b"N1")?;
-    let second = replies(server, first)?;
-    expect(
-        is_spelled(alloc, &second, &SECOND),
-        "another second message",
-    )?;
-    server_did(server, going, &CHALLENGE)?;
-    let third = replies(client, second)?;
-    expect(is_spelled(alloc, &third, &THIRD), "another third message")?;
+    let first = replies(rt, client, TsRequest::default());
+    spelled(rt, alloc, &first, &FIRST);
+    did(rt, client, going, b"N1");
+    let second = replies(rt, server, first);
+    spelled(rt, alloc, &second, &SECOND);
+    did(rt, server, going, &CHALLENGE);
+    let third = replies(rt, client, second);
+    spelled(rt, alloc, &third, &THIRD);
     let mut proved = stepped(Some(SecurityStatus::Ok));
     proved.proved = true;
-    client_did(client, proved, &THIRD[18..61])?;
-    Ok(third)
+    did(rt, client, proved, &THIRD[18..61]);
+    third
 }
 
 /// The exchange of the proofs and the credentials.
 fn exchanges<C: End, S: End>(
+    rt: &impl Abort,
     alloc: Global,
     client: &mut C,
     server: &mut S,
     third: TsRequest,
-) -> Result<(), Fail> {
-    let fourth = replies(server, third)?;
-    expect(
-        is_spelled(alloc, &fourth, &FOURTH),
-        "another fourth message",
-    )?;
+) {
+    let fourth = replies(rt, server, third);
+    spelled(rt, alloc, &fourth, &FOURTH);
     let mut exchanged = stepped(Some(SecurityStatus::CompleteNeeded));
     exchanged.checked = true;
     exchanged.proved = true;
-    server_did(server, exchanged, b"")?;
-    let fifth = concludes(client, fourth)?;
-    expect(is_spelled(alloc, &fifth, &FIFTH), "another fifth message")?;
+    did(rt, server, exchanged, b"");
+    let fifth = concludes(rt, client, fourth);
+    spelled(rt, alloc, &fifth, &FIFTH);
     let mut delegated = IDLE;
     delegated.checked = true;
     delegated.sealed = true;
-    client_did(client, delegated, b"")?;
-    let identity = finishes(server, fifth)?;
+    did(rt, client, delegated, b"");
+    let identity = finishes(rt, server, fifth);
     let mut opened = IDLE;
     opened.opened = true;
-    server_did(server, opened, b"")?;
-    expect(is_identity(&identity, "DOM\\ann", "pw"), "another identity")
+    did(rt, server, opened, b"");
+    holds(
+        rt,
+        is_identity(&identity, "DOM\\ann", "pw"),
+        "another identity",
+    );
 }
 
-fn delegates<C: ClientEnd, S: ServerEnd>(alloc: Global) -> Result<(), Fail> {
-    let mut client = C::plain(alloc)?;
-    let mut server = S::plain(alloc)?;
-    let third = authenticates(alloc, &mut client, &mut server)?;
-    exchanges(alloc, &mut client, &mut server, third)
+fn delegates<C: ClientEnd, S: ServerEnd>(rt: &impl Abort, alloc: Global) {
+    let mut client = plain_client::<C>(rt, alloc);
+    let mut server = plain_server::<S>(rt, alloc);
+    let third = authenticates(rt, alloc, &mut client, &mut server);
+    exchanges(rt, alloc, &mut client, &mut server, third);
 }
 
 #[test]
-fn five_messages(rt: HostRuntime) -> Result<(), Fail> {
-    delegates::<Client<Ntlm>, Server<Ntlm>>(rt.alloc())
+fn five_messages(rt: HostRuntime) {
+    delegates::<Client<Ntlm>, Server<Ntlm>>(&rt, rt.alloc());
 }
 
-fn hands_over_nobody<C: End, S: End>(client: &mut C, server: &mut S) -> Result<(), Fail> {
-    let first = replies(client, TsRequest::default())?;
-    let second = replies(server, first)?;
-    let third = replies(client, second)?;
-    let fourth = replies(server, third)?;
-    let fifth = concludes(client, fourth)?;
+fn hands_over_nobody<C: End, S: End>(rt: &impl Abort, client: &mut C, server: &mut S) {
+    let first = replies(rt, client, TsRequest::default());
+    let second = replies(rt, server, first);
+    let third = replies(rt, client, second);
+    let fourth = replies(rt, server, third);
+    let fifth = concludes(rt, client, fourth);
     let empty = text_of(&fifth.auth_info) == EMPTY_CREDENTIALS.as_slice();
-    expect(empty, "other credentials")?;
-    let identity = finishes(server, fifth)?;
-    expect(is_identity(&identity, "", ""), "another identity")
+    holds(rt, empty, "other credentials");
+    let identity = finishes(rt, server, fifth);
+    holds(rt, is_identity(&identity, "", ""), "another identity");
 }
 
-fn delegates_nobody<C: ClientEnd, S: ServerEnd>(alloc: Global) -> Result<(), Fail> {
+fn delegates_nobody<C: ClientEnd, S: ServerEnd>(rt: &impl Abort, alloc: Global) {
     let mode = CredSspMode::CredentialLess;
-    let mut client = C::make(alloc, ann(alloc)?, mode, 6, &KEY, 0)?;
-    let mut server = S::plain(alloc)?;
-    hands_over_nobody(&mut client, &mut server)
+    let parts = client_parts(rt, alloc, ann(rt, alloc), &KEY);
+    let mut client = C::make(alloc, parts, mode, 6, 0);
+    let mut server = plain_server::<S>(rt, alloc);
+    hands_over_nobody(rt, &mut client, &mut server);
 }
 
 /// A client that keeps its credentials seals empty ones.
 #[test]
-fn without_credentials(rt: HostRuntime) -> Result<(), Fail> {
-    delegates_nobody::<Client<Ntlm>, Server<Ntlm>>(rt.alloc())
+fn without_credentials(rt: HostRuntime) {
+    delegates_nobody::<Client<Ntlm>, Server<Ntlm>>(&rt, rt.alloc());
 }

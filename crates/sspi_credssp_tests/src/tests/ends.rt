@@ -9,7 +9,7 @@ use sspi_names::{AuthIdentity, Credentials, KeytabIdentity, NetworkRequest, User
 use sspi_tsreq::{CredSspMode, TsRequest};
 use sspi_types::{Bytes, Error, ErrorKind, Reason, Secret, SecurityStatus, Text};
 use std::alloc::{AllocError, Global};
-use std::test::Fail;
+use std::process::Abort;
 
 /// What a call of an end came to.
 #[derive(Drop)]
@@ -35,19 +35,21 @@ pub trait End: Sized + Drop {
     fn output(&mut self) -> Bytes;
 }
 
+/// What a client of the tests is made of.
+#[derive(Drop)]
+pub struct ClientParts {
+    pub key: Vec<u8>,
+    pub credentials: Credentials,
+    pub config: NtlmConfig,
+    pub target: String,
+}
+
 pub trait ClientEnd: End {
     /// A client of version 6 with credentials to delegate, whose nonce is zero.
-    fn plain(alloc: Global) -> Result<Self, Fail>;
+    fn plain(alloc: Global, parts: ClientParts) -> Self;
 
-    /// A client of this version over a channel of this key, whose nonce repeats a byte.
-    fn make(
-        alloc: Global,
-        credentials: Credentials,
-        mode: CredSspMode,
-        version: u32,
-        key: &[u8],
-        nonce: u8,
-    ) -> Result<Self, Fail>;
+    /// A client of this version, whose nonce repeats a byte.
+    fn make(alloc: Global, parts: ClientParts, mode: CredSspMode, version: u32, nonce: u8) -> Self;
 
     fn resume(&mut self, reply: &Reply) -> Said;
 
@@ -56,12 +58,20 @@ pub trait ClientEnd: End {
     fn requests_left(&self) -> u64;
 }
 
-pub trait ServerEnd: End {
-    /// A server of version 6 that knows its client.
-    fn plain(alloc: Global) -> Result<Self, Fail>;
+/// What a server of the tests is made of.
+#[derive(Drop)]
+pub struct ServerParts {
+    pub key: Vec<u8>,
+    pub proxy: TableProxy,
+    pub config: NtlmConfig,
+}
 
-    /// A server of this version over a channel of this key.
-    fn make(alloc: Global, proxy: TableProxy, version: u32, key: &[u8]) -> Result<Self, Fail>;
+pub trait ServerEnd: End {
+    /// A server of version 6.
+    fn plain(alloc: Global, parts: ServerParts) -> Self;
+
+    /// A server of this version.
+    fn make(alloc: Global, parts: ServerParts, version: u32) -> Self;
 }
 
 fn said_by_client(progress: Result<Progress, Error>) -> Said {
@@ -88,41 +98,29 @@ impl<N: Mechanism, K: Mechanism> End for CredSspClient<N, K> {
 }
 
 impl<N: Mechanism, K: Mechanism> ClientEnd for CredSspClient<N, K> {
-    fn plain(alloc: Global) -> Result<Self, Fail> {
-        let key = Vec::from_slice(alloc, &KEY)?;
-        let (ann, config, target) = (ann(alloc)?, config(alloc)?, target(alloc)?);
-        let mode = CredSspMode::WithCredentials;
-        Ok(CredSspClient::new(
+    fn plain(alloc: Global, parts: ClientParts) -> Self {
+        CredSspClient::new(
             alloc,
-            key,
-            ann,
-            mode,
-            ClientMode::Ntlm(config),
-            target,
+            parts.key,
+            parts.credentials,
+            CredSspMode::WithCredentials,
+            ClientMode::Ntlm(parts.config),
+            parts.target,
             [0; 32],
-        ))
+        )
     }
 
-    fn make(
-        alloc: Global,
-        credentials: Credentials,
-        mode: CredSspMode,
-        version: u32,
-        key: &[u8],
-        nonce: u8,
-    ) -> Result<Self, Fail> {
-        let key = Vec::from_slice(alloc, key)?;
-        let (config, target) = (config(alloc)?, target(alloc)?);
-        Ok(CredSspClient::new_with_version(
+    fn make(alloc: Global, parts: ClientParts, mode: CredSspMode, version: u32, nonce: u8) -> Self {
+        CredSspClient::new_with_version(
             alloc,
-            key,
-            credentials,
+            parts.key,
+            parts.credentials,
             mode,
             version,
-            ClientMode::Ntlm(config),
-            target,
+            ClientMode::Ntlm(parts.config),
+            parts.target,
             [nonce; 32],
-        ))
+        )
     }
 
     fn resume(&mut self, reply: &Reply) -> Said {
@@ -157,16 +155,14 @@ impl<N: Mechanism, K: Mechanism, C: CredentialsProxy> End for CredSspServer<N, K
 }
 
 impl<N: Mechanism, K: Mechanism> ServerEnd for CredSspServer<N, K, TableProxy> {
-    fn plain(alloc: Global) -> Result<Self, Fail> {
-        let key = Vec::from_slice(alloc, &KEY)?;
-        let (proxy, config) = (account(alloc, "DOM\\ann", "pw")?, config(alloc)?);
-        Ok(CredSspServer::new(alloc, key, proxy, ServerMode::Ntlm(config)))
+    fn plain(alloc: Global, parts: ServerParts) -> Self {
+        let mode = ServerMode::Ntlm(parts.config);
+        CredSspServer::new(alloc, parts.key, parts.proxy, mode)
     }
 
-    fn make(alloc: Global, proxy: TableProxy, version: u32, key: &[u8]) -> Result<Self, Fail> {
-        let key = Vec::from_slice(alloc, key)?;
-        let mode = ServerMode::Ntlm(config(alloc)?);
-        Ok(CredSspServer::new_with_version(alloc, key, proxy, version, mode))
+    fn make(alloc: Global, parts: ServerParts, version: u32) -> Self {
+        let mode = ServerMode::Ntlm(parts.config);
+        CredSspServer::new_with_version(alloc, parts.key, parts.proxy, version, mode)
     }
 }
 
@@ -204,67 +200,144 @@ pub fn checked() -> Acts {
     acts
 }
 
-/// Gives the test up unless this holds.
-pub fn expect(holds: bool, what: &'static str) -> Result<(), Fail> {
-    if holds { Ok(()) } else { Err(Fail::from(what)) }
+/// Ends the test unless this holds.
+pub fn holds(rt: &impl Abort, fact: bool, what: &str) {
+    assert!(rt; fact, "{what}");
 }
 
-pub fn identity(alloc: Global, name: &str, password: &str) -> Result<AuthIdentity, Fail> {
-    let username = Username::parse(alloc, name).ok().ok_or("a name")?;
-    let password = Secret::from(Text::from_text(alloc, password)?);
-    Ok(AuthIdentity { username, password })
+/// The value of a call that is not to be refused.
+pub fn given<T, E: Drop>(rt: &impl Abort, answer: Result<T, E>) -> T {
+    match answer {
+        Ok(value) => value,
+        Err(_) => rt.abort(),
+    }
 }
 
-pub fn ann(alloc: Global) -> Result<Credentials, Fail> {
-    Ok(Credentials::AuthIdentity(identity(alloc, "DOM\\ann", "pw")?))
+pub fn bytes(rt: &impl Abort, alloc: Global, bytes: &[u8]) -> Vec<u8> {
+    given(rt, Vec::from_slice(alloc, bytes))
 }
 
-pub fn keytab(alloc: Global) -> Result<Credentials, Fail> {
-    Ok(Credentials::Keytab(KeytabIdentity {
-        username: Username::parse(alloc, "ann").ok().ok_or("a name")?,
+fn text(rt: &impl Abort, alloc: Global, text: &str) -> Text {
+    given(rt, Text::from_text(alloc, text))
+}
+
+pub fn name(rt: &impl Abort, alloc: Global, name: &str) -> Username {
+    given(rt, Username::parse(alloc, name))
+}
+
+pub fn identity(rt: &impl Abort, alloc: Global, user: &str, password: &str) -> AuthIdentity {
+    let username = name(rt, alloc, user);
+    let password = Secret::from(text(rt, alloc, password));
+    AuthIdentity { username, password }
+}
+
+pub fn ann(rt: &impl Abort, alloc: Global) -> Credentials {
+    Credentials::AuthIdentity(identity(rt, alloc, "DOM\\ann", "pw"))
+}
+
+pub fn keytab(rt: &impl Abort, alloc: Global) -> Credentials {
+    Credentials::Keytab(KeytabIdentity {
+        username: name(rt, alloc, "ann"),
         keytab: Bytes::new(alloc),
-    }))
+    })
 }
 
-fn config(alloc: Global) -> Result<NtlmConfig, AllocError> {
-    Ok(NtlmConfig::new(Text::from_text(alloc, "computer")?))
+fn config(rt: &impl Abort, alloc: Global) -> NtlmConfig {
+    NtlmConfig::new(text(rt, alloc, "computer"))
 }
 
-fn target(alloc: Global) -> Result<String, AllocError> {
-    Ok(Text::from_text(alloc, "TERMSRV/host")?.into_inner())
+fn target(rt: &impl Abort, alloc: Global) -> String {
+    text(rt, alloc, "TERMSRV/host").into_inner()
+}
+
+/// These identities, with the password of each behind its name.
+pub fn identities(rt: &impl Abort, alloc: Global, names: &[(&str, &str)]) -> Vec<AuthIdentity> {
+    let mut entries = Vec::new(alloc);
+    for (user, password) in names.iter() {
+        given(rt, entries.push(identity(rt, alloc, *user, *password)));
+    }
+    entries
+}
+
+/// A proxy over these identities. The calls of these numbers fail.
+pub fn table(
+    rt: &impl Abort,
+    alloc: Global,
+    names: &[(&str, &str)],
+    failing: &[u64],
+) -> TableProxy {
+    let entries = identities(rt, alloc, names);
+    TableProxy::new(alloc, entries, given(rt, Vec::from_slice(alloc, failing)))
 }
 
 /// A proxy over one identity of this name and password.
-pub fn account(alloc: Global, name: &str, password: &str) -> Result<TableProxy, Fail> {
-    let mut entries = Vec::new(alloc);
-    entries.push(identity(alloc, name, password)?)?;
-    Ok(TableProxy::new(alloc, entries, Vec::new(alloc)))
+pub fn account(rt: &impl Abort, alloc: Global, user: &str, password: &str) -> TableProxy {
+    table(rt, alloc, &[(user, password)], &[])
 }
 
-pub fn octets(alloc: Global, bytes: &[u8]) -> Result<Option<Bytes>, AllocError> {
-    Ok(Some(Bytes::from_slice(alloc, bytes)?))
+/// The parts of a client with these credentials, over a channel of this key.
+pub fn client_parts(
+    rt: &impl Abort,
+    alloc: Global,
+    credentials: Credentials,
+    key: &[u8],
+) -> ClientParts {
+    ClientParts {
+        key: bytes(rt, alloc, key),
+        credentials,
+        config: config(rt, alloc),
+        target: target(rt, alloc),
+    }
+}
+
+/// A client of version 6 with the credentials of `DOM\ann`.
+pub fn plain_client<E: ClientEnd>(rt: &impl Abort, alloc: Global) -> E {
+    E::plain(alloc, client_parts(rt, alloc, ann(rt, alloc), &KEY))
+}
+
+/// The parts of a server that looks its client up here, over a channel of this key.
+pub fn server_parts(rt: &impl Abort, alloc: Global, proxy: TableProxy, key: &[u8]) -> ServerParts {
+    ServerParts {
+        key: bytes(rt, alloc, key),
+        proxy,
+        config: config(rt, alloc),
+    }
+}
+
+/// A server of version 6 that looks its client up here.
+pub fn server_over<E: ServerEnd>(rt: &impl Abort, alloc: Global, proxy: TableProxy) -> E {
+    E::plain(alloc, server_parts(rt, alloc, proxy, &KEY))
+}
+
+/// A server of version 6 that knows its client.
+pub fn plain_server<E: ServerEnd>(rt: &impl Abort, alloc: Global) -> E {
+    server_over(rt, alloc, account(rt, alloc, "DOM\\ann", "pw"))
+}
+
+pub fn octets(rt: &impl Abort, alloc: Global, bytes: &[u8]) -> Option<Bytes> {
+    Some(given(rt, Bytes::from_slice(alloc, bytes)))
 }
 
 /// A request of version 6 with this token.
-pub fn with_token(alloc: Global, token: &[u8]) -> Result<TsRequest, AllocError> {
+pub fn with_token(rt: &impl Abort, alloc: Global, token: &[u8]) -> TsRequest {
     let mut request = TsRequest::default();
-    request.nego_tokens = octets(alloc, token)?;
-    Ok(request)
+    request.nego_tokens = octets(rt, alloc, token);
+    request
 }
 
 /// A request of version 6 with this proof and a nonce of zeros.
-pub fn with_proof(alloc: Global, blob: &[u8]) -> Result<TsRequest, AllocError> {
+pub fn with_proof(rt: &impl Abort, alloc: Global, blob: &[u8]) -> TsRequest {
     let mut request = TsRequest::default();
-    request.pub_key_auth = octets(alloc, blob)?;
+    request.pub_key_auth = octets(rt, alloc, blob);
     request.client_nonce = Some([0; 32]);
-    Ok(request)
+    request
 }
 
 /// A request of version 6 with these credentials.
-pub fn with_credentials(alloc: Global, blob: &[u8]) -> Result<TsRequest, AllocError> {
+pub fn with_credentials(rt: &impl Abort, alloc: Global, blob: &[u8]) -> TsRequest {
     let mut request = TsRequest::default();
-    request.auth_info = octets(alloc, blob)?;
-    Ok(request)
+    request.auth_info = octets(rt, alloc, blob);
+    request
 }
 
 /// This request in another version.
@@ -274,26 +347,26 @@ pub fn at(version: u32, request: TsRequest) -> TsRequest {
     request
 }
 
-/// The blob of a mechanism that protects nothing.
-pub fn bare_blob(alloc: Global, text: &[u8]) -> Result<Bytes, AllocError> {
+fn with_zeros(alloc: Global, text: &[u8]) -> Result<Bytes, AllocError> {
     let mut blob = Bytes::from_slice(alloc, &[0; 16])?;
     blob.push_slice(text)?;
     Ok(blob)
 }
 
+/// The blob of a mechanism that protects nothing.
+pub fn bare_blob(rt: &impl Abort, alloc: Global, text: &[u8]) -> Bytes {
+    given(rt, with_zeros(alloc, text))
+}
+
 /// A request of version 6 with this proof in such a blob, and a nonce of zeros.
-pub fn with_bare_proof(alloc: Global, text: &[u8]) -> Result<TsRequest, AllocError> {
-    let blob = bare_blob(alloc, text)?;
-    with_proof(alloc, blob.as_slice())
+pub fn with_bare_proof(rt: &impl Abort, alloc: Global, text: &[u8]) -> TsRequest {
+    let blob = bare_blob(rt, alloc, text);
+    with_proof(rt, alloc, blob.as_slice())
 }
 
 /// The message that is spelled so.
-pub fn read(alloc: Global, bytes: &[u8]) -> Result<TsRequest, Fail> {
-    Ok(
-        TsRequest::from_buffer(alloc, bytes)
-            .ok()
-            .ok_or("a request")?,
-    )
+pub fn read(rt: &impl Abort, alloc: Global, bytes: &[u8]) -> TsRequest {
+    given(rt, TsRequest::from_buffer(alloc, bytes))
 }
 
 /// Whether this message is spelled so.
@@ -304,80 +377,95 @@ pub fn is_spelled(alloc: Global, request: &TsRequest, bytes: &[u8]) -> bool {
     }
 }
 
-pub fn reply_of(said: Said) -> Result<TsRequest, Fail> {
+pub fn reply_of(rt: &impl Abort, said: Said) -> TsRequest {
     match said {
-        Said::Reply(request) => Ok(request),
-        _ => Err(Fail::from("no reply")),
+        Said::Reply(request) => request,
+        _ => rt.abort(),
     }
 }
 
 /// The message that waits for an answer.
-pub fn replies<E: End>(end: &mut E, request: TsRequest) -> Result<TsRequest, Fail> {
-    reply_of(end.process(request))
+pub fn replies<E: End>(rt: &impl Abort, end: &mut E, request: TsRequest) -> TsRequest {
+    reply_of(rt, end.process(request))
+}
+
+fn last_of(rt: &impl Abort, said: Said) -> TsRequest {
+    match said {
+        Said::Last(request) => request,
+        _ => rt.abort(),
+    }
 }
 
 /// The client's last message.
-pub fn concludes<E: End>(client: &mut E, request: TsRequest) -> Result<TsRequest, Fail> {
-    match client.process(request) {
-        Said::Last(request) => Ok(request),
-        _ => Err(Fail::from("no last message")),
+pub fn concludes<E: End>(rt: &impl Abort, client: &mut E, request: TsRequest) -> TsRequest {
+    last_of(rt, client.process(request))
+}
+
+fn identity_of(rt: &impl Abort, said: Said) -> AuthIdentity {
+    match said {
+        Said::Identity(identity) => identity,
+        _ => rt.abort(),
     }
 }
 
 /// The delegated credentials.
-pub fn finishes<E: End>(server: &mut E, request: TsRequest) -> Result<AuthIdentity, Fail> {
-    match server.process(request) {
-        Said::Identity(identity) => Ok(identity),
-        _ => Err(Fail::from("no identity")),
-    }
+pub fn finishes<E: End>(rt: &impl Abort, server: &mut E, request: TsRequest) -> AuthIdentity {
+    identity_of(rt, server.process(request))
 }
 
-pub fn is_refusal(said: Said, error: Error) -> Result<(), Fail> {
+pub fn is_refusal(rt: &impl Abort, said: Said, error: Error) {
     match said {
-        Said::Refusal(refusal, None) => expect(refusal == error, "another refusal"),
-        _ => Err(Fail::from("not refused")),
+        Said::Refusal(refusal, None) => holds(rt, refusal == error, "another refusal"),
+        _ => rt.abort(),
     }
 }
 
 /// The client refuses this request so, and did this on its context.
 pub fn refuses<E: End>(
+    rt: &impl Abort,
     client: &mut E,
     request: TsRequest,
     kind: ErrorKind,
     reason: Reason,
     acts: Acts,
-) -> Result<(), Fail> {
-    is_refusal(client.process(request), Error::new(kind, reason))?;
-    expect(client.acts() == acts, "other acts")
+) {
+    is_refusal(rt, client.process(request), Error::new(kind, reason));
+    holds(rt, client.acts() == acts, "other acts");
 }
 
-fn handed_back(said: Said, error: Error) -> Result<TsRequest, Fail> {
+fn handed_back(rt: &impl Abort, said: Said, error: Error) -> TsRequest {
     match said {
         Said::Refusal(refusal, Some(request)) => {
-            expect(refusal == error, "another refusal")?;
-            Ok(request)
+            holds(rt, refusal == error, "another refusal");
+            request
         }
-        _ => Err(Fail::from("not refused")),
+        _ => rt.abort(),
     }
 }
 
 /// The request that the server hands back where it refuses this one so, and did this on its context.
 pub fn hands_back<E: End>(
+    rt: &impl Abort,
     server: &mut E,
     request: TsRequest,
     kind: ErrorKind,
     reason: Reason,
     acts: Acts,
-) -> Result<TsRequest, Fail> {
+) -> TsRequest {
     let said = server.process(request);
-    expect(server.acts() == acts, "other acts")?;
-    handed_back(said, Error::new(kind, reason))
+    holds(rt, server.acts() == acts, "other acts");
+    handed_back(rt, said, Error::new(kind, reason))
+}
+
+/// The last call of this end gave this token, which is there once.
+pub fn gave<E: End>(rt: &impl Abort, end: &mut E, token: &[u8]) {
+    holds(rt, end.output().as_slice() == token, "another token");
+    holds(rt, end.output().is_empty(), "a token at the second call");
 }
 
 /// The last call of this end gave no token, whatever the calls before it gave.
-pub fn has_no_token<E: End>(end: &mut E) -> Result<(), Fail> {
-    expect(end.output().is_empty(), "a token of an earlier step")?;
-    expect(end.output().is_empty(), "a token at the second call")
+pub fn has_no_token<E: End>(rt: &impl Abort, end: &mut E) {
+    gave(rt, end, b"");
 }
 
 /// The text behind the tag of a sealed blob.

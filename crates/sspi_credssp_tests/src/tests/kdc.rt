@@ -1,13 +1,13 @@
 //! A whole exchange whose client asks a KDC: once in its first turn, and once in its second.
 
 use crate::tests::asks::Asks;
-use crate::tests::ends::{Client, ClientEnd, Server, ServerEnd, expect, is_identity};
+use crate::tests::ends::{Client, Server, holds, is_identity, plain_client, plain_server};
 use sspi_delegate::{DelegateError, Delegation, MemoryLink, Transcript, delegate};
 use sspi_mech::{Kdc, KdcError, Mechanism};
 use sspi_names::NetworkRequest;
 use sspi_types::ErrorKind;
 use std::alloc::Global;
-use std::test::Fail;
+use std::process::Abort;
 
 /// What a KDC does at each call.
 #[derive(Clone, Copy, PartialEq, Eq)]
@@ -60,9 +60,12 @@ struct Exchanged {
     waits: bool,
 }
 
-fn exchange<M: Mechanism>(alloc: Global, usual: Usual) -> Result<Exchanged, Fail> {
-    let mut client = <Client<M> as ClientEnd>::plain(alloc)?;
-    let mut server = <Server<M> as ServerEnd>::plain(alloc)?;
+fn exchange<M: Mechanism>(
+    alloc: Global,
+    client: &mut Client<M>,
+    server: &mut Server<M>,
+    usual: Usual,
+) -> Exchanged {
     let mut link = MemoryLink::new(alloc, Vec::new(alloc));
     let mut kdc = TestKdc {
         alloc,
@@ -73,68 +76,74 @@ fn exchange<M: Mechanism>(alloc: Global, usual: Usual) -> Result<Exchanged, Fail
     let mut transcript = Transcript::new(alloc);
     let answer = delegate(
         alloc,
-        &mut client,
-        &mut server,
+        client,
+        server,
         &mut link,
         &mut kdc,
         5,
         &mut transcript,
     );
-    Ok(Exchanged {
+    Exchanged {
         answer,
         turns: transcript.turns().len(),
         calls: kdc.calls,
         waits: client.waiting(),
-    })
+    }
 }
 
-fn delegates<M: Mechanism>(alloc: Global) -> Result<(), Fail> {
-    let exchanged = exchange::<M>(alloc, Usual::Answers)?;
-    expect(
-        exchanged.turns == 6 && exchanged.calls == 2 && !exchanged.waits,
-        "another exchange",
-    )?;
-    match exchanged.answer {
-        Ok(delegation) => expect(
-            delegation.turns == 3 && is_identity(&delegation.credentials, "DOM\\ann", "pw"),
-            "another identity",
-        ),
-        Err(_) => Err(Fail::from("refused")),
+fn exchanged<M: Mechanism>(rt: &impl Abort, alloc: Global, usual: Usual) -> Exchanged {
+    let mut client = plain_client::<Client<M>>(rt, alloc);
+    let mut server = plain_server::<Server<M>>(rt, alloc);
+    exchange(alloc, &mut client, &mut server, usual)
+}
+
+/// So many turns are recorded, the KDC was asked so often, and the client was left waiting or not.
+fn came_to(exchanged: &Exchanged, turns: usize, calls: u64, waits: bool) -> bool {
+    exchanged.turns == turns && exchanged.calls == calls && exchanged.waits == waits
+}
+
+fn delegates_ann(answer: &Result<Delegation, DelegateError>) -> bool {
+    match answer {
+        Ok(delegation) => {
+            delegation.turns == 3 && is_identity(&delegation.credentials, "DOM\\ann", "pw")
+        }
+        Err(_) => false,
+    }
+}
+
+fn delegates<M: Mechanism>(rt: &impl Abort, alloc: Global) {
+    let exchanged = exchanged::<M>(rt, alloc, Usual::Answers);
+    holds(rt, came_to(&exchanged, 6, 2, false), "another exchange");
+    holds(rt, delegates_ann(&exchanged.answer), "another identity");
+}
+
+fn lacks_kdc(answer: &Result<Delegation, DelegateError>) -> bool {
+    match answer {
+        Err(DelegateError::Client(error)) => {
+            error.error_type == ErrorKind::NoAuthenticatingAuthority
+        }
+        _ => false,
     }
 }
 
 /// A failed call is told to the client, which refuses the turn for it and would still take an answer.
-fn is_refused<M: Mechanism>(alloc: Global) -> Result<(), Fail> {
-    let exchanged = exchange::<M>(alloc, Usual::Fails)?;
-    expect(
-        exchanged.turns == 1 && exchanged.calls == 1 && exchanged.waits,
-        "another exchange",
-    )?;
-    match exchanged.answer {
-        Err(DelegateError::Client(error)) => expect(
-            error.error_type == ErrorKind::NoAuthenticatingAuthority,
-            "another kind",
-        ),
-        _ => Err(Fail::from("another answer")),
-    }
+fn is_refused<M: Mechanism>(rt: &impl Abort, alloc: Global) {
+    let exchanged = exchanged::<M>(rt, alloc, Usual::Fails);
+    holds(rt, came_to(&exchanged, 1, 1, true), "another exchange");
+    holds(rt, lacks_kdc(&exchanged.answer), "another kind");
 }
 
 /// A KDC without memory ends the exchange, and no turn is recorded.
-fn is_given_up<M: Mechanism>(alloc: Global) -> Result<(), Fail> {
-    let exchanged = exchange::<M>(alloc, Usual::HasNoMemory)?;
-    expect(
-        exchanged.turns == 0 && exchanged.calls == 1 && exchanged.waits,
-        "another exchange",
-    )?;
-    match exchanged.answer {
-        Err(DelegateError::InsufficientMemory) => Ok(()),
-        _ => Err(Fail::from("another answer")),
-    }
+fn is_given_up<M: Mechanism>(rt: &impl Abort, alloc: Global) {
+    let exchanged = exchanged::<M>(rt, alloc, Usual::HasNoMemory);
+    holds(rt, came_to(&exchanged, 0, 1, true), "another exchange");
+    let lost = matches!(&exchanged.answer, Err(DelegateError::InsufficientMemory));
+    holds(rt, lost, "another answer");
 }
 
 #[test]
-fn an_exchange_asks_its_kdc(rt: HostRuntime) -> Result<(), Fail> {
-    delegates::<Asks<2>>(rt.alloc())?;
-    is_refused::<Asks<2>>(rt.alloc())?;
-    is_given_up::<Asks<2>>(rt.alloc())
+fn an_exchange_asks_its_kdc(rt: HostRuntime) {
+    delegates::<Asks<2>>(&rt, rt.alloc());
+    is_refused::<Asks<2>>(&rt, rt.alloc());
+    is_given_up::<Asks<2>>(&rt, rt.alloc());
 }
