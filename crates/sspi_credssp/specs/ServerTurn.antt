@@ -40,7 +40,7 @@ MayCheck PubKeyInfo status = Unit {0}
 MayCheck AuthInfo status = ⊥
 MayCheck Final status = ⊥
 
--- from version 5 on the nonce is there
+-- a version below 5 needs no nonce, and any other needs one of 32 bytes
 abbrev pub HasNonce : Bool → Option (List ℕ) → Type 0
 HasNonce true sent_nonce = Unit {0}
 HasNonce false None = ⊥

@@ -186,8 +186,8 @@ impl<N: Mechanism, K: Mechanism> CredSspClient<N, K> {
     /// Refused: `OutOfSequence` while a turn is suspended and once the last message was made; `InvalidToken`, with the code
     /// as its status, where the server reports an error; `MessageAltered` where the server changes its version or its proof
     /// is not the right one; `InvalidToken` where the proof is absent or too short; `InternalError` where the authentication
-    /// ends before a version was noted; and with the kinds of the context, of the credentials' text, and want of memory. A
-    /// refusal gives the request up, and keeps the state, the mode and the acquired credentials.
+    /// ends before a version was noted; and with the kinds of the context, of the credentials' text, and want of memory. After
+    /// a refusal the state, the mode and the acquired credentials are as before, and the request is dropped.
     pub fn process(&mut self, ts_request: TsRequest) -> Result<Progress, Error>
         ensures turn { ClientGoes (either N.meaning K.meaning) self.old ts_request result self.new }
         ensures step { HasStepped (either N.meaning K.meaning) self.old ts_request 0 [] result self.new }
@@ -225,8 +225,8 @@ impl<N: Mechanism, K: Mechanism> CredSspClient<N, K> {
     ///
     /// Where no turn is suspended that is `OutOfSequence` and changes nothing. Else it is refused with the kinds of the
     /// context's step; with `InternalError` where the authentication ends before a version was noted; with the kinds of
-    /// sealing the proof; and for want of memory. After a refusal the client waits exactly where its context still waits; it
-    /// then keeps the request, and a later call goes on with it.
+    /// sealing the proof; and for want of memory. A refused client is suspended still where its context is, and nowhere else:
+    /// the request stays in it, and a later call goes on from there.
     pub fn resume(&mut self, reply: &Reply) -> Result<Progress, Error>
         ensures same { SameClient (either N.meaning K.meaning) self.old self.new }
         ensures turn { let c = either N.meaning K.meaning in (start : ClientView (SspiContext N K)) (d : TsRequest) →

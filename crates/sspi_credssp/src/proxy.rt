@@ -16,8 +16,8 @@ pub enum ProxyError {
 
 /// Where a server looks up the identities of its peers.
 ///
-/// Names are compared by form, account and domain, without the case of ASCII letters. `Failed` is answered only where the
-/// count of faults rose in this call, or stands at its last value.
+/// Names are compared by form, account and domain, without the case of ASCII letters. A call that answers `Failed` has raised
+/// the count of faults, but for one that found it as high as it goes.
 pub trait CredentialsProxy: Drop {
     ghost use Rattle.std.specs.Prelude.{ℕ, List, Option};
     ghost use Rattle.sspi_names.specs.declared.identity.AuthIdentity.{AuthIdentity};

@@ -1,4 +1,5 @@
-// How a request becomes the reply to it: the fields that a step does not set go back as they came, and none is copied.
+// How a request becomes the reply to it: it is changed in place, so each field that nobody sets is sent back unaltered and
+// uncopied.
 ghost use Rattle.std.specs.Prelude.{◌≡◌, Some, None};
 
 use sspi_tsreq::TsRequest;

@@ -1,5 +1,5 @@
--- A client's turn over one context is a turn over another that differs in its counts alone, or over any where it says
--- nothing of the context.
+-- A client's turn stays a turn where its context is exchanged for one that is equal but for the counts, or for any other
+-- where the turn says nothing of the context.
 use Rattle.std.proofs.Common.{◌≡◌, ℕ, true, List, sym, ◌∙◌, ap, subst, Option, None, Some, Result, Ok, Err}
 use Rattle.sspi_mech.specs.Context.{IsContext}
 use Rattle.sspi_mech.specs.Meaning.{Meaning}

@@ -25,7 +25,7 @@ use Rattle.sspi_delegate.specs.Messages.{newest_message, AnswerTold}
 use Rattle.sspi_delegate.specs.Refusals.{RefusedBy, KdcStays, ProxyStays}
 use Rattle.sspi_delegate.specs.ServerRun.{server_end, GivesNewest}
 
--- what proxy, link and KDC tell of themselves
+-- what is told by the three round the ends: the proxy, the link and the KDC
 pub record Around (P L D : Type 0) : Type 0 where
   -- the entries of the proxy, which of its calls fail, and how many did
   pub entries : P → Option (List AuthIdentity)

@@ -25,7 +25,7 @@ use Rattle.sspi_delegate.specs.declared.answer.DelegateError.TheVariants as erro
 use Rattle.sspi_delegate.specs.ClientRun.{ClientFollows}
 use Rattle.sspi_delegate.specs.ServerRun.{ServerFollows}
 
--- what calls on a proxy leave: what it tells, and a count of faults that never falls, and stays where no failing call is told
+-- what calls on a proxy leave: what it tells stays, and its count of faults does not fall, nor rise where it tells that no call fails
 pub record ProxyStays {P : Type 0} (told : P → Option (List AuthIdentity)) (failing : P → Option (List ℕ)) (faults : P → ℕ) (old new : P) : Type 0 where
   pub told_same : told new ≡ told old
   pub failing_same : failing new ≡ failing old

@@ -10,7 +10,7 @@ use std::marker::Model;
 
 /// A link in memory: it delivers what was sent, but for its edits, and it fails only where one of them says so.
 ///
-/// The edits of one entry apply in their order, each to what the one before gives.
+/// Where several edits name one entry, the first changes what was sent, and each further one the result so far.
 #[derive(Drop)]
 pub struct MemoryLink {
     alloc: Global,

@@ -9,7 +9,7 @@ use Rattle.sspi_mech.specs.NtlmStage.{NtlmState, own_direction, peer_direction}
 use Rattle.sspi_mech.specs.Protection.{SealsBy, SignsBy}
 use Rattle.sspi_mech.proofs.Opened as opened
 
--- what opens is the blob without its first 16 bytes
+-- of what opens, the text is all that stands behind the tag
 pub opened_is_body : (m : NtlmState) (n : ℕ) (blob text : List ℕ) → ntlm_meaning.opens m n blob text → text ≡ drop 16 blob
 opened_is_body m n blob text opens = opened.opened_is_body m.protection.key (peer_direction m.stage) n blob text opens
 

@@ -16,8 +16,8 @@ AskCause before now (Ok x) = before ≤ now
 AskCause before now (Err errors.Failed) = (before ≤ now) × (counted_on before ≤ now)
 AskCause before now (Err errors.InsufficientMemory) = before ≤ now
 
--- where the replies are told, by the number of the call, the answer is the one that is told: it fails exactly where that
--- says so, and the count of faults rises nowhere else
+-- where the replies are told, by the number of the call, the answer is the one that is told: a call fails exactly where it
+-- is told to, and no other call is counted as a fault
 abbrev pub IsTold : {A : Type 0} → Option (ℕ → NetworkRequest → Reply) → ℕ → NetworkRequest → ℕ → ℕ → Result (Vec ℕ A) KdcError → Type 0
 IsTold None call request before now answer = Unit {0}
 IsTold (Some told) call request before now (Ok reply) = (told call request ≡ replies.Answered reply.items) × (now ≡ before)

@@ -51,7 +51,7 @@ abbrev pub taken : (List Credentials → List Credentials) → Call → Call
 taken some (ToIdentify identities) = ToIdentify (some identities)
 taken some call = call
 
--- the same, handed some of the identities that its caller hands it
+-- the same, where of the identities that are handed in only some reach it
 abbrev pub taking : {S C : Type 0} → (List Credentials → List Credentials) → Meaning S C → Meaning S C
 taking some c = record c {
   identifies = λ m identities m2. c.identifies m (some identities) m2;
@@ -59,7 +59,7 @@ taking some c = record c {
   refuses = λ m call kind. c.refuses m (taken some call) kind;
 }
 
--- the same, made of an R that has the parts of an S, and seen as a C that stands for a D
+-- the same under other types: it is made of an R, whose S is what parts gives, and its state is a C, whose D is what view gives
 abbrev pub seen : {R S C D : Type 0} → (R → S) → (C → D) → (D → C) → Meaning S D → Meaning R C
 seen parts view back c = record {
   made = λ s m. c.made (parts s) (view m);

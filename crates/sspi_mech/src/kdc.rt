@@ -26,8 +26,8 @@ pub trait Kdc {
 
     ghost faults: { Self → ℕ };
 
-    /// Sends the request and waits for the reply. Answers `Failed` only where the count of faults rose in this call, or
-    /// stands at its last value.
+    /// Sends the request and waits for the reply. A call that answers `Failed` has raised the count of faults, but for one
+    /// that found it as high as it goes.
     fn ask(&mut self, request: &NetworkRequest) -> Result<Vec<u8>, KdcError>
         ensures told { told self.new ≡ told self.old }
         ensures asked { asked self.new ≡ counted_on (asked self.old) }

@@ -3,7 +3,7 @@
 //! - `Mechanism`: the calls of a mechanism. `specs/Meaning.antt` names what they do, `specs/Laws.antt` says what holds of
 //!   every one, and `specs/Context.antt` what still holds where a context chooses among mechanisms.
 //! - `laws`: one of two mechanisms is a mechanism, in the words of `specs/Sum.antt`, and how often an object asks a KDC.
-//! - `Ntlm`: plain NTLM, a mechanism of this project's own with the roles of MS-NLMP and SHA-256 in place of its hashes.
+//! - `Ntlm`: plain NTLM, made for this port, with the roles of MS-NLMP and SHA-256 in place of its hashes.
 //!   `specs/Ntlm.antt` says exactly what each of its calls answers, and `ntlm::laws` what follows for two ends.
 //! - `Kdc`: where a client's requests go; `FailingKdc` answers none.
 //!

@@ -24,7 +24,7 @@ use std::alloc::Global;
 /// - 2 where the text is no scenario or has more than `TEXT_LIMIT` bytes: `error: scenario line N`, with the number of the
 ///   first faulty line, from 1, or 0 where no line is to blame;
 /// - 3 where the source failed: `error: read`;
-/// - 4 where the sink failed, in place of the status that the text would have had: a front of the text;
+/// - 4 where the sink failed, which hides the status that was due: a front of the text;
 /// - 5 where memory was wanting: a front of the text, or nothing;
 /// - 6 where the words are other than `delegate` alone: `error: words`, and the source is not read.
 ///

@@ -11,7 +11,7 @@ pub const NO_SCENARIO: u8 = 2;
 
 pub const READ_FAULT: u8 = 3;
 
-/// Stands in place of the status that the whole text would have had.
+/// The output could not be written. It hides the status that was due.
 pub const WRITE_FAULT: u8 = 4;
 
 pub const NO_MEMORY: u8 = 5;

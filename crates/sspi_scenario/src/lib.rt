@@ -1,8 +1,8 @@
 //! Scenarios: the text that tells which two ends meet, over which link, and what a program does with them.
 //!
-//! A text has lines, each ended by LF or the end of the text. Empty lines and comments, which begin with `#`, tell nothing
-//! but are counted. A line is a key up to the first space, and its value after that. `Scenario::parse` gives the scenario
-//! of a text or the number of its first faulty line.
+//! It is read line by line; LF separates lines, and behind the last one it may be left out. Every line has a number, also
+//! an empty one and one that begins with `#`, which say nothing else. Any other has a key, and what follows the first space
+//! in it is the value. `Scenario::parse` gives the scenario of a text or the number of its first faulty line.
 //!
 //! `specs/Table.antt` has the table of keys, a row for each, `specs/Keys.antt` which of them exclude each other,
 //! `specs/Faults.antt` which line is the first at fault, and `specs/Scenario.antt` the defaults and the scenario of a text.

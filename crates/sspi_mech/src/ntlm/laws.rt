@@ -11,7 +11,7 @@ ghost use Rattle.sspi_mech.specs.NtlmMessages.{challenge_message, authenticate_m
 ghost use Rattle.sspi_mech.specs.NtlmPeers.{IsPeer};
 ghost use Rattle.sspi_mech.specs.NtlmStage.{NtlmState};
 
-/// What opens is the blob without its first 16 bytes.
+/// Of a blob that opens, the text is all that stands behind the tag, which has 16 bytes.
 pub fn opened_is_body()
     ensures { (m : NtlmState) (n : ℕ) (blob text : List ℕ) → ntlm_meaning.opens m n blob text → text ≡ drop 16 blob }
 {}

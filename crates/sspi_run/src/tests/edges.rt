@@ -5,7 +5,7 @@ use std::alloc::Global;
 use std::process::Abort;
 use std::test::Fail;
 
-/// Edits of one message apply in their order, each to what the one before gave.
+/// Of two edits of one message the later changes what the earlier made.
 #[test]
 fn two_edits_of_one_message(rt: HostRuntime) -> Result<(), Fail> {
     let alloc = rt.alloc();

@@ -151,7 +151,7 @@ fn a_name_that_no_message_holds(rt: HostRuntime) -> Result<(), Fail> {
     )
 }
 
-/// Below version 5 the server's proof is the key plus one, and ends of both kinds do not understand each other.
+/// Below version 5 one is added to the key for the server's proof, and ends of both kinds do not understand each other.
 #[test]
 fn versions(rt: HostRuntime) -> Result<(), Fail> {
     let before_5 =
