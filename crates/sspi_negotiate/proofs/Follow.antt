@@ -12,7 +12,7 @@ use Rattle.sspi_mech.specs.declared.step.Step.{Step}
 use Rattle.sspi_mech.specs.Calls.{StepArgs, AcceptArgs, ToName, ToSign, one_signed}
 use Rattle.sspi_mech.specs.Meaning.{Meaning}
 use Rattle.sspi_negotiate.specs.Does.{Meets, UnlessMemory}
-use Rattle.sspi_negotiate.specs.Follows.{Follows, Asked, answered, refused}
+use Rattle.sspi_negotiate.specs.Follows.{answered, refused}
 use Rattle.sspi_negotiate.specs.Hand.{Origin}
 use Rattle.sspi_negotiate.specs.Plan.{Plan, Takes, Steps, Resumes, Accepts, Pairs, Names, Signs}
 use Rattle.sspi_negotiate.specs.Values.{Values}

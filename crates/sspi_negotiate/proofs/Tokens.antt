@@ -5,18 +5,17 @@ use Rattle.std.proofs.lemmas.Bool.{false≢true}
 use Rattle.sspi_types.specs.declared.error.Error.{Error}
 use Rattle.sspi_types.specs.declared.error_kind.ErrorKind.TheVariants.{InvalidToken, InternalError, InvalidParameter, InsufficientMemory}
 use Rattle.sspi_types.specs.declared.error_kind.ErrorKind.{ErrorKind}
-use Rattle.sspi_types.specs.declared.security_status.SecurityStatus.{SecurityStatus}
 use Rattle.sspi_names.specs.Identity.{IsIdentified}
 use Rattle.sspi_names.specs.declared.identity.AuthIdentity.{AuthIdentity}
 use Rattle.sspi_mech.specs.declared.step.Answer.{Answer}
-use Rattle.sspi_mech.specs.declared.step.Answer.TheVariants.{Done, Refused}
+use Rattle.sspi_mech.specs.declared.step.Answer.TheVariants.{Refused}
 use Rattle.sspi_mech.specs.Meaning.{Meaning}
 use Rattle.sspi_mech.specs.Settings.{Setting}
 use Rattle.sspi_tokens.specs.Answers.{ReadsAs, WritesAs}
 use Rattle.sspi_negotiate.specs.declared.protocol.NegotiatedProtocol.{NegotiatedProtocol}
 use Rattle.sspi_negotiate.specs.Does.{Meets, Passes}
 use Rattle.sspi_negotiate.specs.Fallback.{is_fallback}
-use Rattle.sspi_negotiate.specs.Hand.{Origin, hand}
+use Rattle.sspi_negotiate.specs.Hand.{Origin}
 use Rattle.sspi_negotiate.specs.Plan.{Plan, Stops}
 use Rattle.sspi_negotiate.specs.Spelled.{IsSpelled}
 use Rattle.sspi_negotiate.specs.Values.{Values, Negotiation, values_of}
@@ -35,16 +34,14 @@ plain_texts None error h = ap (λ e. e.nstatus) h
 plain_texts (Some text) error h = ap (λ e. e.nstatus) h
 
 pub plain_read : {T : Type 0} (o : Option T) (error : Error) → ReadsAs o (Err error) → error.nstatus ≡ None
-plain_read None error (inl h) = ap (λ e. e.nstatus) h
-plain_read None error (inr h) = ap (λ e. e.nstatus) h
+plain_read None error h = ap (λ e. e.nstatus) h
 plain_read (Some x) error h = ap (λ e. e.nstatus) h
 
 module _ {M : Type 0} {c : Meaning Origin M} {m : M} where
   pub unread : {v : Values} {T : Type 0} (o : Option T) (plan : Option T → Plan) (error : Error) → plan None ≡ Stops v InvalidToken → ReadsAs o (Err error) →
       Meets c (plan o) m (Refused error) v m
-  unread {v = v} None plan error stops (inl h) =
+  unread {v = v} None plan error stops h =
       subst (λ p. Meets c p m (Refused error) v m) (sym stops) (record { as_planned = λ other. (ap (λ e. e.error_type) h, refl, refl) })
-  unread None plan error stops (inr h) = record { as_planned = λ other. absurd (other (ap (λ e. e.error_type) h)) }
   unread (Some x) plan error stops h = record { as_planned = λ other. absurd (other (ap (λ e. e.error_type) h)) }
 
   pub read : {T : Type 0} {r : Answer} {v2 : Values} {m2 : M} (o : Option T) (plan : Option T → Plan) (x : T) → ReadsAs o (Ok x) →

@@ -8,7 +8,6 @@ use Rattle.sspi_names.specs.Credentials.{credentials_buffers_of}
 use Rattle.sspi_names.specs.declared.credentials.Credentials.{Credentials}
 use Rattle.sspi_names.specs.declared.credentials.Credentials.TheVariants.{AuthIdentity, Keytab}
 use Rattle.sspi_names.specs.declared.credentials.CredentialsBuffers.{CredentialsBuffers}
-use Rattle.sspi_names.specs.declared.kdc_table.KdcEntry.{KdcEntry}
 use Rattle.sspi_mech.specs.Calls.{ToAcquire}
 use Rattle.sspi_mech.specs.Meaning.{Meaning}
 use Rattle.sspi_mech.specs.Settings.{Setting}
@@ -17,7 +16,7 @@ use Rattle.sspi_negotiate.specs.declared.protocol.Protocol.{Protocol}
 use Rattle.sspi_negotiate.specs.declared.protocol.Protocol.TheVariants as protocols
 use Rattle.sspi_negotiate.specs.declared.state.Role.{Role}
 use Rattle.sspi_negotiate.specs.declared.state.Role.TheVariants.{Client, Server}
-use Rattle.sspi_negotiate.specs.Hand.{Origin, InPlaceOfNtlm, hand, hand_of}
+use Rattle.sspi_negotiate.specs.Hand.{hand, hand_of}
 use Rattle.sspi_negotiate.specs.Rule.{rule_url, TakenBy}
 use Rattle.sspi_negotiate.specs.Values.{Values, Negotiation, values_of}
 

@@ -1,12 +1,11 @@
 -- The client of a negotiation (RFC 4178, section 5; MS-SPNG 3.1.5), one definition for each row of its table.
-use Rattle.std.specs.Prelude.{ℕ, List, [], ◌∷◌, ◌++◌, ◌||◌, ◌&&◌, ◌==◌, not, option_map, Option, None, Some, Bool, true, false, if◌then◌else◌}
+use Rattle.std.specs.Prelude.{ℕ, List, [], ◌&&◌, not, option_map, Option, None, Some, Bool, true, false, if◌then◌else◌}
 use Rattle.sspi_types.specs.declared.error_kind.ErrorKind.{ErrorKind}
 use Rattle.sspi_types.specs.declared.error_kind.ErrorKind.TheVariants.{InvalidToken, OutOfSequence, InvalidParameter, InternalError}
 use Rattle.sspi_types.specs.declared.security_status.SecurityStatus.{SecurityStatus}
 use Rattle.sspi_types.specs.declared.security_status.SecurityStatus.TheVariants as statuses
 use Rattle.sspi_names.specs.Credentials.{password_buffers}
 use Rattle.sspi_names.specs.Identity.{buffers_of, identity_of}
-use Rattle.sspi_names.specs.Name.{Name}
 use Rattle.sspi_names.specs.Utf16.{text_of}
 use Rattle.sspi_names.specs.declared.credentials.CredentialsBuffers.{CredentialsBuffers}
 use Rattle.sspi_names.specs.declared.credentials.CredentialsBuffers.TheVariants.{AuthIdentity, Keytab}
@@ -15,8 +14,6 @@ use Rattle.sspi_names.specs.declared.identity.AuthIdentityBuffers.{AuthIdentityB
 use Rattle.sspi_mech.specs.declared.step.Reply.{Reply}
 use Rattle.sspi_mech.specs.declared.step.Step.{Step}
 use Rattle.sspi_mech.specs.Calls.{StepArgs}
-use Rattle.sspi_tokens.specs.declared.neg_result.NegResult.{NegResult}
-use Rattle.sspi_tokens.specs.declared.neg_token_init.NegTokenInit.{NegTokenInit}
 use Rattle.sspi_tokens.specs.declared.neg_token_targ.NegTokenTarg.{NegTokenTarg}
 use Rattle.sspi_tokens.specs.declared.oid.MechKind.{MechKind}
 use Rattle.sspi_tokens.specs.declared.oid.MechKind.TheVariants as kinds
@@ -33,7 +30,7 @@ use Rattle.sspi_negotiate.specs.declared.state.NegotiateState.TheVariants as sta
 use Rattle.sspi_negotiate.specs.declared.state.Role.{Role}
 use Rattle.sspi_negotiate.specs.declared.state.Role.TheVariants.{Client, Server}
 use Rattle.sspi_negotiate.specs.Fallback.{is_fallback}
-use Rattle.sspi_negotiate.specs.Hand.{InPlaceOfNtlm, in_place_of_kerberos, is_kerberos_hand, is_ntlm_hand}
+use Rattle.sspi_negotiate.specs.Hand.{InPlaceOfNtlm, in_place_of_kerberos, is_kerberos_hand}
 use Rattle.sspi_negotiate.specs.Pick.{offered}
 use Rattle.sspi_negotiate.specs.Plan.{Plan, Goes, Stops, Takes, Steps, Resumes}
 use Rattle.sspi_negotiate.specs.Rule.{rule_url, by_rule, ruled_values}

@@ -1,5 +1,5 @@
 -- The mechanism in hand, as one meaning: an NTLM of type N or a Kerberos of type K.
-use Rattle.std.specs.Prelude.{ℕ, ◌+◌, List, ◌⊎◌, Option, Some, None, filter, take, replicate, Bool, true, false}
+use Rattle.std.specs.Prelude.{ℕ, ◌+◌, List, ◌⊎◌, Option, Some, filter, take, replicate, Bool, true, false}
 use mathlib.Core.Logic.{inl, inr}
 use Rattle.sspi_names.specs.declared.credentials.Credentials.{Credentials}
 use Rattle.sspi_names.specs.declared.credentials.Credentials.TheVariants.{AuthIdentity, Keytab}

@@ -1,13 +1,10 @@
 -- What a negotiation means as a security context.
-use Rattle.std.specs.Prelude.{◌≡◌, ◌↔◌, ℕ, List, Option, Result, Bool, IsTrue}
-use Rattle.sspi_types.specs.declared.error.Error.{Error}
+use Rattle.std.specs.Prelude.{◌≡◌, ◌↔◌, ℕ, Bool, IsTrue}
 use Rattle.sspi_types.specs.declared.error_kind.ErrorKind.{ErrorKind}
 use Rattle.sspi_types.specs.Packages.{negotiate_entry}
 use Rattle.sspi_mech.specs.declared.step.Answer.{Answer}
-use Rattle.sspi_mech.specs.declared.step.Reply.{Reply}
-use Rattle.sspi_mech.specs.declared.step.Step.{Step}
 use Rattle.sspi_mech.specs.Answers.{OnRefused}
-use Rattle.sspi_mech.specs.Calls.{StepArgs, AcceptArgs, Counts, Call, ToAcquire, ToDescribe}
+use Rattle.sspi_mech.specs.Calls.{StepArgs, Call, ToAcquire, ToDescribe}
 use Rattle.sspi_mech.specs.Meaning.{Meaning}
 use Rattle.sspi_mech.specs.Settings.{Setting}
 use Rattle.sspi_negotiate.specs.declared.protocol.NegotiatedProtocol.{NegotiatedProtocol}

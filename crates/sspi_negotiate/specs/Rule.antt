@@ -3,7 +3,7 @@ use Rattle.std.specs.Prelude.{◌≡◌, ℕ, List, ◌&&◌, Option, None, Some
 use Rattle.sspi_names.specs.Kdcs.{url_of}
 use Rattle.sspi_names.specs.Name.{Name, domain_of}
 use Rattle.sspi_names.specs.declared.kdc_table.KdcEntry.{KdcEntry}
-use Rattle.sspi_negotiate.specs.declared.protocol.Protocol.TheVariants.{Kerberos, Ntlm}
+use Rattle.sspi_negotiate.specs.declared.protocol.Protocol.TheVariants.{Kerberos}
 use Rattle.sspi_mech.specs.Meaning.{Meaning}
 use Rattle.sspi_negotiate.specs.Hand.{Origin, InPlaceOfNtlm, is_ntlm_hand}
 use Rattle.sspi_negotiate.specs.Plan.{Plan, Takes}

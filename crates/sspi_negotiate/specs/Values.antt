@@ -1,10 +1,8 @@
 -- What one end of a negotiation knows beside the mechanism in hand.
-use Rattle.std.specs.Prelude.{ℕ, List, Option, Some, None, Bool, true, false}
-use Rattle.sspi_types.specs.declared.client_request_flags.ClientRequestFlags.{ClientRequestFlags}
+use Rattle.std.specs.Prelude.{ℕ, List, Option, Bool, true, false}
 use Rattle.sspi_names.specs.declared.credentials.CredentialsBuffers.{CredentialsBuffers}
 use Rattle.sspi_names.specs.declared.identity.AuthIdentity.{AuthIdentity}
 use Rattle.sspi_names.specs.declared.kdc_table.KdcEntry.{KdcEntry}
-use Rattle.sspi_tokens.specs.declared.neg_token_targ.NegTokenTarg.{NegTokenTarg}
 use Rattle.sspi_negotiate.specs.declared.branch.Branch.{Branch}
 use Rattle.sspi_negotiate.specs.declared.branch.Branch.TheVariants as branches
 use Rattle.sspi_negotiate.specs.declared.package_list.PackageListConfig.{PackageListConfig}

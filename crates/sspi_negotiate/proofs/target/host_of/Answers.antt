@@ -1,4 +1,4 @@
-use Rattle.std.proofs.Common.{◌∙◌, arith}
+use Rattle.std.proofs.Common.{◌∙◌}
 use Rattle.sspi_negotiate.proofs.Slash.{host_behind, host_whole}
 use Rattle.sspi_negotiate.proofs.target.host_of.Goals as goal
 

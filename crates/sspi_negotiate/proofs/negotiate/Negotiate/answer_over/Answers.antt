@@ -1,4 +1,4 @@
-use Rattle.std.proofs.Common.{rules, refl}
+use Rattle.std.proofs.Common.{rules}
 use Rattle.sspi_negotiate.proofs.Follow.{signed, not_signed}
 use Rattle.sspi_negotiate.proofs.negotiate.Negotiate.answer_over.Goals as goal
 

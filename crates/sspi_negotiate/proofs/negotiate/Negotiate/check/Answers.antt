@@ -1,4 +1,3 @@
-use Rattle.std.proofs.Common.{rules, refl}
 use Rattle.sspi_negotiate.proofs.Passing.{passed_past, stopped_part}
 use Rattle.sspi_negotiate.specs.Rows.{identifies, verifies}
 use Rattle.sspi_negotiate.specs.Values.{values_of}

@@ -1,4 +1,3 @@
-use Rattle.std.proofs.Common.{rules, refl}
 use Rattle.sspi_negotiate.proofs.Passing.{passed, stopped}
 use Rattle.sspi_negotiate.specs.Rows.{completes_signed}
 use Rattle.sspi_negotiate.proofs.negotiate.Negotiate.check_and_sign.Goals as goal

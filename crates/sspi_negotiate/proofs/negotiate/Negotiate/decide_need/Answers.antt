@@ -1,4 +1,4 @@
-use Rattle.std.proofs.Common.{rules, refl}
+use Rattle.std.proofs.Common.{rules}
 use Rattle.sspi_negotiate.proofs.Follow.{paired}
 use Rattle.sspi_negotiate.proofs.negotiate.Negotiate.decide_need.Goals as goal
 

@@ -1,4 +1,4 @@
-use Rattle.std.proofs.Common.{rules, refl}
+use Rattle.std.proofs.Common.{rules}
 use Rattle.sspi_negotiate.proofs.Follow.{named, not_named}
 use Rattle.sspi_negotiate.proofs.negotiate.Negotiate.excuse.Goals as goal
 

@@ -1,4 +1,4 @@
-use Rattle.std.proofs.Common.{rules, refl}
+use Rattle.std.proofs.Common.{rules}
 use Rattle.sspi_negotiate.proofs.Follow.{took}
 use Rattle.sspi_negotiate.specs.Client.{falls_back}
 use Rattle.sspi_negotiate.proofs.negotiate.Negotiate.fall_back.Goals as goal

@@ -1,4 +1,4 @@
-use Rattle.std.proofs.Common.{rules, refl, false, not}
+use Rattle.std.proofs.Common.{false, not}
 use Rattle.sspi_negotiate.proofs.Passing.{passed, stopped}
 use Rattle.sspi_negotiate.specs.Client.{answers}
 use Rattle.sspi_mech.specs.Calls.{step_args}

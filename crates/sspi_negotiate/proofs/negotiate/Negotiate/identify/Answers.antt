@@ -1,4 +1,4 @@
-use Rattle.std.proofs.Common.{rules, refl}
+use Rattle.std.proofs.Common.{rules}
 use Rattle.sspi_negotiate.proofs.Passing.{named_part, not_named_part}
 use Rattle.sspi_negotiate.proofs.negotiate.Negotiate.identify.Goals as goal
 

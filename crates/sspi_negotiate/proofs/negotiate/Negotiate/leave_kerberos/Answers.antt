@@ -1,4 +1,4 @@
-use Rattle.std.proofs.Common.{rules, refl, false}
+use Rattle.std.proofs.Common.{false}
 use Rattle.sspi_negotiate.proofs.Passing.{passed, stopped}
 use Rattle.sspi_negotiate.specs.Client.{with_handle}
 use Rattle.sspi_mech.specs.Calls.{step_args}

@@ -1,4 +1,4 @@
-use Rattle.std.proofs.Common.{rules, refl}
+use Rattle.std.proofs.Common.{rules}
 use Rattle.sspi_negotiate.proofs.Follow.{stepped, asks, not_stepped}
 use Rattle.sspi_negotiate.specs.Client.{steps_again}
 use Rattle.sspi_negotiate.proofs.negotiate.Negotiate.open_again.Goals as goal

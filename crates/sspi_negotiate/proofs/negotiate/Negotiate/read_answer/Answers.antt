@@ -1,4 +1,4 @@
-use Rattle.std.proofs.Common.{rules, refl}
+use Rattle.std.proofs.Common.{refl}
 use Rattle.sspi_negotiate.proofs.Tokens.{unread, read, plain_read}
 use Rattle.sspi_tokens.specs.Reading.{targ_of}
 use Rattle.sspi_negotiate.specs.Client.{at_progress}

@@ -1,4 +1,4 @@
-use Rattle.std.proofs.Common.{rules, refl}
+use Rattle.std.proofs.Common.{rules}
 use Rattle.sspi_negotiate.proofs.Passing.{short_part, ntlm_taken}
 use Rattle.sspi_negotiate.proofs.negotiate.Negotiate.replace_kerberos.Goals as goal
 

@@ -1,4 +1,4 @@
-use Rattle.std.proofs.Common.{rules, refl}
+use Rattle.std.proofs.Common.{rules}
 use Rattle.sspi_negotiate.proofs.Follow.{resumed, asks_again, not_resumed}
 use Rattle.sspi_negotiate.specs.Client.{resumes_answering}
 use Rattle.sspi_negotiate.proofs.negotiate.Negotiate.resume_answering.Goals as goal

@@ -1,4 +1,4 @@
-use Rattle.std.proofs.Common.{rules, refl}
+use Rattle.std.proofs.Common.{rules}
 use Rattle.sspi_negotiate.proofs.Follow.{accepted, not_accepted}
 use Rattle.sspi_negotiate.proofs.negotiate.Negotiate.take_response.Goals as goal
 

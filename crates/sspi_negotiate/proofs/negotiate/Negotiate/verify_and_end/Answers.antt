@@ -1,4 +1,3 @@
-use Rattle.std.proofs.Common.{rules, refl}
 use Rattle.sspi_negotiate.proofs.Passing.{passed, stopped}
 use Rattle.sspi_negotiate.specs.Client.{verified}
 use Rattle.sspi_negotiate.proofs.negotiate.Negotiate.verify_and_end.Goals as goal

@@ -1,4 +1,3 @@
-use Rattle.std.proofs.Common.{rules, refl}
 use Rattle.sspi_negotiate.proofs.Passing.{passed, stopped}
 use Rattle.sspi_negotiate.specs.Plan.{Goes}
 use Rattle.sspi_negotiate.specs.declared.state.NegotiateState.TheVariants as states

@@ -1,4 +1,4 @@
-use Rattle.std.proofs.Common.{rules, refl}
+use Rattle.std.proofs.Common.{rules}
 use Rattle.sspi_negotiate.proofs.Passing.{verified_part}
 use Rattle.sspi_negotiate.proofs.negotiate.Negotiate.verify_over.Goals as goal
 
