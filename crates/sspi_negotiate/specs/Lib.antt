@@ -6,6 +6,7 @@ pub mod Follows
 pub mod Hand
 pub mod Identity
 pub mod IpText
+pub mod Keeps
 pub mod Known
 pub mod Negotiate
 pub mod New
@@ -19,3 +20,4 @@ pub mod Server
 pub mod Spelled
 pub mod Target
 pub mod Values
+pub mod Verified

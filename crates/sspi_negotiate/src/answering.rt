@@ -1,6 +1,6 @@
 // A client's later steps (states InProgress and VerifyMic), and `resume`.
-ghost use Rattle.std.specs.Prelude.{◌≡◌, ◌≢◌, [], false, true, not, None, Some, IfOk, IfErr, OnOk, OnErr, option_map, option_copied};
-ghost use Rattle.sspi_mech.specs.Answers.{answer_of, IfRefused};
+ghost use Rattle.std.specs.Prelude.{◌≡◌, ◌≢◌, ◌<◌, [], false, true, not, None, Some, IfOk, IfErr, OnOk, OnErr, option_map, option_copied};
+ghost use Rattle.sspi_mech.specs.Answers.{answer_of, IfRefused, OnAsk};
 ghost use Rattle.sspi_mech.specs.Calls.{step_args};
 ghost use Rattle.sspi_mech.specs.Context.{IsUnused};
 ghost use Rattle.sspi_tokens.specs.Oids.{kind_of};
@@ -11,6 +11,7 @@ ghost use Rattle.sspi_types.specs.declared.security_status.SecurityStatus.TheVar
 ghost use Rattle.sspi_negotiate.specs.Client.{at_progress, chosen, chooses_kerberos, chooses_ntlm, in_kerberos, answers, stepped, settles, unprotected, verified, at_verify_mic, confirmed, last_mic, is_guest, handle_for, step_of, resumes_answering, spnego_resumed};
 ghost use Rattle.sspi_negotiate.specs.Does.{Does, Passes, Stays, StaysUnused, told};
 ghost use Rattle.sspi_negotiate.specs.Hand.{InPlaceOfNtlm, hand, hand_of};
+ghost use Rattle.sspi_negotiate.specs.Negotiate.{negotiate};
 ghost use Rattle.sspi_negotiate.specs.Plan.{Goes, Takes};
 ghost use Rattle.sspi_negotiate.specs.Rows.{or_empty, in_ntlm, verifies};
 ghost use Rattle.sspi_negotiate.specs.Values.{values_of};
@@ -356,6 +357,14 @@ impl<N: Mechanism, K: Mechanism> Negotiate<N, K> {
     /// `OutOfSequence` where no step is suspended. Else as the step that was suspended; refused, it stays suspended, but where
     /// NTLM took the place of Kerberos.
     pub fn resume(&mut self, reply: &Reply) -> Result<Progressing, Error>
+        ensures step { (negotiate N.REQUESTS N.meaning K.meaning).resumes self.old reply.now (answer_of result) self.new }
+        ensures falls { let c = negotiate N.REQUESTS N.meaning K.meaning in OnAsk (answer_of result) (c.left self.new < c.left self.old) }
+        ensures plain { IfErr result (λ error. error.nstatus ≡ None) }
+    {
+        self.resume_at(reply)
+    }
+
+    fn resume_at(&mut self, reply: &Reply) -> Result<Progressing, Error>
         ensures step { Does N.meaning K.meaning (spnego_resumed (values_of self.old) reply.now) self.old (answer_of result) self.new }
         ensures stays { OnErr result (Stays (values_of self.old) (values_of self.new)) }
         ensures unused { StaysUnused N.meaning K.meaning self.old self.new }

@@ -8,6 +8,7 @@ ghost use Rattle.sspi_negotiate.specs.declared.protocol.Protocol.TheVariants as 
 ghost use Rattle.sspi_negotiate.specs.Client.{is_closed, spnego_client, by_target, with_handle, converts, keeps, ruled, client_at};
 ghost use Rattle.sspi_negotiate.specs.Does.{Does, Passes, Stays, StaysUnused, told};
 ghost use Rattle.sspi_negotiate.specs.Hand.{hand_of};
+ghost use Rattle.sspi_negotiate.specs.Negotiate.{negotiate};
 ghost use Rattle.sspi_negotiate.specs.Rows.{in_ntlm};
 ghost use Rattle.sspi_negotiate.specs.Rule.{rule_url, by_rule, ruled_values};
 ghost use Rattle.sspi_negotiate.specs.Target.{IsNamedByIp};
@@ -49,10 +50,7 @@ impl<N: Mechanism, K: Mechanism> Negotiate<N, K> {
         &mut self,
         args: &InitializeSecurityContext<'_>,
     ) -> Result<Progressing, Error>
-        ensures step { (ip : Bool) × (IsTrue ip ↔ IsNamedByIp (option_copied args.now.target_name))
-            × Does N.meaning K.meaning (spnego_client ip (values_of self.old) (step_args args.now)) self.old (answer_of result) self.new }
-        ensures stays { OnErr result (Stays (values_of self.old) (values_of self.new)) }
-        ensures unused { StaysUnused N.meaning K.meaning self.old self.new }
+        ensures step { (negotiate N.REQUESTS N.meaning K.meaning).steps self.old (step_args args.now) (answer_of result) self.new }
         ensures plain { IfErr result (λ error. error.nstatus ≡ None) }
     {
         let ip = is_named_by_ip(args.target_name);

@@ -24,6 +24,7 @@ pub mod laws;
 mod mic;
 pub mod negotiate;
 pub mod negotiate_config;
+pub mod negotiation_laws;
 mod new;
 mod opening;
 pub mod package_list;

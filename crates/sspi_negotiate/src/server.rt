@@ -6,6 +6,7 @@ ghost use Rattle.sspi_tokens.specs.Reading.{init_of, targ_of};
 ghost use Rattle.sspi_negotiate.specs.Does.{Does, Passes, Stays, StaysUnused, told};
 ghost use Rattle.sspi_negotiate.specs.declared.protocol.Protocol.TheVariants as protocols;
 ghost use Rattle.sspi_negotiate.specs.Hand.{hand, hand_of};
+ghost use Rattle.sspi_negotiate.specs.Negotiate.{negotiate};
 ghost use Rattle.sspi_negotiate.specs.Pick.{pick, oid_of};
 ghost use Rattle.sspi_negotiate.specs.Plan.{Accepts, Pairs, Names, Goes};
 ghost use Rattle.sspi_negotiate.specs.Rows.{targ, or_empty, in_ntlm, checks, completes_signed};
@@ -77,6 +78,13 @@ impl<N: Mechanism, K: Mechanism> Negotiate<N, K> {
         &mut self,
         args: &AcceptSecurityContext<'_>,
     ) -> Result<Step, Error>
+        ensures step { (negotiate N.REQUESTS N.meaning K.meaning).accepts self.old (accept_args args.now) result self.new }
+        ensures plain { IfErr result (λ error. error.nstatus ≡ None) }
+    {
+        self.accept_at(args)
+    }
+
+    fn accept_at(&mut self, args: &AcceptSecurityContext<'_>) -> Result<Step, Error>
         ensures step { Does N.meaning K.meaning (spnego_server (values_of self.old) (accept_args args.now)) self.old (told result) self.new }
         ensures stays { OnErr result (Stays (values_of self.old) (values_of self.new)) }
         ensures unused { StaysUnused N.meaning K.meaning self.old self.new }

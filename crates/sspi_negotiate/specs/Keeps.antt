@@ -1,0 +1,30 @@
+-- What no step of a negotiation undoes.
+use Rattle.std.specs.Prelude.{◌≡◌, ◌≢◌, Bool, true, false}
+use Rattle.sspi_negotiate.specs.declared.branch.Branch.{Branch}
+use Rattle.sspi_negotiate.specs.declared.branch.Branch.TheVariants.{Idle, Opening, Answering}
+use Rattle.sspi_negotiate.specs.declared.package_list.PackageListConfig.{PackageListConfig}
+use Rattle.sspi_negotiate.specs.declared.protocol.Protocol.{Protocol}
+use Rattle.sspi_negotiate.specs.declared.protocol.Protocol.TheVariants.{Kerberos, Ntlm}
+use Rattle.sspi_negotiate.specs.declared.state.NegotiateState.TheVariants.{Initial}
+use Rattle.sspi_negotiate.specs.Values.{Values}
+
+abbrev pub may_use : PackageListConfig → Protocol → Bool
+may_use packages Ntlm = packages.ntlm
+may_use packages Kerberos = packages.kerberos
+
+abbrev pub is_opening : Branch → Bool
+is_opening Idle = false
+is_opening (Opening first) = true
+is_opening (Answering token) = false
+
+-- the list of mechanisms was offered, on a server read
+pub record HasList (v : Values) : Type 0 where
+  pub begun : v.state ≢ Initial
+  pub made : is_opening v.branch ≡ false
+
+-- No package is enabled again, the mechanism in hand may be used, and the list of mechanisms stays once it is there.
+pub record Keeps (old new : Values) : Type 0 where
+  pub ntlm : new.packages.ntlm ≡ true → old.packages.ntlm ≡ true
+  pub kerberos : new.packages.kerberos ≡ true → old.packages.kerberos ≡ true
+  pub in_hand : may_use old.packages old.hand ≡ true → may_use new.packages new.hand ≡ true
+  pub list : HasList old → new.list ≡ old.list

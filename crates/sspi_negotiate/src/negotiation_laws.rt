@@ -1,0 +1,51 @@
+//! What holds of every negotiation. Each law is the contract of a call that does nothing.
+
+ghost use Rattle.std.specs.Prelude.{◌≡◌, ◌≢◌, true, Result, Ok};
+ghost use Rattle.sspi_types.specs.declared.error.Error.{Error};
+ghost use Rattle.sspi_mech.specs.declared.step.Answer.{Answer};
+ghost use Rattle.sspi_mech.specs.declared.step.Reply.{Reply};
+ghost use Rattle.sspi_mech.specs.declared.step.Step.{Step};
+ghost use Rattle.sspi_mech.specs.Calls.{StepArgs, AcceptArgs};
+ghost use Rattle.sspi_mech.specs.Context.{IsContext};
+ghost use Rattle.sspi_negotiate.specs.declared.protocol.NegotiatedProtocol.{NegotiatedProtocol};
+ghost use Rattle.sspi_negotiate.specs.Does.{UnlessMemory, told};
+ghost use Rattle.sspi_mech.specs.declared.step.Answer.TheVariants as answers;
+ghost use Rattle.sspi_negotiate.specs.declared.state.NegotiateState.TheVariants as states;
+ghost use Rattle.sspi_negotiate.specs.Hand.{hand};
+ghost use Rattle.sspi_negotiate.specs.Verified.{IsVerified};
+ghost use Rattle.sspi_negotiate.specs.Keeps.{Keeps};
+ghost use Rattle.sspi_negotiate.specs.Values.{Negotiation, values_of};
+ghost use Rattle.sspi_negotiate.specs.Negotiate.{negotiate};
+
+use sspi_mech::Mechanism;
+
+/// A negotiation over any two mechanisms keeps what every context keeps: where nothing was sealed nothing is, and each
+/// further question to a KDC is one fewer to come, also where NTLM took the place of Kerberos in between.
+pub fn negotiation_is_context<N: Mechanism, K: Mechanism>()
+    ensures { IsContext (negotiate N.REQUESTS N.meaning K.meaning) }
+{}
+
+/// No step enables a package again, leaves a mechanism in hand that may not be used, or replaces the list of mechanisms
+/// that the client once offered; want of memory apart, in which `Stays` says what stays.
+pub fn steps_keep<N: Mechanism, K: Mechanism>()
+    ensures client { (old new : Negotiation (NegotiatedProtocol N K)) (args : StepArgs) (answer : Answer) →
+        (negotiate N.REQUESTS N.meaning K.meaning).steps old args answer new → UnlessMemory answer (Keeps (values_of old) (values_of new)) }
+    ensures resumed { (old new : Negotiation (NegotiatedProtocol N K)) (reply : Reply) (answer : Answer) →
+        (negotiate N.REQUESTS N.meaning K.meaning).resumes old reply answer new → UnlessMemory answer (Keeps (values_of old) (values_of new)) }
+    ensures server { (old new : Negotiation (NegotiatedProtocol N K)) (args : AcceptArgs) (result : Result Step Error) →
+        (negotiate N.REQUESTS N.meaning K.meaning).accepts old args result new → UnlessMemory (told result) (Keeps (values_of old) (values_of new)) }
+{}
+
+/// An end that needs MICs comes to its end only where, in that very step, the mechanism in hand verified the peer's next MIC
+/// over the list of mechanisms as it is kept (RFC 4178, section 5).
+pub fn mics_protect_the_list<N: Mechanism, K: Mechanism>()
+    ensures client { (old new : Negotiation (NegotiatedProtocol N K)) (args : StepArgs) (step : Step) →
+        (negotiate N.REQUESTS N.meaning K.meaning).steps old args (answers.Done step) new →
+        new.state ≡ states.Ok → new.need ≡ true → IsVerified (hand N.meaning K.meaning) new.list }
+    ensures resumed { (old new : Negotiation (NegotiatedProtocol N K)) (reply : Reply) (step : Step) → old.state ≢ states.Ok →
+        (negotiate N.REQUESTS N.meaning K.meaning).resumes old reply (answers.Done step) new →
+        new.state ≡ states.Ok → new.need ≡ true → IsVerified (hand N.meaning K.meaning) new.list }
+    ensures server { (old new : Negotiation (NegotiatedProtocol N K)) (args : AcceptArgs) (step : Step) →
+        (negotiate N.REQUESTS N.meaning K.meaning).accepts old args (Ok step) new →
+        new.state ≡ states.Ok → new.need ≡ true → IsVerified (hand N.meaning K.meaning) new.list }
+{}
