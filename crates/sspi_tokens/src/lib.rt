@@ -22,8 +22,6 @@ mod reading;
 mod refusal;
 mod sizes;
 mod tags;
-#[cfg(test)]
-mod tests;
 mod writing;
 
 pub use mech_type_list::{MechTypeList, encode_mech_types};

@@ -14,7 +14,7 @@ pub returns-in-Ok-Keytab-clause-cause : goal.returns-in-Ok-Keytab-clause-cause
 returns-in-Ok-Keytab-clause-cause c = λ memory. keytab_read _ c.in-Ok-Keytab.field-0-0 _ (search rules) (search rules)
 
 pub returns-clause-plain : goal.returns-clause-plain
-returns-clause-plain c = refusal_plain _ _ c.in-Err.ensures
+returns-clause-plain c = refusal_plain _ _ c.in-Err.ensures.read
 
 pub returns-clause-cause : goal.returns-clause-cause
-returns-clause-cause c = λ memory. text_refused _ _ c.in-Err.ensures memory
+returns-clause-cause c = λ memory. text_refused _ _ c.in-Err.ensures.read memory

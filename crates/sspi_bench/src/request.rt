@@ -1,0 +1,47 @@
+use crate::sums::{len_of, sum_of_text};
+use crate::work::Work;
+use sspi_ber::{VecSink, WireKind};
+use sspi_tsreq::TsRequest;
+use std::alloc::Global;
+
+/// A number to which each field of the request adds.
+fn sum_of(request: &TsRequest) -> u64 {
+    let mut sum = u64::from(request.version);
+    sum = sum.wrapping_add(len_of(&request.nego_tokens));
+    sum = sum.wrapping_add(len_of(&request.auth_info));
+    sum = sum.wrapping_add(len_of(&request.pub_key_auth));
+    if let Some(code) = request.error_code {
+        sum = sum.wrapping_add(u64::from(code.0));
+    }
+    if let Some(nonce) = request.client_nonce {
+        sum = sum.wrapping_add(u64::from(nonce[31]));
+    }
+    sum
+}
+
+fn decode(alloc: Global, bytes: &[u8]) -> Result<u64, WireKind> {
+    let request = TsRequest::from_buffer(alloc, bytes)?;
+    Ok(sum_of(&request))
+}
+
+fn encode(alloc: Global, request: &TsRequest) -> Result<u64, WireKind> {
+    let room = usize::from(request.buffer_len()?);
+    let mut sink = VecSink::with_capacity(alloc, room)?;
+    request.encode_ts_request(&mut sink)?;
+    Ok(sum_of_text(sink.written()))
+}
+
+/// The work so many times on the TSRequest that the bytes begin with.
+pub fn repeat(alloc: Global, work: Work, bytes: &[u8], times: u32) -> Result<u64, WireKind> {
+    let request = TsRequest::from_buffer(alloc, bytes)?;
+    let mut sum = 0u64;
+    for _ in 0..times {
+        let one = match work {
+            Work::Decode => decode(alloc, bytes)?,
+            Work::Encode => encode(alloc, &request)?,
+            Work::Both => encode(alloc, &request)?.wrapping_add(decode(alloc, bytes)?),
+        };
+        sum = sum.wrapping_add(one);
+    }
+    Ok(sum)
+}

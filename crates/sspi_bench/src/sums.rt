@@ -1,0 +1,15 @@
+use sspi_types::Bytes;
+
+/// The length of a field, or 0 where it is absent.
+pub fn len_of(field: &Option<Bytes>) -> u64 {
+    match field {
+        None => 0,
+        Some(bytes) => bytes.len() as u64,
+    }
+}
+
+/// The length and the last byte of what was written.
+pub fn sum_of_text(text: &[u8]) -> u64 {
+    let last = text.last().copied().unwrap_or(0);
+    (text.len() as u64).wrapping_add(u64::from(last))
+}

@@ -1,0 +1,33 @@
+/// What is done so many times.
+#[derive(Clone, Copy)]
+pub enum Work {
+    Decode,
+    Encode,
+    Both,
+}
+
+/// What it is done with.
+#[derive(Clone, Copy)]
+pub enum Message {
+    Request,
+    Init,
+    Targ,
+}
+
+pub fn work_of(word: &str) -> Option<Work> {
+    match word {
+        "decode" => Some(Work::Decode),
+        "encode" => Some(Work::Encode),
+        "both" => Some(Work::Both),
+        _ => None,
+    }
+}
+
+pub fn message_of(word: &str) -> Option<Message> {
+    match word {
+        "request" => Some(Message::Request),
+        "init" => Some(Message::Init),
+        "targ" => Some(Message::Targ),
+        _ => None,
+    }
+}
