@@ -1,14 +1,12 @@
-//! SPNEGO negotiation (RFC 4178, MS-SPNG).
+//! SPNEGO negotiation (RFC 4178, MS-SPNG): agreeing on a mechanism, and protecting that agreement.
 //!
-//! So far the parts that a negotiation is configured with:
-//!
-//! - `PackageListConfig`: which packages a list of names allows.
-//! - `is_ip_text`: whether a peer is named by an IP address, which Kerberos has no name for.
-//! - `ProtocolConfig`, `NegotiatedProtocol`: the mechanism to begin with, and the one in hand.
-//! - `NegotiateConfig`: these and what else one end needs to know.
-//! - `FALLBACK_ERROR_KINDS`: the refusals of Kerberos after which a client tries NTLM.
-//!
-//! The texts are grammars on the parts of a text: `specs/PackageList.antt`, `specs/IpText.antt`.
+//! - `Negotiate`: one end of a negotiation over any two mechanisms. Each step is a plan of questions to the mechanism in hand:
+//!   `specs/Client.antt` and `specs/Server.antt` have a definition for each row of their tables, `specs/Follows.antt` says what
+//!   comes of a plan, and `specs/Negotiate.antt` what a negotiation means. For now Kerberos counts as disabled (`new.rt`).
+//! - `negotiation_laws`: a negotiation is a context; packages never grow, the list stays, and MICs protect it.
+//! - `PackageListConfig`: which packages a list of names allows; `is_ip_text`: whether a peer is named by an IP address, which
+//!   Kerberos has no name for; `ProtocolConfig`, `NegotiateConfig`: what an end is made of; `NegotiatedProtocol`: the mechanism
+//!   in hand; `FALLBACK_ERROR_KINDS`: the refusals of Kerberos after which a client tries NTLM.
 #![tactic(auto)]
 
 mod acquire;
@@ -35,6 +33,7 @@ mod refusal;
 mod rows;
 mod rule;
 mod server;
+mod settling;
 mod spelled;
 pub mod state;
 mod target;

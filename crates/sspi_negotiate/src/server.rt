@@ -1,28 +1,25 @@
-// The server's steps, in the order of `specs/Server.antt`.
-ghost use Rattle.std.specs.Prelude.{◌≡◌, ◌≢◌, [], None, Some, IfOk, IfErr, OnOk, OnErr, if◌then◌else◌};
+// The steps of a server, and its first one: the offer is read and a mechanism is picked, in the order of `specs/Server.antt`.
+ghost use Rattle.std.specs.Prelude.{◌≡◌, [], None, Some, IfOk, IfErr, OnErr, if◌then◌else◌};
 ghost use Rattle.sspi_mech.specs.Calls.{accept_args};
 ghost use Rattle.sspi_mech.specs.Context.{IsUnused};
-ghost use Rattle.sspi_tokens.specs.Reading.{init_of, targ_of};
-ghost use Rattle.sspi_negotiate.specs.Does.{Does, Passes, Stays, StaysUnused, told};
+ghost use Rattle.sspi_tokens.specs.Reading.{init_of};
+ghost use Rattle.sspi_negotiate.specs.Does.{Does, Stays, StaysUnused, told};
 ghost use Rattle.sspi_negotiate.specs.declared.protocol.Protocol.TheVariants as protocols;
 ghost use Rattle.sspi_negotiate.specs.Hand.{hand, hand_of};
 ghost use Rattle.sspi_negotiate.specs.Negotiate.{negotiate};
 ghost use Rattle.sspi_negotiate.specs.Pick.{pick, oid_of};
-ghost use Rattle.sspi_negotiate.specs.Plan.{Accepts, Pairs, Names, Goes};
-ghost use Rattle.sspi_negotiate.specs.Rows.{targ, or_empty, in_ntlm, checks, completes_signed};
-ghost use Rattle.sspi_negotiate.specs.Server.{drops, waits_for_token, goes_on, awaits_mic, ends_at_once, opens, needs_mic, first_token, placed, takes_pick, picks, reads_list, at_initial, excuses, without_mic, settles, accepted, at_progress, last_mic, at_verify_mic, spnego_server};
+ghost use Rattle.sspi_negotiate.specs.Plan.{Accepts, Pairs};
+ghost use Rattle.sspi_negotiate.specs.Rows.{targ, or_empty, in_ntlm};
+ghost use Rattle.sspi_negotiate.specs.Server.{drops, waits_for_token, goes_on, awaits_mic, ends_at_once, opens, needs_mic, first_token, placed, takes_pick, picks, reads_list, at_initial, spnego_server};
 ghost use Rattle.sspi_negotiate.specs.Values.{values_of};
-ghost use Rattle.sspi_negotiate.specs.declared.state.NegotiateState.TheVariants as states;
-ghost use Rattle.sspi_types.specs.declared.security_status.SecurityStatus.TheVariants as statuses;
 
 use crate::negotiate::Negotiate;
 use crate::pick::{Choice, Picked, pick};
 use crate::protocol::NegotiatedProtocol;
 use crate::refusal::{invalid_token, out_of_sequence};
-use crate::rows::{is_complete, is_guest_text, is_over, server_wants_mic};
+use crate::rows::{is_over, server_wants_mic};
 use crate::state::{NegotiateState, Role};
 use sspi_mech::{AcceptSecurityContext, Mechanism, Step};
-use sspi_names::Username;
 use sspi_tokens::{MechTypeList, NegResult, NegTokenInit, NegTokenTarg};
 use sspi_types::{Bytes, Error, Reason, SecurityStatus};
 use std::alloc::{AllocError, Global};
@@ -377,157 +374,5 @@ impl<N: Mechanism, K: Mechanism> Negotiate<N, K> {
         let output = Some(step.output);
         let token = picked_targ(self.alloc, NegResult::AcceptComplete, picked.choice, output)?;
         self.write(&token, false, NegotiateState::Ok, SecurityStatus::Ok)
-    }
-
-    fn read_response(&mut self, args: &AcceptSecurityContext<'_>) -> Result<Step, Error>
-        ensures step { Does N.meaning K.meaning (at_progress (targ_of args.now.input.now) (values_of self.old) (accept_args args.now)) self.old (told result) self.new }
-        ensures stays { OnErr result (Stays (values_of self.old) (values_of self.new)) }
-        ensures unused { StaysUnused N.meaning K.meaning self.old self.new }
-        ensures plain { IfErr result (λ error. error.nstatus ≡ None) }
-    {
-        match NegTokenTarg::decode(self.alloc, args.input) {
-            Err(error) => Err(error),
-            Ok(token) => self.take_response(token, args),
-        }
-    }
-
-    fn take_response(
-        &mut self,
-        token: NegTokenTarg,
-        args: &AcceptSecurityContext<'_>,
-    ) -> Result<Step, Error>
-        ensures step { Does N.meaning K.meaning (Accepts (record (accept_args args.now) { input = or_empty token.response_token }) (values_of self.old) (λ step. accepted token (values_of self.old) step)) self.old (told result) self.new }
-        ensures stays { OnErr result (Stays (values_of self.old) (values_of self.new)) }
-        ensures unused { StaysUnused N.meaning K.meaning self.old self.new }
-        ensures plain { IfErr result (λ error. error.nstatus ≡ None) }
-    {
-        match accept_with(&mut self.protocol, args, &token.response_token) {
-            Err(error) => Err(error),
-            Ok(step) => self.respond(token, step),
-        }
-    }
-
-    fn respond(&mut self, token: NegTokenTarg, step: Step) -> Result<Step, Error>
-        ensures step { Does N.meaning K.meaning (accepted token (values_of self.old) step) self.old (told result) self.new }
-        ensures stays { OnErr result (Stays (values_of self.old) (values_of self.new)) }
-        ensures unused { StaysUnused N.meaning K.meaning self.old self.new }
-        ensures plain { IfErr result (λ error. error.nstatus ≡ None) }
-    {
-        if is_over(step.status) {
-            let complete = is_complete(token.neg_result);
-            self.settle(self.mic_needed, token.mech_list_mic, complete, step.output)
-        } else {
-            self.carry_on(step.output, step.status)
-        }
-    }
-
-    fn settle(
-        &mut self,
-        need: bool,
-        mic: Option<Bytes>,
-        complete: bool,
-        token: Bytes,
-    ) -> Result<Step, Error>
-        ensures step { Does N.meaning K.meaning (settles need mic complete (values_of self.old) token) self.old (told result) self.new }
-        ensures stays { OnErr result (Stays (values_of self.old) (values_of self.new)) }
-        ensures unused { StaysUnused N.meaning K.meaning self.old self.new }
-        ensures plain { IfErr result (λ error. error.nstatus ≡ None) }
-    {
-        if need {
-            match mic {
-                Some(mic) => self.check_and_sign(&mic, token),
-                None => self.go_without_mic(complete, token),
-            }
-        } else {
-            self.complete(token, None)
-        }
-    }
-
-    fn check_and_sign(&mut self, mic: &Bytes, token: Bytes) -> Result<Step, Error>
-        ensures step { Does N.meaning K.meaning (checks mic.now (values_of self.old) (completes_signed (values_of self.old) token)) self.old (told result) self.new }
-        ensures stays { OnErr result (Stays (values_of self.old) (values_of self.new)) }
-        ensures unused { StaysUnused N.meaning K.meaning self.old self.new }
-        ensures plain { IfErr result (λ error. error.nstatus ≡ None) }
-    {
-        match self.check(mic) {
-            Err(error) => Err(error),
-            Ok(()) => self.complete_signed(token),
-        }
-    }
-
-    #[tactic(auto, unfolding(crate::specs::Server::without_mic))]
-    fn go_without_mic(&mut self, complete: bool, token: Bytes) -> Result<Step, Error>
-        ensures step { Does N.meaning K.meaning (without_mic complete (values_of self.old) token) self.old (told result) self.new }
-        ensures stays { OnErr result (Stays (values_of self.old) (values_of self.new)) }
-        ensures unused { StaysUnused N.meaning K.meaning self.old self.new }
-        ensures plain { IfErr result (λ error. error.nstatus ≡ None) }
-    {
-        if complete {
-            self.excuse(token)
-        } else {
-            self.hand_mic(token)
-        }
-    }
-
-    fn excuse(&mut self, token: Bytes) -> Result<Step, Error>
-        ensures step { Does N.meaning K.meaning (Names (values_of self.old) (λ name. excuses (values_of self.old) token name)) self.old (told result) self.new }
-        ensures stays { OnErr result (Stays (values_of self.old) (values_of self.new)) }
-        ensures unused { StaysUnused N.meaning K.meaning self.old self.new }
-        ensures plain { IfErr result (λ error. error.nstatus ≡ None) }
-    {
-        match self.protocol.names() {
-            Err(error) => Err(error),
-            Ok(name) => self.excuse_name(token, &name),
-        }
-    }
-
-    fn excuse_name(&mut self, token: Bytes, name: &Username) -> Result<Step, Error>
-        ensures step { Does N.meaning K.meaning (excuses (values_of self.old) token name.now) self.old (told result) self.new }
-        ensures stays { OnErr result (Stays (values_of self.old) (values_of self.new)) }
-        ensures unused { StaysUnused N.meaning K.meaning self.old self.new }
-        ensures plain { IfErr result (λ error. error.nstatus ≡ None) }
-    {
-        if is_guest_text(name.inner()) {
-            self.mic_needed = false;
-            self.complete(token, None)
-        } else {
-            Err(invalid_token(Reason::NoMic))
-        }
-    }
-
-    fn read_last(&mut self, args: &AcceptSecurityContext<'_>) -> Result<Step, Error>
-        ensures step { Does N.meaning K.meaning (at_verify_mic (targ_of args.now.input.now) (values_of self.old)) self.old (told result) self.new }
-        ensures stays { OnErr result (Stays (values_of self.old) (values_of self.new)) }
-        ensures unused { StaysUnused N.meaning K.meaning self.old self.new }
-        ensures plain { IfErr result (λ error. error.nstatus ≡ None) }
-    {
-        match NegTokenTarg::decode(self.alloc, args.input) {
-            Err(error) => Err(error),
-            Ok(token) => self.take_last(token.mech_list_mic),
-        }
-    }
-
-    fn take_last(&mut self, mic: Option<Bytes>) -> Result<Step, Error>
-        ensures step { Does N.meaning K.meaning (last_mic mic (values_of self.old)) self.old (told result) self.new }
-        ensures stays { OnErr result (Stays (values_of self.old) (values_of self.new)) }
-        ensures unused { StaysUnused N.meaning K.meaning self.old self.new }
-        ensures plain { IfErr result (λ error. error.nstatus ≡ None) }
-    {
-        match mic {
-            None => Err(invalid_token(Reason::NoMic)),
-            Some(mic) => self.check_last(&mic),
-        }
-    }
-
-    fn check_last(&mut self, mic: &Bytes) -> Result<Step, Error>
-        ensures step { Does N.meaning K.meaning (checks mic.now (values_of self.old) (Goes (record (values_of self.old) { state = states.Ok }) (record { status = statuses.Ok; output = [] }))) self.old (told result) self.new }
-        ensures stays { OnErr result (Stays (values_of self.old) (values_of self.new)) }
-        ensures unused { StaysUnused N.meaning K.meaning self.old self.new }
-        ensures plain { IfErr result (λ error. error.nstatus ≡ None) }
-    {
-        match self.check(mic) {
-            Err(error) => Err(error),
-            Ok(()) => self.end(),
-        }
     }
 }

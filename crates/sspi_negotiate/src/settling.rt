@@ -1,0 +1,173 @@
+// The later steps of a server: the mechanism authenticates, and the MICs protect the list.
+ghost use Rattle.std.specs.Prelude.{◌≡◌, [], None, Some, IfErr, OnErr};
+ghost use Rattle.sspi_mech.specs.Calls.{accept_args};
+ghost use Rattle.sspi_tokens.specs.Reading.{targ_of};
+ghost use Rattle.sspi_negotiate.specs.Does.{Does, Stays, StaysUnused, told};
+ghost use Rattle.sspi_negotiate.specs.Plan.{Accepts, Names, Goes};
+ghost use Rattle.sspi_negotiate.specs.Rows.{or_empty, checks, completes_signed};
+ghost use Rattle.sspi_negotiate.specs.Server.{excuses, without_mic, settles, accepted, at_progress, last_mic, at_verify_mic};
+ghost use Rattle.sspi_negotiate.specs.Values.{values_of};
+ghost use Rattle.sspi_negotiate.specs.declared.state.NegotiateState.TheVariants as states;
+ghost use Rattle.sspi_types.specs.declared.security_status.SecurityStatus.TheVariants as statuses;
+
+use crate::negotiate::Negotiate;
+use crate::refusal::invalid_token;
+use crate::rows::{is_complete, is_guest_text, is_over};
+use sspi_mech::{AcceptSecurityContext, Mechanism, Step};
+use sspi_names::Username;
+use sspi_tokens::NegTokenTarg;
+use sspi_types::{Bytes, Error, Reason};
+
+impl<N: Mechanism, K: Mechanism> Negotiate<N, K> {
+    pub(crate) fn read_response(&mut self, args: &AcceptSecurityContext<'_>) -> Result<Step, Error>
+        ensures step { Does N.meaning K.meaning (at_progress (targ_of args.now.input.now) (values_of self.old) (accept_args args.now)) self.old (told result) self.new }
+        ensures stays { OnErr result (Stays (values_of self.old) (values_of self.new)) }
+        ensures unused { StaysUnused N.meaning K.meaning self.old self.new }
+        ensures plain { IfErr result (λ error. error.nstatus ≡ None) }
+    {
+        match NegTokenTarg::decode(self.alloc, args.input) {
+            Err(error) => Err(error),
+            Ok(token) => self.take_response(token, args),
+        }
+    }
+
+    fn take_response(
+        &mut self,
+        token: NegTokenTarg,
+        args: &AcceptSecurityContext<'_>,
+    ) -> Result<Step, Error>
+        ensures step { Does N.meaning K.meaning (Accepts (record (accept_args args.now) { input = or_empty token.response_token }) (values_of self.old) (λ step. accepted token (values_of self.old) step)) self.old (told result) self.new }
+        ensures stays { OnErr result (Stays (values_of self.old) (values_of self.new)) }
+        ensures unused { StaysUnused N.meaning K.meaning self.old self.new }
+        ensures plain { IfErr result (λ error. error.nstatus ≡ None) }
+    {
+        match accept_with(&mut self.protocol, args, &token.response_token) {
+            Err(error) => Err(error),
+            Ok(step) => self.respond(token, step),
+        }
+    }
+
+    fn respond(&mut self, token: NegTokenTarg, step: Step) -> Result<Step, Error>
+        ensures step { Does N.meaning K.meaning (accepted token (values_of self.old) step) self.old (told result) self.new }
+        ensures stays { OnErr result (Stays (values_of self.old) (values_of self.new)) }
+        ensures unused { StaysUnused N.meaning K.meaning self.old self.new }
+        ensures plain { IfErr result (λ error. error.nstatus ≡ None) }
+    {
+        if is_over(step.status) {
+            let complete = is_complete(token.neg_result);
+            self.settle(self.mic_needed, token.mech_list_mic, complete, step.output)
+        } else {
+            self.carry_on(step.output, step.status)
+        }
+    }
+
+    fn settle(
+        &mut self,
+        need: bool,
+        mic: Option<Bytes>,
+        complete: bool,
+        token: Bytes,
+    ) -> Result<Step, Error>
+        ensures step { Does N.meaning K.meaning (settles need mic complete (values_of self.old) token) self.old (told result) self.new }
+        ensures stays { OnErr result (Stays (values_of self.old) (values_of self.new)) }
+        ensures unused { StaysUnused N.meaning K.meaning self.old self.new }
+        ensures plain { IfErr result (λ error. error.nstatus ≡ None) }
+    {
+        if need {
+            match mic {
+                Some(mic) => self.check_and_sign(&mic, token),
+                None => self.go_without_mic(complete, token),
+            }
+        } else {
+            self.complete(token, None)
+        }
+    }
+
+    fn check_and_sign(&mut self, mic: &Bytes, token: Bytes) -> Result<Step, Error>
+        ensures step { Does N.meaning K.meaning (checks mic.now (values_of self.old) (completes_signed (values_of self.old) token)) self.old (told result) self.new }
+        ensures stays { OnErr result (Stays (values_of self.old) (values_of self.new)) }
+        ensures unused { StaysUnused N.meaning K.meaning self.old self.new }
+        ensures plain { IfErr result (λ error. error.nstatus ≡ None) }
+    {
+        match self.check(mic) {
+            Err(error) => Err(error),
+            Ok(()) => self.complete_signed(token),
+        }
+    }
+
+    #[tactic(auto, unfolding(crate::specs::Server::without_mic))]
+    fn go_without_mic(&mut self, complete: bool, token: Bytes) -> Result<Step, Error>
+        ensures step { Does N.meaning K.meaning (without_mic complete (values_of self.old) token) self.old (told result) self.new }
+        ensures stays { OnErr result (Stays (values_of self.old) (values_of self.new)) }
+        ensures unused { StaysUnused N.meaning K.meaning self.old self.new }
+        ensures plain { IfErr result (λ error. error.nstatus ≡ None) }
+    {
+        if complete {
+            self.excuse(token)
+        } else {
+            self.hand_mic(token)
+        }
+    }
+
+    fn excuse(&mut self, token: Bytes) -> Result<Step, Error>
+        ensures step { Does N.meaning K.meaning (Names (values_of self.old) (λ name. excuses (values_of self.old) token name)) self.old (told result) self.new }
+        ensures stays { OnErr result (Stays (values_of self.old) (values_of self.new)) }
+        ensures unused { StaysUnused N.meaning K.meaning self.old self.new }
+        ensures plain { IfErr result (λ error. error.nstatus ≡ None) }
+    {
+        match self.protocol.names() {
+            Err(error) => Err(error),
+            Ok(name) => self.excuse_name(token, &name),
+        }
+    }
+
+    fn excuse_name(&mut self, token: Bytes, name: &Username) -> Result<Step, Error>
+        ensures step { Does N.meaning K.meaning (excuses (values_of self.old) token name.now) self.old (told result) self.new }
+        ensures stays { OnErr result (Stays (values_of self.old) (values_of self.new)) }
+        ensures unused { StaysUnused N.meaning K.meaning self.old self.new }
+        ensures plain { IfErr result (λ error. error.nstatus ≡ None) }
+    {
+        if is_guest_text(name.inner()) {
+            self.mic_needed = false;
+            self.complete(token, None)
+        } else {
+            Err(invalid_token(Reason::NoMic))
+        }
+    }
+
+    pub(crate) fn read_last(&mut self, args: &AcceptSecurityContext<'_>) -> Result<Step, Error>
+        ensures step { Does N.meaning K.meaning (at_verify_mic (targ_of args.now.input.now) (values_of self.old)) self.old (told result) self.new }
+        ensures stays { OnErr result (Stays (values_of self.old) (values_of self.new)) }
+        ensures unused { StaysUnused N.meaning K.meaning self.old self.new }
+        ensures plain { IfErr result (λ error. error.nstatus ≡ None) }
+    {
+        match NegTokenTarg::decode(self.alloc, args.input) {
+            Err(error) => Err(error),
+            Ok(token) => self.take_last(token.mech_list_mic),
+        }
+    }
+
+    fn take_last(&mut self, mic: Option<Bytes>) -> Result<Step, Error>
+        ensures step { Does N.meaning K.meaning (last_mic mic (values_of self.old)) self.old (told result) self.new }
+        ensures stays { OnErr result (Stays (values_of self.old) (values_of self.new)) }
+        ensures unused { StaysUnused N.meaning K.meaning self.old self.new }
+        ensures plain { IfErr result (λ error. error.nstatus ≡ None) }
+    {
+        match mic {
+            None => Err(invalid_token(Reason::NoMic)),
+            Some(mic) => self.check_last(&mic),
+        }
+    }
+
+    fn check_last(&mut self, mic: &Bytes) -> Result<Step, Error>
+        ensures step { Does N.meaning K.meaning (checks mic.now (values_of self.old) (Goes (record (values_of self.old) { state = states.Ok }) (record { status = statuses.Ok; output = [] }))) self.old (told result) self.new }
+        ensures stays { OnErr result (Stays (values_of self.old) (values_of self.new)) }
+        ensures unused { StaysUnused N.meaning K.meaning self.old self.new }
+        ensures plain { IfErr result (λ error. error.nstatus ≡ None) }
+    {
+        match self.check(mic) {
+            Err(error) => Err(error),
+            Ok(()) => self.end(),
+        }
+    }
+}
