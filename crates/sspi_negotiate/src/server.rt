@@ -25,7 +25,7 @@ use sspi_types::{Bytes, Error, Reason, SecurityStatus};
 use std::alloc::{AllocError, Global};
 
 /// The mechanism's step on this token, or on none.
-fn accept_with<N: Mechanism, K: Mechanism>(
+pub(crate) fn accept_with<N: Mechanism, K: Mechanism>(
     protocol: &mut NegotiatedProtocol<N, K>,
     args: &AcceptSecurityContext<'_>,
     token: &Option<Bytes>,

@@ -13,6 +13,7 @@ ghost use Rattle.sspi_types.specs.declared.security_status.SecurityStatus.TheVar
 use crate::negotiate::Negotiate;
 use crate::refusal::invalid_token;
 use crate::rows::{is_complete, is_guest_text, is_over};
+use crate::server::accept_with;
 use sspi_mech::{AcceptSecurityContext, Mechanism, Step};
 use sspi_names::Username;
 use sspi_tokens::NegTokenTarg;
