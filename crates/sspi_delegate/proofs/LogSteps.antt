@@ -215,3 +215,15 @@ read_asked base start (t ∷ past) log log2 now now2 text request newest there b
       delivered = head_delivered t past log2 text request took.1 read;
       faults = omega (arith, between.faults, later);
     }
+
+-- no memory for the request that was read of the newest delivery
+pub read_lacks : (base : List Carried) (start limit : ℕ) (turns : List Turn) (log log2 : List Carried) (now now2 : ℕ) (text : List ℕ) (newest : Turn) →
+    Some newest ≡ slice_get turns 0 → Between base start turns log now → (IsUnread log → Takes log log2 (Ok text)) → now ≤ now2 →
+    Stopped base start limit errors.InsufficientMemory turns log2 now2
+read_lacks base start limit [] log log2 now now2 text newest there between takes later = absurd (cc (there))
+read_lacks base start limit (t ∷ past) log log2 now now2 text newest there between takes later =
+    let took = takes between.unread in record {
+      order = between.order;
+      faults = omega (arith, between.faults, later);
+      cause = (going_may_lack (t ∷ past) between.going, inl (fed_logged base t past log log2 took.0 between.entries));
+    }
