@@ -1,5 +1,5 @@
 -- The kind of an identifier tells the identifiers that are known.
-use Rattle.std.proofs.Common.{◌≡◌, ℕ, Bool, true, false, cond, List, Some, refl, sym, ap, ◌∙◌}
+use Rattle.std.proofs.Common.{◌≡◌, ℕ, Bool, true, false, cond, List, Some, refl, sym, ap}
 use lib.Pointwise.{bytes_decides}
 use Rattle.std.specs.Str.{bytes_eq}
 use Rattle.sspi_tokens.specs.Oids.{ms_krb5, krb5, ntlm_ssp, kind_of, identifier_of}

@@ -41,7 +41,8 @@ fn read_field<'a>(
     tag: u8,
     inner: u8,
 ) -> Result<Option<&'a [u8]>, WireKind>
-    ensures read { Gives (λ content. option_copied content) source.new result (optional_at tag (around_at tag (element_at inner)) source.old) }
+    ensures read { Gives (λ content. option_copied content) source.new result
+        (optional_at tag (around_at tag (element_at inner)) source.old) }
     ensures memory { NeedsNoMemory result }
 {
     if !is_next(source, tag) {

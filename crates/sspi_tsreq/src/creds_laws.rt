@@ -51,8 +51,10 @@ pub fn no_other_refusal()
 pub fn creds_are_known_by_bytes()
     ensures creds { (text cred_type credentials other_type other : List ℕ) → IsCreds text cred_type credentials
         → IsCreds text other_type other → (cred_type ≡ other_type) × (credentials ≡ other) }
-    ensures passwords { (text : List ℕ) (texts other : Passwords) → IsPasswordCreds text texts → IsPasswordCreds text other → texts ≡ other }
-    ensures buffers { (text : List ℕ) (buffers other : AuthIdentityBuffers) → StandsFor text buffers → StandsFor text other → buffers ≡ other }
+    ensures passwords { (text : List ℕ) (texts other : Passwords) → IsPasswordCreds text texts → IsPasswordCreds text other
+        → texts ≡ other }
+    ensures buffers { (text : List ℕ) (buffers other : AuthIdentityBuffers) → StandsFor text buffers → StandsFor text other
+        → buffers ≡ other }
 {}
 
 /// What is written of credentials is read back as the same buffers, or as empty ones where the client keeps its

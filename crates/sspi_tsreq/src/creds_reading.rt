@@ -87,7 +87,8 @@ fn read_creds(alloc: Global, body: &[u8]) -> Result<CredentialsBuffers, Error>
 }
 
 fn spelled_fields(body: &[u8]) -> Result<Fields<'_>, Error>
-    ensures { Is (λ fields. record { cred_type = fields.cred_type.now; credentials = fields.credentials.now }) result (spelled_or_malformed (fields_at body.now)) }
+    ensures { Is (λ fields. record { cred_type = fields.cred_type.now; credentials = fields.credentials.now }) result
+        (spelled_or_malformed (fields_at body.now)) }
 {
     match read_fields(&mut SliceSource::new(body)) {
         Ok(fields) => Ok(fields),
@@ -107,7 +108,8 @@ fn spelled_passwords(bytes: &[u8]) -> Result<Passwords<'_>, Error>
 
 #[tactic(auto, unfolding(crate::specs::Creds::fields_at))]
 fn read_fields<'a>(source: &mut SliceSource<'a>) -> Result<Fields<'a>, WireKind>
-    ensures read { Gives (λ fields. record { cred_type = fields.cred_type.now; credentials = fields.credentials.now }) source.new result (fields_at source.old) }
+    ensures read { Gives (λ fields. record { cred_type = fields.cred_type.now; credentials = fields.credentials.now }) source.new result
+        (fields_at source.old) }
     ensures memory { NeedsNoMemory result }
 {
     let mut field = SliceSource::new(read_element(source, 0xa0)?);
@@ -121,7 +123,8 @@ fn read_fields<'a>(source: &mut SliceSource<'a>) -> Result<Fields<'a>, WireKind>
 
 #[tactic(auto, unfolding(crate::specs::Creds::passwords_at))]
 fn read_passwords<'a>(source: &mut SliceSource<'a>) -> Result<Passwords<'a>, WireKind>
-    ensures read { Gives (λ passwords. record { domain = passwords.domain.now; user = passwords.user.now; password = passwords.password.now }) source.new result (passwords_at source.old) }
+    ensures read { Gives (λ passwords. record { domain = passwords.domain.now; user = passwords.user.now; password = passwords.password.now })
+        source.new result (passwords_at source.old) }
     ensures memory { NeedsNoMemory result }
 {
     let mut body = SliceSource::new(read_element(source, SEQUENCE)?);

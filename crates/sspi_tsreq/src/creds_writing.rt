@@ -80,7 +80,8 @@ fn write_buffers(alloc: Global, buffers: &AuthIdentityBuffers) -> Result<Vec<u8>
 
 /// TSCredentials with these texts, where their content fits.
 fn write_texts(alloc: Global, texts: &Texts<'_>) -> Result<Vec<u8>, Error>
-    ensures { IsOrMemory (λ text. text.items) result (spelled_if_fits (creds_body texts.now.domain.now texts.now.user.now texts.now.password.now)) }
+    ensures { IsOrMemory (λ text. text.items) result
+        (spelled_if_fits (creds_body texts.now.domain.now texts.now.user.now texts.now.password.now)) }
 {
     let size = capped_body(texts.domain.len(), texts.user.len(), texts.password.len());
     if size > MAX_CONTENT {
@@ -120,7 +121,8 @@ fn write_creds<W: Sink>(sink: &mut W, texts: &Texts<'_>, size: usize) -> Result<
     requires fit { FitTexts (length texts.now.domain.now) (length texts.now.user.now) (length texts.now.password.now) }
     requires size { size ≡ length (creds_body texts.now.domain.now texts.now.user.now texts.now.password.now) }
     requires small { size ≤ max_content }
-    ensures wrote { Writes (W.written sink.old) (W.written sink.new) result (element 0x30 (creds_body texts.now.domain.now texts.now.user.now texts.now.password.now)) }
+    ensures wrote { Writes (W.written sink.old) (W.written sink.new) result
+        (element 0x30 (creds_body texts.now.domain.now texts.now.user.now texts.now.password.now)) }
     ensures cause { WriteCause (W.faults sink.old) (W.faults sink.new) result }
 {
     write_header(sink, SEQUENCE, size)?;
@@ -131,7 +133,8 @@ fn write_creds<W: Sink>(sink: &mut W, texts: &Texts<'_>, size: usize) -> Result<
 #[tactic(auto, using(sspi_ber::proofs::Written::writing), unfolding(crate::specs::Creds::creds_body, crate::specs::Creds::wrapped_octets))]
 fn write_body<W: Sink>(sink: &mut W, texts: &Texts<'_>) -> Result<(), WireKind>
     requires { FitTexts (length texts.now.domain.now) (length texts.now.user.now) (length texts.now.password.now) }
-    ensures wrote { Writes (W.written sink.old) (W.written sink.new) result (creds_body texts.now.domain.now texts.now.user.now texts.now.password.now) }
+    ensures wrote { Writes (W.written sink.old) (W.written sink.new) result
+        (creds_body texts.now.domain.now texts.now.user.now texts.now.password.now) }
     ensures cause { WriteCause (W.faults sink.old) (W.faults sink.new) result }
 {
     write_password_type(sink)?;
