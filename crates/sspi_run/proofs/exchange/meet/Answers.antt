@@ -5,11 +5,15 @@ use Rattle.sspi_delegate.specs.declared.edit.Edit.{Edit}
 use Rattle.sspi_delegate.specs.Headline.{IsFresh}
 use Rattle.sspi_delegate.specs.Link.{StaysTold}
 use Rattle.sspi_delegate.proofs.Histories.{server_past_history}
+use Rattle.sspi_mech.proofs.ContextLaws.{contextual}
 use Rattle.sspi_mech.specs.Ntlm.{ntlm_meaning}
+use Rattle.sspi_mech.specs.NtlmLaws.{ntlm_laws}
+use Rattle.sspi_credssp.proofs.ContextLaws.{lawful}
 use Rattle.sspi_tsreq.specs.declared.mode.CredSspMode.{CredSspMode}
 use Rattle.sspi_completeness.specs.Matching.{delegated_as, ComesToOk}
 use Rattle.sspi_completeness.proofs.ThreeTurns.{ok_three}
-use Rattle.sspi_completeness.proofs.Outcome.{calm_by, comes_to_ok, cut_short, settled_so, Settled}
+use Rattle.sspi_completeness.proofs.PlainSettled.{comes_to_ok, cut_short, settled_plainly}
+use Rattle.sspi_completeness.proofs.Settling.{calm_by, Settled}
 use Rattle.sspi_run.specs.Exchange.{ntlm, around, told_entries, told_failing, table_faults}
 use Rattle.sspi_run.specs.Outcome.{user_identity, IsPlain}
 use Rattle.sspi_run.proofs.Plainly.{plain_match, plain_link, plain_proxy}
@@ -55,9 +59,10 @@ returns-clause-outcome c ends values =
     let delegates = ensures.delegates fresh in
     let stays = ensures.stays in
     let server_history = server_past_history ntlm told_entries table_faults told_failing server made.server _ answer delegates.accounts.server_turns_are_its_calls in
-    let settles : (plain : IsPlain s) → Settled s.turns (delegated_as client.delegation (user_identity s)) answer =
-    λ plain. settled_so ntlm_meaning told_entries table_faults told_failing client server ends.client_fresh ends.server_fresh
-    (plain_match s client server ends.client_named ends.server_named values plain) _ _ _ s.turns made.client made.server (calls_of_kdc around) _ _ _ _ _ _ _
+    let laws = lawful _ _ (contextual _ ntlm_meaning ntlm_laws) (contextual _ ntlm_meaning ntlm_laws) in
+    let settles : (plain : IsPlain s) → Settled 3 s.turns (delegated_as client.delegation (user_identity s)) answer =
+    λ plain. settled_plainly ntlm_meaning laws (calls_of_kdc around) told_entries table_faults told_failing client server ends.client_fresh ends.server_fresh
+    (plain_match s client server ends.client_named ends.server_named values plain) _ _ _ _ _ s.turns made.client made.server _ _ _ _ _
     (plain_link s c.args.ends.link made.link.log made.link.faults ends.link plain)
     delegates.accounts.turns_and_log_show_the_answer stays.the_link_tells_what_it_told stays.the_link_fails_where_its_edits_say_so
     delegates.accounts.client_turns_are_its_calls server_history
