@@ -10,6 +10,7 @@ use std::alloc::Global;
 use std::io;
 
 type Client = CredSspClient<Ntlm, Ntlm>;
+
 type Server = CredSspServer<Ntlm, Ntlm, TableProxy>;
 
 /// The user `DOM\ann`, as the client delegates it and as the server's table knows it.
@@ -25,7 +26,15 @@ fn client_of(alloc: Global, key: Vec<u8>) -> Result<Client, Error> {
     let mode = ClientMode::Ntlm(NtlmConfig::new(Text::from_text(alloc, "CLIENT")?));
     let target = String::from_str(alloc, "TERMSRV/host")?;
     let nonce = [7; 32];
-    Ok(CredSspClient::new(alloc, key, ann, CredSspMode::WithCredentials, mode, target, nonce))
+    Ok(CredSspClient::new(
+        alloc,
+        key,
+        ann,
+        CredSspMode::WithCredentials,
+        mode,
+        target,
+        nonce,
+    ))
 }
 
 fn server_of(alloc: Global, key: Vec<u8>) -> Result<Server, Error> {
@@ -42,7 +51,15 @@ fn carried(alloc: Global) -> Result<Result<Delegation, DelegateError>, Error> {
     let mut link = MemoryLink::new(alloc, Vec::new(alloc));
     let mut transcript = Transcript::new(alloc);
     let mut kdc = FailingKdc::new();
-    Ok(delegate(alloc, &mut client, &mut server, &mut link, &mut kdc, 5, &mut transcript))
+    Ok(delegate(
+        alloc,
+        &mut client,
+        &mut server,
+        &mut link,
+        &mut kdc,
+        5,
+        &mut transcript,
+    ))
 }
 
 fn main(rt: HostRuntime) -> io::Result<()> {
