@@ -35,8 +35,8 @@ use Rattle.sspi_negotiate.specs.Rows.{client_wants_mic, is_complete, completes, 
 use Rattle.sspi_negotiate.specs.Rule.{url_for, rule_url, by_rule, ruled_values}
 use Rattle.sspi_negotiate.specs.Values.{Values}
 use Rattle.std.proofs.lemmas.Bool.{false≢true}
-use Rattle.sspi_negotiate.proofs.Shown.{AtOver, Shown}
-use Rattle.sspi_negotiate.proofs.ShownRows.{initial_is_before, progress_is_before, verify_is_before, either_shown, written_shown, in_ntlm_shown, verifies_shown, completes_shown, answers_signed_shown, carries_on_shown}
+use Rattle.sspi_negotiate.proofs.Shown.{AtOver, Closes, Shown}
+use Rattle.sspi_negotiate.proofs.ShownRows.{initial_is_before, progress_is_before, verify_is_before, either_shown, written_shown, in_ntlm_shown, verifies_shown, completes_shown, answers_signed_shown, carries_on_shown, answers_signed_closes}
 
 module _ (list : List (List ℕ)) where
   no_need : {P : Type 0} (v : Values) → v.need ≡ false → v.need ≡ true → P
@@ -64,6 +64,10 @@ module _ (list : List (List ℕ)) where
   verified_shown true v token is = λ over need. (is, tt)
   verified_shown false v token is = answers_signed_shown list (Unit {0}) _ states.Ok _ v token (λ over need. (is, tt))
 
+  verified_closes : (complete : Bool) (v : Values) (token : List ℕ) → Closes (verified complete v token)
+  verified_closes true v token = tt
+  verified_closes false v token = answers_signed_closes _ states.Ok _ v token
+
   unprotected_shown : (complete : Bool) (v : Values) (token : List ℕ) → v.need ≡ false → Shown list ⊥ (unprotected complete v token)
   unprotected_shown true v token off = λ over need. no_need v off need
   unprotected_shown false v token off = completes_shown list ⊥ v token None (λ need. no_need v off need)
@@ -72,7 +76,7 @@ module _ (list : List (List ℕ)) where
       Shown list ⊥ (settles need mic complete v token)
   settles_shown false mic complete v token off is = unprotected_shown complete v token off
   settles_shown true (Some mic) complete v token on is =
-      verifies_shown list ⊥ mic (spelled_list v.list) v _ (ap spelled_list (sym is)) (verified_shown complete v token is)
+      verifies_shown list ⊥ mic (spelled_list v.list) v _ (ap spelled_list (sym is)) (verified_shown complete v token is) (verified_closes complete v token)
   settles_shown true None complete v token on is = answers_signed_shown list ⊥ _ states.VerifyMic _ v token (λ over need. absurd (verify_is_before over))
 
   stepped_shown : (token : NegTokenTarg) (v : Values) (step : Step) → v.list ≡ list → v.state ≢ states.Ok → Shown list ⊥ (stepped token v step)
@@ -109,7 +113,7 @@ module _ (list : List (List ℕ)) where
 
   last_mic_shown : (mic : Option (List ℕ)) (v : Values) → v.list ≡ list → v.state ≢ states.Ok → Shown list ⊥ (last_mic mic v)
   last_mic_shown None v is before = λ over need. absurd (before over)
-  last_mic_shown (Some mic) v is before = verifies_shown list ⊥ mic (spelled_list v.list) v _ (ap spelled_list (sym is)) (λ over need. (is, tt))
+  last_mic_shown (Some mic) v is before = verifies_shown list ⊥ mic (spelled_list v.list) v _ (ap spelled_list (sym is)) (λ over need. (is, tt)) tt
 
   at_verify_mic_shown : (o : Option NegTokenTarg) (v : Values) → v.list ≡ list → v.state ≢ states.Ok → Shown list ⊥ (at_verify_mic o v)
   at_verify_mic_shown None v is before = tt

@@ -23,7 +23,7 @@ use Rattle.sspi_negotiate.specs.Known.{named}
 use Rattle.sspi_negotiate.specs.Plan.{Plan}
 use Rattle.sspi_negotiate.specs.Rows.{written, writes, in_ntlm, signs_text, verifies_text, checks, completes, answers_signed, carries_on}
 use Rattle.sspi_negotiate.specs.Values.{Values}
-use Rattle.sspi_negotiate.proofs.Shown.{AtOver, Shown}
+use Rattle.sspi_negotiate.proofs.Shown.{AtOver, Closes, EndsHere, Shown}
 
 is_end : NegotiateState → Bool
 is_end states.Initial = false
@@ -42,6 +42,23 @@ progress_is_before h = false≢true (ap is_end h)
 pub verify_is_before : states.VerifyMic ≢ states.Ok
 unfolding is_end
 verify_is_before h = false≢true (ap is_end h)
+
+written_ends : (o : Option (List ℕ)) (v v2 : Values) (status : SecurityStatus) → EndsHere (written o v v2 status)
+written_ends None v v2 status = tt
+written_ends (Some text) v v2 status = tt
+
+writes_ends : (token : NegTokenTarg) (v v2 : Values) (status : SecurityStatus) → EndsHere (writes token v v2 status)
+unfolding writes
+writes_ends token v v2 status = written_ends (spelled_targ token) v v2 status
+
+signs_closes : (o : Option (List ℕ)) (v : Values) (rest : List ℕ → Plan) → ((mic : List ℕ) → EndsHere (rest mic)) → Closes (signs_text o v rest)
+signs_closes None v rest h = tt
+signs_closes (Some text) v rest h = h
+
+pub answers_signed_closes : (result : NegResult) (state : NegotiateState) (status : SecurityStatus) (v : Values) (token : List ℕ) →
+    Closes (answers_signed result state status v token)
+unfolding answers_signed
+answers_signed_closes result state status v token = signs_closes (spelled_list v.list) v _ (λ mic. writes_ends _ v _ status)
 
 module _ (list : List (List ℕ)) where
   pub either_shown : (seen : Type 0) (b : Bool) (p q : Plan) → Shown list seen p → Shown list seen q → Shown list seen (cond b p q)
@@ -64,14 +81,14 @@ module _ (list : List (List ℕ)) where
   signs_shown seen None v rest h = tt
   signs_shown seen (Some text) v rest h = h
 
-  pub verifies_shown : (seen : Type 0) (mic : List ℕ) (o : Option (List ℕ)) (v : Values) (rest : Plan) → spelled_list list ≡ o → Shown list (Unit {0}) rest →
+  pub verifies_shown : (seen : Type 0) (mic : List ℕ) (o : Option (List ℕ)) (v : Values) (rest : Plan) → spelled_list list ≡ o → Shown list (Unit {0}) rest → Closes rest →
       Shown list seen (verifies_text mic o v rest)
-  verifies_shown seen mic None v rest is h = tt
-  verifies_shown seen mic (Some text) v rest is h = (is, h)
+  verifies_shown seen mic None v rest is h closes = tt
+  verifies_shown seen mic (Some text) v rest is h closes = (is, h, closes)
 
-  pub checks_shown : (seen : Type 0) (mic : List ℕ) (v : Values) (rest : Plan) → v.list ≡ list → Shown list (Unit {0}) rest → Shown list seen (checks mic v rest)
-  checks_shown seen mic v rest is h = λ name. either_shown seen (length (map Credential (named name v.known)) == 0) _ _ tt
-      (verifies_shown seen mic (spelled_list v.list) v rest (ap spelled_list (sym is)) h)
+  pub checks_shown : (seen : Type 0) (mic : List ℕ) (v : Values) (rest : Plan) → v.list ≡ list → Shown list (Unit {0}) rest → Closes rest → Shown list seen (checks mic v rest)
+  checks_shown seen mic v rest is h closes = λ name. either_shown seen (length (map Credential (named name v.known)) == 0) _ _ tt
+      (verifies_shown seen mic (spelled_list v.list) v rest (ap spelled_list (sym is)) h closes)
 
   pub completes_shown : (seen : Type 0) (v : Values) (token : List ℕ) (mic : Option (List ℕ)) → (v.need ≡ true → (v.list ≡ list) × seen) → Shown list seen (completes v token mic)
   unfolding completes

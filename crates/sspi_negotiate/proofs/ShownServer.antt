@@ -23,7 +23,7 @@ use Rattle.sspi_negotiate.specs.Server.{drops, waits_for_token, goes_on, awaits_
 use Rattle.sspi_negotiate.specs.Values.{Values}
 use Rattle.std.proofs.lemmas.Bool.{false≢true}
 use Rattle.sspi_negotiate.proofs.Shown.{AtOver, Shown}
-use Rattle.sspi_negotiate.proofs.ShownRows.{progress_is_before, verify_is_before, either_shown, writes_shown, in_ntlm_shown, checks_shown, completes_shown, answers_signed_shown, carries_on_shown}
+use Rattle.sspi_negotiate.proofs.ShownRows.{progress_is_before, verify_is_before, either_shown, writes_shown, in_ntlm_shown, checks_shown, completes_shown, answers_signed_shown, carries_on_shown, answers_signed_closes}
 
 module _ (list : List (List ℕ)) where
   opens_shown : (p : Picked) (v : Values) (step : Step) (need : Bool) → Shown list ⊥ (opens p v step need)
@@ -72,6 +72,7 @@ module _ (list : List (List ℕ)) where
   settles_shown false mic complete v token off is = completes_shown list ⊥ v token None (λ on. absurd (false≢true (sym off ∙ on)))
   settles_shown true (Some mic) complete v token on is =
       checks_shown list ⊥ mic v _ is (answers_signed_shown list (Unit {0}) _ states.Ok _ v token (λ over need. (is, tt)))
+      (answers_signed_closes _ states.Ok _ v token)
   settles_shown true None complete v token on is = without_shown complete v token
 
   at_progress_shown : (o : Option NegTokenTarg) (v : Values) (args : AcceptArgs) → v.list ≡ list → v.state ≢ states.Ok → Shown list ⊥ (at_progress o v args)
@@ -81,7 +82,7 @@ module _ (list : List (List ℕ)) where
 
   last_mic_shown : (mic : Option (List ℕ)) (v : Values) → v.list ≡ list → Shown list ⊥ (last_mic mic v)
   last_mic_shown None v is = tt
-  last_mic_shown (Some mic) v is = checks_shown list ⊥ mic v _ is (λ over need. (is, tt))
+  last_mic_shown (Some mic) v is = checks_shown list ⊥ mic v _ is (λ over need. (is, tt)) tt
 
   at_verify_mic_shown : (o : Option NegTokenTarg) (v : Values) → v.list ≡ list → Shown list ⊥ (at_verify_mic o v)
   at_verify_mic_shown None v is = tt

@@ -1,12 +1,18 @@
 -- That the peer's MIC over a list of mechanisms was verified.
 use Rattle.std.specs.Prelude.{◌≡◌, ℕ, List, Some}
-use Rattle.sspi_mech.specs.Calls.{ToVerify, one_verified}
+use Rattle.sspi_mech.specs.Calls.{ToVerify, one_signed, one_verified}
 use Rattle.sspi_mech.specs.Meaning.{Meaning}
 use Rattle.sspi_tokens.specs.Spelling.{spelled_list}
 use Rattle.sspi_negotiate.specs.Hand.{Origin}
 
--- as the next MIC of the peer, by the mechanism in hand at one moment of the step
-pub record IsVerified {M : Type 0} (c : Meaning Origin M) (list : List (List ℕ)) : Type 0 where
+-- what is left of a mechanism: itself, or with one MIC more that it made
+pub data Leaves {M : Type 0} (c : Meaning Origin M) (m left : M) : Type 0 where
+  as_it_was : left ≡ m → Leaves c m left
+  having_signed : left ≡ c.counted m (one_signed (c.counts m)) → Leaves c m left
+
+-- The mechanism that is left in hand took this MIC of the peer as its next one and found it to be that of the list; since then
+-- it has made at most its own.
+pub record IsVerified {M : Type 0} (c : Meaning Origin M) (list : List (List ℕ)) (left : M) : Type 0 where
   pub before : M
   pub after : M
   pub mic : List ℕ
@@ -15,3 +21,4 @@ pub record IsVerified {M : Type 0} (c : Meaning Origin M) (list : List (List ℕ
   pub permitted : c.permits before (ToVerify mic text)
   pub verified : c.verifies after (c.counts before).verified mic text
   pub counted : after ≡ c.counted before (one_verified (c.counts before))
+  pub last : Leaves c after left

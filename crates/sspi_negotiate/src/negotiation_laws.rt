@@ -36,16 +36,16 @@ pub fn steps_keep<N: Mechanism, K: Mechanism>()
         (negotiate N.REQUESTS N.meaning K.meaning).accepts old args result new → UnlessMemory (told result) (Keeps (values_of old) (values_of new)) }
 {}
 
-/// An end that needs MICs comes to its end only where, in that very step, the mechanism in hand verified the peer's next MIC
-/// over the list of mechanisms as it is kept (RFC 4178, section 5).
+/// An end that needs MICs comes to its end only where, in that very step, the mechanism that is left in hand verified the
+/// peer's next MIC over the list of mechanisms as it is kept, and since then made at most its own (RFC 4178, section 5).
 pub fn mics_protect_the_list<N: Mechanism, K: Mechanism>()
     ensures client { (old new : Negotiation (NegotiatedProtocol N K)) (args : StepArgs) (step : Step) →
         (negotiate N.REQUESTS N.meaning K.meaning).steps old args (answers.Done step) new →
-        new.state ≡ states.Ok → new.need ≡ true → IsVerified (hand N.meaning K.meaning) new.list }
+        new.state ≡ states.Ok → new.need ≡ true → IsVerified (hand N.meaning K.meaning) new.list new.mech }
     ensures resumed { (old new : Negotiation (NegotiatedProtocol N K)) (reply : Reply) (step : Step) → old.state ≢ states.Ok →
         (negotiate N.REQUESTS N.meaning K.meaning).resumes old reply (answers.Done step) new →
-        new.state ≡ states.Ok → new.need ≡ true → IsVerified (hand N.meaning K.meaning) new.list }
+        new.state ≡ states.Ok → new.need ≡ true → IsVerified (hand N.meaning K.meaning) new.list new.mech }
     ensures server { (old new : Negotiation (NegotiatedProtocol N K)) (args : AcceptArgs) (step : Step) →
         (negotiate N.REQUESTS N.meaning K.meaning).accepts old args (Ok step) new →
-        new.state ≡ states.Ok → new.need ≡ true → IsVerified (hand N.meaning K.meaning) new.list }
+        new.state ≡ states.Ok → new.need ≡ true → IsVerified (hand N.meaning K.meaning) new.list new.mech }
 {}

@@ -14,18 +14,18 @@ returns-clause-client g c = λ old new args step s over need.
     let it = hand g.N.Mechanism.meaning g.K.Mechanism.meaning in
     let h = shown old.list it (spnego_client s.ip (values_of old) args) ⊥ old.mech new.mech step (values_of new)
     (client_shown s.ip (values_of old) args) (λ never. absurd never) s.moves.follows.as_planned over need in
-    subst (λ list. IsVerified it list) (sym h.0) h.1
+    subst (λ list. IsVerified it list new.mech) (sym h.0) h.1
 
 pub returns-clause-resumed : goal.returns-clause-resumed
 returns-clause-resumed g c = λ old new reply step before s over need.
     let it = hand g.N.Mechanism.meaning g.K.Mechanism.meaning in
     let h = shown old.list it (spnego_resumed (values_of old) reply) ⊥ old.mech new.mech step (values_of new)
     (resumed_shown (values_of old) reply before) (λ never. absurd never) s.follows.as_planned over need in
-    subst (λ list. IsVerified it list) (sym h.0) h.1
+    subst (λ list. IsVerified it list new.mech) (sym h.0) h.1
 
 pub returns-clause-server : goal.returns-clause-server
 returns-clause-server g c = λ old new args step s over need.
     let it = hand g.N.Mechanism.meaning g.K.Mechanism.meaning in
     let h = shown old.list it (spnego_server (values_of old) args) ⊥ old.mech new.mech step (values_of new)
     (server_shown (values_of old) args) (λ never. absurd never) s.follows.as_planned over need in
-    subst (λ list. IsVerified it list) (sym h.0) h.1
+    subst (λ list. IsVerified it list new.mech) (sym h.0) h.1
