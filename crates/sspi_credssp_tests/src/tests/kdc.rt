@@ -91,7 +91,7 @@ fn exchange<M: Mechanism>(
     }
 }
 
-fn exchanged<M: Mechanism>(rt: &impl Abort, alloc: Global, usual: Usual) -> Exchanged {
+fn exchange_of<M: Mechanism>(rt: &impl Abort, alloc: Global, usual: Usual) -> Exchanged {
     let mut client = plain_client::<Client<M>>(rt, alloc);
     let mut server = plain_server::<Server<M>>(rt, alloc);
     exchange(alloc, &mut client, &mut server, usual)
@@ -112,7 +112,7 @@ fn delegates_ann(answer: &Result<Delegation, DelegateError>) -> bool {
 }
 
 fn delegates<M: Mechanism>(rt: &impl Abort, alloc: Global) {
-    let exchanged = exchanged::<M>(rt, alloc, Usual::Answers);
+    let exchanged = exchange_of::<M>(rt, alloc, Usual::Answers);
     holds(rt, came_to(&exchanged, 6, 2, false), "another exchange");
     holds(rt, delegates_ann(&exchanged.answer), "another identity");
 }
@@ -128,14 +128,14 @@ fn lacks_kdc(answer: &Result<Delegation, DelegateError>) -> bool {
 
 /// A failed call is told to the client, which refuses the turn for it and would still take an answer.
 fn is_refused<M: Mechanism>(rt: &impl Abort, alloc: Global) {
-    let exchanged = exchanged::<M>(rt, alloc, Usual::Fails);
+    let exchanged = exchange_of::<M>(rt, alloc, Usual::Fails);
     holds(rt, came_to(&exchanged, 1, 1, true), "another exchange");
     holds(rt, lacks_kdc(&exchanged.answer), "another kind");
 }
 
 /// A KDC without memory ends the exchange, and no turn is recorded.
 fn is_given_up<M: Mechanism>(rt: &impl Abort, alloc: Global) {
-    let exchanged = exchanged::<M>(rt, alloc, Usual::HasNoMemory);
+    let exchanged = exchange_of::<M>(rt, alloc, Usual::HasNoMemory);
     holds(rt, came_to(&exchanged, 0, 1, true), "another exchange");
     let lost = matches!(&exchanged.answer, Err(DelegateError::InsufficientMemory));
     holds(rt, lost, "another answer");
