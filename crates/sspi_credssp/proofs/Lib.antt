@@ -1,3 +1,4 @@
+pub mod Asked
 pub mod Causes
 pub mod ClientReady
 pub mod ContextLaws
@@ -5,6 +6,7 @@ pub mod CredentialTexts
 pub mod Deliver
 pub mod LittleEndian
 pub mod Proxies
+pub mod ServerAsking
 pub mod ServerCauses
 pub mod ServerOpening
 pub mod ServerReady

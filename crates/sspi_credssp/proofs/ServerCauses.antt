@@ -1,6 +1,5 @@
 -- The causes of a server's refusals, put together from those of the calls inside.
-use Rattle.std.proofs.Common.{◌≡◌, ◌≢◌, ℕ, List, Option, None, Some, IsSome, Result, Ok, Err, IfErr, OnOk, false, sym, subst}
-use Rattle.sspi_types.specs.declared.credential_use.CredentialUse.TheVariants.{Inbound}
+use Rattle.std.proofs.Common.{◌≡◌, ◌≢◌, ℕ, List, Option, None, Some, IsSome, Result, Ok, Err, IfErr, OnOk, false, [], sym, subst, arith}
 use Rattle.sspi_types.specs.declared.error.Error.{Error}
 use Rattle.sspi_types.specs.declared.error_kind.ErrorKind.{ErrorKind}
 use Rattle.sspi_types.specs.declared.error_kind.ErrorKind.TheVariants.{InsufficientMemory, MessageAltered}
@@ -8,14 +7,16 @@ use Rattle.sspi_names.specs.declared.credentials.CredentialsBuffers.{Credentials
 use Rattle.sspi_types.specs.declared.security_status.SecurityStatus.{SecurityStatus}
 use Rattle.sspi_types.specs.declared.security_status.SecurityStatus.TheVariants as statuses
 use Rattle.sspi_names.specs.declared.identity.AuthIdentity.{AuthIdentity}
+use Rattle.sspi_names.specs.Name.{Name}
 use Rattle.sspi_tsreq.specs.declared.request.TsRequest.{TsRequest}
 use Rattle.sspi_mech.specs.Meaning.{Meaning}
 use Rattle.sspi_credssp.specs.declared.server_state.ServerError.{ServerError}
 use Rattle.sspi_credssp.specs.declared.state.CredSspState.{CredSspState}
-use Rattle.sspi_credssp.specs.Begun.{BeginCause, IfContext, MadeOr}
-use Rattle.sspi_credssp.specs.Context.{ContextSetting, ForServer}
+use Rattle.sspi_credssp.specs.Begun.{IfContext, MadeOr}
+use Rattle.sspi_credssp.specs.Context.{ContextSetting}
+use Rattle.sspi_credssp.specs.Proxy.{ProxyMeaning, ProxyTells, IsLater, AreFound}
 use Rattle.sspi_credssp.specs.Server.{ServerView}
-use Rattle.sspi_credssp.specs.ServerCause.{ServerCause, StateCause, NegoCause, AfterCause, OverCause, known}
+use Rattle.sspi_credssp.specs.ServerCause.{ServerCause, MakeCause, StateCause, NegoCause, AfterCause, OverCause, known, IdentifyCause, nameless, looked, unset, LookUpRefused, failed, nobody}
 use Rattle.sspi_credssp.specs.ServerStep.{Completed, HasCome}
 use Rattle.sspi_credssp.specs.ServerTurn.{IsOver}
 use Rattle.sspi_credssp.specs.Stops.{StopsIf, differs}
@@ -29,26 +30,26 @@ begun_noted (Err e) mid new noted Q same h = tt
 
 module _ {C : Type 0} (c : Meaning ContextSetting C) where
   -- a turn that was refused as it began
-  pub server_cause_begun : {P : Type 0} (told : P → Option (List AuthIdentity)) (faults : P → ℕ) (old new : ServerView C P) (d : TsRequest) (kind : ErrorKind) →
-      MadeOr old.context new.context (BeginCause c (ForServer old.mode) Inbound None kind)
+  pub server_cause_begun : {P : Type 0} (p : ProxyMeaning P) (old new : ServerView C P) (d : TsRequest) (kind : ErrorKind) →
+      MadeOr old.context new.context (MakeCause c p old new.proxy kind)
       (StopsIf (differs old.noted d.version) MessageAltered kind ⊥) →
-      ServerCause c told faults old d new kind
-  server_cause_begun told faults old new d kind h =
+      ServerCause c p old d new kind
+  server_cause_begun p old new d kind h =
       made_map old.context new.context _ _ _ (stops_map (differs old.noted d.version) MessageAltered kind _ _ (λ none. absurd none)) h
 
-  module _ {P : Type 0} (told : P → Option (List AuthIdentity)) (faults : P → ℕ) where
+  module _ {P : Type 0} (p : ProxyMeaning P) where
     -- a turn that was refused past the version check
     pub server_cause_past : {T : Type 0} (old new : ServerView C P) (d : TsRequest) (state : CredSspState) (r : Result T ServerError) →
         differs old.noted d.version ≡ false → IsSome new.context → state ≡ old.state →
-        IfErr r (λ refusal. refusal.error.error_type ≢ InsufficientMemory → StateCause c told faults state old d new refusal.error.error_type) →
-        IfErr r (λ refusal. refusal.error.error_type ≢ InsufficientMemory → ServerCause c told faults old d new refusal.error.error_type)
+        IfErr r (λ refusal. refusal.error.error_type ≢ InsufficientMemory → StateCause c p state old d new refusal.error.error_type) →
+        IfErr r (λ refusal. refusal.error.error_type ≢ InsufficientMemory → ServerCause c p old d new refusal.error.error_type)
     server_cause_past old new d state (Ok x) fits begun same_state h = h
     server_cause_past old new d state (Err refusal) fits begun same_state h = λ memory.
         made_later old.context new.context _ _ begun
-        (rw fits (subst (λ s. StateCause c told faults s old d new refusal.error.error_type) same_state (h memory)))
+        (rw fits (subst (λ s. StateCause c p s old d new refusal.error.error_type) same_state (h memory)))
 
     over_cause : (s : SecurityStatus) (old : ServerView C P) (d : TsRequest) (new : ServerView C P) (kind : ErrorKind) →
-        IsOver (Some s) → OverCause c told faults s old d new kind → NegoCause c told faults (Some s) old d new kind
+        IsOver (Some s) → OverCause c p s old d new kind → NegoCause c p (Some s) old d new kind
     over_cause statuses.Ok old d new kind over h = h
     over_cause statuses.ContinueNeeded old d new kind over h = absurd over
     over_cause statuses.CompleteNeeded old d new kind over h = h
@@ -61,16 +62,30 @@ module _ {C : Type 0} (c : Meaning ContextSetting C) where
 
     -- past the end of the authentication
     pub over_causes : {T : Type 0} (s : SecurityStatus) (old : ServerView C P) (d : TsRequest) (new : ServerView C P) (r : Result T Error) →
-        IsOver (Some s) → IfErr r (λ e. e.error_type ≢ InsufficientMemory → OverCause c told faults s old d new e.error_type) →
-        IfErr r (λ e. e.error_type ≢ InsufficientMemory → NegoCause c told faults (Some s) old d new e.error_type)
+        IsOver (Some s) → IfErr r (λ e. e.error_type ≢ InsufficientMemory → OverCause c p s old d new e.error_type) →
+        IfErr r (λ e. e.error_type ≢ InsufficientMemory → NegoCause c p (Some s) old d new e.error_type)
     over_causes s old d new (Ok x) over h = h
     over_causes s old d new (Err e) over h = λ memory. over_cause s old d new e.error_type over (h memory)
 
     -- once the context has come to its end
     pub known_causes : {T : Type 0} (s : SecurityStatus) (old : ServerView C P) (d request : TsRequest) (v : ℕ) (new : ServerView C P) (r : Result T Error) →
-        request ≡ record d { version = v } → HasCome c told Completed s old d new →
+        request ≡ record d { version = v } → HasCome c p Completed s old d new →
         IfErr r (λ e. e.error_type ≢ InsufficientMemory → AfterCause c request.pub_key_auth request.client_nonce new e.error_type) →
-        IfErr r (λ e. e.error_type ≢ InsufficientMemory → OverCause c told faults s old d new e.error_type)
+        IfErr r (λ e. e.error_type ≢ InsufficientMemory → OverCause c p s old d new e.error_type)
     known_causes s old d request v new (Ok x) same come h = h
     known_causes s old d request v new (Err e) same come h = λ memory.
         known come (subst (λ (x : TsRequest). AfterCause c x.pub_key_auth x.client_nonce new e.error_type) same (h memory))
+
+    -- the proxy was asked for its list before it is asked for the peer
+    looked_since : (name : Name) (before mid : P) (now : ℕ) (kind : ErrorKind) → IsLater p before mid →
+        LookUpRefused (p.told mid) name (p.faults mid) now kind → LookUpRefused (p.told before) name (p.faults before) now kind
+    looked_since name before mid now kind later (failed rises is) = failed (omega (arith, later.faults_stay, rises)) is
+    looked_since name before mid now kind later (nobody found is) =
+        nobody (subst (λ (t : ProxyTells). AreFound t name []) later.told_same found) is
+
+    pub identified_since : (m : C) (before mid : P) (now : ℕ) (kind : ErrorKind) → IsLater p before mid →
+        IdentifyCause c m (p.told mid) (p.faults mid) now kind → IdentifyCause c m (p.told before) (p.faults before) now kind
+    identified_since m before mid now kind later (nameless refused) = nameless refused
+    identified_since m before mid now kind later (looked name named refused) = looked name named (looked_since name before mid now kind later refused)
+    identified_since m before mid now kind later (unset name identities named found some refused) =
+        unset name identities named (subst (λ (t : ProxyTells). AreFound t name identities) later.told_same found) some refused

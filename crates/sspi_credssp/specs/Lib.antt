@@ -11,10 +11,12 @@ pub mod ErrorRequest
 pub mod Exchange
 pub mod Noted
 pub mod PackageName
+pub mod Peers
 pub mod Proxy
 pub mod PublicKey
 pub mod Requests
 pub mod Server
+pub mod ServerAsks
 pub mod ServerCause
 pub mod ServerStep
 pub mod ServerTurn

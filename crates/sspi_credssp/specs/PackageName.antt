@@ -6,5 +6,6 @@ use Rattle.sspi_credssp.specs.declared.context.SspiContext.{SspiContext}
 use Rattle.sspi_credssp.specs.declared.context.SspiContext.TheVariants as hands
 
 abbrev pub package_name_of : {N K : Type 0} → SspiContext N K → List ℕ
+package_name_of (hands.Negotiate it) = package_text packages.Negotiate
 package_name_of (hands.Ntlm it) = package_text packages.Ntlm
 package_name_of (hands.Kerberos it) = package_text packages.Kerberos

@@ -1,14 +1,35 @@
--- What a look-up of credentials answers.
-use Rattle.std.specs.Prelude.{◌≡◌, ℕ, ◌+◌, ◌-◌, ◌^◌, ◌≤◌, ◌==◌, min, List, find, filter, Option, None, Some, Result, Ok, Err, Bool, true, false}
+-- What a proxy tells of itself, and what a call of it does.
+use Rattle.std.specs.Prelude.{◌≡◌, ℕ, zero, suc, ◌+◌, ◌-◌, ◌^◌, ◌≤◌, ◌==◌, min, List, [], find, filter, Option, None, Some, Result, Ok, Err, Bool, true, false}
 use Rattle.std.specs.List.{list_any}
 use Rattle.sspi_names.specs.declared.identity.AuthIdentity.{AuthIdentity}
 use Rattle.sspi_names.specs.Name.{Name, equals_ignoring_case}
 use Rattle.sspi_credssp.specs.declared.proxy.ProxyError.{ProxyError}
 use Rattle.sspi_credssp.specs.declared.proxy.ProxyError.TheVariants.{NotFound, Failed, InsufficientMemory}
 
+-- what a proxy tells of itself; no call changes that
+pub record ProxyTells : Type 0 where
+  -- its entries, where it tells them
+  pub entries : Option (List AuthIdentity)
+  -- all identities that a look-up of this name finds, where it tells them
+  pub answers : Name → Option (List AuthIdentity)
+  -- the numbers of the calls that fail, from 0, where it tells them
+  pub failing : Option (List ℕ)
+
+-- what a proxy P means
+pub record ProxyMeaning (P : Type 0) : Type 0 where
+  pub told : P → ProxyTells
+  -- how many calls were made, and how many of them failed
+  pub calls : P → ℕ
+  pub faults : P → ℕ
+
 -- the next value of a count that stays at its last one
 abbrev pub counted_on : ℕ → ℕ
 counted_on n = min (n + 1) (2 ^ 64 - 1)
+
+-- its value so many calls later
+abbrev pub counted_after : ℕ → ℕ → ℕ
+counted_after zero count = count
+counted_after (suc n) count = counted_on (counted_after n count)
 
 -- the entry has this name, but for the case of ASCII letters
 abbrev pub is_named : Name → AuthIdentity → Bool
@@ -30,15 +51,20 @@ IsEntry (Some entries) name (Err NotFound) = entry_of entries name ≡ None
 IsEntry (Some entries) name (Err Failed) = Unit {0}
 IsEntry (Some entries) name (Err InsufficientMemory) = Unit {0}
 
+-- where a list is told: exactly this one
+abbrev pub IsTold : Option (List AuthIdentity) → List AuthIdentity → Type 0
+IsTold None identities = Unit {0}
+IsTold (Some told) identities = identities ≡ told
+
 -- where the entries are told: exactly all of that name
 abbrev pub AreCandidates : Option (List AuthIdentity) → Name → List AuthIdentity → Type 0
 AreCandidates None name identities = Unit {0}
 AreCandidates (Some entries) name identities = identities ≡ candidates_of entries name
 
--- where the entries are told: exactly these
-abbrev pub AreEntries : Option (List AuthIdentity) → List AuthIdentity → Type 0
-AreEntries None identities = Unit {0}
-AreEntries (Some entries) identities = identities ≡ entries
+-- a look-up of this name found these
+pub record AreFound (tells : ProxyTells) (name : Name) (identities : List AuthIdentity) : Type 0 where
+  pub answered : IsTold (tells.answers name) identities
+  pub candidates : AreCandidates tells.entries name identities
 
 -- a look-up of a list finds a list, which may be empty
 abbrev pub IsList : {X : Type 0} → Result X ProxyError → Type 0
@@ -65,3 +91,37 @@ FailsAsTold (Some numbers) call before now (Ok x) = (fails_at numbers call ≡ f
 FailsAsTold (Some numbers) call before now (Err NotFound) = (fails_at numbers call ≡ false) × (now ≡ before)
 FailsAsTold (Some numbers) call before now (Err Failed) = fails_at numbers call ≡ true
 FailsAsTold (Some numbers) call before now (Err InsufficientMemory) = now ≡ before
+
+-- the call of that number is one of those that are told to fail
+abbrev pub TellsFailure : Option (List ℕ) → ℕ → Type 0
+TellsFailure None call = ⊥
+TellsFailure (Some numbers) call = fails_at numbers call ≡ true
+
+module _ {P : Type 0} (p : ProxyMeaning P) where
+  -- one call, and its answer
+  pub record HasAnswered {X : Type 0} (before : P) (answer : Result X ProxyError) (now : P) : Type 0 where
+    pub told_same : p.told now ≡ p.told before
+    pub counted : p.calls now ≡ counted_on (p.calls before)
+    pub cause : LookUpCause (p.faults before) (p.faults now) answer
+    pub fails : FailsAsTold (p.told before).failing (p.calls before) (p.faults before) (p.faults now) answer
+
+  -- the same proxy, perhaps some calls later
+  pub record IsLater (before now : P) : Type 0 where
+    pub told_same : p.told now ≡ p.told before
+    pub faults_stay : p.faults before ≤ p.faults now
+
+  -- the same proxy, at most so many calls later
+  pub record IsAsked (limit : ℕ) (before now : P) : Type 0 where
+    pub told_same : p.told now ≡ p.told before
+    pub counted : p.calls now ≤ p.calls before + limit
+    pub unasked : limit ≡ 0 → now ≡ before
+    pub faults_stay : p.faults before ≤ p.faults now
+    -- where it tells that no call fails, none does
+    pub calm : (p.told before).failing ≡ Some [] → p.faults now ≡ p.faults before
+
+  -- it tells that its next call fails, or the one so many calls later
+  abbrev pub FailsNext : P → Type 0
+  FailsNext proxy = TellsFailure (p.told proxy).failing (p.calls proxy)
+
+  abbrev pub FailsAfter : ℕ → P → Type 0
+  FailsAfter n proxy = TellsFailure (p.told proxy).failing (counted_after n (p.calls proxy))

@@ -12,18 +12,20 @@ use Rattle.sspi_names.specs.Name.{Name}
 use Rattle.sspi_tsreq.specs.declared.request.TsRequest.{TsRequest}
 use Rattle.sspi_mech.specs.Calls.{ToName, ToIdentify, ToComplete, ToSeal, ToUnseal}
 use Rattle.sspi_mech.specs.Meaning.{Meaning}
+use Rattle.sspi_credssp.specs.declared.mode.ServerMode.{ServerMode}
+use Rattle.sspi_credssp.specs.declared.mode.ServerMode.TheVariants as modes
 use Rattle.sspi_credssp.specs.declared.public_key.EndpointType.TheVariants.{Client, Server}
 use Rattle.sspi_credssp.specs.declared.state.CredSspState.{CredSspState}
 use Rattle.sspi_credssp.specs.declared.state.CredSspState.TheVariants.{NegoToken, PubKeyInfo, AuthInfo, Final}
 use Rattle.sspi_credssp.specs.Begun.{BeginCause, IfContext, MadeOr}
-use Rattle.sspi_credssp.specs.Context.{ContextSetting, ForServer}
+use Rattle.sspi_credssp.specs.Context.{ContextSetting}
 use Rattle.sspi_credssp.specs.Credentials.{delegated_identity}
 use Rattle.sspi_credssp.specs.Exchange.{OpensOther, BlobStops}
-use Rattle.sspi_credssp.specs.Proxy.{counted_on, AreCandidates}
+use Rattle.sspi_credssp.specs.Proxy.{ProxyMeaning, ProxyTells, counted_on, AreFound}
 use Rattle.sspi_credssp.specs.PublicKey.{prescribed}
 use Rattle.sspi_credssp.specs.Requests.{nonce_of}
 use Rattle.sspi_credssp.specs.Server.{ServerView}
-use Rattle.sspi_credssp.specs.ServerStep.{Unknown, Identified, Completed, HasCome}
+use Rattle.sspi_credssp.specs.ServerStep.{Unknown, Identified, Completed, HasCome, server_setting}
 use Rattle.sspi_credssp.specs.Stops.{StopsIf, differs}
 
 -- from version 5 on the nonce must be there
@@ -32,19 +34,23 @@ lacks_nonce true sent_nonce = false
 lacks_nonce false None = true
 lacks_nonce false (Some sent_nonce) = false
 
--- The look-up failed, or found nobody. `told` are the proxy's entries, where they are told, and the counts of its faults stand
--- before and after.
-pub data LookUpRefused (told : Option (List AuthIdentity)) (name : Name) (before now : ℕ) (kind : ErrorKind) : Type 0 where
-  failed : counted_on before ≤ now → kind ≡ LogonDenied → LookUpRefused told name before now kind
-  nobody : AreCandidates told name [] → kind ≡ NoCredentials → LookUpRefused told name before now kind
+-- The look-up failed, or found nobody. The counts of the proxy's faults stand before and after.
+pub data LookUpRefused (tells : ProxyTells) (name : Name) (before now : ℕ) (kind : ErrorKind) : Type 0 where
+  failed : counted_on before ≤ now → kind ≡ LogonDenied → LookUpRefused tells name before now kind
+  nobody : AreFound tells name [] → kind ≡ NoCredentials → LookUpRefused tells name before now kind
+
+-- the list of identities that the context is made with failed
+abbrev pub ListRefused : ServerMode → ℕ → ℕ → ErrorKind → Type 0
+ListRefused (modes.Negotiate config) before now kind = (counted_on before ≤ now) × (kind ≡ InternalError)
+ListRefused (modes.Ntlm config) before now kind = ⊥
 
 module _ {C : Type 0} (c : Meaning ContextSetting C) where
   -- the peer is not known: it has no name, its look-up was refused, or the context refuses its identities
-  pub data IdentifyCause (m : C) (told : Option (List AuthIdentity)) (before now : ℕ) (kind : ErrorKind) : Type 0 where
-    nameless : c.refuses m ToName kind → IdentifyCause m told before now kind
-    looked : (name : Name) → c.names m ≡ Some name → LookUpRefused told name before now kind → IdentifyCause m told before now kind
-    unset : (name : Name) (identities : List AuthIdentity) → c.names m ≡ Some name → AreCandidates told name identities →
-        identities ≢ [] → c.refuses m (ToIdentify (map credentials.AuthIdentity identities)) kind → IdentifyCause m told before now kind
+  pub data IdentifyCause (m : C) (tells : ProxyTells) (before now : ℕ) (kind : ErrorKind) : Type 0 where
+    nameless : c.refuses m ToName kind → IdentifyCause m tells before now kind
+    looked : (name : Name) → c.names m ≡ Some name → LookUpRefused tells name before now kind → IdentifyCause m tells before now kind
+    unset : (name : Name) (identities : List AuthIdentity) → c.names m ≡ Some name → AreFound tells name identities →
+        identities ≢ [] → c.refuses m (ToIdentify (map credentials.AuthIdentity identities)) kind → IdentifyCause m tells before now kind
 
   -- the blob opened to another text than the client's proof, or the server's own is not sealed
   pub data AnswerCause (m : C) (blob proof answer : List ℕ) (kind : ErrorKind) : Type 0 where
@@ -86,15 +92,21 @@ module _ {C : Type 0} (c : Meaning ContextSetting C) where
     AfterCause None sent_nonce new kind = (new.output ≡ []) × (kind ≡ InvalidToken)
     AfterCause (Some blob) sent_nonce new kind = ExchangeCause (Some blob) new.noted sent_nonce new kind
 
-  module _ {P : Type 0} (told : P → Option (List AuthIdentity)) (faults : P → ℕ) where
+  module _ {P : Type 0} (p : ProxyMeaning P) where
+    -- why there is no new context: the proxy did not list its identities, or they were listed and it is not made or acquires no
+    -- credentials
+    pub data MakeCause (old : ServerView C P) (proxy : P) (kind : ErrorKind) : Type 0 where
+      unlisted : ListRefused old.mode (p.faults old.proxy) (p.faults proxy) kind → MakeCause old proxy kind
+      unbegun : BeginCause c (server_setting p old) Inbound None kind → MakeCause old proxy kind
+
     -- The peer is not known; or it is, and the context refuses its own end: in neither case its proof was looked at. Or the
     -- context is at its end, and what follows is refused. Each with the step that the turn took of its context until then.
     pub data OverCause (status : SecurityStatus) (old : ServerView C P) (d : TsRequest) (new : ServerView C P) (kind : ErrorKind) : Type 0 where
-      unknown : new.acts.checked ≡ false → HasCome c told Unknown status old d new →
-          IfContext new.context (λ m. IdentifyCause m (told old.proxy) (faults old.proxy) (faults new.proxy) kind) → OverCause status old d new kind
-      incomplete : new.acts.checked ≡ false → HasCome c told Identified status old d new →
+      unknown : new.acts.checked ≡ false → HasCome c p Unknown status old d new →
+          IfContext new.context (λ m. IdentifyCause m (p.told old.proxy) (p.faults old.proxy) (p.faults new.proxy) kind) → OverCause status old d new kind
+      incomplete : new.acts.checked ≡ false → HasCome c p Identified status old d new →
           IfContext new.context (λ m. c.refuses m ToComplete kind) → OverCause status old d new kind
-      known : HasCome c told Completed status old d new → AfterCause d.pub_key_auth d.client_nonce new kind → OverCause status old d new kind
+      known : HasCome c p Completed status old d new → AfterCause d.pub_key_auth d.client_nonce new kind → OverCause status old d new kind
 
     -- the context refused the step, with this error, as the clause on the step says; or its end or its status is refused
     abbrev pub NegoCause : Option SecurityStatus → ServerView C P → TsRequest → ServerView C P → ErrorKind → Type 0
@@ -112,6 +124,6 @@ module _ {C : Type 0} (c : Meaning ContextSetting C) where
 
     abbrev pub ServerCause : ServerView C P → TsRequest → ServerView C P → ErrorKind → Type 0
     ServerCause old d new kind =
-        MadeOr old.context new.context (BeginCause c (ForServer old.mode) Inbound None kind)
+        MadeOr old.context new.context (MakeCause old new.proxy kind)
         (StopsIf (differs old.noted d.version) MessageAltered kind
         (StateCause old.state old d new kind))

@@ -18,7 +18,7 @@ use Rattle.sspi_credssp.specs.declared.server_state.ServerState.{ServerState}
 use Rattle.sspi_credssp.specs.Begun.{Begun, IfContext}
 use Rattle.sspi_credssp.specs.Context.{ContextSetting, ForServer}
 use Rattle.sspi_credssp.specs.Counts.{silent}
-use Rattle.sspi_credssp.specs.Proxy.{AreCandidates}
+use Rattle.sspi_credssp.specs.Proxy.{ProxyMeaning, ProxyTells, AreFound}
 use Rattle.sspi_credssp.specs.Requests.{token_of}
 use Rattle.sspi_credssp.specs.Server.{ServerView}
 
@@ -40,22 +40,26 @@ pub data Knowing : Type 0 where
   Identified : Knowing
   Completed : Knowing
 
+-- what a server's context is made of
+abbrev pub server_setting : {C P : Type 0} → ProxyMeaning P → ServerView C P → ContextSetting
+server_setting p start = ForServer start.mode (p.told start.proxy).entries
+
 module _ {C : Type 0} (c : Meaning ContextSetting C) where
   -- the peer's name was looked up, some identities were found, and the context took one of them
-  pub data IsIdentified (told : Option (List AuthIdentity)) (m m2 : C) : Type 0 where
-    is_identified : (name : Name) (identities : List AuthIdentity) → c.names m ≡ Some name → AreCandidates told name identities →
-        identities ≢ [] → c.identifies m (map credentials.AuthIdentity identities) m2 → IsIdentified told m m2
+  pub data IsIdentified (tells : ProxyTells) (m m2 : C) : Type 0 where
+    is_identified : (name : Name) (identities : List AuthIdentity) → c.names m ≡ Some name → AreFound tells name identities →
+        identities ≢ [] → c.identifies m (map credentials.AuthIdentity identities) m2 → IsIdentified tells m m2
 
-  module _ {P : Type 0} (told : P → Option (List AuthIdentity)) where
+  module _ {P : Type 0} (p : ProxyMeaning P) where
     -- A step of the turn that began at `start`: how far the server then knows its peer, the step's answer, and the context.
     -- Nothing else moves the context but sealing and opening.
     pub data Accepted (start : ServerView C P) (handle : Option CredentialsBuffers) (token : Option (List ℕ)) :
         Knowing → Result Step Error → C → Type 0 where
       accepted : (m0 m : C) (answer : Result Step Error) →
-          Begun c start.context start.handle (ForServer start.mode) Inbound None handle m0 →
+          Begun c start.context start.handle (server_setting p start) Inbound None handle m0 →
           c.accepts m0 (server_args handle token) answer m → Accepted start handle token Unknown answer m
       identified : (m m2 : C) (answer : Result Step Error) → Accepted start handle token Unknown answer m →
-          IsIdentified (told start.proxy) m m2 → Accepted start handle token Identified answer m2
+          IsIdentified (p.told start.proxy) m m2 → Accepted start handle token Identified answer m2
       completed : (m : C) (answer : Result Step Error) → Accepted start handle token Identified answer m →
           c.permits m ToComplete → Accepted start handle token Completed answer m
       recounted : (m m2 : C) (n : Counts) (known : Knowing) (answer : Result Step Error) → Accepted start handle token known answer m →

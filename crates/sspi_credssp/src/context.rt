@@ -1,9 +1,11 @@
-ghost use Rattle.std.specs.Prelude.{◌≡◌, ◌≢◌, ◌-◌, IfOk, IfErr, OnOk, OnErr, option_copied, filter, take};
+ghost use Rattle.std.specs.Prelude.{List, Option, ◌≡◌, ◌≢◌, ◌-◌, IfOk, IfErr, OnOk, OnErr, option_copied, filter, take};
 ghost use Rattle.sspi_types.specs.Memory.{memory_error};
 ghost use Rattle.sspi_mech.specs.Calls.{step_args, accept_args, no_counts, one_sealed, one_unsealed};
 ghost use Rattle.sspi_mech.specs.Calls.{ToAcquire, ToName, ToIdentify, ToComplete, ToSeal, ToUnseal};
 ghost use Rattle.sspi_mech.specs.Answers.{answer_of};
+ghost use Rattle.sspi_names.specs.declared.identity.AuthIdentity.{AuthIdentity};
 ghost use Rattle.sspi_credssp.specs.Context.{either, has_password, ForClient, ForServer};
+ghost use Rattle.sspi_credssp.specs.Peers.{IsListed};
 ghost use Rattle.sspi_mech.specs.Context.{IsUnused, IsContext};
 ghost use Rattle.sspi_credssp.specs.PackageName.{package_name_of};
 
@@ -12,16 +14,20 @@ use sspi_mech::{
     AcceptSecurityContext, InitializeSecurityContext, MechConfig, Mechanism, Progressing, Reply,
     Step,
 };
-use sspi_names::{ContextNames, Credentials, CredentialsBuffers};
+use sspi_names::{AuthIdentity, ContextNames, Credentials, CredentialsBuffers};
+use sspi_negotiate::Negotiate;
 use sspi_types::{CredentialUse, Error, ErrorKind, SecurityStatus};
 use std::alloc::Global;
 
-/// A security context by one of two mechanisms, which need not be those that the variants are named after.
+/// A security context by one of two mechanisms, which need not be those that the variants are named after, or by a negotiation
+/// that agrees on one of them.
 ///
 /// Its calls answer what the mechanism in hand answers. A refusal has no NTSTATUS code; want of memory may come at any time,
 /// and each other kind only where the mechanism's `refuses` says so.
 #[derive(Drop)]
 pub enum SspiContext<N, K> {
+    /// The negotiation of a mechanism (SPNEGO).
+    Negotiate(Negotiate<N, K>),
     /// The mechanism of NTLM.
     Ntlm(N),
     /// The mechanism of Kerberos.
@@ -47,13 +53,17 @@ fn first_of(identities: Vec<Credentials>) -> Vec<Credentials>
 impl<N: Mechanism, K: Mechanism> SspiContext<N, K> {
     /// The context of a client in this mode.
     pub(crate) fn new_client(alloc: Global, mode: &ClientMode) -> Result<Self, Error>
-        ensures made { IfOk result (λ context. (either N.meaning K.meaning).made (ForClient mode.now) context) }
-        ensures fresh { IfOk result (λ context. (either N.meaning K.meaning).counts context ≡ no_counts) }
+        ensures made { IfOk result (λ context. (either N.REQUESTS N.meaning K.meaning).made (ForClient mode.now) context) }
+        ensures fresh { IfOk result (λ context. (either N.REQUESTS N.meaning K.meaning).counts context ≡ no_counts) }
         ensures plain { IfErr result (λ error. error.nstatus ≡ None) }
         ensures cause { IfErr result (λ error. error.error_type ≢ ErrorKind.InsufficientMemory →
-            (either N.meaning K.meaning).unmade (ForClient mode.now) error.error_type) }
+            (either N.REQUESTS N.meaning K.meaning).unmade (ForClient mode.now) error.error_type) }
     {
         match mode {
+            ClientMode::Negotiate(config) => match Negotiate::new_client(alloc, config) {
+                Ok(negotiation) => Ok(SspiContext::Negotiate(negotiation)),
+                Err(error) => Err(error),
+            },
             ClientMode::Ntlm(config) => match N::make(alloc, &MechConfig::Ntlm(config)) {
                 Ok(mechanism) => Ok(SspiContext::Ntlm(mechanism)),
                 Err(error) => Err(error),
@@ -61,15 +71,24 @@ impl<N: Mechanism, K: Mechanism> SspiContext<N, K> {
         }
     }
 
-    /// The context of a server in this mode.
-    pub(crate) fn new_server(alloc: Global, mode: &ServerMode) -> Result<Self, Error>
-        ensures made { IfOk result (λ context. (either N.meaning K.meaning).made (ForServer mode.now) context) }
-        ensures fresh { IfOk result (λ context. (either N.meaning K.meaning).counts context ≡ no_counts) }
+    /// The context of a server in this mode. A negotiation knows these identities of its peers.
+    pub(crate) fn new_server(
+        alloc: Global,
+        mode: &ServerMode,
+        known: Vec<AuthIdentity>,
+    ) -> Result<Self, Error>
+        ensures made { IfOk result (λ context. (told : Option (List AuthIdentity)) → IsListed mode.now told known.items →
+            (either N.REQUESTS N.meaning K.meaning).made (ForServer mode.now told) context) }
+        ensures fresh { IfOk result (λ context. (either N.REQUESTS N.meaning K.meaning).counts context ≡ no_counts) }
         ensures plain { IfErr result (λ error. error.nstatus ≡ None) }
-        ensures cause { IfErr result (λ error. error.error_type ≢ ErrorKind.InsufficientMemory →
-            (either N.meaning K.meaning).unmade (ForServer mode.now) error.error_type) }
+        ensures cause { IfErr result (λ error. error.error_type ≢ ErrorKind.InsufficientMemory → (told : Option (List AuthIdentity)) →
+            (either N.REQUESTS N.meaning K.meaning).unmade (ForServer mode.now told) error.error_type) }
     {
         match mode {
+            ServerMode::Negotiate(config) => match Negotiate::new_server(alloc, config, known) {
+                Ok(negotiation) => Ok(SspiContext::Negotiate(negotiation)),
+                Err(error) => Err(error),
+            },
             ServerMode::Ntlm(config) => match N::make(alloc, &MechConfig::Ntlm(config)) {
                 Ok(mechanism) => Ok(SspiContext::Ntlm(mechanism)),
                 Err(error) => Err(error),
@@ -82,6 +101,7 @@ impl<N: Mechanism, K: Mechanism> SspiContext<N, K> {
         ensures { result.now ≡ package_name_of self.now }
     {
         match self {
+            SspiContext::Negotiate(_) => "Negotiate",
             SspiContext::Ntlm(_) => "NTLM",
             SspiContext::Kerberos(_) => "Kerberos",
         }
@@ -89,20 +109,24 @@ impl<N: Mechanism, K: Mechanism> SspiContext<N, K> {
 
     /// The buffers for the handle of these credentials, or none without credentials (AcquireCredentialsHandle).
     ///
-    /// Plain NTLM refuses a keytab as `UnknownCredentials`, and an outbound use without credentials as `NoCredentials`.
+    /// Plain NTLM refuses a keytab as `UnknownCredentials`, and an outbound use without credentials as `NoCredentials`. A
+    /// negotiation refuses both as `NoCredentials` while NTLM is in hand.
     pub fn acquire_credentials_handle(
         &mut self,
         credential_use: CredentialUse,
         auth_data: Option<&Credentials>,
     ) -> Result<Option<CredentialsBuffers>, Error>
         ensures acquired { IfOk result (λ buffers.
-            (either N.meaning K.meaning).acquires self.old credential_use (option_copied auth_data.entry) buffers self.new) }
-        ensures unused { let c = either N.meaning K.meaning in IsUnused (c.counts self.old) → IsUnused (c.counts self.new) }
+            (either N.REQUESTS N.meaning K.meaning).acquires self.old credential_use (option_copied auth_data.entry) buffers self.new) }
+        ensures unused { let c = either N.REQUESTS N.meaning K.meaning in IsUnused (c.counts self.old) → IsUnused (c.counts self.new) }
         ensures plain { IfErr result (λ error. error.nstatus ≡ None) }
         ensures cause { IfErr result (λ error. error.error_type ≢ ErrorKind.InsufficientMemory →
-            (either N.meaning K.meaning).refuses self.old (ToAcquire credential_use (option_copied auth_data.entry)) error.error_type) }
+            (either N.REQUESTS N.meaning K.meaning).refuses self.old (ToAcquire credential_use (option_copied auth_data.entry)) error.error_type) }
     {
         match self {
+            SspiContext::Negotiate(negotiation) => {
+                negotiation.acquire_credentials_handle(credential_use, auth_data)
+            }
             SspiContext::Ntlm(mechanism) => mechanism.acquire(credential_use, auth_data),
             SspiContext::Kerberos(mechanism) => mechanism.acquire(credential_use, auth_data),
         }
@@ -113,10 +137,11 @@ impl<N: Mechanism, K: Mechanism> SspiContext<N, K> {
         &mut self,
         args: &InitializeSecurityContext<'_>,
     ) -> Result<Progressing, Error>
-        ensures step { (either N.meaning K.meaning).steps self.old (step_args args.now) (answer_of result) self.new }
+        ensures step { (either N.REQUESTS N.meaning K.meaning).steps self.old (step_args args.now) (answer_of result) self.new }
         ensures plain { IfErr result (λ error. error.nstatus ≡ None) }
     {
         match self {
+            SspiContext::Negotiate(negotiation) => negotiation.initialize_security_context(args),
             SspiContext::Ntlm(mechanism) => mechanism.initialize(args).into_result(),
             SspiContext::Kerberos(mechanism) => mechanism.initialize(args).into_result(),
         }
@@ -124,10 +149,11 @@ impl<N: Mechanism, K: Mechanism> SspiContext<N, K> {
 
     /// Goes on with the step that was suspended, once it is known what came of its request.
     pub fn resume(&mut self, reply: &Reply) -> Result<Progressing, Error>
-        ensures step { (either N.meaning K.meaning).resumes self.old reply.now (answer_of result) self.new }
+        ensures step { (either N.REQUESTS N.meaning K.meaning).resumes self.old reply.now (answer_of result) self.new }
         ensures plain { IfErr result (λ error. error.nstatus ≡ None) }
     {
         match self {
+            SspiContext::Negotiate(negotiation) => negotiation.resume(reply),
             SspiContext::Ntlm(mechanism) => mechanism.resume(reply).into_result(),
             SspiContext::Kerberos(mechanism) => mechanism.resume(reply).into_result(),
         }
@@ -138,10 +164,11 @@ impl<N: Mechanism, K: Mechanism> SspiContext<N, K> {
         &mut self,
         args: &AcceptSecurityContext<'_>,
     ) -> Result<Step, Error>
-        ensures step { (either N.meaning K.meaning).accepts self.old (accept_args args.now) result self.new }
+        ensures step { (either N.REQUESTS N.meaning K.meaning).accepts self.old (accept_args args.now) result self.new }
         ensures plain { IfErr result (λ error. error.nstatus ≡ None) }
     {
         match self {
+            SspiContext::Negotiate(negotiation) => negotiation.accept_security_context(args),
             SspiContext::Ntlm(mechanism) => mechanism.accept(args),
             SspiContext::Kerberos(mechanism) => mechanism.accept(args),
         }
@@ -149,9 +176,10 @@ impl<N: Mechanism, K: Mechanism> SspiContext<N, K> {
 
     /// Whether a step is suspended.
     pub fn waiting(&self) -> bool
-        ensures { result ≡ (either N.meaning K.meaning).waits self.now }
+        ensures { result ≡ (either N.REQUESTS N.meaning K.meaning).waits self.now }
     {
         match self {
+            SspiContext::Negotiate(negotiation) => negotiation.waiting(),
             SspiContext::Ntlm(mechanism) => mechanism.waiting(),
             SspiContext::Kerberos(mechanism) => mechanism.waiting(),
         }
@@ -159,9 +187,10 @@ impl<N: Mechanism, K: Mechanism> SspiContext<N, K> {
 
     /// At most how often this context still asks a KDC.
     pub fn requests_left(&self) -> u64
-        ensures { result ≡ (either N.meaning K.meaning).left self.now }
+        ensures { result ≡ (either N.REQUESTS N.meaning K.meaning).left self.now }
     {
         match self {
+            SspiContext::Negotiate(negotiation) => negotiation.requests_left(),
             SspiContext::Ntlm(mechanism) => u64::from(mechanism.requests_left()),
             SspiContext::Kerberos(mechanism) => u64::from(mechanism.requests_left()),
         }
@@ -169,12 +198,13 @@ impl<N: Mechanism, K: Mechanism> SspiContext<N, K> {
 
     /// The name that was authenticated: on a server the peer's, on a client its own. `OutOfSequence` before it is known.
     pub fn query_context_names(&self) -> Result<ContextNames, Error>
-        ensures named { IfOk result (λ names. (either N.meaning K.meaning).names self.now ≡ Some names.username) }
+        ensures named { IfOk result (λ names. (either N.REQUESTS N.meaning K.meaning).names self.now ≡ Some names.username) }
         ensures plain { IfErr result (λ error. error.nstatus ≡ None) }
         ensures cause { IfErr result (λ error. error.error_type ≢ ErrorKind.InsufficientMemory →
-            (either N.meaning K.meaning).refuses self.now ToName error.error_type) }
+            (either N.REQUESTS N.meaning K.meaning).refuses self.now ToName error.error_type) }
     {
         let username = match self {
+            SspiContext::Negotiate(negotiation) => return negotiation.query_context_names(),
             SspiContext::Ntlm(mechanism) => mechanism.names(),
             SspiContext::Kerberos(mechanism) => mechanism.names(),
         };
@@ -184,19 +214,21 @@ impl<N: Mechanism, K: Mechanism> SspiContext<N, K> {
         }
     }
 
-    /// Tells a server which identities its peer may have. NTLM takes those with a password, Kerberos the first.
+    /// Tells a server which identities its peer may have. NTLM takes those with a password, Kerberos the first, also where
+    /// it was negotiated.
     ///
     /// Plain NTLM answers `OutOfSequence` on a client and before its peer has proved a password, `NoCredentials` where no
     /// identity has a password, and `LogonDenied` where none has the one that was proved.
     pub fn custom_set_auth_identities(&mut self, identities: Vec<Credentials>) -> Result<(), Error>
-        ensures identified { OnOk result ((either N.meaning K.meaning).identifies self.old identities.items self.new) }
-        ensures count { (either N.meaning K.meaning).counts self.new ≡ (either N.meaning K.meaning).counts self.old }
+        ensures identified { OnOk result ((either N.REQUESTS N.meaning K.meaning).identifies self.old identities.items self.new) }
+        ensures count { (either N.REQUESTS N.meaning K.meaning).counts self.new ≡ (either N.REQUESTS N.meaning K.meaning).counts self.old }
         ensures err { OnErr result (self.new ≡ self.old) }
         ensures plain { IfErr result (λ error. error.nstatus ≡ None) }
         ensures cause { IfErr result (λ error. error.error_type ≢ ErrorKind.InsufficientMemory →
-            (either N.meaning K.meaning).refuses self.old (ToIdentify identities.items) error.error_type) }
+            (either N.REQUESTS N.meaning K.meaning).refuses self.old (ToIdentify identities.items) error.error_type) }
     {
         match self {
+            SspiContext::Negotiate(negotiation) => negotiation.custom_set_auth_identities(identities),
             SspiContext::Ntlm(mechanism) => mechanism.set_identities(&with_passwords(identities)),
             SspiContext::Kerberos(mechanism) => mechanism.set_identities(&first_of(identities)),
         }
@@ -205,12 +237,13 @@ impl<N: Mechanism, K: Mechanism> SspiContext<N, K> {
     /// Completes the authentication (CompleteAuthToken). `OutOfSequence` before there is a key.
     pub fn complete_auth_token(&mut self) -> Result<SecurityStatus, Error>
         ensures same { self.new ≡ self.old }
-        ensures permitted { OnOk result ((either N.meaning K.meaning).permits self.old ToComplete) }
+        ensures permitted { OnOk result ((either N.REQUESTS N.meaning K.meaning).permits self.old ToComplete) }
         ensures plain { IfErr result (λ error. error.nstatus ≡ None) }
         ensures cause { IfErr result (λ error. error.error_type ≢ ErrorKind.InsufficientMemory →
-            (either N.meaning K.meaning).refuses self.old ToComplete error.error_type) }
+            (either N.REQUESTS N.meaning K.meaning).refuses self.old ToComplete error.error_type) }
     {
         match self {
+            SspiContext::Negotiate(negotiation) => negotiation.complete_auth_token(),
             SspiContext::Ntlm(mechanism) => mechanism.complete(),
             SspiContext::Kerberos(mechanism) => mechanism.complete(),
         }
@@ -220,20 +253,21 @@ impl<N: Mechanism, K: Mechanism> SspiContext<N, K> {
     ///
     /// `OutOfSequence` before there is a key, `ContextExpired` once all numbers of messages are used.
     pub fn seal(&mut self, text: &[u8]) -> Result<Vec<u8>, Error>
-        ensures blob { let c = either N.meaning K.meaning in
+        ensures blob { let c = either N.REQUESTS N.meaning K.meaning in
             IfOk result (λ blob. c.seals self.new (c.counts self.old).sealed text.now blob.items) }
-        ensures last { let c = either N.meaning K.meaning in
+        ensures last { let c = either N.REQUESTS N.meaning K.meaning in
             IfOk result (λ blob. c.seals self.new ((c.counts self.new).sealed - 1) text.now blob.items) }
-        ensures ok { let c = either N.meaning K.meaning in
+        ensures ok { let c = either N.REQUESTS N.meaning K.meaning in
             OnOk result (self.new ≡ c.counted self.old (one_sealed (c.counts self.old))) }
-        ensures count { let c = either N.meaning K.meaning in OnOk result (c.counts self.new ≡ one_sealed (c.counts self.old)) }
-        ensures permitted { OnOk result ((either N.meaning K.meaning).permits self.old (ToSeal text.now)) }
+        ensures count { let c = either N.REQUESTS N.meaning K.meaning in OnOk result (c.counts self.new ≡ one_sealed (c.counts self.old)) }
+        ensures permitted { OnOk result ((either N.REQUESTS N.meaning K.meaning).permits self.old (ToSeal text.now)) }
         ensures err { OnErr result (self.new ≡ self.old) }
         ensures plain { IfErr result (λ error. error.nstatus ≡ None) }
         ensures cause { IfErr result (λ error. error.error_type ≢ ErrorKind.InsufficientMemory →
-            (either N.meaning K.meaning).refuses self.new (ToSeal text.now) error.error_type) }
+            (either N.REQUESTS N.meaning K.meaning).refuses self.new (ToSeal text.now) error.error_type) }
     {
         match self {
+            SspiContext::Negotiate(negotiation) => negotiation.seal(text),
             SspiContext::Ntlm(mechanism) => mechanism.seal(text),
             SspiContext::Kerberos(mechanism) => mechanism.seal(text),
         }
@@ -244,27 +278,28 @@ impl<N: Mechanism, K: Mechanism> SspiContext<N, K> {
     /// `OutOfSequence` before there is a key, `ContextExpired` once all numbers of messages are used, `InvalidToken` for a
     /// blob of under 16 bytes, and `MessageAltered` for one that the peer did not seal as this message.
     pub fn unseal(&mut self, blob: &[u8]) -> Result<Vec<u8>, Error>
-        ensures text { let c = either N.meaning K.meaning in
+        ensures text { let c = either N.REQUESTS N.meaning K.meaning in
             IfOk result (λ text. c.opens self.new (c.counts self.old).unsealed blob.now text.items) }
-        ensures last { let c = either N.meaning K.meaning in
+        ensures last { let c = either N.REQUESTS N.meaning K.meaning in
             IfOk result (λ text. c.opens self.new ((c.counts self.new).unsealed - 1) blob.now text.items) }
-        ensures ok { let c = either N.meaning K.meaning in
+        ensures ok { let c = either N.REQUESTS N.meaning K.meaning in
             OnOk result (self.new ≡ c.counted self.old (one_unsealed (c.counts self.old))) }
-        ensures count { let c = either N.meaning K.meaning in OnOk result (c.counts self.new ≡ one_unsealed (c.counts self.old)) }
-        ensures permitted { OnOk result ((either N.meaning K.meaning).permits self.old (ToUnseal blob.now)) }
+        ensures count { let c = either N.REQUESTS N.meaning K.meaning in OnOk result (c.counts self.new ≡ one_unsealed (c.counts self.old)) }
+        ensures permitted { OnOk result ((either N.REQUESTS N.meaning K.meaning).permits self.old (ToUnseal blob.now)) }
         ensures err { OnErr result (self.new ≡ self.old) }
         ensures plain { IfErr result (λ error. error.nstatus ≡ None) }
         ensures cause { IfErr result (λ error. error.error_type ≢ ErrorKind.InsufficientMemory →
-            (either N.meaning K.meaning).refuses self.new (ToUnseal blob.now) error.error_type) }
+            (either N.REQUESTS N.meaning K.meaning).refuses self.new (ToUnseal blob.now) error.error_type) }
     {
         match self {
+            SspiContext::Negotiate(negotiation) => negotiation.unseal(blob),
             SspiContext::Ntlm(mechanism) => mechanism.unseal(blob),
             SspiContext::Kerberos(mechanism) => mechanism.unseal(blob),
         }
     }
 }
 
-/// A context over any two mechanisms keeps what every context keeps.
+/// A context over any two mechanisms keeps what every context keeps, a negotiation among them.
 pub fn context_keeps_laws<N: Mechanism, K: Mechanism>()
-    ensures { IsContext (either N.meaning K.meaning) }
+    ensures { IsContext (either N.REQUESTS N.meaning K.meaning) }
 {}

@@ -1,5 +1,5 @@
 ghost use Rattle.std.specs.Prelude.{◌≡◌, None, Err};
-ghost use Rattle.sspi_credssp.specs.Proxy.{counted_on, IsList, LookUpCause};
+ghost use Rattle.sspi_credssp.specs.Proxy.{counted_on, IsList, HasAnswered};
 
 use crate::proxy::{CredentialsProxy, ProxyError};
 use sspi_names::{AuthIdentity, Username};
@@ -29,18 +29,14 @@ impl FailingProxy {
 }
 
 impl CredentialsProxy for FailingProxy {
-    ghost told = { λ _. None };
+    ghost use Rattle.sspi_credssp.specs.Table.{failing_meaning};
 
-    ghost failing = { λ _. None };
-
-    ghost calls = { λ faults. faults };
-
-    ghost faults = { λ faults. faults };
+    ghost meaning = { failing_meaning };
 
     fn auth_data_by_user(&mut self, _username: &Username) -> Result<AuthIdentity, ProxyError>
         ensures failed { result ≡ Err ProxyError.Failed }
         ensures count { self.new ≡ counted_on self.old }
-        ensures cause { LookUpCause self.old self.new result }
+        ensures call { HasAnswered failing_meaning self.old result self.new }
     {
         self.faults = self.faults.saturating_add(1);
         Err(ProxyError::Failed)
@@ -53,7 +49,7 @@ impl CredentialsProxy for FailingProxy {
         ensures failed { result ≡ Err ProxyError.Failed }
         ensures count { self.new ≡ counted_on self.old }
         ensures list { IsList result }
-        ensures cause { LookUpCause self.old self.new result }
+        ensures call { HasAnswered failing_meaning self.old result self.new }
     {
         self.faults = self.faults.saturating_add(1);
         Err(ProxyError::Failed)
@@ -63,7 +59,7 @@ impl CredentialsProxy for FailingProxy {
         ensures failed { result ≡ Err ProxyError.Failed }
         ensures count { self.new ≡ counted_on self.old }
         ensures list { IsList result }
-        ensures cause { LookUpCause self.old self.new result }
+        ensures call { HasAnswered failing_meaning self.old result self.new }
     {
         self.faults = self.faults.saturating_add(1);
         Err(ProxyError::Failed)

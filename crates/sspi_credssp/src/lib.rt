@@ -6,7 +6,8 @@
 //! - `CredSspClient` and `CredSspServer`: one `process` a message, and the client's `resume` once a KDC has replied. What a
 //!   turn may do and what it replies is in `specs/ClientTurn.antt` and `specs/ServerTurn.antt`; the order and the causes of the
 //!   refusals in `ClientCause.antt` and `ServerCause.antt`; the step of the context in `ClientStep.antt` and `ServerStep.antt`.
-//! - `SspiContext`: the security context that both drive; `specs/Context.antt` has what it means.
+//! - `SspiContext`: the security context that both drive, a mechanism or a negotiation over both; `specs/Context.antt` has what
+//!   it means.
 //! - `CredentialsProxy`: where a server looks its peers up; `TableProxy` has a list, and `FailingProxy` always fails.
 //! - `integer_increment_le` and `construct_error`: the proof below version 5, and the code that a refusal is told by.
 #![tactic(auto)]
@@ -21,6 +22,7 @@ mod credentials;
 pub mod error_code;
 pub mod failing_proxy;
 pub mod mode;
+mod peers;
 mod proof;
 pub mod proxy;
 pub mod public_key;

@@ -1,5 +1,5 @@
-ghost use Rattle.std.specs.Prelude.{◌≡◌, IfOk};
-ghost use Rattle.sspi_credssp.specs.Proxy.{counted_on, IsEntry, AreCandidates, AreEntries, IsList, LookUpCause, FailsAsTold};
+ghost use Rattle.std.specs.Prelude.{IfOk};
+ghost use Rattle.sspi_credssp.specs.Proxy.{ProxyMeaning, IsEntry, IsTold, AreFound, IsList, HasAnswered};
 
 use sspi_names::{AuthIdentity, Username};
 
@@ -17,29 +17,15 @@ pub enum ProxyError {
 /// Where a server looks up the identities of its peers.
 ///
 /// Names are compared by form, account and domain, without the case of ASCII letters. A call that answers `Failed` has raised
-/// the count of faults, but for one that found it as high as it goes.
+/// the count of faults, but for one that found it as high as it goes. Each count stays at `u64::MAX` once it is there.
 pub trait CredentialsProxy: Drop {
-    ghost use Rattle.std.specs.Prelude.{ℕ, List, Option};
-    ghost use Rattle.sspi_names.specs.declared.identity.AuthIdentity.{AuthIdentity};
-
-    // The entries, and the numbers of the calls that fail, from 0, where the object tells them.
-    ghost told: { Self → Option (List AuthIdentity) };
-
-    ghost failing: { Self → Option (List ℕ) };
-
-    // How many calls were made, and how many of them failed. Each stays at `u64::MAX` once it is there.
-    ghost calls: { Self → ℕ };
-
-    ghost faults: { Self → ℕ };
+    // What the object tells of itself, and how many calls were made and failed.
+    ghost meaning: { ProxyMeaning Self };
 
     /// The first identity of this name; `NotFound` where there is none.
     fn auth_data_by_user(&mut self, username: &Username) -> Result<AuthIdentity, ProxyError>
-        ensures told { told self.new ≡ told self.old }
-        ensures failing { failing self.new ≡ failing self.old }
-        ensures calls { calls self.new ≡ counted_on (calls self.old) }
-        ensures entry { IsEntry (told self.old) username.now result }
-        ensures cause { LookUpCause (faults self.old) (faults self.new) result }
-        ensures fails { FailsAsTold (failing self.old) (calls self.old) (faults self.old) (faults self.new) result };
+        ensures call { HasAnswered meaning self.old result self.new }
+        ensures entry { IsEntry (meaning.told self.old).entries username.now result };
 
     /// All identities of this name, in their order: none where there is none. A user may have several, such as one with the
     /// current password and one with the previous one.
@@ -47,21 +33,13 @@ pub trait CredentialsProxy: Drop {
         &mut self,
         username: &Username,
     ) -> Result<Vec<AuthIdentity>, ProxyError>
-        ensures told { told self.new ≡ told self.old }
-        ensures failing { failing self.new ≡ failing self.old }
-        ensures calls { calls self.new ≡ counted_on (calls self.old) }
-        ensures candidates { IfOk result (λ identities. AreCandidates (told self.old) username.now identities.items) }
-        ensures list { IsList result }
-        ensures cause { LookUpCause (faults self.old) (faults self.new) result }
-        ensures fails { FailsAsTold (failing self.old) (calls self.old) (faults self.old) (faults self.new) result };
+        ensures call { HasAnswered meaning self.old result self.new }
+        ensures found { IfOk result (λ identities. AreFound (meaning.told self.old) username.now identities.items) }
+        ensures list { IsList result };
 
     /// All identities.
     fn auth_data(&mut self) -> Result<Vec<AuthIdentity>, ProxyError>
-        ensures told { told self.new ≡ told self.old }
-        ensures failing { failing self.new ≡ failing self.old }
-        ensures calls { calls self.new ≡ counted_on (calls self.old) }
-        ensures entries { IfOk result (λ identities. AreEntries (told self.old) identities.items) }
-        ensures list { IsList result }
-        ensures cause { LookUpCause (faults self.old) (faults self.new) result }
-        ensures fails { FailsAsTold (failing self.old) (calls self.old) (faults self.old) (faults self.new) result };
+        ensures call { HasAnswered meaning self.old result self.new }
+        ensures listed { IfOk result (λ identities. IsTold (meaning.told self.old).entries identities.items) }
+        ensures list { IsList result };
 }

@@ -1,15 +1,18 @@
-ghost use Rattle.std.specs.Prelude.{◌≡◌, ◌≢◌, ◌+◌, ◌≤◌, [], None, true, false, IsSome, IsErr, IfErr, OnOk, OnErr};
+ghost use Rattle.std.specs.Prelude.{◌≡◌, ◌≢◌, ◌+◌, [], None, true, false, IsSome, IsErr, IfErr, OnOk, OnErr};
 ghost use Rattle.sspi_types.specs.declared.credential_use.CredentialUse.TheVariants as purposes;
 ghost use Rattle.sspi_credssp.specs.Acts.{no_acts};
-ghost use Rattle.sspi_credssp.specs.Begun.{Begun, BeginCause, IfContext, MadeOr};
-ghost use Rattle.sspi_credssp.specs.Context.{either, ForServer};
+ghost use Rattle.sspi_credssp.specs.Begun.{Begun, IfContext, MadeOr};
+ghost use Rattle.sspi_credssp.specs.Context.{either};
 ghost use Rattle.sspi_credssp.specs.Counts.{IsUnusedIn};
+ghost use Rattle.sspi_credssp.specs.Peers.{list_calls, lists_in};
+ghost use Rattle.sspi_credssp.specs.Proxy.{IsAsked, IsLater, FailsNext, counted_after};
 ghost use Rattle.sspi_credssp.specs.Stops.{StopsIf, differs};
 ghost use Rattle.sspi_credssp.specs.Turn.{AtNoted};
 
 use crate::acts::Acts;
 use crate::context::SspiContext;
 use crate::mode::ServerMode;
+use crate::peers::list_peers;
 use crate::proxy::CredentialsProxy;
 use crate::request::at_version;
 use crate::server_refusal::refusal;
@@ -124,13 +127,17 @@ impl<N, K, C> CredSspServer<N, K, C> {
 
 impl<N: Mechanism, K: Mechanism, C: CredentialsProxy> CredSspServer<N, K, C> {
     ghost use Rattle.sspi_credssp.specs.Server.{ServerView};
-    ghost use Rattle.sspi_credssp.specs.ServerCause.{ServerCause, StateCause};
-    ghost use Rattle.sspi_credssp.specs.ServerStep.{HasAcceptedTurn};
+    ghost use Rattle.sspi_credssp.specs.ServerAsks.{MeetsFailure, look_ups_at};
+    ghost use Rattle.sspi_credssp.specs.ServerCause.{ServerCause, MakeCause, StateCause};
+    ghost use Rattle.sspi_credssp.specs.ServerStep.{HasAcceptedTurn, server_setting};
     ghost use Rattle.sspi_credssp.specs.ServerTurn.{ServerGoes, IsOver, IsReady, BeginRefused, noted_first};
 
     /// Takes the client's message and makes the server's next one, or reads the credentials that end the exchange.
     ///
-    /// Refused, in this order: with the kinds of a new context; `MessageAltered` where the client changes its version; in
+    /// Where there is no context yet it is made first; a negotiation is made with the list of the proxy, which is asked for it
+    /// at no other time. At the end of the authentication the proxy is asked for the peer, once.
+    ///
+    /// Refused, in this order: `InternalError` where the proxy's list failed; with the kinds of a new context; `MessageAltered` where the client changes its version; in
     /// the authentication with the kinds of the context, `LogonDenied` where the look-up of the peer failed, `NoCredentials`
     /// where it found nobody, `InvalidToken` where the authentication ended with neither a token nor a proof,
     /// `InternalError` at another status of the context; in an exchange `InvalidToken` where the proof is absent, the nonce
@@ -139,20 +146,16 @@ impl<N: Mechanism, K: Mechanism, C: CredentialsProxy> CredSspServer<N, K, C> {
     /// `UnsupportedFunction` once they were read; and want of memory. A refusal hands the request back with its code, and
     /// keeps the state, the mode and the acquired credentials.
     pub fn process(&mut self, ts_request: TsRequest) -> Result<ServerState, ServerError>
-        ensures turn { ServerGoes (either N.meaning K.meaning) self.old ts_request result self.new }
-        ensures step { HasAcceptedTurn (either N.meaning K.meaning) C.told self.old ts_request result self.new }
+        ensures turn { ServerGoes (either N.REQUESTS N.meaning K.meaning) self.old ts_request result self.new }
+        ensures step { HasAcceptedTurn (either N.REQUESTS N.meaning K.meaning) C.meaning self.old ts_request result self.new }
         ensures cause { IfErr result (λ refusal. refusal.error.error_type ≢ ErrorKind.InsufficientMemory →
-            ServerCause (either N.meaning K.meaning) C.told C.faults self.old ts_request self.new refusal.error.error_type) }
+            ServerCause (either N.REQUESTS N.meaning K.meaning) C.meaning self.old ts_request self.new refusal.error.error_type) }
         ensures plain { IfErr result (λ refusal. refusal.error.nstatus ≡ None) }
         ensures altered { differs self.old.noted ts_request.version ≡ true →
             IsErr result × (self.new ≡ record self.old { acts = no_acts; output = [] }) }
-        ensures unmade { self.new.context ≡ None → self.new ≡ record self.old { acts = no_acts; output = [] } }
-        ensures once { C.calls self.new.proxy ≤ C.calls self.old.proxy + 1 }
-        ensures unasked { (IsOver self.new.acts.status → ⊥) → self.new.proxy ≡ self.old.proxy }
-        ensures told { C.told self.new.proxy ≡ C.told self.old.proxy }
-        ensures failing { C.failing self.new.proxy ≡ C.failing self.old.proxy }
-        ensures faults { C.faults self.old.proxy ≤ C.faults self.new.proxy }
-        ensures calm { C.failing self.old.proxy ≡ Some [] → C.faults self.new.proxy ≡ C.faults self.old.proxy }
+        ensures unmade { self.new.context ≡ None → self.new ≡ record self.old { proxy = self.new.proxy; acts = no_acts; output = [] } }
+        ensures proxy { IsAsked C.meaning (lists_in self.old.context self.old.mode + look_ups_at self.new.acts.status) self.old.proxy self.new.proxy }
+        ensures failed { MeetsFailure C.meaning self.old self.new.acts.status → IsErr result }
     {
         self.forget_last_call();
         match self.begin(ts_request.version) {
@@ -169,18 +172,22 @@ impl<N: Mechanism, K: Mechanism, C: CredentialsProxy> CredSspServer<N, K, C> {
     }
 
     fn begin(&mut self, version: u32) -> Result<(), Error>
-        ensures frame { self.new ≡ record self.old { context = self.new.context; handle = self.new.handle; noted = self.new.noted } }
-        ensures ready { let c = either N.meaning K.meaning in OnOk result ((start : ServerView (SspiContext N K) C) (d : TsRequest) →
+        ensures frame { self.new ≡ record self.old { proxy = self.new.proxy; context = self.new.context; handle = self.new.handle; noted = self.new.noted } }
+        ensures ready { let c = either N.REQUESTS N.meaning K.meaning in OnOk result ((start : ServerView (SspiContext N K) C) (d : TsRequest) →
             d.version ≡ version → self.old ≡ record start { acts = no_acts; output = [] } → IsReady c start d self.new) }
-        ensures begun { let c = either N.meaning K.meaning in OnOk result (IfContext self.new.context
-            (Begun c self.old.context self.old.handle (ForServer self.old.mode) purposes.Inbound None self.new.handle)) }
+        ensures begun { let c = either N.REQUESTS N.meaning K.meaning in OnOk result (IfContext self.new.context
+            (Begun c self.old.context self.old.handle (server_setting C.meaning self.old) purposes.Inbound None self.new.handle)) }
         ensures passed { OnOk result ((differs self.old.noted version ≡ false) × IsSome self.new.context) }
         ensures known { OnOk result (IsSome self.new.noted) }
-        ensures refused { OnErr result (BeginRefused (either N.meaning K.meaning) self.old version self.new) }
-        ensures err { OnErr result (self.new ≡ self.old) }
-        ensures cause { let c = either N.meaning K.meaning in IfErr result (λ error. error.error_type ≢ ErrorKind.InsufficientMemory →
-            MadeOr self.old.context self.new.context (BeginCause c (ForServer self.old.mode) purposes.Inbound None error.error_type)
+        ensures refused { OnErr result (BeginRefused (either N.REQUESTS N.meaning K.meaning) self.old version self.new) }
+        ensures err { OnErr result (self.new ≡ record self.old { proxy = self.new.proxy }) }
+        ensures altered { differs self.old.noted version ≡ true → IsErr result × (self.new ≡ self.old) }
+        ensures cause { let c = either N.REQUESTS N.meaning K.meaning in IfErr result (λ error. error.error_type ≢ ErrorKind.InsufficientMemory →
+            MadeOr self.old.context self.new.context (MakeCause c C.meaning self.old self.new.proxy error.error_type)
             (StopsIf (differs self.old.noted version) ErrorKind.MessageAltered error.error_type ⊥)) }
+        ensures proxy { IsAsked C.meaning (lists_in self.old.context self.old.mode) self.old.proxy self.new.proxy }
+        ensures number { C.meaning.calls self.new.proxy ≡ counted_after (lists_in self.old.context self.old.mode) (C.meaning.calls self.old.proxy) }
+        ensures failed { lists_in self.old.context self.old.mode ≡ 1 → FailsNext C.meaning self.old.proxy → IsErr result }
         ensures plain { IfErr result (λ error. error.nstatus ≡ None) }
     {
         match &self.context {
@@ -192,22 +199,29 @@ impl<N: Mechanism, K: Mechanism, C: CredentialsProxy> CredSspServer<N, K, C> {
         }
     }
 
-    // The context and the credentials that it acquires are kept only together.
+    // The context and the credentials that it acquires are kept only together. A negotiation is made with the proxy's list.
     fn make_context(&mut self) -> Result<(), Error>
         requires { self.old.context ≡ None }
-        ensures frame { self.new ≡ record self.old { context = self.new.context; handle = self.new.handle } }
-        ensures begun { let c = either N.meaning K.meaning in OnOk result (IfContext self.new.context
-            (Begun c self.old.context self.old.handle (ForServer self.old.mode) purposes.Inbound None self.new.handle)) }
+        ensures frame { self.new ≡ record self.old { proxy = self.new.proxy; context = self.new.context; handle = self.new.handle } }
+        ensures begun { let c = either N.REQUESTS N.meaning K.meaning in OnOk result (IfContext self.new.context
+            (Begun c self.old.context self.old.handle (server_setting C.meaning self.old) purposes.Inbound None self.new.handle)) }
         ensures made { OnOk result (IsSome self.new.context) }
-        ensures unused { OnOk result (IsUnusedIn (either N.meaning K.meaning) self.new.context) }
-        ensures err { OnErr result (self.new ≡ self.old) }
+        ensures unused { OnOk result (IsUnusedIn (either N.REQUESTS N.meaning K.meaning) self.new.context) }
+        ensures err { OnErr result (self.new ≡ record self.old { proxy = self.new.proxy }) }
         ensures noted { self.old.noted ≡ None }
         ensures state { self.old.state ≡ CredSspState.NegoToken }
-        ensures cause { let c = either N.meaning K.meaning in IfErr result (λ error. error.error_type ≢ ErrorKind.InsufficientMemory →
-            BeginCause c (ForServer self.old.mode) purposes.Inbound None error.error_type) }
+        ensures cause { let c = either N.REQUESTS N.meaning K.meaning in IfErr result (λ error. error.error_type ≢ ErrorKind.InsufficientMemory →
+            MakeCause c C.meaning self.old self.new.proxy error.error_type) }
+        ensures proxy { IsAsked C.meaning (list_calls self.old.mode) self.old.proxy self.new.proxy }
+        ensures number { C.meaning.calls self.new.proxy ≡ counted_after (list_calls self.old.mode) (C.meaning.calls self.old.proxy) }
+        ensures failed { list_calls self.old.mode ≡ 1 → FailsNext C.meaning self.old.proxy → IsErr result }
         ensures plain { IfErr result (λ error. error.nstatus ≡ None) }
     {
-        let mut context = match SspiContext::new_server(self.alloc, &self.server_mode) {
+        let known = match list_peers(self.alloc, &self.server_mode, &mut self.credentials) {
+            Ok(known) => known,
+            Err(error) => return Err(error),
+        };
+        let mut context = match SspiContext::new_server(self.alloc, &self.server_mode, known) {
             Ok(context) => context,
             Err(error) => return Err(error),
         };
@@ -249,26 +263,22 @@ impl<N: Mechanism, K: Mechanism, C: CredentialsProxy> CredSspServer<N, K, C> {
         requires acts { self.old.acts ≡ no_acts }
         requires begun { IsSome self.old.context }
         requires noted { IsSome self.old.noted }
-        ensures turn { let c = either N.meaning K.meaning in (start : ServerView (SspiContext N K) C) (d : TsRequest) →
+        ensures turn { let c = either N.REQUESTS N.meaning K.meaning in (start : ServerView (SspiContext N K) C) (d : TsRequest) →
             request ≡ record d { version = self.old.version } → IsReady c start d self.old → self.old.output ≡ [] →
             ServerGoes c start d result self.new }
-        ensures step { let c = either N.meaning K.meaning in (start : ServerView (SspiContext N K) C) (d : TsRequest) →
-            d.nego_tokens ≡ request.nego_tokens → C.told start.proxy ≡ C.told self.old.proxy →
-            IfContext self.old.context (Begun c start.context start.handle (ForServer start.mode) purposes.Inbound None self.old.handle) →
-            HasAcceptedTurn c C.told start d result self.new }
-        ensures cause { let c = either N.meaning K.meaning in (start : ServerView (SspiContext N K) C) (d : TsRequest) →
-            request ≡ record d { version = self.old.version } → start.proxy ≡ self.old.proxy →
-            IfContext self.old.context (Begun c start.context start.handle (ForServer start.mode) purposes.Inbound None self.old.handle) →
+        ensures step { let c = either N.REQUESTS N.meaning K.meaning in (start : ServerView (SspiContext N K) C) (d : TsRequest) →
+            d.nego_tokens ≡ request.nego_tokens → IsLater C.meaning start.proxy self.old.proxy →
+            IfContext self.old.context (Begun c start.context start.handle (server_setting C.meaning start) purposes.Inbound None self.old.handle) →
+            HasAcceptedTurn c C.meaning start d result self.new }
+        ensures cause { let c = either N.REQUESTS N.meaning K.meaning in (start : ServerView (SspiContext N K) C) (d : TsRequest) →
+            request ≡ record d { version = self.old.version } → IsLater C.meaning start.proxy self.old.proxy →
+            IfContext self.old.context (Begun c start.context start.handle (server_setting C.meaning start) purposes.Inbound None self.old.handle) →
             IfErr result (λ refusal. refusal.error.error_type ≢ ErrorKind.InsufficientMemory →
-            StateCause c C.told C.faults self.old.state start d self.new refusal.error.error_type) }
+            StateCause c C.meaning self.old.state start d self.new refusal.error.error_type) }
         ensures plain { IfErr result (λ refusal. refusal.error.nstatus ≡ None) }
         ensures begun { IsSome self.new.context }
-        ensures once { C.calls self.new.proxy ≤ C.calls self.old.proxy + 1 }
-        ensures unasked { (IsOver self.new.acts.status → ⊥) → self.new.proxy ≡ self.old.proxy }
-        ensures told { C.told self.new.proxy ≡ C.told self.old.proxy }
-        ensures failing { C.failing self.new.proxy ≡ C.failing self.old.proxy }
-        ensures faults { C.faults self.old.proxy ≤ C.faults self.new.proxy }
-        ensures calm { C.failing self.old.proxy ≡ Some [] → C.faults self.new.proxy ≡ C.faults self.old.proxy }
+        ensures proxy { IsAsked C.meaning (look_ups_at self.new.acts.status) self.old.proxy self.new.proxy }
+        ensures failed { IsOver self.new.acts.status → FailsNext C.meaning self.old.proxy → IsErr result }
     {
         match self.state {
             CredSspState::NegoToken => self.negotiate(request),

@@ -1,16 +1,16 @@
 // The server's turns of the authentication (NegoToken).
-ghost use Rattle.std.specs.Prelude.{ℕ, List, Option, Result, Ok, ◌≡◌, ◌≢◌, ◌+◌, ◌≤◌, [], map, None, Some, true, false, IsSome, IsTrue, OnOk, OnErr, IfOk, IfErr};
+ghost use Rattle.std.specs.Prelude.{ℕ, List, Option, Result, Ok, ◌≡◌, ◌≢◌, [], map, None, Some, true, false, IsSome, IsTrue, IsErr, OnOk, OnErr, IfOk, IfErr};
 ghost use Rattle.sspi_names.specs.declared.credentials.Credentials.TheVariants as credentials;
 ghost use Rattle.sspi_mech.specs.Calls.{ToName};
 ghost use Rattle.sspi_credssp.specs.Acts.{no_acts};
 ghost use Rattle.sspi_types.specs.declared.credential_use.CredentialUse.TheVariants as purposes;
 ghost use Rattle.sspi_credssp.specs.Begun.{Begun, IfContext};
-ghost use Rattle.sspi_credssp.specs.Context.{either, ForServer};
+ghost use Rattle.sspi_credssp.specs.Context.{either};
 ghost use Rattle.sspi_credssp.specs.Counts.{SameBut, IsUnusedIn};
-ghost use Rattle.sspi_credssp.specs.Proxy.{counted_on, AreCandidates};
+ghost use Rattle.sspi_credssp.specs.Proxy.{IsAsked, IsLater, FailsNext, AreFound};
 ghost use Rattle.sspi_credssp.specs.ServerCause.{IdentifyCause, LookUpRefused};
 ghost use Rattle.sspi_credssp.specs.ServerTurn.{IsOver, answered_by};
-ghost use Rattle.sspi_credssp.specs.ServerStep.{IsIdentified, server_requirements, server_args};
+ghost use Rattle.sspi_credssp.specs.ServerStep.{IsIdentified, server_requirements, server_args, server_setting};
 
 use crate::context::SspiContext;
 use crate::proxy::{CredentialsProxy, ProxyError};
@@ -56,7 +56,7 @@ fn accept<N: Mechanism, K: Mechanism>(
     credentials_handle: &Option<CredentialsBuffers>,
     token: &Option<Bytes>,
 ) -> Result<Step, Error>
-    ensures step { (either N.meaning K.meaning).accepts context.old (server_args credentials_handle.now token.now) result context.new }
+    ensures step { (either N.REQUESTS N.meaning K.meaning).accepts context.old (server_args credentials_handle.now token.now) result context.new }
     ensures plain { IfErr result (λ error. error.nstatus ≡ None) }
 {
     context.accept_security_context(&AcceptSecurityContext {
@@ -76,21 +76,18 @@ fn has_ended(status: SecurityStatus) -> bool
 }
 
 // The identities that the peer of this name may have; at least one.
-#[tactic(auto, using(crate::proofs::Proxies::calm_look_up))]
+#[tactic(auto, using(crate::proofs::Asked::asked_once, crate::proofs::Asked::failed_call))]
 fn look_up<C: CredentialsProxy>(
     proxy: &mut C,
     username: &Username,
 ) -> Result<Vec<AuthIdentity>, Error>
-    ensures found { IfOk result (λ identities. AreCandidates (C.told proxy.old) username.now identities.items) }
+    ensures found { IfOk result (λ identities. AreFound (C.meaning.told proxy.old) username.now identities.items) }
     ensures some { IfOk result (λ identities. identities.items ≢ []) }
-    ensures told { C.told proxy.new ≡ C.told proxy.old }
-    ensures failing { C.failing proxy.new ≡ C.failing proxy.old }
-    ensures faults { C.faults proxy.old ≤ C.faults proxy.new }
-    ensures once { C.calls proxy.new ≤ C.calls proxy.old + 1 }
-    ensures calm { C.failing proxy.old ≡ Some [] → C.faults proxy.new ≡ C.faults proxy.old }
+    ensures proxy { IsAsked C.meaning 1 proxy.old proxy.new }
+    ensures failed { FailsNext C.meaning proxy.old → IsErr result }
     ensures plain { IfErr result (λ error. error.nstatus ≡ None) }
     ensures cause { IfErr result (λ error. error.error_type ≢ ErrorKind.InsufficientMemory →
-        LookUpRefused (C.told proxy.old) username.now (C.faults proxy.old) (C.faults proxy.new) error.error_type) }
+        LookUpRefused (C.meaning.told proxy.old) username.now (C.meaning.faults proxy.old) (C.meaning.faults proxy.new) error.error_type) }
 {
     match proxy.auth_data_candidates_by_user(username) {
         Ok(candidates) => some_of(candidates),
@@ -136,17 +133,14 @@ fn identify<N: Mechanism, K: Mechanism, C: CredentialsProxy>(
     context: &mut SspiContext<N, K>,
     proxy: &mut C,
 ) -> Result<(), Error>
-    ensures identified { OnOk result (IsIdentified (either N.meaning K.meaning) (C.told proxy.old) context.old context.new) }
-    ensures counts { let c = either N.meaning K.meaning in c.counts context.new ≡ c.counts context.old }
+    ensures identified { OnOk result (IsIdentified (either N.REQUESTS N.meaning K.meaning) (C.meaning.told proxy.old) context.old context.new) }
+    ensures counts { let c = either N.REQUESTS N.meaning K.meaning in c.counts context.new ≡ c.counts context.old }
     ensures err { OnErr result (context.new ≡ context.old) }
-    ensures told { C.told proxy.new ≡ C.told proxy.old }
-    ensures failing { C.failing proxy.new ≡ C.failing proxy.old }
-    ensures faults { C.faults proxy.old ≤ C.faults proxy.new }
-    ensures once { C.calls proxy.new ≤ C.calls proxy.old + 1 }
-    ensures calm { C.failing proxy.old ≡ Some [] → C.faults proxy.new ≡ C.faults proxy.old }
+    ensures proxy { IsAsked C.meaning 1 proxy.old proxy.new }
+    ensures failed { FailsNext C.meaning proxy.old → IsErr result }
     ensures plain { IfErr result (λ error. error.nstatus ≡ None) }
-    ensures cause { IfErr result (λ error. error.error_type ≢ ErrorKind.InsufficientMemory → IdentifyCause (either N.meaning K.meaning)
-        context.old (C.told proxy.old) (C.faults proxy.old) (C.faults proxy.new) error.error_type) }
+    ensures cause { IfErr result (λ error. error.error_type ≢ ErrorKind.InsufficientMemory → IdentifyCause (either N.REQUESTS N.meaning K.meaning)
+        context.old (C.meaning.told proxy.old) (C.meaning.faults proxy.old) (C.meaning.faults proxy.new) error.error_type) }
 {
     let names = match context.query_context_names() {
         Ok(names) => names,
@@ -168,6 +162,7 @@ fn identify<N: Mechanism, K: Mechanism, C: CredentialsProxy>(
 
 impl<N: Mechanism, K: Mechanism, C: CredentialsProxy> CredSspServer<N, K, C> {
     ghost use Rattle.sspi_credssp.specs.Server.{ServerView};
+    ghost use Rattle.sspi_credssp.specs.ServerAsks.{look_ups_at};
     ghost use Rattle.sspi_credssp.specs.ServerCause.{NegoCause, OverCause, AfterCause};
     ghost use Rattle.sspi_credssp.specs.ServerStep.{Unknown, Accepted, HasCome, CompletedStep, HasAccepted, HasAcceptedTurn};
     ghost use Rattle.sspi_credssp.specs.ServerTurn.{ServerGoes, Answered, IsReady};
@@ -176,26 +171,22 @@ impl<N: Mechanism, K: Mechanism, C: CredentialsProxy> CredSspServer<N, K, C> {
         requires acts { self.old.acts ≡ no_acts }
         requires begun { IsSome self.old.context }
         requires noted { IsSome self.old.noted }
-        ensures turn { let c = either N.meaning K.meaning in (start : ServerView (SspiContext N K) C) (d : TsRequest) →
+        ensures turn { let c = either N.REQUESTS N.meaning K.meaning in (start : ServerView (SspiContext N K) C) (d : TsRequest) →
             request ≡ record d { version = self.old.version } → IsReady c start d self.old → self.old.state ≡ CredSspState.NegoToken →
             self.old.output ≡ [] → ServerGoes c start d result self.new }
-        ensures step { let c = either N.meaning K.meaning in (start : ServerView (SspiContext N K) C) (d : TsRequest) →
-            d.nego_tokens ≡ request.nego_tokens → C.told start.proxy ≡ C.told self.old.proxy →
-            IfContext self.old.context (Begun c start.context start.handle (ForServer start.mode) purposes.Inbound None self.old.handle) →
-            HasAcceptedTurn c C.told start d result self.new }
-        ensures cause { let c = either N.meaning K.meaning in (start : ServerView (SspiContext N K) C) (d : TsRequest) →
-            request ≡ record d { version = self.old.version } → start.proxy ≡ self.old.proxy →
-            IfContext self.old.context (Begun c start.context start.handle (ForServer start.mode) purposes.Inbound None self.old.handle) →
+        ensures step { let c = either N.REQUESTS N.meaning K.meaning in (start : ServerView (SspiContext N K) C) (d : TsRequest) →
+            d.nego_tokens ≡ request.nego_tokens → IsLater C.meaning start.proxy self.old.proxy →
+            IfContext self.old.context (Begun c start.context start.handle (server_setting C.meaning start) purposes.Inbound None self.old.handle) →
+            HasAcceptedTurn c C.meaning start d result self.new }
+        ensures cause { let c = either N.REQUESTS N.meaning K.meaning in (start : ServerView (SspiContext N K) C) (d : TsRequest) →
+            request ≡ record d { version = self.old.version } → IsLater C.meaning start.proxy self.old.proxy →
+            IfContext self.old.context (Begun c start.context start.handle (server_setting C.meaning start) purposes.Inbound None self.old.handle) →
             IfErr result (λ refusal. refusal.error.error_type ≢ ErrorKind.InsufficientMemory →
-            NegoCause c C.told C.faults self.new.acts.status start d self.new refusal.error.error_type) }
+            NegoCause c C.meaning self.new.acts.status start d self.new refusal.error.error_type) }
         ensures plain { IfErr result (λ refusal. refusal.error.nstatus ≡ None) }
         ensures begun { IsSome self.new.context }
-        ensures once { C.calls self.new.proxy ≤ C.calls self.old.proxy + 1 }
-        ensures unasked { (IsOver self.new.acts.status → ⊥) → self.new.proxy ≡ self.old.proxy }
-        ensures told { C.told self.new.proxy ≡ C.told self.old.proxy }
-        ensures failing { C.failing self.new.proxy ≡ C.failing self.old.proxy }
-        ensures faults { C.faults self.old.proxy ≤ C.faults self.new.proxy }
-        ensures calm { C.failing self.old.proxy ≡ Some [] → C.faults self.new.proxy ≡ C.faults self.old.proxy }
+        ensures proxy { IsAsked C.meaning (look_ups_at self.new.acts.status) self.old.proxy self.new.proxy }
+        ensures failed { IsOver self.new.acts.status → FailsNext C.meaning self.old.proxy → IsErr result }
     {
         match self.answer(&request) {
             Ok(answer) => Ok(ServerState::ReplyNeeded(with_answer(request, answer))),
@@ -207,28 +198,24 @@ impl<N: Mechanism, K: Mechanism, C: CredentialsProxy> CredSspServer<N, K, C> {
         requires acts { self.old.acts ≡ no_acts }
         requires begun { IsSome self.old.context }
         requires noted { IsSome self.old.noted }
-        ensures turn { let c = either N.meaning K.meaning in (start : ServerView (SspiContext N K) C) (d : TsRequest) →
+        ensures turn { let c = either N.REQUESTS N.meaning K.meaning in (start : ServerView (SspiContext N K) C) (d : TsRequest) →
             request.now ≡ record d { version = self.old.version } → IsReady c start d self.old → self.old.state ≡ CredSspState.NegoToken →
             self.old.output ≡ [] → Answered c start d result self.new }
-        ensures step { let c = either N.meaning K.meaning in (start : ServerView (SspiContext N K) C) (d : TsRequest) →
-            d.nego_tokens ≡ request.now.nego_tokens → C.told start.proxy ≡ C.told self.old.proxy →
-            IfContext self.old.context (Begun c start.context start.handle (ForServer start.mode) purposes.Inbound None self.old.handle) →
-            HasAccepted c C.told start d result self.new }
+        ensures step { let c = either N.REQUESTS N.meaning K.meaning in (start : ServerView (SspiContext N K) C) (d : TsRequest) →
+            d.nego_tokens ≡ request.now.nego_tokens → IsLater C.meaning start.proxy self.old.proxy →
+            IfContext self.old.context (Begun c start.context start.handle (server_setting C.meaning start) purposes.Inbound None self.old.handle) →
+            HasAccepted c C.meaning start d result self.new }
         ensures state { OnErr result (self.new.state ≡ self.old.state) }
         ensures version { self.new.version ≡ self.old.version }
-        ensures cause { let c = either N.meaning K.meaning in (start : ServerView (SspiContext N K) C) (d : TsRequest) →
-            request.now ≡ record d { version = self.old.version } → start.proxy ≡ self.old.proxy →
-            IfContext self.old.context (Begun c start.context start.handle (ForServer start.mode) purposes.Inbound None self.old.handle) →
+        ensures cause { let c = either N.REQUESTS N.meaning K.meaning in (start : ServerView (SspiContext N K) C) (d : TsRequest) →
+            request.now ≡ record d { version = self.old.version } → IsLater C.meaning start.proxy self.old.proxy →
+            IfContext self.old.context (Begun c start.context start.handle (server_setting C.meaning start) purposes.Inbound None self.old.handle) →
             IfErr result (λ error. error.error_type ≢ ErrorKind.InsufficientMemory →
-            NegoCause c C.told C.faults self.new.acts.status start d self.new error.error_type) }
+            NegoCause c C.meaning self.new.acts.status start d self.new error.error_type) }
         ensures plain { IfErr result (λ error. error.nstatus ≡ None) }
         ensures begun { IsSome self.new.context }
-        ensures once { C.calls self.new.proxy ≤ C.calls self.old.proxy + 1 }
-        ensures unasked { (IsOver self.new.acts.status → ⊥) → self.new.proxy ≡ self.old.proxy }
-        ensures told { C.told self.new.proxy ≡ C.told self.old.proxy }
-        ensures failing { C.failing self.new.proxy ≡ C.failing self.old.proxy }
-        ensures faults { C.faults self.old.proxy ≤ C.faults self.new.proxy }
-        ensures calm { C.failing self.old.proxy ≡ Some [] → C.faults self.new.proxy ≡ C.faults self.old.proxy }
+        ensures proxy { IsAsked C.meaning (look_ups_at self.new.acts.status) self.old.proxy self.new.proxy }
+        ensures failed { IsOver self.new.acts.status → FailsNext C.meaning self.old.proxy → IsErr result }
     {
         self.acts.negotiated = true;
         let Some(context) = &mut self.context else {
@@ -248,30 +235,26 @@ impl<N: Mechanism, K: Mechanism, C: CredentialsProxy> CredSspServer<N, K, C> {
         requires acts { self.old.acts ≡ record no_acts { negotiated = true; status = Some status } }
         requires begun { IsSome self.old.context }
         requires noted { IsSome self.old.noted }
-        ensures turn { let c = either N.meaning K.meaning in (start : ServerView (SspiContext N K) C) (d : TsRequest) →
+        ensures turn { let c = either N.REQUESTS N.meaning K.meaning in (start : ServerView (SspiContext N K) C) (d : TsRequest) →
             request.now ≡ record d { version = self.old.version } → IsReady c start d self.old → self.old.state ≡ CredSspState.NegoToken →
             Answered c start d result self.new }
-        ensures step { let c = either N.meaning K.meaning in (start : ServerView (SspiContext N K) C) (d : TsRequest) →
-            C.told start.proxy ≡ C.told self.old.proxy →
-            IfContext self.old.context (Accepted c C.told start self.old.handle d.nego_tokens Unknown
+        ensures step { let c = either N.REQUESTS N.meaning K.meaning in (start : ServerView (SspiContext N K) C) (d : TsRequest) →
+            IsLater C.meaning start.proxy self.old.proxy →
+            IfContext self.old.context (Accepted c C.meaning start self.old.handle d.nego_tokens Unknown
             (Ok (record { status = status; output = self.old.output }))) →
-            HasAccepted c C.told start d result self.new }
+            HasAccepted c C.meaning start d result self.new }
         ensures state { OnErr result (self.new.state ≡ self.old.state) }
         ensures version { self.new.version ≡ self.old.version }
         ensures status { self.new.acts.status ≡ Some status }
-        ensures cause { let c = either N.meaning K.meaning in (start : ServerView (SspiContext N K) C) (d : TsRequest) →
-            request.now ≡ record d { version = self.old.version } → start.proxy ≡ self.old.proxy →
-            HasCome c C.told Unknown status start d self.old →
+        ensures cause { let c = either N.REQUESTS N.meaning K.meaning in (start : ServerView (SspiContext N K) C) (d : TsRequest) →
+            request.now ≡ record d { version = self.old.version } → IsLater C.meaning start.proxy self.old.proxy →
+            HasCome c C.meaning Unknown status start d self.old →
             IfErr result (λ error. error.error_type ≢ ErrorKind.InsufficientMemory →
-            NegoCause c C.told C.faults (Some status) start d self.new error.error_type) }
+            NegoCause c C.meaning (Some status) start d self.new error.error_type) }
         ensures plain { IfErr result (λ error. error.nstatus ≡ None) }
         ensures begun { IsSome self.new.context }
-        ensures once { C.calls self.new.proxy ≤ C.calls self.old.proxy + 1 }
-        ensures unasked { (IsOver self.new.acts.status → ⊥) → self.new.proxy ≡ self.old.proxy }
-        ensures told { C.told self.new.proxy ≡ C.told self.old.proxy }
-        ensures failing { C.failing self.new.proxy ≡ C.failing self.old.proxy }
-        ensures faults { C.faults self.old.proxy ≤ C.faults self.new.proxy }
-        ensures calm { C.failing self.old.proxy ≡ Some [] → C.faults self.new.proxy ≡ C.faults self.old.proxy }
+        ensures proxy { IsAsked C.meaning (look_ups_at self.new.acts.status) self.old.proxy self.new.proxy }
+        ensures failed { IsOver self.new.acts.status → FailsNext C.meaning self.old.proxy → IsErr result }
     {
         if status == SecurityStatus::ContinueNeeded {
             return match self.copy_output() {
@@ -301,31 +284,28 @@ impl<N: Mechanism, K: Mechanism, C: CredentialsProxy> CredSspServer<N, K, C> {
         requires acts { self.old.acts ≡ record no_acts { negotiated = true; status = self.old.acts.status } }
         requires begun { IsSome self.old.context }
         requires noted { IsSome self.old.noted }
-        ensures turn { let c = either N.meaning K.meaning in (start : ServerView (SspiContext N K) C) (d : TsRequest) →
+        ensures turn { let c = either N.REQUESTS N.meaning K.meaning in (start : ServerView (SspiContext N K) C) (d : TsRequest) →
             request.now ≡ record d { version = self.old.version } → IsReady c start d self.old → self.old.state ≡ CredSspState.NegoToken →
             IsOver self.old.acts.status → Answered c start d result self.new }
-        ensures step { let c = either N.meaning K.meaning in (start : ServerView (SspiContext N K) C) (token : Option (List ℕ)) (answer : Result Step Error) →
-            C.told start.proxy ≡ C.told self.old.proxy →
-            IfContext self.old.context (Accepted c C.told start self.old.handle token Unknown answer) →
-            CompletedStep c C.told start self.old.handle token answer result self.new.context }
+        ensures step { let c = either N.REQUESTS N.meaning K.meaning in (start : ServerView (SspiContext N K) C) (token : Option (List ℕ)) (answer : Result Step Error) →
+            IsLater C.meaning start.proxy self.old.proxy →
+            IfContext self.old.context (Accepted c C.meaning start self.old.handle token Unknown answer) →
+            CompletedStep c C.meaning start self.old.handle token answer result self.new.context }
         ensures handle { self.new.handle ≡ self.old.handle }
         ensures output { self.new.output ≡ self.old.output }
         ensures negotiated { self.new.acts.negotiated ≡ true }
         ensures state { OnErr result (self.new.state ≡ self.old.state) }
         ensures version { self.new.version ≡ self.old.version }
         ensures status { self.new.acts.status ≡ self.old.acts.status }
-        ensures cause { let c = either N.meaning K.meaning in (start : ServerView (SspiContext N K) C) (d : TsRequest) (status : SecurityStatus) →
-            request.now ≡ record d { version = self.old.version } → start.proxy ≡ self.old.proxy →
-            HasCome c C.told Unknown status start d self.old →
+        ensures cause { let c = either N.REQUESTS N.meaning K.meaning in (start : ServerView (SspiContext N K) C) (d : TsRequest) (status : SecurityStatus) →
+            request.now ≡ record d { version = self.old.version } → IsLater C.meaning start.proxy self.old.proxy →
+            HasCome c C.meaning Unknown status start d self.old →
             IfErr result (λ error. error.error_type ≢ ErrorKind.InsufficientMemory →
-            OverCause c C.told C.faults status start d self.new error.error_type) }
+            OverCause c C.meaning status start d self.new error.error_type) }
         ensures plain { IfErr result (λ error. error.nstatus ≡ None) }
         ensures begun { IsSome self.new.context }
-        ensures once { C.calls self.new.proxy ≤ C.calls self.old.proxy + 1 }
-        ensures told { C.told self.new.proxy ≡ C.told self.old.proxy }
-        ensures failing { C.failing self.new.proxy ≡ C.failing self.old.proxy }
-        ensures faults { C.faults self.old.proxy ≤ C.faults self.new.proxy }
-        ensures calm { C.failing self.old.proxy ≡ Some [] → C.faults self.new.proxy ≡ C.faults self.old.proxy }
+        ensures proxy { IsAsked C.meaning 1 self.old.proxy self.new.proxy }
+        ensures failed { FailsNext C.meaning self.old.proxy → IsErr result }
     {
         let Some(context) = &mut self.context else {
             return Err(Error::new(ErrorKind::InternalError, Reason::Status));
@@ -345,16 +325,16 @@ impl<N: Mechanism, K: Mechanism, C: CredentialsProxy> CredSspServer<N, K, C> {
         requires acts { self.old.acts ≡ record no_acts { negotiated = true; status = self.old.acts.status } }
         requires begun { IsSome self.old.context }
         requires noted { IsSome self.old.noted }
-        ensures turn { let c = either N.meaning K.meaning in (start : ServerView (SspiContext N K) C) (d : TsRequest) →
+        ensures turn { let c = either N.REQUESTS N.meaning K.meaning in (start : ServerView (SspiContext N K) C) (d : TsRequest) →
             request.now ≡ record d { version = self.old.version } → IsReady c start d self.old → self.old.state ≡ CredSspState.NegoToken →
             IsOver self.old.acts.status → Answered c start d result self.new }
         ensures frame { self.new ≡ record self.old { state = self.new.state; context = self.new.context; acts = self.new.acts } }
-        ensures moved { SameBut (either N.meaning K.meaning) self.old.context self.new.context }
+        ensures moved { SameBut (either N.REQUESTS N.meaning K.meaning) self.old.context self.new.context }
         ensures state { OnErr result (self.new.state ≡ self.old.state) }
         ensures status { self.new.acts.status ≡ self.old.acts.status }
         ensures negotiated { self.new.acts.negotiated ≡ true }
         ensures cause { IfErr result (λ error. error.error_type ≢ ErrorKind.InsufficientMemory →
-            AfterCause (either N.meaning K.meaning) request.now.pub_key_auth request.now.client_nonce self.new error.error_type) }
+            AfterCause (either N.REQUESTS N.meaning K.meaning) request.now.pub_key_auth request.now.client_nonce self.new error.error_type) }
         ensures plain { IfErr result (λ error. error.nstatus ≡ None) }
         ensures begun { IsSome self.new.context }
     {

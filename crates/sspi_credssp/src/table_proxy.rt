@@ -93,13 +93,9 @@ fn copy_named(
 }
 
 impl CredentialsProxy for TableProxy {
-    ghost told = { λ table. Some table.entries };
+    ghost use Rattle.sspi_credssp.specs.Table.{table_meaning};
 
-    ghost failing = { λ table. Some table.failing };
-
-    ghost calls = { λ table. table.calls };
-
-    ghost faults = { λ table. table.faults };
+    ghost meaning = { table_meaning };
 
     fn auth_data_by_user(&mut self, username: &Username) -> Result<AuthIdentity, ProxyError> {
         if self.count() {

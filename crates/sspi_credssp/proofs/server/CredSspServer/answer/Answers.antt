@@ -3,16 +3,16 @@ use Rattle.sspi_types.specs.declared.credential_use.CredentialUse.TheVariants.{I
 use Rattle.sspi_types.specs.declared.error_kind.ErrorKind.TheVariants.{InsufficientMemory}
 use Rattle.sspi_tsreq.specs.declared.request.TsRequest.{TsRequest}
 use Rattle.sspi_credssp.specs.Begun.{Begun, IfContext}
-use Rattle.sspi_credssp.specs.Context.{either, ForServer}
+use Rattle.sspi_credssp.specs.Context.{either}
 use Rattle.sspi_credssp.specs.ServerCause.{NegoCause}
-use Rattle.sspi_credssp.specs.ServerStep.{RefusedAt, accepted, refused_step, server_args}
+use Rattle.sspi_credssp.specs.ServerStep.{RefusedAt, accepted, refused_step, server_args, server_setting}
 use Rattle.sspi_credssp.proofs.ClientReady.{context_here}
 use Rattle.sspi_credssp.proofs.server.CredSspServer.answer.Goals as goal
 
 pub returns-in-Ok-clause-step : goal.returns-in-Ok-clause-step
 returns-in-Ok-clause-step g c = λ start d token told begun.
-    let it = either g.N.Mechanism.meaning g.K.Mechanism.meaning in
-    let begun_inside = subst (λ v. IfContext v.context (Begun it start.context start.handle (ForServer start.mode) Inbound None v.handle)) (sym c.self.view_is) begun in
+    let it = either g.N.Mechanism.REQUESTS g.N.Mechanism.meaning g.K.Mechanism.meaning in
+    let begun_inside = subst (λ v. IfContext v.context (Begun it start.context start.handle (server_setting g.C.CredentialsProxy.meaning start) Inbound None v.handle)) (sym c.self.view_is) begun in
     let here : c.self.inside.context ≡ Some c.in-Some.context = search rules in
     c.answer_step.ensures.step start d (search rules)
     (accepted c.in-Some.context _ _ (context_here _ _ _ here begun_inside)
@@ -20,9 +20,9 @@ returns-in-Ok-clause-step g c = λ start d token told begun.
 
 pub returns-in-Err-clause-step : goal.returns-in-Err-clause-step
 returns-in-Err-clause-step g c = λ start d token told begun.
-    let it = either g.N.Mechanism.meaning g.K.Mechanism.meaning in
-    let tells = g.C.CredentialsProxy.told in
-    let begun_inside = subst (λ v. IfContext v.context (Begun it start.context start.handle (ForServer start.mode) Inbound None v.handle)) (sym c.self.view_is) begun in
+    let it = either g.N.Mechanism.REQUESTS g.N.Mechanism.meaning g.K.Mechanism.meaning in
+    let tells = g.C.CredentialsProxy.meaning in
+    let begun_inside = subst (λ v. IfContext v.context (Begun it start.context start.handle (server_setting g.C.CredentialsProxy.meaning start) Inbound None v.handle)) (sym c.self.view_is) begun in
     let here : c.self.inside.context ≡ Some c.in-Some.context = search rules in
     let none : c.self.inside.acts.status ≡ None = search rules in
     subst (λ s. RefusedAt it tells s start c.self.inside.credentials_handle d.nego_tokens (refused_step s c.self.inside.output c.in-Err.error) c.accept.new.context)
@@ -32,13 +32,13 @@ returns-in-Err-clause-step g c = λ start d token told begun.
 
 pub returns-in-Ok-clause-cause : goal.returns-in-Ok-clause-cause
 returns-in-Ok-clause-cause g c = λ start d same proxy begun.
-    let it = either g.N.Mechanism.meaning g.K.Mechanism.meaning in
-    let begun_inside = subst (λ v. IfContext v.context (Begun it start.context start.handle (ForServer start.mode) Inbound None v.handle)) (sym c.self.view_is) begun in
+    let it = either g.N.Mechanism.REQUESTS g.N.Mechanism.meaning g.K.Mechanism.meaning in
+    let begun_inside = subst (λ v. IfContext v.context (Begun it start.context start.handle (server_setting g.C.CredentialsProxy.meaning start) Inbound None v.handle)) (sym c.self.view_is) begun in
     let here : c.self.inside.context ≡ Some c.in-Some.context = search rules in
     let token : d.nego_tokens ≡ c.args.request.now.nego_tokens = ap (λ (x : TsRequest). x.nego_tokens) (sym same) in
     let new = c.answer_step.new.self in
     subst (λ s. IfErr c.answer_step.result (λ error. error.error_type ≢ InsufficientMemory →
-    NegoCause it g.C.CredentialsProxy.told g.C.CredentialsProxy.faults s start d new error.error_type)) (sym c.answer_step.ensures.status)
+    NegoCause it g.C.CredentialsProxy.meaning s start d new error.error_type)) (sym c.answer_step.ensures.status)
     (c.answer_step.ensures.cause start d (search rules) (search rules)
     (accepted c.in-Some.context _ _ (context_here _ _ _ here begun_inside)
     (subst (λ t. it.accepts c.in-Some.context (server_args c.self.inside.credentials_handle t) (Ok c.in-Ok.step) c.accept.new.context) (sym token) c.in-Ok.ensures.step)))

@@ -1,7 +1,8 @@
 use Rattle.std.proofs.Common.{◌≡◌, None, rules}
 use Rattle.sspi_types.specs.declared.credential_use.CredentialUse.TheVariants.{Inbound}
 use Rattle.sspi_credssp.specs.Begun.{Begun}
-use Rattle.sspi_credssp.specs.Context.{either, ForServer}
+use Rattle.sspi_credssp.specs.Context.{either}
+use Rattle.sspi_credssp.specs.ServerStep.{server_setting}
 use Rattle.sspi_credssp.proofs.ServerCauses.{begun_noted}
 use Rattle.sspi_credssp.proofs.server.CredSspServer.begin.Goals as goal
 
@@ -9,7 +10,7 @@ pub returns-in-Ok-clause-begun : goal.returns-in-Ok-clause-begun
 returns-in-Ok-clause-begun g c =
     let now = c.args.self.now in
     begun_noted _ c.make_context.new.self _ _
-    (λ handle m. Begun (either g.N.Mechanism.meaning g.K.Mechanism.meaning) now.context now.handle (ForServer now.mode) Inbound None handle m)
+    (λ handle m. Begun (either g.N.Mechanism.REQUESTS g.N.Mechanism.meaning g.K.Mechanism.meaning) now.context now.handle (server_setting g.C.CredentialsProxy.meaning now) Inbound None handle m)
     c.note_version-in-Ok.ensures.ok c.in-Ok.ensures.begun
 
 pub returns-in-Err-clause-cause : goal.returns-in-Err-clause-cause

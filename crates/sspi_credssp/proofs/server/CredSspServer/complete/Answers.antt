@@ -1,47 +1,47 @@
 use Rattle.std.proofs.Common.{◌≡◌, Some, Result, Ok, sym, subst, rules}
 use Rattle.sspi_types.specs.declared.error.Error.{Error}
-use Rattle.sspi_mech.proofs.ContextLaws.{contextual}
 use Rattle.sspi_mech.specs.declared.step.Step.{Step}
 use Rattle.sspi_mech.specs.Calls.{ToComplete}
 use Rattle.sspi_credssp.specs.Context.{either}
+use Rattle.sspi_credssp.specs.Proxy.{IsLater}
 use Rattle.sspi_credssp.specs.ServerCause.{IdentifyCause, unknown, incomplete}
 use Rattle.sspi_credssp.specs.ServerStep.{Unknown, Identified, Completed, Accepted, HasCome, IsIdentified, identified, completed, so_far}
 use Rattle.sspi_credssp.proofs.ClientReady.{context_here}
 use Rattle.sspi_credssp.proofs.ContextLaws.{lawful}
-use Rattle.sspi_credssp.proofs.ServerCauses.{known_causes}
+use Rattle.sspi_credssp.proofs.ServerCauses.{known_causes, identified_since}
 use Rattle.sspi_credssp.proofs.ServerWalks.{accepted_on, completed_on, come_on}
 use Rattle.sspi_credssp.proofs.server.CredSspServer.complete.Goals as goal
 
 pub returns-in-Err-clause-step : goal.returns-in-Err-clause-step
-returns-in-Err-clause-step g c = λ start token answer told accepted.
-    let it = either g.N.Mechanism.meaning g.K.Mechanism.meaning in
+returns-in-Err-clause-step g c = λ start token answer later accepted.
+    let it = either g.N.Mechanism.REQUESTS g.N.Mechanism.meaning g.K.Mechanism.meaning in
     let here : c.args.self.now.context ≡ Some c.in-Some.context = search rules in
-    so_far Unknown (subst (λ m. Accepted it g.C.CredentialsProxy.told start c.args.self.now.handle token Unknown answer m) (sym c.in-Err.ensures.err)
+    so_far Unknown (subst (λ m. Accepted it g.C.CredentialsProxy.meaning start c.args.self.now.handle token Unknown answer m) (sym c.in-Err.ensures.err)
     (context_here _ _ _ here accepted))
 
 pub returns-in-Err-clause-cause : goal.returns-in-Err-clause-cause
-returns-in-Err-clause-cause g c = λ start d status same proxy come memory.
-    let it = either g.N.Mechanism.meaning g.K.Mechanism.meaning in
-    let told = g.C.CredentialsProxy.told in
-    let faults = g.C.CredentialsProxy.faults in
+returns-in-Err-clause-cause g c = λ start d status same later come memory.
+    let it = either g.N.Mechanism.REQUESTS g.N.Mechanism.meaning g.K.Mechanism.meaning in
+    let tells = g.C.CredentialsProxy.meaning in
     let kind = c.in-Err.error.error_type in
-    let own : c.self.inside.credentials ≡ start.proxy = search rules in
+    let own : c.args.self.now.proxy ≡ c.self.inside.credentials = search rules in
     let here : c.self.inside.context ≡ Some c.in-Some.context = search rules in
-    let come_inside = subst (λ v. HasCome it told Unknown status start d v) (sym c.self.view_is) come in
+    let come_inside = subst (λ v. HasCome it tells Unknown status start d v) (sym c.self.view_is) come in
     unknown (search rules)
-    (subst (λ m. Accepted it told start c.self.inside.credentials_handle d.nego_tokens Unknown (Ok (record { status = status; output = c.self.inside.output })) m)
+    (subst (λ m. Accepted it tells start c.self.inside.credentials_handle d.nego_tokens Unknown (Ok (record { status = status; output = c.self.inside.output })) m)
     (sym c.in-Err.ensures.err) (context_here _ _ _ here come_inside))
-    (subst (λ m. IdentifyCause it m (told start.proxy) (faults start.proxy) (faults c.identify.new.proxy) kind) (sym c.in-Err.ensures.err)
-    (subst (λ p. IdentifyCause it c.in-Some.context (told p) (faults p) (faults c.identify.new.proxy) kind) own (c.in-Err.ensures.cause memory)))
+    (subst (λ m. IdentifyCause it m (tells.told start.proxy) (tells.faults start.proxy) (tells.faults c.identify.new.proxy) kind) (sym c.in-Err.ensures.err)
+    (identified_since it tells c.in-Some.context start.proxy c.self.inside.credentials _ kind (subst (λ x. IsLater tells start.proxy x) own later)
+    (c.in-Err.ensures.cause memory)))
 
 pub returns-in-Ok-complete_auth_token-clause-step : goal.returns-in-Ok-complete_auth_token-clause-step
-returns-in-Ok-complete_auth_token-clause-step g c = λ start token answer told accepted.
-    let it = either g.N.Mechanism.meaning g.K.Mechanism.meaning in
-    let laws = lawful g.N.Mechanism.meaning g.K.Mechanism.meaning (contextual _ g.N.Mechanism.meaning g.met.N.Mechanism.laws)
-    (contextual _ g.K.Mechanism.meaning g.met.K.Mechanism.laws) in
-    let tells = g.C.CredentialsProxy.told in
+returns-in-Ok-complete_auth_token-clause-step g c = λ start token answer later accepted.
+    let told_same = later.told_same in
+    let it = either g.N.Mechanism.REQUESTS g.N.Mechanism.meaning g.K.Mechanism.meaning in
+    let laws = lawful _ _ g.N.Mechanism.meaning g.K.Mechanism.meaning g.met.N.Mechanism.laws g.met.K.Mechanism.laws in
+    let tells = g.C.CredentialsProxy.meaning in
     let here : c.args.self.now.context ≡ Some c.in-Some.context = search rules in
-    let same : tells c.self.inside.credentials ≡ tells start.proxy = search rules in
+    let same : tells.told c.self.inside.credentials ≡ tells.told start.proxy = search rules in
     let known = subst (λ t. IsIdentified it t c.in-Some.context c.identify.new.context) same c.in-Ok.ensures.identified in
     let named = identified c.in-Some.context c.identify.new.context answer (context_here _ _ _ here accepted) known in
     let done = completed c.identify.new.context answer named c.in-Ok-complete_auth_token.ensures.permitted in
@@ -50,40 +50,42 @@ returns-in-Ok-complete_auth_token-clause-step g c = λ start token answer told a
     (subst (λ m. Accepted it tells start c.args.self.now.handle token Completed answer m) (sym c.complete_auth_token.ensures.same) done)
 
 pub returns-in-Err-complete_auth_token-clause-step : goal.returns-in-Err-complete_auth_token-clause-step
-returns-in-Err-complete_auth_token-clause-step g c = λ start token answer told accepted.
-    let it = either g.N.Mechanism.meaning g.K.Mechanism.meaning in
-    let tells = g.C.CredentialsProxy.told in
+returns-in-Err-complete_auth_token-clause-step g c = λ start token answer later accepted.
+    let told_same = later.told_same in
+    let it = either g.N.Mechanism.REQUESTS g.N.Mechanism.meaning g.K.Mechanism.meaning in
+    let tells = g.C.CredentialsProxy.meaning in
     let here : c.args.self.now.context ≡ Some c.in-Some.context = search rules in
-    let same : tells c.self.inside.credentials ≡ tells start.proxy = search rules in
+    let same : tells.told c.self.inside.credentials ≡ tells.told start.proxy = search rules in
     let known = subst (λ t. IsIdentified it t c.in-Some.context c.identify.new.context) same c.in-Ok.ensures.identified in
     let named = identified c.in-Some.context c.identify.new.context answer (context_here _ _ _ here accepted) known in
     so_far Identified (subst (λ m. Accepted it tells start c.args.self.now.handle token Identified answer m) (sym c.complete_auth_token.ensures.same) named)
 
 pub returns-in-Ok-complete_auth_token-clause-cause : goal.returns-in-Ok-complete_auth_token-clause-cause
-returns-in-Ok-complete_auth_token-clause-cause g c = λ start d status same proxy come.
-    let it = either g.N.Mechanism.meaning g.K.Mechanism.meaning in
-    let laws = lawful g.N.Mechanism.meaning g.K.Mechanism.meaning (contextual _ g.N.Mechanism.meaning g.met.N.Mechanism.laws)
-    (contextual _ g.K.Mechanism.meaning g.met.K.Mechanism.laws) in
-    let tells = g.C.CredentialsProxy.told in
+returns-in-Ok-complete_auth_token-clause-cause g c = λ start d status same later come.
+    let told_same = later.told_same in
+    let it = either g.N.Mechanism.REQUESTS g.N.Mechanism.meaning g.K.Mechanism.meaning in
+    let laws = lawful _ _ g.N.Mechanism.meaning g.K.Mechanism.meaning g.met.N.Mechanism.laws g.met.K.Mechanism.laws in
+    let tells = g.C.CredentialsProxy.meaning in
     let now = c.args.self.now in
     let here : now.context ≡ Some c.in-Some.context = search rules in
-    let own : tells c.self.inside.credentials ≡ tells start.proxy = search rules in
+    let own : tells.told c.self.inside.credentials ≡ tells.told start.proxy = search rules in
     let answer : Result Step Error = Ok (record { status = status; output = now.output }) in
     let known = subst (λ t. IsIdentified it t c.in-Some.context c.identify.new.context) own c.in-Ok.ensures.identified in
     let named = identified c.in-Some.context c.identify.new.context answer (context_here _ _ _ here come) known in
     let done = completed c.identify.new.context answer named c.in-Ok-complete_auth_token.ensures.permitted in
-    known_causes it tells g.C.CredentialsProxy.faults status start d c.args.request.now _ c.answer_peer.new.self c.answer_peer.result same
+    known_causes it tells status start d c.args.request.now _ c.answer_peer.new.self c.answer_peer.result same
     (come_on it laws tells Completed status start now c.answer_peer.new.self d (search rules) (search rules)
     (accepted_on it laws tells start now.handle d.nego_tokens Completed answer (Some c.complete_auth_token.new.self) _ c.answer_peer.ensures.moved
     (subst (λ m. Accepted it tells start now.handle d.nego_tokens Completed answer m) (sym c.complete_auth_token.ensures.same) done)))
     c.answer_peer.ensures.cause
 
 pub returns-in-Err-complete_auth_token-clause-cause : goal.returns-in-Err-complete_auth_token-clause-cause
-returns-in-Err-complete_auth_token-clause-cause g c = λ start d status same proxy come memory.
-    let it = either g.N.Mechanism.meaning g.K.Mechanism.meaning in
-    let tells = g.C.CredentialsProxy.told in
+returns-in-Err-complete_auth_token-clause-cause g c = λ start d status same later come memory.
+    let told_same = later.told_same in
+    let it = either g.N.Mechanism.REQUESTS g.N.Mechanism.meaning g.K.Mechanism.meaning in
+    let tells = g.C.CredentialsProxy.meaning in
     let here : c.self.inside.context ≡ Some c.in-Some.context = search rules in
-    let own : tells c.self.inside.credentials ≡ tells start.proxy = search rules in
+    let own : tells.told c.self.inside.credentials ≡ tells.told start.proxy = search rules in
     let answer : Result Step Error = Ok (record { status = status; output = c.self.inside.output }) in
     let come_inside = subst (λ v. HasCome it tells Unknown status start d v) (sym c.self.view_is) come in
     let known = subst (λ t. IsIdentified it t c.in-Some.context c.identify.new.context) own c.in-Ok.ensures.identified in

@@ -1,7 +1,6 @@
 use Rattle.std.proofs.Common.{◌≡◌, ◌≢◌, IfErr, sym, ◌∙◌, ap, subst, rules}
 use Rattle.sspi_types.specs.declared.error.Error.{Error}
 use Rattle.sspi_types.specs.declared.error_kind.ErrorKind.TheVariants.{InsufficientMemory}
-use Rattle.sspi_mech.proofs.ContextLaws.{contextual}
 use Rattle.sspi_credssp.specs.Context.{either}
 use Rattle.sspi_credssp.specs.ServerCause.{NegoCause}
 use Rattle.sspi_credssp.specs.ServerStep.{HasAcceptedTurn}
@@ -13,7 +12,7 @@ use Rattle.sspi_credssp.proofs.server.CredSspServer.negotiate.Goals.{in-Ok, in-E
 
 pub returns-clause-turn : goal.returns-clause-turn
 returns-clause-turn g c = λ start d same ready nego output.
-    let it = either g.N.Mechanism.meaning g.K.Mechanism.meaning in
+    let it = either g.N.Mechanism.REQUESTS g.N.Mechanism.meaning g.K.Mechanism.meaning in
     let own = sym c.answer.ensures.version in
     elim c.match-answer.branch [
       | in-Ok w ↦ went_on it start c.answer.new.self d c.args.request _ w.in-Ok.answer w.with_answer.result c.match-answer.result w.result-is same own
@@ -26,10 +25,9 @@ returns-clause-turn g c = λ start d same ready nego output.
 
 pub returns-clause-step : goal.returns-clause-step
 returns-clause-step g c = λ start d token told begun.
-    let it = either g.N.Mechanism.meaning g.K.Mechanism.meaning in
-    let laws = lawful g.N.Mechanism.meaning g.K.Mechanism.meaning (contextual _ g.N.Mechanism.meaning g.met.N.Mechanism.laws)
-    (contextual _ g.K.Mechanism.meaning g.met.K.Mechanism.laws) in
-    let tells = g.C.CredentialsProxy.told in
+    let it = either g.N.Mechanism.REQUESTS g.N.Mechanism.meaning g.K.Mechanism.meaning in
+    let laws = lawful _ _ g.N.Mechanism.meaning g.K.Mechanism.meaning g.met.N.Mechanism.laws g.met.K.Mechanism.laws in
+    let tells = g.C.CredentialsProxy.meaning in
     elim c.match-answer.branch [
       | in-Ok w ↦ subst (λ r. HasAcceptedTurn it tells start d r c.answer.new.self) (sym w.result-is) (w.in-Ok.ensures.step start d token told begun)
       | in-Err w ↦ subst (λ r. HasAcceptedTurn it tells start d r c.answer.new.self) (sym w.result-is)
@@ -39,16 +37,15 @@ returns-clause-step g c = λ start d token told begun.
 
 pub returns-clause-cause : goal.returns-clause-cause
 returns-clause-cause g c = λ start d same proxy begun.
-    let it = either g.N.Mechanism.meaning g.K.Mechanism.meaning in
-    let tells = g.C.CredentialsProxy.told in
-    let faults = g.C.CredentialsProxy.faults in
+    let it = either g.N.Mechanism.REQUESTS g.N.Mechanism.meaning g.K.Mechanism.meaning in
+    let tells = g.C.CredentialsProxy.meaning in
     let new = c.answer.new.self in
     elim c.match-answer.branch [
       | in-Ok w ↦ subst (λ r. IfErr r (λ refusal. refusal.error.error_type ≢ InsufficientMemory →
-          NegoCause it tells faults new.acts.status start d new refusal.error.error_type)) (sym w.result-is) tt
+          NegoCause it tells new.acts.status start d new refusal.error.error_type)) (sym w.result-is) tt
       | in-Err w ↦ subst (λ r. IfErr r (λ refusal. refusal.error.error_type ≢ InsufficientMemory →
-          NegoCause it tells faults new.acts.status start d new refusal.error.error_type)) (sym w.result-is)
+          NegoCause it tells new.acts.status start d new refusal.error.error_type)) (sym w.result-is)
           (λ memory. let e : w.refusal.result.error ≡ w.in-Err.error = search rules in
-          subst (λ (x : Error). NegoCause it tells faults new.acts.status start d new x.error_type) (sym e)
+          subst (λ (x : Error). NegoCause it tells new.acts.status start d new x.error_type) (sym e)
           (w.in-Err.ensures.cause start d same proxy begun (λ lacking. memory (ap (λ (x : Error). x.error_type) e ∙ lacking))))
     ]

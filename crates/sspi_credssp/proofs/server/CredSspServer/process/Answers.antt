@@ -1,9 +1,15 @@
 use Rattle.std.proofs.Common.{◌≡◌, None, refl, sym, subst, rules}
 use Rattle.sspi_types.specs.declared.credential_use.CredentialUse.TheVariants.{Inbound}
 use Rattle.sspi_types.specs.declared.error_kind.ErrorKind.TheVariants.{MessageAltered}
-use Rattle.sspi_credssp.specs.Begun.{Begun, BeginCause, IfContext, MadeOr}
-use Rattle.sspi_credssp.specs.Context.{either, ForServer}
+use Rattle.sspi_credssp.specs.Begun.{Begun, IfContext, MadeOr}
+use Rattle.sspi_credssp.specs.Context.{either}
+use Rattle.sspi_credssp.specs.Peers.{lists_in}
+use Rattle.sspi_credssp.specs.Proxy.{IsLater, IsAsked}
+use Rattle.sspi_credssp.specs.ServerCause.{MakeCause}
+use Rattle.sspi_credssp.specs.ServerStep.{server_setting}
 use Rattle.sspi_credssp.specs.Stops.{StopsIf, differs}
+use Rattle.sspi_credssp.proofs.Asked.{later, asked_on}
+use Rattle.sspi_credssp.proofs.ServerAsking.{took_failed}
 use Rattle.sspi_credssp.proofs.ServerCauses.{server_cause_past, server_cause_begun}
 use Rattle.sspi_credssp.proofs.server.CredSspServer.process.Goals as goal
 
@@ -14,27 +20,44 @@ returns-in-Ok-clause-turn g c =
 
 pub returns-in-Ok-clause-step : goal.returns-in-Ok-clause-step
 returns-in-Ok-clause-step g c =
-    let it = either g.N.Mechanism.meaning g.K.Mechanism.meaning in
+    let it = either g.N.Mechanism.REQUESTS g.N.Mechanism.meaning g.K.Mechanism.meaning in
+    let p = g.C.CredentialsProxy.meaning in
     let begun = subst (λ v. IfContext c.begin.new.self.context
-    (Begun it v.context v.handle (ForServer v.mode) Inbound None c.begin.new.self.handle)) c.forget_last_call.ensures c.in-Ok.ensures.begun in
-    c.take-in-Ok.ensures.step c.args.self.now c.args.ts_request (search rules) (search rules) begun
+    (Begun it v.context v.handle (server_setting p v) Inbound None c.begin.new.self.handle)) c.forget_last_call.ensures c.in-Ok.ensures.begun in
+    let since = subst (λ v. IsLater p v.proxy c.begin.new.self.proxy) c.forget_last_call.ensures (later p _ _ _ c.in-Ok.ensures.proxy) in
+    c.take-in-Ok.ensures.step c.args.self.now c.args.ts_request (search rules) since begun
 
 pub returns-in-Ok-clause-cause : goal.returns-in-Ok-clause-cause
 returns-in-Ok-clause-cause g c =
-    let it = either g.N.Mechanism.meaning g.K.Mechanism.meaning in
+    let it = either g.N.Mechanism.REQUESTS g.N.Mechanism.meaning g.K.Mechanism.meaning in
+    let p = g.C.CredentialsProxy.meaning in
     let begun = subst (λ v. IfContext c.begin.new.self.context
-    (Begun it v.context v.handle (ForServer v.mode) Inbound None c.begin.new.self.handle)) c.forget_last_call.ensures c.in-Ok.ensures.begun in
-    server_cause_past it g.C.CredentialsProxy.told g.C.CredentialsProxy.faults c.args.self.now c.take-in-Ok.new.self c.args.ts_request _ _
+    (Begun it v.context v.handle (server_setting p v) Inbound None c.begin.new.self.handle)) c.forget_last_call.ensures c.in-Ok.ensures.begun in
+    let since = subst (λ v. IsLater p v.proxy c.begin.new.self.proxy) c.forget_last_call.ensures (later p _ _ _ c.in-Ok.ensures.proxy) in
+    server_cause_past it p c.args.self.now c.take-in-Ok.new.self c.args.ts_request _ _
     (search rules) c.take-in-Ok.ensures.begun (search rules)
-    (c.take-in-Ok.ensures.cause c.args.self.now c.args.ts_request (search rules) (search rules) begun)
+    (c.take-in-Ok.ensures.cause c.args.self.now c.args.ts_request (search rules) since begun)
+
+pub returns-in-Ok-clause-proxy : goal.returns-in-Ok-clause-proxy
+returns-in-Ok-clause-proxy g c =
+    let p = g.C.CredentialsProxy.meaning in
+    asked_on p _ _ _ _ _ (subst (λ v. IsAsked p (lists_in v.context v.mode) v.proxy c.begin.new.self.proxy) c.forget_last_call.ensures c.in-Ok.ensures.proxy)
+    c.take-in-Ok.ensures.proxy
+
+pub returns-in-Ok-clause-failed : goal.returns-in-Ok-clause-failed
+returns-in-Ok-clause-failed g c =
+    let p = g.C.CredentialsProxy.meaning in
+    took_failed p c.args.self.now c.forget_last_call.new.self _ _ c.begin.new.self.proxy c.begin.result _ _ c.take-in-Ok.result
+    c.forget_last_call.ensures c.in-Ok.is c.in-Ok.ensures.proxy.told_same c.in-Ok.ensures.number c.in-Ok.ensures.failed c.take-in-Ok.ensures.failed
 
 pub returns-in-Err-clause-cause : goal.returns-in-Err-clause-cause
 returns-in-Err-clause-cause g c = λ memory.
-    let it = either g.N.Mechanism.meaning g.K.Mechanism.meaning in
+    let it = either g.N.Mechanism.REQUESTS g.N.Mechanism.meaning g.K.Mechanism.meaning in
+    let p = g.C.CredentialsProxy.meaning in
     let kind = c.in-Err.error.error_type in
     let same : c.refusal.result.error ≡ c.in-Err.error = search rules in
     rw same
-    (server_cause_begun it g.C.CredentialsProxy.told g.C.CredentialsProxy.faults c.args.self.now c.begin.new.self c.args.ts_request kind
-    (subst (λ v. MadeOr v.context c.begin.new.self.context (BeginCause it (ForServer v.mode) Inbound None kind)
+    (server_cause_begun it p c.args.self.now c.begin.new.self c.args.ts_request kind
+    (subst (λ v. MadeOr v.context c.begin.new.self.context (MakeCause it p v c.begin.new.self.proxy kind)
     (StopsIf (differs v.noted c.args.ts_request.version) MessageAltered kind ⊥))
     c.forget_last_call.ensures (c.in-Err.ensures.cause (rw (sym same) memory))))
