@@ -51,7 +51,7 @@ blob_length key direction n text = let e = length-append (seal_tag key direction
 
 module _ {K : Type 0} (k : Meaning Setting K) where
   abbrev meaning : Meaning ContextSetting (SspiContext NtlmState K)
-  meaning = either ntlm_meaning k
+  meaning = either 0 ntlm_meaning k
 
   pub never_unsealed : (o : NtlmState) (key text : List ℕ) (kind : ErrorKind) → o.protection.key ≡ Some key → o.protection.sealed < 2 ^ 64 - 1 →
       meaning.refuses (Ntlm o) (ToSeal text) kind → ⊥

@@ -41,7 +41,7 @@ at_rest m = record m { protection = recounted m.protection (silent (counts_of m.
 
 module _ {K : Type 0} (k : Meaning Setting K) where
   abbrev meaning : Meaning ContextSetting (SspiContext NtlmState K)
-  meaning = either ntlm_meaning k
+  meaning = either 0 ntlm_meaning k
 
   -- a context that is this object at rest
   pub as_ntlm : (m : SspiContext NtlmState K) (x : NtlmState) → cleared meaning m ≡ Ntlm x → (y : NtlmState) × (m ≡ Ntlm y) × (at_rest y ≡ x)

@@ -109,12 +109,12 @@ acquires_buffers : (cr : Credentials) (i : AuthIdentity) (handle : Option Creden
 acquires_buffers cr i handle is h =
     let e : acquired Outbound (Some (credentials.AuthIdentity i)) ≡ Ok handle = subst (λ (x : Credentials). acquired Outbound (Some x) ≡ Ok handle) is h in cc
 
-module _ {K D P : Type 0} (k : Meaning Setting K) (laws : IsContext (either ntlm_meaning k)) (calls : KdcCalls D) (told : P → Option (List AuthIdentity)) where
+module _ {K D P : Type 0} (k : Meaning Setting K) (laws : IsContext (either 0 ntlm_meaning k)) (calls : KdcCalls D) (told : P → Option (List AuthIdentity)) where
   abbrev C : Type 0
   C = SspiContext NtlmState K
 
   abbrev c : Meaning ContextSetting C
-  c = either ntlm_meaning k
+  c = either 0 ntlm_meaning k
 
   abbrev NoKdc : D → Type 0
   NoKdc kdc = Unit {0}

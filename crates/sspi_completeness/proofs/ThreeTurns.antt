@@ -58,30 +58,30 @@ first_asks config m m2 input step new e =
 
 module _ {K P : Type 0} (k : Meaning Setting K) (told : P → Option (List AuthIdentity)) (faults : P → ℕ) (failing : P → Option (List ℕ)) where
   asks_first : (config : NtlmConfig) (handle : Option CredentialsBuffers) (m0 m : SspiContext NtlmState K) (args : AcceptArgs) (step : Step) →
-      IfNtlm k m0 (λ x. (x ≡ ntlm_of config) × (handle ≡ None)) → (either ntlm_meaning k).accepts m0 args (Ok step) m → step.status ≡ statuses.ContinueNeeded
+      IfNtlm k m0 (λ x. (x ≡ ntlm_of config) × (handle ≡ None)) → (either 0 ntlm_meaning k).accepts m0 args (Ok step) m → step.status ≡ statuses.ContinueNeeded
   asks_first config handle (Ntlm x) (Ntlm y) args step begun accepts = first_asks config x y args.input step begun.0 accepts
   asks_first config handle (Ntlm x) (Kerberos y) args step begun accepts = absurd accepts
   asks_first config handle (Kerberos x) m args step begun accepts = absurd begun
 
   first_step : (start : ServerView (SspiContext NtlmState K) P) (handle : Option CredentialsBuffers) (token : Option (List ℕ)) (known : Knowing) (answer : Result Step Error)
-      (step : Step) (m : SspiContext NtlmState K) → start.context ≡ None → answer ≡ Ok step → Accepted (either ntlm_meaning k) told start handle token known answer m →
+      (step : Step) (m : SspiContext NtlmState K) → start.context ≡ None → answer ≡ Ok step → Accepted (either 0 ntlm_meaning k) told start handle token known answer m →
       step.status ≡ statuses.ContinueNeeded
   first_step start handle token known answer step m none is (accepted m0 m1 a begun accepts) =
       asks_first (config_of start.mode) handle m0 m (server_args handle token) step (server_first k start.mode start.context start.handle handle m0 none begun)
-      (subst (λ (x : Result Step Error). (either ntlm_meaning k).accepts m0 (server_args handle token) x m) is accepts)
+      (subst (λ (x : Result Step Error). (either 0 ntlm_meaning k).accepts m0 (server_args handle token) x m) is accepts)
   first_step start handle token known answer step m none is (identified m1 m2 a before names) = first_step start handle token Unknown answer step m1 none is before
   first_step start handle token known answer step m none is (completed m1 a before permits) = first_step start handle token Identified answer step m none is before
   first_step start handle token known answer step m none is (recounted m1 m2 n kn a before counted quiet) = first_step start handle token known answer step m1 none is before
 
   first_goes_on : (start now : ServerView (SspiContext NtlmState K) P) (d : TsRequest) (status : SecurityStatus) → start.context ≡ None →
-      IfContext now.context (Accepted (either ntlm_meaning k) told start now.handle d.nego_tokens Completed (Ok (record { status = status; output = now.output }))) →
+      IfContext now.context (Accepted (either 0 ntlm_meaning k) told start now.handle d.nego_tokens Completed (Ok (record { status = status; output = now.output }))) →
       status ≡ statuses.ContinueNeeded
   first_goes_on start now d status none h =
       let there = in_context now.context _ h in first_step start now.handle d.nego_tokens Completed _ _ there.0 none refl there.2
 
   -- the first step of a server does not end the authentication
   first_not_over : (start now : ServerView (SspiContext NtlmState K) P) (d : TsRequest) (status : Option SecurityStatus) → start.context ≡ None →
-      DoneStep (either ntlm_meaning k) told status start d now → IsOver status → ⊥
+      DoneStep (either 0 ntlm_meaning k) told status start d now → IsOver status → ⊥
   first_not_over start now d None none step over = over
   first_not_over start now d (Some statuses.Ok) none step over = let e = first_goes_on start now d statuses.Ok none step in cc
   first_not_over start now d (Some statuses.CompleteNeeded) none step over = let e = first_goes_on start now d statuses.CompleteNeeded none step in cc
@@ -92,7 +92,7 @@ module _ {K P : Type 0} (k : Meaning Setting K) (told : P → Option (List AuthI
 
   -- a server checks no proof in its first turn
   first_checks : (first mid : ServerView (SspiContext NtlmState K) P) (d : TsRequest) (out : Outcome) → IsFreshServer first → GoesOn out →
-      ServerMakes (either ntlm_meaning k) told faults first d out mid → mid.acts.checked ≡ true → ⊥
+      ServerMakes (either 0 ntlm_meaning k) told faults first d out mid → mid.acts.checked ≡ true → ⊥
   first_checks first mid d (outcome.Reply reply) fresh went makes checked =
       first_not_over first mid d mid.acts.status fresh.context makes.1 (nego_check first.state mid.acts.status fresh.state (makes.0.turn.acts.checked checked).0)
   first_checks first mid d (outcome.Final reply) fresh went makes checked = makes
@@ -100,10 +100,10 @@ module _ {K P : Type 0} (k : Meaning Setting K) (told : P → Option (List AuthI
   first_checks first mid d (outcome.Refused kind reply) fresh went makes checked = went
 
   made_checks : (first old now : ServerView (SspiContext NtlmState K) P) (u : Turn) → old ≡ first → IsFreshServer first → GoesOn u.outcome →
-      ServerMade (either ntlm_meaning k) told faults failing old u now → u.acts.checked ≡ true → ⊥
+      ServerMade (either 0 ntlm_meaning k) told faults failing old u now → u.acts.checked ≡ true → ⊥
   made_checks first old now u same fresh went made checked =
       first_checks first made.mid u.delivered u.outcome fresh went
-      (subst (λ (x : ServerView (SspiContext NtlmState K) P). ServerMakes (either ntlm_meaning k) told faults x u.delivered u.outcome made.mid) same made.makes)
+      (subst (λ (x : ServerView (SspiContext NtlmState K) P). ServerMakes (either 0 ntlm_meaning k) told faults x u.delivered u.outcome made.mid) same made.makes)
       (sym (ap (λ (t : Turn). t.acts.checked) made.turn) ∙ checked)
 
   exchange_alone : (checked proved : Bool) → (checked && proved) || false ≡ true → checked ≡ true
@@ -111,7 +111,7 @@ module _ {K P : Type 0} (k : Meaning Setting K) (told : P → Option (List AuthI
   exchange_alone false proved h = absurd cc
 
   pub three_of_server : (first now : ServerView (SspiContext NtlmState K) P) (turns : List Turn) → IsFreshServer first → OthersGoOn turns → HasExchanged turns →
-      ServerHistory (either ntlm_meaning k) told faults failing first turns now → 3 ≤ length turns
+      ServerHistory (either 0 ntlm_meaning k) told faults failing first turns now → 3 ≤ length turns
   three_of_server first now [] fresh others has history = absurd has
   three_of_server first now (t ∷ []) fresh others has history = absurd (cc (has))
   three_of_server first now (t ∷ u ∷ []) fresh others has history =
@@ -146,7 +146,7 @@ module _ {K P : Type 0} (k : Meaning Setting K) (told : P → Option (List AuthI
   pub ok_three : (base log : List Carried) (start now limit : ℕ) (result : Result Delegation DelegateError) (turns : List Turn)
       (first server : ServerView (SspiContext NtlmState K) P) → RunEnds base start limit result turns log now → IsFreshServer first →
       OthersGoOn (server_turns turns) → OnOk result (HasExchanged (server_turns turns)) →
-      ServerHistory (either ntlm_meaning k) told faults failing first (server_turns turns) server → IfOk result (λ delegation. 3 ≤ delegation.turns)
+      ServerHistory (either 0 ntlm_meaning k) told faults failing first (server_turns turns) server → IfOk result (λ delegation. 3 ≤ delegation.turns)
   ok_three base log start now limit (Ok delegation) turns first server ends fresh others has history =
       let three = three_turns turns ends.0.order ends.0.newest (three_of_server k told faults failing first server (server_turns turns) fresh others has history) in
       omega (arith, ends.1, three)

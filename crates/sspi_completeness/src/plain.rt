@@ -24,11 +24,11 @@ pub fn delegate_plainly<K: Mechanism, C: CredentialsProxy, L: Link, D: Kdc>(
     turns: u32,
     transcript: &mut Transcript,
 ) -> Result<Delegation, DelegateError>
-    ensures delegates { IsFresh client.old server.old transcript.old.turns → Delegates (either ntlm_meaning K.meaning)
+    ensures delegates { IsFresh client.old server.old transcript.old.turns → Delegates (either 0 ntlm_meaning K.meaning)
         (around_by C.told C.failing C.faults L.log L.edits L.faults D.told D.asked D.faults)
         (parties client.old server.old link.old kdc.old transcript.old.turns) turns result
         (parties client.new server.new link.new kdc.new transcript.new.turns) }
-    ensures accounts { transcript.old.turns ≡ [] → Accounts (either ntlm_meaning K.meaning)
+    ensures accounts { transcript.old.turns ≡ [] → Accounts (either 0 ntlm_meaning K.meaning)
         (around_by C.told C.failing C.faults L.log L.edits L.faults D.told D.asked D.faults)
         (parties client.old server.old link.old kdc.old transcript.old.turns) turns result
         (parties client.new server.new link.new kdc.new transcript.new.turns) }

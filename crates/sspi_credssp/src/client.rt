@@ -163,7 +163,7 @@ impl<N: Mechanism, K: Mechanism> CredSspClient<N, K> {
 
     /// Whether a turn is suspended.
     pub fn waiting(&self) -> bool
-        ensures { result ≡ is_waiting_in (either N.meaning K.meaning) self.now.context }
+        ensures { result ≡ is_waiting_in (either N.REQUESTS N.meaning K.meaning) self.now.context }
     {
         match &self.context {
             None => false,
@@ -173,7 +173,7 @@ impl<N: Mechanism, K: Mechanism> CredSspClient<N, K> {
 
     /// At most how often the context still asks a KDC; 0 before there is a context.
     pub fn requests_left(&self) -> u64
-        ensures { result ≡ left_in (either N.meaning K.meaning) self.now.context }
+        ensures { result ≡ left_in (either N.REQUESTS N.meaning K.meaning) self.now.context }
     {
         match &self.context {
             None => 0,
@@ -189,20 +189,20 @@ impl<N: Mechanism, K: Mechanism> CredSspClient<N, K> {
     /// ends before a version was noted; and with the kinds of the context, of the credentials' text, and want of memory. After
     /// a refusal the state, the mode and the acquired credentials are as before, and the request is dropped.
     pub fn process(&mut self, ts_request: TsRequest) -> Result<Progress, Error>
-        ensures turn { ClientGoes (either N.meaning K.meaning) self.old ts_request result self.new }
-        ensures step { HasStepped (either N.meaning K.meaning) self.old ts_request 0 [] result self.new }
+        ensures turn { ClientGoes (either N.REQUESTS N.meaning K.meaning) self.old ts_request result self.new }
+        ensures step { HasStepped (either N.REQUESTS N.meaning K.meaning) self.old ts_request 0 [] result self.new }
         ensures cause { IfErr result (λ error. error.error_type ≢ ErrorKind.InsufficientMemory →
-            ClientCause (either N.meaning K.meaning) self.old ts_request self.new error.error_type) }
-        ensures code { is_waiting_in (either N.meaning K.meaning) self.old.context ≡ false → is_code ts_request.error_code ≡ true →
+            ClientCause (either N.REQUESTS N.meaning K.meaning) self.old ts_request self.new error.error_type) }
+        ensures code { is_waiting_in (either N.REQUESTS N.meaning K.meaning) self.old.context ≡ false → is_code ts_request.error_code ≡ true →
             IsErr result × IfErr result (λ error. error.error_type ≡ ErrorKind.InvalidToken) × (self.new ≡ record self.old { acts = no_acts; output = [] }) }
-        ensures altered { is_waiting_in (either N.meaning K.meaning) self.old.context ≡ false → is_code ts_request.error_code ≡ false →
+        ensures altered { is_waiting_in (either N.REQUESTS N.meaning K.meaning) self.old.context ≡ false → is_code ts_request.error_code ≡ false →
             is_altered self.old.context self.old.noted ts_request.version ≡ true →
             IsErr result × (self.new ≡ record self.old { acts = no_acts; output = [] }) }
         ensures unmade { self.new.context ≡ None → self.new ≡ record self.old { acts = no_acts; output = [] } }
-        ensures status { IfErr result (λ error. error.nstatus ≡ status_of (either N.meaning K.meaning) self.old ts_request) }
-        ensures waited { is_waiting_in (either N.meaning K.meaning) self.old.context ≡ true →
+        ensures status { IfErr result (λ error. error.nstatus ≡ status_of (either N.REQUESTS N.meaning K.meaning) self.old ts_request) }
+        ensures waited { is_waiting_in (either N.REQUESTS N.meaning K.meaning) self.old.context ≡ true →
             IsErr result × (self.new ≡ record self.old { acts = no_acts; output = [] }) }
-        ensures intruded { let c = either N.meaning K.meaning in (start : ClientView (SspiContext N K)) (d : TsRequest)
+        ensures intruded { let c = either N.REQUESTS N.meaning K.meaning in (start : ClientView (SspiContext N K)) (d : TsRequest)
             (tries : ℕ) (log : List Asked) (q : NetworkRequest) →
             IsUnderway c start d self.old → StepsTo c start d tries log (answers.Ask q) self.old →
             IsUnderway c start d self.new × StepsTo c start d tries log (answers.Ask q) self.new }
@@ -228,24 +228,24 @@ impl<N: Mechanism, K: Mechanism> CredSspClient<N, K> {
     /// sealing the proof; and for want of memory. A refused client is suspended still where its context is, and nowhere else:
     /// the request stays in it, and a later call goes on from there.
     pub fn resume(&mut self, reply: &Reply) -> Result<Progress, Error>
-        ensures same { SameClient (either N.meaning K.meaning) self.old self.new }
-        ensures turn { let c = either N.meaning K.meaning in (start : ClientView (SspiContext N K)) (d : TsRequest) →
+        ensures same { SameClient (either N.REQUESTS N.meaning K.meaning) self.old self.new }
+        ensures turn { let c = either N.REQUESTS N.meaning K.meaning in (start : ClientView (SspiContext N K)) (d : TsRequest) →
             IsUnderway c start d self.old → ClientGoes c start d result self.new }
-        ensures step { let c = either N.meaning K.meaning in (start : ClientView (SspiContext N K)) (d : TsRequest)
+        ensures step { let c = either N.REQUESTS N.meaning K.meaning in (start : ClientView (SspiContext N K)) (d : TsRequest)
             (tries : ℕ) (log : List Asked) (q : NetworkRequest) →
             IsUnderway c start d self.old → StepsTo c start d tries log (answers.Ask q) self.old →
             HasStepped c start d tries (record { question = q; reply = reply.now } ∷ log) result self.new }
-        ensures still { let c = either N.meaning K.meaning in (start : ClientView (SspiContext N K)) (d : TsRequest)
+        ensures still { let c = either N.REQUESTS N.meaning K.meaning in (start : ClientView (SspiContext N K)) (d : TsRequest)
             (tries : ℕ) (log : List Asked) (q : NetworkRequest) →
             IsUnderway c start d self.old → StepsTo c start d tries log (answers.Ask q) self.old →
             OnErr result (self.new.acts.status ≡ None → is_waiting_in c self.new.context ≡ true →
             IsUnderway c start d self.new × StepsTo c start d (tries + 1) (record { question = q; reply = reply.now } ∷ log) (answers.Ask q) self.new) }
-        ensures falls { let c = either N.meaning K.meaning in OnSuspended result (left_in c self.new.context < left_in c self.old.context) }
-        ensures stepped { is_waiting_in (either N.meaning K.meaning) self.old.context ≡ true → IsSome self.old.kept → self.new.acts.negotiated ≡ true }
+        ensures falls { let c = either N.REQUESTS N.meaning K.meaning in OnSuspended result (left_in c self.new.context < left_in c self.old.context) }
+        ensures stepped { is_waiting_in (either N.REQUESTS N.meaning K.meaning) self.old.context ≡ true → IsSome self.old.kept → self.new.acts.negotiated ≡ true }
         ensures cause { IfErr result (λ error. error.error_type ≢ ErrorKind.InsufficientMemory →
-            ResumeCause (either N.meaning K.meaning) self.old self.new error.error_type) }
+            ResumeCause (either N.REQUESTS N.meaning K.meaning) self.old self.new error.error_type) }
         ensures plain { IfErr result (λ error. error.nstatus ≡ None) }
-        ensures idle { is_waiting_in (either N.meaning K.meaning) self.old.context ≡ false →
+        ensures idle { is_waiting_in (either N.REQUESTS N.meaning K.meaning) self.old.context ≡ false →
             IsErr result × (self.new ≡ record self.old { acts = no_acts; output = [] }) }
     {
         self.forget_last_call();
@@ -269,15 +269,15 @@ impl<N: Mechanism, K: Mechanism> CredSspClient<N, K> {
     fn take(&mut self, request: TsRequest) -> Result<Progress, Error>
         requires acts { self.old.acts ≡ no_acts }
         requires begun { IsSome self.old.context }
-        ensures turn { let c = either N.meaning K.meaning in (start : ClientView (SspiContext N K)) (d : TsRequest) →
+        ensures turn { let c = either N.REQUESTS N.meaning K.meaning in (start : ClientView (SspiContext N K)) (d : TsRequest) →
             request ≡ record d { version = self.old.version } → IsReady c start d self.old → self.old.output ≡ [] →
             ClientGoes c start d result self.new }
-        ensures step { let c = either N.meaning K.meaning in (start : ClientView (SspiContext N K)) (d : TsRequest) →
+        ensures step { let c = either N.REQUESTS N.meaning K.meaning in (start : ClientView (SspiContext N K)) (d : TsRequest) →
             d.nego_tokens ≡ request.nego_tokens → start.target ≡ self.old.target →
             IfContext self.old.context (Begun c start.context start.handle (ForClient start.mode) purposes.Outbound (Some start.credentials) self.old.handle) →
             HasStepped c start d 0 [] result self.new }
         ensures cause { IfErr result (λ error. error.error_type ≢ ErrorKind.InsufficientMemory →
-            StateCause (either N.meaning K.meaning) self.old.state request self.new error.error_type) }
+            StateCause (either N.REQUESTS N.meaning K.meaning) self.old.state request self.new error.error_type) }
         ensures plain { IfErr result (λ error. error.nstatus ≡ None) }
         ensures begun { IsSome self.new.context }
     {
@@ -295,15 +295,15 @@ impl<N: Mechanism, K: Mechanism> CredSspClient<N, K> {
 
     fn begin(&mut self, version: u32) -> Result<(), Error>
         ensures frame { self.new ≡ record self.old { context = self.new.context; handle = self.new.handle; noted = self.new.noted } }
-        ensures ready { let c = either N.meaning K.meaning in OnOk result ((start : ClientView (SspiContext N K)) (d : TsRequest) →
+        ensures ready { let c = either N.REQUESTS N.meaning K.meaning in OnOk result ((start : ClientView (SspiContext N K)) (d : TsRequest) →
             d.version ≡ version → self.old ≡ record start { acts = no_acts; output = [] } →
             is_waiting_in c start.context ≡ false → is_code d.error_code ≡ false → IsReady c start d self.new) }
-        ensures begun { let c = either N.meaning K.meaning in OnOk result (IfContext self.new.context
+        ensures begun { let c = either N.REQUESTS N.meaning K.meaning in OnOk result (IfContext self.new.context
             (Begun c self.old.context self.old.handle (ForClient self.old.mode) purposes.Outbound (Some self.old.credentials) self.new.handle)) }
         ensures err { OnErr result (self.new ≡ self.old) }
         ensures noted { OnErr result (self.new.noted ≡ noted_next self.old.context self.old.noted version) }
         ensures passed { OnOk result ((is_altered self.old.context self.old.noted version ≡ false) × IsSome self.new.context) }
-        ensures cause { let c = either N.meaning K.meaning in IfErr result (λ error. error.error_type ≢ ErrorKind.InsufficientMemory →
+        ensures cause { let c = either N.REQUESTS N.meaning K.meaning in IfErr result (λ error. error.error_type ≢ ErrorKind.InsufficientMemory →
             StopsIf (is_altered self.old.context self.old.noted version) ErrorKind.MessageAltered error.error_type
             (MadeOr self.old.context self.new.context (BeginCause c (ForClient self.old.mode) purposes.Outbound (Some self.old.credentials) error.error_type) ⊥)) }
         ensures plain { IfErr result (λ error. error.nstatus ≡ None) }
@@ -321,14 +321,14 @@ impl<N: Mechanism, K: Mechanism> CredSspClient<N, K> {
     fn make_context(&mut self) -> Result<(), Error>
         requires { self.old.context ≡ None }
         ensures frame { self.new ≡ record self.old { context = self.new.context; handle = self.new.handle } }
-        ensures begun { let c = either N.meaning K.meaning in OnOk result (IfContext self.new.context
+        ensures begun { let c = either N.REQUESTS N.meaning K.meaning in OnOk result (IfContext self.new.context
             (Begun c self.old.context self.old.handle (ForClient self.old.mode) purposes.Outbound (Some self.old.credentials) self.new.handle)) }
         ensures made { OnOk result (IsSome self.new.context) }
-        ensures unused { OnOk result (IsUnusedIn (either N.meaning K.meaning) self.new.context) }
+        ensures unused { OnOk result (IsUnusedIn (either N.REQUESTS N.meaning K.meaning) self.new.context) }
         ensures err { OnErr result (self.new ≡ self.old) }
         ensures noted { self.old.noted ≡ None }
         ensures state { self.old.state ≡ CredSspState.NegoToken }
-        ensures cause { let c = either N.meaning K.meaning in IfErr result (λ error. error.error_type ≢ ErrorKind.InsufficientMemory →
+        ensures cause { let c = either N.REQUESTS N.meaning K.meaning in IfErr result (λ error. error.error_type ≢ ErrorKind.InsufficientMemory →
             BeginCause c (ForClient self.old.mode) purposes.Outbound (Some self.old.credentials) error.error_type) }
         ensures plain { IfErr result (λ error. error.nstatus ≡ None) }
     {

@@ -29,16 +29,16 @@ fn seal_credentials<N: Mechanism, K: Mechanism>(
     credentials: &Credentials,
     mode: CredSspMode,
 ) -> Result<Bytes, Error>
-    ensures blob { let c = either N.meaning K.meaning in IfOk result (λ blob. IfText (delegated_text credentials.now mode)
+    ensures blob { let c = either N.REQUESTS N.meaning K.meaning in IfOk result (λ blob. IfText (delegated_text credentials.now mode)
         (λ text. c.seals context.new ((c.counts context.new).sealed - 1) text blob)) }
     ensures acts { OnOk result (acts.new ≡ record acts.old { sealed = true }) }
-    ensures ok { let c = either N.meaning K.meaning in OnOk result (context.new ≡ c.counted context.old (one_sealed (c.counts context.old))) }
-    ensures count { let c = either N.meaning K.meaning in OnOk result (c.counts context.new ≡ one_sealed (c.counts context.old)) }
+    ensures ok { let c = either N.REQUESTS N.meaning K.meaning in OnOk result (context.new ≡ c.counted context.old (one_sealed (c.counts context.old))) }
+    ensures count { let c = either N.REQUESTS N.meaning K.meaning in OnOk result (c.counts context.new ≡ one_sealed (c.counts context.old)) }
     ensures err { OnErr result (context.new ≡ context.old) }
     ensures err_acts { OnErr result (acts.new ≡ acts.old) }
     ensures plain { IfErr result (λ error. error.nstatus ≡ None) }
     ensures cause { IfErr result (λ error. error.error_type ≢ ErrorKind.InsufficientMemory →
-        SealsCause (either N.meaning K.meaning) context.new (delegated_text credentials.now mode) error.error_type) }
+        SealsCause (either N.REQUESTS N.meaning K.meaning) context.new (delegated_text credentials.now mode) error.error_type) }
 {
     let text = match write_credentials(alloc, credentials, mode) {
         Ok(text) => text,
@@ -66,13 +66,13 @@ fn deliver<N: Mechanism, K: Mechanism>(
 ) -> Result<Bytes, Error>
     requires checked { acts.old.checked ≡ false }
     requires sealed { acts.old.sealed ≡ false }
-    ensures delivers { Delivers (either N.meaning K.meaning) context.old blob.now proof.now context.new acts.new }
+    ensures delivers { Delivers (either N.REQUESTS N.meaning K.meaning) context.old blob.now proof.now context.new acts.new }
     ensures acts { acts.new ≡ record acts.old { checked = acts.new.checked; sealed = acts.new.sealed } }
     ensures ok { OnOk result (acts.new ≡ record acts.old { checked = true; sealed = true }) }
-    ensures blob { let c = either N.meaning K.meaning in IfOk result (λ blob. IfText (delegated_text credentials.now mode)
+    ensures blob { let c = either N.REQUESTS N.meaning K.meaning in IfOk result (λ blob. IfText (delegated_text credentials.now mode)
         (λ text. c.seals context.new ((c.counts context.new).sealed - 1) text blob)) }
     ensures plain { IfErr result (λ error. error.nstatus ≡ None) }
-    ensures cause { IfErr result (λ error. error.error_type ≢ ErrorKind.InsufficientMemory → OpenedCause (either N.meaning K.meaning)
+    ensures cause { IfErr result (λ error. error.error_type ≢ ErrorKind.InsufficientMemory → OpenedCause (either N.REQUESTS N.meaning K.meaning)
         acts.new.checked context.new blob.now proof.now (delegated_text credentials.now mode) error.error_type) }
 {
     match opens_to(context, acts, blob, proof) {
@@ -90,12 +90,12 @@ impl<N: Mechanism, K: Mechanism> CredSspClient<N, K> {
         requires acts { self.old.acts ≡ no_acts }
         requires begun { IsSome self.old.context }
         requires noted { IsSome self.old.noted }
-        ensures turn { let c = either N.meaning K.meaning in (start : ClientView (SspiContext N K)) (d : TsRequest) →
+        ensures turn { let c = either N.REQUESTS N.meaning K.meaning in (start : ClientView (SspiContext N K)) (d : TsRequest) →
             request ≡ record d { version = self.old.version } → IsReady c start d self.old → self.old.state ≡ CredSspState.AuthInfo →
             self.old.output ≡ [] → ClientAnswers c start d result self.new }
         ensures begun { IsSome self.new.context }
         ensures cause { IfErr result (λ error. error.error_type ≢ ErrorKind.InsufficientMemory →
-            DeliverCause (either N.meaning K.meaning) request.pub_key_auth self.new error.error_type) }
+            DeliverCause (either N.REQUESTS N.meaning K.meaning) request.pub_key_auth self.new error.error_type) }
         ensures plain { IfErr result (λ error. error.nstatus ≡ None) }
         ensures status { self.new.acts.status ≡ None }
         ensures negotiated { self.new.acts.negotiated ≡ false }
@@ -113,10 +113,10 @@ impl<N: Mechanism, K: Mechanism> CredSspClient<N, K> {
         requires acts { self.old.acts ≡ no_acts }
         requires begun { IsSome self.old.context }
         requires noted { IsSome self.old.noted }
-        ensures delivers { ClientDelivers (either N.meaning K.meaning) self.old pub_key_auth.now result self.new }
+        ensures delivers { ClientDelivers (either N.REQUESTS N.meaning K.meaning) self.old pub_key_auth.now result self.new }
         ensures begun { IsSome self.new.context }
         ensures cause { IfErr result (λ error. error.error_type ≢ ErrorKind.InsufficientMemory →
-            DeliverCause (either N.meaning K.meaning) pub_key_auth.now self.new error.error_type) }
+            DeliverCause (either N.REQUESTS N.meaning K.meaning) pub_key_auth.now self.new error.error_type) }
         ensures plain { IfErr result (λ error. error.nstatus ≡ None) }
     {
         let blob = match sealed_blob(pub_key_auth, Reason::NoPubKey) {

@@ -41,7 +41,7 @@ fn initialize<N: Mechanism, K: Mechanism>(
     service_principal_name: &Text,
     token: &Option<Bytes>,
 ) -> Result<Progressing, Error>
-    ensures step { (either N.meaning K.meaning).steps context.old (client_args credentials_handle.now service_principal_name.now token.now) (answer_of result) context.new }
+    ensures step { (either N.REQUESTS N.meaning K.meaning).steps context.old (client_args credentials_handle.now service_principal_name.now token.now) (answer_of result) context.new }
     ensures plain { IfErr result (λ error. error.nstatus ≡ None) }
 {
     context.initialize_security_context(&InitializeSecurityContext {
@@ -60,15 +60,15 @@ impl<N: Mechanism, K: Mechanism> CredSspClient<N, K> {
     pub(crate) fn negotiate(&mut self, request: TsRequest) -> Result<Progress, Error>
         requires acts { self.old.acts ≡ no_acts }
         requires begun { IsSome self.old.context }
-        ensures turn { let c = either N.meaning K.meaning in (start : ClientView (SspiContext N K)) (d : TsRequest) →
+        ensures turn { let c = either N.REQUESTS N.meaning K.meaning in (start : ClientView (SspiContext N K)) (d : TsRequest) →
             request ≡ record d { version = self.old.version } → IsReady c start d self.old → self.old.state ≡ CredSspState.NegoToken →
             self.old.output ≡ [] → ClientGoes c start d result self.new }
-        ensures step { let c = either N.meaning K.meaning in (start : ClientView (SspiContext N K)) (d : TsRequest) →
+        ensures step { let c = either N.REQUESTS N.meaning K.meaning in (start : ClientView (SspiContext N K)) (d : TsRequest) →
             d.nego_tokens ≡ request.nego_tokens → start.target ≡ self.old.target →
             IfContext self.old.context (Begun c start.context start.handle (ForClient start.mode) purposes.Outbound (Some start.credentials) self.old.handle) →
             HasStepped c start d 0 [] result self.new }
         ensures cause { IfErr result (λ error. error.error_type ≢ ErrorKind.InsufficientMemory →
-            NegoCause (either N.meaning K.meaning) self.new.acts.status self.new error.error_type) }
+            NegoCause (either N.REQUESTS N.meaning K.meaning) self.new.acts.status self.new error.error_type) }
         ensures plain { IfErr result (λ error. error.nstatus ≡ None) }
         ensures begun { IsSome self.new.context }
     {
@@ -92,24 +92,24 @@ impl<N: Mechanism, K: Mechanism> CredSspClient<N, K> {
     ) -> Result<Progress, Error>
         requires acts { self.old.acts ≡ no_acts }
         requires begun { IsSome self.old.context }
-        ensures same { SameClient (either N.meaning K.meaning) self.old self.new }
-        ensures turn { let c = either N.meaning K.meaning in (start : ClientView (SspiContext N K)) (d : TsRequest) →
+        ensures same { SameClient (either N.REQUESTS N.meaning K.meaning) self.old self.new }
+        ensures turn { let c = either N.REQUESTS N.meaning K.meaning in (start : ClientView (SspiContext N K)) (d : TsRequest) →
             request ≡ record d { version = self.old.version } → IsReady c start d self.old → self.old.state ≡ CredSspState.NegoToken →
             self.old.output ≡ [] → ClientGoes c start d result self.new }
-        ensures step { let c = either N.meaning K.meaning in (start : ClientView (SspiContext N K)) (d : TsRequest)
+        ensures step { let c = either N.REQUESTS N.meaning K.meaning in (start : ClientView (SspiContext N K)) (d : TsRequest)
             (tries : ℕ) (log : List Asked) (q : NetworkRequest) →
             StepsTo c start d tries log (answers.Ask q) self.old →
             HasStepped c start d tries (record { question = q; reply = reply.now } ∷ log) result self.new }
-        ensures still { let c = either N.meaning K.meaning in (start : ClientView (SspiContext N K)) (d : TsRequest)
+        ensures still { let c = either N.REQUESTS N.meaning K.meaning in (start : ClientView (SspiContext N K)) (d : TsRequest)
             (tries : ℕ) (log : List Asked) (q : NetworkRequest) →
             request ≡ record d { version = self.old.version } → IsReady c start d self.old → self.old.state ≡ CredSspState.NegoToken →
             self.old.output ≡ [] → StepsTo c start d tries log (answers.Ask q) self.old →
             OnErr result (self.new.acts.status ≡ None → is_waiting_in c self.new.context ≡ true →
             IsUnderway c start d self.new × StepsTo c start d (tries + 1) (record { question = q; reply = reply.now } ∷ log) (answers.Ask q) self.new) }
-        ensures falls { let c = either N.meaning K.meaning in OnSuspended result (left_in c self.new.context < left_in c self.old.context) }
+        ensures falls { let c = either N.REQUESTS N.meaning K.meaning in OnSuspended result (left_in c self.new.context < left_in c self.old.context) }
         ensures negotiated { self.new.acts.negotiated ≡ true }
         ensures cause { IfErr result (λ error. error.error_type ≢ ErrorKind.InsufficientMemory →
-            NegoCause (either N.meaning K.meaning) self.new.acts.status self.new error.error_type) }
+            NegoCause (either N.REQUESTS N.meaning K.meaning) self.new.acts.status self.new error.error_type) }
         ensures plain { IfErr result (λ error. error.nstatus ≡ None) }
     {
         self.acts.negotiated = true;
@@ -130,21 +130,21 @@ impl<N: Mechanism, K: Mechanism> CredSspClient<N, K> {
         requires acts { self.old.acts ≡ record no_acts { negotiated = true } }
         requires begun { IsSome self.old.context }
         requires plain { IfErr progress (λ error. error.nstatus ≡ None) }
-        ensures same { SameClient (either N.meaning K.meaning) self.old self.new }
-        ensures turn { let c = either N.meaning K.meaning in (start : ClientView (SspiContext N K)) (d : TsRequest) →
+        ensures same { SameClient (either N.REQUESTS N.meaning K.meaning) self.old self.new }
+        ensures turn { let c = either N.REQUESTS N.meaning K.meaning in (start : ClientView (SspiContext N K)) (d : TsRequest) →
             request ≡ record d { version = self.old.version } → IsReady c start d self.old → self.old.state ≡ CredSspState.NegoToken →
             self.old.output ≡ [] → OnAsk (answer_of progress) (is_waiting_in c self.old.context ≡ true) → ClientGoes c start d result self.new }
-        ensures step { let c = either N.meaning K.meaning in (start : ClientView (SspiContext N K)) (d : TsRequest) (tries : ℕ) (log : List Asked) →
+        ensures step { let c = either N.REQUESTS N.meaning K.meaning in (start : ClientView (SspiContext N K)) (d : TsRequest) (tries : ℕ) (log : List Asked) →
             StepsTo c start d tries log (answer_of progress) self.old → HasStepped c start d tries log result self.new }
         ensures refused { OnErr result (self.new.acts.status ≡ None →
             (self.new ≡ record self.old { kept = self.new.kept }) × IsErr progress) }
         ensures kept { OnErr result (self.new.acts.status ≡ None →
-            is_waiting_in (either N.meaning K.meaning) self.new.context ≡ true → self.new.kept ≡ Some request) }
+            is_waiting_in (either N.REQUESTS N.meaning K.meaning) self.new.context ≡ true → self.new.kept ≡ Some request) }
         ensures negotiated { self.new.acts.negotiated ≡ true }
-        ensures falls { let c = either N.meaning K.meaning in (n : ℕ) → OnAsk (answer_of progress) (left_in c self.old.context < n) →
+        ensures falls { let c = either N.REQUESTS N.meaning K.meaning in (n : ℕ) → OnAsk (answer_of progress) (left_in c self.old.context < n) →
             OnSuspended result (left_in c self.new.context < n) }
         ensures cause { IfErr result (λ error. error.error_type ≢ ErrorKind.InsufficientMemory →
-            NegoCause (either N.meaning K.meaning) self.new.acts.status self.new error.error_type) }
+            NegoCause (either N.REQUESTS N.meaning K.meaning) self.new.acts.status self.new error.error_type) }
         ensures plain { IfErr result (λ error. error.nstatus ≡ None) }
         ensures begun { IsSome self.new.context }
     {
@@ -174,17 +174,17 @@ impl<N: Mechanism, K: Mechanism> CredSspClient<N, K> {
     ) -> Result<ClientState, Error>
         requires acts { self.old.acts ≡ record no_acts { negotiated = true } }
         requires begun { IsSome self.old.context }
-        ensures same { SameClient (either N.meaning K.meaning) self.old self.new }
-        ensures turn { let c = either N.meaning K.meaning in (start : ClientView (SspiContext N K)) (d : TsRequest) →
+        ensures same { SameClient (either N.REQUESTS N.meaning K.meaning) self.old self.new }
+        ensures turn { let c = either N.REQUESTS N.meaning K.meaning in (start : ClientView (SspiContext N K)) (d : TsRequest) →
             request ≡ record d { version = self.old.version } → IsReady c start d self.old → self.old.state ≡ CredSspState.NegoToken →
             ClientAnswers c start d result self.new }
-        ensures moved { SameBut (either N.meaning K.meaning) self.old.context self.new.context }
+        ensures moved { SameBut (either N.REQUESTS N.meaning K.meaning) self.old.context self.new.context }
         ensures handle { self.new.handle ≡ self.old.handle }
         ensures status { self.new.acts.status ≡ Some status }
         ensures negotiated { self.new.acts.negotiated ≡ true }
         ensures output { self.new.output ≡ output }
         ensures cause { IfErr result (λ error. error.error_type ≢ ErrorKind.InsufficientMemory →
-            NegoCause (either N.meaning K.meaning) self.new.acts.status self.new error.error_type) }
+            NegoCause (either N.REQUESTS N.meaning K.meaning) self.new.acts.status self.new error.error_type) }
         ensures plain { IfErr result (λ error. error.nstatus ≡ None) }
         ensures begun { IsSome self.new.context }
     {
@@ -203,17 +203,17 @@ impl<N: Mechanism, K: Mechanism> CredSspClient<N, K> {
     fn prove(&mut self, request: TsRequest) -> Result<ClientState, Error>
         requires acts { self.old.acts ≡ record no_acts { negotiated = true; status = Some SecurityStatus.Ok } }
         requires begun { IsSome self.old.context }
-        ensures same { SameClient (either N.meaning K.meaning) self.old self.new }
-        ensures turn { let c = either N.meaning K.meaning in (start : ClientView (SspiContext N K)) (d : TsRequest) →
+        ensures same { SameClient (either N.REQUESTS N.meaning K.meaning) self.old self.new }
+        ensures turn { let c = either N.REQUESTS N.meaning K.meaning in (start : ClientView (SspiContext N K)) (d : TsRequest) →
             request ≡ record d { version = self.old.version } → IsReady c start d self.old → self.old.state ≡ CredSspState.NegoToken →
             ClientAnswers c start d result self.new }
-        ensures moved { SameBut (either N.meaning K.meaning) self.old.context self.new.context }
+        ensures moved { SameBut (either N.REQUESTS N.meaning K.meaning) self.old.context self.new.context }
         ensures handle { self.new.handle ≡ self.old.handle }
         ensures status { self.new.acts.status ≡ self.old.acts.status }
         ensures negotiated { self.new.acts.negotiated ≡ true }
         ensures output { self.new.output ≡ self.old.output }
         ensures cause { IfErr result (λ error. error.error_type ≢ ErrorKind.InsufficientMemory →
-            ProveCause (either N.meaning K.meaning) self.new.noted self.new.context self.new error.error_type) }
+            ProveCause (either N.REQUESTS N.meaning K.meaning) self.new.noted self.new.context self.new error.error_type) }
         ensures plain { IfErr result (λ error. error.nstatus ≡ None) }
         ensures begun { IsSome self.new.context }
     {
@@ -233,10 +233,10 @@ impl<N: Mechanism, K: Mechanism> CredSspClient<N, K> {
     fn seal_proof(&mut self) -> Result<Bytes, Error>
         requires proved { self.old.acts.proved ≡ false }
         requires begun { IsSome self.old.context }
-        ensures proves { ClientProves (either N.meaning K.meaning) self.old result self.new }
-        ensures moved { SameBut (either N.meaning K.meaning) self.old.context self.new.context }
+        ensures proves { ClientProves (either N.REQUESTS N.meaning K.meaning) self.old result self.new }
+        ensures moved { SameBut (either N.REQUESTS N.meaning K.meaning) self.old.context self.new.context }
         ensures cause { IfErr result (λ error. error.error_type ≢ ErrorKind.InsufficientMemory →
-            ProveCause (either N.meaning K.meaning) self.new.noted self.new.context self.new error.error_type) }
+            ProveCause (either N.REQUESTS N.meaning K.meaning) self.new.noted self.new.context self.new error.error_type) }
         ensures plain { IfErr result (λ error. error.nstatus ≡ None) }
     {
         let Some(version) = self.peer_version else {

@@ -47,11 +47,11 @@ fn first_of(identities: Vec<Credentials>) -> Vec<Credentials>
 impl<N: Mechanism, K: Mechanism> SspiContext<N, K> {
     /// The context of a client in this mode.
     pub(crate) fn new_client(alloc: Global, mode: &ClientMode) -> Result<Self, Error>
-        ensures made { IfOk result (λ context. (either N.meaning K.meaning).made (ForClient mode.now) context) }
-        ensures fresh { IfOk result (λ context. (either N.meaning K.meaning).counts context ≡ no_counts) }
+        ensures made { IfOk result (λ context. (either N.REQUESTS N.meaning K.meaning).made (ForClient mode.now) context) }
+        ensures fresh { IfOk result (λ context. (either N.REQUESTS N.meaning K.meaning).counts context ≡ no_counts) }
         ensures plain { IfErr result (λ error. error.nstatus ≡ None) }
         ensures cause { IfErr result (λ error. error.error_type ≢ ErrorKind.InsufficientMemory →
-            (either N.meaning K.meaning).unmade (ForClient mode.now) error.error_type) }
+            (either N.REQUESTS N.meaning K.meaning).unmade (ForClient mode.now) error.error_type) }
     {
         match mode {
             ClientMode::Ntlm(config) => match N::make(alloc, &MechConfig::Ntlm(config)) {
@@ -63,11 +63,11 @@ impl<N: Mechanism, K: Mechanism> SspiContext<N, K> {
 
     /// The context of a server in this mode.
     pub(crate) fn new_server(alloc: Global, mode: &ServerMode) -> Result<Self, Error>
-        ensures made { IfOk result (λ context. (either N.meaning K.meaning).made (ForServer mode.now) context) }
-        ensures fresh { IfOk result (λ context. (either N.meaning K.meaning).counts context ≡ no_counts) }
+        ensures made { IfOk result (λ context. (either N.REQUESTS N.meaning K.meaning).made (ForServer mode.now) context) }
+        ensures fresh { IfOk result (λ context. (either N.REQUESTS N.meaning K.meaning).counts context ≡ no_counts) }
         ensures plain { IfErr result (λ error. error.nstatus ≡ None) }
         ensures cause { IfErr result (λ error. error.error_type ≢ ErrorKind.InsufficientMemory →
-            (either N.meaning K.meaning).unmade (ForServer mode.now) error.error_type) }
+            (either N.REQUESTS N.meaning K.meaning).unmade (ForServer mode.now) error.error_type) }
     {
         match mode {
             ServerMode::Ntlm(config) => match N::make(alloc, &MechConfig::Ntlm(config)) {
@@ -96,11 +96,11 @@ impl<N: Mechanism, K: Mechanism> SspiContext<N, K> {
         auth_data: Option<&Credentials>,
     ) -> Result<Option<CredentialsBuffers>, Error>
         ensures acquired { IfOk result (λ buffers.
-            (either N.meaning K.meaning).acquires self.old credential_use (option_copied auth_data.entry) buffers self.new) }
-        ensures unused { let c = either N.meaning K.meaning in IsUnused (c.counts self.old) → IsUnused (c.counts self.new) }
+            (either N.REQUESTS N.meaning K.meaning).acquires self.old credential_use (option_copied auth_data.entry) buffers self.new) }
+        ensures unused { let c = either N.REQUESTS N.meaning K.meaning in IsUnused (c.counts self.old) → IsUnused (c.counts self.new) }
         ensures plain { IfErr result (λ error. error.nstatus ≡ None) }
         ensures cause { IfErr result (λ error. error.error_type ≢ ErrorKind.InsufficientMemory →
-            (either N.meaning K.meaning).refuses self.old (ToAcquire credential_use (option_copied auth_data.entry)) error.error_type) }
+            (either N.REQUESTS N.meaning K.meaning).refuses self.old (ToAcquire credential_use (option_copied auth_data.entry)) error.error_type) }
     {
         match self {
             SspiContext::Ntlm(mechanism) => mechanism.acquire(credential_use, auth_data),
@@ -113,7 +113,7 @@ impl<N: Mechanism, K: Mechanism> SspiContext<N, K> {
         &mut self,
         args: &InitializeSecurityContext<'_>,
     ) -> Result<Progressing, Error>
-        ensures step { (either N.meaning K.meaning).steps self.old (step_args args.now) (answer_of result) self.new }
+        ensures step { (either N.REQUESTS N.meaning K.meaning).steps self.old (step_args args.now) (answer_of result) self.new }
         ensures plain { IfErr result (λ error. error.nstatus ≡ None) }
     {
         match self {
@@ -124,7 +124,7 @@ impl<N: Mechanism, K: Mechanism> SspiContext<N, K> {
 
     /// Goes on with the step that was suspended, once it is known what came of its request.
     pub fn resume(&mut self, reply: &Reply) -> Result<Progressing, Error>
-        ensures step { (either N.meaning K.meaning).resumes self.old reply.now (answer_of result) self.new }
+        ensures step { (either N.REQUESTS N.meaning K.meaning).resumes self.old reply.now (answer_of result) self.new }
         ensures plain { IfErr result (λ error. error.nstatus ≡ None) }
     {
         match self {
@@ -138,7 +138,7 @@ impl<N: Mechanism, K: Mechanism> SspiContext<N, K> {
         &mut self,
         args: &AcceptSecurityContext<'_>,
     ) -> Result<Step, Error>
-        ensures step { (either N.meaning K.meaning).accepts self.old (accept_args args.now) result self.new }
+        ensures step { (either N.REQUESTS N.meaning K.meaning).accepts self.old (accept_args args.now) result self.new }
         ensures plain { IfErr result (λ error. error.nstatus ≡ None) }
     {
         match self {
@@ -149,7 +149,7 @@ impl<N: Mechanism, K: Mechanism> SspiContext<N, K> {
 
     /// Whether a step is suspended.
     pub fn waiting(&self) -> bool
-        ensures { result ≡ (either N.meaning K.meaning).waits self.now }
+        ensures { result ≡ (either N.REQUESTS N.meaning K.meaning).waits self.now }
     {
         match self {
             SspiContext::Ntlm(mechanism) => mechanism.waiting(),
@@ -159,7 +159,7 @@ impl<N: Mechanism, K: Mechanism> SspiContext<N, K> {
 
     /// At most how often this context still asks a KDC.
     pub fn requests_left(&self) -> u64
-        ensures { result ≡ (either N.meaning K.meaning).left self.now }
+        ensures { result ≡ (either N.REQUESTS N.meaning K.meaning).left self.now }
     {
         match self {
             SspiContext::Ntlm(mechanism) => u64::from(mechanism.requests_left()),
@@ -169,10 +169,10 @@ impl<N: Mechanism, K: Mechanism> SspiContext<N, K> {
 
     /// The name that was authenticated: on a server the peer's, on a client its own. `OutOfSequence` before it is known.
     pub fn query_context_names(&self) -> Result<ContextNames, Error>
-        ensures named { IfOk result (λ names. (either N.meaning K.meaning).names self.now ≡ Some names.username) }
+        ensures named { IfOk result (λ names. (either N.REQUESTS N.meaning K.meaning).names self.now ≡ Some names.username) }
         ensures plain { IfErr result (λ error. error.nstatus ≡ None) }
         ensures cause { IfErr result (λ error. error.error_type ≢ ErrorKind.InsufficientMemory →
-            (either N.meaning K.meaning).refuses self.now ToName error.error_type) }
+            (either N.REQUESTS N.meaning K.meaning).refuses self.now ToName error.error_type) }
     {
         let username = match self {
             SspiContext::Ntlm(mechanism) => mechanism.names(),
@@ -189,12 +189,12 @@ impl<N: Mechanism, K: Mechanism> SspiContext<N, K> {
     /// Plain NTLM answers `OutOfSequence` on a client and before its peer has proved a password, `NoCredentials` where no
     /// identity has a password, and `LogonDenied` where none has the one that was proved.
     pub fn custom_set_auth_identities(&mut self, identities: Vec<Credentials>) -> Result<(), Error>
-        ensures identified { OnOk result ((either N.meaning K.meaning).identifies self.old identities.items self.new) }
-        ensures count { (either N.meaning K.meaning).counts self.new ≡ (either N.meaning K.meaning).counts self.old }
+        ensures identified { OnOk result ((either N.REQUESTS N.meaning K.meaning).identifies self.old identities.items self.new) }
+        ensures count { (either N.REQUESTS N.meaning K.meaning).counts self.new ≡ (either N.REQUESTS N.meaning K.meaning).counts self.old }
         ensures err { OnErr result (self.new ≡ self.old) }
         ensures plain { IfErr result (λ error. error.nstatus ≡ None) }
         ensures cause { IfErr result (λ error. error.error_type ≢ ErrorKind.InsufficientMemory →
-            (either N.meaning K.meaning).refuses self.old (ToIdentify identities.items) error.error_type) }
+            (either N.REQUESTS N.meaning K.meaning).refuses self.old (ToIdentify identities.items) error.error_type) }
     {
         match self {
             SspiContext::Ntlm(mechanism) => mechanism.set_identities(&with_passwords(identities)),
@@ -205,10 +205,10 @@ impl<N: Mechanism, K: Mechanism> SspiContext<N, K> {
     /// Completes the authentication (CompleteAuthToken). `OutOfSequence` before there is a key.
     pub fn complete_auth_token(&mut self) -> Result<SecurityStatus, Error>
         ensures same { self.new ≡ self.old }
-        ensures permitted { OnOk result ((either N.meaning K.meaning).permits self.old ToComplete) }
+        ensures permitted { OnOk result ((either N.REQUESTS N.meaning K.meaning).permits self.old ToComplete) }
         ensures plain { IfErr result (λ error. error.nstatus ≡ None) }
         ensures cause { IfErr result (λ error. error.error_type ≢ ErrorKind.InsufficientMemory →
-            (either N.meaning K.meaning).refuses self.old ToComplete error.error_type) }
+            (either N.REQUESTS N.meaning K.meaning).refuses self.old ToComplete error.error_type) }
     {
         match self {
             SspiContext::Ntlm(mechanism) => mechanism.complete(),
@@ -220,18 +220,18 @@ impl<N: Mechanism, K: Mechanism> SspiContext<N, K> {
     ///
     /// `OutOfSequence` before there is a key, `ContextExpired` once all numbers of messages are used.
     pub fn seal(&mut self, text: &[u8]) -> Result<Vec<u8>, Error>
-        ensures blob { let c = either N.meaning K.meaning in
+        ensures blob { let c = either N.REQUESTS N.meaning K.meaning in
             IfOk result (λ blob. c.seals self.new (c.counts self.old).sealed text.now blob.items) }
-        ensures last { let c = either N.meaning K.meaning in
+        ensures last { let c = either N.REQUESTS N.meaning K.meaning in
             IfOk result (λ blob. c.seals self.new ((c.counts self.new).sealed - 1) text.now blob.items) }
-        ensures ok { let c = either N.meaning K.meaning in
+        ensures ok { let c = either N.REQUESTS N.meaning K.meaning in
             OnOk result (self.new ≡ c.counted self.old (one_sealed (c.counts self.old))) }
-        ensures count { let c = either N.meaning K.meaning in OnOk result (c.counts self.new ≡ one_sealed (c.counts self.old)) }
-        ensures permitted { OnOk result ((either N.meaning K.meaning).permits self.old (ToSeal text.now)) }
+        ensures count { let c = either N.REQUESTS N.meaning K.meaning in OnOk result (c.counts self.new ≡ one_sealed (c.counts self.old)) }
+        ensures permitted { OnOk result ((either N.REQUESTS N.meaning K.meaning).permits self.old (ToSeal text.now)) }
         ensures err { OnErr result (self.new ≡ self.old) }
         ensures plain { IfErr result (λ error. error.nstatus ≡ None) }
         ensures cause { IfErr result (λ error. error.error_type ≢ ErrorKind.InsufficientMemory →
-            (either N.meaning K.meaning).refuses self.new (ToSeal text.now) error.error_type) }
+            (either N.REQUESTS N.meaning K.meaning).refuses self.new (ToSeal text.now) error.error_type) }
     {
         match self {
             SspiContext::Ntlm(mechanism) => mechanism.seal(text),
@@ -244,18 +244,18 @@ impl<N: Mechanism, K: Mechanism> SspiContext<N, K> {
     /// `OutOfSequence` before there is a key, `ContextExpired` once all numbers of messages are used, `InvalidToken` for a
     /// blob of under 16 bytes, and `MessageAltered` for one that the peer did not seal as this message.
     pub fn unseal(&mut self, blob: &[u8]) -> Result<Vec<u8>, Error>
-        ensures text { let c = either N.meaning K.meaning in
+        ensures text { let c = either N.REQUESTS N.meaning K.meaning in
             IfOk result (λ text. c.opens self.new (c.counts self.old).unsealed blob.now text.items) }
-        ensures last { let c = either N.meaning K.meaning in
+        ensures last { let c = either N.REQUESTS N.meaning K.meaning in
             IfOk result (λ text. c.opens self.new ((c.counts self.new).unsealed - 1) blob.now text.items) }
-        ensures ok { let c = either N.meaning K.meaning in
+        ensures ok { let c = either N.REQUESTS N.meaning K.meaning in
             OnOk result (self.new ≡ c.counted self.old (one_unsealed (c.counts self.old))) }
-        ensures count { let c = either N.meaning K.meaning in OnOk result (c.counts self.new ≡ one_unsealed (c.counts self.old)) }
-        ensures permitted { OnOk result ((either N.meaning K.meaning).permits self.old (ToUnseal blob.now)) }
+        ensures count { let c = either N.REQUESTS N.meaning K.meaning in OnOk result (c.counts self.new ≡ one_unsealed (c.counts self.old)) }
+        ensures permitted { OnOk result ((either N.REQUESTS N.meaning K.meaning).permits self.old (ToUnseal blob.now)) }
         ensures err { OnErr result (self.new ≡ self.old) }
         ensures plain { IfErr result (λ error. error.nstatus ≡ None) }
         ensures cause { IfErr result (λ error. error.error_type ≢ ErrorKind.InsufficientMemory →
-            (either N.meaning K.meaning).refuses self.new (ToUnseal blob.now) error.error_type) }
+            (either N.REQUESTS N.meaning K.meaning).refuses self.new (ToUnseal blob.now) error.error_type) }
     {
         match self {
             SspiContext::Ntlm(mechanism) => mechanism.unseal(blob),
@@ -266,5 +266,5 @@ impl<N: Mechanism, K: Mechanism> SspiContext<N, K> {
 
 /// A context over any two mechanisms keeps what every context keeps.
 pub fn context_keeps_laws<N: Mechanism, K: Mechanism>()
-    ensures { IsContext (either N.meaning K.meaning) }
+    ensures { IsContext (either N.REQUESTS N.meaning K.meaning) }
 {}

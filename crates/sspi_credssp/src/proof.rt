@@ -33,17 +33,17 @@ pub fn opens_to<N: Mechanism, K: Mechanism>(
     proof: &[u8],
 ) -> Result<bool, Error>
     ensures acts { OnOk result (acts.new ≡ record acts.old { checked = true }) }
-    ensures ok { let c = either N.meaning K.meaning in OnOk result (context.new ≡ c.counted context.old (one_unsealed (c.counts context.old))) }
-    ensures count { let c = either N.meaning K.meaning in OnOk result (c.counts context.new ≡ one_unsealed (c.counts context.old)) }
-    ensures same { let c = either N.meaning K.meaning in IfOk result (λ same. IsTrue same →
+    ensures ok { let c = either N.REQUESTS N.meaning K.meaning in OnOk result (context.new ≡ c.counted context.old (one_unsealed (c.counts context.old))) }
+    ensures count { let c = either N.REQUESTS N.meaning K.meaning in OnOk result (c.counts context.new ≡ one_unsealed (c.counts context.old)) }
+    ensures same { let c = either N.REQUESTS N.meaning K.meaning in IfOk result (λ same. IsTrue same →
         c.opens context.new ((c.counts context.new).unsealed - 1) blob.now proof.now) }
-    ensures other { let c = either N.meaning K.meaning in IfOk result (λ same. same ≡ false →
+    ensures other { let c = either N.REQUESTS N.meaning K.meaning in IfOk result (λ same. same ≡ false →
         OpensOther c context.new blob.now proof.now) }
     ensures err { OnErr result (context.new ≡ context.old) }
     ensures err_acts { OnErr result (acts.new ≡ acts.old) }
     ensures plain { IfErr result (λ error. error.nstatus ≡ None) }
     ensures cause { IfErr result (λ error. error.error_type ≢ ErrorKind.InsufficientMemory →
-        (either N.meaning K.meaning).refuses context.new (ToUnseal blob.now) error.error_type) }
+        (either N.REQUESTS N.meaning K.meaning).refuses context.new (ToUnseal blob.now) error.error_type) }
 {
     match context.unseal(blob) {
         Ok(text) => {

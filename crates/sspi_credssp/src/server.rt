@@ -139,10 +139,10 @@ impl<N: Mechanism, K: Mechanism, C: CredentialsProxy> CredSspServer<N, K, C> {
     /// `UnsupportedFunction` once they were read; and want of memory. A refusal hands the request back with its code, and
     /// keeps the state, the mode and the acquired credentials.
     pub fn process(&mut self, ts_request: TsRequest) -> Result<ServerState, ServerError>
-        ensures turn { ServerGoes (either N.meaning K.meaning) self.old ts_request result self.new }
-        ensures step { HasAcceptedTurn (either N.meaning K.meaning) C.told self.old ts_request result self.new }
+        ensures turn { ServerGoes (either N.REQUESTS N.meaning K.meaning) self.old ts_request result self.new }
+        ensures step { HasAcceptedTurn (either N.REQUESTS N.meaning K.meaning) C.told self.old ts_request result self.new }
         ensures cause { IfErr result (λ refusal. refusal.error.error_type ≢ ErrorKind.InsufficientMemory →
-            ServerCause (either N.meaning K.meaning) C.told C.faults self.old ts_request self.new refusal.error.error_type) }
+            ServerCause (either N.REQUESTS N.meaning K.meaning) C.told C.faults self.old ts_request self.new refusal.error.error_type) }
         ensures plain { IfErr result (λ refusal. refusal.error.nstatus ≡ None) }
         ensures altered { differs self.old.noted ts_request.version ≡ true →
             IsErr result × (self.new ≡ record self.old { acts = no_acts; output = [] }) }
@@ -170,15 +170,15 @@ impl<N: Mechanism, K: Mechanism, C: CredentialsProxy> CredSspServer<N, K, C> {
 
     fn begin(&mut self, version: u32) -> Result<(), Error>
         ensures frame { self.new ≡ record self.old { context = self.new.context; handle = self.new.handle; noted = self.new.noted } }
-        ensures ready { let c = either N.meaning K.meaning in OnOk result ((start : ServerView (SspiContext N K) C) (d : TsRequest) →
+        ensures ready { let c = either N.REQUESTS N.meaning K.meaning in OnOk result ((start : ServerView (SspiContext N K) C) (d : TsRequest) →
             d.version ≡ version → self.old ≡ record start { acts = no_acts; output = [] } → IsReady c start d self.new) }
-        ensures begun { let c = either N.meaning K.meaning in OnOk result (IfContext self.new.context
+        ensures begun { let c = either N.REQUESTS N.meaning K.meaning in OnOk result (IfContext self.new.context
             (Begun c self.old.context self.old.handle (ForServer self.old.mode) purposes.Inbound None self.new.handle)) }
         ensures passed { OnOk result ((differs self.old.noted version ≡ false) × IsSome self.new.context) }
         ensures known { OnOk result (IsSome self.new.noted) }
-        ensures refused { OnErr result (BeginRefused (either N.meaning K.meaning) self.old version self.new) }
+        ensures refused { OnErr result (BeginRefused (either N.REQUESTS N.meaning K.meaning) self.old version self.new) }
         ensures err { OnErr result (self.new ≡ self.old) }
-        ensures cause { let c = either N.meaning K.meaning in IfErr result (λ error. error.error_type ≢ ErrorKind.InsufficientMemory →
+        ensures cause { let c = either N.REQUESTS N.meaning K.meaning in IfErr result (λ error. error.error_type ≢ ErrorKind.InsufficientMemory →
             MadeOr self.old.context self.new.context (BeginCause c (ForServer self.old.mode) purposes.Inbound None error.error_type)
             (StopsIf (differs self.old.noted version) ErrorKind.MessageAltered error.error_type ⊥)) }
         ensures plain { IfErr result (λ error. error.nstatus ≡ None) }
@@ -196,14 +196,14 @@ impl<N: Mechanism, K: Mechanism, C: CredentialsProxy> CredSspServer<N, K, C> {
     fn make_context(&mut self) -> Result<(), Error>
         requires { self.old.context ≡ None }
         ensures frame { self.new ≡ record self.old { context = self.new.context; handle = self.new.handle } }
-        ensures begun { let c = either N.meaning K.meaning in OnOk result (IfContext self.new.context
+        ensures begun { let c = either N.REQUESTS N.meaning K.meaning in OnOk result (IfContext self.new.context
             (Begun c self.old.context self.old.handle (ForServer self.old.mode) purposes.Inbound None self.new.handle)) }
         ensures made { OnOk result (IsSome self.new.context) }
-        ensures unused { OnOk result (IsUnusedIn (either N.meaning K.meaning) self.new.context) }
+        ensures unused { OnOk result (IsUnusedIn (either N.REQUESTS N.meaning K.meaning) self.new.context) }
         ensures err { OnErr result (self.new ≡ self.old) }
         ensures noted { self.old.noted ≡ None }
         ensures state { self.old.state ≡ CredSspState.NegoToken }
-        ensures cause { let c = either N.meaning K.meaning in IfErr result (λ error. error.error_type ≢ ErrorKind.InsufficientMemory →
+        ensures cause { let c = either N.REQUESTS N.meaning K.meaning in IfErr result (λ error. error.error_type ≢ ErrorKind.InsufficientMemory →
             BeginCause c (ForServer self.old.mode) purposes.Inbound None error.error_type) }
         ensures plain { IfErr result (λ error. error.nstatus ≡ None) }
     {
@@ -249,14 +249,14 @@ impl<N: Mechanism, K: Mechanism, C: CredentialsProxy> CredSspServer<N, K, C> {
         requires acts { self.old.acts ≡ no_acts }
         requires begun { IsSome self.old.context }
         requires noted { IsSome self.old.noted }
-        ensures turn { let c = either N.meaning K.meaning in (start : ServerView (SspiContext N K) C) (d : TsRequest) →
+        ensures turn { let c = either N.REQUESTS N.meaning K.meaning in (start : ServerView (SspiContext N K) C) (d : TsRequest) →
             request ≡ record d { version = self.old.version } → IsReady c start d self.old → self.old.output ≡ [] →
             ServerGoes c start d result self.new }
-        ensures step { let c = either N.meaning K.meaning in (start : ServerView (SspiContext N K) C) (d : TsRequest) →
+        ensures step { let c = either N.REQUESTS N.meaning K.meaning in (start : ServerView (SspiContext N K) C) (d : TsRequest) →
             d.nego_tokens ≡ request.nego_tokens → C.told start.proxy ≡ C.told self.old.proxy →
             IfContext self.old.context (Begun c start.context start.handle (ForServer start.mode) purposes.Inbound None self.old.handle) →
             HasAcceptedTurn c C.told start d result self.new }
-        ensures cause { let c = either N.meaning K.meaning in (start : ServerView (SspiContext N K) C) (d : TsRequest) →
+        ensures cause { let c = either N.REQUESTS N.meaning K.meaning in (start : ServerView (SspiContext N K) C) (d : TsRequest) →
             request ≡ record d { version = self.old.version } → start.proxy ≡ self.old.proxy →
             IfContext self.old.context (Begun c start.context start.handle (ForServer start.mode) purposes.Inbound None self.old.handle) →
             IfErr result (λ refusal. refusal.error.error_type ≢ ErrorKind.InsufficientMemory →

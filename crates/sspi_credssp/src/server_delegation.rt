@@ -46,16 +46,16 @@ fn seal_proof<N: Mechanism, K: Mechanism>(
     acts: &mut Acts,
     proof: &[u8],
 ) -> Result<Bytes, Error>
-    ensures blob { let c = either N.meaning K.meaning in IfOk result (λ blob.
+    ensures blob { let c = either N.REQUESTS N.meaning K.meaning in IfOk result (λ blob.
         c.seals context.new ((c.counts context.new).sealed - 1) proof.now blob) }
     ensures acts { OnOk result (acts.new ≡ record acts.old { proved = true }) }
-    ensures ok { let c = either N.meaning K.meaning in OnOk result (context.new ≡ c.counted context.old (one_sealed (c.counts context.old))) }
-    ensures count { let c = either N.meaning K.meaning in OnOk result (c.counts context.new ≡ one_sealed (c.counts context.old)) }
+    ensures ok { let c = either N.REQUESTS N.meaning K.meaning in OnOk result (context.new ≡ c.counted context.old (one_sealed (c.counts context.old))) }
+    ensures count { let c = either N.REQUESTS N.meaning K.meaning in OnOk result (c.counts context.new ≡ one_sealed (c.counts context.old)) }
     ensures err { OnErr result (context.new ≡ context.old) }
     ensures err_acts { OnErr result (acts.new ≡ acts.old) }
     ensures plain { IfErr result (λ error. error.nstatus ≡ None) }
     ensures cause { IfErr result (λ error. error.error_type ≢ ErrorKind.InsufficientMemory →
-        (either N.meaning K.meaning).refuses context.new (ToSeal proof.now) error.error_type) }
+        (either N.REQUESTS N.meaning K.meaning).refuses context.new (ToSeal proof.now) error.error_type) }
 {
     match context.seal(proof) {
         Ok(blob) => {
@@ -77,13 +77,13 @@ fn answer_proof<N: Mechanism, K: Mechanism>(
 ) -> Result<Bytes, Error>
     requires checked { acts.old.checked ≡ false }
     requires proved { acts.old.proved ≡ false }
-    ensures exchanges { Exchanges (either N.meaning K.meaning) context.old blob.now expected.now context.new acts.new }
+    ensures exchanges { Exchanges (either N.REQUESTS N.meaning K.meaning) context.old blob.now expected.now context.new acts.new }
     ensures acts { acts.new ≡ record acts.old { checked = acts.new.checked; proved = acts.new.proved } }
     ensures ok { OnOk result (acts.new ≡ record acts.old { checked = true; proved = true }) }
-    ensures blob { let c = either N.meaning K.meaning in IfOk result (λ answer.
+    ensures blob { let c = either N.REQUESTS N.meaning K.meaning in IfOk result (λ answer.
         c.seals context.new ((c.counts context.new).sealed - 1) proof.now answer) }
     ensures plain { IfErr result (λ error. error.nstatus ≡ None) }
-    ensures cause { IfErr result (λ error. error.error_type ≢ ErrorKind.InsufficientMemory → ProofCause (either N.meaning K.meaning)
+    ensures cause { IfErr result (λ error. error.error_type ≢ ErrorKind.InsufficientMemory → ProofCause (either N.REQUESTS N.meaning K.meaning)
         acts.new.checked context.new blob.now expected.now proof.now error.error_type) }
 {
     match opens_to(context, acts, blob, expected) {
@@ -100,12 +100,12 @@ fn open_credentials<N: Mechanism, K: Mechanism>(
     blob: &[u8],
 ) -> Result<AuthIdentity, Error>
     requires { acts.old.opened ≡ false }
-    ensures opens { Opens (either N.meaning K.meaning) context.old context.new acts.old acts.new }
+    ensures opens { Opens (either N.REQUESTS N.meaning K.meaning) context.old context.new acts.old acts.new }
     ensures ok { OnOk result (acts.new.opened ≡ true) }
-    ensures gives { IfOk result (λ identity. OpensIdentity (either N.meaning K.meaning) context.new blob.now identity) }
+    ensures gives { IfOk result (λ identity. OpensIdentity (either N.REQUESTS N.meaning K.meaning) context.new blob.now identity) }
     ensures plain { IfErr result (λ error. error.nstatus ≡ None) }
     ensures cause { IfErr result (λ error. error.error_type ≢ ErrorKind.InsufficientMemory →
-        OpenedCause (either N.meaning K.meaning) acts.new.opened (Some context.new) blob.now error.error_type) }
+        OpenedCause (either N.REQUESTS N.meaning K.meaning) acts.new.opened (Some context.new) blob.now error.error_type) }
 {
     match context.unseal(blob) {
         Ok(text) => {
@@ -128,11 +128,11 @@ impl<N: Mechanism, K: Mechanism, C: CredentialsProxy> CredSspServer<N, K, C> {
         requires acts { self.old.acts ≡ no_acts }
         requires begun { IsSome self.old.context }
         requires noted { IsSome self.old.noted }
-        ensures turn { let c = either N.meaning K.meaning in (start : ServerView (SspiContext N K) C) (d : TsRequest) →
+        ensures turn { let c = either N.REQUESTS N.meaning K.meaning in (start : ServerView (SspiContext N K) C) (d : TsRequest) →
             request ≡ record d { version = self.old.version } → IsReady c start d self.old → self.old.state ≡ CredSspState.PubKeyInfo →
             self.old.output ≡ [] → ServerGoes c start d result self.new }
         ensures cause { IfErr result (λ refusal. refusal.error.error_type ≢ ErrorKind.InsufficientMemory →
-            ExchangeCause (either N.meaning K.meaning) request.pub_key_auth self.new.noted request.client_nonce self.new refusal.error.error_type) }
+            ExchangeCause (either N.REQUESTS N.meaning K.meaning) request.pub_key_auth self.new.noted request.client_nonce self.new refusal.error.error_type) }
         ensures plain { IfErr result (λ refusal. refusal.error.nstatus ≡ None) }
         ensures acts { (self.new.acts.status ≡ None) × (self.new.acts.negotiated ≡ false) }
         ensures begun { IsSome self.new.context }
@@ -150,10 +150,10 @@ impl<N: Mechanism, K: Mechanism, C: CredentialsProxy> CredSspServer<N, K, C> {
     pub(crate) fn finish(&mut self, request: TsRequest) -> Result<ServerState, ServerError>
         requires acts { self.old.acts ≡ no_acts }
         requires begun { IsSome self.old.context }
-        ensures turn { let c = either N.meaning K.meaning in (start : ServerView (SspiContext N K) C) (d : TsRequest) →
+        ensures turn { let c = either N.REQUESTS N.meaning K.meaning in (start : ServerView (SspiContext N K) C) (d : TsRequest) →
             request ≡ record d { version = self.old.version } → IsReady c start d self.old → self.old.state ≡ CredSspState.AuthInfo →
             self.old.output ≡ [] → ServerGoes c start d result self.new }
-        ensures cause { let c = either N.meaning K.meaning in IfErr result (λ refusal. refusal.error.error_type ≢ ErrorKind.InsufficientMemory →
+        ensures cause { let c = either N.REQUESTS N.meaning K.meaning in IfErr result (λ refusal. refusal.error.error_type ≢ ErrorKind.InsufficientMemory →
             BlobStops request.auth_info refusal.error.error_type
             (λ blob. OpenedCause c self.new.acts.opened self.new.context blob refusal.error.error_type)) }
         ensures plain { IfErr result (λ refusal. refusal.error.nstatus ≡ None) }
@@ -173,8 +173,8 @@ impl<N: Mechanism, K: Mechanism, C: CredentialsProxy> CredSspServer<N, K, C> {
     fn open(&mut self, auth_info: &Option<Bytes>) -> Result<AuthIdentity, Error>
         requires acts { self.old.acts ≡ no_acts }
         requires begun { IsSome self.old.context }
-        ensures opens { ServerOpens (either N.meaning K.meaning) self.old auth_info.now result self.new }
-        ensures cause { let c = either N.meaning K.meaning in IfErr result (λ error. error.error_type ≢ ErrorKind.InsufficientMemory →
+        ensures opens { ServerOpens (either N.REQUESTS N.meaning K.meaning) self.old auth_info.now result self.new }
+        ensures cause { let c = either N.REQUESTS N.meaning K.meaning in IfErr result (λ error. error.error_type ≢ ErrorKind.InsufficientMemory →
             BlobStops auth_info.now error.error_type (λ blob. OpenedCause c self.new.acts.opened self.new.context blob error.error_type)) }
         ensures plain { IfErr result (λ error. error.nstatus ≡ None) }
         ensures begun { IsSome self.new.context }
@@ -195,9 +195,9 @@ impl<N: Mechanism, K: Mechanism, C: CredentialsProxy> CredSspServer<N, K, C> {
         requires proved { self.old.acts.proved ≡ false }
         requires begun { IsSome self.old.context }
         requires noted { IsSome self.old.noted }
-        ensures exchanges { ServerExchanges (either N.meaning K.meaning) self.old request.now result self.new }
+        ensures exchanges { ServerExchanges (either N.REQUESTS N.meaning K.meaning) self.old request.now result self.new }
         ensures cause { IfErr result (λ error. error.error_type ≢ ErrorKind.InsufficientMemory →
-            ExchangeCause (either N.meaning K.meaning) request.now.pub_key_auth self.new.noted request.now.client_nonce self.new error.error_type) }
+            ExchangeCause (either N.REQUESTS N.meaning K.meaning) request.now.pub_key_auth self.new.noted request.now.client_nonce self.new error.error_type) }
         ensures plain { IfErr result (λ error. error.nstatus ≡ None) }
         ensures begun { IsSome self.new.context }
     {

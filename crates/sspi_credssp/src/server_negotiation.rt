@@ -56,7 +56,7 @@ fn accept<N: Mechanism, K: Mechanism>(
     credentials_handle: &Option<CredentialsBuffers>,
     token: &Option<Bytes>,
 ) -> Result<Step, Error>
-    ensures step { (either N.meaning K.meaning).accepts context.old (server_args credentials_handle.now token.now) result context.new }
+    ensures step { (either N.REQUESTS N.meaning K.meaning).accepts context.old (server_args credentials_handle.now token.now) result context.new }
     ensures plain { IfErr result (λ error. error.nstatus ≡ None) }
 {
     context.accept_security_context(&AcceptSecurityContext {
@@ -136,8 +136,8 @@ fn identify<N: Mechanism, K: Mechanism, C: CredentialsProxy>(
     context: &mut SspiContext<N, K>,
     proxy: &mut C,
 ) -> Result<(), Error>
-    ensures identified { OnOk result (IsIdentified (either N.meaning K.meaning) (C.told proxy.old) context.old context.new) }
-    ensures counts { let c = either N.meaning K.meaning in c.counts context.new ≡ c.counts context.old }
+    ensures identified { OnOk result (IsIdentified (either N.REQUESTS N.meaning K.meaning) (C.told proxy.old) context.old context.new) }
+    ensures counts { let c = either N.REQUESTS N.meaning K.meaning in c.counts context.new ≡ c.counts context.old }
     ensures err { OnErr result (context.new ≡ context.old) }
     ensures told { C.told proxy.new ≡ C.told proxy.old }
     ensures failing { C.failing proxy.new ≡ C.failing proxy.old }
@@ -145,7 +145,7 @@ fn identify<N: Mechanism, K: Mechanism, C: CredentialsProxy>(
     ensures once { C.calls proxy.new ≤ C.calls proxy.old + 1 }
     ensures calm { C.failing proxy.old ≡ Some [] → C.faults proxy.new ≡ C.faults proxy.old }
     ensures plain { IfErr result (λ error. error.nstatus ≡ None) }
-    ensures cause { IfErr result (λ error. error.error_type ≢ ErrorKind.InsufficientMemory → IdentifyCause (either N.meaning K.meaning)
+    ensures cause { IfErr result (λ error. error.error_type ≢ ErrorKind.InsufficientMemory → IdentifyCause (either N.REQUESTS N.meaning K.meaning)
         context.old (C.told proxy.old) (C.faults proxy.old) (C.faults proxy.new) error.error_type) }
 {
     let names = match context.query_context_names() {
@@ -176,14 +176,14 @@ impl<N: Mechanism, K: Mechanism, C: CredentialsProxy> CredSspServer<N, K, C> {
         requires acts { self.old.acts ≡ no_acts }
         requires begun { IsSome self.old.context }
         requires noted { IsSome self.old.noted }
-        ensures turn { let c = either N.meaning K.meaning in (start : ServerView (SspiContext N K) C) (d : TsRequest) →
+        ensures turn { let c = either N.REQUESTS N.meaning K.meaning in (start : ServerView (SspiContext N K) C) (d : TsRequest) →
             request ≡ record d { version = self.old.version } → IsReady c start d self.old → self.old.state ≡ CredSspState.NegoToken →
             self.old.output ≡ [] → ServerGoes c start d result self.new }
-        ensures step { let c = either N.meaning K.meaning in (start : ServerView (SspiContext N K) C) (d : TsRequest) →
+        ensures step { let c = either N.REQUESTS N.meaning K.meaning in (start : ServerView (SspiContext N K) C) (d : TsRequest) →
             d.nego_tokens ≡ request.nego_tokens → C.told start.proxy ≡ C.told self.old.proxy →
             IfContext self.old.context (Begun c start.context start.handle (ForServer start.mode) purposes.Inbound None self.old.handle) →
             HasAcceptedTurn c C.told start d result self.new }
-        ensures cause { let c = either N.meaning K.meaning in (start : ServerView (SspiContext N K) C) (d : TsRequest) →
+        ensures cause { let c = either N.REQUESTS N.meaning K.meaning in (start : ServerView (SspiContext N K) C) (d : TsRequest) →
             request ≡ record d { version = self.old.version } → start.proxy ≡ self.old.proxy →
             IfContext self.old.context (Begun c start.context start.handle (ForServer start.mode) purposes.Inbound None self.old.handle) →
             IfErr result (λ refusal. refusal.error.error_type ≢ ErrorKind.InsufficientMemory →
@@ -207,16 +207,16 @@ impl<N: Mechanism, K: Mechanism, C: CredentialsProxy> CredSspServer<N, K, C> {
         requires acts { self.old.acts ≡ no_acts }
         requires begun { IsSome self.old.context }
         requires noted { IsSome self.old.noted }
-        ensures turn { let c = either N.meaning K.meaning in (start : ServerView (SspiContext N K) C) (d : TsRequest) →
+        ensures turn { let c = either N.REQUESTS N.meaning K.meaning in (start : ServerView (SspiContext N K) C) (d : TsRequest) →
             request.now ≡ record d { version = self.old.version } → IsReady c start d self.old → self.old.state ≡ CredSspState.NegoToken →
             self.old.output ≡ [] → Answered c start d result self.new }
-        ensures step { let c = either N.meaning K.meaning in (start : ServerView (SspiContext N K) C) (d : TsRequest) →
+        ensures step { let c = either N.REQUESTS N.meaning K.meaning in (start : ServerView (SspiContext N K) C) (d : TsRequest) →
             d.nego_tokens ≡ request.now.nego_tokens → C.told start.proxy ≡ C.told self.old.proxy →
             IfContext self.old.context (Begun c start.context start.handle (ForServer start.mode) purposes.Inbound None self.old.handle) →
             HasAccepted c C.told start d result self.new }
         ensures state { OnErr result (self.new.state ≡ self.old.state) }
         ensures version { self.new.version ≡ self.old.version }
-        ensures cause { let c = either N.meaning K.meaning in (start : ServerView (SspiContext N K) C) (d : TsRequest) →
+        ensures cause { let c = either N.REQUESTS N.meaning K.meaning in (start : ServerView (SspiContext N K) C) (d : TsRequest) →
             request.now ≡ record d { version = self.old.version } → start.proxy ≡ self.old.proxy →
             IfContext self.old.context (Begun c start.context start.handle (ForServer start.mode) purposes.Inbound None self.old.handle) →
             IfErr result (λ error. error.error_type ≢ ErrorKind.InsufficientMemory →
@@ -248,10 +248,10 @@ impl<N: Mechanism, K: Mechanism, C: CredentialsProxy> CredSspServer<N, K, C> {
         requires acts { self.old.acts ≡ record no_acts { negotiated = true; status = Some status } }
         requires begun { IsSome self.old.context }
         requires noted { IsSome self.old.noted }
-        ensures turn { let c = either N.meaning K.meaning in (start : ServerView (SspiContext N K) C) (d : TsRequest) →
+        ensures turn { let c = either N.REQUESTS N.meaning K.meaning in (start : ServerView (SspiContext N K) C) (d : TsRequest) →
             request.now ≡ record d { version = self.old.version } → IsReady c start d self.old → self.old.state ≡ CredSspState.NegoToken →
             Answered c start d result self.new }
-        ensures step { let c = either N.meaning K.meaning in (start : ServerView (SspiContext N K) C) (d : TsRequest) →
+        ensures step { let c = either N.REQUESTS N.meaning K.meaning in (start : ServerView (SspiContext N K) C) (d : TsRequest) →
             C.told start.proxy ≡ C.told self.old.proxy →
             IfContext self.old.context (Accepted c C.told start self.old.handle d.nego_tokens Unknown
             (Ok (record { status = status; output = self.old.output }))) →
@@ -259,7 +259,7 @@ impl<N: Mechanism, K: Mechanism, C: CredentialsProxy> CredSspServer<N, K, C> {
         ensures state { OnErr result (self.new.state ≡ self.old.state) }
         ensures version { self.new.version ≡ self.old.version }
         ensures status { self.new.acts.status ≡ Some status }
-        ensures cause { let c = either N.meaning K.meaning in (start : ServerView (SspiContext N K) C) (d : TsRequest) →
+        ensures cause { let c = either N.REQUESTS N.meaning K.meaning in (start : ServerView (SspiContext N K) C) (d : TsRequest) →
             request.now ≡ record d { version = self.old.version } → start.proxy ≡ self.old.proxy →
             HasCome c C.told Unknown status start d self.old →
             IfErr result (λ error. error.error_type ≢ ErrorKind.InsufficientMemory →
@@ -301,10 +301,10 @@ impl<N: Mechanism, K: Mechanism, C: CredentialsProxy> CredSspServer<N, K, C> {
         requires acts { self.old.acts ≡ record no_acts { negotiated = true; status = self.old.acts.status } }
         requires begun { IsSome self.old.context }
         requires noted { IsSome self.old.noted }
-        ensures turn { let c = either N.meaning K.meaning in (start : ServerView (SspiContext N K) C) (d : TsRequest) →
+        ensures turn { let c = either N.REQUESTS N.meaning K.meaning in (start : ServerView (SspiContext N K) C) (d : TsRequest) →
             request.now ≡ record d { version = self.old.version } → IsReady c start d self.old → self.old.state ≡ CredSspState.NegoToken →
             IsOver self.old.acts.status → Answered c start d result self.new }
-        ensures step { let c = either N.meaning K.meaning in (start : ServerView (SspiContext N K) C) (token : Option (List ℕ)) (answer : Result Step Error) →
+        ensures step { let c = either N.REQUESTS N.meaning K.meaning in (start : ServerView (SspiContext N K) C) (token : Option (List ℕ)) (answer : Result Step Error) →
             C.told start.proxy ≡ C.told self.old.proxy →
             IfContext self.old.context (Accepted c C.told start self.old.handle token Unknown answer) →
             CompletedStep c C.told start self.old.handle token answer result self.new.context }
@@ -314,7 +314,7 @@ impl<N: Mechanism, K: Mechanism, C: CredentialsProxy> CredSspServer<N, K, C> {
         ensures state { OnErr result (self.new.state ≡ self.old.state) }
         ensures version { self.new.version ≡ self.old.version }
         ensures status { self.new.acts.status ≡ self.old.acts.status }
-        ensures cause { let c = either N.meaning K.meaning in (start : ServerView (SspiContext N K) C) (d : TsRequest) (status : SecurityStatus) →
+        ensures cause { let c = either N.REQUESTS N.meaning K.meaning in (start : ServerView (SspiContext N K) C) (d : TsRequest) (status : SecurityStatus) →
             request.now ≡ record d { version = self.old.version } → start.proxy ≡ self.old.proxy →
             HasCome c C.told Unknown status start d self.old →
             IfErr result (λ error. error.error_type ≢ ErrorKind.InsufficientMemory →
@@ -345,16 +345,16 @@ impl<N: Mechanism, K: Mechanism, C: CredentialsProxy> CredSspServer<N, K, C> {
         requires acts { self.old.acts ≡ record no_acts { negotiated = true; status = self.old.acts.status } }
         requires begun { IsSome self.old.context }
         requires noted { IsSome self.old.noted }
-        ensures turn { let c = either N.meaning K.meaning in (start : ServerView (SspiContext N K) C) (d : TsRequest) →
+        ensures turn { let c = either N.REQUESTS N.meaning K.meaning in (start : ServerView (SspiContext N K) C) (d : TsRequest) →
             request.now ≡ record d { version = self.old.version } → IsReady c start d self.old → self.old.state ≡ CredSspState.NegoToken →
             IsOver self.old.acts.status → Answered c start d result self.new }
         ensures frame { self.new ≡ record self.old { state = self.new.state; context = self.new.context; acts = self.new.acts } }
-        ensures moved { SameBut (either N.meaning K.meaning) self.old.context self.new.context }
+        ensures moved { SameBut (either N.REQUESTS N.meaning K.meaning) self.old.context self.new.context }
         ensures state { OnErr result (self.new.state ≡ self.old.state) }
         ensures status { self.new.acts.status ≡ self.old.acts.status }
         ensures negotiated { self.new.acts.negotiated ≡ true }
         ensures cause { IfErr result (λ error. error.error_type ≢ ErrorKind.InsufficientMemory →
-            AfterCause (either N.meaning K.meaning) request.now.pub_key_auth request.now.client_nonce self.new error.error_type) }
+            AfterCause (either N.REQUESTS N.meaning K.meaning) request.now.pub_key_auth request.now.client_nonce self.new error.error_type) }
         ensures plain { IfErr result (λ error. error.nstatus ≡ None) }
         ensures begun { IsSome self.new.context }
     {

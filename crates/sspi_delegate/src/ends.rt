@@ -69,8 +69,8 @@ fn finish_turn<N: Mechanism, K: Mechanism, D: Kdc>(
     request: TsRequest,
     kdc: &mut D,
 ) -> Concluded
-    ensures turn { ClientConcludes (either N.meaning K.meaning) (kdc_calls D.told D.asked D.faults) client.old kdc.old request result client.new kdc.new }
-    ensures lost { WaitsWhereLost (either N.meaning K.meaning) (kdc_calls D.told D.asked D.faults) client.old kdc.old request result client.new kdc.new }
+    ensures turn { ClientConcludes (either N.REQUESTS N.meaning K.meaning) (kdc_calls D.told D.asked D.faults) client.old kdc.old request result client.new kdc.new }
+    ensures lost { WaitsWhereLost (either N.REQUESTS N.meaning K.meaning) (kdc_calls D.told D.asked D.faults) client.old kdc.old request result client.new kdc.new }
     ensures kdc { KdcStays D.told D.faults kdc.old kdc.new }
 {
     let mut progress = match client.process(request) {
@@ -102,7 +102,7 @@ pub(crate) fn client_round<N: Mechanism, K: Mechanism, D: Kdc>(
     request: TsRequest,
 ) -> ClientRound
     ensures turn { ClientPushed request result transcript.old.turns transcript.new.turns }
-    ensures client_history { let c = either N.meaning K.meaning in let k = kdc_calls D.told D.asked D.faults in
+    ensures client_history { let c = either N.REQUESTS N.meaning K.meaning in let k = kdc_calls D.told D.asked D.faults in
         (first : ClientView (SspiContext N K)) (kdc_first : D) → AllGoOn (client_turns transcript.old.turns) →
         ClientHistory c k first kdc_first (client_turns transcript.old.turns) client.old kdc.old →
         ClientRoundPast c k first kdc_first result (client_turns transcript.new.turns) client.new kdc.new }
@@ -166,7 +166,7 @@ pub(crate) fn server_round<N: Mechanism, K: Mechanism, C: CredentialsProxy>(
     request: TsRequest,
 ) -> ServerRound
     ensures turn { ServerPushed request result transcript.old.turns transcript.new.turns }
-    ensures server_history { let c = either N.meaning K.meaning in (first : ServerView (SspiContext N K) C) →
+    ensures server_history { let c = either N.REQUESTS N.meaning K.meaning in (first : ServerView (SspiContext N K) C) →
         ServerHistory c C.told C.faults C.failing first (server_turns transcript.old.turns) server.old →
         ServerRoundPast c C.told C.faults C.failing first result (server_turns transcript.new.turns) server.new }
     ensures proxy { ProxyStays C.told C.failing C.faults server.old.proxy server.new.proxy }

@@ -64,11 +64,11 @@ pub fn delegate<N: Mechanism, K: Mechanism, C: CredentialsProxy, L: Link, D: Kdc
     turns: u32,
     transcript: &mut Transcript,
 ) -> Result<Delegation, DelegateError>
-    ensures delegates { IsFresh client.old server.old transcript.old.turns → Delegates (either N.meaning K.meaning)
+    ensures delegates { IsFresh client.old server.old transcript.old.turns → Delegates (either N.REQUESTS N.meaning K.meaning)
         (around_by C.told C.failing C.faults L.log L.edits L.faults D.told D.asked D.faults)
         (parties client.old server.old link.old kdc.old transcript.old.turns) turns result
         (parties client.new server.new link.new kdc.new transcript.new.turns) }
-    ensures accounts { transcript.old.turns ≡ [] → Accounts (either N.meaning K.meaning)
+    ensures accounts { transcript.old.turns ≡ [] → Accounts (either N.REQUESTS N.meaning K.meaning)
         (around_by C.told C.failing C.faults L.log L.edits L.faults D.told D.asked D.faults)
         (parties client.old server.old link.old kdc.old transcript.old.turns) turns result
         (parties client.new server.new link.new kdc.new transcript.new.turns) }
@@ -95,10 +95,10 @@ fn rounds<N: Mechanism, K: Mechanism, C: CredentialsProxy, L: Link, D: Kdc>(
     ensures none { turns ≡ 0 → result ≡ Err DelegateError.TurnsSpent }
     ensures within { IfOk result (λ delegation. delegation.turns ≤ turns) }
     ensures client_history { transcript.old.turns ≡ [] →
-        ClientPast (either N.meaning K.meaning) (kdc_calls D.told D.asked D.faults) client.old kdc.old result
+        ClientPast (either N.REQUESTS N.meaning K.meaning) (kdc_calls D.told D.asked D.faults) client.old kdc.old result
         (client_turns transcript.new.turns) client.new kdc.new }
     ensures server_history { transcript.old.turns ≡ [] →
-        ServerPast (either N.meaning K.meaning) C.told C.faults C.failing server.old result (server_turns transcript.new.turns) server.new }
+        ServerPast (either N.REQUESTS N.meaning K.meaning) C.told C.faults C.failing server.old result (server_turns transcript.new.turns) server.new }
     ensures proxy { ProxyStays C.told C.failing C.faults server.old.proxy server.new.proxy }
     ensures kdc { KdcStays D.told D.faults kdc.old kdc.new }
 {
@@ -137,7 +137,7 @@ fn client_half<N: Mechanism, K: Mechanism, L: Link, D: Kdc>(
     ensures count { OnOk result (turns_of End.Client transcript.new.turns ≡ turns_of End.Client transcript.old.turns + 1) }
     ensures told { StaysTold (L.edits link.old) (L.edits link.new) (L.log link.old) (L.log link.new) }
     ensures still { AnswerTold (L.edits link.old) (L.faults link.old) (L.faults link.new) result (L.log link.new) (newest_message transcript.new.turns) }
-    ensures client_history { let c = either N.meaning K.meaning in let k = kdc_calls D.told D.asked D.faults in
+    ensures client_history { let c = either N.REQUESTS N.meaning K.meaning in let k = kdc_calls D.told D.asked D.faults in
         (first : ClientView (SspiContext N K)) (kdc_first : D) → AllGoOn transcript.old.turns →
         ClientHistory c k first kdc_first (client_turns transcript.old.turns) client.old kdc.old →
         ClientHalfPast c k first kdc_first result (client_turns transcript.new.turns) client.new kdc.new }
@@ -172,7 +172,7 @@ fn server_half<N: Mechanism, K: Mechanism, C: CredentialsProxy, L: Link>(
     ensures count { OnOk result (turns_of End.Client transcript.new.turns ≡ turns_of End.Client transcript.old.turns) }
     ensures told { StaysTold (L.edits link.old) (L.edits link.new) (L.log link.old) (L.log link.new) }
     ensures still { AnswerTold (L.edits link.old) (L.faults link.old) (L.faults link.new) result (L.log link.new) (newest_message transcript.new.turns) }
-    ensures server_history { let c = either N.meaning K.meaning in (first : ServerView (SspiContext N K) C) →
+    ensures server_history { let c = either N.REQUESTS N.meaning K.meaning in (first : ServerView (SspiContext N K) C) →
         ServerHistory c C.told C.faults C.failing first (server_turns transcript.old.turns) server.old →
         ServerHalfPast c C.told C.faults C.failing first result (server_turns transcript.new.turns) server.new }
     ensures proxy { ProxyStays C.told C.failing C.faults server.old.proxy server.new.proxy }

@@ -24,7 +24,7 @@ use Rattle.sspi_run.specs.declared.record.RunOutcome.TheVariants.{Delegated}
 
 -- what the context of either end means
 abbrev pub ntlm : Meaning ContextSetting NtlmContext
-ntlm = either ntlm_meaning ntlm_meaning
+ntlm = either 0 ntlm_meaning ntlm_meaning
 
 -- what `delegate` answered
 abbrev pub answer_in : RunOutcome → Result Delegation DelegateError

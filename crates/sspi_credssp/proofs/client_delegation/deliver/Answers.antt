@@ -1,5 +1,4 @@
 use Rattle.std.proofs.Common.{◌≡◌, true, ap}
-use Rattle.sspi_mech.proofs.ContextLaws.{contextual}
 use Rattle.sspi_credssp.specs.declared.acts.Acts.{Acts}
 use Rattle.sspi_credssp.specs.ClientCause.{altered}
 use Rattle.sspi_credssp.specs.Context.{either}
@@ -9,10 +8,9 @@ use Rattle.sspi_credssp.proofs.client_delegation.deliver.Goals as goal
 
 pub returns-in-Ok-true-clause-delivers : goal.returns-in-Ok-true-clause-delivers
 returns-in-Ok-true-clause-delivers g c =
-    let laws = lawful g.N.Mechanism.meaning g.K.Mechanism.meaning (contextual _ g.N.Mechanism.meaning g.met.N.Mechanism.laws)
-    (contextual _ g.K.Mechanism.meaning g.met.K.Mechanism.laws) in
+    let laws = lawful _ _ g.N.Mechanism.meaning g.K.Mechanism.meaning g.met.N.Mechanism.laws g.met.K.Mechanism.laws in
     let sealed = c.seal_credentials.ensures in
-    delivered (either g.N.Mechanism.meaning g.K.Mechanism.meaning) laws _ _ _ c.args.acts.now _ _ _ _ _ c.requires.sealed
+    delivered (either g.N.Mechanism.REQUESTS g.N.Mechanism.meaning g.K.Mechanism.meaning) laws _ _ _ c.args.acts.now _ _ _ _ _ c.requires.sealed
     c.in-Ok-true.ensures.acts c.in-Ok-true.ensures.ok c.in-Ok-true.ensures.count (c.in-Ok-true.ensures.same c.in-Ok-true.field-0-test)
     sealed.acts sealed.ok sealed.count sealed.err sealed.err_acts
 

@@ -7,7 +7,7 @@ use Rattle.sspi_delegate.proofs.ends.finish_turn.Goals as goal
 
 pub returns-in-Err-resume-clause-turn : goal.returns-in-Err-resume-clause-turn
 returns-in-Err-resume-clause-turn g c =
-    let meaning = either g.N.Mechanism.meaning g.K.Mechanism.meaning in
+    let meaning = either g.N.Mechanism.REQUESTS g.N.Mechanism.meaning g.K.Mechanism.meaning in
     let underway = (rw c.in-Suspended.is at c.loop-progress.invariant.goes).0 in
     let turn = c.in-Err-resume.ensures.turn c.args.client.now c.args.request underway in
     let steps = c.loop-progress.invariant.steps in

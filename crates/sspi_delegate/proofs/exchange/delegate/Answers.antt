@@ -1,4 +1,3 @@
-use Rattle.sspi_mech.proofs.ContextLaws.{contextual}
 use Rattle.sspi_credssp.proofs.ContextLaws.{lawful}
 use Rattle.sspi_credssp.specs.Context.{either}
 use Rattle.sspi_delegate.specs.Asking.{kdc_calls}
@@ -28,8 +27,8 @@ returns-clause-accounts g c empty = record {
 
 pub returns-clause-delegates : goal.returns-clause-delegates
 returns-clause-delegates g c fresh =
-    let m = either g.N.Mechanism.meaning g.K.Mechanism.meaning in
-    let law = lawful _ _ (contextual _ g.N.Mechanism.meaning g.met.N.Mechanism.laws) (contextual _ g.K.Mechanism.meaning g.met.K.Mechanism.laws) in
+    let m = either g.N.Mechanism.REQUESTS g.N.Mechanism.meaning g.K.Mechanism.meaning in
+    let law = lawful _ _ g.N.Mechanism.meaning g.K.Mechanism.meaning g.met.N.Mechanism.laws g.met.K.Mechanism.laws in
     let k = kdc_calls g.D.Kdc.told g.D.Kdc.asked g.D.Kdc.faults in
     let turns = c.rounds.new.transcript.turns in
     let result = c.rounds.result in

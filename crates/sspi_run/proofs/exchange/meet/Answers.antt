@@ -5,7 +5,6 @@ use Rattle.sspi_delegate.specs.declared.edit.Edit.{Edit}
 use Rattle.sspi_delegate.specs.Headline.{IsFresh}
 use Rattle.sspi_delegate.specs.Link.{StaysTold}
 use Rattle.sspi_delegate.proofs.Histories.{server_past_history}
-use Rattle.sspi_mech.proofs.ContextLaws.{contextual}
 use Rattle.sspi_mech.specs.Ntlm.{ntlm_meaning}
 use Rattle.sspi_mech.specs.NtlmLaws.{ntlm_laws}
 use Rattle.sspi_credssp.proofs.ContextLaws.{lawful}
@@ -59,7 +58,7 @@ returns-clause-outcome c ends values =
     let delegates = ensures.delegates fresh in
     let stays = ensures.stays in
     let server_history = server_past_history ntlm told_entries table_faults told_failing server made.server _ answer delegates.accounts.server_turns_are_its_calls in
-    let laws = lawful _ _ (contextual _ ntlm_meaning ntlm_laws) (contextual _ ntlm_meaning ntlm_laws) in
+    let laws = lawful 0 0 ntlm_meaning ntlm_meaning ntlm_laws ntlm_laws in
     let settles : (plain : IsPlain s) → Settled 3 s.turns (delegated_as client.delegation (user_identity s)) answer =
     λ plain. settled_plainly ntlm_meaning laws (calls_of_kdc around) told_entries table_faults told_failing client server ends.client_fresh ends.server_fresh
     (plain_match s client server ends.client_named ends.server_named values plain) _ _ _ _ _ s.turns made.client made.server _ _ _ _ _

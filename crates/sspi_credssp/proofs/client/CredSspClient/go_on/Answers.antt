@@ -1,5 +1,4 @@
 use Rattle.std.proofs.Common.{◌≡◌, Ok, ap, ◌∙◌, subst}
-use Rattle.sspi_mech.proofs.ContextLaws.{contextual}
 use Rattle.sspi_mech.specs.declared.step.Answer.TheVariants.{Done}
 use Rattle.sspi_mech.specs.Answers.{answer_of}
 use Rattle.sspi_credssp.specs.ClientStep.{StepsTo}
@@ -10,9 +9,8 @@ use Rattle.sspi_credssp.proofs.client.CredSspClient.go_on.Goals as goal
 
 pub returns-in-Ok-clause-step : goal.returns-in-Ok-clause-step
 returns-in-Ok-clause-step g c = λ start d tries log walked.
-    let it = either g.N.Mechanism.meaning g.K.Mechanism.meaning in
-    let laws = lawful g.N.Mechanism.meaning g.K.Mechanism.meaning (contextual _ g.N.Mechanism.meaning g.met.N.Mechanism.laws)
-    (contextual _ g.K.Mechanism.meaning g.met.K.Mechanism.laws) in
+    let it = either g.N.Mechanism.REQUESTS g.N.Mechanism.meaning g.K.Mechanism.meaning in
+    let laws = lawful _ _ g.N.Mechanism.meaning g.K.Mechanism.meaning g.met.N.Mechanism.laws g.met.K.Mechanism.laws in
     let done : answer_of c.args.progress ≡ Done c.in-Ok-Done.step = ap answer_of (c.in-Ok-Done.is ∙ ap Ok c.in-Ok-Done.field-0-is) in
     let walked_done = subst (λ a. StepsTo it start d tries log a c.args.self.now) done walked in
     rw (c.reply.ensures.status, c.reply.ensures.output, c.reply.ensures.handle)
@@ -20,9 +18,8 @@ returns-in-Ok-clause-step g c = λ start d tries log walked.
 
 pub returns-in-Err-reply-clause-step : goal.returns-in-Err-reply-clause-step
 returns-in-Err-reply-clause-step g c = λ start d tries log walked.
-    let it = either g.N.Mechanism.meaning g.K.Mechanism.meaning in
-    let laws = lawful g.N.Mechanism.meaning g.K.Mechanism.meaning (contextual _ g.N.Mechanism.meaning g.met.N.Mechanism.laws)
-    (contextual _ g.K.Mechanism.meaning g.met.K.Mechanism.laws) in
+    let it = either g.N.Mechanism.REQUESTS g.N.Mechanism.meaning g.K.Mechanism.meaning in
+    let laws = lawful _ _ g.N.Mechanism.meaning g.K.Mechanism.meaning g.met.N.Mechanism.laws g.met.K.Mechanism.laws in
     let done : answer_of c.args.progress ≡ Done c.in-Ok-Done.step = ap answer_of (c.in-Ok-Done.is ∙ ap Ok c.in-Ok-Done.field-0-is) in
     let walked_done = subst (λ a. StepsTo it start d tries log a c.args.self.now) done walked in
     rw (c.reply.ensures.negotiated, c.reply.ensures.status, c.reply.ensures.output, c.reply.ensures.handle)

@@ -1,6 +1,5 @@
 use Rattle.std.proofs.Common.{◌≡◌, Some, sym, subst, rules}
 use Rattle.sspi_types.specs.declared.credential_use.CredentialUse.TheVariants.{Outbound}
-use Rattle.sspi_mech.proofs.ContextLaws.{contextual}
 use Rattle.sspi_credssp.specs.Begun.{Begun, IfContext}
 use Rattle.sspi_credssp.specs.ClientStep.{stepped}
 use Rattle.sspi_credssp.specs.ClientTurn.{IsReady}
@@ -11,9 +10,8 @@ use Rattle.sspi_credssp.proofs.client.CredSspClient.negotiate.Goals as goal
 
 pub returns-clause-turn : goal.returns-clause-turn
 returns-clause-turn g c = λ start d same ready nego output.
-    let it = either g.N.Mechanism.meaning g.K.Mechanism.meaning in
-    let laws = lawful g.N.Mechanism.meaning g.K.Mechanism.meaning (contextual _ g.N.Mechanism.meaning g.met.N.Mechanism.laws)
-    (contextual _ g.K.Mechanism.meaning g.met.K.Mechanism.laws) in
+    let it = either g.N.Mechanism.REQUESTS g.N.Mechanism.meaning g.K.Mechanism.meaning in
+    let laws = lawful _ _ g.N.Mechanism.meaning g.K.Mechanism.meaning g.met.N.Mechanism.laws g.met.K.Mechanism.laws in
     c.go_on.ensures.turn start d (search rules)
     (ready_stepped it start _ d c.in-Some.context _ _ (subst (λ v. IsReady it start d v) (sym c.self.view_is) ready) (search rules) (search rules)
     (λ unused. laws.step_unused _ _ _ _ unused c.initialize-progress.ensures.step))
@@ -21,7 +19,7 @@ returns-clause-turn g c = λ start d same ready nego output.
 
 pub returns-clause-step : goal.returns-clause-step
 returns-clause-step g c = λ start d token target begun.
-    let it = either g.N.Mechanism.meaning g.K.Mechanism.meaning in
+    let it = either g.N.Mechanism.REQUESTS g.N.Mechanism.meaning g.K.Mechanism.meaning in
     let begun_inside = subst (λ v. IfContext v.context
     (Begun it start.context start.handle (ForClient start.mode) Outbound (Some start.credentials) v.handle)) (sym c.self.view_is) begun in
     let here : c.self.inside.context ≡ Some c.in-Some.context = search rules in

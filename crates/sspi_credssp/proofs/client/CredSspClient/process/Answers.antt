@@ -11,20 +11,20 @@ use Rattle.sspi_credssp.proofs.client.CredSspClient.process.Goals as goal
 
 pub returns-in-Ok-begin-clause-turn : goal.returns-in-Ok-begin-clause-turn
 returns-in-Ok-begin-clause-turn g c =
-    let idle : is_waiting_in (either g.N.Mechanism.meaning g.K.Mechanism.meaning) c.args.self.now.context ≡ false = search rules in
+    let idle : is_waiting_in (either g.N.Mechanism.REQUESTS g.N.Mechanism.meaning g.K.Mechanism.meaning) c.args.self.now.context ≡ false = search rules in
     let ready = c.in-Ok-begin.ensures.ready c.args.self.now c.args.ts_request refl c.forget_last_call.ensures idle c.in-Ok.ensures.passed in
     c.take-in-Ok-begin.ensures.turn c.args.self.now c.args.ts_request (search rules) ready (search rules)
 
 pub returns-in-Ok-begin-clause-step : goal.returns-in-Ok-begin-clause-step
 returns-in-Ok-begin-clause-step g c =
-    let it = either g.N.Mechanism.meaning g.K.Mechanism.meaning in
+    let it = either g.N.Mechanism.REQUESTS g.N.Mechanism.meaning g.K.Mechanism.meaning in
     let begun = subst (λ v. IfContext c.begin.new.self.context
     (Begun it v.context v.handle (ForClient v.mode) Outbound (Some v.credentials) c.begin.new.self.handle)) c.forget_last_call.ensures c.in-Ok-begin.ensures.begun in
     c.take-in-Ok-begin.ensures.step c.args.self.now c.args.ts_request (search rules) (search rules) begun
 
 pub returns-in-Ok-begin-clause-cause : goal.returns-in-Ok-begin-clause-cause
 returns-in-Ok-begin-clause-cause g c =
-    let it = either g.N.Mechanism.meaning g.K.Mechanism.meaning in
+    let it = either g.N.Mechanism.REQUESTS g.N.Mechanism.meaning g.K.Mechanism.meaning in
     let idle : is_waiting_in it c.args.self.now.context ≡ false = search rules in
     let same : is_altered c.args.self.now.context c.args.self.now.noted c.args.ts_request.version ≡ false = search rules in
     client_cause_past it c.args.self.now _ c.args.ts_request _ _ _ _ idle c.in-Ok.ensures.passed same c.take-in-Ok-begin.ensures.begun
@@ -32,7 +32,7 @@ returns-in-Ok-begin-clause-cause g c =
 
 pub returns-in-Err-begin-clause-cause : goal.returns-in-Err-begin-clause-cause
 returns-in-Err-begin-clause-cause g c = λ memory.
-    let it = either g.N.Mechanism.meaning g.K.Mechanism.meaning in
+    let it = either g.N.Mechanism.REQUESTS g.N.Mechanism.meaning g.K.Mechanism.meaning in
     let idle : is_waiting_in it c.args.self.now.context ≡ false = search rules in
     let kind = c.in-Err-begin.error.error_type in
     client_cause_begun it c.args.self.now _ c.args.ts_request kind idle c.in-Ok.ensures.passed

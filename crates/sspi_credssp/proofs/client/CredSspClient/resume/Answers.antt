@@ -8,13 +8,13 @@ use Rattle.sspi_credssp.proofs.client.CredSspClient.resume.Goals as goal
 
 pub returns-in-Some-clause-step : goal.returns-in-Some-clause-step
 returns-in-Some-clause-step g c = λ start d tries log q under walked.
-    let it = either g.N.Mechanism.meaning g.K.Mechanism.meaning in
+    let it = either g.N.Mechanism.REQUESTS g.N.Mechanism.meaning g.K.Mechanism.meaning in
     let forgot = c.self.view_is ∙ c.forget_last_call.ensures in
     c.resume_with.ensures.step start d tries log q (subst (λ v. StepsTo it start d tries log (Ask q) v) (sym forgot) walked)
 
 pub returns-in-Some-clause-still : goal.returns-in-Some-clause-still
 returns-in-Some-clause-still g c = λ start d tries log q under walked.
-    let it = either g.N.Mechanism.meaning g.K.Mechanism.meaning in
+    let it = either g.N.Mechanism.REQUESTS g.N.Mechanism.meaning g.K.Mechanism.meaning in
     let forgot = c.self.view_is ∙ c.forget_last_call.ensures in
     let ready = subst (λ v. IsReady it start d (record v { kept = c.take.new.self })) (sym forgot)
     (ready_forgot it start c.args.self.now d _ _ c.take.new.self under.ready) in

@@ -1,6 +1,5 @@
 use Rattle.std.proofs.Common.{◌≡◌, Some, refl, sym, subst, rules}
 use Rattle.sspi_mech.specs.declared.step.Answer.TheVariants.{Ask}
-use Rattle.sspi_mech.proofs.ContextLaws.{contextual}
 use Rattle.sspi_credssp.specs.ClientStep.{StepsTo, resumed}
 use Rattle.sspi_credssp.specs.ClientTurn.{IsReady}
 use Rattle.sspi_credssp.specs.Context.{either}
@@ -11,9 +10,8 @@ use Rattle.sspi_credssp.proofs.client.CredSspClient.resume_with.Goals as goal
 
 pub returns-clause-turn : goal.returns-clause-turn
 returns-clause-turn g c = λ start d same ready nego output.
-    let it = either g.N.Mechanism.meaning g.K.Mechanism.meaning in
-    let laws = lawful g.N.Mechanism.meaning g.K.Mechanism.meaning (contextual _ g.N.Mechanism.meaning g.met.N.Mechanism.laws)
-    (contextual _ g.K.Mechanism.meaning g.met.K.Mechanism.laws) in
+    let it = either g.N.Mechanism.REQUESTS g.N.Mechanism.meaning g.K.Mechanism.meaning in
+    let laws = lawful _ _ g.N.Mechanism.meaning g.K.Mechanism.meaning g.met.N.Mechanism.laws g.met.K.Mechanism.laws in
     c.go_on.ensures.turn start d (search rules)
     (ready_stepped it start _ d c.in-Some.context _ _ (subst (λ v. IsReady it start d v) (sym c.self.view_is) ready) (search rules) (search rules)
     (λ unused. laws.resume_unused _ _ _ _ unused c.resume-progress.ensures.step))
@@ -21,16 +19,15 @@ returns-clause-turn g c = λ start d same ready nego output.
 
 pub returns-clause-step : goal.returns-clause-step
 returns-clause-step g c = λ start d tries log q walked.
-    let it = either g.N.Mechanism.meaning g.K.Mechanism.meaning in
+    let it = either g.N.Mechanism.REQUESTS g.N.Mechanism.meaning g.K.Mechanism.meaning in
     let walked_inside = subst (λ v. StepsTo it start d tries log (Ask q) v) (sym c.self.view_is) walked in
     let here : c.self.inside.context ≡ Some c.in-Some.context = search rules in
     c.go_on.ensures.step start d tries _ (resumed c.in-Some.context _ tries log q _ _ (context_here _ _ _ here walked_inside) c.resume-progress.ensures.step)
 
 pub returns-clause-still : goal.returns-clause-still
 returns-clause-still g c = λ start d tries log q same ready nego output walked.
-    let it = either g.N.Mechanism.meaning g.K.Mechanism.meaning in
-    let laws = lawful g.N.Mechanism.meaning g.K.Mechanism.meaning (contextual _ g.N.Mechanism.meaning g.met.N.Mechanism.laws)
-    (contextual _ g.K.Mechanism.meaning g.met.K.Mechanism.laws) in
+    let it = either g.N.Mechanism.REQUESTS g.N.Mechanism.meaning g.K.Mechanism.meaning in
+    let laws = lawful _ _ g.N.Mechanism.meaning g.K.Mechanism.meaning g.met.N.Mechanism.laws g.met.K.Mechanism.laws in
     let ready_inside = subst (λ v. IsReady it start d v) (sym c.self.view_is) ready in
     let walked_inside = subst (λ v. StepsTo it start d tries log (Ask q) v) (sym c.self.view_is) walked in
     let here : c.self.inside.context ≡ Some c.in-Some.context = search rules in
@@ -40,8 +37,7 @@ returns-clause-still g c = λ start d tries log q same ready nego output walked.
 
 pub returns-clause-falls : goal.returns-clause-falls
 returns-clause-falls g c =
-    let laws = lawful g.N.Mechanism.meaning g.K.Mechanism.meaning (contextual _ g.N.Mechanism.meaning g.met.N.Mechanism.laws)
-    (contextual _ g.K.Mechanism.meaning g.met.K.Mechanism.laws) in
-    let it = either g.N.Mechanism.meaning g.K.Mechanism.meaning in
+    let laws = lawful _ _ g.N.Mechanism.meaning g.K.Mechanism.meaning g.met.N.Mechanism.laws g.met.K.Mechanism.laws in
+    let it = either g.N.Mechanism.REQUESTS g.N.Mechanism.meaning g.K.Mechanism.meaning in
     let here : c.args.self.now.context ≡ Some c.in-Some.context = search rules in
     rw here (c.go_on.ensures.falls _ (falls_on it laws _ _ _ _ c.resume-progress.ensures.step))

@@ -11,7 +11,7 @@ use Rattle.sspi_credssp.proofs.server.CredSspServer.answer.Goals as goal
 
 pub returns-in-Ok-clause-step : goal.returns-in-Ok-clause-step
 returns-in-Ok-clause-step g c = λ start d token told begun.
-    let it = either g.N.Mechanism.meaning g.K.Mechanism.meaning in
+    let it = either g.N.Mechanism.REQUESTS g.N.Mechanism.meaning g.K.Mechanism.meaning in
     let begun_inside = subst (λ v. IfContext v.context (Begun it start.context start.handle (ForServer start.mode) Inbound None v.handle)) (sym c.self.view_is) begun in
     let here : c.self.inside.context ≡ Some c.in-Some.context = search rules in
     c.answer_step.ensures.step start d (search rules)
@@ -20,7 +20,7 @@ returns-in-Ok-clause-step g c = λ start d token told begun.
 
 pub returns-in-Err-clause-step : goal.returns-in-Err-clause-step
 returns-in-Err-clause-step g c = λ start d token told begun.
-    let it = either g.N.Mechanism.meaning g.K.Mechanism.meaning in
+    let it = either g.N.Mechanism.REQUESTS g.N.Mechanism.meaning g.K.Mechanism.meaning in
     let tells = g.C.CredentialsProxy.told in
     let begun_inside = subst (λ v. IfContext v.context (Begun it start.context start.handle (ForServer start.mode) Inbound None v.handle)) (sym c.self.view_is) begun in
     let here : c.self.inside.context ≡ Some c.in-Some.context = search rules in
@@ -32,7 +32,7 @@ returns-in-Err-clause-step g c = λ start d token told begun.
 
 pub returns-in-Ok-clause-cause : goal.returns-in-Ok-clause-cause
 returns-in-Ok-clause-cause g c = λ start d same proxy begun.
-    let it = either g.N.Mechanism.meaning g.K.Mechanism.meaning in
+    let it = either g.N.Mechanism.REQUESTS g.N.Mechanism.meaning g.K.Mechanism.meaning in
     let begun_inside = subst (λ v. IfContext v.context (Begun it start.context start.handle (ForServer start.mode) Inbound None v.handle)) (sym c.self.view_is) begun in
     let here : c.self.inside.context ≡ Some c.in-Some.context = search rules in
     let token : d.nego_tokens ≡ c.args.request.now.nego_tokens = ap (λ (x : TsRequest). x.nego_tokens) (sym same) in

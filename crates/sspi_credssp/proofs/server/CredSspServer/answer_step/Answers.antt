@@ -1,5 +1,4 @@
 use Rattle.std.proofs.Common.{◌≡◌, Some, true, rules}
-use Rattle.sspi_mech.proofs.ContextLaws.{contextual}
 use Rattle.sspi_credssp.specs.Context.{either}
 use Rattle.sspi_credssp.specs.ServerTurn.{IsOver}
 use Rattle.sspi_credssp.proofs.ContextLaws.{lawful}
@@ -9,9 +8,8 @@ use Rattle.sspi_credssp.proofs.server.CredSspServer.answer_step.Goals as goal
 
 pub returns-in-Err-clause-step : goal.returns-in-Err-clause-step
 returns-in-Err-clause-step g c = λ start d told accepted.
-    let it = either g.N.Mechanism.meaning g.K.Mechanism.meaning in
-    let laws = lawful g.N.Mechanism.meaning g.K.Mechanism.meaning (contextual _ g.N.Mechanism.meaning g.met.N.Mechanism.laws)
-    (contextual _ g.K.Mechanism.meaning g.met.K.Mechanism.laws) in
+    let it = either g.N.Mechanism.REQUESTS g.N.Mechanism.meaning g.K.Mechanism.meaning in
+    let laws = lawful _ _ g.N.Mechanism.meaning g.K.Mechanism.meaning g.met.N.Mechanism.laws g.met.K.Mechanism.laws in
     let tells = g.C.CredentialsProxy.told in
     let negotiated : c.args.self.now.acts.negotiated ≡ true = search rules in
     let answered : c.args.self.now.acts.status ≡ Some c.args.status = search rules in
@@ -20,9 +18,8 @@ returns-in-Err-clause-step g c = λ start d told accepted.
 
 pub returns-then-has_ended-clause-step : goal.returns-then-has_ended-clause-step
 returns-then-has_ended-clause-step g c = λ start d told accepted.
-    let it = either g.N.Mechanism.meaning g.K.Mechanism.meaning in
-    let laws = lawful g.N.Mechanism.meaning g.K.Mechanism.meaning (contextual _ g.N.Mechanism.meaning g.met.N.Mechanism.laws)
-    (contextual _ g.K.Mechanism.meaning g.met.K.Mechanism.laws) in
+    let it = either g.N.Mechanism.REQUESTS g.N.Mechanism.meaning g.K.Mechanism.meaning in
+    let laws = lawful _ _ g.N.Mechanism.meaning g.K.Mechanism.meaning g.met.N.Mechanism.laws g.met.K.Mechanism.laws in
     let tells = g.C.CredentialsProxy.told in
     let answered : c.complete.new.self.acts.status ≡ Some c.args.status = search rules in
     let over : IsOver (Some c.args.status) = c.has_ended.ensures.ended c.if-has_ended.true in
@@ -33,14 +30,13 @@ returns-then-has_ended-clause-step g c = λ start d told accepted.
 pub returns-then-has_ended-clause-cause : goal.returns-then-has_ended-clause-cause
 returns-then-has_ended-clause-cause g c = λ start d same proxy come.
     let over : IsOver (Some c.args.status) = c.has_ended.ensures.ended c.if-has_ended.true in
-    over_causes (either g.N.Mechanism.meaning g.K.Mechanism.meaning) g.C.CredentialsProxy.told g.C.CredentialsProxy.faults c.args.status
+    over_causes (either g.N.Mechanism.REQUESTS g.N.Mechanism.meaning g.K.Mechanism.meaning) g.C.CredentialsProxy.told g.C.CredentialsProxy.faults c.args.status
     start d c.complete.new.self c.complete.result over (c.complete.ensures.cause start d c.args.status same proxy come)
 
 pub returns-clause-step : goal.returns-clause-step
 returns-clause-step g c = λ start d told accepted.
-    let it = either g.N.Mechanism.meaning g.K.Mechanism.meaning in
-    let laws = lawful g.N.Mechanism.meaning g.K.Mechanism.meaning (contextual _ g.N.Mechanism.meaning g.met.N.Mechanism.laws)
-    (contextual _ g.K.Mechanism.meaning g.met.K.Mechanism.laws) in
+    let it = either g.N.Mechanism.REQUESTS g.N.Mechanism.meaning g.K.Mechanism.meaning in
+    let laws = lawful _ _ g.N.Mechanism.meaning g.K.Mechanism.meaning g.met.N.Mechanism.laws g.met.K.Mechanism.laws in
     let tells = g.C.CredentialsProxy.told in
     let negotiated : c.args.self.now.acts.negotiated ≡ true = search rules in
     let answered : c.args.self.now.acts.status ≡ Some c.args.status = search rules in

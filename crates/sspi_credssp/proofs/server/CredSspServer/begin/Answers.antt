@@ -9,7 +9,7 @@ pub returns-in-Ok-clause-begun : goal.returns-in-Ok-clause-begun
 returns-in-Ok-clause-begun g c =
     let now = c.args.self.now in
     begun_noted _ c.make_context.new.self _ _
-    (λ handle m. Begun (either g.N.Mechanism.meaning g.K.Mechanism.meaning) now.context now.handle (ForServer now.mode) Inbound None handle m)
+    (λ handle m. Begun (either g.N.Mechanism.REQUESTS g.N.Mechanism.meaning g.K.Mechanism.meaning) now.context now.handle (ForServer now.mode) Inbound None handle m)
     c.note_version-in-Ok.ensures.ok c.in-Ok.ensures.begun
 
 pub returns-in-Err-clause-cause : goal.returns-in-Err-clause-cause

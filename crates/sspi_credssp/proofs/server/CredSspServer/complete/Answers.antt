@@ -1,6 +1,5 @@
 use Rattle.std.proofs.Common.{◌≡◌, Some, Result, Ok, sym, subst, rules}
 use Rattle.sspi_types.specs.declared.error.Error.{Error}
-use Rattle.sspi_mech.proofs.ContextLaws.{contextual}
 use Rattle.sspi_mech.specs.declared.step.Step.{Step}
 use Rattle.sspi_mech.specs.Calls.{ToComplete}
 use Rattle.sspi_credssp.specs.Context.{either}
@@ -14,14 +13,14 @@ use Rattle.sspi_credssp.proofs.server.CredSspServer.complete.Goals as goal
 
 pub returns-in-Err-clause-step : goal.returns-in-Err-clause-step
 returns-in-Err-clause-step g c = λ start token answer told accepted.
-    let it = either g.N.Mechanism.meaning g.K.Mechanism.meaning in
+    let it = either g.N.Mechanism.REQUESTS g.N.Mechanism.meaning g.K.Mechanism.meaning in
     let here : c.args.self.now.context ≡ Some c.in-Some.context = search rules in
     so_far Unknown (subst (λ m. Accepted it g.C.CredentialsProxy.told start c.args.self.now.handle token Unknown answer m) (sym c.in-Err.ensures.err)
     (context_here _ _ _ here accepted))
 
 pub returns-in-Err-clause-cause : goal.returns-in-Err-clause-cause
 returns-in-Err-clause-cause g c = λ start d status same proxy come memory.
-    let it = either g.N.Mechanism.meaning g.K.Mechanism.meaning in
+    let it = either g.N.Mechanism.REQUESTS g.N.Mechanism.meaning g.K.Mechanism.meaning in
     let told = g.C.CredentialsProxy.told in
     let faults = g.C.CredentialsProxy.faults in
     let kind = c.in-Err.error.error_type in
@@ -36,9 +35,8 @@ returns-in-Err-clause-cause g c = λ start d status same proxy come memory.
 
 pub returns-in-Ok-complete_auth_token-clause-step : goal.returns-in-Ok-complete_auth_token-clause-step
 returns-in-Ok-complete_auth_token-clause-step g c = λ start token answer told accepted.
-    let it = either g.N.Mechanism.meaning g.K.Mechanism.meaning in
-    let laws = lawful g.N.Mechanism.meaning g.K.Mechanism.meaning (contextual _ g.N.Mechanism.meaning g.met.N.Mechanism.laws)
-    (contextual _ g.K.Mechanism.meaning g.met.K.Mechanism.laws) in
+    let it = either g.N.Mechanism.REQUESTS g.N.Mechanism.meaning g.K.Mechanism.meaning in
+    let laws = lawful _ _ g.N.Mechanism.meaning g.K.Mechanism.meaning g.met.N.Mechanism.laws g.met.K.Mechanism.laws in
     let tells = g.C.CredentialsProxy.told in
     let here : c.args.self.now.context ≡ Some c.in-Some.context = search rules in
     let same : tells c.self.inside.credentials ≡ tells start.proxy = search rules in
@@ -51,7 +49,7 @@ returns-in-Ok-complete_auth_token-clause-step g c = λ start token answer told a
 
 pub returns-in-Err-complete_auth_token-clause-step : goal.returns-in-Err-complete_auth_token-clause-step
 returns-in-Err-complete_auth_token-clause-step g c = λ start token answer told accepted.
-    let it = either g.N.Mechanism.meaning g.K.Mechanism.meaning in
+    let it = either g.N.Mechanism.REQUESTS g.N.Mechanism.meaning g.K.Mechanism.meaning in
     let tells = g.C.CredentialsProxy.told in
     let here : c.args.self.now.context ≡ Some c.in-Some.context = search rules in
     let same : tells c.self.inside.credentials ≡ tells start.proxy = search rules in
@@ -61,9 +59,8 @@ returns-in-Err-complete_auth_token-clause-step g c = λ start token answer told 
 
 pub returns-in-Ok-complete_auth_token-clause-cause : goal.returns-in-Ok-complete_auth_token-clause-cause
 returns-in-Ok-complete_auth_token-clause-cause g c = λ start d status same proxy come.
-    let it = either g.N.Mechanism.meaning g.K.Mechanism.meaning in
-    let laws = lawful g.N.Mechanism.meaning g.K.Mechanism.meaning (contextual _ g.N.Mechanism.meaning g.met.N.Mechanism.laws)
-    (contextual _ g.K.Mechanism.meaning g.met.K.Mechanism.laws) in
+    let it = either g.N.Mechanism.REQUESTS g.N.Mechanism.meaning g.K.Mechanism.meaning in
+    let laws = lawful _ _ g.N.Mechanism.meaning g.K.Mechanism.meaning g.met.N.Mechanism.laws g.met.K.Mechanism.laws in
     let tells = g.C.CredentialsProxy.told in
     let now = c.args.self.now in
     let here : now.context ≡ Some c.in-Some.context = search rules in
@@ -80,7 +77,7 @@ returns-in-Ok-complete_auth_token-clause-cause g c = λ start d status same prox
 
 pub returns-in-Err-complete_auth_token-clause-cause : goal.returns-in-Err-complete_auth_token-clause-cause
 returns-in-Err-complete_auth_token-clause-cause g c = λ start d status same proxy come memory.
-    let it = either g.N.Mechanism.meaning g.K.Mechanism.meaning in
+    let it = either g.N.Mechanism.REQUESTS g.N.Mechanism.meaning g.K.Mechanism.meaning in
     let tells = g.C.CredentialsProxy.told in
     let here : c.self.inside.context ≡ Some c.in-Some.context = search rules in
     let own : tells c.self.inside.credentials ≡ tells start.proxy = search rules in

@@ -1,7 +1,6 @@
 use Rattle.std.proofs.Common.{◌≡◌, ◌≢◌, IfErr, sym, ◌∙◌, ap, subst, rules}
 use Rattle.sspi_types.specs.declared.error.Error.{Error}
 use Rattle.sspi_types.specs.declared.error_kind.ErrorKind.TheVariants.{InsufficientMemory}
-use Rattle.sspi_mech.proofs.ContextLaws.{contextual}
 use Rattle.sspi_credssp.specs.Context.{either}
 use Rattle.sspi_credssp.specs.ServerCause.{NegoCause}
 use Rattle.sspi_credssp.specs.ServerStep.{HasAcceptedTurn}
@@ -13,7 +12,7 @@ use Rattle.sspi_credssp.proofs.server.CredSspServer.negotiate.Goals.{in-Ok, in-E
 
 pub returns-clause-turn : goal.returns-clause-turn
 returns-clause-turn g c = λ start d same ready nego output.
-    let it = either g.N.Mechanism.meaning g.K.Mechanism.meaning in
+    let it = either g.N.Mechanism.REQUESTS g.N.Mechanism.meaning g.K.Mechanism.meaning in
     let own = sym c.answer.ensures.version in
     elim c.match-answer.branch [
       | in-Ok w ↦ went_on it start c.answer.new.self d c.args.request _ w.in-Ok.answer w.with_answer.result c.match-answer.result w.result-is same own
@@ -26,9 +25,8 @@ returns-clause-turn g c = λ start d same ready nego output.
 
 pub returns-clause-step : goal.returns-clause-step
 returns-clause-step g c = λ start d token told begun.
-    let it = either g.N.Mechanism.meaning g.K.Mechanism.meaning in
-    let laws = lawful g.N.Mechanism.meaning g.K.Mechanism.meaning (contextual _ g.N.Mechanism.meaning g.met.N.Mechanism.laws)
-    (contextual _ g.K.Mechanism.meaning g.met.K.Mechanism.laws) in
+    let it = either g.N.Mechanism.REQUESTS g.N.Mechanism.meaning g.K.Mechanism.meaning in
+    let laws = lawful _ _ g.N.Mechanism.meaning g.K.Mechanism.meaning g.met.N.Mechanism.laws g.met.K.Mechanism.laws in
     let tells = g.C.CredentialsProxy.told in
     elim c.match-answer.branch [
       | in-Ok w ↦ subst (λ r. HasAcceptedTurn it tells start d r c.answer.new.self) (sym w.result-is) (w.in-Ok.ensures.step start d token told begun)
@@ -39,7 +37,7 @@ returns-clause-step g c = λ start d token told begun.
 
 pub returns-clause-cause : goal.returns-clause-cause
 returns-clause-cause g c = λ start d same proxy begun.
-    let it = either g.N.Mechanism.meaning g.K.Mechanism.meaning in
+    let it = either g.N.Mechanism.REQUESTS g.N.Mechanism.meaning g.K.Mechanism.meaning in
     let tells = g.C.CredentialsProxy.told in
     let faults = g.C.CredentialsProxy.faults in
     let new = c.answer.new.self in

@@ -7,7 +7,7 @@ use Rattle.sspi_credssp.proofs.server.CredSspServer.open.Goals as goal
 
 pub returns-clause-opens : goal.returns-clause-opens
 returns-clause-opens g c =
-    let it = either g.N.Mechanism.meaning g.K.Mechanism.meaning in
+    let it = either g.N.Mechanism.REQUESTS g.N.Mechanism.meaning g.K.Mechanism.meaning in
     let here : c.args.self.now.context ≡ Some c.in-Some.context = search rules in
     let idle : c.self.inside.acts ≡ no_acts = search rules in
     let acts = c.open_credentials.new.acts in
@@ -18,5 +18,5 @@ returns-clause-opens g c =
 
 pub returns-clause-cause : goal.returns-clause-cause
 returns-clause-cause g c =
-    opened_cause (either g.N.Mechanism.meaning g.K.Mechanism.meaning) c.args.auth_info.now c.in-Ok.blob.now c.open_credentials.new.context
+    opened_cause (either g.N.Mechanism.REQUESTS g.N.Mechanism.meaning g.K.Mechanism.meaning) c.args.auth_info.now c.in-Ok.blob.now c.open_credentials.new.context
     c.open_credentials.new.acts.opened c.open_credentials.result c.in-Ok.ensures.blob c.open_credentials.ensures.cause

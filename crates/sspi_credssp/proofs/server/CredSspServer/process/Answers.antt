@@ -14,14 +14,14 @@ returns-in-Ok-clause-turn g c =
 
 pub returns-in-Ok-clause-step : goal.returns-in-Ok-clause-step
 returns-in-Ok-clause-step g c =
-    let it = either g.N.Mechanism.meaning g.K.Mechanism.meaning in
+    let it = either g.N.Mechanism.REQUESTS g.N.Mechanism.meaning g.K.Mechanism.meaning in
     let begun = subst (λ v. IfContext c.begin.new.self.context
     (Begun it v.context v.handle (ForServer v.mode) Inbound None c.begin.new.self.handle)) c.forget_last_call.ensures c.in-Ok.ensures.begun in
     c.take-in-Ok.ensures.step c.args.self.now c.args.ts_request (search rules) (search rules) begun
 
 pub returns-in-Ok-clause-cause : goal.returns-in-Ok-clause-cause
 returns-in-Ok-clause-cause g c =
-    let it = either g.N.Mechanism.meaning g.K.Mechanism.meaning in
+    let it = either g.N.Mechanism.REQUESTS g.N.Mechanism.meaning g.K.Mechanism.meaning in
     let begun = subst (λ v. IfContext c.begin.new.self.context
     (Begun it v.context v.handle (ForServer v.mode) Inbound None c.begin.new.self.handle)) c.forget_last_call.ensures c.in-Ok.ensures.begun in
     server_cause_past it g.C.CredentialsProxy.told g.C.CredentialsProxy.faults c.args.self.now c.take-in-Ok.new.self c.args.ts_request _ _
@@ -30,7 +30,7 @@ returns-in-Ok-clause-cause g c =
 
 pub returns-in-Err-clause-cause : goal.returns-in-Err-clause-cause
 returns-in-Err-clause-cause g c = λ memory.
-    let it = either g.N.Mechanism.meaning g.K.Mechanism.meaning in
+    let it = either g.N.Mechanism.REQUESTS g.N.Mechanism.meaning g.K.Mechanism.meaning in
     let kind = c.in-Err.error.error_type in
     let same : c.refusal.result.error ≡ c.in-Err.error = search rules in
     rw same
