@@ -91,45 +91,26 @@ module _ {K P : Type 0} (k : Meaning Setting K) (told : P → Option (List AuthI
   nego_check state status nego may = subst (λ (s : CredSspState). MayCheck s status) nego may
 
   -- a server checks no proof in its first turn
-<<<<<<< HEAD
-  first_checks : (first mid : ServerView (SspiContext NtlmState K) P) (d : TsRequest) (came : Came) → IsFreshServer first → WentOn came →
-      ServerMakes (either 0 ntlm_meaning k) told faults first d came mid → mid.acts.checked ≡ true → ⊥
-  first_checks first mid d (Replied reply) fresh went makes checked =
-=======
   first_checks : (first mid : ServerView (SspiContext NtlmState K) P) (d : TsRequest) (out : Outcome) → IsFreshServer first → GoesOn out →
       ServerMakes (either 0 ntlm_meaning k) told faults first d out mid → mid.acts.checked ≡ true → ⊥
   first_checks first mid d (outcome.Reply reply) fresh went makes checked =
->>>>>>> lead-mapped
       first_not_over first mid d mid.acts.status fresh.context makes.1 (nego_check first.state mid.acts.status fresh.state (makes.0.turn.acts.checked checked).0)
   first_checks first mid d (outcome.Final reply) fresh went makes checked = makes
   first_checks first mid d outcome.Finished fresh went makes checked = went
   first_checks first mid d (outcome.Refused kind reply) fresh went makes checked = went
 
-<<<<<<< HEAD
-  made_checks : (first old now : ServerView (SspiContext NtlmState K) P) (u : end.Turn) → old ≡ first → IsFreshServer first → WentOn u.came →
-      ServerMade (either 0 ntlm_meaning k) told faults failing old u now → u.acts.checked ≡ true → ⊥
-  made_checks first old now u same fresh went made checked =
-      first_checks first made.mid u.delivered u.came fresh went
-      (subst (λ (x : ServerView (SspiContext NtlmState K) P). ServerMakes (either 0 ntlm_meaning k) told faults x u.delivered u.came made.mid) same made.makes)
-      (sym (ap (λ (t : end.Turn). t.acts.checked) made.turn) ∙ checked)
-=======
   made_checks : (first old now : ServerView (SspiContext NtlmState K) P) (u : Turn) → old ≡ first → IsFreshServer first → GoesOn u.outcome →
       ServerMade (either 0 ntlm_meaning k) told faults failing old u now → u.acts.checked ≡ true → ⊥
   made_checks first old now u same fresh went made checked =
       first_checks first made.mid u.delivered u.outcome fresh went
       (subst (λ (x : ServerView (SspiContext NtlmState K) P). ServerMakes (either 0 ntlm_meaning k) told faults x u.delivered u.outcome made.mid) same made.makes)
       (sym (ap (λ (t : Turn). t.acts.checked) made.turn) ∙ checked)
->>>>>>> lead-mapped
 
   exchange_alone : (checked proved : Bool) → (checked && proved) || false ≡ true → checked ≡ true
   exchange_alone true proved h = refl
   exchange_alone false proved h = absurd cc
 
-<<<<<<< HEAD
-  pub three_of_server : (first now : ServerView (SspiContext NtlmState K) P) (turns : List end.Turn) → IsFreshServer first → OthersWentOn turns → HasExchanged turns →
-=======
   pub three_of_server : (first now : ServerView (SspiContext NtlmState K) P) (turns : List Turn) → IsFreshServer first → OthersGoOn turns → HasExchanged turns →
->>>>>>> lead-mapped
       ServerHistory (either 0 ntlm_meaning k) told faults failing first turns now → 3 ≤ length turns
   three_of_server first now [] fresh others has history = absurd has
   three_of_server first now (t ∷ []) fresh others has history = absurd (cc (has))
@@ -164,11 +145,7 @@ module _ {K P : Type 0} (k : Meaning Setting K) (told : P → Option (List AuthI
   -- an exchange that is Ok had three messages of the client
   pub ok_three : (base log : List Carried) (start now limit : ℕ) (result : Result Delegation DelegateError) (turns : List Turn)
       (first server : ServerView (SspiContext NtlmState K) P) → RunEnds base start limit result turns log now → IsFreshServer first →
-<<<<<<< HEAD
-      OthersWentOn (server_turns turns) → OnOk result (HasExchanged (server_turns turns)) →
-=======
       OthersGoOn (server_turns turns) → OnOk result (HasExchanged (server_turns turns)) →
->>>>>>> lead-mapped
       ServerHistory (either 0 ntlm_meaning k) told faults failing first (server_turns turns) server → IfOk result (λ delegation. 3 ≤ delegation.turns)
   ok_three base log start now limit (Ok delegation) turns first server ends fresh others has history =
       let three = three_turns turns ends.0.order ends.0.newest (three_of_server k told faults failing first server (server_turns turns) fresh others has history) in
