@@ -14,6 +14,7 @@ use Rattle.sspi_credssp.specs.Client.{ClientView, IsFreshClient}
 use Rattle.sspi_credssp.specs.Context.{ContextSetting}
 use Rattle.sspi_credssp.specs.PublicKey.{prescribed}
 use Rattle.sspi_credssp.specs.Requests.{is_code, nonce_of, unless_empty}
+use Rattle.sspi_credssp.specs.Proxy.{ProxyMeaning}
 use Rattle.sspi_credssp.specs.Server.{ServerView, IsFreshServer}
 use Rattle.sspi_credssp.specs.ServerTurn.{IsOver, HoldsIdentity}
 use Rattle.sspi_credssp.specs.declared.turn.Outcome.{Outcome}
@@ -47,10 +48,9 @@ comes_map (Refused kind reply) Q R more h = h
 is_no_code : (d : TsRequest) → d.error_code ≡ None → is_code d.error_code ≡ false
 is_no_code d none = rw none refl
 
-module _ {C D P : Type 0} (c : Meaning ContextSetting C) (laws : IsContext c) (k : KdcCalls D) (told : P → Option (List AuthIdentity))
-    (a : ClientView C) (b : ServerView C P) (kdc_first : D) (j : ℕ) (early : Bool) (it : IsNegotiation c laws k told a b kdc_first j early)
-    (text : List ℕ) (identity : AuthIdentity) (alike : AreAlike a b text identity) (client_new : IsFreshClient a) (server_new : IsFreshServer b)
-    (faults : P → ℕ) (failing : P → Option (List ℕ)) where
+module _ {C D P : Type 0} (c : Meaning ContextSetting C) (laws : IsContext c) (k : KdcCalls D) (p : ProxyMeaning P)
+    (a : ClientView C) (b : ServerView C P) (kdc_first : D) (j : ℕ) (early : Bool) (it : IsNegotiation c laws k p a b kdc_first j early)
+    (text : List ℕ) (identity : AuthIdentity) (alike : AreAlike a b text identity) (client_new : IsFreshClient a) (server_new : IsFreshServer b) where
   abbrev CView : Type 0
   CView = ClientView C
 
@@ -58,25 +58,25 @@ module _ {C D P : Type 0} (c : Meaning ContextSetting C) (laws : IsContext c) (k
   SView = ServerView C P
 
   abbrev given_of : ℕ → TsRequest
-  given_of n = given_token c laws k told a b kdc_first j early it text identity alike n
+  given_of n = given_token c laws k p a b kdc_first j early it text identity alike n
 
   abbrev up_of : ℕ → TsRequest
-  up_of n = up_token c laws k told a b kdc_first j early it text identity alike n
+  up_of n = up_token c laws k p a b kdc_first j early it text identity alike n
 
   abbrev down_of : ℕ → TsRequest
-  down_of n = down_token c laws k told a b kdc_first j early it text identity alike n
+  down_of n = down_token c laws k p a b kdc_first j early it text identity alike n
 
   abbrev proof_of : TsRequest
-  proof_of = proof_message c laws k told a b kdc_first j early it text identity alike
+  proof_of = proof_message c laws k p a b kdc_first j early it text identity alike
 
   abbrev nonce_sent : Option (List ℕ)
-  nonce_sent = sent_nonce c laws k told a b kdc_first j early it text identity alike
+  nonce_sent = sent_nonce c laws k p a b kdc_first j early it text identity alike
 
   abbrev answer_of : TsRequest
-  answer_of = answer_message c laws k told a b kdc_first j early it text identity alike
+  answer_of = answer_message c laws k p a b kdc_first j early it text identity alike
 
   abbrev last_of : TsRequest
-  last_of = last_message c laws k told a b kdc_first j early it text identity alike
+  last_of = last_message c laws k p a b kdc_first j early it text identity alike
 
   -- ---- where the client stands
 
@@ -199,13 +199,13 @@ module _ {C D P : Type 0} (c : Meaning ContextSetting C) (laws : IsContext c) (k
   given_next Last is = absurd cc
 
   each_up : (i : Round j) → IsMessage (up i)
-  each_up (Token n rest e) = up_fits c laws k told a b kdc_first j early it text identity alike n (within n rest e)
-  each_up Proof = proof_fits c laws k told a b kdc_first j early it text identity alike
-  each_up Last = last_fits c laws k told a b kdc_first j early it text identity alike
+  each_up (Token n rest e) = up_fits c laws k p a b kdc_first j early it text identity alike n (within n rest e)
+  each_up Proof = proof_fits c laws k p a b kdc_first j early it text identity alike
+  each_up Last = last_fits c laws k p a b kdc_first j early it text identity alike
 
   each_down : (i : Round j) → is_last i ≡ false → IsMessage (down i)
-  each_down (Token n rest e) is = down_fits c laws k told a b kdc_first j early it text identity alike n (within n rest e)
-  each_down Proof is = answer_fits c laws k told a b kdc_first j early it text identity alike
+  each_down (Token n rest e) is = down_fits c laws k p a b kdc_first j early it text identity alike n (within n rest e)
+  each_down Proof is = answer_fits c laws k p a b kdc_first j early it text identity alike
   each_down Last is = absurd cc
 
   -- ---- the client's turns
@@ -233,7 +233,7 @@ module _ {C D P : Type 0} (c : Meaning ContextSetting C) (laws : IsContext c) (k
     is = at.is;
     walks = walks_at n x kdc d less at (ap (λ (r : TsRequest). r.nego_tokens) is);
     version = ap (λ (r : TsRequest). r.version) is ∙ version_given n;
-    code = is_no_code d (ap (λ (r : TsRequest). r.error_code) is ∙ (given_only c laws k told a b kdc_first j early it text identity alike n).code);
+    code = is_no_code d (ap (λ (r : TsRequest). r.error_code) is ∙ (given_only c laws k p a b kdc_first j early it text identity alike n).code);
     begins = it.client_begins;
   }
 
@@ -289,7 +289,7 @@ module _ {C D P : Type 0} (c : Meaning ContextSetting C) (laws : IsContext c) (k
         taker = it.client_taker;
         version = ap (λ (r : TsRequest). r.version) is;
         code = is_no_code d (ap (λ (r : TsRequest). r.error_code) is
-            ∙ no_code (carries_code b.version) answer_of.error_code (answer_code c laws k told a b kdc_first j early it text identity alike));
+            ∙ no_code (carries_code b.version) answer_of.error_code (answer_code c laws k p a b kdc_first j early it text identity alike));
         proof = ap (λ (r : TsRequest). r.pub_key_auth) is ∙ ap (λ (p : List ℕ). Some (it.downs 0 p)) (sym (same_text endpoint.Server));
         text_is = alike.text_is;
         begins = it.client_begins;
@@ -308,25 +308,25 @@ module _ {C D P : Type 0} (c : Meaning ContextSetting C) (laws : IsContext c) (k
   -- ---- the server's turns
 
   takes_at : (n : ℕ) (y : SView) (d : TsRequest) → n ≤ last_step early j → ServerNego n y → d.nego_tokens ≡ Some (it.client_step n).output →
-      Takes c laws told y d.nego_tokens (it.server_step n) (it.server_context (suc n)) it.server_handle
+      Takes c laws p y d.nego_tokens (it.server_step n) (it.server_context (suc n)) it.server_handle
   takes_at zero y d less at token =
-      subst (λ (t : Option (List ℕ)). Takes c laws told y t (it.server_step 0) (it.server_context 1) it.server_handle) (sym token) (it.takes_first y at.is.same at.has)
+      subst (λ (t : Option (List ℕ)). Takes c laws p y t (it.server_step 0) (it.server_context 1) it.server_handle) (sym token) (it.takes_first y at.is.same at.has)
   takes_at (suc n) y d less at token =
-      subst (λ (t : Option (List ℕ)). Takes c laws told y t (it.server_step (suc n)) (it.server_context (suc (suc n))) it.server_handle) (sym token)
+      subst (λ (t : Option (List ℕ)). Takes c laws p y t (it.server_step (suc n)) (it.server_context (suc (suc n))) it.server_handle) (sym token)
       (it.takes n y less at.is.same at.has.0 at.has.1)
 
   -- a token that may be left out where it is empty
-  takes_some : (y : SView) (step : Step) (z : C) (handle : _) (token : List ℕ) → Takes c laws told y (Some token) step z handle → Takes c laws told y (unless_empty token) step z handle
+  takes_some : (y : SView) (step : Step) (z : C) (handle : _) (token : List ℕ) → Takes c laws p y (Some token) step z handle → Takes c laws p y (unless_empty token) step z handle
   takes_some y step z handle [] takes = record { done = takes.done; never = takes.never }
   takes_some y step z handle (x ∷ token) takes = takes
 
   server_given : (n : ℕ) (y : SView) (d : TsRequest) → ServerNego n y → d.version ≡ a.version →
-      Takes c laws told y d.nego_tokens (it.server_step n) (it.server_context (suc n)) it.server_handle →
-      server.NegoGiven c laws told faults b y a.version d (it.server_step n) (it.server_context (suc n)) it.server_handle
+      Takes c laws p y d.nego_tokens (it.server_step n) (it.server_context (suc n)) it.server_handle →
+      server.NegoGiven c laws p b y a.version d (it.server_step n) (it.server_context (suc n)) it.server_handle
   server_given n y d at version takes = record { is = at.is; takes = takes; version = version; begins = it.server_begins }
 
   server_token : (n : ℕ) (y mid : SView) (d : TsRequest) (out : Outcome) → n < last_step early j → ServerNego n y → d ≡ carried (up_of n) →
-      ServerMakes c told faults y d out mid → Comes out (λ r. (r ≡ down_of n) × ServerNego (suc n) (record mid { output = [] }))
+      ServerMakes c p y d out mid → Comes out (λ r. (r ≡ down_of n) × ServerNego (suc n) (record mid { output = [] }))
   server_token n y mid d out less at is makes =
       comes_map out _ _
       (λ r h. (
@@ -336,11 +336,11 @@ module _ {C D P : Type 0} (c : Meaning ContextSetting C) (laws : IsContext c) (k
           has = (held_is c laws mid.context _ h.2 h.1.sealed_is h.1.unsealed_is, h.3);
         },
       ))
-      (server.token_turn c laws told faults b y a.version d (it.server_step n) (it.server_context (suc n)) it.server_handle
+      (server.token_turn c laws p b y a.version d (it.server_step n) (it.server_context (suc n)) it.server_handle
       (server_given n y d at (ap (λ (r : TsRequest). r.version) is) (takes_at n y d (omega (arith, less)) at (ap (λ (r : TsRequest). r.nego_tokens) is)))
       out mid (it.server_goes n less) makes)
 
-  proof_given : (d : TsRequest) → d ≡ carried proof_of → proofs.ProofGiven c laws told faults b a.version d it.peer_context it.downs it.ups
+  proof_given : (d : TsRequest) → d ≡ carried proof_of → proofs.ProofGiven c laws p b a.version d it.peer_context it.downs it.ups
   proof_given d is =
       let nonce : d.client_nonce ≡ nonce_sent = ap (λ (r : TsRequest). r.client_nonce) is in
       record {
@@ -373,17 +373,17 @@ module _ {C D P : Type 0} (c : Meaning ContextSetting C) (laws : IsContext c) (k
   less_last true n less = less
   less_last false n less = omega (arith, less)
 
-  peer_at : (y : SView) (m : ℕ) → last_step early j ≡ m → told y.proxy ≡ told b.proxy → IsPeer c laws (told y.proxy) (it.server_context (suc m)) it.peer_context
+  peer_at : (y : SView) (m : ℕ) → last_step early j ≡ m → p.told y.proxy ≡ p.told b.proxy → IsPeer c laws (p.told y.proxy) (it.server_context (suc m)) it.peer_context
   peer_at y m is tells =
       subst (λ (t : Option (List AuthIdentity)). IsPeer c laws t (it.server_context (suc m)) it.peer_context) (sym tells)
-      (subst (λ (n : ℕ). IsPeer c laws (told b.proxy) (it.server_context (suc n)) it.peer_context) is it.peer)
+      (subst (λ (n : ℕ). IsPeer c laws (p.told b.proxy) (it.server_context (suc n)) it.peer_context) is it.peer)
 
   over_at : (m : ℕ) → last_step early j ≡ m → IsOver (Some (it.server_step m).status)
   over_at m is = subst (λ (n : ℕ). IsOver (Some (it.server_step n).status)) is it.server_ends
 
   -- the last token of the server, after which its authentication may be over
   last_token : (early2 : Bool) → early ≡ early2 → (n : ℕ) (y mid : SView) (d : TsRequest) (out : Outcome) → n ≡ j → ServerNego n y → d ≡ carried (up_of n) →
-      told y.proxy ≡ told b.proxy → faults mid.proxy ≡ faults y.proxy → faults y.proxy < 2 ^ 64 - 1 → ServerMakes c told faults y d out mid →
+      p.told y.proxy ≡ p.told b.proxy → p.faults mid.proxy ≡ p.faults y.proxy → p.faults y.proxy < 2 ^ 64 - 1 → ServerMakes c p y d out mid →
       Comes out (λ r. (r ≡ down_of n) × BeforeProof early2 (record mid { output = [] }))
   last_token true when n y mid d out is_last at is tells still calm makes =
       let m : last_step early j ≡ n = ap (λ (x : Bool). last_step x j) when ∙ sym is_last in
@@ -395,10 +395,10 @@ module _ {C D P : Type 0} (c : Meaning ContextSetting C) (laws : IsContext c) (k
           holds = record { held = h.2.held; there = h.2.there; same = h.2.same };
         },
       ))
-      (proofs.over_turn c laws told faults b y a.version d (it.server_step n) (it.server_context (suc n)) it.peer_context it.server_handle
+      (proofs.over_turn c laws p b y a.version d (it.server_step n) (it.server_context (suc n)) it.peer_context it.server_handle
       (server_given n y d at (ap (λ (r : TsRequest). r.version) is) (takes_at n y d (omega (arith, m)) at (ap (λ (r : TsRequest). r.nego_tokens) is)))
       (peer_at y n m tells) (over_at n m)
-      (ap (λ (r : TsRequest). r.pub_key_auth) is ∙ (taken_only c laws k told a b kdc_first j early it text identity alike n).proof)
+      (ap (λ (r : TsRequest). r.pub_key_auth) is ∙ (taken_only c laws k p a b kdc_first j early it text identity alike n).proof)
       (subst (λ (x : ℕ). (it.server_step x).output ≢ []) (sym is_last) (it.server_speaks when)) out mid still calm makes)
   last_token false when n y mid d out is_last at is tells still calm makes =
       let m : last_step early j ≡ suc j = ap (λ (x : Bool). last_step x j) when in
@@ -406,24 +406,24 @@ module _ {C D P : Type 0} (c : Meaning ContextSetting C) (laws : IsContext c) (k
       (server_token n y mid d out (omega (arith, m, is_last)) at is makes)
 
   answers_proof : (early2 : Bool) → early ≡ early2 → (y mid : SView) (d : TsRequest) (out : Outcome) → BeforeProof early2 y → d ≡ carried proof_of →
-      told y.proxy ≡ told b.proxy → faults mid.proxy ≡ faults y.proxy → faults y.proxy < 2 ^ 64 - 1 → ServerMakes c told faults y d out mid →
+      p.told y.proxy ≡ p.told b.proxy → p.faults mid.proxy ≡ p.faults y.proxy → p.faults y.proxy < 2 ^ 64 - 1 → ServerMakes c p y d out mid →
       Comes out (λ r. (r ≡ answer_of) × ServerLast (record mid { output = [] }))
   answers_proof true when y mid d out at is tells still calm makes =
       comes_map out _ _ (λ r h. answer_more mid d r is h)
-      (proofs.proof_turn c laws told faults b y a.version d it.peer_context it.downs it.ups (proof_given d is) at.is at.holds (ap (λ (r : TsRequest). r.version) is)
+      (proofs.proof_turn c laws p b y a.version d it.peer_context it.downs it.ups (proof_given d is) at.is at.holds (ap (λ (r : TsRequest). r.version) is)
       it.server_begins out mid makes)
   answers_proof false when y mid d out at is tells still calm makes =
       let m : last_step early j ≡ suc j = ap (λ (x : Bool). last_step x j) when in
       let token : d.nego_tokens ≡ unless_empty (it.client_step (suc j)).output = ap (λ (r : TsRequest). r.nego_tokens) is in
-      let takes = subst (λ (t : Option (List ℕ)). Takes c laws told y t (it.server_step (suc j)) (it.server_context (suc (suc j))) it.server_handle) (sym token)
+      let takes = subst (λ (t : Option (List ℕ)). Takes c laws p y t (it.server_step (suc j)) (it.server_context (suc (suc j))) it.server_handle) (sym token)
       (takes_some y _ _ it.server_handle (it.client_step (suc j)).output (it.takes j y (omega (arith, m)) at.is.same at.has.0 at.has.1)) in
       comes_map out _ _ (λ r h. answer_more mid d r is h)
-      (proofs.exchange_turn c laws told faults b y a.version d (it.server_step (suc j)) (it.server_context (suc (suc j))) it.peer_context it.server_handle
+      (proofs.exchange_turn c laws p b y a.version d (it.server_step (suc j)) (it.server_context (suc (suc j))) it.peer_context it.server_handle
       (server_given (suc j) y d at (ap (λ (r : TsRequest). r.version) is) takes) (peer_at y (suc j) m tells) (over_at (suc j) m) it.downs it.ups (proof_given d is)
       out mid still calm makes)
 
-  server_goes : (i : Round j) (y mid : SView) (d : TsRequest) (out : Outcome) → is_last i ≡ false → ServerAt i y → d ≡ carried (up i) → told y.proxy ≡ told b.proxy →
-      faults mid.proxy ≡ faults y.proxy → faults y.proxy < 2 ^ 64 - 1 → ServerMakes c told faults y d out mid →
+  server_goes : (i : Round j) (y mid : SView) (d : TsRequest) (out : Outcome) → is_last i ≡ false → ServerAt i y → d ≡ carried (up i) → p.told y.proxy ≡ p.told b.proxy →
+      p.faults mid.proxy ≡ p.faults y.proxy → p.faults y.proxy < 2 ^ 64 - 1 → ServerMakes c p y d out mid →
       Comes out (λ r. (r ≡ down i) × ServerAt (next i) (record mid { output = [] }))
   server_goes (Token n zero e) y mid d out goes at is tells still calm makes = last_token early refl n y mid d out (is_j n e) at is tells still calm makes
   server_goes (Token n (suc rest) e) y mid d out goes at is tells still calm makes =
@@ -432,11 +432,11 @@ module _ {C D P : Type 0} (c : Meaning ContextSetting C) (laws : IsContext c) (k
   server_goes Last y mid d out goes at is tells still calm makes = absurd cc
 
   server_ends : (i : Round j) (y mid : SView) (d : TsRequest) (out : Outcome) → is_last i ≡ true → ServerAt i y → d ≡ carried (up i) →
-      ServerMakes c told faults y d out mid → Ends out ((identity2 : AuthIdentity) → HoldsIdentity c mid.context d.auth_info identity2 → identity2 ≡ identity)
+      ServerMakes c p y d out mid → Ends out ((identity2 : AuthIdentity) → HoldsIdentity c mid.context d.auth_info identity2 → identity2 ≡ identity)
   server_ends (Token n rest e) y mid d out last at is makes = absurd cc
   server_ends Proof y mid d out last at is makes = absurd cc
   server_ends Last y mid d out last at is makes =
-      server_last.last_turn c laws told faults b y a.version d it.peer_context it.ups text identity (record {
+      server_last.last_turn c laws p b y a.version d it.peer_context it.ups text identity (record {
         is = at.is;
         holds = at.holds;
         taker = it.server_taker;
@@ -450,7 +450,7 @@ module _ {C D P : Type 0} (c : Meaning ContextSetting C) (laws : IsContext c) (k
   none_before = omega arith
 
   -- an authentication that is evaluated tells all that the ends make of their turns
-  pub known : IsKnown c k told faults failing a b kdc_first (suc (suc j)) identity
+  pub known : IsKnown c k p a b kdc_first (suc (suc j)) identity
   known = record {
     Round = Round j;
     start = Token 0 j none_before;

@@ -1,6 +1,6 @@
 -- What a mode supplies of its authentication, and the messages of an undisturbed exchange, which follow of it.
 use Rattle.std.proofs.Common.{◌≡◌, ◌≢◌, ℕ, zero, suc, ◌+◌, ◌≤◌, ◌<◌, ◌^◌, Bool, true, false, List, [], ◌∷◌, length, Option, None, Some, Ok, refl, ap, arith, nat_lt, if◌then◌else◌}
-use Rattle.sspi_types.specs.declared.credential_use.CredentialUse.TheVariants.{Inbound, Outbound}
+use Rattle.sspi_types.specs.declared.credential_use.CredentialUse.TheVariants.{Outbound}
 use Rattle.sspi_types.specs.declared.error_kind.ErrorKind.{ErrorKind}
 use Rattle.sspi_types.specs.declared.security_status.SecurityStatus.TheVariants as statuses
 use Rattle.sspi_names.specs.declared.credentials.CredentialsBuffers.{CredentialsBuffers}
@@ -15,10 +15,12 @@ use Rattle.sspi_credssp.specs.declared.public_key.EndpointType.TheVariants as en
 use Rattle.sspi_credssp.specs.Begun.{BeginCause}
 use Rattle.sspi_credssp.specs.Client.{ClientView}
 use Rattle.sspi_credssp.specs.ClientTurn.{SameClient}
-use Rattle.sspi_credssp.specs.Context.{ContextSetting, ForClient, ForServer}
+use Rattle.sspi_credssp.specs.Context.{ContextSetting, ForClient}
 use Rattle.sspi_credssp.specs.Credentials.{delegated_text, delegated_identity}
 use Rattle.sspi_credssp.specs.PublicKey.{prescribed}
 use Rattle.sspi_credssp.specs.Requests.{nonce_of, unless_empty}
+use Rattle.sspi_credssp.specs.Proxy.{ProxyMeaning}
+use Rattle.sspi_credssp.specs.ServerCause.{MakeCause}
 use Rattle.sspi_credssp.specs.Server.{ServerView}
 use Rattle.sspi_credssp.specs.ServerTurn.{IsOver, SameServer}
 use Rattle.sspi_delegate.specs.Asking.{KdcCalls}
@@ -45,7 +47,7 @@ abbrev pub last_step : Bool → ℕ → ℕ
 last_step true j = j
 last_step false j = suc j
 
-module _ {C D P : Type 0} (c : Meaning ContextSetting C) (laws : IsContext c) (k : KdcCalls D) (told : P → Option (List AuthIdentity))
+module _ {C D P : Type 0} (c : Meaning ContextSetting C) (laws : IsContext c) (k : KdcCalls D) (p : ProxyMeaning P)
     (a : ClientView C) (b : ServerView C P) (kdc_first : D) where
   -- An authentication of j + 1 messages of the client that ask for more and one that ends it, evaluated: the steps of both
   -- ends and their contexts, each by its number from 0 on; `early` where the server's ends before the client's.
@@ -63,7 +65,7 @@ module _ {C D P : Type 0} (c : Meaning ContextSetting C) (laws : IsContext c) (k
     pub ups : ℕ → List ℕ → List ℕ
     pub downs : ℕ → List ℕ → List ℕ
     pub client_begins : (kind : ErrorKind) → BeginCause c (ForClient a.mode) Outbound (Some a.credentials) kind → ⊥
-    pub server_begins : (kind : ErrorKind) → BeginCause c (ForServer b.mode) Inbound None kind → ⊥
+    pub server_begins : (before now : P) (kind : ErrorKind) → MakeCause c p b.mode before now kind → ⊥
     pub kdc_start : KdcAt 0 kdc_first
     pub walks_first : (old : ClientView C) (kdc : D) → SameClient c a old → old.context ≡ None → KdcAt 0 kdc →
         Walks c laws k old kdc None (client_step 0) (client_context 1) client_handle (KdcAt 1)
@@ -71,16 +73,16 @@ module _ {C D P : Type 0} (c : Meaning ContextSetting C) (laws : IsContext c) (k
         KdcAt (suc n) kdc →
         Walks c laws k old kdc (Some (server_step n).output) (client_step (suc n)) (client_context (suc (suc n))) client_handle (KdcAt (suc (suc n)))
     pub takes_first : (old : ServerView C P) → SameServer c b old → old.context ≡ None →
-        Takes c laws told old (Some (client_step 0).output) (server_step 0) (server_context 1) server_handle
+        Takes c laws p old (Some (client_step 0).output) (server_step 0) (server_context 1) server_handle
     pub takes : (n : ℕ) (old : ServerView C P) → suc n ≤ last_step early j → SameServer c b old → old.context ≡ Some (server_context (suc n)) →
         old.handle ≡ server_handle →
-        Takes c laws told old (Some (client_step (suc n)).output) (server_step (suc n)) (server_context (suc (suc n))) server_handle
+        Takes c laws p old (Some (client_step (suc n)).output) (server_step (suc n)) (server_context (suc (suc n))) server_handle
     pub client_goes : (n : ℕ) → n ≤ j → (client_step n).status ≡ statuses.ContinueNeeded
     pub client_ends : (client_step (suc j)).status ≡ statuses.Ok
     pub server_goes : (n : ℕ) → n < last_step early j → (server_step n).status ≡ statuses.ContinueNeeded
     pub server_ends : IsOver (Some (server_step (last_step early j)).status)
     pub server_speaks : early ≡ true → (server_step j).output ≢ []
-    pub peer : IsPeer c laws (told b.proxy) (server_context (suc (last_step early j))) peer_context
+    pub peer : IsPeer c laws (p.told b.proxy) (server_context (suc (last_step early j))) peer_context
     pub client_maker : IsMaker c (client_context (suc (suc j))) ups
     pub client_taker : IsTaker c (client_context (suc (suc j))) downs
     pub server_maker : IsMaker c peer_context downs
@@ -128,8 +130,8 @@ unless_size (x ∷ token) = omega arith
 
 -- ---- the messages
 
-module _ {C D P : Type 0} (c : Meaning ContextSetting C) (laws : IsContext c) (k : KdcCalls D) (told : P → Option (List AuthIdentity))
-    (a : ClientView C) (b : ServerView C P) (kdc_first : D) (j : ℕ) (early : Bool) (it : IsNegotiation c laws k told a b kdc_first j early)
+module _ {C D P : Type 0} (c : Meaning ContextSetting C) (laws : IsContext c) (k : KdcCalls D) (p : ProxyMeaning P)
+    (a : ClientView C) (b : ServerView C P) (kdc_first : D) (j : ℕ) (early : Bool) (it : IsNegotiation c laws k p a b kdc_first j early)
     (text : List ℕ) (identity : AuthIdentity) (alike : AreAlike a b text identity) where
   -- what the client is given before its token of a number
   abbrev pub given_token : ℕ → TsRequest

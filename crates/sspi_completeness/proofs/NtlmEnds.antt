@@ -4,6 +4,7 @@ use Rattle.sspi_types.specs.declared.credential_use.CredentialUse.{CredentialUse
 use Rattle.sspi_types.specs.declared.credential_use.CredentialUse.TheVariants.{Inbound, Outbound}
 use Rattle.sspi_names.specs.declared.credentials.Credentials.{Credentials}
 use Rattle.sspi_names.specs.declared.credentials.CredentialsBuffers.{CredentialsBuffers}
+use Rattle.sspi_names.specs.declared.identity.AuthIdentity.{AuthIdentity}
 use Rattle.sspi_mech.specs.declared.config.NtlmConfig.{NtlmConfig}
 use Rattle.sspi_mech.specs.declared.protection.Direction.{Direction}
 use Rattle.sspi_mech.specs.declared.step.Answer.{Answer}
@@ -17,10 +18,8 @@ use Rattle.sspi_mech.specs.NtlmStage.{NtlmState, own_direction, peer_direction}
 use Rattle.sspi_mech.specs.Protection.{recounted, counts_of, SealsBy}
 use Rattle.sspi_mech.specs.Settings.{Setting}
 use Rattle.sspi_credssp.specs.declared.context.SspiContext.{SspiContext}
-use Rattle.sspi_credssp.specs.declared.context.SspiContext.TheVariants.{Ntlm, Kerberos}
-use Rattle.sspi_credssp.specs.declared.mode.ClientMode.{ClientMode}
+use Rattle.sspi_credssp.specs.declared.context.SspiContext.TheVariants.{Negotiate, Ntlm, Kerberos}
 use Rattle.sspi_credssp.specs.declared.mode.ClientMode.TheVariants as client
-use Rattle.sspi_credssp.specs.declared.mode.ServerMode.{ServerMode}
 use Rattle.sspi_credssp.specs.declared.mode.ServerMode.TheVariants as server
 use Rattle.sspi_credssp.specs.Begun.{Begun, goes_on, is_new}
 use Rattle.sspi_credssp.specs.Client.{ClientView}
@@ -28,12 +27,8 @@ use Rattle.sspi_credssp.specs.ClientStep.{Asked, Walked, stepped, resumed, still
 use Rattle.sspi_credssp.specs.Context.{ContextSetting, ForClient, ForServer, either}
 use Rattle.sspi_credssp.specs.Counts.{silent, cleared}
 use Rattle.sspi_credssp.proofs.Deliver.{bare_after}
-use Rattle.sspi_completeness.specs.Matching.{config_of}
 use Rattle.sspi_completeness.proofs.Blobs.{blob_of, blob_long, one_text, never_unopened, never_unsealed}
 use Rattle.sspi_completeness.proofs.Ends.{IsMaker, IsTaker}
-
-abbrev pub client_config : ClientMode → NtlmConfig
-client_config (client.Ntlm config) = config
 
 -- the object that sealed and opened nothing
 abbrev pub at_rest : NtlmState → NtlmState
@@ -47,31 +42,35 @@ module _ {K : Type 0} (k : Meaning Setting K) where
   pub as_ntlm : (m : SspiContext NtlmState K) (x : NtlmState) → cleared meaning m ≡ Ntlm x → (y : NtlmState) × (m ≡ Ntlm y) × (at_rest y ≡ x)
   as_ntlm (Ntlm y) x same = (y, refl, let e : at_rest y ≡ x = cc in e)
   as_ntlm (Kerberos y) x same = absurd cc
+  as_ntlm (Negotiate y) x same = absurd cc
 
   -- ---- how the context of a turn begins
 
   abbrev pub IfNtlm : SspiContext NtlmState K → (NtlmState → Type 0) → Type 0
   IfNtlm (Ntlm m) Q = Q m
   IfNtlm (Kerberos m) Q = ⊥
+  IfNtlm (Negotiate m) Q = ⊥
 
-  pub client_first : (mode : ClientMode) (cr : Credentials) (context : Option (SspiContext NtlmState K)) (had handle : Option CredentialsBuffers)
-      (m0 : SspiContext NtlmState K) → context ≡ None → Begun meaning context had (ForClient mode) Outbound (Some cr) handle m0 →
-      IfNtlm m0 (λ m. (m ≡ ntlm_of (client_config mode)) × (acquired Outbound (Some cr) ≡ Ok handle))
-  client_first mode cr context had handle m0 none (goes_on is same) = absurd (cc (is, none))
-  client_first (client.Ntlm config) cr context had handle (Ntlm m0) none (is_new (Ntlm m) is made acquires) = (acquires.1 ∙ made, acquires.0)
-  client_first (client.Ntlm config) cr context had handle (Ntlm m0) none (is_new (Kerberos m) is made acquires) = absurd made
-  client_first (client.Ntlm config) cr context had handle (Kerberos m0) none (is_new (Ntlm m) is made acquires) = absurd acquires
-  client_first (client.Ntlm config) cr context had handle (Kerberos m0) none (is_new (Kerberos m) is made acquires) = absurd made
+  pub client_first : (config : NtlmConfig) (cr : Credentials) (context : Option (SspiContext NtlmState K)) (had handle : Option CredentialsBuffers)
+      (m0 : SspiContext NtlmState K) → context ≡ None → Begun meaning context had (ForClient (client.Ntlm config)) Outbound (Some cr) handle m0 →
+      IfNtlm m0 (λ m. (m ≡ ntlm_of config) × (acquired Outbound (Some cr) ≡ Ok handle))
+  client_first config cr context had handle m0 none (goes_on is same) = absurd (cc (is, none))
+  client_first config cr context had handle (Ntlm m0) none (is_new (Ntlm m) is made acquires) = (acquires.1 ∙ made, acquires.0)
+  client_first config cr context had handle (Kerberos m0) none (is_new (Ntlm m) is made acquires) = absurd acquires
+  client_first config cr context had handle (Negotiate m0) none (is_new (Ntlm m) is made acquires) = absurd acquires
+  client_first config cr context had handle m0 none (is_new (Kerberos m) is made acquires) = absurd made
+  client_first config cr context had handle m0 none (is_new (Negotiate m) is made acquires) = absurd made
 
-  pub server_first : (mode : ServerMode) (context : Option (SspiContext NtlmState K)) (had handle : Option CredentialsBuffers)
-      (m0 : SspiContext NtlmState K) → context ≡ None → Begun meaning context had (ForServer mode) Inbound None handle m0 →
-      IfNtlm m0 (λ m. (m ≡ ntlm_of (config_of mode)) × (handle ≡ None))
-  server_first mode context had handle m0 none (goes_on is same) = absurd (cc (is, none))
-  server_first (server.Ntlm config) context had handle (Ntlm m0) none (is_new (Ntlm m) is made acquires) =
+  pub server_first : (config : NtlmConfig) (told : Option (List AuthIdentity)) (context : Option (SspiContext NtlmState K)) (had handle : Option CredentialsBuffers)
+      (m0 : SspiContext NtlmState K) → context ≡ None → Begun meaning context had (ForServer (server.Ntlm config) told) Inbound None handle m0 →
+      IfNtlm m0 (λ m. (m ≡ ntlm_of config) × (handle ≡ None))
+  server_first config told context had handle m0 none (goes_on is same) = absurd (cc (is, none))
+  server_first config told context had handle (Ntlm m0) none (is_new (Ntlm m) is made acquires) =
       (acquires.1 ∙ made, let e : handle ≡ None = (let a = acquires.0 in cc) in e)
-  server_first (server.Ntlm config) context had handle (Ntlm m0) none (is_new (Kerberos m) is made acquires) = absurd made
-  server_first (server.Ntlm config) context had handle (Kerberos m0) none (is_new (Ntlm m) is made acquires) = absurd acquires
-  server_first (server.Ntlm config) context had handle (Kerberos m0) none (is_new (Kerberos m) is made acquires) = absurd made
+  server_first config told context had handle (Kerberos m0) none (is_new (Ntlm m) is made acquires) = absurd acquires
+  server_first config told context had handle (Negotiate m0) none (is_new (Ntlm m) is made acquires) = absurd acquires
+  server_first config told context had handle m0 none (is_new (Kerberos m) is made acquires) = absurd made
+  server_first config told context had handle m0 none (is_new (Negotiate m) is made acquires) = absurd made
 
   pub goes_on_as : (setting : ContextSetting) (context : Option (SspiContext NtlmState K)) (asked : Option Credentials)
       (had handle : Option CredentialsBuffers) (m0 : SspiContext NtlmState K) (m : NtlmState) (purpose : CredentialUse) → context ≡ Some (Ntlm m) →
@@ -94,7 +93,9 @@ module _ {K : Type 0} (k : Meaning Setting K) where
       meaning.steps m0 args answer m → Stepped begun args answer m
   step_at begun args answer (Ntlm a) (Ntlm b) h steps = record { before = a; after = b; begins = h; steps = steps; same = refl }
   step_at begun args answer (Ntlm a) (Kerberos b) h steps = absurd steps
+  step_at begun args answer (Ntlm a) (Negotiate b) h steps = absurd steps
   step_at begun args answer (Kerberos a) m h steps = absurd h
+  step_at begun args answer (Negotiate a) m h steps = absurd h
 
   pub stepped_once : (laws : IsContext meaning) (begun : NtlmState → Type 0) (start : ClientView (SspiContext NtlmState K)) (handle : Option CredentialsBuffers)
       (token : Option (List ℕ)) (tries : ℕ) (log : List Asked) (answer : Answer) (m : SspiContext NtlmState K) →

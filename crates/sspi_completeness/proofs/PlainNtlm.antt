@@ -41,19 +41,19 @@ use Rattle.sspi_credssp.specs.ClientTurn.{SameClient}
 use Rattle.sspi_credssp.specs.Context.{ContextSetting, ForClient, ForServer, either, has_password}
 use Rattle.sspi_credssp.specs.Counts.{cleared}
 use Rattle.sspi_credssp.specs.Credentials.{delegated_text}
-use Rattle.sspi_credssp.specs.Proxy.{AreCandidates, candidates_of, entry_of, is_named}
+use Rattle.sspi_credssp.specs.Proxy.{ProxyMeaning, AreFound, AreCandidates, candidates_of, entry_of, is_named}
 use Rattle.sspi_credssp.specs.Requests.{token_of}
 use Rattle.sspi_credssp.specs.Server.{ServerView}
 use Rattle.sspi_credssp.specs.ServerCause.{LookUpRefused, failed, nobody, IdentifyCause, nameless, looked, unset}
 use Rattle.sspi_credssp.specs.ServerStep.{IsIdentified, is_identified, server_args}
 use Rattle.sspi_credssp.specs.ServerTurn.{SameServer}
 use Rattle.sspi_delegate.specs.Asking.{KdcCalls}
-use Rattle.sspi_completeness.specs.Matching.{config_of, challenge_of, HasEntry, AreMatching, delegated_as}
+use Rattle.sspi_completeness.specs.Matching.{HasEntry, AreMatching, delegated_as}
 use Rattle.sspi_completeness.proofs.Accepting.{IsPeer, Takes}
 use Rattle.sspi_completeness.proofs.Blobs.{blob_of, blob_length}
 use Rattle.sspi_completeness.proofs.ClientTurns.{Walks}
 use Rattle.sspi_completeness.proofs.Negotiation.{IsNegotiation, AreAlike}
-use Rattle.sspi_completeness.proofs.NtlmEnds.{client_config, at_rest, as_ntlm, IfNtlm, client_first, server_first, goes_on_as, stepped_once, maker, taker}
+use Rattle.sspi_completeness.proofs.NtlmEnds.{at_rest, as_ntlm, IfNtlm, client_first, server_first, goes_on_as, stepped_once, maker, taker}
 use Rattle.sspi_completeness.proofs.NtlmRound.{last_token, logs_on, claimed, first_found, key_is, proof_length, token_length}
 use Rattle.sspi_completeness.proofs.Shortness.{short_name}
 use Rattle.sspi_completeness.proofs.Texts.{HasDelegated, delegates}
@@ -109,7 +109,7 @@ acquires_buffers : (cr : Credentials) (i : AuthIdentity) (handle : Option Creden
 acquires_buffers cr i handle is h =
     let e : acquired Outbound (Some (credentials.AuthIdentity i)) ≡ Ok handle = subst (λ (x : Credentials). acquired Outbound (Some x) ≡ Ok handle) is h in cc
 
-module _ {K D P : Type 0} (k : Meaning Setting K) (laws : IsContext (either 0 ntlm_meaning k)) (calls : KdcCalls D) (told : P → Option (List AuthIdentity)) where
+module _ {K D P : Type 0} (k : Meaning Setting K) (laws : IsContext (either 0 ntlm_meaning k)) (calls : KdcCalls D) (p : ProxyMeaning P) where
   abbrev C : Type 0
   C = SspiContext NtlmState K
 
@@ -147,24 +147,29 @@ module _ {K D P : Type 0} (k : Meaning Setting K) (laws : IsContext (either 0 nt
       let step_is : s ≡ step = cc in
       (step_is, ap (λ (v : NtlmState). Ntlm (at_rest v)) after_is)
   took begun h token y step s (Ntlm x) (Kerberos z) begins outcome accepts = absurd accepts
+  took begun h token y step s (Ntlm x) (Negotiate z) begins outcome accepts = absurd accepts
   took begun h token y step s (Kerberos x) m begins outcome accepts = absurd begins
+  took begun h token y step s (Negotiate x) m begins outcome accepts = absurd begins
 
   took_never : (begun : NtlmState → Type 0) (h : Option CredentialsBuffers) (token : Option (List ℕ)) (y : NtlmState) (step : Step) (error : Error) (m0 m : C) → IfNtlm k m0 begun →
       ((x : NtlmState) → begun x → server_step x.stage x (token_of token) ≡ Goes y step) → error.error_type ≢ InsufficientMemory →
       c.accepts m0 (server_args h token) (Err error) m → ⊥
   took_never begun h token y step error (Ntlm x) (Ntlm z) begins outcome others accepts = let goes = outcome x begins in let stops = accepts.0 others in cc
   took_never begun h token y step error (Ntlm x) (Kerberos z) begins outcome others accepts = accepts
+  took_never begun h token y step error (Ntlm x) (Negotiate z) begins outcome others accepts = accepts
   took_never begun h token y step error (Kerberos x) m begins outcome others accepts = begins
+  took_never begun h token y step error (Negotiate x) m begins outcome others accepts = begins
 
   in_both : (m0 : C) (Q : NtlmState → Type 0) (R : Type 0) → ((x : NtlmState) → Q x → R) → IfNtlm k m0 Q → R
   in_both (Ntlm x) Q R more h = more x h
   in_both (Kerberos x) Q R more h = absurd h
+  in_both (Negotiate x) Q R more h = absurd h
 
   takes_by : (old : ServerView C P) (token : Option (List ℕ)) (begun : Option CredentialsBuffers → NtlmState → Type 0) (y : NtlmState) (step : Step)
       (handle : Option CredentialsBuffers) →
-      ((h : Option CredentialsBuffers) (m0 : C) → Begun c old.context old.handle (ForServer old.mode) Inbound None h m0 → IfNtlm k m0 (begun h)) →
+      ((h : Option CredentialsBuffers) (m0 : C) → Begun c old.context old.handle (server_setting p old) Inbound None h m0 → IfNtlm k m0 (begun h)) →
       ((h : Option CredentialsBuffers) (m : NtlmState) → begun h m → server_step m.stage m (token_of token) ≡ Goes y step) →
-      ((h : Option CredentialsBuffers) (m : NtlmState) → begun h m → h ≡ handle) → Takes c laws told old token step (Ntlm (at_rest y)) handle
+      ((h : Option CredentialsBuffers) (m : NtlmState) → begun h m → h ≡ handle) → Takes c laws p old token step (Ntlm (at_rest y)) handle
   takes_by old token begun y step handle begins outcome had = record {
     done = λ h m0 m s start accepts.
         let t = took (begun h) h token y step s m0 m (begins h m0 start) (outcome h) accepts in
@@ -172,12 +177,12 @@ module _ {K D P : Type 0} (k : Meaning Setting K) (laws : IsContext (either 0 nt
     never = λ h m0 m error others start accepts. took_never (begun h) h token y step error m0 m (begins h m0 start) (outcome h) others accepts;
   }
 
-  module _ (a : ClientView C) (b : ServerView C P) (kdc_first : D) (matching : AreMatching told a b) where
+  module _ (a : ClientView C) (b : ServerView C P) (kdc_first : D) (matching : AreMatching p a b) where
     abbrev i : AuthIdentity
     i = matching.identity
 
     abbrev challenge : List ℕ
-    challenge = challenge_of b.mode
+    challenge = matching.server_config.challenge
 
     abbrev key : List ℕ
     key = key_for i challenge
@@ -188,7 +193,7 @@ module _ {K D P : Type 0} (k : Meaning Setting K) (laws : IsContext (either 0 nt
     -- ---- the objects of both ends
 
     abbrev client_new : NtlmState
-    client_new = ntlm_of (client_config a.mode)
+    client_new = ntlm_of matching.client_config
 
     abbrev client_sent : NtlmState
     client_sent = record client_new { stage = NegotiateSent }
@@ -197,7 +202,7 @@ module _ {K D P : Type 0} (k : Meaning Setting K) (laws : IsContext (either 0 nt
     client_on = logged_on i challenge client_sent
 
     abbrev server_new : NtlmState
-    server_new = ntlm_of (config_of b.mode)
+    server_new = ntlm_of matching.server_config
 
     abbrev server_sent : NtlmState
     server_sent = record server_new { stage = ChallengeSent }
@@ -231,17 +236,19 @@ module _ {K D P : Type 0} (k : Meaning Setting K) (laws : IsContext (either 0 nt
 
     -- ---- the client's steps
 
-    never_begins : (mode : ClientMode) (cr : Credentials) (kind : ErrorKind) → cr ≡ credentials.AuthIdentity i → BeginCause c (ForClient mode) Outbound (Some cr) kind → ⊥
-    never_begins (client_mode.Ntlm config) cr kind is (unmade h) = h
-    never_begins (client_mode.Ntlm config) cr kind is (unacquired (Ntlm m) made refuses) = let e = rw is at refuses in cc
-    never_begins (client_mode.Ntlm config) cr kind is (unacquired (Kerberos m) made refuses) = made
+    never_begins : (config : NtlmConfig) (cr : Credentials) (kind : ErrorKind) → cr ≡ credentials.AuthIdentity i →
+        BeginCause c (ForClient (client_mode.Ntlm config)) Outbound (Some cr) kind → ⊥
+    never_begins config cr kind is (unmade h) = h
+    never_begins config cr kind is (unacquired (Ntlm m) made refuses) = let e = rw is at refuses in cc
+    never_begins config cr kind is (unacquired (Kerberos m) made refuses) = made
+    never_begins config cr kind is (unacquired (Negotiate m) made refuses) = made
 
     walks_first : (old : ClientView C) (kdc : D) → SameClient c a old → old.context ≡ None → NoKdc kdc →
         Walks c laws calls old kdc None (client_steps 0) (client_context 1) handle NoKdc
     walks_first old kdc same none at =
         walks_by old kdc None (λ h m. (m ≡ client_new) × (acquired Outbound (Some a.credentials) ≡ Ok h)) client_sent (client_steps 0) handle
-        (λ h m0 start. client_first k a.mode a.credentials old.context old.handle h m0 none
-        (subst (λ (mode : ClientMode). Begun c old.context old.handle (ForClient mode) Outbound (Some a.credentials) h m0) same.mode
+        (λ h m0 start. client_first k matching.client_config a.credentials old.context old.handle h m0 none
+        (subst (λ (mode : ClientMode). Begun c old.context old.handle (ForClient mode) Outbound (Some a.credentials) h m0) (same.mode ∙ matching.client_plain)
         (subst (λ (cr : Credentials). Begun c old.context old.handle (ForClient old.mode) Outbound (Some cr) h m0) same.credentials start)))
         (λ h m begun. subst (λ (x : NtlmState). client_step x.stage x h [] ≡ Goes client_sent (client_steps 0)) (sym begun.0) refl)
         (λ h m begun. acquires_buffers a.credentials i h matching.credentials_are begun.1)
@@ -258,24 +265,32 @@ module _ {K D P : Type 0} (k : Meaning Setting K) (laws : IsContext (either 0 nt
 
     -- ---- the server's
 
-    server_never : (mode : ServerMode) (kind : ErrorKind) → BeginCause c (ForServer mode) Inbound None kind → ⊥
-    server_never (server_mode.Ntlm config) kind (unmade h) = h
-    server_never (server_mode.Ntlm config) kind (unacquired (Ntlm m) made refuses) = let e : None ≡ Some kind = refuses in cc
-    server_never (server_mode.Ntlm config) kind (unacquired (Kerberos m) made refuses) = made
+    never_acquires : (config : NtlmConfig) (told : Option (List AuthIdentity)) (kind : ErrorKind) →
+        BeginCause c (ForServer (server_mode.Ntlm config) told) Inbound None kind → ⊥
+    never_acquires config told kind (unmade h) = h
+    never_acquires config told kind (unacquired (Ntlm m) made refuses) = let e : None ≡ Some kind = refuses in cc
+    never_acquires config told kind (unacquired (Kerberos m) made refuses) = made
+    never_acquires config told kind (unacquired (Negotiate m) made refuses) = made
 
-    takes_first : (old : ServerView C P) → SameServer c b old → old.context ≡ None → Takes c laws told old (Some negotiate_message) (server_steps 0) (server_context 1) None
+    server_never : (mode : ServerMode) (before now : P) (kind : ErrorKind) → mode ≡ server_mode.Ntlm matching.server_config → MakeCause c p mode before now kind → ⊥
+    server_never mode before now kind is (unlisted h) = subst (λ (x : ServerMode). ListRefused x (p.faults before) (p.faults now) kind) is h
+    server_never mode before now kind is (unbegun h) = never_acquires matching.server_config _ kind
+        (subst (λ (x : ServerMode). BeginCause c (ForServer x (p.told before).entries) Inbound None kind) is h)
+
+    takes_first : (old : ServerView C P) → SameServer c b old → old.context ≡ None → Takes c laws p old (Some negotiate_message) (server_steps 0) (server_context 1) None
     takes_first old same none =
         takes_by old (Some negotiate_message) (λ h m. (m ≡ server_new) × (h ≡ None)) server_sent (server_steps 0) None
-        (λ h m0 start. server_first k b.mode old.context old.handle h m0 none
-        (subst (λ (mode : ServerMode). Begun c old.context old.handle (ForServer mode) Inbound None h m0) same.mode start))
+        (λ h m0 start. server_first k matching.server_config _ old.context old.handle h m0 none
+        (subst (λ (mode : ServerMode). Begun c old.context old.handle (ForServer mode (p.told old.proxy).entries) Inbound None h m0)
+        (same.mode ∙ matching.server_plain) start))
         (λ h m begun. subst (λ (x : NtlmState). server_step x.stage x negotiate_message ≡ Goes server_sent (server_steps 0)) (sym begun.0) refl)
         (λ h m begun. begun.1)
 
     takes : (n : ℕ) (old : ServerView C P) → suc n ≤ 1 → SameServer c b old → old.context ≡ Some (server_context (suc n)) → old.handle ≡ None →
-        Takes c laws told old (Some (client_steps (suc n)).output) (server_steps (suc n)) (server_context (suc (suc n))) None
+        Takes c laws p old (Some (client_steps (suc n)).output) (server_steps (suc n)) (server_context (suc (suc n))) None
     takes zero old less same there had =
         takes_by old (Some (last_token i challenge)) (λ h m. (m ≡ server_sent) × (h ≡ old.handle)) server_claimed (server_steps 1) None
-        (λ h m0 start. goes_on_as k (ForServer old.mode) old.context None old.handle h m0 server_sent Inbound there start)
+        (λ h m0 start. goes_on_as k (server_setting p old) old.context None old.handle h m0 server_sent Inbound there start)
         (λ h m begun. subst (λ (x : NtlmState). server_step x.stage x (last_token i challenge) ≡ Goes server_claimed (server_steps 1)) (sym begun.0)
         (server_outcome server_sent ChallengeSent (last_token i challenge) challenge i matching.identity_is (omega (arith, short)) refl refl))
         (λ h m begun. begun.1 ∙ had)
@@ -286,9 +301,9 @@ module _ {K D P : Type 0} (k : Meaning Setting K) (laws : IsContext (either 0 nt
     name_is : (y : NtlmState) (name : Name) → at_rest y ≡ server_claimed → name_at y.stage ≡ Some name → name ≡ i.username
     name_is y name rest named = let e : Some i.username ≡ Some name = ap (λ (x : NtlmState). name_at x.stage) (sym rest) ∙ named in cc
 
-    found : (name : Name) (identities : List AuthIdentity) → name ≡ i.username → AreCandidates (told b.proxy) name identities → identities ≡ candidates_of matching.entries i.username
+    found : (name : Name) (identities : List AuthIdentity) → name ≡ i.username → AreFound (p.told b.proxy) name identities → identities ≡ candidates_of matching.entries i.username
     found name identities same candidates =
-        let here : identities ≡ candidates_of matching.entries name = subst (λ (x : Option (List AuthIdentity)). AreCandidates x name identities) matching.tells candidates in
+        let here : identities ≡ candidates_of matching.entries name = subst (λ (x : Option (List AuthIdentity)). AreCandidates x name identities) matching.tells candidates.candidates in
         here ∙ ap (candidates_of matching.entries) same
 
     takes_key : (y : NtlmState) (identities : List AuthIdentity) → at_rest y ≡ server_claimed → identities ≡ candidates_of matching.entries i.username →
@@ -296,28 +311,29 @@ module _ {K D P : Type 0} (k : Meaning Setting K) (laws : IsContext (either 0 nt
     takes_key y identities rest list =
         keyed y identities matching.entries i challenge matching.entry (ap (λ (x : NtlmState). x.stage) rest) (ap (λ (x : NtlmState). x.challenge) rest) list
 
-    named_as : (y : NtlmState) (m2 : C) → at_rest y ≡ server_claimed → IsIdentified c (told b.proxy) (Ntlm y) m2 → cleared c m2 ≡ Ntlm server_keyed
+    named_as : (y : NtlmState) (m2 : C) → at_rest y ≡ server_claimed → IsIdentified c (p.told b.proxy) (Ntlm y) m2 → cleared c m2 ≡ Ntlm server_keyed
     named_as y (Ntlm z) rest (is_identified name identities named candidates some sets) =
         let takes_it = takes_key y identities rest (found name identities (name_is y name rest named) candidates) in
         let both : Ok z ≡ Ok (keyed_by key y) = sym sets ∙ takes_it in
         let last : z ≡ keyed_by key y = cc in
         ap (λ (x : NtlmState). Ntlm (at_rest x)) last ∙ ap (λ (x : NtlmState). Ntlm (keyed_by key x)) rest
     named_as y (Kerberos z) rest (is_identified name identities named candidates some sets) = absurd sets
+    named_as y (Negotiate z) rest (is_identified name identities named candidates some sets) = absurd sets
 
-    look_never : (before now : ℕ) (kind : ErrorKind) → now ≡ before → before < 2 ^ 64 - 1 → LookUpRefused (told b.proxy) i.username before now kind → ⊥
+    look_never : (before now : ℕ) (kind : ErrorKind) → now ≡ before → before < 2 ^ 64 - 1 → LookUpRefused (p.told b.proxy) i.username before now kind → ⊥
     look_never before now kind still few (failed more is) = omega (arith, more, still, few)
     look_never before now kind still few (nobody none is) =
         let some = some_candidates matching.entries i matching.entry in
-        let empty : [] ≡ candidates_of matching.entries i.username = subst (λ (x : Option (List AuthIdentity)). AreCandidates x i.username []) matching.tells none in
+        let empty : [] ≡ candidates_of matching.entries i.username = subst (λ (x : Option (List AuthIdentity)). AreCandidates x i.username []) matching.tells none.candidates in
         let never : [] ≡ matching.entry.entry ∷ some.0 = empty ∙ some.1 in cc
 
     identify_never : (y : NtlmState) (before now : ℕ) (kind : ErrorKind) → at_rest y ≡ server_claimed → now ≡ before → before < 2 ^ 64 - 1 →
-        IdentifyCause c (Ntlm y) (told b.proxy) before now kind → ⊥
+        IdentifyCause c (Ntlm y) (p.told b.proxy) before now kind → ⊥
     identify_never y before now kind rest still few (nameless refuses) =
         let stage : y.stage ≡ Claimed (claim_by i challenge) = ap (λ (x : NtlmState). x.stage) rest in
         let never : None ≡ Some kind = rw stage at refuses in cc
     identify_never y before now kind rest still few (looked name named refused) =
-        look_never before now kind still few (subst (λ (n : Name). LookUpRefused (told b.proxy) n before now kind) (name_is y name rest named) refused)
+        look_never before now kind still few (subst (λ (n : Name). LookUpRefused (p.told b.proxy) n before now kind) (name_is y name rest named) refused)
     identify_never y before now kind rest still few (unset name identities named candidates some refuses) =
         let sets = takes_key y identities rest (found name identities (name_is y name rest named) candidates) in
         let never : None ≡ Some kind = rw sets at refuses in cc
@@ -327,13 +343,13 @@ module _ {K D P : Type 0} (k : Meaning Setting K) (laws : IsContext (either 0 nt
         let has : y.protection.key ≡ Some key = ap (λ (x : NtlmState). x.protection.key) rest in
         let never : None ≡ Some kind = rw has at refuses in cc
 
-    peer : IsPeer c laws (told b.proxy) (Ntlm server_claimed) (Ntlm server_keyed)
+    peer : IsPeer c laws (p.told b.proxy) (Ntlm server_claimed) (Ntlm server_keyed)
     peer = record {
       identified = λ m m2 same names.
-          let at = as_ntlm k m server_claimed same in named_as at.0 m2 at.2 (subst (λ (x : C). IsIdentified c (told b.proxy) x m2) at.1 names);
+          let at = as_ntlm k m server_claimed same in named_as at.0 m2 at.2 (subst (λ (x : C). IsIdentified c (p.told b.proxy) x m2) at.1 names);
       never = λ m before now kind same still few cause.
           let at = as_ntlm k m server_claimed same in
-          identify_never at.0 before now kind at.2 still few (subst (λ (x : C). IdentifyCause c x (told b.proxy) before now kind) at.1 cause);
+          identify_never at.0 before now kind at.2 still few (subst (λ (x : C). IdentifyCause c x (p.told b.proxy) before now kind) at.1 cause);
       completes = λ m kind same refuses.
           let at = as_ntlm k m server_keyed same in complete_never at.0 kind at.2 (subst (λ (x : C). c.refuses x ToComplete kind) at.1 refuses);
     }
@@ -356,7 +372,7 @@ module _ {K D P : Type 0} (k : Meaning Setting K) (laws : IsContext (either 0 nt
     server_goes zero less = refl
     server_goes (suc n) less = absurd (omega (arith, less))
 
-    pub negotiation : IsNegotiation c laws calls told a b kdc_first 0 false
+    pub negotiation : IsNegotiation c laws calls p a b kdc_first 0 false
     negotiation = record {
       client_step = client_steps;
       server_step = server_steps;
@@ -368,8 +384,9 @@ module _ {K D P : Type 0} (k : Meaning Setting K) (laws : IsContext (either 0 nt
       peer_context = Ntlm server_keyed;
       ups = blob_of key FromClient;
       downs = blob_of key FromServer;
-      client_begins = λ kind. never_begins a.mode a.credentials kind matching.credentials_are;
-      server_begins = λ kind. server_never b.mode kind;
+      client_begins = λ kind cause. never_begins matching.client_config a.credentials kind matching.credentials_are
+          (subst (λ (mode : ClientMode). BeginCause c (ForClient mode) Outbound (Some a.credentials) kind) matching.client_plain cause);
+      server_begins = λ before now kind. server_never b.mode before now kind matching.server_plain;
       kdc_start = tt;
       walks_first = walks_first;
       walks = walks;

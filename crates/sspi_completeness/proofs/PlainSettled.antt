@@ -9,6 +9,7 @@ use Rattle.sspi_mech.specs.Settings.{Setting}
 use Rattle.sspi_credssp.specs.declared.context.SspiContext.{SspiContext}
 use Rattle.sspi_credssp.specs.Client.{ClientView, IsFreshClient}
 use Rattle.sspi_credssp.specs.Context.{either}
+use Rattle.sspi_credssp.specs.Proxy.{ProxyMeaning}
 use Rattle.sspi_credssp.specs.Server.{ServerView, IsFreshServer}
 use Rattle.sspi_delegate.specs.declared.answer.Delegation.{Delegation}
 use Rattle.sspi_delegate.specs.declared.answer.DelegateError.{DelegateError}
@@ -49,18 +50,17 @@ cut_short limit identity (Err errors.LinkFault) few within settled = settled
 cut_short limit identity (Err errors.TurnsSpent) few within settled = tt
 cut_short limit identity (Err errors.InsufficientMemory) few within settled = tt
 
-module _ {K D P : Type 0} (k : Meaning Setting K) (laws : IsContext (either 0 ntlm_meaning k)) (calls : KdcCalls D) (told : P → Option (List AuthIdentity))
-    (faults : P → ℕ) (failing : P → Option (List ℕ)) (a : ClientView (SspiContext NtlmState K)) (b : ServerView (SspiContext NtlmState K) P) (client_new : IsFreshClient a)
+module _ {K D P : Type 0} (k : Meaning Setting K) (laws : IsContext (either 0 ntlm_meaning k)) (calls : KdcCalls D) (p : ProxyMeaning P) (a : ClientView (SspiContext NtlmState K)) (b : ServerView (SspiContext NtlmState K) P) (client_new : IsFreshClient a)
     (server_new : IsFreshServer b) (matching : AreMatching told a b) where
   pub settled_plainly : (kdc kdc2 : D) (base : List Carried) (start now limit : ℕ) (x : ClientView (SspiContext NtlmState K)) (y : ServerView (SspiContext NtlmState K) P)
       (edits edits2 : Option (List Edit)) (result : Result Delegation DelegateError) (turns : List Turn) (log : List Carried) → IsUndisturbed edits base log start now →
       RunEnds base start limit result turns log now → StaysTold edits edits2 base log → AnswerTold edits start now result log (newest_message turns) →
-      ClientPast (either 0 ntlm_meaning k) calls a kdc result (client_turns turns) x kdc2 → ServerHistory (either 0 ntlm_meaning k) told faults failing b (server_turns turns) y →
-      IsCalm (faults b.proxy) (faults y.proxy) →
+      ClientPast (either 0 ntlm_meaning k) calls a kdc result (client_turns turns) x kdc2 → ServerHistory (either 0 ntlm_meaning k) p b (server_turns turns) y →
+      IsCalm (p.faults b.proxy) (p.faults y.proxy) →
       IfOk result (λ delegation. GivesNewest (either 0 ntlm_meaning k) (server_end y) (server_turns turns) delegation.credentials) →
       Settled 3 limit (delegated_as a.delegation matching.identity) result
   settled_plainly kdc kdc2 base start now limit x y edits edits2 result turns log undisturbed ends stays still clients servers calm gives =
-      settled (either 0 ntlm_meaning k) calls told faults failing a b kdc 2 (delegated_as a.delegation matching.identity)
-      (known (either 0 ntlm_meaning k) laws calls told a b kdc 0 false (negotiation k laws calls told a b kdc matching) (delegated k laws calls told a b kdc matching).text
-      (delegated_as a.delegation matching.identity) (alike k laws calls told a b kdc matching) client_new server_new faults failing)
+      settled (either 0 ntlm_meaning k) calls p a b kdc 2 (delegated_as a.delegation matching.identity)
+      (known (either 0 ntlm_meaning k) laws calls p a b kdc 0 false (negotiation k laws calls p a b kdc matching) (delegated k laws calls p a b kdc matching).text
+      (delegated_as a.delegation matching.identity) (alike k laws calls p a b kdc matching) client_new server_new faults failing)
       base start now limit x kdc2 y edits edits2 result turns log undisturbed ends stays still clients servers calm gives

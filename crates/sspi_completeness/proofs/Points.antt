@@ -7,6 +7,7 @@ use Rattle.sspi_tsreq.specs.Spelling.{carried}
 use Rattle.sspi_tsreq.specs.Value.{first_request}
 use Rattle.sspi_credssp.specs.Client.{ClientView}
 use Rattle.sspi_credssp.specs.Context.{ContextSetting}
+use Rattle.sspi_credssp.specs.Proxy.{ProxyMeaning}
 use Rattle.sspi_credssp.specs.Server.{ServerView}
 use Rattle.sspi_credssp.specs.ServerTurn.{HoldsIdentity}
 use Rattle.sspi_delegate.specs.declared.carried.Carried.{Carried}
@@ -61,7 +62,7 @@ pub server_none : (e : End) → e ≡ Server → one_of Client e ≡ 0
 server_none Client is = absurd cc
 server_none Server is = refl
 
-module _ {C D P : Type 0} (c : Meaning ContextSetting C) (k : KdcCalls D) (told : P → Option (List AuthIdentity)) (faults : P → ℕ) (failing : P → Option (List ℕ))
+module _ {C D P : Type 0} (c : Meaning ContextSetting C) (k : KdcCalls D) (p : ProxyMeaning P)
     (a : ClientView C) (b : ServerView C P) (kdc_first : D) where
   abbrev CView : Type 0
   CView = ClientView C
@@ -97,33 +98,33 @@ module _ {C D P : Type 0} (c : Meaning ContextSetting C) (k : KdcCalls D) (told 
     pub server_start : ServerAt start b
     pub client_goes : (i : Round) (x mid : CView) (kdc kdc2 : D) (d : TsRequest) (out : Outcome) → ClientAt i x kdc → d ≡ given i →
         ClientMakes c k x kdc d out mid kdc2 → Comes out (λ r. (r ≡ up i) × (is_last i ≡ false → ClientAt (next i) (record mid { output = [] }) kdc2))
-    pub server_goes : (i : Round) (y mid : SView) (d : TsRequest) (out : Outcome) → is_last i ≡ false → ServerAt i y → d ≡ carried (up i) → told y.proxy ≡ told b.proxy →
-        faults mid.proxy ≡ faults y.proxy → faults y.proxy < 2 ^ 64 - 1 → ServerMakes c told faults y d out mid →
+    pub server_goes : (i : Round) (y mid : SView) (d : TsRequest) (out : Outcome) → is_last i ≡ false → ServerAt i y → d ≡ carried (up i) → p.told y.proxy ≡ p.told b.proxy →
+        p.faults mid.proxy ≡ p.faults y.proxy → p.faults y.proxy < 2 ^ 64 - 1 → ServerMakes c p y d out mid →
         Comes out (λ r. (r ≡ down i) × ServerAt (next i) (record mid { output = [] }))
     pub server_ends : (i : Round) (y mid : SView) (d : TsRequest) (out : Outcome) → is_last i ≡ true → ServerAt i y → d ≡ carried (up i) →
-        ServerMakes c told faults y d out mid → Ends out ((identity2 : AuthIdentity) → HoldsIdentity c mid.context d.auth_info identity2 → identity2 ≡ identity)
+        ServerMakes c p y d out mid → Ends out ((identity2 : AuthIdentity) → HoldsIdentity c mid.context d.auth_info identity2 → identity2 ≡ identity)
 
   -- ---- the newest turn of an exchange, and the ends before it
 
   -- one end makes the turn, and the other stays
   pub data Extends (t : Turn) (x : CView) (kdc : D) (y : SView) (x2 : CView) (kdc2 : D) (y2 : SView) : Type 0 where
     by_client : t.end ≡ Client → ClientMade c k x kdc t x2 kdc2 → y2 ≡ y → Extends t x kdc y x2 kdc2 y2
-    by_server : t.end ≡ Server → ServerMade c told faults failing y t y2 → x2 ≡ x → kdc2 ≡ kdc → Extends t x kdc y x2 kdc2 y2
+    by_server : t.end ≡ Server → ServerMade c p y t y2 → x2 ≡ x → kdc2 ≡ kdc → Extends t x kdc y x2 kdc2 y2
 
   pub record Peeled (t : Turn) (past : List Turn) (x2 : CView) (kdc2 : D) (y2 : SView) : Type 0 where
     pub x : CView
     pub kdc : D
     pub y : SView
     pub client : ClientHistory c k a kdc_first (client_turns past) x kdc
-    pub server : ServerHistory c told faults failing b (server_turns past) y
+    pub server : ServerHistory c p b (server_turns past) y
     pub extends : Extends t x kdc y x2 kdc2 y2
 
   pub peel : (t : Turn) (past : List Turn) (x2 : CView) (kdc2 : D) (y2 : SView) → ClientHistory c k a kdc_first (client_turns (t ∷ past)) x2 kdc2 →
-      ServerHistory c told faults failing b (server_turns (t ∷ past)) y2 → Peeled t past x2 kdc2 y2
+      ServerHistory c p b (server_turns (t ∷ past)) y2 → Peeled t past x2 kdc2 y2
   peel t past x2 kdc2 y2 clients servers = at t.end refl clients servers
     where
       at : (e : End) → t.end ≡ e → ClientHistory c k a kdc_first (onto_client e t (client_turns past)) x2 kdc2 →
-          ServerHistory c told faults failing b (onto_server e t (server_turns past)) y2 → Peeled t past x2 kdc2 y2
+          ServerHistory c p b (onto_server e t (server_turns past)) y2 → Peeled t past x2 kdc2 y2
       at Client is clients servers =
           record { x = clients.0; kdc = clients.1; y = y2; client = clients.2; server = servers; extends = by_client is clients.3 refl }
       at Server is clients servers =
@@ -131,13 +132,13 @@ module _ {C D P : Type 0} (c : Meaning ContextSetting C) (k : KdcCalls D) (told 
 
   -- what a server's turns leave of its proxy
   pub record ProxySame (y : SView) : Type 0 where
-    pub told_same : told y.proxy ≡ told b.proxy
-    pub counted : faults b.proxy ≤ faults y.proxy
+    pub told_same : p.told y.proxy ≡ p.told b.proxy
+    pub counted : p.faults b.proxy ≤ p.faults y.proxy
 
-  pub proxy_same : (y : SView) (turns : List _) → ServerHistory c told faults failing b turns y → ProxySame y
+  pub proxy_same : (y : SView) (turns : List _) → ServerHistory c p b turns y → ProxySame y
   proxy_same y [] history = record {
-    told_same = subst (λ (v : SView). told y.proxy ≡ told v.proxy) history refl;
-    counted = subst (λ (v : SView). faults v.proxy ≤ faults y.proxy) history (omega arith);
+    told_same = subst (λ (v : SView). p.told y.proxy ≡ p.told v.proxy) history refl;
+    counted = subst (λ (v : SView). p.faults v.proxy ≤ p.faults y.proxy) history (omega arith);
   }
   proxy_same y (t ∷ past) history =
       let before = proxy_same history.0 past history.1 in
@@ -147,14 +148,14 @@ module _ {C D P : Type 0} (c : Meaning ContextSetting C) (k : KdcCalls D) (told 
 
   -- the proxy has no fault in the exchange
   pub record IsCalmAt (y : SView) : Type 0 where
-    pub still : faults y.proxy ≡ faults b.proxy
-    pub few : faults b.proxy < 2 ^ 64 - 1
+    pub still : p.faults y.proxy ≡ p.faults b.proxy
+    pub few : p.faults b.proxy < 2 ^ 64 - 1
 
   calm_before : (t : Turn) (x x2 : CView) (kdc kdc2 : D) (y y2 : SView) → Extends t x kdc y x2 kdc2 y2 → ProxySame y → IsCalmAt y2 → IsCalmAt y
   calm_before t x x2 kdc kdc2 y y2 (by_client e made same) proxy calm =
-      record { still = ap (λ (v : SView). faults v.proxy) (sym same) ∙ calm.still; few = calm.few }
+      record { still = ap (λ (v : SView). p.faults v.proxy) (sym same) ∙ calm.still; few = calm.few }
   calm_before t x x2 kdc kdc2 y y2 (by_server e made same same_kdc) proxy calm =
-      let rest : faults y2.proxy ≡ faults made.mid.proxy = ap (λ (v : SView). faults v.proxy) made.rest in
+      let rest : p.faults y2.proxy ≡ faults made.mid.proxy = ap (λ (v : SView). p.faults v.proxy) made.rest in
       record { still = omega (arith, rest, made.proxy.counted, proxy.counted, calm.still); few = calm.few }
 
   module _ (last : ℕ) (identity : AuthIdentity) (known : IsKnown last identity) where
@@ -183,14 +184,14 @@ module _ {C D P : Type 0} (c : Meaning ContextSetting C) (k : KdcCalls D) (told 
 
     server_turned : (base log : List Carried) (t : Turn) (past : List Turn) (x2 : CView) (kdc2 : D) (y y2 : SView) (i : known.Round) (b2 : Bool) → known.is_last i ≡ b2 →
         (known.is_last i ≡ false → known.ClientAt (known.next i) x2 kdc2) → known.ServerAt i y → turns_of Client past ≡ suc (known.rank i) → t.delivered ≡ carried (known.up i) →
-        t.end ≡ Server → ServerMade c told faults failing y t y2 → ProxySame y → IsCalmAt y2 → TurnIs t past x2 kdc2 y2
+        t.end ≡ Server → ServerMade c p y t y2 → ProxySame y → IsCalmAt y2 → TurnIs t past x2 kdc2 y2
     server_turned base log t past x2 kdc2 y y2 i true is client server count given e made proxy calm =
         server_end e (count ∙ ap suc (known.last_rank i is))
         (subst (λ (v : SView). Ends t.outcome ((identity2 : AuthIdentity) → HoldsIdentity c v.context t.delivered.auth_info identity2 → identity2 ≡ identity)) (sym made.rest)
         (known.server_ends i y made.mid t.delivered t.outcome is server given made.makes))
     server_turned base log t past x2 kdc2 y y2 i false is client server count given e made proxy calm =
-        let rest : faults y2.proxy ≡ faults made.mid.proxy = ap (λ (v : SView). faults v.proxy) made.rest in
-        let still : faults made.mid.proxy ≡ faults y.proxy = omega (arith, rest, made.proxy.counted, proxy.counted, calm.still) in
+        let rest : p.faults y2.proxy ≡ faults made.mid.proxy = ap (λ (v : SView). p.faults v.proxy) made.rest in
+        let still : faults made.mid.proxy ≡ p.faults y.proxy = omega (arith, rest, made.proxy.counted, proxy.counted, calm.still) in
         server_turn i is e count (client is)
         (subst (λ (v : SView). Comes t.outcome (λ r. (r ≡ known.down i) × known.ServerAt (known.next i) v)) (sym made.rest)
         (known.server_goes i y made.mid t.delivered t.outcome is server given proxy.told_same still
@@ -227,7 +228,7 @@ module _ {C D P : Type 0} (c : Meaning ContextSetting C) (k : KdcCalls D) (told 
     stands_on t past x2 kdc2 y2 going (server_end e count ends) = absurd (ends_going t.outcome _ going ends)
 
     pub stands : (base : List Carried) (turns : List Turn) (log : List Carried) (x : CView) (kdc : D) (y : SView) → Alternates turns → AllGoOn turns → Logged base turns log →
-        FollowsEdits [] log → ClientHistory c k a kdc_first (client_turns turns) x kdc → ServerHistory c told faults failing b (server_turns turns) y → IsCalmAt y → Stands turns x kdc y
+        FollowsEdits [] log → ClientHistory c k a kdc_first (client_turns turns) x kdc → ServerHistory c p b (server_turns turns) y → IsCalmAt y → Stands turns x kdc y
     stands base [] log x kdc y order going entries follows clients servers calm =
         subst (λ (v : CView). Stands [] v kdc y) (sym clients.0) (subst (λ (v : D). Stands [] a v y) (sym clients.1) (subst (λ (v : SView). Stands [] a kdc_first v) (sym servers)
         (client_next known.start known.client_start known.server_start refl (sym known.start_rank) known.given_start)))
@@ -242,7 +243,7 @@ module _ {C D P : Type 0} (c : Meaning ContextSetting C) (k : KdcCalls D) (told 
     -- the newest turn of an exchange whose other turns went on
     pub newest_turn : (base : List Carried) (t : Turn) (past : List Turn) (log : List Carried) (x : CView) (kdc : D) (y : SView) → Alternates (t ∷ past) →
         IsDelivered past log t.delivered → Logged base past log → FollowsEdits [] log → ClientHistory c k a kdc_first (client_turns (t ∷ past)) x kdc →
-        ServerHistory c told faults failing b (server_turns (t ∷ past)) y → IsCalmAt y → TurnIs t past x kdc y
+        ServerHistory c p b (server_turns (t ∷ past)) y → IsCalmAt y → TurnIs t past x kdc y
     newest_turn base t past log x kdc y order delivered entries follows clients servers calm =
         let p = peel t past x kdc y clients servers in
         let proxy = proxy_same p.y (server_turns past) p.server in

@@ -1,6 +1,5 @@
 -- The last turn of a server in an undisturbed exchange: it opens the client's credentials.
 use Rattle.std.proofs.Common.{◌≡◌, ◌≢◌, ℕ, List, Bool, true, false, Option, None, Some, Ok, Err, refl, ap, sym, ◌∙◌, subst, arith}
-use Rattle.sspi_types.specs.declared.credential_use.CredentialUse.TheVariants.{Inbound}
 use Rattle.sspi_types.specs.declared.error_kind.ErrorKind.{ErrorKind}
 use Rattle.sspi_types.specs.declared.error_kind.ErrorKind.TheVariants.{InvalidToken, InsufficientMemory}
 use Rattle.sspi_names.specs.declared.identity.AuthIdentity.{AuthIdentity}
@@ -10,13 +9,13 @@ use Rattle.sspi_mech.specs.Meaning.{Meaning}
 use Rattle.sspi_credssp.specs.declared.state.CredSspState.{CredSspState}
 use Rattle.sspi_credssp.specs.declared.state.CredSspState.TheVariants.{AuthInfo}
 use Rattle.sspi_credssp.specs.Acts.{unsealed_by}
-use Rattle.sspi_credssp.specs.Begun.{BeginCause}
-use Rattle.sspi_credssp.specs.Context.{ContextSetting, ForServer}
+use Rattle.sspi_credssp.specs.Context.{ContextSetting}
 use Rattle.sspi_credssp.specs.Counts.{unsealed_in, SameBut, cleared}
 use Rattle.sspi_credssp.specs.Credentials.{delegated_identity}
 use Rattle.sspi_credssp.specs.Exchange.{OpensIdentity, opens_identity, BlobStops}
+use Rattle.sspi_credssp.specs.Proxy.{ProxyMeaning}
 use Rattle.sspi_credssp.specs.Server.{ServerView}
-use Rattle.sspi_credssp.specs.ServerCause.{UnreadCause, unread, OpenedCause}
+use Rattle.sspi_credssp.specs.ServerCause.{MakeCause, UnreadCause, unread, OpenedCause}
 use Rattle.sspi_credssp.specs.ServerTurn.{StateAnswer, MayCheck, StartsUnused, OnceNegotiated, HoldsIdentity, server_frame, server_turn}
 use Rattle.sspi_credssp.specs.declared.turn.Outcome.{Outcome}
 use Rattle.sspi_credssp.specs.declared.turn.Outcome.TheVariants as outcome
@@ -24,7 +23,7 @@ use Rattle.sspi_delegate.specs.History.{ServerMakes}
 use Rattle.sspi_completeness.proofs.Ends.{Ends, is_false, stops_later, Holds, IsTaker, holds_still, ServerIs}
 use Rattle.sspi_completeness.proofs.ServerTurns.{cause_past}
 
-module _ {C P : Type 0} (c : Meaning ContextSetting C) (laws : IsContext c) (told : P → Option (List AuthIdentity)) (faults : P → ℕ) where
+module _ {C P : Type 0} (c : Meaning ContextSetting C) (laws : IsContext c) (p : ProxyMeaning P) where
   abbrev View : Type 0
   View = ServerView C P
 
@@ -36,14 +35,14 @@ module _ {C P : Type 0} (c : Meaning ContextSetting C) (laws : IsContext c) (tol
     pub version : d.version ≡ w
     pub field : d.auth_info ≡ Some (peers 1 text)
     pub delegates : delegated_identity text ≡ Ok identity
-    pub begins : (kind : ErrorKind) → BeginCause c (ForServer b.mode) Inbound None kind → ⊥
+    pub begins : (before now : P) (kind : ErrorKind) → MakeCause c p b.mode before now kind → ⊥
 
   bare_at : (state : CredSspState) (Q : Type 0) → state ≡ AuthInfo → OnceNegotiated state Q → Q
   bare_at state Q auth h = subst (λ (s : CredSspState). OnceNegotiated s Q) auth h
 
   module _ (b old : View) (w : ℕ) (d : TsRequest) (z : C) (peers : ℕ → List ℕ → List ℕ) (text : List ℕ) (identity : AuthIdentity)
       (given : DeliveryGiven b old w d z peers text identity) where
-    never_replies : (mid : View) (r : TsRequest) → ServerMakes c told faults old d (outcome.Reply r) mid → ⊥
+    never_replies : (mid : View) (r : TsRequest) → ServerMakes c p old d (outcome.Reply r) mid → ⊥
     never_replies mid r makes =
         subst (λ (s : CredSspState). StateAnswer c (server_frame c old mid) (server_turn c d (outcome.Reply r) mid) s r) given.is.state_is makes.0.turn.reply
 
@@ -55,7 +54,7 @@ module _ {C P : Type 0} (c : Meaning ContextSetting C) (laws : IsContext c) (tol
         let one : text2 ≡ text = given.taker.opened m 1 _ text text2 same opens in
         let both : Ok identity2 ≡ Ok identity = sym is ∙ ap delegated_identity one ∙ given.delegates in cc
 
-    gives : (mid : View) (identity2 : AuthIdentity) → ServerMakes c told faults old d outcome.Finished mid → HoldsIdentity c mid.context d.auth_info identity2 → identity2 ≡ identity
+    gives : (mid : View) (identity2 : AuthIdentity) → ServerMakes c p old d outcome.Finished mid → HoldsIdentity c mid.context d.auth_info identity2 → identity2 ≡ identity
     gives mid identity2 makes holds =
         let h = held_now mid makes.0.moves.bare in
         identity_of h.held identity2 h.same
@@ -72,12 +71,12 @@ module _ {C P : Type 0} (c : Meaning ContextSetting C) (laws : IsContext c) (tol
     opened_never false m kind same next h = given.taker.never m 1 text kind same (next refl) (omega arith) h
     opened_never true m kind same next h = unread_never m kind same h
 
-    delivery_refused : (mid : View) (kind : ErrorKind) (reply : Option TsRequest) → ServerMakes c told faults old d (outcome.Refused kind reply) mid → kind ≢ InsufficientMemory → ⊥
+    delivery_refused : (mid : View) (kind : ErrorKind) (reply : Option TsRequest) → ServerMakes c p old d (outcome.Refused kind reply) mid → kind ≢ InsufficientMemory → ⊥
     delivery_refused mid kind reply makes others =
         let error = makes.0 in
         let turn = makes.2 in
         let others2 : error.error_type ≢ InsufficientMemory = λ memory. others (sym makes.1 ∙ memory) in
-        let cause = cause_past c laws told faults b old mid w d AuthInfo 1 1 error.error_type given.is given.version given.begins (makes.3.cause others2) in
+        let cause = cause_past c laws p b old mid w d AuthInfo 1 1 error.error_type given.is given.version given.begins (makes.3.cause others2) in
         let at_blob = subst (λ (f : Option (List ℕ)). BlobStops f error.error_type (λ blob. OpenedCause c mid.acts.opened mid.context blob error.error_type)) given.field cause in
         let later = stops_later _ InvalidToken error.error_type _ (given.taker.long 1 text) at_blob in
         let h = held_now mid turn.moves.bare in
@@ -91,7 +90,7 @@ module _ {C P : Type 0} (c : Meaning ContextSetting C) (laws : IsContext c) (tol
         opened_never mid.acts.opened h.held error.error_type h.same
         (λ unopened. let none : unsealed_by mid.acts ≡ 0 = rw (unchecked, unopened) refl in omega (arith, opened, before, here, none)) at
 
-    pub last_turn : (out : Outcome) (mid : View) → ServerMakes c told faults old d out mid →
+    pub last_turn : (out : Outcome) (mid : View) → ServerMakes c p old d out mid →
         Ends out ((identity2 : AuthIdentity) → HoldsIdentity c mid.context d.auth_info identity2 → identity2 ≡ identity)
     last_turn (outcome.Reply r) mid makes = never_replies mid r makes
     last_turn (outcome.Final r) mid makes = makes

@@ -1,13 +1,11 @@
 -- The turns of a server in an undisturbed exchange that end its authentication, and that answer the client's proof, in one
 -- turn or in two.
 use Rattle.std.proofs.Common.{◌≡◌, ◌≢◌, ℕ, ◌-◌, ◌<◌, ◌^◌, List, [], Bool, true, false, Option, None, Some, IsSome, refl, ap, sym, ◌∙◌, subst, arith, nat_lt}
-use Rattle.sspi_types.specs.declared.credential_use.CredentialUse.TheVariants.{Inbound}
 use Rattle.sspi_types.specs.declared.error_kind.ErrorKind.{ErrorKind}
 use Rattle.sspi_types.specs.declared.error_kind.ErrorKind.TheVariants.{InvalidToken, InsufficientMemory}
 use Rattle.sspi_types.specs.declared.security_status.SecurityStatus.{SecurityStatus}
 use Rattle.sspi_types.specs.declared.security_status.SecurityStatus.TheVariants as statuses
 use Rattle.sspi_names.specs.declared.credentials.CredentialsBuffers.{CredentialsBuffers}
-use Rattle.sspi_names.specs.declared.identity.AuthIdentity.{AuthIdentity}
 use Rattle.sspi_tsreq.specs.declared.request.TsRequest.{TsRequest}
 use Rattle.sspi_mech.specs.declared.step.Step.{Step}
 use Rattle.sspi_mech.specs.Context.{IsContext}
@@ -16,14 +14,15 @@ use Rattle.sspi_credssp.specs.declared.public_key.EndpointType.TheVariants.{Clie
 use Rattle.sspi_credssp.specs.declared.state.CredSspState.{CredSspState}
 use Rattle.sspi_credssp.specs.declared.state.CredSspState.TheVariants.{PubKeyInfo, AuthInfo}
 use Rattle.sspi_credssp.specs.Acts.{sealed_by, unsealed_by}
-use Rattle.sspi_credssp.specs.Begun.{BeginCause, IfContext}
-use Rattle.sspi_credssp.specs.Context.{ContextSetting, ForServer}
+use Rattle.sspi_credssp.specs.Begun.{IfContext}
+use Rattle.sspi_credssp.specs.Context.{ContextSetting}
 use Rattle.sspi_credssp.specs.Counts.{sealed_in, unsealed_in, SealsIn, SameBut, cleared}
 use Rattle.sspi_credssp.specs.Exchange.{opens_other}
 use Rattle.sspi_credssp.specs.PublicKey.{prescribed}
 use Rattle.sspi_credssp.specs.Requests.{nonce_of, IsLong}
+use Rattle.sspi_credssp.specs.Proxy.{ProxyMeaning}
 use Rattle.sspi_credssp.specs.Server.{ServerView}
-use Rattle.sspi_credssp.specs.ServerCause.{IdentifyCause, OverCause, unknown, incomplete, known, AfterCause, ExchangeCause, BlobCause, ProofCause, AnswerCause, altered, unsealed, lacks_nonce}
+use Rattle.sspi_credssp.specs.ServerCause.{MakeCause, IdentifyCause, OverCause, unknown, incomplete, known, AfterCause, ExchangeCause, BlobCause, ProofCause, AnswerCause, altered, unsealed, lacks_nonce}
 use Rattle.sspi_credssp.specs.ServerStep.{Unknown, Identified, Completed}
 use Rattle.sspi_credssp.specs.ServerTurn.{IsOver, OverAnswer, ProofAnswer, StateAnswer, StartsUnused, OnceNegotiated, ServerTurn, noted_first, after_status, server_frame, server_turn}
 use Rattle.sspi_credssp.specs.Turn.{AtNoted}
@@ -46,7 +45,7 @@ asks_proof statuses.IncompleteCredentials over = absurd over
 asks_proof statuses.Renegotiate over = absurd over
 asks_proof statuses.NoLsaContext over = absurd over
 
-module _ {C P : Type 0} (c : Meaning ContextSetting C) (laws : IsContext c) (told : P → Option (List AuthIdentity)) (faults : P → ℕ) where
+module _ {C P : Type 0} (c : Meaning ContextSetting C) (laws : IsContext c) (p : ProxyMeaning P) where
   abbrev View : Type 0
   View = ServerView C P
 
@@ -105,7 +104,7 @@ module _ {C P : Type 0} (c : Meaning ContextSetting C) (laws : IsContext c) (tol
     -- ---- the proof alone
 
     module _ (is : ServerIs c b old w PubKeyInfo 0 0) (holds : Holds c old.context z) (version : d.version ≡ w)
-        (begins : (kind : ErrorKind) → BeginCause c (ForServer b.mode) Inbound None kind → ⊥) where
+        (begins : (before now : P) (kind : ErrorKind) → MakeCause c p b.mode before now kind → ⊥) where
       unstarted : StartsUnused c old
       unstarted = λ nego. let at = is.state_is in absurd cc
 
@@ -121,7 +120,7 @@ module _ {C P : Type 0} (c : Meaning ContextSetting C) (laws : IsContext c) (tol
       unopened : (mid : View) (out : Outcome) → ServerTurn c old d out mid → mid.acts.opened ≡ false
       unopened mid out turn = is_false mid.acts.opened (λ was. let auth = (turn.turn.acts.opened was).0 in let at = is.state_is in cc)
 
-      proof_replied : (mid : View) (r : TsRequest) → ServerMakes c told faults old d (outcome.Reply r) mid →
+      proof_replied : (mid : View) (r : TsRequest) → ServerMakes c p old d (outcome.Reply r) mid →
           (r ≡ answer) × ServerIs c b mid w AuthInfo 1 1 × Holds c mid.context z
       proof_replied mid r makes =
           let turn = makes.0 in
@@ -132,8 +131,8 @@ module _ {C P : Type 0} (c : Meaning ContextSetting C) (laws : IsContext c) (tol
           let opened_one : unsealed_by mid.acts ≡ 1 = rw (proof.checked, unopened mid _ turn) refl in
           let sealed_now : sealed_in c mid.context ≡ 1 = turn.moves.sealed unstarted ∙ (rw (is.sealed_is, one) refl) in
           let noted = noted_at mid h.held h.there turn.moves.noted in
-          let same = same_on c laws told faults b old mid is.same turn.moves.same in
-          let still = stands_noted c laws told faults mid.noted w noted in (
+          let same = same_on c laws p b old mid is.same turn.moves.same in
+          let still = stands_noted c laws p mid.noted w noted in (
             answered mid r proof h noted same.public_key same.version sealed_now,
             record {
               same = same;
@@ -146,11 +145,11 @@ module _ {C P : Type 0} (c : Meaning ContextSetting C) (laws : IsContext c) (tol
             h,
           )
 
-      proof_refused : (mid : View) (kind : ErrorKind) (reply : Option TsRequest) → ServerMakes c told faults old d (outcome.Refused kind reply) mid → kind ≢ InsufficientMemory → ⊥
+      proof_refused : (mid : View) (kind : ErrorKind) (reply : Option TsRequest) → ServerMakes c p old d (outcome.Refused kind reply) mid → kind ≢ InsufficientMemory → ⊥
       proof_refused mid kind reply makes others =
           let turn = makes.2 in
           let others2 : makes.0.error_type ≢ InsufficientMemory = λ memory. others (sym makes.1 ∙ memory) in
-          let cause = cause_past c laws told faults b old mid w d PubKeyInfo 0 0 makes.0.error_type is version begins (makes.3.cause others2) in
+          let cause = cause_past c laws p b old mid w d PubKeyInfo 0 0 makes.0.error_type is version begins (makes.3.cause others2) in
           let h = held_now mid turn.moves.bare in
           let sealed = turn.moves.sealed unstarted in
           let opened = turn.moves.unsealed unstarted in
@@ -161,10 +160,10 @@ module _ {C P : Type 0} (c : Meaning ContextSetting C) (laws : IsContext c) (tol
           (omega (arith, sealed, sealed_before, two))
           (λ unchecked. let none : unsealed_by mid.acts ≡ 0 = rw (unchecked, unopened mid _ turn) refl in omega (arith, opened, opened_before, none)) cause
 
-      proof_ends : (mid : View) → ServerMakes c told faults old d outcome.Finished mid → ⊥
+      proof_ends : (mid : View) → ServerMakes c p old d outcome.Finished mid → ⊥
       proof_ends mid makes = let auth = makes.0.turn.reply.0 in let at = is.state_is in cc
 
-      pub proof_turn : (out : Outcome) (mid : View) → ServerMakes c told faults old d out mid →
+      pub proof_turn : (out : Outcome) (mid : View) → ServerMakes c p old d out mid →
           Comes out (λ r. (r ≡ answer) × ServerIs c b mid w AuthInfo 1 1 × Holds c mid.context z)
       proof_turn (outcome.Reply r) mid makes = proof_replied mid r makes
       proof_turn (outcome.Final r) mid makes = absurd makes
@@ -173,45 +172,45 @@ module _ {C P : Type 0} (c : Meaning ContextSetting C) (laws : IsContext c) (tol
 
   -- ---- the end of the authentication
 
-  module _ (b old : View) (w : ℕ) (d : TsRequest) (step : Step) (y z : C) (handle : Option CredentialsBuffers) (given : NegoGiven c laws told faults b old w d step y handle)
-      (peer : IsPeer c laws (told old.proxy) y z) (over : IsOver (Some step.status)) where
+  module _ (b old : View) (w : ℕ) (d : TsRequest) (step : Step) (y z : C) (handle : Option CredentialsBuffers) (given : NegoGiven c laws p b old w d step y handle)
+      (peer : IsPeer c laws (p.told old.proxy) y z) (over : IsOver (Some step.status)) where
     -- a refusal is past the peer's name and the context's end
-    over_after : (mid : View) (kind : ErrorKind) → faults mid.proxy ≡ faults old.proxy → faults old.proxy < 2 ^ 64 - 1 → OverCause c told faults step.status old d mid kind →
+    over_after : (mid : View) (kind : ErrorKind) → p.faults mid.proxy ≡ p.faults old.proxy → p.faults old.proxy < 2 ^ 64 - 1 → OverCause c p step.status old d mid kind →
         Holds c mid.context z × (mid.output ≡ step.output) × AfterCause c d.pub_key_auth d.client_nonce mid kind
     over_after mid kind still calm (unknown unchecked come h) =
-        let left = (come_at c laws told old d.nego_tokens step y handle given.takes mid Unknown step.status come).1 in
-        absurd (peer.never left.held (faults old.proxy) (faults mid.proxy) kind left.comes still calm
-        (subst (λ (o : Option C). IfContext o (λ m. IdentifyCause c m (told old.proxy) (faults old.proxy) (faults mid.proxy) kind)) left.there h))
+        let left = (come_at c laws p old d.nego_tokens step y handle given.takes mid Unknown step.status come).1 in
+        absurd (peer.never left.held (p.faults old.proxy) (p.faults mid.proxy) kind left.comes still calm
+        (subst (λ (o : Option C). IfContext o (λ m. IdentifyCause c m (p.told old.proxy) (p.faults old.proxy) (p.faults mid.proxy) kind)) left.there h))
     over_after mid kind still calm (incomplete unchecked come h) =
-        let left = (come_at c laws told old d.nego_tokens step y handle given.takes mid Identified step.status come).1 in
-        absurd (peer.completes left.held kind (named_is c laws (told old.proxy) y z left.held peer left.comes)
+        let left = (come_at c laws p old d.nego_tokens step y handle given.takes mid Identified step.status come).1 in
+        absurd (peer.completes left.held kind (named_is c laws (p.told old.proxy) y z left.held peer left.comes)
         (subst (λ (o : Option C). IfContext o (λ m. c.refuses m ToComplete kind)) left.there h))
     over_after mid kind still calm (known come after) =
-        let left = (come_at c laws told old d.nego_tokens step y handle given.takes mid Completed step.status come).1 in
-        (record { held = left.held; there = left.there; same = named_is c laws (told old.proxy) y z left.held peer left.comes }, left.output_is, after)
+        let left = (come_at c laws p old d.nego_tokens step y handle given.takes mid Completed step.status come).1 in
+        (record { held = left.held; there = left.there; same = named_is c laws (p.told old.proxy) y z left.held peer left.comes }, left.output_is, after)
 
     -- ---- with the client's proof
 
     module _ (own peers : ℕ → List ℕ → List ℕ) (proof_given : ProofGiven b w d z own peers) where
-      exchange_replied : (mid : View) (r : TsRequest) → ServerMakes c told faults old d (outcome.Reply r) mid →
+      exchange_replied : (mid : View) (r : TsRequest) → ServerMakes c p old d (outcome.Reply r) mid →
           (r ≡ answer b old w d z own peers proof_given) × ServerIs c b mid w AuthInfo 1 1 × Holds c mid.context z
       exchange_replied mid r makes =
           let turn = makes.0 in
           let frame = server_frame c old mid in
           let t = server_turn c d (outcome.Reply r) mid in
-          let s = replies c laws told faults b old w d step y handle given mid r makes in
+          let s = replies c laws p b old w d step y handle given mid r makes in
           let proof : ProofAnswer c frame t r = subst (λ (x : Option (List ℕ)). OverAnswer c frame t x r) proof_given.proof
-          (over_answer c laws told faults step.status frame t r over s.answer) in
-          let left = over_left c laws told faults b old w d step y handle given mid over s.done in
-          let h : Holds c mid.context z = record { held = left.held; there = left.there; same = named_is c laws (told old.proxy) y z left.held peer left.comes } in
-          let quiet = nego_acts c laws told faults frame t turn.turn.acts given.is.state_is in
-          let start = unused c laws told faults b old w d step y handle given in
+          (over_answer c laws p step.status frame t r over s.answer) in
+          let left = over_left c laws p b old w d step y handle given mid over s.done in
+          let h : Holds c mid.context z = record { held = left.held; there = left.there; same = named_is c laws (p.told old.proxy) y z left.held peer left.comes } in
+          let quiet = nego_acts c laws p frame t turn.turn.acts given.is.state_is in
+          let start = unused c laws p b old w d step y handle given in
           let one : sealed_by mid.acts ≡ 1 = rw (proof.proved, quiet.0) refl in
           let opened_one : unsealed_by mid.acts ≡ 1 = rw (proof.checked, quiet.1) refl in
           let sealed_now : sealed_in c mid.context ≡ 1 = turn.moves.sealed start ∙ (rw (given.is.sealed_is, one) refl) in
-          let noted = noted_now c laws told faults b old w d step y handle given mid h.held h.there turn.moves.noted in
-          let same = same_on c laws told faults b old mid given.is.same turn.moves.same in
-          let still = stands_noted c laws told faults mid.noted w noted in (
+          let noted = noted_now c laws p b old w d step y handle given mid h.held h.there turn.moves.noted in
+          let same = same_on c laws p b old mid given.is.same turn.moves.same in
+          let still = stands_noted c laws p mid.noted w noted in (
             answered b old w d z own peers proof_given mid r proof h noted same.public_key same.version sealed_now,
             record {
               same = same;
@@ -229,52 +228,52 @@ module _ {C P : Type 0} (c : Meaning ContextSetting C) (laws : IsContext c) (tol
       exchange_at None blob mid kind is h = absurd (cc (is))
       exchange_at (Some x) blob mid kind is h = h
 
-      exchange_refused : (mid : View) (kind : ErrorKind) (reply : Option TsRequest) → faults mid.proxy ≡ faults old.proxy → faults old.proxy < 2 ^ 64 - 1 →
-          ServerMakes c told faults old d (outcome.Refused kind reply) mid → kind ≢ InsufficientMemory → ⊥
+      exchange_refused : (mid : View) (kind : ErrorKind) (reply : Option TsRequest) → p.faults mid.proxy ≡ p.faults old.proxy → p.faults old.proxy < 2 ^ 64 - 1 →
+          ServerMakes c p old d (outcome.Refused kind reply) mid → kind ≢ InsufficientMemory → ⊥
       exchange_refused mid kind reply still calm makes others =
-          let x = refusal c laws told faults b old w d step y handle given mid kind reply makes others in
-          let after = over_after mid kind still calm (over_cause c laws told faults step.status old d mid kind over x.cause) in
-          let start = unused c laws told faults b old w d step y handle given in
-          let quiet = nego_acts c laws told faults (server_frame c old mid) (server_turn c d (outcome.Refused kind reply) mid) x.turn.turn.acts given.is.state_is in
+          let x = refusal c laws p b old w d step y handle given mid kind reply makes others in
+          let after = over_after mid kind still calm (over_cause c laws p step.status old d mid kind over x.cause) in
+          let start = unused c laws p b old w d step y handle given in
+          let quiet = nego_acts c laws p (server_frame c old mid) (server_turn c d (outcome.Refused kind reply) mid) x.turn.turn.acts given.is.state_is in
           let sealed = x.turn.moves.sealed start in
           let opened = x.turn.moves.unsealed start in
           let sealed_before = given.is.sealed_is in
           let opened_before = given.is.unsealed_is in
           let two = sealed_few mid.acts in
           exchange_never b old w d z own peers proof_given mid kind after.0
-          (noted_now c laws told faults b old w d step y handle given mid after.0.held after.0.there x.turn.moves.noted)
+          (noted_now c laws p b old w d step y handle given mid after.0.held after.0.there x.turn.moves.noted)
           (x.turn.moves.same.public_key ∙ given.is.same.public_key) (omega (arith, sealed, sealed_before, two))
           (λ unchecked. let none : unsealed_by mid.acts ≡ 0 = rw (unchecked, quiet.1) refl in omega (arith, opened, opened_before, none))
           (exchange_at d.pub_key_auth _ mid kind proof_given.proof after.2)
 
-      pub exchange_turn : (out : Outcome) (mid : View) → faults mid.proxy ≡ faults old.proxy → faults old.proxy < 2 ^ 64 - 1 → ServerMakes c told faults old d out mid →
+      pub exchange_turn : (out : Outcome) (mid : View) → p.faults mid.proxy ≡ p.faults old.proxy → p.faults old.proxy < 2 ^ 64 - 1 → ServerMakes c p old d out mid →
           Comes out (λ r. (r ≡ answer b old w d z own peers proof_given) × ServerIs c b mid w AuthInfo 1 1 × Holds c mid.context z)
       exchange_turn (outcome.Reply r) mid still calm makes = exchange_replied mid r makes
       exchange_turn (outcome.Final r) mid still calm makes = absurd makes
-      exchange_turn outcome.Finished mid still calm makes = never_finishes c laws told faults b old w d step y handle given mid makes
+      exchange_turn outcome.Finished mid still calm makes = never_finishes c laws p b old w d step y handle given mid makes
       exchange_turn (outcome.Refused kind reply) mid still calm makes = λ others. exchange_refused mid kind reply still calm makes others
 
     -- ---- before the client's proof came
 
     module _ (absent : d.pub_key_auth ≡ None) (speaks : step.output ≢ []) where
-      over_replied : (mid : View) (r : TsRequest) → ServerMakes c told faults old d (outcome.Reply r) mid →
+      over_replied : (mid : View) (r : TsRequest) → ServerMakes c p old d (outcome.Reply r) mid →
           (r ≡ record d { version = b.version; nego_tokens = Some step.output }) × ServerIs c b mid w PubKeyInfo 0 0 × Holds c mid.context z
       over_replied mid r makes =
           let turn = makes.0 in
           let frame = server_frame c old mid in
           let t = server_turn c d (outcome.Reply r) mid in
-          let s = replies c laws told faults b old w d step y handle given mid r makes in
+          let s = replies c laws p b old w d step y handle given mid r makes in
           let token : OverAnswer c frame t None r = subst (λ (x : Option (List ℕ)). OverAnswer c frame t x r) absent
-          (over_answer c laws told faults step.status frame t r over s.answer) in
-          let left = over_left c laws told faults b old w d step y handle given mid over s.done in
-          let h : Holds c mid.context z = record { held = left.held; there = left.there; same = named_is c laws (told old.proxy) y z left.held peer left.comes } in
-          let quiet = nego_acts c laws told faults frame t turn.turn.acts given.is.state_is in
-          let start = unused c laws told faults b old w d step y handle given in
+          (over_answer c laws p step.status frame t r over s.answer) in
+          let left = over_left c laws p b old w d step y handle given mid over s.done in
+          let h : Holds c mid.context z = record { held = left.held; there = left.there; same = named_is c laws (p.told old.proxy) y z left.held peer left.comes } in
+          let quiet = nego_acts c laws p frame t turn.turn.acts given.is.state_is in
+          let start = unused c laws p b old w d step y handle given in
           let unchecked : mid.acts.checked ≡ false = is_false mid.acts.checked (λ was. subst IsLong absent (turn.turn.acts.checked was).1) in
           let none_sealed : sealed_by mid.acts ≡ 0 = rw (token.2, quiet.0) refl in
           let none_opened : unsealed_by mid.acts ≡ 0 = rw (unchecked, quiet.1) refl in
-          let same = same_on c laws told faults b old mid given.is.same turn.moves.same in
-          let still = stands_noted c laws told faults mid.noted w (noted_now c laws told faults b old w d step y handle given mid h.held h.there turn.moves.noted) in (
+          let same = same_on c laws p b old mid given.is.same turn.moves.same in
+          let still = stands_noted c laws p mid.noted w (noted_now c laws p b old w d step y handle given mid h.held h.there turn.moves.noted) in (
             token.0.reply ∙ (rw (same.version, left.output_is) refl),
             record {
               same = same;
@@ -287,17 +286,17 @@ module _ {C P : Type 0} (c : Meaning ContextSetting C) (laws : IsContext c) (tol
             h,
           )
 
-      over_refused : (mid : View) (kind : ErrorKind) (reply : Option TsRequest) → faults mid.proxy ≡ faults old.proxy → faults old.proxy < 2 ^ 64 - 1 →
-          ServerMakes c told faults old d (outcome.Refused kind reply) mid → kind ≢ InsufficientMemory → ⊥
+      over_refused : (mid : View) (kind : ErrorKind) (reply : Option TsRequest) → p.faults mid.proxy ≡ p.faults old.proxy → p.faults old.proxy < 2 ^ 64 - 1 →
+          ServerMakes c p old d (outcome.Refused kind reply) mid → kind ≢ InsufficientMemory → ⊥
       over_refused mid kind reply still calm makes others =
-          let x = refusal c laws told faults b old w d step y handle given mid kind reply makes others in
-          let after = over_after mid kind still calm (over_cause c laws told faults step.status old d mid kind over x.cause) in
+          let x = refusal c laws p b old w d step y handle given mid kind reply makes others in
+          let after = over_after mid kind still calm (over_cause c laws p step.status old d mid kind over x.cause) in
           let empty : (mid.output ≡ []) × (kind ≡ InvalidToken) = subst (λ (f : Option (List ℕ)). AfterCause c f d.client_nonce mid kind) absent after.2 in
           speaks (sym after.1 ∙ empty.0)
 
-      pub over_turn : (out : Outcome) (mid : View) → faults mid.proxy ≡ faults old.proxy → faults old.proxy < 2 ^ 64 - 1 → ServerMakes c told faults old d out mid →
+      pub over_turn : (out : Outcome) (mid : View) → p.faults mid.proxy ≡ p.faults old.proxy → p.faults old.proxy < 2 ^ 64 - 1 → ServerMakes c p old d out mid →
           Comes out (λ r. (r ≡ record d { version = b.version; nego_tokens = Some step.output }) × ServerIs c b mid w PubKeyInfo 0 0 × Holds c mid.context z)
       over_turn (outcome.Reply r) mid still calm makes = over_replied mid r makes
       over_turn (outcome.Final r) mid still calm makes = absurd makes
-      over_turn outcome.Finished mid still calm makes = never_finishes c laws told faults b old w d step y handle given mid makes
+      over_turn outcome.Finished mid still calm makes = never_finishes c laws p b old w d step y handle given mid makes
       over_turn (outcome.Refused kind reply) mid still calm makes = λ others. over_refused mid kind reply still calm makes others

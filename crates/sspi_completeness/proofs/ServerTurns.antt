@@ -1,13 +1,11 @@
 -- The turns of a server's authentication in an undisturbed exchange that send a token: each but the last asks for more, and
 -- the last one asks for the client's proof where that did not come yet.
 use Rattle.std.proofs.Common.{◌≡◌, ◌≢◌, ℕ, List, true, false, Option, None, Some, IsSome, refl, ap, sym, ◌∙◌, subst}
-use Rattle.sspi_types.specs.declared.credential_use.CredentialUse.TheVariants.{Inbound}
 use Rattle.sspi_types.specs.declared.error_kind.ErrorKind.{ErrorKind}
 use Rattle.sspi_types.specs.declared.error_kind.ErrorKind.TheVariants.{MessageAltered, InsufficientMemory}
 use Rattle.sspi_types.specs.declared.security_status.SecurityStatus.{SecurityStatus}
 use Rattle.sspi_types.specs.declared.security_status.SecurityStatus.TheVariants as statuses
 use Rattle.sspi_names.specs.declared.credentials.CredentialsBuffers.{CredentialsBuffers}
-use Rattle.sspi_names.specs.declared.identity.AuthIdentity.{AuthIdentity}
 use Rattle.sspi_tsreq.specs.declared.request.TsRequest.{TsRequest}
 use Rattle.sspi_mech.specs.declared.step.Step.{Step}
 use Rattle.sspi_mech.specs.Context.{IsContext}
@@ -15,10 +13,10 @@ use Rattle.sspi_mech.specs.Meaning.{Meaning}
 use Rattle.sspi_credssp.specs.declared.state.CredSspState.{CredSspState}
 use Rattle.sspi_credssp.specs.declared.state.CredSspState.TheVariants.{NegoToken}
 use Rattle.sspi_credssp.specs.Acts.{sealed_by, unsealed_by}
-use Rattle.sspi_credssp.specs.Begun.{BeginCause}
-use Rattle.sspi_credssp.specs.Context.{ContextSetting, ForServer}
+use Rattle.sspi_credssp.specs.Context.{ContextSetting}
+use Rattle.sspi_credssp.specs.Proxy.{ProxyMeaning}
 use Rattle.sspi_credssp.specs.Server.{ServerView}
-use Rattle.sspi_credssp.specs.ServerCause.{ServerCause, StateCause, NegoCause, OverCause}
+use Rattle.sspi_credssp.specs.ServerCause.{ServerCause, MakeCause, StateCause, NegoCause, OverCause}
 use Rattle.sspi_credssp.specs.ServerStep.{Knowing, Unknown, Completed, DoneStep, HasCome, known_at}
 use Rattle.sspi_credssp.specs.ServerTurn.{IsOver, MayCheck, NegoAnswer, OverAnswer, StateAnswer, ServerActs, ServerTurn, SameServer, StartsUnused, noted_first, server_frame, server_turn}
 use Rattle.sspi_credssp.specs.Stops.{differs}
@@ -30,7 +28,7 @@ use Rattle.sspi_completeness.proofs.Accepting.{Takes, Left, come_at, refused_at}
 use Rattle.sspi_completeness.proofs.Ends.{Comes, is_false, stops_later, made_past, differs_never, Holds, unused_in, ServerIs}
 use Rattle.sspi_credssp.specs.declared.turn.Turn.{Turn}
 
-module _ {C P : Type 0} (c : Meaning ContextSetting C) (laws : IsContext c) (told : P → Option (List AuthIdentity)) (faults : P → ℕ) where
+module _ {C P : Type 0} (c : Meaning ContextSetting C) (laws : IsContext c) (p : ProxyMeaning P) where
   abbrev View : Type 0
   View = ServerView C P
 
@@ -51,15 +49,15 @@ module _ {C P : Type 0} (c : Meaning ContextSetting C) (laws : IsContext c) (tol
 
   -- a refusal is past what a turn looks at first
   pub cause_past : (b old mid : View) (w : ℕ) (d : TsRequest) (state : CredSspState) (sealed unsealed : ℕ) (kind : ErrorKind) →
-      ServerIs c b old w state sealed unsealed → d.version ≡ w → ((kind : ErrorKind) → BeginCause c (ForServer b.mode) Inbound None kind → ⊥) →
-      ServerCause c told faults old d mid kind → StateCause c told faults state old d mid kind
+      ServerIs c b old w state sealed unsealed → d.version ≡ w → ((before now : P) (kind : ErrorKind) → MakeCause c p b.mode before now kind → ⊥) →
+      ServerCause c p old d mid kind → StateCause c p state old d mid kind
   cause_past b old mid w d state sealed unsealed kind is version begins cause =
-      let never : BeginCause c (ForServer old.mode) Inbound None kind → ⊥ =
-      λ h. begins kind (subst (λ x. BeginCause c (ForServer x) Inbound None kind) is.same.mode h) in
-      subst (λ (s : CredSspState). StateCause c told faults s old d mid kind) is.state_is
+      let never : MakeCause c p old.mode old.proxy mid.proxy kind → ⊥ =
+      λ h. begins old.proxy mid.proxy kind (subst (λ x. MakeCause c p x old.proxy mid.proxy kind) is.same.mode h) in
+      subst (λ (s : CredSspState). StateCause c p s old d mid kind) is.state_is
       (stops_later _ MessageAltered kind _ (rw version is.fits) (made_past old.context mid.context _ _ never cause))
 
-  over_done : (st : SecurityStatus) (old : View) (d : TsRequest) (mid : View) → IsOver (Some st) → DoneStep c told (Some st) old d mid → HasCome c told Completed st old d mid
+  over_done : (st : SecurityStatus) (old : View) (d : TsRequest) (mid : View) → IsOver (Some st) → DoneStep c p (Some st) old d mid → HasCome c p Completed st old d mid
   over_done statuses.Ok old d mid over h = h
   over_done statuses.ContinueNeeded old d mid over h = absurd over
   over_done statuses.CompleteNeeded old d mid over h = h
@@ -82,7 +80,7 @@ module _ {C P : Type 0} (c : Meaning ContextSetting C) (laws : IsContext c) (tol
   over_answer statuses.NoLsaContext f t r over h = absurd over
 
   pub over_cause : (st : SecurityStatus) (old : View) (d : TsRequest) (mid : View) (kind : ErrorKind) → IsOver (Some st) →
-      NegoCause c told faults (Some st) old d mid kind → OverCause c told faults st old d mid kind
+      NegoCause c p (Some st) old d mid kind → OverCause c p st old d mid kind
   over_cause statuses.Ok old d mid kind over h = h
   over_cause statuses.ContinueNeeded old d mid kind over h = absurd over
   over_cause statuses.CompleteNeeded old d mid kind over h = h
@@ -96,13 +94,13 @@ module _ {C P : Type 0} (c : Meaning ContextSetting C) (laws : IsContext c) (tol
   -- what a turn of the authentication is given
   pub record NegoGiven (b old : View) (w : ℕ) (d : TsRequest) (step : Step) (y : C) (handle : Option CredentialsBuffers) : Type 0 where
     pub is : ServerIs c b old w NegoToken 0 0
-    pub takes : Takes c laws told old d.nego_tokens step y handle
+    pub takes : Takes c laws p old d.nego_tokens step y handle
     pub version : d.version ≡ w
-    pub begins : (kind : ErrorKind) → BeginCause c (ForServer b.mode) Inbound None kind → ⊥
+    pub begins : (before now : P) (kind : ErrorKind) → MakeCause c p b.mode before now kind → ⊥
 
   module _ (b old : View) (w : ℕ) (d : TsRequest) (step : Step) (y : C) (handle : Option CredentialsBuffers) (given : NegoGiven b old w d step y handle) where
     abbrev pub Leaves : View → Knowing → Type 0
-    Leaves = Left c laws told old d.nego_tokens step y handle given.takes
+    Leaves = Left c laws p old d.nego_tokens step y handle given.takes
 
     pub unused : StartsUnused c old
     unused = λ nego. unused_in c old.context given.is.sealed_is given.is.unsealed_is
@@ -111,17 +109,17 @@ module _ {C P : Type 0} (c : Meaning ContextSetting C) (laws : IsContext c) (tol
     noted_now mid m there noted = noted (rw there refl) ∙ ap (noted_first old.noted) given.version ∙ given.is.notes
 
     out : (mid : View) (status : Option SecurityStatus) (r : TsRequest) → NegoAnswer c (server_frame c old mid) (server_turn c d (outcome.Reply r) mid) status r →
-        DoneStep c told status old d mid → status ≡ Some step.status
+        DoneStep c p status old d mid → status ≡ Some step.status
     out mid None r h done = absurd h
-    out mid (Some st) r h done = ap Some (come_at c laws told old d.nego_tokens step y handle given.takes mid (known_at c told st) st done).0
+    out mid (Some st) r h done = ap Some (come_at c laws p old d.nego_tokens step y handle given.takes mid (known_at c p st) st done).0
 
     -- the answer and the step of a turn that replied
     pub record Replies (mid : View) (r : TsRequest) : Type 0 where
       pub status_is : mid.acts.status ≡ Some step.status
       pub answer : NegoAnswer c (server_frame c old mid) (server_turn c d (outcome.Reply r) mid) (Some step.status) r
-      pub done : DoneStep c told (Some step.status) old d mid
+      pub done : DoneStep c p (Some step.status) old d mid
 
-    pub replies : (mid : View) (r : TsRequest) → ServerMakes c told faults old d (outcome.Reply r) mid → Replies mid r
+    pub replies : (mid : View) (r : TsRequest) → ServerMakes c p old d (outcome.Reply r) mid → Replies mid r
     replies mid r makes =
         let frame = server_frame c old mid in
         let t = server_turn c d (outcome.Reply r) mid in
@@ -130,26 +128,26 @@ module _ {C P : Type 0} (c : Meaning ContextSetting C) (laws : IsContext c) (tol
         record {
           status_is = status;
           answer = subst (λ (x : Option SecurityStatus). NegoAnswer c frame t x r) status answer;
-          done = subst (λ (x : Option SecurityStatus). DoneStep c told x old d mid) status makes.1;
+          done = subst (λ (x : Option SecurityStatus). DoneStep c p x old d mid) status makes.1;
         }
 
-    pub over_left : (mid : View) → IsOver (Some step.status) → DoneStep c told (Some step.status) old d mid → Leaves mid Completed
-    over_left mid over done = (come_at c laws told old d.nego_tokens step y handle given.takes mid Completed step.status (over_done step.status old d mid over done)).1
+    pub over_left : (mid : View) → IsOver (Some step.status) → DoneStep c p (Some step.status) old d mid → Leaves mid Completed
+    over_left mid over done = (come_at c laws p old d.nego_tokens step y handle given.takes mid Completed step.status (over_done step.status old d mid over done)).1
 
-    pub never_finishes : (mid : View) → ServerMakes c told faults old d outcome.Finished mid → ⊥
+    pub never_finishes : (mid : View) → ServerMakes c p old d outcome.Finished mid → ⊥
     never_finishes mid makes = let auth = makes.0.turn.reply.0 in let nego = given.is.state_is in cc
 
     began : (status : Option SecurityStatus) (mid : View) (kind : ErrorKind) → mid.acts.status ≡ status → (IsSome mid.acts.status → mid.acts.negotiated ≡ true) →
-        NegoCause c told faults status old d mid kind → mid.acts.negotiated ≡ true
+        NegoCause c p status old d mid kind → mid.acts.negotiated ≡ true
     began None mid kind is answered h = h
     began (Some status) mid kind is answered h = answered (rw is refl)
 
     -- what a refusal rests on
     pub record Refusal (mid : View) (kind : ErrorKind) (reply : Option TsRequest) : Type 0 where
       pub turn : ServerTurn c old d (outcome.Refused kind reply) mid
-      pub cause : NegoCause c told faults (Some step.status) old d mid kind
+      pub cause : NegoCause c p (Some step.status) old d mid kind
 
-    pub refusal : (mid : View) (kind : ErrorKind) (reply : Option TsRequest) → ServerMakes c told faults old d (outcome.Refused kind reply) mid → kind ≢ InsufficientMemory →
+    pub refusal : (mid : View) (kind : ErrorKind) (reply : Option TsRequest) → ServerMakes c p old d (outcome.Refused kind reply) mid → kind ≢ InsufficientMemory →
         Refusal mid kind reply
     refusal mid kind reply makes others =
         let error = makes.0 in
@@ -157,23 +155,23 @@ module _ {C P : Type 0} (c : Meaning ContextSetting C) (laws : IsContext c) (tol
         let others2 : error.error_type ≢ InsufficientMemory = λ memory. others (sym makes.1 ∙ memory) in
         let cause = cause_past b old mid w d NegoToken 0 0 error.error_type given.is given.version given.begins (makes.3.cause others2) in
         let was = began mid.acts.status mid error.error_type refl turn.turn.acts.answered cause in
-        let status = refused_at c laws told old d.nego_tokens step y handle given.takes mid mid.acts.status mid.acts.negotiated error was others2 makes.3.step in
+        let status = refused_at c laws p old d.nego_tokens step y handle given.takes mid mid.acts.status mid.acts.negotiated error was others2 makes.3.step in
         record {
           turn = turn;
-          cause = subst (λ (x : ErrorKind). NegoCause c told faults (Some step.status) old d mid x) makes.1
-              (subst (λ (x : Option SecurityStatus). NegoCause c told faults x old d mid error.error_type) status cause);
+          cause = subst (λ (x : ErrorKind). NegoCause c p (Some step.status) old d mid x) makes.1
+              (subst (λ (x : Option SecurityStatus). NegoCause c p x old d mid error.error_type) status cause);
         }
 
     -- ---- a token, and more to come
 
-    token_replied : (mid : View) (r : TsRequest) → step.status ≡ statuses.ContinueNeeded → ServerMakes c told faults old d (outcome.Reply r) mid →
+    token_replied : (mid : View) (r : TsRequest) → step.status ≡ statuses.ContinueNeeded → ServerMakes c p old d (outcome.Reply r) mid →
         (r ≡ record d { version = b.version; nego_tokens = Some step.output }) × ServerIs c b mid w NegoToken 0 0 × Holds c mid.context y × (mid.handle ≡ handle)
     token_replied mid r goes makes =
         let turn = makes.0 in
         let s = replies mid r makes in
         let answer = subst (λ (x : SecurityStatus). NegoAnswer c (server_frame c old mid) (server_turn c d (outcome.Reply r) mid) (Some x) r) goes s.answer in
-        let done = subst (λ (x : SecurityStatus). DoneStep c told (Some x) old d mid) goes s.done in
-        let left = (come_at c laws told old d.nego_tokens step y handle given.takes mid Unknown statuses.ContinueNeeded done).1 in
+        let done = subst (λ (x : SecurityStatus). DoneStep c p (Some x) old d mid) goes s.done in
+        let left = (come_at c laws p old d.nego_tokens step y handle given.takes mid Unknown statuses.ContinueNeeded done).1 in
         let status : mid.acts.status ≡ Some statuses.ContinueNeeded = s.status_is ∙ ap Some goes in
         let quiet = nego_acts (server_frame c old mid) (server_turn c d (outcome.Reply r) mid) turn.turn.acts given.is.state_is in
         let unproved : mid.acts.proved ≡ false = answer.1 in
@@ -197,10 +195,10 @@ module _ {C P : Type 0} (c : Meaning ContextSetting C) (laws : IsContext c) (tol
           left.handle_is,
         )
 
-    pub token_turn : (out : Outcome) (mid : View) → step.status ≡ statuses.ContinueNeeded → ServerMakes c told faults old d out mid →
+    pub token_turn : (out : Outcome) (mid : View) → step.status ≡ statuses.ContinueNeeded → ServerMakes c p old d out mid →
         Comes out (λ r. (r ≡ record d { version = b.version; nego_tokens = Some step.output }) × ServerIs c b mid w NegoToken 0 0 × Holds c mid.context y × (mid.handle ≡ handle))
     token_turn (outcome.Reply r) mid goes makes = token_replied mid r goes makes
     token_turn (outcome.Final r) mid goes makes = absurd makes
     token_turn outcome.Finished mid goes makes = never_finishes mid makes
     token_turn (outcome.Refused kind reply) mid goes makes =
-        λ others. subst (λ (x : SecurityStatus). NegoCause c told faults (Some x) old d mid kind) goes (refusal mid kind reply makes others).cause
+        λ others. subst (λ (x : SecurityStatus). NegoCause c p (Some x) old d mid kind) goes (refusal mid kind reply makes others).cause

@@ -9,6 +9,7 @@ use Rattle.sspi_mech.specs.Meaning.{Meaning}
 use Rattle.sspi_tsreq.specs.declared.request.TsRequest.{TsRequest}
 use Rattle.sspi_credssp.specs.Client.{ClientView}
 use Rattle.sspi_credssp.specs.Context.{ContextSetting}
+use Rattle.sspi_credssp.specs.Proxy.{ProxyMeaning}
 use Rattle.sspi_credssp.specs.Server.{ServerView}
 use Rattle.sspi_credssp.specs.ServerTurn.{HoldsIdentity}
 use Rattle.sspi_delegate.specs.declared.answer.Delegation.{Delegation}
@@ -146,21 +147,21 @@ finished_so (Final r) Q is ends = absurd is
 finished_so Finished Q is ends = ends
 finished_so (Refused kind reply) Q is ends = absurd is
 
-module _ {C D P : Type 0} (c : Meaning ContextSetting C) (k : KdcCalls D) (told : P → Option (List AuthIdentity)) (faults : P → ℕ) (failing : P → Option (List ℕ))
+module _ {C D P : Type 0} (c : Meaning ContextSetting C) (k : KdcCalls D) (p : ProxyMeaning P)
     (a : ClientView C) (b : ServerView C P) (kdc_first : D) (last : ℕ) (identity : AuthIdentity)
-    (known : IsKnown c k told faults failing a b kdc_first last identity) where
+    (known : IsKnown c k p a b kdc_first last identity) where
   abbrev CView : Type 0
   CView = ClientView C
 
   abbrev SView : Type 0
   SView = ServerView C P
 
-  module _ (base : List Carried) (start now limit : ℕ) (x : CView) (kdc : D) (y : SView) (calm : IsCalmAt c k told faults failing a b kdc_first y) where
+  module _ (base : List Carried) (start now limit : ℕ) (x : CView) (kdc : D) (y : SView) (calm : IsCalmAt c k p a b kdc_first y) where
     abbrev StandsSo : List Turn → Type 0
-    StandsSo turns = Stands c k told faults failing a b kdc_first last identity known turns x kdc y
+    StandsSo turns = Stands c k p a b kdc_first last identity known turns x kdc y
 
     abbrev TurnSo : Turn → List Turn → Type 0
-    TurnSo t past = TurnIs c k told faults failing a b kdc_first last identity known t past x kdc y
+    TurnSo t past = TurnIs c k p a b kdc_first last identity known t past x kdc y
 
     held_by : (e : End) (t : Turn) (past : List Turn) (identity2 : AuthIdentity) → e ≡ Server →
         GivesNewest c (server_end y) (onto_server e t (server_turns past)) identity2 → HoldsIdentity c y.context t.delivered.auth_info identity2
@@ -176,12 +177,12 @@ module _ {C D P : Type 0} (c : Meaning ContextSetting C) (k : KdcCalls D) (told 
         let none = server_none t.end e in (omega (arith, turns, count, none), finished_so t.outcome _ finished ends delegation.credentials holds)
 
     settle_ok : (delegation : Delegation) (turns : List Turn) (log : List Carried) → RunEnds base start limit (Ok delegation) turns log now → FollowsEdits [] log →
-        ClientHistory c k a kdc_first (client_turns turns) x kdc → ServerHistory c told faults failing b (server_turns turns) y →
+        ClientHistory c k a kdc_first (client_turns turns) x kdc → ServerHistory c p b (server_turns turns) y →
         GivesNewest c (server_end y) (server_turns turns) delegation.credentials → (delegation.turns ≡ suc last) × (delegation.credentials ≡ identity)
     settle_ok delegation [] log ends follows clients servers gives = absurd ends.0.newest
     settle_ok delegation (t ∷ past) log ends follows clients servers gives =
         let done = ends.0 in
-        let turn = newest_turn c k told faults failing a b kdc_first last identity known base t past log x kdc y done.order done.entries.0 done.entries.1 follows clients servers calm in
+        let turn = newest_turn c k p a b kdc_first last identity known base t past log x kdc y done.order done.entries.0 done.entries.1 follows clients servers calm in
         ok_by t past delegation turn done.newest.0 done.newest.1 (held_by t.end t past delegation.credentials done.newest.0 gives) ends.1
 
     client_never : (t : Turn) (past : List Turn) (kind : ErrorKind) → TurnSo t past → t.end ≡ Client → IsClientRefusal kind t.outcome → kind ≢ InsufficientMemory → ⊥
@@ -195,10 +196,10 @@ module _ {C D P : Type 0} (c : Meaning ContextSetting C) (k : KdcCalls D) (told 
     server_never t past kind (ends_here e count ends) here is others = end_refusal t.outcome kind _ is others ends
 
     settle_client : (error : Error) (turns : List Turn) (log : List Carried) → Alternates turns → Cause base start limit (errors.Client error) turns log now → FollowsEdits [] log →
-        ClientHistory c k a kdc_first (client_turns turns) x kdc → ServerHistory c told faults failing b (server_turns turns) y → ⊥
+        ClientHistory c k a kdc_first (client_turns turns) x kdc → ServerHistory c p b (server_turns turns) y → ⊥
     settle_client error [] log order cause follows clients servers = cause.1
     settle_client error (t ∷ past) log order cause follows clients servers =
-        let turn = newest_turn c k told faults failing a b kdc_first last identity known base t past log x kdc y order cause.2.0 cause.2.1 follows clients servers calm in
+        let turn = newest_turn c k p a b kdc_first last identity known base t past log x kdc y order cause.2.0 cause.2.1 follows clients servers calm in
         client_never t past error.error_type turn cause.1.0 cause.1.1 cause.0
 
     server_entries : (t : Turn) (past : List Turn) (log : List Carried) → FollowsEdits [] log → Given base start (t ∷ past) log now →
@@ -210,11 +211,11 @@ module _ {C D P : Type 0} (c : Meaning ContextSetting C) (k : KdcCalls D) (told 
     server_entries t past log follows (no_memory entries) = (log, entries, follows)
 
     settle_server : (error : Error) (turns : List Turn) (log : List Carried) → Alternates turns → Cause base start limit (errors.Server error) turns log now → FollowsEdits [] log →
-        ClientHistory c k a kdc_first (client_turns turns) x kdc → ServerHistory c told faults failing b (server_turns turns) y → ⊥
+        ClientHistory c k a kdc_first (client_turns turns) x kdc → ServerHistory c p b (server_turns turns) y → ⊥
     settle_server error [] log order cause follows clients servers = cause.1
     settle_server error (t ∷ past) log order cause follows clients servers =
         let e = server_entries t past log follows cause.2 in
-        let turn = newest_turn c k told faults failing a b kdc_first last identity known base t past e.0 x kdc y order e.1.0 e.1.1 e.2 clients servers calm in
+        let turn = newest_turn c k p a b kdc_first last identity known base t past e.0 x kdc y order e.1.0 e.1.1 e.2 clients servers calm in
         server_never t past error.error_type turn cause.1.0 cause.1.1 cause.0
 
     -- the newest turn has a message
@@ -223,19 +224,19 @@ module _ {C D P : Type 0} (c : Meaning ContextSetting C) (k : KdcCalls D) (told 
     newest_sent t past (server_next i client server next count sent) = (sent.0, sent.1, sent.2)
 
     settle_read : (to : End) (kind : WireKind) (turns : List Turn) (log : List Carried) → Alternates turns → Cause base start limit (errors.Read to kind) turns log now →
-        FollowsEdits [] log → ClientHistory c k a kdc_first (client_turns turns) x kdc → ServerHistory c told faults failing b (server_turns turns) y → ⊥
+        FollowsEdits [] log → ClientHistory c k a kdc_first (client_turns turns) x kdc → ServerHistory c p b (server_turns turns) y → ⊥
     settle_read to kind [] log order cause follows clients servers = cause.4
     settle_read to kind (t ∷ past) log order cause follows clients servers =
-        let s = stands c k told faults failing a b kdc_first last identity known base (t ∷ past) log x kdc y order cause.0 cause.3 follows clients servers calm in
+        let s = stands c k p a b kdc_first last identity known base (t ∷ past) log x kdc y order cause.0 cause.3 follows clients servers calm in
         let m = newest_sent t past s in
         always_readable base t past log m.0 kind m.1 m.2.value cause.3 follows cause.4
 
     settle_write : (from : End) (turns : List Turn) (log : List Carried) → Alternates turns → Cause base start limit (errors.Write from) turns log now → FollowsEdits [] log →
-        ClientHistory c k a kdc_first (client_turns turns) x kdc → ServerHistory c told faults failing b (server_turns turns) y → ⊥
+        ClientHistory c k a kdc_first (client_turns turns) x kdc → ServerHistory c p b (server_turns turns) y → ⊥
     settle_write from [] log order cause follows clients servers = cause.2
     settle_write from (t ∷ past) log order cause follows clients servers =
-        let turn = newest_turn c k told faults failing a b kdc_first last identity known base t past log x kdc y order cause.2.0 cause.2.1 follows clients servers calm in
-        let m = newest_sent t past (stands_on c k told faults failing a b kdc_first last identity known t past x kdc y cause.0.0 turn) in
+        let turn = newest_turn c k p a b kdc_first last identity known base t past log x kdc y order cause.2.0 cause.2.1 follows clients servers calm in
+        let m = newest_sent t past (stands_on c k p a b kdc_first last identity known t past x kdc y cause.0.0 turn) in
         never_too_long t past m.0 m.1 m.2.fit cause.3
 
     spent : (turns : List Turn) → StandsSo turns → next_end turns ≡ Client → turns_of Client turns ≡ limit → limit < suc last
@@ -243,7 +244,7 @@ module _ {C D P : Type 0} (c : Meaning ContextSetting C) (k : KdcCalls D) (told 
     spent turns (server_next i client server next count sent) here limit_is = absurd (wrong_end (next_end turns) here next)
 
     settled_by : (result : Result Delegation DelegateError) (turns : List Turn) (log : List Carried) → RunEnds base start limit result turns log now → FollowsEdits [] log →
-        NoLinkFault result → ClientPast c k a kdc_first result (client_turns turns) x kdc → ServerHistory c told faults failing b (server_turns turns) y →
+        NoLinkFault result → ClientPast c k a kdc_first result (client_turns turns) x kdc → ServerHistory c p b (server_turns turns) y →
         IfOk result (λ delegation. GivesNewest c (server_end y) (server_turns turns) delegation.credentials) → Settled (suc last) limit identity result
     settled_by (Ok delegation) turns log ends follows still clients servers gives = settle_ok delegation turns log ends follows clients servers gives
     settled_by (Err (errors.Client error)) turns log ends follows still clients servers gives =
@@ -253,7 +254,7 @@ module _ {C D P : Type 0} (c : Meaning ContextSetting C) (k : KdcCalls D) (told 
     settled_by (Err (errors.Write from)) turns log ends follows still clients servers gives = settle_write from turns log ends.order ends.cause follows clients servers
     settled_by (Err errors.LinkFault) turns log ends follows still clients servers gives = still
     settled_by (Err errors.TurnsSpent) turns log ends follows still clients servers gives =
-        spent turns (stands c k told faults failing a b kdc_first last identity known base turns log x kdc y ends.order ends.cause.0 ends.cause.3 follows clients servers calm)
+        spent turns (stands c k p a b kdc_first last identity known base turns log x kdc y ends.order ends.cause.0 ends.cause.3 follows clients servers calm)
         ends.cause.1 ends.cause.2
     settled_by (Err errors.InsufficientMemory) turns log ends follows still clients servers gives = tt
 
@@ -261,7 +262,7 @@ module _ {C D P : Type 0} (c : Meaning ContextSetting C) (k : KdcCalls D) (told 
   pub settled : (base : List Carried) (start now limit : ℕ) (x : CView) (kdc : D) (y : SView) (edits edits2 : Option (List Edit)) (result : Result Delegation DelegateError)
       (turns : List Turn) (log : List Carried) → IsUndisturbed edits base log start now → RunEnds base start limit result turns log now → StaysTold edits edits2 base log →
       AnswerTold edits start now result log (newest_message turns) → ClientPast c k a kdc_first result (client_turns turns) x kdc →
-      ServerHistory c told faults failing b (server_turns turns) y → IsCalm (faults b.proxy) (faults y.proxy) →
+      ServerHistory c p b (server_turns turns) y → IsCalm (p.faults b.proxy) (p.faults y.proxy) →
       IfOk result (λ delegation. GivesNewest c (server_end y) (server_turns turns) delegation.credentials) → Settled (suc last) limit identity result
   settled base start now limit x kdc y edits edits2 result turns log undisturbed ends stays still clients servers calm gives =
       let quiet = undisturbed_is edits edits2 base log limit start now result turns undisturbed ends stays still in

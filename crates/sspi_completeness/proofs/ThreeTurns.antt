@@ -5,7 +5,6 @@ use Rattle.sspi_types.specs.declared.security_status.SecurityStatus.{SecuritySta
 use Rattle.sspi_types.specs.declared.security_status.SecurityStatus.TheVariants as statuses
 use Rattle.sspi_types.specs.declared.error.Error.{Error}
 use Rattle.sspi_names.specs.declared.credentials.CredentialsBuffers.{CredentialsBuffers}
-use Rattle.sspi_names.specs.declared.identity.AuthIdentity.{AuthIdentity}
 use Rattle.sspi_mech.specs.declared.config.NtlmConfig.{NtlmConfig}
 use Rattle.sspi_mech.specs.declared.step.Step.{Step}
 use Rattle.sspi_mech.specs.Calls.{AcceptArgs}
@@ -22,6 +21,7 @@ use Rattle.sspi_credssp.specs.declared.state.CredSspState.{CredSspState}
 use Rattle.sspi_credssp.specs.declared.state.CredSspState.TheVariants.{NegoToken}
 use Rattle.sspi_credssp.specs.Begun.{IfContext}
 use Rattle.sspi_credssp.specs.Context.{either}
+use Rattle.sspi_credssp.specs.Proxy.{ProxyMeaning}
 use Rattle.sspi_credssp.specs.Server.{ServerView, IsFreshServer}
 use Rattle.sspi_credssp.specs.ServerStep.{DoneStep, Knowing, Unknown, Identified, Completed, Accepted, accepted, identified, completed, recounted, server_args}
 use Rattle.sspi_credssp.specs.ServerTurn.{IsOver, MayCheck}
@@ -36,7 +36,7 @@ use Rattle.sspi_delegate.specs.EndTurns.{onto_server, server_turns, OthersGoOn}
 use Rattle.sspi_delegate.specs.Turns.{GoesOn, other, next_end, Alternates}
 use Rattle.sspi_delegate.specs.Headline.{HasExchanged}
 use Rattle.sspi_delegate.specs.History.{ServerMakes, ServerMade, ServerHistory}
-use Rattle.sspi_completeness.specs.Matching.{config_of}
+use Rattle.sspi_completeness.specs.Matching.{IsPlain}
 use Rattle.sspi_completeness.proofs.Ends.{in_context}
 use Rattle.sspi_completeness.proofs.NtlmEnds.{IfNtlm, server_first}
 use Rattle.sspi_credssp.specs.declared.turn.Outcome.{Outcome}
@@ -56,67 +56,77 @@ first_asks config m m2 input step new e =
 
 -- ---- the server's turns
 
-module _ {K P : Type 0} (k : Meaning Setting K) (told : P → Option (List AuthIdentity)) (faults : P → ℕ) (failing : P → Option (List ℕ)) where
+module _ {K P : Type 0} (k : Meaning Setting K) (p : ProxyMeaning P) where
   asks_first : (config : NtlmConfig) (handle : Option CredentialsBuffers) (m0 m : SspiContext NtlmState K) (args : AcceptArgs) (step : Step) →
       IfNtlm k m0 (λ x. (x ≡ ntlm_of config) × (handle ≡ None)) → (either 0 ntlm_meaning k).accepts m0 args (Ok step) m → step.status ≡ statuses.ContinueNeeded
   asks_first config handle (Ntlm x) (Ntlm y) args step begun accepts = first_asks config x y args.input step begun.0 accepts
   asks_first config handle (Ntlm x) (Kerberos y) args step begun accepts = absurd accepts
+  asks_first config handle (Ntlm x) (Negotiate y) args step begun accepts = absurd accepts
   asks_first config handle (Kerberos x) m args step begun accepts = absurd begun
+  asks_first config handle (Negotiate x) m args step begun accepts = absurd begun
+
+  first_begun : (mode : ServerMode) (told : Option (List AuthIdentity)) (context : Option (SspiContext NtlmState K)) (had handle : Option CredentialsBuffers)
+      (m0 m : SspiContext NtlmState K) (args : AcceptArgs) (step : Step) → IsPlain mode → context ≡ None →
+      Begun (either 0 ntlm_meaning k) context had (ForServer mode told) Inbound None handle m0 →
+      (either 0 ntlm_meaning k).accepts m0 args (Ok step) m → step.status ≡ statuses.ContinueNeeded
+  first_begun (server.Ntlm config) told context had handle m0 m args step plain none begun accepts =
+      asks_first config handle m0 m args step (server_first k config told context had handle m0 none begun) accepts
+  first_begun (server.Negotiate config) told context had handle m0 m args step plain none begun accepts = absurd plain
 
   first_step : (start : ServerView (SspiContext NtlmState K) P) (handle : Option CredentialsBuffers) (token : Option (List ℕ)) (known : Knowing) (answer : Result Step Error)
-      (step : Step) (m : SspiContext NtlmState K) → start.context ≡ None → answer ≡ Ok step → Accepted (either 0 ntlm_meaning k) told start handle token known answer m →
+      (step : Step) (m : SspiContext NtlmState K) → IsPlain start.mode → start.context ≡ None → answer ≡ Ok step → Accepted (either 0 ntlm_meaning k) p start handle token known answer m →
       step.status ≡ statuses.ContinueNeeded
-  first_step start handle token known answer step m none is (accepted m0 m1 a begun accepts) =
-      asks_first (config_of start.mode) handle m0 m (server_args handle token) step (server_first k start.mode start.context start.handle handle m0 none begun)
+  first_step start handle token known answer step m plain none is (accepted m0 m1 a begun accepts) =
+      first_begun start.mode _ start.context start.handle handle m0 m (server_args handle token) step plain none begun
       (subst (λ (x : Result Step Error). (either 0 ntlm_meaning k).accepts m0 (server_args handle token) x m) is accepts)
-  first_step start handle token known answer step m none is (identified m1 m2 a before names) = first_step start handle token Unknown answer step m1 none is before
-  first_step start handle token known answer step m none is (completed m1 a before permits) = first_step start handle token Identified answer step m none is before
-  first_step start handle token known answer step m none is (recounted m1 m2 n kn a before counted quiet) = first_step start handle token known answer step m1 none is before
+  first_step start handle token known answer step m plain none is (identified m1 m2 a before names) = first_step start handle token Unknown answer step m1 plain none is before
+  first_step start handle token known answer step m plain none is (completed m1 a before permits) = first_step start handle token Identified answer step m plain none is before
+  first_step start handle token known answer step m plain none is (recounted m1 m2 n kn a before counted quiet) = first_step start handle token known answer step m1 plain none is before
 
-  first_goes_on : (start now : ServerView (SspiContext NtlmState K) P) (d : TsRequest) (status : SecurityStatus) → start.context ≡ None →
-      IfContext now.context (Accepted (either 0 ntlm_meaning k) told start now.handle d.nego_tokens Completed (Ok (record { status = status; output = now.output }))) →
+  first_goes_on : (start now : ServerView (SspiContext NtlmState K) P) (d : TsRequest) (status : SecurityStatus) → IsPlain start.mode → start.context ≡ None →
+      IfContext now.context (Accepted (either 0 ntlm_meaning k) p start now.handle d.nego_tokens Completed (Ok (record { status = status; output = now.output }))) →
       status ≡ statuses.ContinueNeeded
-  first_goes_on start now d status none h =
-      let there = in_context now.context _ h in first_step start now.handle d.nego_tokens Completed _ _ there.0 none refl there.2
+  first_goes_on start now d status plain none h =
+      let there = in_context now.context _ h in first_step start now.handle d.nego_tokens Completed _ _ there.0 plain none refl there.2
 
   -- the first step of a server does not end the authentication
-  first_not_over : (start now : ServerView (SspiContext NtlmState K) P) (d : TsRequest) (status : Option SecurityStatus) → start.context ≡ None →
-      DoneStep (either 0 ntlm_meaning k) told status start d now → IsOver status → ⊥
-  first_not_over start now d None none step over = over
-  first_not_over start now d (Some statuses.Ok) none step over = let e = first_goes_on start now d statuses.Ok none step in cc
-  first_not_over start now d (Some statuses.CompleteNeeded) none step over = let e = first_goes_on start now d statuses.CompleteNeeded none step in cc
-  first_not_over start now d (Some other) none step over = over
+  first_not_over : (start now : ServerView (SspiContext NtlmState K) P) (d : TsRequest) (status : Option SecurityStatus) → IsPlain start.mode → start.context ≡ None →
+      DoneStep (either 0 ntlm_meaning k) p status start d now → IsOver status → ⊥
+  first_not_over start now d None plain none step over = over
+  first_not_over start now d (Some statuses.Ok) plain none step over = let e = first_goes_on start now d statuses.Ok plain none step in cc
+  first_not_over start now d (Some statuses.CompleteNeeded) plain none step over = let e = first_goes_on start now d statuses.CompleteNeeded plain none step in cc
+  first_not_over start now d (Some other) plain none step over = over
 
   nego_check : (state : CredSspState) (status : Option SecurityStatus) → state ≡ NegoToken → MayCheck state status → IsOver status
   nego_check state status nego may = subst (λ (s : CredSspState). MayCheck s status) nego may
 
   -- a server checks no proof in its first turn
-  first_checks : (first mid : ServerView (SspiContext NtlmState K) P) (d : TsRequest) (out : Outcome) → IsFreshServer first → GoesOn out →
-      ServerMakes (either 0 ntlm_meaning k) told faults first d out mid → mid.acts.checked ≡ true → ⊥
-  first_checks first mid d (outcome.Reply reply) fresh went makes checked =
-      first_not_over first mid d mid.acts.status fresh.context makes.1 (nego_check first.state mid.acts.status fresh.state (makes.0.turn.acts.checked checked).0)
-  first_checks first mid d (outcome.Final reply) fresh went makes checked = makes
-  first_checks first mid d outcome.Finished fresh went makes checked = went
-  first_checks first mid d (outcome.Refused kind reply) fresh went makes checked = went
+  first_checks : (first mid : ServerView (SspiContext NtlmState K) P) (d : TsRequest) (out : Outcome) → IsPlain first.mode → IsFreshServer first → GoesOn out →
+      ServerMakes (either 0 ntlm_meaning k) p first d out mid → mid.acts.checked ≡ true → ⊥
+  first_checks first mid d (outcome.Reply reply) plain fresh went makes checked =
+      first_not_over first mid d mid.acts.status plain fresh.context makes.1 (nego_check first.state mid.acts.status fresh.state (makes.0.turn.acts.checked checked).0)
+  first_checks first mid d (outcome.Final reply) plain fresh went makes checked = makes
+  first_checks first mid d outcome.Finished plain fresh went makes checked = went
+  first_checks first mid d (outcome.Refused kind reply) plain fresh went makes checked = went
 
-  made_checks : (first old now : ServerView (SspiContext NtlmState K) P) (u : Turn) → old ≡ first → IsFreshServer first → GoesOn u.outcome →
-      ServerMade (either 0 ntlm_meaning k) told faults failing old u now → u.acts.checked ≡ true → ⊥
-  made_checks first old now u same fresh went made checked =
-      first_checks first made.mid u.delivered u.outcome fresh went
-      (subst (λ (x : ServerView (SspiContext NtlmState K) P). ServerMakes (either 0 ntlm_meaning k) told faults x u.delivered u.outcome made.mid) same made.makes)
+  made_checks : (first old now : ServerView (SspiContext NtlmState K) P) (u : Turn) → old ≡ first → IsPlain first.mode → IsFreshServer first → GoesOn u.outcome →
+      ServerMade (either 0 ntlm_meaning k) p old u now → u.acts.checked ≡ true → ⊥
+  made_checks first old now u same plain fresh went made checked =
+      first_checks first made.mid u.delivered u.outcome plain fresh went
+      (subst (λ (x : ServerView (SspiContext NtlmState K) P). ServerMakes (either 0 ntlm_meaning k) p x u.delivered u.outcome made.mid) same made.makes)
       (sym (ap (λ (t : Turn). t.acts.checked) made.turn) ∙ checked)
 
   exchange_alone : (checked proved : Bool) → (checked && proved) || false ≡ true → checked ≡ true
   exchange_alone true proved h = refl
   exchange_alone false proved h = absurd cc
 
-  pub three_of_server : (first now : ServerView (SspiContext NtlmState K) P) (turns : List Turn) → IsFreshServer first → OthersGoOn turns → HasExchanged turns →
-      ServerHistory (either 0 ntlm_meaning k) told faults failing first turns now → 3 ≤ length turns
-  three_of_server first now [] fresh others has history = absurd has
-  three_of_server first now (t ∷ []) fresh others has history = absurd (cc (has))
-  three_of_server first now (t ∷ u ∷ []) fresh others has history =
-      absurd (made_checks first history.1.0 history.0 u history.1.1 fresh others.0 history.1.2 (exchange_alone u.acts.checked u.acts.proved has))
-  three_of_server first now (t ∷ u ∷ v ∷ past) fresh others has history = omega arith
+  pub three_of_server : (first now : ServerView (SspiContext NtlmState K) P) (turns : List Turn) → IsPlain first.mode → IsFreshServer first → OthersGoOn turns → HasExchanged turns →
+      ServerHistory (either 0 ntlm_meaning k) p first turns now → 3 ≤ length turns
+  three_of_server first now [] plain fresh others has history = absurd has
+  three_of_server first now (t ∷ []) plain fresh others has history = absurd (cc (has))
+  three_of_server first now (t ∷ u ∷ []) plain fresh others has history =
+      absurd (made_checks first history.1.0 history.0 u history.1.1 plain fresh others.0 history.1.2 (exchange_alone u.acts.checked u.acts.proved has))
+  three_of_server first now (t ∷ u ∷ v ∷ past) plain fresh others has history = omega arith
 
 -- ---- as many turns of the client
 
@@ -141,16 +151,16 @@ three_turns (t ∷ past) order newest three =
     let next : ahead (other t.end) ≡ 0 = ap (λ (e : End). ahead (other e)) newest.0 in
     omega (arith, count, next, three)
 
-module _ {K P : Type 0} (k : Meaning Setting K) (told : P → Option (List AuthIdentity)) (faults : P → ℕ) (failing : P → Option (List ℕ)) where
+module _ {K P : Type 0} (k : Meaning Setting K) (p : ProxyMeaning P) where
   -- an exchange that is Ok had three messages of the client
   pub ok_three : (base log : List Carried) (start now limit : ℕ) (result : Result Delegation DelegateError) (turns : List Turn)
-      (first server : ServerView (SspiContext NtlmState K) P) → RunEnds base start limit result turns log now → IsFreshServer first →
+      (first server : ServerView (SspiContext NtlmState K) P) → RunEnds base start limit result turns log now → IsPlain first.mode → IsFreshServer first →
       OthersGoOn (server_turns turns) → OnOk result (HasExchanged (server_turns turns)) →
-      ServerHistory (either 0 ntlm_meaning k) told faults failing first (server_turns turns) server → IfOk result (λ delegation. 3 ≤ delegation.turns)
-  ok_three base log start now limit (Ok delegation) turns first server ends fresh others has history =
-      let three = three_turns turns ends.0.order ends.0.newest (three_of_server k told faults failing first server (server_turns turns) fresh others has history) in
+      ServerHistory (either 0 ntlm_meaning k) p first (server_turns turns) server → IfOk result (λ delegation. 3 ≤ delegation.turns)
+  ok_three base log start now limit (Ok delegation) turns first server ends plain fresh others has history =
+      let three = three_turns turns ends.0.order ends.0.newest (three_of_server k p first server (server_turns turns) plain fresh others has history) in
       omega (arith, ends.1, three)
-  ok_three base log start now limit (Err error) turns first server ends fresh others has history = tt
+  ok_three base log start now limit (Err error) turns first server ends plain fresh others has history = tt
 
 pub too_few : (result : Result Delegation DelegateError) (limit : ℕ) → IfOk result (λ delegation. 3 ≤ delegation.turns) → IfOk result (λ delegation. delegation.turns ≤ limit) →
     limit < 3 → IsErr result

@@ -7,10 +7,11 @@ use Rattle.sspi_names.specs.Name.{down_level}
 use Rattle.sspi_mech.specs.declared.config.NtlmConfig.{NtlmConfig}
 use Rattle.sspi_tsreq.specs.declared.mode.CredSspMode.{CredSspMode}
 use Rattle.sspi_tsreq.specs.declared.mode.CredSspMode.TheVariants.{WithCredentials, CredentialLess}
+use Rattle.sspi_credssp.specs.declared.mode.ClientMode.TheVariants as client_mode
 use Rattle.sspi_credssp.specs.declared.mode.ServerMode.{ServerMode}
 use Rattle.sspi_credssp.specs.declared.mode.ServerMode.TheVariants as server_mode
 use Rattle.sspi_credssp.specs.Client.{ClientView}
-use Rattle.sspi_credssp.specs.Proxy.{entry_of}
+use Rattle.sspi_credssp.specs.Proxy.{ProxyMeaning, entry_of}
 use Rattle.sspi_credssp.specs.Server.{ServerView}
 use Rattle.sspi_delegate.specs.declared.answer.Delegation.{Delegation}
 use Rattle.sspi_delegate.specs.declared.answer.DelegateError.{DelegateError}
@@ -19,12 +20,10 @@ use Rattle.sspi_delegate.specs.declared.carried.Carried.{Carried}
 use Rattle.sspi_delegate.specs.declared.edit.Edit.{Edit}
 use Rattle.sspi_delegate.specs.Edits.{Delivers}
 
-abbrev pub config_of : ServerMode → NtlmConfig
-config_of (server_mode.Ntlm config) = config
-
--- the challenge that a server sends
-abbrev pub challenge_of : ServerMode → List ℕ
-challenge_of mode = (config_of mode).challenge
+-- NTLM alone, without a negotiation
+abbrev pub IsPlain : ServerMode → Type 0
+IsPlain (server_mode.Ntlm config) = Unit {0}
+IsPlain (server_mode.Negotiate config) = ⊥
 
 -- the first entry of the identity's name, but for the case of ASCII letters, has its password
 pub record HasEntry (entries : List AuthIdentity) (identity : AuthIdentity) : Type 0 where
@@ -38,9 +37,13 @@ pub record IsShort (identity : AuthIdentity) : Type 0 where
   pub domain_units : length (buffers_of identity).domain ≤ 4096
   pub password_units : length (buffers_of identity).password.value ≤ 4096
 
--- One key and one kind of proof; the client has an identity whose password the server's proxy tells. The last fields say
--- what is so of every client and server that is made.
-pub record AreMatching {C D P : Type 0} (told : P → Option (List AuthIdentity)) (client : ClientView C) (server : ServerView D P) : Type 0 where
+-- Both authenticate by plain NTLM, with one key and one kind of proof; the client has an identity whose password the server's
+-- proxy tells. The last fields say what is so of every client and server that is made.
+pub record AreMatching {C D P : Type 0} (p : ProxyMeaning P) (client : ClientView C) (server : ServerView D P) : Type 0 where
+  pub client_config : NtlmConfig
+  pub client_plain : client.mode ≡ client_mode.Ntlm client_config
+  pub server_config : NtlmConfig
+  pub server_plain : server.mode ≡ server_mode.Ntlm server_config
   pub key_same : server.public_key ≡ client.public_key
   pub key_short : length client.public_key ≤ 16384
   pub versions : nat_lt client.version 5 ≡ nat_lt server.version 5
@@ -48,13 +51,13 @@ pub record AreMatching {C D P : Type 0} (told : P → Option (List AuthIdentity)
   pub credentials_are : client.credentials ≡ credentials.AuthIdentity identity
   pub short : IsShort identity
   pub entries : List AuthIdentity
-  pub tells : told server.proxy ≡ Some entries
+  pub tells : (p.told server.proxy).entries ≡ Some entries
   pub entry : HasEntry entries identity
   pub identity_is : IsIdentity identity
   pub client_version : client.version < 2 ^ 32
   pub server_version : server.version < 2 ^ 32
   pub nonce : length client.nonce ≡ 32
-  pub challenge : length (challenge_of server.mode) ≡ 8
+  pub challenge : length server_config.challenge ≡ 8
 
 -- a count of faults that did not rise, and that does not stand at its last value
 pub record IsCalm (before now : ℕ) : Type 0 where

@@ -3,7 +3,7 @@ ghost use Rattle.sspi_credssp.specs.Context.{either};
 ghost use Rattle.sspi_delegate.specs.Delegates.{around_by, parties, Delegates, Accounts, Stays};
 ghost use Rattle.sspi_delegate.specs.Headline.{IsFresh};
 ghost use Rattle.sspi_mech.specs.Ntlm.{ntlm_meaning};
-ghost use Rattle.sspi_completeness.specs.Matching.{AreMatching, IsUndisturbed, NoneFailed, delegated_as, ComesToOk, IsCutShort};
+ghost use Rattle.sspi_completeness.specs.Matching.{AreMatching, IsPlain, IsUndisturbed, NoneFailed, delegated_as, ComesToOk, IsCutShort};
 
 use sspi_credssp::{CredSspClient, CredSspServer, CredentialsProxy};
 use sspi_delegate::{DelegateError, Delegation, Link, Transcript, delegate};
@@ -12,7 +12,7 @@ use std::alloc::Global;
 
 /// `delegate` between two ends that authenticate by plain NTLM: its promises, and what is so of these ends alone.
 ///
-/// It is Ok only after three messages of the client, whatever the link delivers. Where the ends match, the link disturbs
+/// Where the server does not negotiate it is Ok only after three messages of the client, whatever the link delivers. Where the ends match, the link disturbs
 /// nothing and no look-up of the proxy fails, it is Ok after exactly three, with the client's identity, or there was no memory.
 /// Where the client may make fewer than three messages, that is then the reason, or want of memory.
 pub fn delegate_plainly<K: Mechanism, C: CredentialsProxy, L: Link, D: Kdc>(
@@ -25,25 +25,25 @@ pub fn delegate_plainly<K: Mechanism, C: CredentialsProxy, L: Link, D: Kdc>(
     transcript: &mut Transcript,
 ) -> Result<Delegation, DelegateError>
     ensures delegates { IsFresh client.old server.old transcript.old.turns → Delegates (either 0 ntlm_meaning K.meaning)
-        (around_by C.told C.failing C.faults L.log L.edits L.faults D.told D.asked D.faults)
+        (around_by C.meaning L.log L.edits L.faults D.told D.asked D.faults)
         (parties client.old server.old link.old kdc.old transcript.old.turns) turns result
         (parties client.new server.new link.new kdc.new transcript.new.turns) }
     ensures accounts { transcript.old.turns ≡ [] → Accounts (either 0 ntlm_meaning K.meaning)
-        (around_by C.told C.failing C.faults L.log L.edits L.faults D.told D.asked D.faults)
+        (around_by C.meaning L.log L.edits L.faults D.told D.asked D.faults)
         (parties client.old server.old link.old kdc.old transcript.old.turns) turns result
         (parties client.new server.new link.new kdc.new transcript.new.turns) }
-    ensures stays { Stays (around_by C.told C.failing C.faults L.log L.edits L.faults D.told D.asked D.faults)
+    ensures stays { Stays (around_by C.meaning L.log L.edits L.faults D.told D.asked D.faults)
         (parties client.old server.old link.old kdc.old transcript.old.turns) turns result
         (parties client.new server.new link.new kdc.new transcript.new.turns) }
-    ensures three { IsFresh client.old server.old transcript.old.turns → IfOk result (λ delegation. 3 ≤ delegation.turns) }
-    ensures few { IsFresh client.old server.old transcript.old.turns → turns < 3 → IsErr result }
-    ensures comes { (matching : AreMatching C.told client.old server.old) → IsFresh client.old server.old transcript.old.turns →
+    ensures three { IsPlain server.old.mode → IsFresh client.old server.old transcript.old.turns → IfOk result (λ delegation. 3 ≤ delegation.turns) }
+    ensures few { IsPlain server.old.mode → IsFresh client.old server.old transcript.old.turns → turns < 3 → IsErr result }
+    ensures comes { (matching : AreMatching C.meaning client.old server.old) → IsFresh client.old server.old transcript.old.turns →
         IsUndisturbed (L.edits link.old) (L.log link.old) (L.log link.new) (L.faults link.old) (L.faults link.new) →
-        NoneFailed (C.failing server.old.proxy) (C.faults server.old.proxy) (C.faults server.new.proxy) →
+        NoneFailed (C.meaning.told server.old.proxy).failing (C.meaning.faults server.old.proxy) (C.meaning.faults server.new.proxy) →
         3 ≤ turns → ComesToOk (delegated_as client.old.delegation matching.identity) result }
-    ensures short { AreMatching C.told client.old server.old → IsFresh client.old server.old transcript.old.turns →
+    ensures short { AreMatching C.meaning client.old server.old → IsFresh client.old server.old transcript.old.turns →
         IsUndisturbed (L.edits link.old) (L.log link.old) (L.log link.new) (L.faults link.old) (L.faults link.new) →
-        NoneFailed (C.failing server.old.proxy) (C.faults server.old.proxy) (C.faults server.new.proxy) →
+        NoneFailed (C.meaning.told server.old.proxy).failing (C.meaning.faults server.old.proxy) (C.meaning.faults server.new.proxy) →
         turns < 3 → IsCutShort result }
 {
     delegate(alloc, client, server, link, kdc, turns, transcript)

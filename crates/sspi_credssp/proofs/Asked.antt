@@ -1,8 +1,8 @@
 -- What a call of a proxy is among the calls of a turn.
-use Rattle.std.proofs.Common.{◌≡◌, ◌∙◌, ◌+◌, ◌-◌, ◌^◌, ◌≤◌, ℕ, zero, min, List, [], Option, None, Some, Result, Ok, Err, IsErr, true, false, refl, sym, ap, subst, arith}
+use Rattle.std.proofs.Common.{◌≡◌, ◌∙◌, ◌+◌, ◌-◌, ◌<◌, ◌≤◌, ◌⊎◌, inl, inr, ℕ, zero, suc, add-zero, add-suc, List, [], Option, None, Some, Result, Ok, Err, OnOk, true, false, refl, sym, ap, subst, arith}
 use Rattle.sspi_credssp.specs.declared.proxy.ProxyError.{ProxyError}
 use Rattle.sspi_credssp.specs.declared.proxy.ProxyError.TheVariants.{NotFound, Failed, InsufficientMemory}
-use Rattle.sspi_credssp.specs.Proxy.{ProxyMeaning, ProxyTells, HasAnswered, IsLater, IsAsked, FailsNext, FailsAfter, TellsFailure, FailsAsTold, LookUpCause, counted_on, counted_after, fails_at}
+use Rattle.sspi_credssp.specs.Proxy.{ProxyMeaning, ProxyTells, HasAnswered, HasAsked, IsLater, IsAsked, FailsAfter, TellsFailure, FailsAsTold, LookUpCause, counted_on, counted_after}
 use Rattle.sspi_credssp.proofs.Proxies.{calm_look_up}
 
 rises : {X : Type 0} (before now : ℕ) (r : Result X ProxyError) → LookUpCause before now r → before ≤ now
@@ -15,6 +15,19 @@ told_failure : {X : Type 0} (failing : Option (List ℕ)) (call before now : ℕ
     TellsFailure failing call → ⊥
 told_failure None call before now x told fails = fails
 told_failure (Some numbers) call before now x told fails = absurd cc
+
+in_first : (i n : ℕ) → (i < n) ⊎ (n ≤ i)
+in_first zero zero = inr (omega arith)
+in_first zero (suc n) = inl (omega arith)
+in_first (suc i) zero = inr (omega arith)
+in_first (suc i) (suc n) = elim (in_first i n) [
+  | inl less ↦ inl (omega (arith, less))
+  | inr more ↦ inr (omega (arith, more))
+]
+
+counted_on_after : (n more count : ℕ) → counted_after (n + more) count ≡ counted_after more (counted_after n count)
+counted_on_after n zero count = rw (add-zero n) refl
+counted_on_after n (suc more) count = rw (add-suc n more) (ap counted_on (counted_on_after n more count))
 
 module _ {P : Type 0} (p : ProxyMeaning P) where
   pub asked_once : {X : Type 0} (before : P) (r : Result X ProxyError) (now : P) → HasAnswered p before r now → IsAsked p 1 before now
@@ -53,13 +66,47 @@ module _ {P : Type 0} (p : ProxyMeaning P) where
     faults_stay = omega (arith, first.faults_stay, then.faults_stay);
   }
 
-  -- a call that is told to fail does
-  pub failed_call : {X : Type 0} (before : P) (r : Result X ProxyError) (now : P) → HasAnswered p before r now → FailsNext p before → IsErr r
-  failed_call before (Ok x) now h fails = absurd (told_failure _ _ _ _ x h.fails fails)
-  failed_call before (Err e) now h fails = refl
+  -- exactly so many, none of which was told to fail
+  pub has_asked_once : {X : Type 0} (before : P) (r : Result X ProxyError) (now : P) → HasAnswered p before r now → OnOk r (HasAsked p 1 before now)
+  has_asked_once before (Ok x) now h = record {
+    counted = h.counted;
+    unfailing = λ i first fails. told_failure _ _ _ _ x h.fails (subst (λ n. FailsAfter p n before) (let e : i ≡ 0 = omega (arith, first) in e) fails);
+  }
+  has_asked_once before (Err e) now h = tt
 
-  -- the call after those that were made is the next one
-  pub fails_now : (n : ℕ) (before now : P) → p.told now ≡ p.told before → p.calls now ≡ counted_after n (p.calls before) →
-      FailsAfter p n before → FailsNext p now
-  fails_now n before now same number fails =
-      subst (λ (t : ProxyTells). TellsFailure t.failing (p.calls now)) (sym same) (subst (λ x. TellsFailure (p.told before).failing x) (sym number) fails)
+  pub has_not_asked : (n : ℕ) (before now : P) → n ≡ 0 → now ≡ before → HasAsked p n before now
+  has_not_asked n before now none same = record {
+    counted = rw (none, same) refl;
+    unfailing = λ i less. absurd (omega (arith, less, none));
+  }
+
+  pub has_asked_as : (n m : ℕ) (before now : P) → n ≡ m → HasAsked p n before now → HasAsked p m before now
+  has_asked_as n m before now same h = subst (λ i. HasAsked p i before now) same h
+
+  pub has_asked_on : (n more : ℕ) (before mid now : P) → p.told mid ≡ p.told before → HasAsked p n before mid → HasAsked p more mid now →
+      HasAsked p (n + more) before now
+  has_asked_on n more before mid now same first then = record {
+    counted = then.counted ∙ ap (counted_after more) first.counted ∙ sym (counted_on_after n more (p.calls before));
+    unfailing = λ i less fails. elim (in_first i n) [
+      | inl before ↦ first.unfailing i before fails
+      | inr after ↦ let e : i ≡ n + (i - n) = omega (arith, after) in
+          then.unfailing (i - n) (omega (arith, less, after)) (later_fails (i - n) (subst (λ x. FailsAfter p x before) e fails))
+    ];
+  } where
+    later_fails : (j : ℕ) → FailsAfter p (n + j) before → FailsAfter p j mid
+    later_fails j fails =
+        subst (λ (t : ProxyTells). TellsFailure t.failing (counted_after j (p.calls mid))) (sym same)
+        (subst (λ x. TellsFailure (p.told before).failing (counted_after j x)) (sym first.counted)
+        (subst (λ x. TellsFailure (p.told before).failing x) (counted_on_after n j (p.calls before)) fails))
+
+  pub turn_asked : {T E : Type 0} (before mid now : P) (n more : ℕ) (r : Result T E) → p.told mid ≡ p.told before → HasAsked p n before mid →
+      OnOk r (HasAsked p more mid now) → OnOk r (HasAsked p (n + more) before now)
+  turn_asked before mid now n more (Ok x) same first then = has_asked_on n more before mid now same first then
+  turn_asked before mid now n more (Err e) same first then = tt
+
+  pub asked_as : (n m : ℕ) (before now : P) → n ≡ m → IsAsked p n before now → IsAsked p m before now
+  asked_as n m before now same h = subst (λ i. IsAsked p i before now) same h
+
+  pub on_ok_asked_as : {T E : Type 0} (n m : ℕ) (before now : P) (r : Result T E) → n ≡ m → OnOk r (HasAsked p n before now) → OnOk r (HasAsked p m before now)
+  on_ok_asked_as n m before now (Ok x) same h = has_asked_as n m before now same h
+  on_ok_asked_as n m before now (Err e) same h = tt

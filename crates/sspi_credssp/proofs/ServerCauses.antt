@@ -31,7 +31,7 @@ begun_noted (Err e) mid new noted Q same h = tt
 module _ {C : Type 0} (c : Meaning ContextSetting C) where
   -- a turn that was refused as it began
   pub server_cause_begun : {P : Type 0} (p : ProxyMeaning P) (old new : ServerView C P) (d : TsRequest) (kind : ErrorKind) →
-      MadeOr old.context new.context (MakeCause c p old new.proxy kind)
+      MadeOr old.context new.context (MakeCause c p old.mode old.proxy new.proxy kind)
       (StopsIf (differs old.noted d.version) MessageAltered kind ⊥) →
       ServerCause c p old d new kind
   server_cause_begun p old new d kind h =

@@ -1,5 +1,5 @@
 -- What a proxy tells of itself, and what a call of it does.
-use Rattle.std.specs.Prelude.{◌≡◌, ℕ, zero, suc, ◌+◌, ◌-◌, ◌^◌, ◌≤◌, ◌==◌, min, List, [], find, filter, Option, None, Some, Result, Ok, Err, Bool, true, false}
+use Rattle.std.specs.Prelude.{◌≡◌, ℕ, zero, suc, ◌+◌, ◌-◌, ◌^◌, ◌<◌, ◌≤◌, ◌==◌, min, List, [], find, filter, Option, None, Some, Result, Ok, Err, Bool, true, false}
 use Rattle.std.specs.List.{list_any}
 use Rattle.sspi_names.specs.declared.identity.AuthIdentity.{AuthIdentity}
 use Rattle.sspi_names.specs.Name.{Name, equals_ignoring_case}
@@ -119,9 +119,11 @@ module _ {P : Type 0} (p : ProxyMeaning P) where
     -- where it tells that no call fails, none does
     pub calm : (p.told before).failing ≡ Some [] → p.faults now ≡ p.faults before
 
-  -- it tells that its next call fails, or the one so many calls later
-  abbrev pub FailsNext : P → Type 0
-  FailsNext proxy = TellsFailure (p.told proxy).failing (p.calls proxy)
-
+  -- the call so many calls later is told to fail
   abbrev pub FailsAfter : ℕ → P → Type 0
   FailsAfter n proxy = TellsFailure (p.told proxy).failing (counted_after n (p.calls proxy))
+
+  -- exactly so many calls later, none of which was told to fail
+  pub record HasAsked (n : ℕ) (before now : P) : Type 0 where
+    pub counted : p.calls now ≡ counted_after n (p.calls before)
+    pub unfailing : (i : ℕ) → i < n → FailsAfter i before → ⊥

@@ -18,14 +18,14 @@ use Rattle.sspi_credssp.specs.declared.public_key.EndpointType.TheVariants.{Clie
 use Rattle.sspi_credssp.specs.declared.state.CredSspState.{CredSspState}
 use Rattle.sspi_credssp.specs.declared.state.CredSspState.TheVariants.{NegoToken, PubKeyInfo, AuthInfo, Final}
 use Rattle.sspi_credssp.specs.Begun.{BeginCause, IfContext, MadeOr}
-use Rattle.sspi_credssp.specs.Context.{ContextSetting}
+use Rattle.sspi_credssp.specs.Context.{ContextSetting, ForServer}
 use Rattle.sspi_credssp.specs.Credentials.{delegated_identity}
 use Rattle.sspi_credssp.specs.Exchange.{OpensOther, BlobStops}
 use Rattle.sspi_credssp.specs.Proxy.{ProxyMeaning, ProxyTells, counted_on, AreFound}
 use Rattle.sspi_credssp.specs.PublicKey.{prescribed}
 use Rattle.sspi_credssp.specs.Requests.{nonce_of}
 use Rattle.sspi_credssp.specs.Server.{ServerView}
-use Rattle.sspi_credssp.specs.ServerStep.{Unknown, Identified, Completed, HasCome, server_setting}
+use Rattle.sspi_credssp.specs.ServerStep.{Unknown, Identified, Completed, HasCome}
 use Rattle.sspi_credssp.specs.Stops.{StopsIf, differs}
 
 -- from version 5 on the nonce must be there
@@ -95,9 +95,9 @@ module _ {C : Type 0} (c : Meaning ContextSetting C) where
   module _ {P : Type 0} (p : ProxyMeaning P) where
     -- why there is no new context: the proxy did not list its identities, or they were listed and it is not made or acquires no
     -- credentials
-    pub data MakeCause (old : ServerView C P) (proxy : P) (kind : ErrorKind) : Type 0 where
-      unlisted : ListRefused old.mode (p.faults old.proxy) (p.faults proxy) kind → MakeCause old proxy kind
-      unbegun : BeginCause c (server_setting p old) Inbound None kind → MakeCause old proxy kind
+    pub data MakeCause (mode : ServerMode) (before now : P) (kind : ErrorKind) : Type 0 where
+      unlisted : ListRefused mode (p.faults before) (p.faults now) kind → MakeCause mode before now kind
+      unbegun : BeginCause c (ForServer mode (p.told before).entries) Inbound None kind → MakeCause mode before now kind
 
     -- The peer is not known; or it is, and the context refuses its own end: in neither case its proof was looked at. Or the
     -- context is at its end, and what follows is refused. Each with the step that the turn took of its context until then.
@@ -124,6 +124,6 @@ module _ {C : Type 0} (c : Meaning ContextSetting C) where
 
     abbrev pub ServerCause : ServerView C P → TsRequest → ServerView C P → ErrorKind → Type 0
     ServerCause old d new kind =
-        MadeOr old.context new.context (MakeCause old new.proxy kind)
+        MadeOr old.context new.context (MakeCause old.mode old.proxy new.proxy kind)
         (StopsIf (differs old.noted d.version) MessageAltered kind
         (StateCause old.state old d new kind))

@@ -1,7 +1,7 @@
 // The identities that a negotiating server is made with.
-ghost use Rattle.std.specs.Prelude.{◌≡◌, ◌≢◌, ◌≤◌, None, IsErr, IfOk, IfErr};
+ghost use Rattle.std.specs.Prelude.{◌≡◌, ◌≢◌, ◌≤◌, None, IfOk, IfErr, OnOk};
 ghost use Rattle.sspi_credssp.specs.Peers.{IsListed, list_calls};
-ghost use Rattle.sspi_credssp.specs.Proxy.{IsTold, IsAsked, FailsNext, counted_on, counted_after};
+ghost use Rattle.sspi_credssp.specs.Proxy.{IsTold, IsAsked, HasAsked, counted_on};
 ghost use Rattle.sspi_credssp.specs.ServerCause.{ListRefused};
 
 use crate::mode::ServerMode;
@@ -18,8 +18,7 @@ pub(crate) fn list_peers<C: CredentialsProxy>(
 ) -> Result<Vec<AuthIdentity>, Error>
     ensures listed { IfOk result (λ known. IsListed mode.now (C.meaning.told proxy.old).entries known.items) }
     ensures proxy { IsAsked C.meaning (list_calls mode.now) proxy.old proxy.new }
-    ensures number { C.meaning.calls proxy.new ≡ counted_after (list_calls mode.now) (C.meaning.calls proxy.old) }
-    ensures failed { list_calls mode.now ≡ 1 → FailsNext C.meaning proxy.old → IsErr result }
+    ensures asked { OnOk result (HasAsked C.meaning (list_calls mode.now) proxy.old proxy.new) }
     ensures plain { IfErr result (λ error. error.nstatus ≡ None) }
     ensures cause { IfErr result (λ error. error.error_type ≢ ErrorKind.InsufficientMemory →
         ListRefused mode.now (C.meaning.faults proxy.old) (C.meaning.faults proxy.new) error.error_type) }
@@ -33,8 +32,7 @@ pub(crate) fn list_peers<C: CredentialsProxy>(
 fn list_all<C: CredentialsProxy>(proxy: &mut C) -> Result<Vec<AuthIdentity>, Error>
     ensures listed { IfOk result (λ known. IsTold (C.meaning.told proxy.old).entries known.items) }
     ensures proxy { IsAsked C.meaning 1 proxy.old proxy.new }
-    ensures number { C.meaning.calls proxy.new ≡ counted_on (C.meaning.calls proxy.old) }
-    ensures failed { FailsNext C.meaning proxy.old → IsErr result }
+    ensures asked { OnOk result (HasAsked C.meaning 1 proxy.old proxy.new) }
     ensures plain { IfErr result (λ error. error.nstatus ≡ None) }
     ensures risen { IfErr result (λ error. error.error_type ≢ ErrorKind.InsufficientMemory →
         counted_on (C.meaning.faults proxy.old) ≤ C.meaning.faults proxy.new) }

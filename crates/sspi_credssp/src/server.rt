@@ -1,11 +1,11 @@
-ghost use Rattle.std.specs.Prelude.{◌≡◌, ◌≢◌, ◌+◌, [], None, true, false, IsSome, IsErr, IfErr, OnOk, OnErr};
+ghost use Rattle.std.specs.Prelude.{◌≡◌, ◌≢◌, [], None, true, false, IsSome, IsErr, IfErr, OnOk, OnErr};
 ghost use Rattle.sspi_types.specs.declared.credential_use.CredentialUse.TheVariants as purposes;
 ghost use Rattle.sspi_credssp.specs.Acts.{no_acts};
 ghost use Rattle.sspi_credssp.specs.Begun.{Begun, IfContext, MadeOr};
 ghost use Rattle.sspi_credssp.specs.Context.{either};
 ghost use Rattle.sspi_credssp.specs.Counts.{IsUnusedIn};
 ghost use Rattle.sspi_credssp.specs.Peers.{list_calls, lists_in};
-ghost use Rattle.sspi_credssp.specs.Proxy.{IsAsked, IsLater, FailsNext, counted_after};
+ghost use Rattle.sspi_credssp.specs.Proxy.{IsAsked, HasAsked, IsLater};
 ghost use Rattle.sspi_credssp.specs.Stops.{StopsIf, differs};
 ghost use Rattle.sspi_credssp.specs.Turn.{AtNoted};
 
@@ -127,10 +127,10 @@ impl<N, K, C> CredSspServer<N, K, C> {
 
 impl<N: Mechanism, K: Mechanism, C: CredentialsProxy> CredSspServer<N, K, C> {
     ghost use Rattle.sspi_credssp.specs.Server.{ServerView};
-    ghost use Rattle.sspi_credssp.specs.ServerAsks.{MeetsFailure, look_ups_at};
+    ghost use Rattle.sspi_credssp.specs.ServerAsks.{calls_in, look_ups_at};
     ghost use Rattle.sspi_credssp.specs.ServerCause.{ServerCause, MakeCause, StateCause};
     ghost use Rattle.sspi_credssp.specs.ServerStep.{HasAcceptedTurn, server_setting};
-    ghost use Rattle.sspi_credssp.specs.ServerTurn.{ServerGoes, IsOver, IsReady, BeginRefused, noted_first};
+    ghost use Rattle.sspi_credssp.specs.ServerTurn.{ServerGoes, IsReady, BeginRefused, noted_first};
 
     /// Takes the client's message and makes the server's next one, or reads the credentials that end the exchange.
     ///
@@ -154,8 +154,8 @@ impl<N: Mechanism, K: Mechanism, C: CredentialsProxy> CredSspServer<N, K, C> {
         ensures altered { differs self.old.noted ts_request.version ≡ true →
             IsErr result × (self.new ≡ record self.old { acts = no_acts; output = [] }) }
         ensures unmade { self.new.context ≡ None → self.new ≡ record self.old { proxy = self.new.proxy; acts = no_acts; output = [] } }
-        ensures proxy { IsAsked C.meaning (lists_in self.old.context self.old.mode + look_ups_at self.new.acts.status) self.old.proxy self.new.proxy }
-        ensures failed { MeetsFailure C.meaning self.old self.new.acts.status → IsErr result }
+        ensures proxy { IsAsked C.meaning (calls_in self.old self.new.acts.status) self.old.proxy self.new.proxy }
+        ensures asked { OnOk result (HasAsked C.meaning (calls_in self.old self.new.acts.status) self.old.proxy self.new.proxy) }
     {
         self.forget_last_call();
         match self.begin(ts_request.version) {
@@ -183,11 +183,10 @@ impl<N: Mechanism, K: Mechanism, C: CredentialsProxy> CredSspServer<N, K, C> {
         ensures err { OnErr result (self.new ≡ record self.old { proxy = self.new.proxy }) }
         ensures altered { differs self.old.noted version ≡ true → IsErr result × (self.new ≡ self.old) }
         ensures cause { let c = either N.REQUESTS N.meaning K.meaning in IfErr result (λ error. error.error_type ≢ ErrorKind.InsufficientMemory →
-            MadeOr self.old.context self.new.context (MakeCause c C.meaning self.old self.new.proxy error.error_type)
+            MadeOr self.old.context self.new.context (MakeCause c C.meaning self.old.mode self.old.proxy self.new.proxy error.error_type)
             (StopsIf (differs self.old.noted version) ErrorKind.MessageAltered error.error_type ⊥)) }
         ensures proxy { IsAsked C.meaning (lists_in self.old.context self.old.mode) self.old.proxy self.new.proxy }
-        ensures number { C.meaning.calls self.new.proxy ≡ counted_after (lists_in self.old.context self.old.mode) (C.meaning.calls self.old.proxy) }
-        ensures failed { lists_in self.old.context self.old.mode ≡ 1 → FailsNext C.meaning self.old.proxy → IsErr result }
+        ensures asked { OnOk result (HasAsked C.meaning (lists_in self.old.context self.old.mode) self.old.proxy self.new.proxy) }
         ensures plain { IfErr result (λ error. error.nstatus ≡ None) }
     {
         match &self.context {
@@ -211,10 +210,9 @@ impl<N: Mechanism, K: Mechanism, C: CredentialsProxy> CredSspServer<N, K, C> {
         ensures noted { self.old.noted ≡ None }
         ensures state { self.old.state ≡ CredSspState.NegoToken }
         ensures cause { let c = either N.REQUESTS N.meaning K.meaning in IfErr result (λ error. error.error_type ≢ ErrorKind.InsufficientMemory →
-            MakeCause c C.meaning self.old self.new.proxy error.error_type) }
+            MakeCause c C.meaning self.old.mode self.old.proxy self.new.proxy error.error_type) }
         ensures proxy { IsAsked C.meaning (list_calls self.old.mode) self.old.proxy self.new.proxy }
-        ensures number { C.meaning.calls self.new.proxy ≡ counted_after (list_calls self.old.mode) (C.meaning.calls self.old.proxy) }
-        ensures failed { list_calls self.old.mode ≡ 1 → FailsNext C.meaning self.old.proxy → IsErr result }
+        ensures asked { OnOk result (HasAsked C.meaning (list_calls self.old.mode) self.old.proxy self.new.proxy) }
         ensures plain { IfErr result (λ error. error.nstatus ≡ None) }
     {
         let known = match list_peers(self.alloc, &self.server_mode, &mut self.credentials) {
@@ -278,7 +276,7 @@ impl<N: Mechanism, K: Mechanism, C: CredentialsProxy> CredSspServer<N, K, C> {
         ensures plain { IfErr result (λ refusal. refusal.error.nstatus ≡ None) }
         ensures begun { IsSome self.new.context }
         ensures proxy { IsAsked C.meaning (look_ups_at self.new.acts.status) self.old.proxy self.new.proxy }
-        ensures failed { IsOver self.new.acts.status → FailsNext C.meaning self.old.proxy → IsErr result }
+        ensures asked { OnOk result (HasAsked C.meaning (look_ups_at self.new.acts.status) self.old.proxy self.new.proxy) }
     {
         match self.state {
             CredSspState::NegoToken => self.negotiate(request),

@@ -1,5 +1,5 @@
 // The server's turns of the authentication (NegoToken).
-ghost use Rattle.std.specs.Prelude.{ℕ, List, Option, Result, Ok, ◌≡◌, ◌≢◌, [], map, None, Some, true, false, IsSome, IsTrue, IsErr, OnOk, OnErr, IfOk, IfErr};
+ghost use Rattle.std.specs.Prelude.{ℕ, List, Option, Result, Ok, ◌≡◌, ◌≢◌, [], map, None, Some, true, false, IsSome, IsTrue, OnOk, OnErr, IfOk, IfErr};
 ghost use Rattle.sspi_names.specs.declared.credentials.Credentials.TheVariants as credentials;
 ghost use Rattle.sspi_mech.specs.Calls.{ToName};
 ghost use Rattle.sspi_credssp.specs.Acts.{no_acts};
@@ -7,7 +7,7 @@ ghost use Rattle.sspi_types.specs.declared.credential_use.CredentialUse.TheVaria
 ghost use Rattle.sspi_credssp.specs.Begun.{Begun, IfContext};
 ghost use Rattle.sspi_credssp.specs.Context.{either};
 ghost use Rattle.sspi_credssp.specs.Counts.{SameBut, IsUnusedIn};
-ghost use Rattle.sspi_credssp.specs.Proxy.{IsAsked, IsLater, FailsNext, AreFound};
+ghost use Rattle.sspi_credssp.specs.Proxy.{IsAsked, HasAsked, IsLater, AreFound};
 ghost use Rattle.sspi_credssp.specs.ServerCause.{IdentifyCause, LookUpRefused};
 ghost use Rattle.sspi_credssp.specs.ServerTurn.{IsOver, answered_by};
 ghost use Rattle.sspi_credssp.specs.ServerStep.{IsIdentified, server_requirements, server_args, server_setting};
@@ -76,7 +76,7 @@ fn has_ended(status: SecurityStatus) -> bool
 }
 
 // The identities that the peer of this name may have; at least one.
-#[tactic(auto, using(crate::proofs::Asked::asked_once, crate::proofs::Asked::failed_call))]
+#[tactic(auto, using(crate::proofs::Asked::asked_once, crate::proofs::Asked::has_asked_once))]
 fn look_up<C: CredentialsProxy>(
     proxy: &mut C,
     username: &Username,
@@ -84,7 +84,7 @@ fn look_up<C: CredentialsProxy>(
     ensures found { IfOk result (λ identities. AreFound (C.meaning.told proxy.old) username.now identities.items) }
     ensures some { IfOk result (λ identities. identities.items ≢ []) }
     ensures proxy { IsAsked C.meaning 1 proxy.old proxy.new }
-    ensures failed { FailsNext C.meaning proxy.old → IsErr result }
+    ensures asked { OnOk result (HasAsked C.meaning 1 proxy.old proxy.new) }
     ensures plain { IfErr result (λ error. error.nstatus ≡ None) }
     ensures cause { IfErr result (λ error. error.error_type ≢ ErrorKind.InsufficientMemory →
         LookUpRefused (C.meaning.told proxy.old) username.now (C.meaning.faults proxy.old) (C.meaning.faults proxy.new) error.error_type) }
@@ -137,7 +137,7 @@ fn identify<N: Mechanism, K: Mechanism, C: CredentialsProxy>(
     ensures counts { let c = either N.REQUESTS N.meaning K.meaning in c.counts context.new ≡ c.counts context.old }
     ensures err { OnErr result (context.new ≡ context.old) }
     ensures proxy { IsAsked C.meaning 1 proxy.old proxy.new }
-    ensures failed { FailsNext C.meaning proxy.old → IsErr result }
+    ensures asked { OnOk result (HasAsked C.meaning 1 proxy.old proxy.new) }
     ensures plain { IfErr result (λ error. error.nstatus ≡ None) }
     ensures cause { IfErr result (λ error. error.error_type ≢ ErrorKind.InsufficientMemory → IdentifyCause (either N.REQUESTS N.meaning K.meaning)
         context.old (C.meaning.told proxy.old) (C.meaning.faults proxy.old) (C.meaning.faults proxy.new) error.error_type) }
@@ -186,7 +186,7 @@ impl<N: Mechanism, K: Mechanism, C: CredentialsProxy> CredSspServer<N, K, C> {
         ensures plain { IfErr result (λ refusal. refusal.error.nstatus ≡ None) }
         ensures begun { IsSome self.new.context }
         ensures proxy { IsAsked C.meaning (look_ups_at self.new.acts.status) self.old.proxy self.new.proxy }
-        ensures failed { IsOver self.new.acts.status → FailsNext C.meaning self.old.proxy → IsErr result }
+        ensures asked { OnOk result (HasAsked C.meaning (look_ups_at self.new.acts.status) self.old.proxy self.new.proxy) }
     {
         match self.answer(&request) {
             Ok(answer) => Ok(ServerState::ReplyNeeded(with_answer(request, answer))),
@@ -215,7 +215,7 @@ impl<N: Mechanism, K: Mechanism, C: CredentialsProxy> CredSspServer<N, K, C> {
         ensures plain { IfErr result (λ error. error.nstatus ≡ None) }
         ensures begun { IsSome self.new.context }
         ensures proxy { IsAsked C.meaning (look_ups_at self.new.acts.status) self.old.proxy self.new.proxy }
-        ensures failed { IsOver self.new.acts.status → FailsNext C.meaning self.old.proxy → IsErr result }
+        ensures asked { OnOk result (HasAsked C.meaning (look_ups_at self.new.acts.status) self.old.proxy self.new.proxy) }
     {
         self.acts.negotiated = true;
         let Some(context) = &mut self.context else {
@@ -254,7 +254,7 @@ impl<N: Mechanism, K: Mechanism, C: CredentialsProxy> CredSspServer<N, K, C> {
         ensures plain { IfErr result (λ error. error.nstatus ≡ None) }
         ensures begun { IsSome self.new.context }
         ensures proxy { IsAsked C.meaning (look_ups_at self.new.acts.status) self.old.proxy self.new.proxy }
-        ensures failed { IsOver self.new.acts.status → FailsNext C.meaning self.old.proxy → IsErr result }
+        ensures asked { OnOk result (HasAsked C.meaning (look_ups_at self.new.acts.status) self.old.proxy self.new.proxy) }
     {
         if status == SecurityStatus::ContinueNeeded {
             return match self.copy_output() {
@@ -305,7 +305,7 @@ impl<N: Mechanism, K: Mechanism, C: CredentialsProxy> CredSspServer<N, K, C> {
         ensures plain { IfErr result (λ error. error.nstatus ≡ None) }
         ensures begun { IsSome self.new.context }
         ensures proxy { IsAsked C.meaning 1 self.old.proxy self.new.proxy }
-        ensures failed { FailsNext C.meaning self.old.proxy → IsErr result }
+        ensures asked { OnOk result (HasAsked C.meaning 1 self.old.proxy self.new.proxy) }
     {
         let Some(context) = &mut self.context else {
             return Err(Error::new(ErrorKind::InternalError, Reason::Status));

@@ -2,9 +2,9 @@
 use Rattle.std.proofs.Common.{ℕ, inl, inr, List, Option}
 use Rattle.sspi_types.specs.declared.error.Error.{Error}
 use Rattle.sspi_mech.specs.Meaning.{Meaning}
-use Rattle.sspi_names.specs.declared.identity.AuthIdentity.{AuthIdentity}
 use Rattle.sspi_credssp.specs.Client.{ClientView}
 use Rattle.sspi_credssp.specs.Context.{ContextSetting}
+use Rattle.sspi_credssp.specs.Proxy.{ProxyMeaning}
 use Rattle.sspi_credssp.specs.Server.{ServerView}
 use Rattle.sspi_delegate.specs.declared.answer.DelegateError.{DelegateError}
 use Rattle.sspi_delegate.specs.declared.answer.DelegateError.TheVariants as errors
@@ -43,11 +43,11 @@ module _ {C D : Type 0} (c : Meaning ContextSetting C) (k : KdcCalls D) where
   client_half_past first now kdc kdc2 turns errors.TurnsSpent h = h
   client_half_past first now kdc kdc2 turns errors.InsufficientMemory h = h
 
-  module _ {P : Type 0} (told : P → Option (List AuthIdentity)) (faults : P → ℕ) (failing : P → Option (List ℕ)) where
+  module _ {P : Type 0} (p : ProxyMeaning P) where
     -- the other end of a half that was ended by an error
     pub server_beside : (first now : ClientView C) (kdc kdc2 : D) (turns : List Turn) (error : DelegateError) (server server2 : ServerView C P)
-        (servers : List Turn) → ClientHalfStops c k first kdc error turns now kdc2 → ServerHistory c told faults failing server servers server2 →
-        ServerStops c told faults failing server error servers server2
+        (servers : List Turn) → ClientHalfStops c k first kdc error turns now kdc2 → ServerHistory c p server servers server2 →
+        ServerStops c p server error servers server2
     server_beside first now kdc kdc2 turns (errors.Client error) server server2 servers half h = h
     server_beside first now kdc kdc2 turns (errors.Server error) server server2 servers half h = absurd half
     server_beside first now kdc kdc2 turns (errors.Read to kind) server server2 servers half h = h
@@ -57,7 +57,7 @@ module _ {C D : Type 0} (c : Meaning ContextSetting C) (k : KdcCalls D) where
     server_beside first now kdc kdc2 turns errors.InsufficientMemory server server2 servers half h = h
 
     pub client_beside : (first now : ClientView C) (kdc kdc2 : D) (turns : List Turn) (error : DelegateError) (server server2 : ServerView C P)
-        (servers : List Turn) → ServerHalfStops c told faults failing server error servers server2 → ClientHistory c k first kdc turns now kdc2 →
+        (servers : List Turn) → ServerHalfStops c p server error servers server2 → ClientHistory c k first kdc turns now kdc2 →
         ClientStops c k first kdc error turns now kdc2
     client_beside first now kdc kdc2 turns (errors.Client error) server server2 servers half h = absurd half
     client_beside first now kdc kdc2 turns (errors.Server error) server server2 servers half h = h
@@ -67,9 +67,9 @@ module _ {C D : Type 0} (c : Meaning ContextSetting C) (k : KdcCalls D) where
     client_beside first now kdc kdc2 turns errors.TurnsSpent server server2 servers half h = h
     client_beside first now kdc kdc2 turns errors.InsufficientMemory server server2 servers half h = between h
 
-module _ {C P : Type 0} (c : Meaning ContextSetting C) (told : P → Option (List AuthIdentity)) (faults : P → ℕ) (failing : P → Option (List ℕ)) where
+module _ {C P : Type 0} (c : Meaning ContextSetting C) (p : ProxyMeaning P) where
   pub server_half_stopped : (first now : ServerView C P) (turns : List Turn) (error : DelegateError) → IsNoRefusal error →
-      ServerHistory c told faults failing first turns now → ServerHalfStops c told faults failing first error turns now
+      ServerHistory c p first turns now → ServerHalfStops c p first error turns now
   server_half_stopped first now turns (errors.Client error) link h = absurd link
   server_half_stopped first now turns (errors.Server error) link h = absurd link
   server_half_stopped first now turns (errors.Read to kind) link h = h
@@ -79,13 +79,13 @@ module _ {C P : Type 0} (c : Meaning ContextSetting C) (told : P → Option (Lis
   server_half_stopped first now turns errors.InsufficientMemory link h = h
 
   pub server_half_refused : (first now : ServerView C P) (turns : List Turn) (error : Error) (answer : DelegateError) →
-      IsAnswerTo error.error_type (errors.Server error) answer → ServerStopped c told faults failing first error turns now →
-      ServerHalfStops c told faults failing first answer turns now
-  server_half_refused first now turns error answer (inl memory) s = rw memory.1 (server_stopped_history c told faults failing first now error turns s)
+      IsAnswerTo error.error_type (errors.Server error) answer → ServerStopped c p first error turns now →
+      ServerHalfStops c p first answer turns now
+  server_half_refused first now turns error answer (inl memory) s = rw memory.1 (server_stopped_history c p first now error turns s)
   server_half_refused first now turns error answer (inr refusal) s = rw refusal.1 s
 
   pub server_half_past : (first now : ServerView C P) (turns : List Turn) (error : DelegateError) →
-      ServerHalfStops c told faults failing first error turns now → ServerStops c told faults failing first error turns now
+      ServerHalfStops c p first error turns now → ServerStops c p first error turns now
   server_half_past first now turns (errors.Client error) h = absurd h
   server_half_past first now turns (errors.Server error) h = h
   server_half_past first now turns (errors.Read to kind) h = h

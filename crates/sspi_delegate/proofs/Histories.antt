@@ -7,9 +7,12 @@ use Rattle.sspi_tsreq.specs.declared.request.TsRequest.{TsRequest}
 use Rattle.sspi_credssp.specs.Client.{ClientView}
 use Rattle.sspi_credssp.specs.ClientTurn.{ClientTurn}
 use Rattle.sspi_credssp.specs.Context.{ContextSetting}
+use Rattle.sspi_credssp.specs.Proxy.{ProxyMeaning, IsAsked, HasAsked}
 use Rattle.sspi_credssp.specs.Server.{ServerView}
+use Rattle.sspi_credssp.specs.ServerAsks.{calls_in}
 use Rattle.sspi_credssp.specs.ServerStep.{DoneStep}
 use Rattle.sspi_credssp.specs.ServerTurn.{ServerTurn, HoldsIdentity}
+use Rattle.sspi_credssp.specs.Turn.{UnlessRefused}
 use Rattle.sspi_delegate.specs.declared.answer.Delegation.{Delegation}
 use Rattle.sspi_delegate.specs.declared.answer.DelegateError.{DelegateError}
 use Rattle.sspi_delegate.specs.declared.answer.DelegateError.TheVariants as errors
@@ -20,7 +23,7 @@ use Rattle.sspi_credssp.specs.declared.turn.Turn.{Turn}
 use Rattle.sspi_delegate.specs.Asking.{KdcCalls}
 use Rattle.sspi_delegate.specs.EndTurns.{client_turns, server_turns}
 use Rattle.sspi_delegate.specs.History.{ClientMakes, ClientHistory, ClientStopped, ServerMakes, ServerRefuses, ServerHistory, ServerGave, ServerStopped, ServerPast}
-use Rattle.sspi_delegate.specs.Refusals.{ClientRefuses, ProxyStays}
+use Rattle.sspi_delegate.specs.Refusals.{ClientRefuses}
 use Rattle.sspi_delegate.specs.Rounds.{recorded}
 
 module _ {C D : Type 0} (c : Meaning ContextSetting C) (k : KdcCalls D) where
@@ -60,30 +63,30 @@ module _ {C D : Type 0} (c : Meaning ContextSetting C) (k : KdcCalls D) where
   )
 
 module _ {C : Type 0} (c : Meaning ContextSetting C) where
-  module _ {P : Type 0} (told : P → Option (List AuthIdentity)) (faults : P → ℕ) (failing : P → Option (List ℕ)) where
+  module _ {P : Type 0} (p : ProxyMeaning P) where
     pub server_made : (first old mid new : ServerView C P) (d : TsRequest) (out : Outcome) (turns turns2 : List Turn) →
-        ServerHistory c told faults failing first (server_turns turns) old → ServerMakes c told faults old d out mid →
-        ProxyStays told failing faults old.proxy mid.proxy →
+        ServerHistory c p first (server_turns turns) old → ServerMakes c p old d out mid →
+        IsAsked p (calls_in old mid.acts.status) old.proxy mid.proxy → UnlessRefused out (HasAsked p (calls_in old mid.acts.status) old.proxy mid.proxy) →
         new ≡ record mid { output = [] } → turns2 ≡ recorded Server d mid.acts mid.output out ∷ turns →
-        ServerHistory c told faults failing first (server_turns turns2) new
-    server_made first old mid new d out turns turns2 history makes proxy rest is =
-        rw is (old, history, record { mid = mid; turn = refl; makes = makes; proxy = proxy; rest = rest })
+        ServerHistory c p first (server_turns turns2) new
+    server_made first old mid new d out turns turns2 history makes proxy asked rest is =
+        rw is (old, history, record { mid = mid; turn = refl; makes = makes; proxy = proxy; asked = asked; rest = rest })
 
     pub server_gave : (first old mid new : ServerView C P) (d : TsRequest) (identity : AuthIdentity) (turns turns2 : List Turn) →
-        ServerHistory c told faults failing first (server_turns turns) old →
-        ServerTurn c old d outcome.Finished mid × HoldsIdentity c mid.context d.auth_info identity → DoneStep c told mid.acts.status old d mid →
-        ProxyStays told failing faults old.proxy mid.proxy →
+        ServerHistory c p first (server_turns turns) old →
+        ServerTurn c old d outcome.Finished mid × HoldsIdentity c mid.context d.auth_info identity → DoneStep c p mid.acts.status old d mid →
+        IsAsked p (calls_in old mid.acts.status) old.proxy mid.proxy → HasAsked p (calls_in old mid.acts.status) old.proxy mid.proxy →
         new ≡ record mid { output = [] } → turns2 ≡ recorded Server d mid.acts mid.output outcome.Finished ∷ turns →
-        ServerGave c told faults failing first identity (server_turns turns2) new
-    server_gave first old mid new d identity turns turns2 history turn step proxy rest is =
-        (server_made first old mid new d outcome.Finished turns turns2 history (turn.0, step, identity, turn.1) proxy rest is, rw (is, rest) turn.1)
+        ServerGave c p first identity (server_turns turns2) new
+    server_gave first old mid new d identity turns turns2 history turn step proxy asked rest is =
+        (server_made first old mid new d outcome.Finished turns turns2 history (turn.0, step, identity, turn.1) proxy asked rest is, rw (is, rest) turn.1)
 
     pub server_stopped : (first old mid new : ServerView C P) (d : TsRequest) (error : Error) (reply : Option TsRequest) (turns turns2 : List Turn) →
-        ServerHistory c told faults failing first (server_turns turns) old →
-        ServerTurn c old d (outcome.Refused error.error_type reply) mid → ServerRefuses c told faults old d error mid →
-        ProxyStays told failing faults old.proxy mid.proxy →
+        ServerHistory c p first (server_turns turns) old →
+        ServerTurn c old d (outcome.Refused error.error_type reply) mid → ServerRefuses c p old d error mid →
+        IsAsked p (calls_in old mid.acts.status) old.proxy mid.proxy →
         new ≡ record mid { output = [] } → turns2 ≡ recorded Server d mid.acts mid.output (outcome.Refused error.error_type reply) ∷ turns →
-        ServerStopped c told faults failing first error (server_turns turns2) new
+        ServerStopped c p first error (server_turns turns2) new
     server_stopped first old mid new d error reply turns turns2 history turn refuses proxy rest is = record {
       old = old;
       mid = mid;
@@ -99,15 +102,15 @@ module _ {C : Type 0} (c : Meaning ContextSetting C) where
     }
 
     pub server_stopped_history : (first now : ServerView C P) (error : Error) (turns : List Turn) →
-        ServerStopped c told faults failing first error turns now → ServerHistory c told faults failing first turns now
+        ServerStopped c p first error turns now → ServerHistory c p first turns now
     server_stopped_history first now error turns s = rw s.newest (
       s.old,
       s.before,
-      record { mid = s.mid; turn = refl; makes = (error, refl, s.turn, s.refuses); proxy = s.proxy; rest = s.rest },
+      record { mid = s.mid; turn = refl; makes = (error, refl, s.turn, s.refuses); proxy = s.proxy; asked = tt; rest = s.rest },
     )
 
     pub server_past_history : (first now : ServerView C P) (turns : List Turn) (result : Result Delegation DelegateError) →
-        ServerPast c told faults failing first result turns now → ServerHistory c told faults failing first turns now
+        ServerPast c p first result turns now → ServerHistory c p first turns now
     server_past_history first now turns (Ok delegation) h = h.0
     server_past_history first now turns (Err (errors.Client error)) h = h
     server_past_history first now turns (Err (errors.Server error)) h = server_stopped_history first now error turns h

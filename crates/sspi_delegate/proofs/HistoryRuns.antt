@@ -3,12 +3,12 @@ use Rattle.std.proofs.Common.{ℕ, sym, refl, subst, arith, List, [], ◌∷◌,
 use Rattle.sspi_types.specs.declared.error.Error.{Error}
 use Rattle.sspi_mech.specs.Context.{IsContext}
 use Rattle.sspi_mech.specs.Meaning.{Meaning}
-use Rattle.sspi_names.specs.declared.identity.AuthIdentity.{AuthIdentity}
 use Rattle.sspi_tsreq.specs.declared.request.TsRequest.{TsRequest}
 use Rattle.sspi_credssp.specs.Client.{ClientView, IsFreshClient}
 use Rattle.sspi_credssp.specs.ClientStep.{Asked}
 use Rattle.sspi_credssp.specs.ClientTurn.{ClientTurn, client_turn}
 use Rattle.sspi_credssp.specs.Context.{ContextSetting}
+use Rattle.sspi_credssp.specs.Proxy.{ProxyMeaning}
 use Rattle.sspi_credssp.specs.Server.{ServerView, IsFreshServer}
 use Rattle.sspi_credssp.specs.ServerTurn.{ServerTurn, server_turn}
 use Rattle.sspi_delegate.specs.declared.answer.Delegation.{Delegation}
@@ -23,7 +23,7 @@ use Rattle.sspi_delegate.specs.Refusals.{any_replies, ClientRefuses, ClientRefus
 use Rattle.sspi_delegate.specs.ServerRun.{ServerRan, ServerFollows, server_end, GivesNewest}
 use Rattle.sspi_delegate.proofs.ClientSteps.{client_fresh, client_turned, client_replied, client_ended, client_underway, client_emptied}
 use Rattle.sspi_delegate.proofs.Histories.{client_stopped_history, server_past_history}
-use Rattle.sspi_delegate.proofs.Refusing.{proxy_on}
+use Rattle.sspi_delegate.proofs.Refusing.{proxy_on, proxy_asked}
 use Rattle.sspi_delegate.proofs.ServerSteps.{server_fresh, server_turned, server_follows, server_emptied}
 use Rattle.sspi_credssp.specs.declared.turn.Outcome.{Outcome}
 use Rattle.sspi_credssp.specs.declared.turn.Outcome.TheVariants as outcome
@@ -125,7 +125,7 @@ module _ {C : Type 0} (c : Meaning ContextSetting C) (law : IsContext c) where
 
   -- ---- the server
 
-  module _ {P : Type 0} (told : P → Option (List AuthIdentity)) (faults : P → ℕ) (failing : P → Option (List ℕ)) where
+  module _ {P : Type 0} (p : ProxyMeaning P) where
     server_follows_emptied : (first now : ServerView C P) (past : List Turn) → ServerFollows c first now past → ServerFollows c first (record now { output = [] }) past
     server_follows_emptied first now past follows = record {
       ran = server_emptied c first now past follows.ran;
@@ -134,21 +134,21 @@ module _ {C : Type 0} (c : Meaning ContextSetting C) (law : IsContext c) where
       going = follows.going;
     }
 
-    server_turn_of : (old mid : ServerView C P) (d : TsRequest) (out : Outcome) → ServerMakes c told faults old d out mid → ServerTurn c old d out mid
+    server_turn_of : (old mid : ServerView C P) (d : TsRequest) (out : Outcome) → ServerMakes c p old d out mid → ServerTurn c old d out mid
     server_turn_of old mid d (outcome.Reply reply) makes = makes.0
     server_turn_of old mid d (outcome.Final reply) makes = absurd makes
     server_turn_of old mid d outcome.Finished makes = makes.0
     server_turn_of old mid d (outcome.Refused kind reply) makes = makes.2
 
     server_went : (first old mid : ServerView C P) (past : List Turn) (d : TsRequest) (out : Outcome) → GoesOn out →
-        ServerFollows c first old past → ServerMakes c told faults old d out mid → ServerFollows c first mid (server_turn c d out mid ∷ past)
+        ServerFollows c first old past → ServerMakes c p old d out mid → ServerFollows c first mid (server_turn c d out mid ∷ past)
     server_went first old mid past d (outcome.Reply reply) went follows makes = server_follows c law first old mid past d reply follows makes.0
     server_went first old mid past d (outcome.Final reply) went follows makes = absurd makes
     server_went first old mid past d outcome.Finished went follows makes = absurd went
     server_went first old mid past d (outcome.Refused kind reply) went follows makes = absurd went
 
     pub server_history_follows : (first now : ServerView C P) (turns : List Turn) → IsFreshServer first → AllGoOn turns →
-        ServerHistory c told faults failing first turns now → ServerFollows c first now turns
+        ServerHistory c p first turns now → ServerFollows c first now turns
     server_history_follows first now [] fresh went h = subst (λ (v : ServerView C P). ServerFollows c first v []) (sym h) (server_fresh c first fresh)
     server_history_follows first now (t ∷ past) fresh went h =
         let made = h.2 in
@@ -158,7 +158,7 @@ module _ {C : Type 0} (c : Meaning ContextSetting C) (law : IsContext c) where
         (server_follows_emptied first made.mid _ (server_went first h.0 made.mid past t.delivered t.outcome went.0 follows made.makes)))
 
     pub server_history_ran : (first now : ServerView C P) (turns : List Turn) → IsFreshServer first → OthersGoOn turns →
-        ServerHistory c told faults failing first turns now → ServerRan c first now turns
+        ServerHistory c p first turns now → ServerRan c first now turns
     server_history_ran first now [] fresh others h = (server_history_follows first now [] fresh tt h).ran
     server_history_ran first now (t ∷ past) fresh others h =
         let made = h.2 in
@@ -169,26 +169,26 @@ module _ {C : Type 0} (c : Meaning ContextSetting C) (law : IsContext c) where
         (server_turned c law first h.0 made.mid past t.delivered t.outcome follows (server_turn_of h.0 made.mid t.delivered t.outcome made.makes))))
 
     pub server_past_ran : (first now : ServerView C P) (turns : List Turn) (result : Result Delegation DelegateError) → IsFreshServer first →
-        OthersGoOn turns → ServerPast c told faults failing first result turns now → ServerRan c first now turns
+        OthersGoOn turns → ServerPast c p first result turns now → ServerRan c first now turns
     server_past_ran first now turns result fresh others past =
-        server_history_ran first now turns fresh others (server_past_history c told faults failing first now turns result past)
+        server_history_ran first now turns fresh others (server_past_history c p first now turns result past)
 
     pub server_past_gives : (first now : ServerView C P) (turns : List Turn) (result : Result Delegation DelegateError) →
-        ServerPast c told faults failing first result turns now → IfOk result (λ delegation. GivesNewest c (server_end now) turns delegation.credentials)
+        ServerPast c p first result turns now → IfOk result (λ delegation. GivesNewest c (server_end now) turns delegation.credentials)
     server_past_gives first now turns (Ok delegation) h = h.1
     server_past_gives first now turns (Err error) h = tt
 
-    history_proxy : (first now : ServerView C P) (turns : List Turn) → ServerHistory c told faults failing first turns now →
-        ProxyStays told failing faults first.proxy now.proxy
-    history_proxy first now [] h = subst (λ (v : ServerView C P). ProxyStays told failing faults first.proxy v.proxy) (sym h)
-        (record { told_same = refl; failing_same = refl; counted = omega arith; calm = λ none. refl })
+    history_proxy : (first now : ServerView C P) (turns : List Turn) → ServerHistory c p first turns now →
+        ProxyStays p first.proxy now.proxy
+    history_proxy first now [] h = subst (λ (v : ServerView C P). ProxyStays p first.proxy v.proxy) (sym h)
+        (record { told_same = refl; counted = omega arith; calm = λ none. refl })
     history_proxy first now (t ∷ past) h =
         let made = h.2 in
-        subst (λ (v : ServerView C P). ProxyStays told failing faults first.proxy v.proxy) (sym made.rest)
-        (proxy_on told failing faults first.proxy h.0.proxy made.mid.proxy (history_proxy first h.0 past h.1) made.proxy)
+        subst (λ (v : ServerView C P). ProxyStays p first.proxy v.proxy) (sym made.rest)
+        (proxy_on p first.proxy h.0.proxy made.mid.proxy (history_proxy first h.0 past h.1) (proxy_asked p _ _ _ made.proxy))
 
     server_refused : (first now : ServerView C P) (turns : List Turn) (error : Error) → IsFreshServer first → OthersGoOn turns →
-        ServerStopped c told faults failing first error turns now → ServerRefused c told faults first error now turns
+        ServerStopped c p first error turns now → ServerRefused c p first error now turns
     server_refused first now turns error fresh others s =
         let stays = history_proxy first s.old s.past s.before in
         record {
@@ -211,8 +211,8 @@ module _ {C : Type 0} (c : Meaning ContextSetting C) (law : IsContext c) where
 
     pub past_refused : {D : Type 0} (k : KdcCalls D) (client client2 : ClientView C) (kdc kdc2 : D) (server server2 : ServerView C P) (clients servers : List Turn)
         (result : Result Delegation DelegateError) → IsFreshClient client → IsFreshServer server → OthersGoOn clients → OthersGoOn servers →
-        ClientPast c k client kdc result clients client2 kdc2 → ServerPast c told faults failing server result servers server2 →
-        RefusedBy c told faults client client2 server server2 result clients servers
+        ClientPast c k client kdc result clients client2 kdc2 → ServerPast c p server result servers server2 →
+        RefusedBy c p client client2 server server2 result clients servers
     past_refused k client client2 kdc kdc2 server server2 clients servers (Ok delegation) fresh fresh2 others others2 h h2 = tt
     past_refused k client client2 kdc kdc2 server server2 clients servers (Err (errors.Client error)) fresh fresh2 others others2 h h2 =
         client_refused k client client2 kdc kdc2 clients error fresh others h

@@ -10,6 +10,7 @@ pub mod Histories
 pub mod HistoryRuns
 mod LogSteps
 mod Newest
+mod ProxyCalls
 mod Reading
 mod Recording
 mod Refusing

@@ -1,12 +1,11 @@
 -- Why a turn was refused that asked a KDC.
-use Rattle.std.proofs.Common.{◌≡◌, ◌≢◌, ℕ, ◌==◌, Bool, true, false, not, List, Option, None, Some, IsSome, Err, sym, ◌∙◌, subst, refl, arith, eq-eqb}
+use Rattle.std.proofs.Common.{◌≡◌, ◌≢◌, ℕ, ◌==◌, Bool, true, false, not, List, Option, None, Some, IsSome, Err, sym, ◌∙◌, ap, subst, refl, arith, eq-eqb}
 use Rattle.std.proofs.lemmas.Bool.{true≢false}
 use Rattle.sspi_types.specs.declared.error.Error.{Error}
 use Rattle.sspi_types.specs.declared.error_kind.ErrorKind.{ErrorKind}
 use Rattle.sspi_types.specs.declared.error_kind.ErrorKind.TheVariants.{OutOfSequence, InvalidToken, MessageAltered, InsufficientMemory}
 use Rattle.sspi_types.specs.declared.security_status.SecurityStatus.{SecurityStatus}
 use Rattle.sspi_mech.specs.Meaning.{Meaning}
-use Rattle.sspi_names.specs.declared.identity.AuthIdentity.{AuthIdentity}
 use Rattle.sspi_tsreq.specs.declared.request.TsRequest.{TsRequest}
 use Rattle.sspi_credssp.specs.declared.state.CredSspState.{CredSspState}
 use Rattle.sspi_credssp.specs.declared.state.CredSspState.TheVariants.{NegoToken}
@@ -18,6 +17,7 @@ use Rattle.sspi_credssp.specs.ClientTurn.{ClientTurn, IsUnderway}
 use Rattle.sspi_credssp.specs.Context.{ContextSetting}
 use Rattle.sspi_credssp.specs.Counts.{is_waiting_in}
 use Rattle.sspi_credssp.specs.Noted.{noted_next}
+use Rattle.sspi_credssp.specs.Proxy.{ProxyMeaning, ProxyTells, IsAsked}
 use Rattle.sspi_credssp.specs.Stops.{StopsIf}
 use Rattle.sspi_credssp.specs.Turn.{FitsNoted}
 use Rattle.sspi_delegate.specs.Refusals.{ClientRefuses, ProxyStays}
@@ -91,11 +91,12 @@ module _ {C : Type 0} (c : Meaning ContextSetting C) where
     steps = record { asked = log; replied = replied; step = step; unasked = λ none. absurd (true≢false (sym negotiated ∙ none)) };
   }
 
-pub proxy_on : {P : Type 0} (told : P → Option (List AuthIdentity)) (failing : P → Option (List ℕ)) (faults : P → ℕ) (a b d : P) →
-    ProxyStays told failing faults a b → ProxyStays told failing faults b d → ProxyStays told failing faults a d
-proxy_on told failing faults a b d first next = record {
+pub proxy_on : {P : Type 0} (p : ProxyMeaning P) (a b d : P) → ProxyStays p a b → ProxyStays p b d → ProxyStays p a d
+proxy_on p a b d first next = record {
   told_same = next.told_same ∙ first.told_same;
-  failing_same = next.failing_same ∙ first.failing_same;
   counted = omega (arith, first.counted, next.counted);
-  calm = λ none. next.calm (first.failing_same ∙ none) ∙ first.calm none;
+  calm = λ none. next.calm (ap (λ (t : ProxyTells). t.failing) first.told_same ∙ none) ∙ first.calm none;
 }
+
+pub proxy_asked : {P : Type 0} (p : ProxyMeaning P) (limit : ℕ) (a b : P) → IsAsked p limit a b → ProxyStays p a b
+proxy_asked p limit a b asked = record { told_same = asked.told_same; counted = asked.faults_stay; calm = asked.calm }

@@ -1,11 +1,12 @@
 -- What `delegate` promises.
-use Rattle.std.specs.Prelude.{◌≡◌, ℕ, ◌≤◌, List, Option, Result, Err, IfOk, OnOk}
-use Rattle.sspi_names.specs.declared.identity.AuthIdentity.{AuthIdentity}
+use Rattle.std.specs.Prelude.{◌≡◌, ℕ, ◌+◌, ◌≤◌, List, Option, Result, Err, IfOk, OnOk}
 use Rattle.sspi_names.specs.declared.network.NetworkRequest.{NetworkRequest}
 use Rattle.sspi_mech.specs.Meaning.{Meaning}
 use Rattle.sspi_mech.specs.declared.step.Reply.{Reply}
 use Rattle.sspi_credssp.specs.Client.{ClientView}
 use Rattle.sspi_credssp.specs.Context.{ContextSetting}
+use Rattle.sspi_credssp.specs.Peers.{list_calls}
+use Rattle.sspi_credssp.specs.Proxy.{ProxyMeaning, HasAsked}
 use Rattle.sspi_credssp.specs.Server.{ServerView}
 use Rattle.sspi_delegate.specs.declared.answer.Delegation.{Delegation}
 use Rattle.sspi_delegate.specs.declared.answer.DelegateError.{DelegateError}
@@ -27,10 +28,7 @@ use Rattle.sspi_delegate.specs.ServerRun.{server_end, GivesNewest}
 
 -- what is told by the three round the ends: the proxy, the link and the KDC
 pub record Around (P L D : Type 0) : Type 0 where
-  -- the entries of the proxy, which of its calls fail, and how many did
-  pub entries : P → Option (List AuthIdentity)
-  pub failing : P → Option (List ℕ)
-  pub look_up_faults : P → ℕ
+  pub proxy : ProxyMeaning P
   pub log : L → List Carried
   pub edits : L → Option (List Edit)
   pub link_faults : L → ℕ
@@ -39,12 +37,10 @@ pub record Around (P L D : Type 0) : Type 0 where
   pub asked : D → ℕ
   pub kdc_faults : D → ℕ
 
-abbrev pub around_by : {P L D : Type 0} → (P → Option (List AuthIdentity)) → (P → Option (List ℕ)) → (P → ℕ) →
-    (L → List Carried) → (L → Option (List Edit)) → (L → ℕ) → (D → Option (ℕ → NetworkRequest → Reply)) → (D → ℕ) → (D → ℕ) → Around P L D
-around_by entries failing look_up_faults log edits link_faults replies asked kdc_faults = record {
-  entries = entries;
-  failing = failing;
-  look_up_faults = look_up_faults;
+abbrev pub around_by : {P L D : Type 0} → ProxyMeaning P → (L → List Carried) → (L → Option (List Edit)) → (L → ℕ) →
+    (D → Option (ℕ → NetworkRequest → Reply)) → (D → ℕ) → (D → ℕ) → Around P L D
+around_by proxy log edits link_faults replies asked kdc_faults = record {
+  proxy = proxy;
   log = log;
   edits = edits;
   link_faults = link_faults;
@@ -72,7 +68,7 @@ module _ {P L D : Type 0} (around : Around P L D) where
 
   -- of every exchange
   pub record Stays {C : Type 0} (old : Parties C P L D) (limit : ℕ) (result : Result Delegation DelegateError) (new : Parties C P L D) : Type 0 where
-    pub the_proxy_tells_what_it_told : ProxyStays around.entries around.failing around.look_up_faults old.server.proxy new.server.proxy
+    pub the_proxy_tells_what_it_told : ProxyStays around.proxy old.server.proxy new.server.proxy
     pub the_kdc_tells_what_it_told : KdcStays around.replies around.kdc_faults old.kdc new.kdc
     pub the_link_tells_what_it_told : StaysTold (around.edits old.link) (around.edits new.link) (around.log old.link) (around.log new.link)
     pub the_link_fails_where_its_edits_say_so : AnswerTold (around.edits old.link) (around.link_faults old.link) (around.link_faults new.link)
@@ -90,7 +86,7 @@ module _ {C P L D : Type 0} (c : Meaning ContextSetting C) (around : Around P L 
     -- each turn of an end was one of its calls, and nothing moved it between two of them; the last one refused with the error
     -- that is answered, or gave the identity
     pub client_turns_are_its_calls : ClientPast c (calls_of_kdc around) old.client old.kdc result (client_turns new.turns) new.client new.kdc
-    pub server_turns_are_its_calls : ServerPast c around.entries around.look_up_faults around.failing old.server result (server_turns new.turns) new.server
+    pub server_turns_are_its_calls : ServerPast c around.proxy old.server result (server_turns new.turns) new.server
 
   -- of an exchange between two fresh ends
   pub record Delegates (old : Parties C P L D) (limit : ℕ) (result : Result Delegation DelegateError) (new : Parties C P L D) : Type 0 where
@@ -101,7 +97,10 @@ module _ {C P L D : Type 0} (c : Meaning ContextSetting C) (around : Around P L 
     pub the_identity_is_what_was_opened_last : IfOk result (λ delegation.
         GivesNewest c (server_end new.server) (server_turns new.turns) delegation.credentials)
     pub both_proofs_came_before_ok : OnOk result (HasExchanged (server_turns new.turns))
-    pub a_refusal_has_its_cause : RefusedBy c around.entries around.look_up_faults old.client new.client old.server new.server result
+    -- the list where a negotiation was made with it, and the look-up of the peer
+    pub no_call_of_the_proxy_before_ok_was_to_fail : OnOk result
+        (HasAsked around.proxy (list_calls old.server.mode + 1) old.server.proxy new.server.proxy)
+    pub a_refusal_has_its_cause : RefusedBy c around.proxy old.client new.client old.server new.server result
         (client_turns new.turns) (server_turns new.turns)
     pub accounts : Accounts old limit result new
     pub stays : Stays around old limit result new

@@ -12,7 +12,9 @@ use Rattle.sspi_credssp.specs.declared.server_state.ServerState.{ServerState}
 use Rattle.sspi_credssp.specs.Client.{ClientView}
 use Rattle.sspi_credssp.specs.ClientTurn.{ClientTurn, IsUnderway, client_turn}
 use Rattle.sspi_credssp.specs.Context.{ContextSetting}
+use Rattle.sspi_credssp.specs.Proxy.{ProxyMeaning, IsAsked, HasAsked}
 use Rattle.sspi_credssp.specs.Server.{ServerView}
+use Rattle.sspi_credssp.specs.ServerAsks.{calls_in}
 use Rattle.sspi_credssp.specs.ServerCause.{ServerCause}
 use Rattle.sspi_credssp.specs.ServerStep.{DoneStep, HasAccepted}
 use Rattle.sspi_credssp.specs.ServerTurn.{ServerTurn, HoldsIdentity, server_turn}
@@ -20,8 +22,9 @@ use Rattle.sspi_delegate.specs.declared.answer.Delegation.{Delegation}
 use Rattle.sspi_delegate.specs.declared.answer.DelegateError.{DelegateError}
 use Rattle.sspi_delegate.specs.declared.answer.DelegateError.TheVariants as errors
 use Rattle.sspi_delegate.specs.Asking.{KdcCalls}
+use Rattle.sspi_credssp.specs.Turn.{UnlessRefused}
 use Rattle.sspi_delegate.specs.Turns.{AllGoOn}
-use Rattle.sspi_delegate.specs.Refusals.{StepsSo, ClientRefuses, ProxyStays}
+use Rattle.sspi_delegate.specs.Refusals.{StepsSo, ClientRefuses}
 use Rattle.sspi_delegate.specs.ServerRun.{server_end, GivesNewest}
 use Rattle.sspi_credssp.specs.declared.turn.Outcome.{Outcome}
 use Rattle.sspi_credssp.specs.declared.turn.Outcome.TheVariants as outcome
@@ -92,62 +95,63 @@ module _ {C D : Type 0} (c : Meaning ContextSetting C) (k : KdcCalls D) where
   ClientPast first kdc (Err error) turns now kdc2 = ClientStops first kdc error turns now kdc2
 
 module _ {C : Type 0} (c : Meaning ContextSetting C) where
-  module _ {P : Type 0} (told : P → Option (List AuthIdentity)) (faults : P → ℕ) where
+  module _ {P : Type 0} (p : ProxyMeaning P) where
     -- why the server refused d, and the step that it took of its context before
     pub record ServerRefuses (old : ServerView C P) (d : TsRequest) (error : Error) (new : ServerView C P) : Type 0 where
-      pub cause : error.error_type ≢ kinds.InsufficientMemory → ServerCause c told faults old d new error.error_type
+      pub cause : error.error_type ≢ kinds.InsufficientMemory → ServerCause c p old d new error.error_type
       pub status : error.nstatus ≡ None
-      pub step : HasAccepted c told {T = ServerState} old d (Err error) new
+      pub step : HasAccepted c p {T = ServerState} old d (Err error) new
 
     -- the server took d and came to this, by a step of its context where it authenticates; a refusal has its cause, and the
     -- end the identity whose credentials were opened
     abbrev pub ServerMakes : ServerView C P → TsRequest → Outcome → ServerView C P → Type 0
-    ServerMakes old d (outcome.Reply reply) new = ServerTurn c old d (outcome.Reply reply) new × DoneStep c told new.acts.status old d new
+    ServerMakes old d (outcome.Reply reply) new = ServerTurn c old d (outcome.Reply reply) new × DoneStep c p new.acts.status old d new
     ServerMakes old d (outcome.Final reply) new = ⊥
-    ServerMakes old d outcome.Finished new = ServerTurn c old d outcome.Finished new × DoneStep c told new.acts.status old d new
+    ServerMakes old d outcome.Finished new = ServerTurn c old d outcome.Finished new × DoneStep c p new.acts.status old d new
         × (identity : AuthIdentity) × HoldsIdentity c new.context d.auth_info identity
     ServerMakes old d (outcome.Refused kind reply) new =
         (error : Error) × (error.error_type ≡ kind) × ServerTurn c old d (outcome.Refused kind reply) new × ServerRefuses old d error new
 
-    module _ (failing : P → Option (List ℕ)) where
-      -- a turn of a server that was `old`; its output was then taken for the record
-      pub record ServerMade (old : ServerView C P) (t : Turn) (now : ServerView C P) : Type 0 where
-        pub mid : ServerView C P
-        pub turn : t ≡ server_turn c t.delivered t.outcome mid
-        pub makes : ServerMakes old t.delivered t.outcome mid
-        pub proxy : ProxyStays told failing faults old.proxy mid.proxy
-        pub rest : now ≡ record mid { output = [] }
+    -- a turn of a server that was `old`; its output was then taken for the record
+    pub record ServerMade (old : ServerView C P) (t : Turn) (now : ServerView C P) : Type 0 where
+      pub mid : ServerView C P
+      pub turn : t ≡ server_turn c t.delivered t.outcome mid
+      pub makes : ServerMakes old t.delivered t.outcome mid
+      -- the proxy was asked so often at most; exactly so often, and of no call that it tells it fails, where nothing was refused
+      pub proxy : IsAsked p (calls_in old mid.acts.status) old.proxy mid.proxy
+      pub asked : UnlessRefused t.outcome (HasAsked p (calls_in old mid.acts.status) old.proxy mid.proxy)
+      pub rest : now ≡ record mid { output = [] }
 
-      -- from a server that was `first` these turns, the newest first, lead to one that is `now`
-      abbrev pub ServerHistory : ServerView C P → List Turn → ServerView C P → Type 0
-      ServerHistory first [] now = now ≡ first
-      ServerHistory first (t ∷ past) now = (old : ServerView C P) × ServerHistory first past old × ServerMade old t now
+    -- from a server that was `first` these turns, the newest first, lead to one that is `now`
+    abbrev pub ServerHistory : ServerView C P → List Turn → ServerView C P → Type 0
+    ServerHistory first [] now = now ≡ first
+    ServerHistory first (t ∷ past) now = (old : ServerView C P) × ServerHistory first past old × ServerMade old t now
 
-      -- the newest of these turns gave this identity
-      abbrev pub ServerGave : ServerView C P → AuthIdentity → List Turn → ServerView C P → Type 0
-      ServerGave first identity turns now = ServerHistory first turns now × GivesNewest c (server_end now) turns identity
+    -- the newest of these turns gave this identity
+    abbrev pub ServerGave : ServerView C P → AuthIdentity → List Turn → ServerView C P → Type 0
+    ServerGave first identity turns now = ServerHistory first turns now × GivesNewest c (server_end now) turns identity
 
-      -- The newest of these turns was refused with this error; the turns before it led the server to `old`.
-      pub record ServerStopped (first : ServerView C P) (error : Error) (turns : List Turn) (now : ServerView C P) : Type 0 where
-        pub old : ServerView C P
-        pub mid : ServerView C P
-        pub d : TsRequest
-        pub reply : Option TsRequest
-        pub past : List Turn
-        pub newest : turns ≡ server_turn c d (outcome.Refused error.error_type reply) mid ∷ past
-        pub before : ServerHistory first past old
-        pub turn : ServerTurn c old d (outcome.Refused error.error_type reply) mid
-        pub refuses : ServerRefuses old d error mid
-        pub proxy : ProxyStays told failing faults old.proxy mid.proxy
-        -- the output was taken for the record
-        pub rest : now ≡ record mid { output = [] }
+    -- The newest of these turns was refused with this error; the turns before it led the server to `old`.
+    pub record ServerStopped (first : ServerView C P) (error : Error) (turns : List Turn) (now : ServerView C P) : Type 0 where
+      pub old : ServerView C P
+      pub mid : ServerView C P
+      pub d : TsRequest
+      pub reply : Option TsRequest
+      pub past : List Turn
+      pub newest : turns ≡ server_turn c d (outcome.Refused error.error_type reply) mid ∷ past
+      pub before : ServerHistory first past old
+      pub turn : ServerTurn c old d (outcome.Refused error.error_type reply) mid
+      pub refuses : ServerRefuses old d error mid
+      pub proxy : IsAsked p (calls_in old mid.acts.status) old.proxy mid.proxy
+      -- the output was taken for the record
+      pub rest : now ≡ record mid { output = [] }
 
-      -- the history of the server of an exchange that ended in this error
-      abbrev pub ServerStops : ServerView C P → DelegateError → List Turn → ServerView C P → Type 0
-      ServerStops first (errors.Server error) turns now = ServerStopped first error turns now
-      ServerStops first other turns now = ServerHistory first turns now
+    -- the history of the server of an exchange that ended in this error
+    abbrev pub ServerStops : ServerView C P → DelegateError → List Turn → ServerView C P → Type 0
+    ServerStops first (errors.Server error) turns now = ServerStopped first error turns now
+    ServerStops first other turns now = ServerHistory first turns now
 
-      -- the history of the server of an exchange, by its answer
-      abbrev pub ServerPast : ServerView C P → Result Delegation DelegateError → List Turn → ServerView C P → Type 0
-      ServerPast first (Ok delegation) turns now = ServerGave first delegation.credentials turns now
-      ServerPast first (Err error) turns now = ServerStops first error turns now
+    -- the history of the server of an exchange, by its answer
+    abbrev pub ServerPast : ServerView C P → Result Delegation DelegateError → List Turn → ServerView C P → Type 0
+    ServerPast first (Ok delegation) turns now = ServerGave first delegation.credentials turns now
+    ServerPast first (Err error) turns now = ServerStops first error turns now

@@ -5,7 +5,6 @@ use Rattle.sspi_types.specs.declared.error_kind.ErrorKind.TheVariants.{Insuffici
 use Rattle.sspi_mech.specs.Meaning.{Meaning}
 use Rattle.sspi_mech.specs.declared.step.Reply.{Reply}
 use Rattle.sspi_names.specs.declared.network.NetworkRequest.{NetworkRequest}
-use Rattle.sspi_names.specs.declared.identity.AuthIdentity.{AuthIdentity}
 use Rattle.sspi_tsreq.specs.declared.request.TsRequest.{TsRequest}
 use Rattle.sspi_credssp.specs.declared.client_state.Progress.{Progress}
 use Rattle.sspi_credssp.specs.declared.server_state.ServerState.{ServerState}
@@ -14,6 +13,7 @@ use Rattle.sspi_credssp.specs.ClientCause.{ClientCause, status_of}
 use Rattle.sspi_credssp.specs.ClientStep.{Asked, HasStepped}
 use Rattle.sspi_credssp.specs.ClientTurn.{client_turn}
 use Rattle.sspi_credssp.specs.Context.{ContextSetting}
+use Rattle.sspi_credssp.specs.Proxy.{ProxyMeaning}
 use Rattle.sspi_credssp.specs.Server.{ServerView}
 use Rattle.sspi_credssp.specs.ServerCause.{ServerCause}
 use Rattle.sspi_credssp.specs.ServerStep.{HasAccepted}
@@ -26,11 +26,10 @@ use Rattle.sspi_credssp.specs.declared.turn.Outcome.TheVariants as outcome
 use Rattle.sspi_credssp.specs.declared.turn.Turn.{Turn}
 
 -- what calls on a proxy leave: what it tells stays, and its count of faults does not fall, nor rise where it tells that no call fails
-pub record ProxyStays {P : Type 0} (told : P → Option (List AuthIdentity)) (failing : P → Option (List ℕ)) (faults : P → ℕ) (old new : P) : Type 0 where
-  pub told_same : told new ≡ told old
-  pub failing_same : failing new ≡ failing old
-  pub counted : faults old ≤ faults new
-  pub calm : failing old ≡ Some [] → faults new ≡ faults old
+pub record ProxyStays {P : Type 0} (p : ProxyMeaning P) (old new : P) : Type 0 where
+  pub told_same : p.told new ≡ p.told old
+  pub counted : p.faults old ≤ p.faults new
+  pub calm : (p.told old).failing ≡ Some [] → p.faults new ≡ p.faults old
 
 -- what calls on a KDC leave
 pub record KdcStays {D : Type 0} (told : D → Option (ℕ → NetworkRequest → Reply)) (faults : D → ℕ) (old new : D) : Type 0 where
@@ -68,7 +67,7 @@ module _ {C : Type 0} (c : Meaning ContextSetting C) where
     -- the output was taken for the record
     pub rest : now ≡ record new { output = [] }
 
-  module _ {P : Type 0} (told : P → Option (List AuthIdentity)) (faults : P → ℕ) where
+  module _ {P : Type 0} (p : ProxyMeaning P) where
     -- The newest of a server's turns was refused with this error: before it the server was where the turns before left it.
     pub record ServerRefused (first : ServerView C P) (error : Error) (now : ServerView C P) (turns : List Turn) : Type 0 where
       pub old : ServerView C P
@@ -78,11 +77,11 @@ module _ {C : Type 0} (c : Meaning ContextSetting C) where
       pub past : List Turn
       pub newest : turns ≡ server_turn c d (outcome.Refused error.error_type reply) new ∷ past
       pub follows : ServerFollows c first old past
-      pub told_before : told old.proxy ≡ told first.proxy
-      pub faults_before : faults first.proxy ≤ faults old.proxy
-      pub cause : error.error_type ≢ InsufficientMemory → ServerCause c told faults old d new error.error_type
+      pub told_before : p.told old.proxy ≡ p.told first.proxy
+      pub faults_before : p.faults first.proxy ≤ p.faults old.proxy
+      pub cause : error.error_type ≢ InsufficientMemory → ServerCause c p old d new error.error_type
       pub status : error.nstatus ≡ None
-      pub step : HasAccepted c told {T = ServerState} old d (Err error) new
+      pub step : HasAccepted c p {T = ServerState} old d (Err error) new
       -- the output was taken for the record
       pub rest : now ≡ record new { output = [] }
 

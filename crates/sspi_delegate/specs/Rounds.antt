@@ -8,6 +8,7 @@ use Rattle.sspi_credssp.specs.declared.client_state.ClientState.TheVariants.{Rep
 use Rattle.sspi_credssp.specs.Client.{ClientView}
 use Rattle.sspi_credssp.specs.ClientTurn.{ClientTurn, IsUnderway}
 use Rattle.sspi_credssp.specs.Context.{ContextSetting}
+use Rattle.sspi_credssp.specs.Proxy.{ProxyMeaning}
 use Rattle.sspi_credssp.specs.Server.{ServerView}
 use Rattle.sspi_credssp.specs.declared.client_state.Progress.TheVariants.{Completed}
 use Rattle.sspi_delegate.specs.declared.answer.DelegateError.{DelegateError}
@@ -71,18 +72,18 @@ module _ {C D : Type 0} (c : Meaning ContextSetting C) (k : KdcCalls D) where
   ClientHalfPast first kdc (Ok done) turns now kdc2 = ClientHistory c k first kdc turns now kdc2
   ClientHalfPast first kdc (Err error) turns now kdc2 = ClientHalfStops first kdc error turns now kdc2
 
-module _ {C P : Type 0} (c : Meaning ContextSetting C) (told : P → Option (List AuthIdentity)) (faults : P → ℕ) (failing : P → Option (List ℕ)) where
+module _ {C P : Type 0} (c : Meaning ContextSetting C) (p : ProxyMeaning P) where
   abbrev pub ServerRoundPast : ServerView C P → ServerRound → List Turn → ServerView C P → Type 0
-  ServerRoundPast first server.Replied turns now = ServerHistory c told faults failing first turns now
-  ServerRoundPast first (server.Finished identity) turns now = ServerGave c told faults failing first identity turns now
-  ServerRoundPast first (server.Refused error) turns now = ServerStopped c told faults failing first error turns now
-  ServerRoundPast first server.Lost turns now = ServerHistory c told faults failing first turns now
+  ServerRoundPast first server.Replied turns now = ServerHistory c p first turns now
+  ServerRoundPast first (server.Finished identity) turns now = ServerGave c p first identity turns now
+  ServerRoundPast first (server.Refused error) turns now = ServerStopped c p first error turns now
+  ServerRoundPast first server.Lost turns now = ServerHistory c p first turns now
 
   abbrev pub ServerHalfStops : ServerView C P → DelegateError → List Turn → ServerView C P → Type 0
   ServerHalfStops first (errors.Client error) turns now = ⊥
-  ServerHalfStops first error turns now = ServerStops c told faults failing first error turns now
+  ServerHalfStops first error turns now = ServerStops c p first error turns now
 
   abbrev pub ServerHalfPast : ServerView C P → Result (Option AuthIdentity) DelegateError → List Turn → ServerView C P → Type 0
-  ServerHalfPast first (Ok None) turns now = ServerHistory c told faults failing first turns now
-  ServerHalfPast first (Ok (Some identity)) turns now = ServerGave c told faults failing first identity turns now
+  ServerHalfPast first (Ok None) turns now = ServerHistory c p first turns now
+  ServerHalfPast first (Ok (Some identity)) turns now = ServerGave c p first identity turns now
   ServerHalfPast first (Err error) turns now = ServerHalfStops first error turns now

@@ -167,9 +167,9 @@ pub(crate) fn server_round<N: Mechanism, K: Mechanism, C: CredentialsProxy>(
 ) -> ServerRound
     ensures turn { ServerPushed request result transcript.old.turns transcript.new.turns }
     ensures server_history { let c = either N.REQUESTS N.meaning K.meaning in (first : ServerView (SspiContext N K) C) →
-        ServerHistory c C.told C.faults C.failing first (server_turns transcript.old.turns) server.old →
-        ServerRoundPast c C.told C.faults C.failing first result (server_turns transcript.new.turns) server.new }
-    ensures proxy { ProxyStays C.told C.failing C.faults server.old.proxy server.new.proxy }
+        ServerHistory c C.meaning first (server_turns transcript.old.turns) server.old →
+        ServerRoundPast c C.meaning first result (server_turns transcript.new.turns) server.new }
+    ensures proxy { ProxyStays C.meaning server.old.proxy server.new.proxy }
     ensures client { client_turns transcript.new.turns ≡ client_turns transcript.old.turns }
 {
     let Ok(()) = transcript.reserve() else {

@@ -65,14 +65,14 @@ pub fn delegate<N: Mechanism, K: Mechanism, C: CredentialsProxy, L: Link, D: Kdc
     transcript: &mut Transcript,
 ) -> Result<Delegation, DelegateError>
     ensures delegates { IsFresh client.old server.old transcript.old.turns → Delegates (either N.REQUESTS N.meaning K.meaning)
-        (around_by C.told C.failing C.faults L.log L.edits L.faults D.told D.asked D.faults)
+        (around_by C.meaning L.log L.edits L.faults D.told D.asked D.faults)
         (parties client.old server.old link.old kdc.old transcript.old.turns) turns result
         (parties client.new server.new link.new kdc.new transcript.new.turns) }
     ensures accounts { transcript.old.turns ≡ [] → Accounts (either N.REQUESTS N.meaning K.meaning)
-        (around_by C.told C.failing C.faults L.log L.edits L.faults D.told D.asked D.faults)
+        (around_by C.meaning L.log L.edits L.faults D.told D.asked D.faults)
         (parties client.old server.old link.old kdc.old transcript.old.turns) turns result
         (parties client.new server.new link.new kdc.new transcript.new.turns) }
-    ensures stays { Stays (around_by C.told C.failing C.faults L.log L.edits L.faults D.told D.asked D.faults)
+    ensures stays { Stays (around_by C.meaning L.log L.edits L.faults D.told D.asked D.faults)
         (parties client.old server.old link.old kdc.old transcript.old.turns) turns result
         (parties client.new server.new link.new kdc.new transcript.new.turns) }
 {
@@ -98,8 +98,8 @@ fn rounds<N: Mechanism, K: Mechanism, C: CredentialsProxy, L: Link, D: Kdc>(
         ClientPast (either N.REQUESTS N.meaning K.meaning) (kdc_calls D.told D.asked D.faults) client.old kdc.old result
         (client_turns transcript.new.turns) client.new kdc.new }
     ensures server_history { transcript.old.turns ≡ [] →
-        ServerPast (either N.REQUESTS N.meaning K.meaning) C.told C.faults C.failing server.old result (server_turns transcript.new.turns) server.new }
-    ensures proxy { ProxyStays C.told C.failing C.faults server.old.proxy server.new.proxy }
+        ServerPast (either N.REQUESTS N.meaning K.meaning) C.meaning server.old result (server_turns transcript.new.turns) server.new }
+    ensures proxy { ProxyStays C.meaning server.old.proxy server.new.proxy }
     ensures kdc { KdcStays D.told D.faults kdc.old kdc.new }
 {
     for turn in 0..turns {
@@ -173,9 +173,9 @@ fn server_half<N: Mechanism, K: Mechanism, C: CredentialsProxy, L: Link>(
     ensures told { StaysTold (L.edits link.old) (L.edits link.new) (L.log link.old) (L.log link.new) }
     ensures still { AnswerTold (L.edits link.old) (L.faults link.old) (L.faults link.new) result (L.log link.new) (newest_message transcript.new.turns) }
     ensures server_history { let c = either N.REQUESTS N.meaning K.meaning in (first : ServerView (SspiContext N K) C) →
-        ServerHistory c C.told C.faults C.failing first (server_turns transcript.old.turns) server.old →
-        ServerHalfPast c C.told C.faults C.failing first result (server_turns transcript.new.turns) server.new }
-    ensures proxy { ProxyStays C.told C.failing C.faults server.old.proxy server.new.proxy }
+        ServerHistory c C.meaning first (server_turns transcript.old.turns) server.old →
+        ServerHalfPast c C.meaning first result (server_turns transcript.new.turns) server.new }
+    ensures proxy { ProxyStays C.meaning server.old.proxy server.new.proxy }
     ensures client { client_turns transcript.new.turns ≡ client_turns transcript.old.turns }
 {
     let request = match next_request(alloc, link, transcript, End::Server) {

@@ -12,9 +12,9 @@ use Rattle.sspi_completeness.proofs.plain.delegate_plainly.Goals as goal
 pub returns-clause-three : goal.returns-clause-three
 returns-clause-three g c fresh =
     let made = c.delegate.ensures.delegates fresh in
-    ok_three g.K.Mechanism.meaning g.C.CredentialsProxy.told g.C.CredentialsProxy.faults g.C.CredentialsProxy.failing _ _ _ _ _ _ _ _ _
+    ok_three g.K.Mechanism.meaning g.C.CredentialsProxy.meaning _ _ _ _ _ _ _ _ _
     made.accounts.turns_and_log_show_the_answer fresh.server_is made.the_turns_are_a_run.server_ran.others
-    made.both_proofs_came_before_ok (server_past_history (either 0 ntlm_meaning g.K.Mechanism.meaning) g.C.CredentialsProxy.told g.C.CredentialsProxy.faults g.C.CredentialsProxy.failing _ _ _ _
+    made.both_proofs_came_before_ok (server_past_history (either 0 ntlm_meaning g.K.Mechanism.meaning) g.C.CredentialsProxy.meaning _ _ _ _
     made.accounts.server_turns_are_its_calls)
 
 pub returns-clause-few : goal.returns-clause-few
@@ -26,10 +26,9 @@ returns-clause-comes g c matching fresh undisturbed none enough =
     let made = c.delegate.ensures.delegates fresh in
     let stays = c.delegate.ensures.stays in
     comes_to_ok _ _ _ enough
-    (settled_plainly g.K.Mechanism.meaning laws (kdc_calls g.D.Kdc.told g.D.Kdc.asked g.D.Kdc.faults) g.C.CredentialsProxy.told g.C.CredentialsProxy.faults
-    g.C.CredentialsProxy.failing c.args.client.now c.args.server.now fresh.client_is fresh.server_is matching _ _ _ _ _ c.args.turns c.delegate.new.client
+    (settled_plainly g.K.Mechanism.meaning laws (kdc_calls g.D.Kdc.told g.D.Kdc.asked g.D.Kdc.faults) g.C.CredentialsProxy.meaning c.args.client.now c.args.server.now fresh.client_is fresh.server_is matching _ _ _ _ _ c.args.turns c.delegate.new.client
     c.delegate.new.server _ _ _ _ _ undisturbed made.accounts.turns_and_log_show_the_answer stays.the_link_tells_what_it_told stays.the_link_fails_where_its_edits_say_so
-    made.accounts.client_turns_are_its_calls (server_past_history (either 0 ntlm_meaning g.K.Mechanism.meaning) g.C.CredentialsProxy.told g.C.CredentialsProxy.faults g.C.CredentialsProxy.failing _ _ _ _
+    made.accounts.client_turns_are_its_calls (server_past_history (either 0 ntlm_meaning g.K.Mechanism.meaning) g.C.CredentialsProxy.meaning _ _ _ _
     made.accounts.server_turns_are_its_calls)
     (calm_by _ _ _ none stays.the_proxy_tells_what_it_told.calm) made.the_identity_is_what_was_opened_last)
 
@@ -39,9 +38,8 @@ returns-clause-short g c matching fresh undisturbed none few =
     let made = c.delegate.ensures.delegates fresh in
     let stays = c.delegate.ensures.stays in
     cut_short _ _ _ few stays.ok_comes_within_the_limit
-    (settled_plainly g.K.Mechanism.meaning laws (kdc_calls g.D.Kdc.told g.D.Kdc.asked g.D.Kdc.faults) g.C.CredentialsProxy.told g.C.CredentialsProxy.faults
-    g.C.CredentialsProxy.failing c.args.client.now c.args.server.now fresh.client_is fresh.server_is matching _ _ _ _ _ c.args.turns c.delegate.new.client
+    (settled_plainly g.K.Mechanism.meaning laws (kdc_calls g.D.Kdc.told g.D.Kdc.asked g.D.Kdc.faults) g.C.CredentialsProxy.meaning c.args.client.now c.args.server.now fresh.client_is fresh.server_is matching _ _ _ _ _ c.args.turns c.delegate.new.client
     c.delegate.new.server _ _ _ _ _ undisturbed made.accounts.turns_and_log_show_the_answer stays.the_link_tells_what_it_told stays.the_link_fails_where_its_edits_say_so
-    made.accounts.client_turns_are_its_calls (server_past_history (either 0 ntlm_meaning g.K.Mechanism.meaning) g.C.CredentialsProxy.told g.C.CredentialsProxy.faults g.C.CredentialsProxy.failing _ _ _ _
+    made.accounts.client_turns_are_its_calls (server_past_history (either 0 ntlm_meaning g.K.Mechanism.meaning) g.C.CredentialsProxy.meaning _ _ _ _
     made.accounts.server_turns_are_its_calls)
     (calm_by _ _ _ none stays.the_proxy_tells_what_it_told.calm) made.the_identity_is_what_was_opened_last)

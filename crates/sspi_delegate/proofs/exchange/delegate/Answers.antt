@@ -5,6 +5,7 @@ use Rattle.sspi_delegate.proofs.Alternating.{clients_others, servers_others}
 use Rattle.sspi_delegate.proofs.Exactness.{exactly}
 use Rattle.sspi_delegate.proofs.Headline.{run_log, run_order, sealed_once, seals_after_proof, server_never_seals, exchanged_ok}
 use Rattle.sspi_delegate.proofs.HistoryRuns.{client_past_ran, server_past_ran, server_past_gives, past_refused}
+use Rattle.sspi_delegate.proofs.ProxyCalls.{ok_asked}
 use Rattle.sspi_delegate.proofs.exchange.delegate.Goals as goal
 
 pub returns-clause-stays : goal.returns-clause-stays
@@ -37,7 +38,7 @@ returns-clause-delegates g c fresh =
     let server_past = c.rounds.ensures.server_history fresh.empty in
     let order = run_order _ _ _ _ _ _ _ cause in
     let client = client_past_ran m law k _ _ _ _ _ result fresh.client_is (clients_others turns order) client_past in
-    let server = server_past_ran m law g.C.CredentialsProxy.told g.C.CredentialsProxy.faults g.C.CredentialsProxy.failing _ _ _ result fresh.server_is
+    let server = server_past_ran m law g.C.CredentialsProxy.meaning _ _ _ result fresh.server_is
     (servers_others turns order) server_past in
     record {
       the_turns_are_a_run = record { order = order; entries = run_log _ _ _ _ _ _ _ cause; client_ran = client; server_ran = server };
@@ -45,10 +46,12 @@ returns-clause-delegates g c fresh =
       the_client_seals_after_the_proof = seals_after_proof m _ _ client.each;
       the_server_never_seals = server_never_seals m _ _ server.each;
       the_identity_is_what_was_opened_last =
-          server_past_gives m law g.C.CredentialsProxy.told g.C.CredentialsProxy.faults g.C.CredentialsProxy.failing _ _ _ result server_past;
+          server_past_gives m law g.C.CredentialsProxy.meaning _ _ _ result server_past;
       both_proofs_came_before_ok = exchanged_ok m _ _ _ _ _ _ _ cause _ server.each;
+      no_call_of_the_proxy_before_ok_was_to_fail =
+          ok_asked m g.C.CredentialsProxy.meaning _ _ _ result turns _ _ _ _ fresh.server_is cause (servers_others turns order) server_past;
       a_refusal_has_its_cause =
-          past_refused m law g.C.CredentialsProxy.told g.C.CredentialsProxy.faults g.C.CredentialsProxy.failing k _ _ _ _ _ _ _ _ result
+          past_refused m law g.C.CredentialsProxy.meaning k _ _ _ _ _ _ _ _ result
           fresh.client_is fresh.server_is (clients_others turns order) (servers_others turns order) client_past server_past;
       accounts = returns-clause-accounts g c fresh.empty;
       stays = returns-clause-stays g c;

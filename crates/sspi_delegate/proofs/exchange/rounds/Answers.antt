@@ -80,7 +80,7 @@ returns-in-Err-clause-client_history g c empty =
 
 pub returns-in-Err-clause-server_history : goal.returns-in-Err-clause-server_history
 returns-in-Err-clause-server_history g c empty =
-    server_beside (either g.N.Mechanism.REQUESTS g.N.Mechanism.meaning g.K.Mechanism.meaning) (kdc_calls g.D.Kdc.told g.D.Kdc.asked g.D.Kdc.faults) g.C.CredentialsProxy.told g.C.CredentialsProxy.faults g.C.CredentialsProxy.failing
+    server_beside (either g.N.Mechanism.REQUESTS g.N.Mechanism.meaning g.K.Mechanism.meaning) (kdc_calls g.D.Kdc.told g.D.Kdc.asked g.D.Kdc.faults) g.C.CredentialsProxy.meaning
     _ _ _ _ _ c.in-Err.error _ _ _
     (c.in-Err.ensures.client_history _ _ (c.loop-turn.invariant.at_turn empty).between.going (c.loop-turn.invariant.client_history empty))
     (rw c.in-Err.ensures.server (c.loop-turn.invariant.server_history empty))
@@ -97,7 +97,7 @@ returns-in-Ok-Some-clause-server_history g c empty =
 
 pub returns-in-Err-server_half-clause-client_history : goal.returns-in-Err-server_half-clause-client_history
 returns-in-Err-server_half-clause-client_history g c empty =
-    client_beside (either g.N.Mechanism.REQUESTS g.N.Mechanism.meaning g.K.Mechanism.meaning) (kdc_calls g.D.Kdc.told g.D.Kdc.asked g.D.Kdc.faults) g.C.CredentialsProxy.told g.C.CredentialsProxy.faults g.C.CredentialsProxy.failing
+    client_beside (either g.N.Mechanism.REQUESTS g.N.Mechanism.meaning g.K.Mechanism.meaning) (kdc_calls g.D.Kdc.told g.D.Kdc.asked g.D.Kdc.faults) g.C.CredentialsProxy.meaning
     _ _ _ _ _ c.in-Err-server_half.error _ _ _
     (c.in-Err-server_half.ensures.server_history c.args.server.now (rw c.in-Ok.ensures.server (c.loop-turn.invariant.server_history empty)))
     (rw c.in-Err-server_half.ensures.client
@@ -105,7 +105,7 @@ returns-in-Err-server_half-clause-client_history g c empty =
 
 pub returns-in-Err-server_half-clause-server_history : goal.returns-in-Err-server_half-clause-server_history
 returns-in-Err-server_half-clause-server_history g c empty =
-    server_half_past (either g.N.Mechanism.REQUESTS g.N.Mechanism.meaning g.K.Mechanism.meaning) g.C.CredentialsProxy.told g.C.CredentialsProxy.faults g.C.CredentialsProxy.failing _ _ _ c.in-Err-server_half.error
+    server_half_past (either g.N.Mechanism.REQUESTS g.N.Mechanism.meaning g.K.Mechanism.meaning) g.C.CredentialsProxy.meaning _ _ _ c.in-Err-server_half.error
     (c.in-Err-server_half.ensures.server_history c.args.server.now (rw c.in-Ok.ensures.server (c.loop-turn.invariant.server_history empty)))
 
 pub returns-clause-client_history : goal.returns-clause-client_history

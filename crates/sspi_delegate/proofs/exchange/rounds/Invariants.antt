@@ -18,9 +18,9 @@ invariant-loop-turn g l = record {
       ClientHistory (either g.N.Mechanism.REQUESTS g.N.Mechanism.meaning g.K.Mechanism.meaning) (kdc_calls g.D.Kdc.told g.D.Kdc.asked g.D.Kdc.faults)
       l.fn.client l.fn.kdc (client_turns l.transcript.turns) l.client l.kdc;
   server_history : l.fn.transcript.turns ≡ [] →
-      ServerHistory (either g.N.Mechanism.REQUESTS g.N.Mechanism.meaning g.K.Mechanism.meaning) g.C.CredentialsProxy.told g.C.CredentialsProxy.faults g.C.CredentialsProxy.failing
+      ServerHistory (either g.N.Mechanism.REQUESTS g.N.Mechanism.meaning g.K.Mechanism.meaning) g.C.CredentialsProxy.meaning
       l.fn.server (server_turns l.transcript.turns) l.server;
-  proxy : ProxyStays g.C.CredentialsProxy.told g.C.CredentialsProxy.failing g.C.CredentialsProxy.faults l.fn.server.proxy l.server.proxy;
+  proxy : ProxyStays g.C.CredentialsProxy.meaning l.fn.server.proxy l.server.proxy;
   kdc : KdcStays g.D.Kdc.told g.D.Kdc.faults l.fn.kdc l.kdc;
   still : IsStill (g.L.Link.edits l.fn.link) (g.L.Link.faults l.fn.link) (g.L.Link.faults l.link);
 }

@@ -42,7 +42,7 @@ returns-in-Ok-give-clause-server_history g c first history = c.in-Replied.ensure
 
 pub returns-in-Err-give-clause-server_history : goal.returns-in-Err-give-clause-server_history
 returns-in-Err-give-clause-server_history g c first history =
-    server_half_stopped (either g.N.Mechanism.REQUESTS g.N.Mechanism.meaning g.K.Mechanism.meaning) g.C.CredentialsProxy.told g.C.CredentialsProxy.faults g.C.CredentialsProxy.failing first
+    server_half_stopped (either g.N.Mechanism.REQUESTS g.N.Mechanism.meaning g.K.Mechanism.meaning) g.C.CredentialsProxy.meaning first
     c.server_round.new.server _ c.in-Err-give.error c.in-Err-give.ensures.link (c.in-Replied.ensures.server_history first history)
 
 pub returns-in-Finished-clause-server_history : goal.returns-in-Finished-clause-server_history
@@ -50,7 +50,7 @@ returns-in-Finished-clause-server_history g c first history = c.in-Finished.ensu
 
 pub returns-in-Refused-clause-server_history : goal.returns-in-Refused-clause-server_history
 returns-in-Refused-clause-server_history g c first history =
-    server_half_refused (either g.N.Mechanism.REQUESTS g.N.Mechanism.meaning g.K.Mechanism.meaning) g.C.CredentialsProxy.told g.C.CredentialsProxy.faults g.C.CredentialsProxy.failing first
+    server_half_refused (either g.N.Mechanism.REQUESTS g.N.Mechanism.meaning g.K.Mechanism.meaning) g.C.CredentialsProxy.meaning first
     c.server_round.new.server _ c.in-Refused.error c.server_error.result c.server_error.ensures (c.in-Refused.ensures.server_history first history)
 
 pub returns-in-Lost-clause-server_history : goal.returns-in-Lost-clause-server_history
@@ -58,7 +58,7 @@ returns-in-Lost-clause-server_history g c first history = c.in-Lost.ensures.serv
 
 pub returns-in-Err-clause-server_history : goal.returns-in-Err-clause-server_history
 returns-in-Err-clause-server_history g c first history =
-    server_half_stopped (either g.N.Mechanism.REQUESTS g.N.Mechanism.meaning g.K.Mechanism.meaning) g.C.CredentialsProxy.told g.C.CredentialsProxy.faults g.C.CredentialsProxy.failing first
+    server_half_stopped (either g.N.Mechanism.REQUESTS g.N.Mechanism.meaning g.K.Mechanism.meaning) g.C.CredentialsProxy.meaning first
     c.args.server.now _ c.in-Err.error c.in-Err.ensures.link history
 
 pub returns-in-Refused-clause-still : goal.returns-in-Refused-clause-still

@@ -1,13 +1,29 @@
 use Rattle.std.proofs.Common.{◌≡◌, ◌≢◌, Some, None, Ok, Err, IfErr, ap, sym, subst, rules}
 use Rattle.sspi_types.specs.declared.credential_use.CredentialUse.TheVariants.{Inbound}
 use Rattle.sspi_types.specs.declared.error_kind.ErrorKind.TheVariants.{InsufficientMemory}
+use Rattle.sspi_credssp.specs.declared.state.CredSspState.TheVariants.{NegoToken}
 use Rattle.sspi_tsreq.specs.declared.request.TsRequest.{TsRequest}
 use Rattle.sspi_credssp.specs.Begun.{Begun, IfContext}
 use Rattle.sspi_credssp.specs.Context.{either}
 use Rattle.sspi_credssp.specs.ServerCause.{NegoCause}
 use Rattle.sspi_credssp.specs.ServerStep.{RefusedAt, accepted, refused_step, server_args, server_setting}
+use Rattle.sspi_credssp.specs.ServerTurn.{IsReady}
 use Rattle.sspi_credssp.proofs.ClientReady.{context_here}
+use Rattle.sspi_credssp.proofs.ContextLaws.{lawful}
+use Rattle.sspi_credssp.proofs.ServerReady.{ready_stepped}
 use Rattle.sspi_credssp.proofs.server.CredSspServer.answer.Goals as goal
+
+pub returns-in-Ok-clause-turn : goal.returns-in-Ok-clause-turn
+returns-in-Ok-clause-turn g c = λ start d same ready nego output.
+    let it = either g.N.Mechanism.REQUESTS g.N.Mechanism.meaning g.K.Mechanism.meaning in
+    let laws = lawful _ _ g.N.Mechanism.meaning g.K.Mechanism.meaning g.met.N.Mechanism.laws g.met.K.Mechanism.laws in
+    let here : c.self.inside.context ≡ Some c.in-Some.context = search rules in
+    let nego_inside : c.self.inside.state ≡ NegoToken = search rules in
+    let ready_inside = subst (λ v. IsReady it start d v) (sym c.self.view_is) ready in
+    c.answer_step.ensures.turn start d (search rules)
+    (ready_stepped it start _ d c.in-Some.context c.accept.new.context _ _ _ ready_inside nego_inside here
+    (λ unused. laws.accept_unused _ _ _ _ unused c.in-Ok.ensures.step))
+    (search rules)
 
 pub returns-in-Ok-clause-step : goal.returns-in-Ok-clause-step
 returns-in-Ok-clause-step g c = λ start d token told begun.

@@ -1,7 +1,10 @@
-use Rattle.std.proofs.Common.{◌≡◌, Some, true, rules}
+use Rattle.std.proofs.Common.{◌≡◌, ◌∙◌, Some, true, ap, sym, rules}
 use Rattle.sspi_credssp.specs.Context.{either}
+use Rattle.sspi_credssp.specs.ServerAsks.{look_ups_at}
 use Rattle.sspi_credssp.specs.ServerTurn.{IsOver}
+use Rattle.sspi_credssp.proofs.Asked.{asked_as, on_ok_asked_as}
 use Rattle.sspi_credssp.proofs.ContextLaws.{lawful}
+use Rattle.sspi_credssp.proofs.ServerAsking.{over_looks}
 use Rattle.sspi_credssp.proofs.ServerCauses.{over_causes}
 use Rattle.sspi_credssp.proofs.ServerWalks.{unknown_refused, known_over, turn_refused, turn_completed}
 use Rattle.sspi_credssp.proofs.server.CredSspServer.answer_step.Goals as goal
@@ -42,3 +45,15 @@ returns-clause-step g c = λ start d told accepted.
     let answered : c.args.self.now.acts.status ≡ Some c.args.status = search rules in
     turn_refused it laws tells start c.args.self.now d c.args.status c.new.result negotiated answered
     (unknown_refused it laws tells c.args.status start c.args.self.now.handle d.nego_tokens _ _ accepted)
+
+pub returns-then-has_ended-clause-proxy : goal.returns-then-has_ended-clause-proxy
+returns-then-has_ended-clause-proxy g c =
+    let over : IsOver (Some c.args.status) = c.has_ended.ensures.ended c.if-has_ended.true in
+    let answered : c.complete.new.self.acts.status ≡ Some c.args.status = search rules in
+    asked_as g.C.CredentialsProxy.meaning 1 _ _ _ (over_looks c.args.status over ∙ ap look_ups_at (sym answered)) c.complete.ensures.proxy
+
+pub returns-then-has_ended-clause-asked : goal.returns-then-has_ended-clause-asked
+returns-then-has_ended-clause-asked g c =
+    let over : IsOver (Some c.args.status) = c.has_ended.ensures.ended c.if-has_ended.true in
+    let answered : c.complete.new.self.acts.status ≡ Some c.args.status = search rules in
+    on_ok_asked_as g.C.CredentialsProxy.meaning 1 _ _ _ c.complete.result (over_looks c.args.status over ∙ ap look_ups_at (sym answered)) c.complete.ensures.asked

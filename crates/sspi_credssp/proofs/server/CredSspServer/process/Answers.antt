@@ -4,12 +4,11 @@ use Rattle.sspi_types.specs.declared.error_kind.ErrorKind.TheVariants.{MessageAl
 use Rattle.sspi_credssp.specs.Begun.{Begun, IfContext, MadeOr}
 use Rattle.sspi_credssp.specs.Context.{either}
 use Rattle.sspi_credssp.specs.Peers.{lists_in}
-use Rattle.sspi_credssp.specs.Proxy.{IsLater, IsAsked}
+use Rattle.sspi_credssp.specs.Proxy.{IsLater, IsAsked, HasAsked}
 use Rattle.sspi_credssp.specs.ServerCause.{MakeCause}
 use Rattle.sspi_credssp.specs.ServerStep.{server_setting}
 use Rattle.sspi_credssp.specs.Stops.{StopsIf, differs}
-use Rattle.sspi_credssp.proofs.Asked.{later, asked_on}
-use Rattle.sspi_credssp.proofs.ServerAsking.{took_failed}
+use Rattle.sspi_credssp.proofs.Asked.{later, asked_on, turn_asked}
 use Rattle.sspi_credssp.proofs.ServerCauses.{server_cause_past, server_cause_begun}
 use Rattle.sspi_credssp.proofs.server.CredSspServer.process.Goals as goal
 
@@ -44,11 +43,13 @@ returns-in-Ok-clause-proxy g c =
     asked_on p _ _ _ _ _ (subst (λ v. IsAsked p (lists_in v.context v.mode) v.proxy c.begin.new.self.proxy) c.forget_last_call.ensures c.in-Ok.ensures.proxy)
     c.take-in-Ok.ensures.proxy
 
-pub returns-in-Ok-clause-failed : goal.returns-in-Ok-clause-failed
-returns-in-Ok-clause-failed g c =
+pub returns-in-Ok-clause-asked : goal.returns-in-Ok-clause-asked
+returns-in-Ok-clause-asked g c =
     let p = g.C.CredentialsProxy.meaning in
-    took_failed p c.args.self.now c.forget_last_call.new.self _ _ c.begin.new.self.proxy c.begin.result _ _ c.take-in-Ok.result
-    c.forget_last_call.ensures c.in-Ok.is c.in-Ok.ensures.proxy.told_same c.in-Ok.ensures.number c.in-Ok.ensures.failed c.take-in-Ok.ensures.failed
+    turn_asked p c.args.self.now.proxy c.begin.new.self.proxy c.take-in-Ok.new.self.proxy _ _ c.take-in-Ok.result
+    (subst (λ v. IsAsked p (lists_in v.context v.mode) v.proxy c.begin.new.self.proxy) c.forget_last_call.ensures c.in-Ok.ensures.proxy).told_same
+    (subst (λ v. HasAsked p (lists_in v.context v.mode) v.proxy c.begin.new.self.proxy) c.forget_last_call.ensures c.in-Ok.ensures.asked)
+    c.take-in-Ok.ensures.asked
 
 pub returns-in-Err-clause-cause : goal.returns-in-Err-clause-cause
 returns-in-Err-clause-cause g c = λ memory.
@@ -58,6 +59,6 @@ returns-in-Err-clause-cause g c = λ memory.
     let same : c.refusal.result.error ≡ c.in-Err.error = search rules in
     rw same
     (server_cause_begun it p c.args.self.now c.begin.new.self c.args.ts_request kind
-    (subst (λ v. MadeOr v.context c.begin.new.self.context (MakeCause it p v c.begin.new.self.proxy kind)
+    (subst (λ v. MadeOr v.context c.begin.new.self.context (MakeCause it p v.mode v.proxy c.begin.new.self.proxy kind)
     (StopsIf (differs v.noted c.args.ts_request.version) MessageAltered kind ⊥))
     c.forget_last_call.ensures (c.in-Err.ensures.cause (rw (sym same) memory))))
