@@ -12,6 +12,7 @@ use Rattle.sspi_names.specs.declared.credentials.CredentialsBuffers.TheVariants 
 use Rattle.sspi_names.specs.declared.identity.AuthIdentity.{AuthIdentity}
 use Rattle.sspi_names.specs.Identity.{IsIdentity, buffers_of}
 use Rattle.sspi_names.specs.Name.{Name, inner_of}
+use Rattle.sspi_mech.specs.declared.config.NtlmConfig.{NtlmConfig}
 use Rattle.sspi_mech.specs.declared.ntlm.stage.Claim.{Claim}
 use Rattle.sspi_mech.specs.declared.ntlm.stage.Stage.{Stage}
 use Rattle.sspi_mech.specs.declared.ntlm.stage.Stage.TheVariants.{NegotiateSent, AuthenticateSent, ChallengeSent, Claimed}
@@ -30,7 +31,7 @@ use Rattle.sspi_mech.specs.NtlmSteps.{Goes, client_step, server_step}
 use Rattle.sspi_mech.specs.Settings.{Setting}
 use Rattle.sspi_mech.proofs.Messages.{challenge_is_read}
 use Rattle.sspi_credssp.specs.declared.context.SspiContext.{SspiContext}
-use Rattle.sspi_credssp.specs.declared.context.SspiContext.TheVariants.{Ntlm, Kerberos}
+use Rattle.sspi_credssp.specs.declared.context.SspiContext.TheVariants.{Negotiate, Ntlm, Kerberos}
 use Rattle.sspi_credssp.specs.declared.mode.ClientMode.{ClientMode}
 use Rattle.sspi_credssp.specs.declared.mode.ClientMode.TheVariants as client_mode
 use Rattle.sspi_credssp.specs.declared.mode.ServerMode.{ServerMode}
@@ -44,11 +45,11 @@ use Rattle.sspi_credssp.specs.Credentials.{delegated_text}
 use Rattle.sspi_credssp.specs.Proxy.{ProxyMeaning, AreFound, AreCandidates, candidates_of, entry_of, is_named}
 use Rattle.sspi_credssp.specs.Requests.{token_of}
 use Rattle.sspi_credssp.specs.Server.{ServerView}
-use Rattle.sspi_credssp.specs.ServerCause.{LookUpRefused, failed, nobody, IdentifyCause, nameless, looked, unset}
-use Rattle.sspi_credssp.specs.ServerStep.{IsIdentified, is_identified, server_args}
+use Rattle.sspi_credssp.specs.ServerCause.{MakeCause, unlisted, unbegun, ListRefused, LookUpRefused, failed, nobody, IdentifyCause, nameless, looked, unset}
+use Rattle.sspi_credssp.specs.ServerStep.{IsIdentified, is_identified, server_args, server_setting}
 use Rattle.sspi_credssp.specs.ServerTurn.{SameServer}
 use Rattle.sspi_delegate.specs.Asking.{KdcCalls}
-use Rattle.sspi_completeness.specs.Matching.{HasEntry, AreMatching, delegated_as}
+use Rattle.sspi_completeness.specs.Matching.{IsPlainClient, IsPlainServer, HasChallenge, HasEntry, AreMatching, delegated_as}
 use Rattle.sspi_completeness.proofs.Accepting.{IsPeer, Takes}
 use Rattle.sspi_completeness.proofs.Blobs.{blob_of, blob_length}
 use Rattle.sspi_completeness.proofs.ClientTurns.{Walks}
@@ -108,6 +109,14 @@ acquires_buffers : (cr : Credentials) (i : AuthIdentity) (handle : Option Creden
     handle ≡ Some (buffers.AuthIdentity (buffers_of i))
 acquires_buffers cr i handle is h =
     let e : acquired Outbound (Some (credentials.AuthIdentity i)) ≡ Ok handle = subst (λ (x : Credentials). acquired Outbound (Some x) ≡ Ok handle) is h in cc
+
+plain_client : (mode : ClientMode) → IsPlainClient mode → (config : NtlmConfig) × (mode ≡ client_mode.Ntlm config)
+plain_client (client_mode.Ntlm config) plain = (config, refl)
+plain_client (client_mode.Negotiate config) plain = absurd plain
+
+plain_server : (mode : ServerMode) → IsPlainServer mode → (config : NtlmConfig) × (mode ≡ server_mode.Ntlm config)
+plain_server (server_mode.Ntlm config) plain = (config, refl)
+plain_server (server_mode.Negotiate config) plain = absurd plain
 
 module _ {K D P : Type 0} (k : Meaning Setting K) (laws : IsContext (either 0 ntlm_meaning k)) (calls : KdcCalls D) (p : ProxyMeaning P) where
   abbrev C : Type 0
@@ -181,8 +190,23 @@ module _ {K D P : Type 0} (k : Meaning Setting K) (laws : IsContext (either 0 nt
     abbrev i : AuthIdentity
     i = matching.identity
 
+    abbrev client_config : NtlmConfig
+    client_config = (plain_client a.mode matching.client_plain).0
+
+    client_is : a.mode ≡ client_mode.Ntlm client_config
+    client_is = (plain_client a.mode matching.client_plain).1
+
+    abbrev server_config : NtlmConfig
+    server_config = (plain_server b.mode matching.server_plain).0
+
+    server_is : b.mode ≡ server_mode.Ntlm server_config
+    server_is = (plain_server b.mode matching.server_plain).1
+
+    challenge_length : length server_config.challenge ≡ 8
+    challenge_length = subst HasChallenge server_is matching.challenge
+
     abbrev challenge : List ℕ
-    challenge = matching.server_config.challenge
+    challenge = server_config.challenge
 
     abbrev key : List ℕ
     key = key_for i challenge
@@ -193,7 +217,7 @@ module _ {K D P : Type 0} (k : Meaning Setting K) (laws : IsContext (either 0 nt
     -- ---- the objects of both ends
 
     abbrev client_new : NtlmState
-    client_new = ntlm_of matching.client_config
+    client_new = ntlm_of client_config
 
     abbrev client_sent : NtlmState
     client_sent = record client_new { stage = NegotiateSent }
@@ -202,7 +226,7 @@ module _ {K D P : Type 0} (k : Meaning Setting K) (laws : IsContext (either 0 nt
     client_on = logged_on i challenge client_sent
 
     abbrev server_new : NtlmState
-    server_new = ntlm_of matching.server_config
+    server_new = ntlm_of server_config
 
     abbrev server_sent : NtlmState
     server_sent = record server_new { stage = ChallengeSent }
@@ -247,8 +271,8 @@ module _ {K D P : Type 0} (k : Meaning Setting K) (laws : IsContext (either 0 nt
         Walks c laws calls old kdc None (client_steps 0) (client_context 1) handle NoKdc
     walks_first old kdc same none at =
         walks_by old kdc None (λ h m. (m ≡ client_new) × (acquired Outbound (Some a.credentials) ≡ Ok h)) client_sent (client_steps 0) handle
-        (λ h m0 start. client_first k matching.client_config a.credentials old.context old.handle h m0 none
-        (subst (λ (mode : ClientMode). Begun c old.context old.handle (ForClient mode) Outbound (Some a.credentials) h m0) (same.mode ∙ matching.client_plain)
+        (λ h m0 start. client_first k client_config a.credentials old.context old.handle h m0 none
+        (subst (λ (mode : ClientMode). Begun c old.context old.handle (ForClient mode) Outbound (Some a.credentials) h m0) (same.mode ∙ client_is)
         (subst (λ (cr : Credentials). Begun c old.context old.handle (ForClient old.mode) Outbound (Some cr) h m0) same.credentials start)))
         (λ h m begun. subst (λ (x : NtlmState). client_step x.stage x h [] ≡ Goes client_sent (client_steps 0)) (sym begun.0) refl)
         (λ h m begun. acquires_buffers a.credentials i h matching.credentials_are begun.1)
@@ -259,7 +283,7 @@ module _ {K D P : Type 0} (k : Meaning Setting K) (laws : IsContext (either 0 nt
         walks_by old kdc (Some (challenge_message challenge)) (λ h m. (m ≡ client_sent) × (h ≡ old.handle)) client_on (client_steps 1) handle
         (λ h m0 start. goes_on_as k (ForClient old.mode) old.context (Some old.credentials) old.handle h m0 client_sent Outbound there start)
         (λ h m begun. subst (λ (x : NtlmState). client_step x.stage x h (challenge_message challenge) ≡ Goes client_on (client_steps 1)) (sym begun.0)
-        (client_outcome client_sent NegotiateSent h (challenge_message challenge) challenge i matching.identity_is (omega (arith, short)) matching.challenge refl refl (begun.1 ∙ had)))
+        (client_outcome client_sent NegotiateSent h (challenge_message challenge) challenge i matching.identity_is (omega (arith, short)) challenge_length refl refl (begun.1 ∙ had)))
         (λ h m begun. begun.1 ∙ had)
     walks (suc n) old kdc less same there had at = absurd (omega (arith, less))
 
@@ -272,17 +296,17 @@ module _ {K D P : Type 0} (k : Meaning Setting K) (laws : IsContext (either 0 nt
     never_acquires config told kind (unacquired (Kerberos m) made refuses) = made
     never_acquires config told kind (unacquired (Negotiate m) made refuses) = made
 
-    server_never : (mode : ServerMode) (before now : P) (kind : ErrorKind) → mode ≡ server_mode.Ntlm matching.server_config → MakeCause c p mode before now kind → ⊥
+    server_never : (mode : ServerMode) (before now : P) (kind : ErrorKind) → mode ≡ server_mode.Ntlm server_config → MakeCause c p mode before now kind → ⊥
     server_never mode before now kind is (unlisted h) = subst (λ (x : ServerMode). ListRefused x (p.faults before) (p.faults now) kind) is h
-    server_never mode before now kind is (unbegun h) = never_acquires matching.server_config _ kind
+    server_never mode before now kind is (unbegun h) = never_acquires server_config _ kind
         (subst (λ (x : ServerMode). BeginCause c (ForServer x (p.told before).entries) Inbound None kind) is h)
 
     takes_first : (old : ServerView C P) → SameServer c b old → old.context ≡ None → Takes c laws p old (Some negotiate_message) (server_steps 0) (server_context 1) None
     takes_first old same none =
         takes_by old (Some negotiate_message) (λ h m. (m ≡ server_new) × (h ≡ None)) server_sent (server_steps 0) None
-        (λ h m0 start. server_first k matching.server_config _ old.context old.handle h m0 none
+        (λ h m0 start. server_first k server_config _ old.context old.handle h m0 none
         (subst (λ (mode : ServerMode). Begun c old.context old.handle (ForServer mode (p.told old.proxy).entries) Inbound None h m0)
-        (same.mode ∙ matching.server_plain) start))
+        (same.mode ∙ server_is) start))
         (λ h m begun. subst (λ (x : NtlmState). server_step x.stage x negotiate_message ≡ Goes server_sent (server_steps 0)) (sym begun.0) refl)
         (λ h m begun. begun.1)
 
@@ -361,7 +385,7 @@ module _ {K D P : Type 0} (k : Meaning Setting K) (laws : IsContext (either 0 nt
     client_short (suc n) less = let e = token_length i challenge short in omega (arith, e)
 
     server_short : (n : ℕ) → n ≤ 0 → length (server_steps n).output ≤ 32768
-    server_short zero less = omega (arith, matching.challenge)
+    server_short zero less = omega (arith, challenge_length)
     server_short (suc n) less = omega arith
 
     client_goes : (n : ℕ) → n ≤ 0 → (client_steps n).status ≡ statuses.ContinueNeeded
@@ -384,9 +408,9 @@ module _ {K D P : Type 0} (k : Meaning Setting K) (laws : IsContext (either 0 nt
       peer_context = Ntlm server_keyed;
       ups = blob_of key FromClient;
       downs = blob_of key FromServer;
-      client_begins = λ kind cause. never_begins matching.client_config a.credentials kind matching.credentials_are
-          (subst (λ (mode : ClientMode). BeginCause c (ForClient mode) Outbound (Some a.credentials) kind) matching.client_plain cause);
-      server_begins = λ before now kind. server_never b.mode before now kind matching.server_plain;
+      client_begins = λ kind cause. never_begins client_config a.credentials kind matching.credentials_are
+          (subst (λ (mode : ClientMode). BeginCause c (ForClient mode) Outbound (Some a.credentials) kind) client_is cause);
+      server_begins = λ before now kind. server_never b.mode before now kind server_is;
       kdc_start = tt;
       walks_first = walks_first;
       walks = walks;

@@ -51,7 +51,7 @@ cut_short limit identity (Err errors.TurnsSpent) few within settled = tt
 cut_short limit identity (Err errors.InsufficientMemory) few within settled = tt
 
 module _ {K D P : Type 0} (k : Meaning Setting K) (laws : IsContext (either 0 ntlm_meaning k)) (calls : KdcCalls D) (p : ProxyMeaning P) (a : ClientView (SspiContext NtlmState K)) (b : ServerView (SspiContext NtlmState K) P) (client_new : IsFreshClient a)
-    (server_new : IsFreshServer b) (matching : AreMatching told a b) where
+    (server_new : IsFreshServer b) (matching : AreMatching p a b) where
   pub settled_plainly : (kdc kdc2 : D) (base : List Carried) (start now limit : ℕ) (x : ClientView (SspiContext NtlmState K)) (y : ServerView (SspiContext NtlmState K) P)
       (edits edits2 : Option (List Edit)) (result : Result Delegation DelegateError) (turns : List Turn) (log : List Carried) → IsUndisturbed edits base log start now →
       RunEnds base start limit result turns log now → StaysTold edits edits2 base log → AnswerTold edits start now result log (newest_message turns) →
@@ -62,5 +62,5 @@ module _ {K D P : Type 0} (k : Meaning Setting K) (laws : IsContext (either 0 nt
   settled_plainly kdc kdc2 base start now limit x y edits edits2 result turns log undisturbed ends stays still clients servers calm gives =
       settled (either 0 ntlm_meaning k) calls p a b kdc 2 (delegated_as a.delegation matching.identity)
       (known (either 0 ntlm_meaning k) laws calls p a b kdc 0 false (negotiation k laws calls p a b kdc matching) (delegated k laws calls p a b kdc matching).text
-      (delegated_as a.delegation matching.identity) (alike k laws calls p a b kdc matching) client_new server_new faults failing)
+      (delegated_as a.delegation matching.identity) (alike k laws calls p a b kdc matching) client_new server_new)
       base start now limit x kdc2 y edits edits2 result turns log undisturbed ends stays still clients servers calm gives

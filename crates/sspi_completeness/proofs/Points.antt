@@ -144,7 +144,7 @@ module _ {C D P : Type 0} (c : Meaning ContextSetting C) (k : KdcCalls D) (p : P
       let before = proxy_same history.0 past history.1 in
       let made = history.2 in
       subst (λ (v : SView). ProxySame v) (sym made.rest)
-      (record { told_same = made.proxy.told_same ∙ before.told_same; counted = omega (arith, made.proxy.counted, before.counted) })
+      (record { told_same = made.proxy.told_same ∙ before.told_same; counted = omega (arith, made.proxy.faults_stay, before.counted) })
 
   -- the proxy has no fault in the exchange
   pub record IsCalmAt (y : SView) : Type 0 where
@@ -155,8 +155,8 @@ module _ {C D P : Type 0} (c : Meaning ContextSetting C) (k : KdcCalls D) (p : P
   calm_before t x x2 kdc kdc2 y y2 (by_client e made same) proxy calm =
       record { still = ap (λ (v : SView). p.faults v.proxy) (sym same) ∙ calm.still; few = calm.few }
   calm_before t x x2 kdc kdc2 y y2 (by_server e made same same_kdc) proxy calm =
-      let rest : p.faults y2.proxy ≡ faults made.mid.proxy = ap (λ (v : SView). p.faults v.proxy) made.rest in
-      record { still = omega (arith, rest, made.proxy.counted, proxy.counted, calm.still); few = calm.few }
+      let rest : p.faults y2.proxy ≡ p.faults made.mid.proxy = ap (λ (v : SView). p.faults v.proxy) made.rest in
+      record { still = omega (arith, rest, made.proxy.faults_stay, proxy.counted, calm.still); few = calm.few }
 
   module _ (last : ℕ) (identity : AuthIdentity) (known : IsKnown last identity) where
     -- the ends between two turns that went on: before the client's turn of a round, or the server's
@@ -190,12 +190,12 @@ module _ {C D P : Type 0} (c : Meaning ContextSetting C) (k : KdcCalls D) (p : P
         (subst (λ (v : SView). Ends t.outcome ((identity2 : AuthIdentity) → HoldsIdentity c v.context t.delivered.auth_info identity2 → identity2 ≡ identity)) (sym made.rest)
         (known.server_ends i y made.mid t.delivered t.outcome is server given made.makes))
     server_turned base log t past x2 kdc2 y y2 i false is client server count given e made proxy calm =
-        let rest : p.faults y2.proxy ≡ faults made.mid.proxy = ap (λ (v : SView). p.faults v.proxy) made.rest in
-        let still : faults made.mid.proxy ≡ p.faults y.proxy = omega (arith, rest, made.proxy.counted, proxy.counted, calm.still) in
+        let rest : p.faults y2.proxy ≡ p.faults made.mid.proxy = ap (λ (v : SView). p.faults v.proxy) made.rest in
+        let still : p.faults made.mid.proxy ≡ p.faults y.proxy = omega (arith, rest, made.proxy.faults_stay, proxy.counted, calm.still) in
         server_turn i is e count (client is)
         (subst (λ (v : SView). Comes t.outcome (λ r. (r ≡ known.down i) × known.ServerAt (known.next i) v)) (sym made.rest)
         (known.server_goes i y made.mid t.delivered t.outcome is server given proxy.told_same still
-        (omega (arith, rest, made.proxy.counted, proxy.counted, calm.still, calm.few)) made.makes))
+        (omega (arith, rest, made.proxy.faults_stay, proxy.counted, calm.still, calm.few)) made.makes))
 
     pub turned : (base : List Carried) (t : Turn) (past : List Turn) (log : List Carried) (x x2 : CView) (kdc kdc2 : D) (y y2 : SView) → Stands past x kdc y →
         NextTurn base t past log → Extends t x kdc y x2 kdc2 y2 → ProxySame y → IsCalmAt y2 → TurnIs t past x2 kdc2 y2

@@ -4,7 +4,9 @@ use Rattle.std.proofs.Common.{◌≡◌, ℕ, ◌+◌, ◌≤◌, ◌<◌, Bool,
 use Rattle.sspi_types.specs.declared.security_status.SecurityStatus.{SecurityStatus}
 use Rattle.sspi_types.specs.declared.security_status.SecurityStatus.TheVariants as statuses
 use Rattle.sspi_types.specs.declared.error.Error.{Error}
+use Rattle.sspi_types.specs.declared.credential_use.CredentialUse.TheVariants.{Inbound}
 use Rattle.sspi_names.specs.declared.credentials.CredentialsBuffers.{CredentialsBuffers}
+use Rattle.sspi_names.specs.declared.identity.AuthIdentity.{AuthIdentity}
 use Rattle.sspi_mech.specs.declared.config.NtlmConfig.{NtlmConfig}
 use Rattle.sspi_mech.specs.declared.step.Step.{Step}
 use Rattle.sspi_mech.specs.Calls.{AcceptArgs}
@@ -16,11 +18,13 @@ use Rattle.sspi_mech.specs.NtlmSteps.{Goes, challenges, server_step}
 use Rattle.sspi_mech.specs.Settings.{Setting}
 use Rattle.sspi_tsreq.specs.declared.request.TsRequest.{TsRequest}
 use Rattle.sspi_credssp.specs.declared.context.SspiContext.{SspiContext}
-use Rattle.sspi_credssp.specs.declared.context.SspiContext.TheVariants.{Ntlm, Kerberos}
+use Rattle.sspi_credssp.specs.declared.context.SspiContext.TheVariants.{Negotiate, Ntlm, Kerberos}
+use Rattle.sspi_credssp.specs.declared.mode.ServerMode.{ServerMode}
+use Rattle.sspi_credssp.specs.declared.mode.ServerMode.TheVariants as server
 use Rattle.sspi_credssp.specs.declared.state.CredSspState.{CredSspState}
 use Rattle.sspi_credssp.specs.declared.state.CredSspState.TheVariants.{NegoToken}
-use Rattle.sspi_credssp.specs.Begun.{IfContext}
-use Rattle.sspi_credssp.specs.Context.{either}
+use Rattle.sspi_credssp.specs.Begun.{Begun, IfContext}
+use Rattle.sspi_credssp.specs.Context.{either, ForServer}
 use Rattle.sspi_credssp.specs.Proxy.{ProxyMeaning}
 use Rattle.sspi_credssp.specs.Server.{ServerView, IsFreshServer}
 use Rattle.sspi_credssp.specs.ServerStep.{DoneStep, Knowing, Unknown, Identified, Completed, Accepted, accepted, identified, completed, recounted, server_args}
@@ -36,7 +40,7 @@ use Rattle.sspi_delegate.specs.EndTurns.{onto_server, server_turns, OthersGoOn}
 use Rattle.sspi_delegate.specs.Turns.{GoesOn, other, next_end, Alternates}
 use Rattle.sspi_delegate.specs.Headline.{HasExchanged}
 use Rattle.sspi_delegate.specs.History.{ServerMakes, ServerMade, ServerHistory}
-use Rattle.sspi_completeness.specs.Matching.{IsPlain}
+use Rattle.sspi_completeness.specs.Matching.{IsPlainServer}
 use Rattle.sspi_completeness.proofs.Ends.{in_context}
 use Rattle.sspi_completeness.proofs.NtlmEnds.{IfNtlm, server_first}
 use Rattle.sspi_credssp.specs.declared.turn.Outcome.{Outcome}
@@ -66,7 +70,7 @@ module _ {K P : Type 0} (k : Meaning Setting K) (p : ProxyMeaning P) where
   asks_first config handle (Negotiate x) m args step begun accepts = absurd begun
 
   first_begun : (mode : ServerMode) (told : Option (List AuthIdentity)) (context : Option (SspiContext NtlmState K)) (had handle : Option CredentialsBuffers)
-      (m0 m : SspiContext NtlmState K) (args : AcceptArgs) (step : Step) → IsPlain mode → context ≡ None →
+      (m0 m : SspiContext NtlmState K) (args : AcceptArgs) (step : Step) → IsPlainServer mode → context ≡ None →
       Begun (either 0 ntlm_meaning k) context had (ForServer mode told) Inbound None handle m0 →
       (either 0 ntlm_meaning k).accepts m0 args (Ok step) m → step.status ≡ statuses.ContinueNeeded
   first_begun (server.Ntlm config) told context had handle m0 m args step plain none begun accepts =
@@ -74,7 +78,7 @@ module _ {K P : Type 0} (k : Meaning Setting K) (p : ProxyMeaning P) where
   first_begun (server.Negotiate config) told context had handle m0 m args step plain none begun accepts = absurd plain
 
   first_step : (start : ServerView (SspiContext NtlmState K) P) (handle : Option CredentialsBuffers) (token : Option (List ℕ)) (known : Knowing) (answer : Result Step Error)
-      (step : Step) (m : SspiContext NtlmState K) → IsPlain start.mode → start.context ≡ None → answer ≡ Ok step → Accepted (either 0 ntlm_meaning k) p start handle token known answer m →
+      (step : Step) (m : SspiContext NtlmState K) → IsPlainServer start.mode → start.context ≡ None → answer ≡ Ok step → Accepted (either 0 ntlm_meaning k) p start handle token known answer m →
       step.status ≡ statuses.ContinueNeeded
   first_step start handle token known answer step m plain none is (accepted m0 m1 a begun accepts) =
       first_begun start.mode _ start.context start.handle handle m0 m (server_args handle token) step plain none begun
@@ -83,14 +87,14 @@ module _ {K P : Type 0} (k : Meaning Setting K) (p : ProxyMeaning P) where
   first_step start handle token known answer step m plain none is (completed m1 a before permits) = first_step start handle token Identified answer step m plain none is before
   first_step start handle token known answer step m plain none is (recounted m1 m2 n kn a before counted quiet) = first_step start handle token known answer step m1 plain none is before
 
-  first_goes_on : (start now : ServerView (SspiContext NtlmState K) P) (d : TsRequest) (status : SecurityStatus) → IsPlain start.mode → start.context ≡ None →
+  first_goes_on : (start now : ServerView (SspiContext NtlmState K) P) (d : TsRequest) (status : SecurityStatus) → IsPlainServer start.mode → start.context ≡ None →
       IfContext now.context (Accepted (either 0 ntlm_meaning k) p start now.handle d.nego_tokens Completed (Ok (record { status = status; output = now.output }))) →
       status ≡ statuses.ContinueNeeded
   first_goes_on start now d status plain none h =
       let there = in_context now.context _ h in first_step start now.handle d.nego_tokens Completed _ _ there.0 plain none refl there.2
 
   -- the first step of a server does not end the authentication
-  first_not_over : (start now : ServerView (SspiContext NtlmState K) P) (d : TsRequest) (status : Option SecurityStatus) → IsPlain start.mode → start.context ≡ None →
+  first_not_over : (start now : ServerView (SspiContext NtlmState K) P) (d : TsRequest) (status : Option SecurityStatus) → IsPlainServer start.mode → start.context ≡ None →
       DoneStep (either 0 ntlm_meaning k) p status start d now → IsOver status → ⊥
   first_not_over start now d None plain none step over = over
   first_not_over start now d (Some statuses.Ok) plain none step over = let e = first_goes_on start now d statuses.Ok plain none step in cc
@@ -101,7 +105,7 @@ module _ {K P : Type 0} (k : Meaning Setting K) (p : ProxyMeaning P) where
   nego_check state status nego may = subst (λ (s : CredSspState). MayCheck s status) nego may
 
   -- a server checks no proof in its first turn
-  first_checks : (first mid : ServerView (SspiContext NtlmState K) P) (d : TsRequest) (out : Outcome) → IsPlain first.mode → IsFreshServer first → GoesOn out →
+  first_checks : (first mid : ServerView (SspiContext NtlmState K) P) (d : TsRequest) (out : Outcome) → IsPlainServer first.mode → IsFreshServer first → GoesOn out →
       ServerMakes (either 0 ntlm_meaning k) p first d out mid → mid.acts.checked ≡ true → ⊥
   first_checks first mid d (outcome.Reply reply) plain fresh went makes checked =
       first_not_over first mid d mid.acts.status plain fresh.context makes.1 (nego_check first.state mid.acts.status fresh.state (makes.0.turn.acts.checked checked).0)
@@ -109,7 +113,7 @@ module _ {K P : Type 0} (k : Meaning Setting K) (p : ProxyMeaning P) where
   first_checks first mid d outcome.Finished plain fresh went makes checked = went
   first_checks first mid d (outcome.Refused kind reply) plain fresh went makes checked = went
 
-  made_checks : (first old now : ServerView (SspiContext NtlmState K) P) (u : Turn) → old ≡ first → IsPlain first.mode → IsFreshServer first → GoesOn u.outcome →
+  made_checks : (first old now : ServerView (SspiContext NtlmState K) P) (u : Turn) → old ≡ first → IsPlainServer first.mode → IsFreshServer first → GoesOn u.outcome →
       ServerMade (either 0 ntlm_meaning k) p old u now → u.acts.checked ≡ true → ⊥
   made_checks first old now u same plain fresh went made checked =
       first_checks first made.mid u.delivered u.outcome plain fresh went
@@ -120,7 +124,7 @@ module _ {K P : Type 0} (k : Meaning Setting K) (p : ProxyMeaning P) where
   exchange_alone true proved h = refl
   exchange_alone false proved h = absurd cc
 
-  pub three_of_server : (first now : ServerView (SspiContext NtlmState K) P) (turns : List Turn) → IsPlain first.mode → IsFreshServer first → OthersGoOn turns → HasExchanged turns →
+  pub three_of_server : (first now : ServerView (SspiContext NtlmState K) P) (turns : List Turn) → IsPlainServer first.mode → IsFreshServer first → OthersGoOn turns → HasExchanged turns →
       ServerHistory (either 0 ntlm_meaning k) p first turns now → 3 ≤ length turns
   three_of_server first now [] plain fresh others has history = absurd has
   three_of_server first now (t ∷ []) plain fresh others has history = absurd (cc (has))
@@ -154,7 +158,7 @@ three_turns (t ∷ past) order newest three =
 module _ {K P : Type 0} (k : Meaning Setting K) (p : ProxyMeaning P) where
   -- an exchange that is Ok had three messages of the client
   pub ok_three : (base log : List Carried) (start now limit : ℕ) (result : Result Delegation DelegateError) (turns : List Turn)
-      (first server : ServerView (SspiContext NtlmState K) P) → RunEnds base start limit result turns log now → IsPlain first.mode → IsFreshServer first →
+      (first server : ServerView (SspiContext NtlmState K) P) → RunEnds base start limit result turns log now → IsPlainServer first.mode → IsFreshServer first →
       OthersGoOn (server_turns turns) → OnOk result (HasExchanged (server_turns turns)) →
       ServerHistory (either 0 ntlm_meaning k) p first (server_turns turns) server → IfOk result (λ delegation. 3 ≤ delegation.turns)
   ok_three base log start now limit (Ok delegation) turns first server ends plain fresh others has history =

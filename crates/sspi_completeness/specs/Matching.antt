@@ -4,9 +4,9 @@ use Rattle.sspi_names.specs.declared.credentials.Credentials.TheVariants as cred
 use Rattle.sspi_names.specs.declared.identity.AuthIdentity.{AuthIdentity}
 use Rattle.sspi_names.specs.Identity.{IsIdentity, buffers_of}
 use Rattle.sspi_names.specs.Name.{down_level}
-use Rattle.sspi_mech.specs.declared.config.NtlmConfig.{NtlmConfig}
 use Rattle.sspi_tsreq.specs.declared.mode.CredSspMode.{CredSspMode}
 use Rattle.sspi_tsreq.specs.declared.mode.CredSspMode.TheVariants.{WithCredentials, CredentialLess}
+use Rattle.sspi_credssp.specs.declared.mode.ClientMode.{ClientMode}
 use Rattle.sspi_credssp.specs.declared.mode.ClientMode.TheVariants as client_mode
 use Rattle.sspi_credssp.specs.declared.mode.ServerMode.{ServerMode}
 use Rattle.sspi_credssp.specs.declared.mode.ServerMode.TheVariants as server_mode
@@ -21,9 +21,18 @@ use Rattle.sspi_delegate.specs.declared.edit.Edit.{Edit}
 use Rattle.sspi_delegate.specs.Edits.{Delivers}
 
 -- NTLM alone, without a negotiation
-abbrev pub IsPlain : ServerMode → Type 0
-IsPlain (server_mode.Ntlm config) = Unit {0}
-IsPlain (server_mode.Negotiate config) = ⊥
+abbrev pub IsPlainClient : ClientMode → Type 0
+IsPlainClient (client_mode.Ntlm config) = Unit {0}
+IsPlainClient (client_mode.Negotiate config) = ⊥
+
+abbrev pub IsPlainServer : ServerMode → Type 0
+IsPlainServer (server_mode.Ntlm config) = Unit {0}
+IsPlainServer (server_mode.Negotiate config) = ⊥
+
+-- the challenge that it sends has 8 bytes
+abbrev pub HasChallenge : ServerMode → Type 0
+HasChallenge (server_mode.Ntlm config) = length config.challenge ≡ 8
+HasChallenge (server_mode.Negotiate config) = Unit {0}
 
 -- the first entry of the identity's name, but for the case of ASCII letters, has its password
 pub record HasEntry (entries : List AuthIdentity) (identity : AuthIdentity) : Type 0 where
@@ -40,10 +49,8 @@ pub record IsShort (identity : AuthIdentity) : Type 0 where
 -- Both authenticate by plain NTLM, with one key and one kind of proof; the client has an identity whose password the server's
 -- proxy tells. The last fields say what is so of every client and server that is made.
 pub record AreMatching {C D P : Type 0} (p : ProxyMeaning P) (client : ClientView C) (server : ServerView D P) : Type 0 where
-  pub client_config : NtlmConfig
-  pub client_plain : client.mode ≡ client_mode.Ntlm client_config
-  pub server_config : NtlmConfig
-  pub server_plain : server.mode ≡ server_mode.Ntlm server_config
+  pub client_plain : IsPlainClient client.mode
+  pub server_plain : IsPlainServer server.mode
   pub key_same : server.public_key ≡ client.public_key
   pub key_short : length client.public_key ≤ 16384
   pub versions : nat_lt client.version 5 ≡ nat_lt server.version 5
@@ -57,7 +64,7 @@ pub record AreMatching {C D P : Type 0} (p : ProxyMeaning P) (client : ClientVie
   pub client_version : client.version < 2 ^ 32
   pub server_version : server.version < 2 ^ 32
   pub nonce : length client.nonce ≡ 32
-  pub challenge : length server_config.challenge ≡ 8
+  pub challenge : HasChallenge server.mode
 
 -- a count of faults that did not rise, and that does not stand at its last value
 pub record IsCalm (before now : ℕ) : Type 0 where

@@ -3,7 +3,7 @@ ghost use Rattle.sspi_credssp.specs.Context.{either};
 ghost use Rattle.sspi_delegate.specs.Delegates.{around_by, parties, Delegates, Accounts, Stays};
 ghost use Rattle.sspi_delegate.specs.Headline.{IsFresh};
 ghost use Rattle.sspi_mech.specs.Ntlm.{ntlm_meaning};
-ghost use Rattle.sspi_completeness.specs.Matching.{AreMatching, IsPlain, IsUndisturbed, NoneFailed, delegated_as, ComesToOk, IsCutShort};
+ghost use Rattle.sspi_completeness.specs.Matching.{AreMatching, IsPlainServer, IsUndisturbed, NoneFailed, delegated_as, ComesToOk, IsCutShort};
 
 use sspi_credssp::{CredSspClient, CredSspServer, CredentialsProxy};
 use sspi_delegate::{DelegateError, Delegation, Link, Transcript, delegate};
@@ -35,8 +35,8 @@ pub fn delegate_plainly<K: Mechanism, C: CredentialsProxy, L: Link, D: Kdc>(
     ensures stays { Stays (around_by C.meaning L.log L.edits L.faults D.told D.asked D.faults)
         (parties client.old server.old link.old kdc.old transcript.old.turns) turns result
         (parties client.new server.new link.new kdc.new transcript.new.turns) }
-    ensures three { IsPlain server.old.mode → IsFresh client.old server.old transcript.old.turns → IfOk result (λ delegation. 3 ≤ delegation.turns) }
-    ensures few { IsPlain server.old.mode → IsFresh client.old server.old transcript.old.turns → turns < 3 → IsErr result }
+    ensures three { IsPlainServer server.old.mode → IsFresh client.old server.old transcript.old.turns → IfOk result (λ delegation. 3 ≤ delegation.turns) }
+    ensures few { IsPlainServer server.old.mode → IsFresh client.old server.old transcript.old.turns → turns < 3 → IsErr result }
     ensures comes { (matching : AreMatching C.meaning client.old server.old) → IsFresh client.old server.old transcript.old.turns →
         IsUndisturbed (L.edits link.old) (L.log link.old) (L.log link.new) (L.faults link.old) (L.faults link.new) →
         NoneFailed (C.meaning.told server.old.proxy).failing (C.meaning.faults server.old.proxy) (C.meaning.faults server.new.proxy) →

@@ -5,7 +5,7 @@ ghost use Rattle.sspi_names.specs.declared.credentials.Credentials.TheVariants a
 ghost use Rattle.sspi_names.specs.Identity.{IsIdentity};
 ghost use Rattle.sspi_credssp.specs.Client.{IsFreshClient};
 ghost use Rattle.sspi_credssp.specs.Server.{IsFreshServer};
-ghost use Rattle.sspi_completeness.specs.Matching.{challenge_of, IsShort, delegated_as, ComesToOk, IsCutShort};
+ghost use Rattle.sspi_completeness.specs.Matching.{IsPlainClient, IsPlainServer, HasChallenge, IsShort, delegated_as, ComesToOk, IsCutShort};
 
 use crate::delegate_plainly;
 use sspi_credssp::{ClientMode, CredSspClient, CredSspServer, ServerMode, TableProxy};
@@ -32,7 +32,7 @@ fn client_of(
 ) -> Result<CredSspClient<Ntlm, Ntlm>, AllocError>
     ensures fresh { IfOk result IsFreshClient }
     ensures values { IfOk result (λ client. (client.public_key ≡ key.now) × (client.credentials ≡ credentials.AuthIdentity identity)
-        × (client.delegation ≡ mode) × (client.version ≡ version) × (length client.nonce ≡ 32)) }
+        × (client.delegation ≡ mode) × (client.version ≡ version) × (length client.nonce ≡ 32) × IsPlainClient client.mode) }
 {
     let config = NtlmConfig::new(Text::from_text(alloc, "CLIENT")?);
     let public_key = copied(alloc, key)?;
@@ -57,7 +57,7 @@ fn server_of(
     version: u32,
 ) -> Result<CredSspServer<Ntlm, Ntlm, TableProxy>, AllocError>
     ensures fresh { IfOk result IsFreshServer }
-    ensures values { IfOk result (λ server. (server.public_key ≡ key.now) × (server.version ≡ version) × (length (challenge_of server.mode) ≡ 8)
+    ensures values { IfOk result (λ server. (server.public_key ≡ key.now) × (server.version ≡ version) × IsPlainServer server.mode × HasChallenge server.mode
         × (server.proxy ≡ record { entries = identity ∷ []; failing = []; calls = 0; faults = 0 })) }
 {
     let config = NtlmConfig::new(Text::from_text(alloc, "SERVER")?);

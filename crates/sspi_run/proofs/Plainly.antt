@@ -1,20 +1,20 @@
 -- The ends of a plain scenario match, and nothing disturbs their exchange.
-use Rattle.std.proofs.Common.{◌≡◌, ℕ, List, length, Option, Some, ap, sym, ◌∙◌, arith}
-use Rattle.sspi_credssp.specs.declared.mode.ServerMode.{ServerMode}
+use Rattle.std.proofs.Common.{◌≡◌, ℕ, List, length, Option, Some, ap, sym, ◌∙◌, subst, arith}
 use Rattle.sspi_credssp.specs.Client.{ClientView}
 use Rattle.sspi_credssp.specs.Server.{ServerView}
-use Rattle.sspi_credssp.specs.Table.{TableView}
+use Rattle.sspi_credssp.specs.Table.{TableView, table_meaning}
 use Rattle.sspi_delegate.specs.Edits.{MemoryLinkView}
 use Rattle.sspi_delegate.specs.declared.carried.Carried.{Carried}
-use Rattle.sspi_completeness.specs.Matching.{challenge_of, AreMatching, IsUndisturbed, unedited, NoneFailed, none_told}
+use Rattle.sspi_completeness.specs.Matching.{IsPlainClient, IsPlainServer, HasChallenge, AreMatching, IsUndisturbed, unedited, NoneFailed, none_told}
 use Rattle.sspi_scenario.specs.declared.scenario.Scenario.{Scenario}
 use Rattle.sspi_run.specs.Ends.{NtlmContext, credentials_by, IsClientOf, IsServerOf, link_in}
-use Rattle.sspi_run.specs.Exchange.{told_entries, told_failing, table_faults}
 use Rattle.sspi_run.specs.Outcome.{user_identity, AreValues, IsPlain}
 
 abbrev pub plain_match : (s : Scenario) (client : ClientView NtlmContext) (server : ServerView NtlmContext TableView) → IsClientOf s client → IsServerOf s server →
-    AreValues s → IsPlain s → AreMatching told_entries client server
+    AreValues s → IsPlain s → AreMatching table_meaning client server
 plain_match s client server client_named server_named values plain = record {
+  client_plain = subst IsPlainClient (sym client_named.mode) tt;
+  server_plain = subst IsPlainServer (sym server_named.mode) tt;
   key_same = server_named.public_key ∙ plain.key_same ∙ sym client_named.public_key;
   key_short = omega (arith, ap length client_named.public_key, plain.key_short);
   versions = rw (client_named.version, server_named.version) plain.versions;
@@ -22,13 +22,13 @@ plain_match s client server client_named server_named values plain = record {
   credentials_are = client_named.credentials ∙ ap (λ (keytab : Option (List ℕ)). credentials_by keytab s.user s.password) plain.no_keytab;
   short = plain.short;
   entries = s.account;
-  tells = ap told_entries server_named.proxy;
+  tells = ap (λ (p : TableView). Some p.entries) server_named.proxy;
   entry = plain.entry;
   identity_is = values.identity;
   client_version = omega (arith, client_named.version, values.client_version);
   server_version = omega (arith, server_named.version, values.server_version);
   nonce = ap length client_named.nonce ∙ values.nonce;
-  challenge = ap (λ (mode : ServerMode). length (challenge_of mode)) server_named.mode ∙ values.challenge;
+  challenge = subst HasChallenge (sym server_named.mode) values.challenge;
 }
 
 pub plain_link : (s : Scenario) (link : MemoryLinkView) (new : List Carried) (now : ℕ) → link ≡ link_in s → IsPlain s →
@@ -37,7 +37,7 @@ plain_link s link new now is plain =
     unedited (ap (λ (l : MemoryLinkView). Some l.edits) is ∙ ap Some plain.no_edit) (ap (λ (l : MemoryLinkView). l.log) is)
 
 pub plain_proxy : (s : Scenario) (server : ServerView NtlmContext TableView) (now : ℕ) → IsServerOf s server → IsPlain s →
-    NoneFailed (told_failing server.proxy) (table_faults server.proxy) now
+    NoneFailed (Some server.proxy.failing) server.proxy.faults now
 plain_proxy s server now named plain =
     let none : server.proxy.faults ≡ 0 = ap (λ (p : TableView). p.faults) named.proxy in
-    none_told (ap told_failing named.proxy ∙ ap Some plain.no_failure) (omega (arith, none))
+    none_told (ap (λ (p : TableView). Some p.failing) named.proxy ∙ ap Some plain.no_failure) (omega (arith, none))

@@ -1,6 +1,5 @@
 -- What holds of the exchange that a run keeps.
 use Rattle.std.specs.Prelude.{◌≡◌, ℕ, List, [], Option, Some, Result}
-use Rattle.sspi_names.specs.declared.identity.AuthIdentity.{AuthIdentity}
 use Rattle.sspi_names.specs.declared.network.NetworkRequest.{NetworkRequest}
 use Rattle.sspi_mech.specs.Meaning.{Meaning}
 use Rattle.sspi_mech.specs.Ntlm.{ntlm_meaning}
@@ -9,7 +8,7 @@ use Rattle.sspi_mech.specs.declared.step.Reply.TheVariants.{Failed}
 use Rattle.sspi_credssp.specs.Client.{ClientView}
 use Rattle.sspi_credssp.specs.Context.{ContextSetting, either}
 use Rattle.sspi_credssp.specs.Server.{ServerView}
-use Rattle.sspi_credssp.specs.Table.{TableView}
+use Rattle.sspi_credssp.specs.Table.{TableView, table_meaning}
 use Rattle.sspi_delegate.specs.declared.answer.Delegation.{Delegation}
 use Rattle.sspi_delegate.specs.declared.answer.DelegateError.{DelegateError}
 use Rattle.sspi_delegate.specs.declared.carried.Carried.{Carried}
@@ -30,16 +29,6 @@ ntlm = either 0 ntlm_meaning ntlm_meaning
 abbrev pub answer_in : RunOutcome → Result Delegation DelegateError
 answer_in (Delegated answer) = answer
 
--- a table tells its entries, and which of its calls fail
-abbrev pub told_entries : TableView → Option (List AuthIdentity)
-told_entries table = Some table.entries
-
-abbrev pub told_failing : TableView → Option (List ℕ)
-told_failing table = Some table.failing
-
-abbrev pub table_faults : TableView → ℕ
-table_faults table = table.faults
-
 -- a KDC that cannot be asked tells that each call fails
 abbrev pub told_failures : ℕ → Option (ℕ → NetworkRequest → Reply)
 told_failures kdc = Some (λ call request. Failed)
@@ -58,7 +47,7 @@ abbrev pub link_faults : MemoryLinkView → ℕ
 link_faults link = link.faults
 
 abbrev pub around : Around TableView MemoryLinkView ℕ
-around = around_by told_entries told_failing table_faults link_log told_edits link_faults told_failures kdc_count kdc_count
+around = around_by table_meaning link_log told_edits link_faults told_failures kdc_count kdc_count
 
 -- The ends that the scenario names met over the link that it names: all that `delegate` promises holds from these ends as
 -- they were made, and from an empty log and transcript, to what the record keeps.

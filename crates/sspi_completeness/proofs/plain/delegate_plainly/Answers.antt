@@ -10,15 +10,15 @@ use Rattle.sspi_completeness.proofs.ThreeTurns.{ok_three, too_few}
 use Rattle.sspi_completeness.proofs.plain.delegate_plainly.Goals as goal
 
 pub returns-clause-three : goal.returns-clause-three
-returns-clause-three g c fresh =
+returns-clause-three g c plain fresh =
     let made = c.delegate.ensures.delegates fresh in
     ok_three g.K.Mechanism.meaning g.C.CredentialsProxy.meaning _ _ _ _ _ _ _ _ _
-    made.accounts.turns_and_log_show_the_answer fresh.server_is made.the_turns_are_a_run.server_ran.others
+    made.accounts.turns_and_log_show_the_answer plain fresh.server_is made.the_turns_are_a_run.server_ran.others
     made.both_proofs_came_before_ok (server_past_history (either 0 ntlm_meaning g.K.Mechanism.meaning) g.C.CredentialsProxy.meaning _ _ _ _
     made.accounts.server_turns_are_its_calls)
 
 pub returns-clause-few : goal.returns-clause-few
-returns-clause-few g c fresh few = too_few _ _ (returns-clause-three g c fresh) c.delegate.ensures.stays.ok_comes_within_the_limit few
+returns-clause-few g c plain fresh few = too_few _ _ (returns-clause-three g c plain fresh) c.delegate.ensures.stays.ok_comes_within_the_limit few
 
 pub returns-clause-comes : goal.returns-clause-comes
 returns-clause-comes g c matching fresh undisturbed none enough =

@@ -7,10 +7,10 @@ use Rattle.sspi_tsreq.specs.declared.mode.CredSspMode.{CredSspMode}
 use Rattle.sspi_credssp.specs.Client.{ClientView}
 use Rattle.sspi_credssp.specs.Proxy.{entry_of}
 use Rattle.sspi_credssp.specs.Server.{ServerView}
-use Rattle.sspi_credssp.specs.Table.{TableView}
+use Rattle.sspi_credssp.specs.Table.{TableView, table_meaning}
 use Rattle.sspi_delegate.specs.declared.edit.Edit.{Edit}
 use Rattle.sspi_delegate.specs.Edits.{MemoryLinkView}
-use Rattle.sspi_completeness.specs.Matching.{challenge_of, AreMatching, unedited, none_told, IsShort, delegated_as, ComesToOk}
+use Rattle.sspi_completeness.specs.Matching.{IsPlainClient, IsPlainServer, HasChallenge, AreMatching, unedited, none_told, IsShort, delegated_as, ComesToOk}
 use Rattle.sspi_completeness.proofs.tests.delegate_matched.Goals as goal
 
 alone : (i : AuthIdentity) → entry_of (i ∷ []) i.username ≡ Some i
@@ -19,8 +19,8 @@ alone i = rw (ignoring_case-equiv.refl i.username) refl
 
 -- how the two ends were made
 record AreMade {C D : Type 0} (client : ClientView C) (server : ServerView D TableView) (i mine known : AuthIdentity) (key : List ℕ) (mode : CredSspMode) (cv sv : ℕ) : Type 0 where
-  pub client_values : (client.public_key ≡ key) × (client.credentials ≡ credentials.AuthIdentity mine) × (client.delegation ≡ mode) × (client.version ≡ cv) × (length client.nonce ≡ 32)
-  pub server_values : (server.public_key ≡ key) × (server.version ≡ sv) × (length (challenge_of server.mode) ≡ 8)
+  pub client_values : (client.public_key ≡ key) × (client.credentials ≡ credentials.AuthIdentity mine) × (client.delegation ≡ mode) × (client.version ≡ cv) × (length client.nonce ≡ 32) × IsPlainClient client.mode
+  pub server_values : (server.public_key ≡ key) × (server.version ≡ sv) × IsPlainServer server.mode × HasChallenge server.mode
       × (server.proxy ≡ record { entries = known ∷ []; failing = []; calls = 0; faults = 0 })
   pub mine_is : mine ≡ i
   pub known_is : known ≡ i
@@ -29,8 +29,10 @@ record AreMade {C D : Type 0} (client : ClientView C) (server : ServerView D Tab
 
 abbrev matched : {C D : Type 0} (client : ClientView C) (server : ServerView D TableView) (i mine known : AuthIdentity) (key : List ℕ) (mode : CredSspMode) (cv sv : ℕ) →
     AreMade client server i mine known key mode cv sv → IsIdentity i → IsShort i → length key ≤ 16384 → nat_lt cv 5 ≡ nat_lt sv 5 →
-    AreMatching (λ (proxy : TableView). Some proxy.entries) client server
+    AreMatching table_meaning client server
 matched client server i mine known key mode cv sv made is short few versions = record {
+  client_plain = made.client_values.5;
+  server_plain = made.server_values.2;
   key_same = made.server_values.0 ∙ sym made.client_values.0;
   key_short = omega (arith, ap length made.client_values.0, few);
   versions = rw (made.client_values.3, made.server_values.1) versions;
@@ -38,13 +40,13 @@ matched client server i mine known key mode cv sv made is short few versions = r
   credentials_are = made.client_values.1 ∙ ap credentials.AuthIdentity made.mine_is;
   short = short;
   entries = i ∷ [];
-  tells = ap (λ (proxy : TableView). Some proxy.entries) made.server_values.3 ∙ ap (λ (x : AuthIdentity). Some (x ∷ [])) made.known_is;
+  tells = ap (λ (proxy : TableView). Some proxy.entries) made.server_values.4 ∙ ap (λ (x : AuthIdentity). Some (x ∷ [])) made.known_is;
   entry = record { entry = i; found = alone i; password = refl };
   identity_is = is;
   client_version = omega (arith, made.client_values.3, made.client_version);
   server_version = omega (arith, made.server_values.1, made.server_version);
   nonce = made.client_values.4;
-  challenge = made.server_values.2;
+  challenge = made.server_values.3;
 }
 
 no_look_up_fails : {D : Type 0} (server : ServerView D TableView) (known : AuthIdentity) → server.proxy ≡ record { entries = known ∷ []; failing = []; calls = 0; faults = 0 } →
@@ -67,7 +69,7 @@ returns-clause-comes c is short few versions enough =
       client_version = omega arith;
       server_version = omega arith;
     } in
-    let proxy = no_look_up_fails c.in-Ok-server_of.server _ c.in-Ok-server_of.ensures.values.3 in
+    let proxy = no_look_up_fails c.in-Ok-server_of.server _ c.in-Ok-server_of.ensures.values.4 in
     let link = no_edit c.new-link.result _ c.new-link.ensures c.new.ensures.items in
     let comes = c.delegate_plainly.ensures.comes
     (matched c.in-Ok-client_of.client c.in-Ok-server_of.server c.args.identity.now c.in-Ok.mine c.in-Ok-clone.known c.args.key.now c.args.mode c.args.client_version
@@ -87,7 +89,7 @@ returns-clause-short c is short few versions less =
       client_version = omega arith;
       server_version = omega arith;
     } in
-    let proxy = no_look_up_fails c.in-Ok-server_of.server _ c.in-Ok-server_of.ensures.values.3 in
+    let proxy = no_look_up_fails c.in-Ok-server_of.server _ c.in-Ok-server_of.ensures.values.4 in
     let link = no_edit c.new-link.result _ c.new-link.ensures c.new.ensures.items in
     c.delegate_plainly.ensures.short
     (matched c.in-Ok-client_of.client c.in-Ok-server_of.server c.args.identity.now c.in-Ok.mine c.in-Ok-clone.known c.args.key.now c.args.mode c.args.client_version

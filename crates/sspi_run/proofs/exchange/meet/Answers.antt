@@ -1,4 +1,4 @@
-use Rattle.std.proofs.Common.{◌≡◌, List, [], Some, refl, subst}
+use Rattle.std.proofs.Common.{◌≡◌, List, [], Some, refl, sym, subst}
 use Rattle.sspi_delegate.specs.Delegates.{calls_of_kdc}
 use Rattle.sspi_delegate.specs.Edits.{MemoryLinkView, FollowsEdits}
 use Rattle.sspi_delegate.specs.declared.edit.Edit.{Edit}
@@ -9,11 +9,12 @@ use Rattle.sspi_mech.specs.Ntlm.{ntlm_meaning}
 use Rattle.sspi_mech.specs.NtlmLaws.{ntlm_laws}
 use Rattle.sspi_credssp.proofs.ContextLaws.{lawful}
 use Rattle.sspi_tsreq.specs.declared.mode.CredSspMode.{CredSspMode}
-use Rattle.sspi_completeness.specs.Matching.{delegated_as, ComesToOk}
+use Rattle.sspi_credssp.specs.Table.{table_meaning}
+use Rattle.sspi_completeness.specs.Matching.{IsPlainServer, delegated_as, ComesToOk}
 use Rattle.sspi_completeness.proofs.ThreeTurns.{ok_three}
 use Rattle.sspi_completeness.proofs.PlainSettled.{comes_to_ok, cut_short, settled_plainly}
 use Rattle.sspi_completeness.proofs.Settling.{calm_by, Settled}
-use Rattle.sspi_run.specs.Exchange.{ntlm, around, told_entries, told_failing, table_faults}
+use Rattle.sspi_run.specs.Exchange.{ntlm, around}
 use Rattle.sspi_run.specs.Outcome.{user_identity, IsPlain}
 use Rattle.sspi_run.proofs.Plainly.{plain_match, plain_link, plain_proxy}
 use Rattle.sspi_run.proofs.exchange.meet.Goals as goal
@@ -57,10 +58,10 @@ returns-clause-outcome c ends values =
     record { client_is = ends.client_fresh; server_is = ends.server_fresh; empty = empty } in
     let delegates = ensures.delegates fresh in
     let stays = ensures.stays in
-    let server_history = server_past_history ntlm told_entries table_faults told_failing server made.server _ answer delegates.accounts.server_turns_are_its_calls in
+    let server_history = server_past_history ntlm table_meaning server made.server _ answer delegates.accounts.server_turns_are_its_calls in
     let laws = lawful 0 0 ntlm_meaning ntlm_meaning ntlm_laws ntlm_laws in
     let settles : (plain : IsPlain s) → Settled 3 s.turns (delegated_as client.delegation (user_identity s)) answer =
-    λ plain. settled_plainly ntlm_meaning laws (calls_of_kdc around) told_entries table_faults told_failing client server ends.client_fresh ends.server_fresh
+    λ plain. settled_plainly ntlm_meaning laws (calls_of_kdc around) table_meaning client server ends.client_fresh ends.server_fresh
     (plain_match s client server ends.client_named ends.server_named values plain) _ _ _ _ _ s.turns made.client made.server _ _ _ _ _
     (plain_link s c.args.ends.link made.link.log made.link.faults ends.link plain)
     delegates.accounts.turns_and_log_show_the_answer stays.the_link_tells_what_it_told stays.the_link_fails_where_its_edits_say_so
@@ -68,8 +69,8 @@ returns-clause-outcome c ends values =
     (calm_by _ _ _ (plain_proxy s server made.server.proxy.faults ends.server_named plain) stays.the_proxy_tells_what_it_told.calm)
     delegates.the_identity_is_what_was_opened_last in
     record {
-      three = ok_three ntlm_meaning told_entries table_faults told_failing _ _ _ _ _ _ _ _ _
-          delegates.accounts.turns_and_log_show_the_answer fresh.server_is delegates.the_turns_are_a_run.server_ran.others
+      three = ok_three ntlm_meaning table_meaning _ _ _ _ _ _ _ _ _
+          delegates.accounts.turns_and_log_show_the_answer (subst IsPlainServer (sym ends.server_named.mode) tt) fresh.server_is delegates.the_turns_are_a_run.server_ran.others
           delegates.both_proofs_came_before_ok server_history;
       comes = λ plain enough. subst (λ (mode : CredSspMode). ComesToOk (delegated_as mode (user_identity s)) answer) ends.client_named.delegation
           (comes_to_ok s.turns (delegated_as client.delegation (user_identity s)) answer enough (settles plain));
