@@ -14,7 +14,7 @@ use Rattle.sspi_credssp.specs.Client.{ClientView, IsFreshClient}
 use Rattle.sspi_credssp.specs.Context.{ContextSetting}
 use Rattle.sspi_credssp.specs.PublicKey.{prescribed}
 use Rattle.sspi_credssp.specs.Requests.{is_code, nonce_of, unless_empty}
-use Rattle.sspi_credssp.specs.Proxy.{ProxyMeaning}
+use Rattle.sspi_credssp.specs.Proxy.{ProxyMeaning, ProxyTells}
 use Rattle.sspi_credssp.specs.Server.{ServerView, IsFreshServer}
 use Rattle.sspi_credssp.specs.ServerTurn.{IsOver, HoldsIdentity}
 use Rattle.sspi_credssp.specs.declared.turn.Outcome.{Outcome}
@@ -375,7 +375,7 @@ module _ {C D P : Type 0} (c : Meaning ContextSetting C) (laws : IsContext c) (k
 
   peer_at : (y : SView) (m : ℕ) → last_step early j ≡ m → p.told y.proxy ≡ p.told b.proxy → IsPeer c laws (p.told y.proxy) (it.server_context (suc m)) it.peer_context
   peer_at y m is tells =
-      subst (λ (t : Option (List AuthIdentity)). IsPeer c laws t (it.server_context (suc m)) it.peer_context) (sym tells)
+      subst (λ (t : ProxyTells). IsPeer c laws t (it.server_context (suc m)) it.peer_context) (sym tells)
       (subst (λ (n : ℕ). IsPeer c laws (p.told b.proxy) (it.server_context (suc n)) it.peer_context) is it.peer)
 
   over_at : (m : ℕ) → last_step early j ≡ m → IsOver (Some (it.server_step m).status)

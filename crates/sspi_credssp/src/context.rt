@@ -228,7 +228,9 @@ impl<N: Mechanism, K: Mechanism> SspiContext<N, K> {
             (either N.REQUESTS N.meaning K.meaning).refuses self.old (ToIdentify identities.items) error.error_type) }
     {
         match self {
-            SspiContext::Negotiate(negotiation) => negotiation.custom_set_auth_identities(identities),
+            SspiContext::Negotiate(negotiation) => negotiation.custom_set_auth_identities(
+                identities,
+            ),
             SspiContext::Ntlm(mechanism) => mechanism.set_identities(&with_passwords(identities)),
             SspiContext::Kerberos(mechanism) => mechanism.set_identities(&first_of(identities)),
         }

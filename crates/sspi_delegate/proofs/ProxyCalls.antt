@@ -181,12 +181,14 @@ module _ {C : Type 0} (c : Meaning ContextSetting C) where
         finished_unrefused (outcome.Final reply) is = tt
         finished_unrefused outcome.Finished is = tt
         finished_unrefused (outcome.Refused kind reply) is = absurd is
+
         finished_state : (old : CredSspState) (out : Outcome) (proved : Bool) (status : Option SecurityStatus) → IsFinished out →
             server_state_after old out proved status ≡ Final
         finished_state old (outcome.Reply reply) proved status is = absurd is
         finished_state old (outcome.Final reply) proved status is = absurd is
         finished_state old outcome.Finished proved status is = refl
         finished_state old (outcome.Refused kind reply) proved status is = absurd is
+
         at_end : (o : Option C) (state : CredSspState) (mode : ServerMode) → IsSome o → state ≡ Final → calls_made o mode state ≡ list_calls mode + 1
         at_end None state mode some is = absurd (cc some)
         at_end (Some m) state mode some is = rw is refl

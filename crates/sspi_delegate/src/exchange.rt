@@ -17,13 +17,12 @@ ghost use Rattle.sspi_delegate.specs.Run.{LoggedButLast};
 ghost use Rattle.sspi_delegate.specs.Turns.{next_end, AllGoOn};
 
 use crate::answer::{DelegateError, Delegation};
-use sspi_credssp::End;
 use crate::ends::{ClientRound, ServerRound, client_round, server_round};
 use crate::link::{Link, LinkError};
 use crate::messages::{send, take_delivery};
 use crate::transcript::Transcript;
 use sspi_ber::WireKind;
-use sspi_credssp::{CredSspClient, CredSspServer, CredentialsProxy, SspiContext};
+use sspi_credssp::{CredSspClient, CredSspServer, CredentialsProxy, End, SspiContext};
 use sspi_mech::{Kdc, Mechanism};
 use sspi_names::AuthIdentity;
 use sspi_tsreq::TsRequest;

@@ -71,12 +71,7 @@ fn offers<C: End, S: End>(rt: &impl Abort, client: &mut C, server: &mut S) -> Ts
 }
 
 /// The server's MIC, the proofs of the key, and the credentials.
-fn delegates<C: End, S: End>(
-    rt: &impl Abort,
-    client: &mut C,
-    server: &mut S,
-    proof: TsRequest,
-) {
+fn delegates<C: End, S: End>(rt: &impl Abort, client: &mut C, server: &mut S, proof: TsRequest) {
     let mic = replies(rt, server, proof);
     at(rt, server, SecurityStatus::Ok);
     let bound = replies(rt, client, mic);

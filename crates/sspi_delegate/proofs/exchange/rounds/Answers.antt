@@ -38,7 +38,7 @@ loop-turn-init g c = record {
   client_history = λ empty. rw empty (refl, refl);
   server_history = λ empty. rw empty refl;
   told = record { same = refl; follows = λ h. h };
-  proxy = record { told_same = refl; failing_same = refl; counted = omega arith; calm = λ none. refl };
+  proxy = record { told_same = refl; counted = omega arith; calm = λ none. refl };
   kdc = record { told_same = refl; counted = omega arith };
   still = still_first _ _;
 }
@@ -60,7 +60,7 @@ loop-turn-preserved g c = record {
   server_history = λ empty.
       rw c.in-Ok-None.field-0-is at
       (c.in-Ok-None.ensures.server_history c.args.server.now (rw c.in-Ok.ensures.server (c.loop-turn.invariant.server_history empty)));
-  proxy = proxy_on _ _ _ _ _ _ c.loop-turn.invariant.proxy c.in-Ok-None.ensures.proxy;
+  proxy = proxy_on _ _ _ _ c.loop-turn.invariant.proxy c.in-Ok-None.ensures.proxy;
   kdc = kdc_on _ _ _ _ _ c.loop-turn.invariant.kdc c.in-Ok.ensures.kdc;
   told = stays_on _ _ _ _ _ _ c.loop-turn.invariant.told (stays_on _ _ _ _ _ _ c.in-Ok.ensures.told c.in-Ok-None.ensures.told);
   still = still_on _ _ _ _ _ _ _ _ (stays_on _ _ _ _ _ _ c.loop-turn.invariant.told c.in-Ok.ensures.told).same
