@@ -2,12 +2,16 @@ pub mod Asked
 pub mod Causes
 pub mod ClientReady
 pub mod ContextLaws
+pub mod ClientHeeding
+pub mod CredentialRefusals
 pub mod CredentialTexts
 pub mod Deliver
 pub mod LittleEndian
 pub mod Proxies
 pub mod ServerAsking
+pub mod ServerBeginning
 pub mod ServerCauses
+pub mod ServerHeeding
 pub mod ServerOpening
 pub mod ServerReady
 pub mod ServerRefusals

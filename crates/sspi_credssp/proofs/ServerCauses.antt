@@ -2,7 +2,7 @@
 use Rattle.std.proofs.Common.{◌≡◌, ◌≢◌, ℕ, List, Option, None, Some, IsSome, Result, Ok, Err, IfErr, OnOk, false, [], sym, subst, arith}
 use Rattle.sspi_types.specs.declared.error.Error.{Error}
 use Rattle.sspi_types.specs.declared.error_kind.ErrorKind.{ErrorKind}
-use Rattle.sspi_types.specs.declared.error_kind.ErrorKind.TheVariants.{InsufficientMemory, MessageAltered}
+use Rattle.sspi_types.specs.declared.error_kind.ErrorKind.TheVariants.{InsufficientMemory, MessageAltered, DowngradeDetected}
 use Rattle.sspi_names.specs.declared.credentials.CredentialsBuffers.{CredentialsBuffers}
 use Rattle.sspi_types.specs.declared.security_status.SecurityStatus.{SecurityStatus}
 use Rattle.sspi_types.specs.declared.security_status.SecurityStatus.TheVariants as statuses
@@ -19,7 +19,7 @@ use Rattle.sspi_credssp.specs.Server.{ServerView}
 use Rattle.sspi_credssp.specs.ServerCause.{ServerCause, MakeCause, StateCause, NegoCause, AfterCause, OverCause, known, IdentifyCause, nameless, looked, unset, LookUpRefused, failed, nobody}
 use Rattle.sspi_credssp.specs.ServerStep.{Completed, HasCome}
 use Rattle.sspi_credssp.specs.ServerTurn.{IsOver}
-use Rattle.sspi_credssp.specs.Stops.{StopsIf, differs}
+use Rattle.sspi_credssp.specs.Noted.{differs, is_old, VersionStops}
 use Rattle.sspi_credssp.proofs.Causes.{stops_map, made_map, made_later}
 
 -- noting a version leaves the context and the credentials that it acquired
@@ -32,21 +32,23 @@ module _ {C : Type 0} (c : Meaning ContextSetting C) where
   -- a turn that was refused as it began
   pub server_cause_begun : {P : Type 0} (p : ProxyMeaning P) (old new : ServerView C P) (d : TsRequest) (kind : ErrorKind) →
       MadeOr old.context new.context (MakeCause c p old.mode old.proxy new.proxy kind)
-      (StopsIf (differs old.noted d.version) MessageAltered kind ⊥) →
+      (VersionStops old.least old.noted d.version kind ⊥) →
       ServerCause c p old d new kind
   server_cause_begun p old new d kind h =
-      made_map old.context new.context _ _ _ (stops_map (differs old.noted d.version) MessageAltered kind _ _ (λ none. absurd none)) h
+      made_map old.context new.context _ _ _
+      (stops_map (is_old old.least old.noted d.version) DowngradeDetected kind _ _
+      (stops_map (differs old.noted d.version) MessageAltered kind _ _ (λ none. absurd none))) h
 
   module _ {P : Type 0} (p : ProxyMeaning P) where
     -- a turn that was refused past the version check
     pub server_cause_past : {T : Type 0} (old new : ServerView C P) (d : TsRequest) (state : CredSspState) (r : Result T ServerError) →
-        differs old.noted d.version ≡ false → IsSome new.context → state ≡ old.state →
+        is_old old.least old.noted d.version ≡ false → differs old.noted d.version ≡ false → IsSome new.context → state ≡ old.state →
         IfErr r (λ refusal. refusal.error.error_type ≢ InsufficientMemory → StateCause c p state old d new refusal.error.error_type) →
         IfErr r (λ refusal. refusal.error.error_type ≢ InsufficientMemory → ServerCause c p old d new refusal.error.error_type)
-    server_cause_past old new d state (Ok x) fits begun same_state h = h
-    server_cause_past old new d state (Err refusal) fits begun same_state h = λ memory.
+    server_cause_past old new d state (Ok x) young fits begun same_state h = h
+    server_cause_past old new d state (Err refusal) young fits begun same_state h = λ memory.
         made_later old.context new.context _ _ begun
-        (rw fits (subst (λ s. StateCause c p s old d new refusal.error.error_type) same_state (h memory)))
+        (rw (young, fits) (subst (λ s. StateCause c p s old d new refusal.error.error_type) same_state (h memory)))
 
     over_cause : (s : SecurityStatus) (old : ServerView C P) (d : TsRequest) (new : ServerView C P) (kind : ErrorKind) →
         IsOver (Some s) → OverCause c p s old d new kind → NegoCause c p (Some s) old d new kind

@@ -22,6 +22,7 @@ mod credentials;
 pub mod error_code;
 pub mod failing_proxy;
 pub mod mode;
+mod peer_version;
 mod peers;
 mod proof;
 pub mod proxy;
