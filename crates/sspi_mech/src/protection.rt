@@ -11,7 +11,9 @@ const TAG_LENGTH: usize = 16;
 /// Who made a message.
 #[derive(Clone, Copy)]
 pub enum Direction {
+    /// Made by the client.
     FromClient,
+    /// Made by the server.
     FromServer,
 }
 
