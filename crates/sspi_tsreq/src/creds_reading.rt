@@ -35,7 +35,7 @@ pub fn read_ts_credentials<S: Source>(
         Ok(len) => len,
         Err(kind) => return Err(refusal_of(kind)),
     };
-    let mut body = vec![in alloc; 0; usize::from(len)]?;
+    let mut body = vec![in alloc; 0; len as usize]?;
     match read_block(source, &mut body) {
         Ok(()) => read_creds(alloc, &body),
         Err(kind) => Err(refusal_of(kind)),

@@ -12,7 +12,7 @@ returns-in-Err-clause-read g c = rw c.refusal_of.ensures (header_refused _ _ c.i
 pub returns-in-Ok-read_block-clause-read : goal.returns-in-Ok-read_block-clause-read
 returns-in-Ok-read_block-clause-read g c =
     let whole = c.deref.ensures.value ∙ take_at c.read_block.new.into _ c.in_ok-body.body.len (omega (arith, c.read_block.auto.into, c.deref_mut.ensures.len)) in
-    content_answer _ _ _ c.in-Ok.len (length c.deref_mut.result.now) _ _ (omega (arith, c.deref_mut.ensures.len, c.in_ok-body.ensures.len, c.from.ensures)) c.in-Ok.ensures.read c.in-Ok-read_block.ensures.read
+    content_answer _ _ _ c.in-Ok.len (length c.deref_mut.result.now) _ _ (omega (arith, c.deref_mut.ensures.len, c.in_ok-body.ensures.len)) c.in-Ok.ensures.read c.in-Ok-read_block.ensures.read
     (subst (λ b. IsOrMemory (λ x. x) c.read_creds.result (creds_in b)) whole c.read_creds.ensures.read)
 
 pub returns-in-Ok-read_block-clause-cause : goal.returns-in-Ok-read_block-clause-cause
@@ -24,7 +24,7 @@ returns-in-Ok-read_block-clause-rest g c = rest_then c.in-Ok.ensures.rest c.in-O
 pub returns-clause-read : goal.returns-clause-read
 returns-clause-read g c =
     rw c.refusal_of-in-Err-read_block.ensures
-    (content_refused _ _ _ c.in-Ok.len (length c.deref_mut.result.now) c.in-Err-read_block.kind _ _ (omega (arith, c.deref_mut.ensures.len, c.in_ok-body.ensures.len, c.from.ensures)) c.in-Ok.ensures.read c.in-Err-read_block.ensures.read c.in-Err-read_block.ensures.cause)
+    (content_refused _ _ _ c.in-Ok.len (length c.deref_mut.result.now) c.in-Err-read_block.kind _ _ (omega (arith, c.deref_mut.ensures.len, c.in_ok-body.ensures.len)) c.in-Ok.ensures.read c.in-Err-read_block.ensures.read c.in-Err-read_block.ensures.cause)
 
 pub returns-clause-rest : goal.returns-clause-rest
 returns-clause-rest g c = rest_then c.in-Ok.ensures.rest c.in-Err-read_block.ensures.rest
