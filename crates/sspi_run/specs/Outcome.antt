@@ -2,7 +2,7 @@
 use Rattle.std.specs.Prelude.{◌≡◌, ◌^◌, ◌<◌, ◌≤◌, [], length, None, IfOk, nat_lt}
 use Rattle.sspi_names.specs.declared.identity.AuthIdentity.{AuthIdentity}
 use Rattle.sspi_names.specs.Identity.{IsIdentity}
-use Rattle.sspi_completeness.specs.Matching.{HasEntry, IsShort, delegated_as, ComesToOk, IsCutShort}
+use Rattle.sspi_completeness.specs.Matching.{HasEntry, IsShort, key_limit, delegated_as, ComesToOk, IsCutShort}
 use Rattle.sspi_scenario.specs.declared.scenario.Scenario.{Scenario}
 use Rattle.sspi_scenario.specs.Scenario.{own_identity}
 use Rattle.sspi_run.specs.declared.record.Record.{Record}
@@ -26,7 +26,7 @@ pub record IsPlain (scenario : Scenario) : Type 0 where
   pub no_failure : scenario.proxy_fail ≡ []
   pub no_keytab : scenario.keytab ≡ None
   pub key_same : scenario.server_key ≡ scenario.key
-  pub key_short : length scenario.key ≤ 16384
+  pub key_short : length scenario.key ≤ key_limit
   pub versions : nat_lt scenario.client_version 5 ≡ nat_lt scenario.server_version 5
   pub entry : HasEntry scenario.account (user_identity scenario)
   pub short : IsShort (user_identity scenario)
