@@ -30,6 +30,14 @@ const LENGTHS: &str = "\
 1048576 3
 1048577 3";
 
+/// One place in a message of this kind.
+#[derive(Clone, Copy)]
+struct Case<'a> {
+    kind: Kind,
+    levels: &'a str,
+    place: usize,
+}
+
 const LIMIT: usize = 1048576;
 
 /// No place of a text: each length is spelled shortest.
@@ -97,49 +105,57 @@ fn push_length(text: &mut Vec<u8>, len: usize, octets: usize) -> Result<(), Allo
     }
 }
 
-/// The element of this line round a content.
-fn around(alloc: Global, line: &str, content: &[u8], form: Option<usize>) -> Option<Vec<u8>> {
+/// The tag and length of this line, and what stands before the bytes within it, which come to this size.
+fn header(alloc: Global, line: &str, size: usize, form: usize) -> Option<Vec<u8>> {
     let (tag, before) = level(line);
-    let mut inner = hex::decode(alloc, before).ok()?;
-    inner.extend_from_slice(content).ok()?;
     let mut text = hex::decode(alloc, tag).ok()?;
-    push_length(&mut text, inner.len(), form.unwrap_or(shortest(inner.len()))).ok()?;
-    text.extend_from_slice(&inner).ok()?;
+    push_length(&mut text, size, form).ok()?;
+    text.extend_from_slice(&hex::decode(alloc, before).ok()?).ok()?;
     Some(text)
 }
 
-/// So many octets inside all tags, the length at one place in this form and all others in their shortest.
-fn nested(alloc: Global, levels: &str, octets: usize, place: usize, form: usize) -> Option<Vec<u8>> {
-    let mut text = vec![in alloc; 0x61u8; octets].ok()?;
+/// What stands before so many octets inside all tags: the length at one place in this form, and all others in their shortest.
+fn headers(alloc: Global, levels: &str, octets: usize, place: usize, form: usize) -> Option<Vec<u8>> {
+    let mut text = Vec::new(alloc);
     for (at, line) in levels.lines().enumerate() {
-        let form = if at == place { Some(form) } else { None };
-        text = around(alloc, line, &text, form)?;
+        let before = text.len().saturating_add(level(line).1.len() / 2);
+        let size = octets.saturating_add(before);
+        let form = if at == place { form } else { shortest(size) };
+        let mut outer = header(alloc, line, size, form)?;
+        outer.extend_from_slice(&text).ok()?;
+        text = outer;
     }
     Some(text)
 }
 
-fn try_place(rt: &impl Abort, alloc: Global, kind: Kind, levels: &str, place: usize, len: usize, form: usize) {
-    match octets_for(levels, place, len) {
-        None => assert!(rt; false, "{len} at {place}"),
-        Some(octets) => {
-            // A password of an odd number of bytes is no text.
-            let is_text = kind != Kind::Credentials || octets % 2 == 0;
-            let fits = inside(levels, NOWHERE, octets) <= LIMIT;
-            let long = nested(alloc, levels, octets, place, form);
-            let short = nested(alloc, levels, octets, NOWHERE, 0);
-            match (long, short) {
-                (Some(long), Some(short)) => reads(rt, alloc, kind, &long, &short, fits && is_text),
-                _ => unmade(rt),
-            }
-        }
+fn nested(alloc: Global, levels: &str, octets: usize, place: usize, form: usize) -> Option<Vec<u8>> {
+    let mut text = headers(alloc, levels, octets, place, form)?;
+    text.extend_from_slice(&vec![in alloc; 0x61u8; octets].ok()?).ok()?;
+    Some(text)
+}
+
+fn try_place(rt: &impl Abort, alloc: Global, case: &Case<'_>, len: usize, form: usize) {
+    match octets_for(case.levels, case.place, len) {
+        None => assert!(rt; false, "{len}"),
+        Some(octets) => match nested(alloc, case.levels, octets, case.place, form) {
+            None => unmade(rt),
+            Some(text) => reads(rt, alloc, case, octets, &text),
+        },
     }
 }
 
-/// The bytes are read, and written again as the shortest ones; or they are refused.
-fn reads(rt: &impl Abort, alloc: Global, kind: Kind, bytes: &[u8], shortest: &[u8], read: bool) {
-    match again(alloc, kind, bytes) {
-        Some(written) => assert!(rt; read && written.as_slice() == shortest),
-        None => assert!(rt; !read),
+/// The text is read, and written again in its shortest form, where all its lengths fit. A password of an odd number of bytes is
+/// none.
+fn reads(rt: &impl Abort, alloc: Global, case: &Case<'_>, octets: usize, text: &[u8]) {
+    let is_text = case.kind != Kind::Credentials || octets % 2 == 0;
+    let fits = inside(case.levels, NOWHERE, octets) <= LIMIT;
+    match again(alloc, case.kind, text) {
+        None => assert!(rt; !fits || !is_text),
+        Some(written) => {
+            let shortest = nested(alloc, case.levels, octets, NOWHERE, 0);
+            assert!(rt; fits && is_text);
+            assert!(rt; shortest.as_ref() == Some(&written));
+        }
     }
 }
 
@@ -147,7 +163,10 @@ fn try_places(rt: &impl Abort, alloc: Global, kind: Kind, levels: &str) {
     for place in 0..levels.lines().count() {
         for line in LENGTHS.lines() {
             match line.split_once(' ') {
-                Some((len, form)) => try_place(rt, alloc, kind, levels, place, number(len), number(form)),
+                Some((len, form)) => {
+                    let case = Case { kind, levels, place };
+                    try_place(rt, alloc, &case, number(len), number(form));
+                }
                 None => unmade(rt),
             }
         }
