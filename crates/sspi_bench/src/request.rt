@@ -25,7 +25,7 @@ fn decode(alloc: Global, bytes: &[u8]) -> Result<u64, WireKind> {
 }
 
 fn encode(alloc: Global, request: &TsRequest) -> Result<u64, WireKind> {
-    let room = usize::from(request.buffer_len()?);
+    let room = request.buffer_len()? as usize;
     let mut sink = VecSink::with_capacity(alloc, room)?;
     request.encode_ts_request(&mut sink)?;
     Ok(sum_of_text(sink.written()))

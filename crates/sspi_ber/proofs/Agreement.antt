@@ -1,12 +1,12 @@
 -- The laws that public functions state.
-use Rattle.std.proofs.Common.{◌≡◌, ℕ, ◌<◌, ◌≤◌, ◌^◌, sym, subst, List, [], ◌∷◌, ◌++◌, length, get_or, Ok, refl, arith, inl, inr}
+use Rattle.std.proofs.Common.{◌≡◌, ℕ, ◌+◌, ◌<◌, ◌≤◌, ◌^◌, sym, subst, List, [], ◌∷◌, ◌++◌, length, get_or, Ok, refl, arith, inl, inr}
 use Rattle.std.proofs.lemmas.Bool.{cases_lt, lt-ltb, le-ltb}
 use Rattle.sspi_ber.specs.Forms.{IsLength, IsElement, IsInteger, IsNotNegative, big_endian}
 use Rattle.sspi_ber.specs.Limit.{max_content}
 use Rattle.sspi_ber.specs.Pieces.{length_at, element_at, integer_at}
-use Rattle.sspi_ber.specs.Short.{len_short, element, int_content, int_short}
+use Rattle.sspi_ber.specs.Short.{length_octets, len_short, element, int_content, int_short}
 use Rattle.sspi_ber.proofs.PiecesMatch.{length_match, integer_match, element_match}
-use Rattle.sspi_ber.proofs.Short.{short_length, short_integer, short_element, int_one, int_two, int_three, int_four}
+use Rattle.sspi_ber.proofs.Short.{octets_one, octets_two, octets_three, short_length, short_integer, short_element, int_one, int_two, int_three, int_four}
 
 pub length_takes : (bytes : List ℕ) (n : ℕ) (rest : List ℕ) → length_at bytes ≡ Ok (n, rest) → (text : List ℕ) × IsLength text n × (bytes ≡ text ++ rest)
 length_takes = length_match.takes
@@ -35,24 +35,38 @@ short_integer_again value more = integer_match.again (int_short value) value mor
 pub short_element_again : (tag : ℕ) (content more : List ℕ) → length content ≤ max_content → element_at tag (element tag content ++ more) ≡ Ok (content, more)
 short_element_again tag content more le = (element_match tag).again (element tag content) content more (short_element tag content le)
 
+-- how many octets hold a number
+octets_within_one : (n : ℕ) → n < 0x100 → length (length_octets n) ≡ 1
+octets_within_one n lt = rw (octets_one n lt) refl
+
+octets_within_two : (n : ℕ) → n < 0x10000 → length (length_octets n) ≤ 2
+octets_within_two n lt = elim (cases_lt n 0x100) [ inl small ↦ (let e = octets_within_one n small in omega arith) | inr ge ↦ rw (octets_two n ge lt) (omega arith) ]
+
+octets_within_three : (n : ℕ) → length (length_octets n) ≤ 3
+octets_within_three n = elim (cases_lt n 0x10000) [ inl small ↦ (let le = octets_within_two n small in omega arith) | inr ge ↦ rw (octets_three n ge) (omega arith) ]
+
 one_byte : (n : ℕ) → n < 0x80 → length (len_short n) ≡ 1
 unfolding len_short
 one_byte n lt = rw (lt-ltb n 0x80 lt) refl
 
-two_bytes : (n : ℕ) → n < 0x100 → length (len_short n) ≤ 2
+-- a long form takes one octet more, and a short form no more than that
+with_first : (n count : ℕ) → 1 ≤ count → length (length_octets n) ≤ count → length (len_short n) ≤ 1 + count
 unfolding len_short
-two_bytes n lt = elim (cases_lt n 0x80) [ inl small ↦ rw (lt-ltb n 0x80 small) (omega arith) | inr ge ↦ rw (le-ltb n 0x80 ge, lt-ltb n 0x100 lt) (omega arith) ]
-
-three_bytes : (n : ℕ) → length (len_short n) ≤ 3
-unfolding len_short
-three_bytes n = elim (cases_lt n 0x100) [ inl lt ↦ (let le = two_bytes n lt in omega arith) | inr ge ↦ (let above : 0x80 ≤ n = omega arith in rw (le-ltb n 0x80 above, le-ltb n 0x100 ge) (omega arith)) ]
+with_first n count some le = elim (cases_lt n 0x80) [ inl lt ↦ (let e = one_byte n lt in omega arith) | inr ge ↦ rw (le-ltb n 0x80 ge) (omega arith) ]
 
 pub none_shorter : (text : List ℕ) (n : ℕ) → ((i : ℕ) → get_or text i 0 < 256) → IsLength text n → length (len_short n) ≤ length text
 none_shorter [] n bytes t = absurd t
 none_shorter (a ∷ []) n bytes t = let one : length (len_short n) ≡ 1 = one_byte n (omega arith) in omega arith
-none_shorter (a ∷ b ∷ []) n bytes t = let byte : b < 256 = bytes 1 in two_bytes n (omega arith)
-none_shorter (a ∷ b ∷ c ∷ []) n bytes t = three_bytes n
-none_shorter (a ∷ b ∷ c ∷ d ∷ more) n bytes t = absurd t
+none_shorter (a ∷ b ∷ []) n bytes t =
+    let high : b < 256 = bytes 1 in
+    let is : n ≡ big_endian (b ∷ []) = t.stands_for in
+    with_first n 1 (omega arith) (omega (arith, octets_within_one n (omega arith)))
+none_shorter (a ∷ b ∷ c ∷ []) n bytes t =
+    let high : b < 256 = bytes 1 in
+    let low : c < 256 = bytes 2 in
+    let is : n ≡ big_endian (b ∷ c ∷ []) = t.stands_for in
+    with_first n 2 (omega arith) (octets_within_two n (omega arith))
+none_shorter (a ∷ b ∷ c ∷ d ∷ more) n bytes t = let three = with_first n 3 (omega arith) (octets_within_three n) in omega arith
 
 content_one : (v : ℕ) → v < 0x80 → length (int_content v) ≡ 1
 content_one v lt = rw (int_one v lt) refl

@@ -1,11 +1,11 @@
 -- Each reader of a piece and the form of that piece say the same.
-use Rattle.std.proofs.Common.{◌≡◌, ℕ, ◌+◌, ◌*◌, ◌<◌, ◌≤◌, Bool, true, false, cond, eqb, ltb, leb, List, [], ◌∷◌, ◌++◌, length, take, drop, Option, None, Some, Ok, Err, refl, sym, ap, ◌∙◌, subst, arith, ◌⊎◌, inl, inr}
+use Rattle.std.proofs.Common.{◌≡◌, ℕ, ◌+◌, ◌*◌, ◌-◌, ◌<◌, ◌≤◌, Bool, true, false, ◌&&◌, cond, eqb, ltb, leb, List, [], ◌∷◌, ◌++◌, length, take, drop, Option, None, Some, Ok, Err, refl, sym, ap, ◌∙◌, subst, arith, ◌⊎◌, inl, inr}
 use Rattle.std.proofs.lemmas.Bool.{ltb-true, ltb-false, lt-ltb, le-ltb, leb-true, le-leb, eqb-true, eq-eqb, eqb-false}
 use Rattle.std.proofs.lemmas.List.{take_at, drop_at, take-append-drop, length-take, length-append}
 use Rattle.sspi_ber.specs.Fault.{Ended, Invalid, Read, ◌>>=◌}
-use Rattle.sspi_ber.specs.Limit.{max_content}
-use Rattle.sspi_ber.specs.Forms.{IsLength, IsHeader, IsElement, IsInteger, big_endian, is_integer_size, IsNotNext, IsWrapped, IsField}
-use Rattle.sspi_ber.specs.Pieces.{byte_at, bytes_at, wide_length_at, length_at, header_at, element_at, number_at, integer_at, tag_or_absent_at, present_at, field_at, tagged_at}
+use Rattle.sspi_ber.specs.Limit.{max_content, max_length_octets}
+use Rattle.sspi_ber.specs.Forms.{IsLength, IsLongLength, IsHeader, IsElement, IsInteger, big_endian, is_integer_size, IsNotNext, IsWrapped, IsField}
+use Rattle.sspi_ber.specs.Pieces.{byte_at, bytes_at, is_octet_count, limited_at, length_at, header_at, element_at, number_at, integer_at, tag_or_absent_at, present_at, field_at, tagged_at}
 use Rattle.sspi_ber.proofs.Absent.{absent}
 use Rattle.sspi_ber.proofs.Match.{Matches, Matches-then, Matches-map, Matches-if, Matches-nothing, Matches-same, Then, Mapped, bind_ok, both_are, read_of, changed}
 
@@ -44,59 +44,97 @@ bytes_again n text x rest t =
 pub bytes_match : (n : ℕ) → Matches (bytes_at n) (λ text x rest. (text ≡ x) × (length x ≡ n))
 bytes_match n = record { takes = bytes_takes n; again = bytes_again n }
 
+-- ---- numbers
+
+abbrev IsBlock : ℕ → List ℕ → List ℕ → List ℕ → Type 0
+IsBlock n text x rest = (text ≡ x) × (length x ≡ n)
+
+number_match : (n : ℕ) → Matches (number_at n) (Mapped big_endian (IsBlock n))
+unfolding number_at
+number_match n = Matches-map big_endian (bytes_at n) (IsBlock n) (bytes_match n)
+
 -- ---- lengths
 
-wide_takes : (bytes : List ℕ) (n : ℕ) (rest : List ℕ) → wide_length_at bytes ≡ Ok (n, rest)
-    → (high low : ℕ) × (bytes ≡ high ∷ low ∷ rest) × (n ≡ high * 256 + low) × (n ≤ max_content)
-unfolding wide_length_at
-wide_takes [] n rest e = absurd cc
-wide_takes (high ∷ []) n rest e = absurd cc
-wide_takes (high ∷ low ∷ bytes) n rest e =
-    elim (chosen (leb (high * 256 + low) max_content) (Ok (high * 256 + low, bytes)) (Err Invalid) (Ok (n, rest)) e) [
-      | inl (b, f) ↦
-          let same = both_are (high * 256 + low) n bytes rest f in
-          (high, low, ap (λ (l : List ℕ). high ∷ low ∷ l) same.1, sym same.0, subst (λ (m : ℕ). m ≤ max_content) same.0 (leb-true _ _ b))
-      | inr (b, f) ↦ absurd cc
+-- so many octets that stand for a number up to the limit
+abbrev IsLimited : ℕ → List ℕ → ℕ → Type 0
+IsLimited count text n = (length text ≡ count) × (n ≡ big_endian text) × (n ≤ max_content)
+
+pub limited_takes : (count : ℕ) (bytes : List ℕ) (n : ℕ) (rest : List ℕ) → limited_at count bytes ≡ Ok (n, rest)
+    → (text : List ℕ) × IsLimited count text n × (bytes ≡ text ++ rest)
+unfolding limited_at
+limited_takes count bytes n rest e =
+    let b = bind_ok (number_at count bytes) (λ x. cond (leb x.0 max_content) (Ok x) (Err Invalid)) (n, rest) e in
+    elim (chosen (leb b.0.0 max_content) (Ok b.0) (Err Invalid) (Ok (n, rest)) b.2) [
+      | inl (fits, f) ↦
+          let same = both_are b.0.0 n b.0.1 rest f in
+          let t = (number_match count).takes bytes b.0.0 b.0.1 b.1 in
+          let block = t.1.1 in (
+            t.0,
+            (ap length block.0 ∙ block.1, sym same.0 ∙ t.1.2 ∙ ap big_endian (sym block.0), subst (λ (m : ℕ). m ≤ max_content) same.0 (leb-true _ _ fits)),
+            t.2 ∙ ap (λ (l : List ℕ). t.0 ++ l) same.1,
+          )
+      | inr (over, f) ↦ absurd cc
     ]
 
-wide_again : (high low n : ℕ) (rest : List ℕ) → n ≡ high * 256 + low → n ≤ max_content → wide_length_at (high ∷ low ∷ rest) ≡ Ok (n, rest)
-unfolding wide_length_at
-wide_again high low n rest e le =
-    let fits : leb (high * 256 + low) max_content ≡ true = le-leb _ _ (omega arith) in
-    rw (fits, e) refl
+limited_again : (count : ℕ) (text : List ℕ) (n : ℕ) (rest : List ℕ) → IsLimited count text n → limited_at count (text ++ rest) ≡ Ok (n, rest)
+unfolding limited_at
+limited_again count text n rest t =
+    let read : number_at count (text ++ rest) ≡ Ok (n, rest) = (number_match count).again text n rest (text, (refl, t.0), t.1) in
+    let fits : leb n max_content ≡ true = le-leb _ _ t.2 in
+    rw (read, fits) refl
 
-behind : (a : ℕ) (bytes : List ℕ) (n : ℕ) (rest : List ℕ) → length_at (a ∷ bytes) ≡ Ok (n, rest)
-    → (a < 0x80) × (a ≡ n) × (bytes ≡ rest) ⊎ ((a ≡ 0x81) × (byte_at bytes ≡ Ok (n, rest)) ⊎ ((a ≡ 0x82) × (wide_length_at bytes ≡ Ok (n, rest))))
+both_hold : (s t : Bool) → (s && t) ≡ true → (s ≡ true) × (t ≡ true)
+both_hold true t e = (refl, e)
+both_hold false t e = absurd cc
+
+few : (count : ℕ) → is_octet_count count ≡ true → (1 ≤ count) × (count ≤ max_length_octets)
+few count e = let b = both_hold (leb 1 count) (leb count max_length_octets) e in (leb-true _ _ b.0, leb-true _ _ b.1)
+
+few_again : (count : ℕ) → 1 ≤ count → count ≤ max_length_octets → is_octet_count count ≡ true
+few_again count some le = rw (le-leb 1 count some, le-leb count max_length_octets le) refl
+
+-- which form the first octet begins
+behind : (first : ℕ) (bytes : List ℕ) (n : ℕ) (rest : List ℕ) → length_at (first ∷ bytes) ≡ Ok (n, rest)
+    → (first < 0x80) × (first ≡ n) × (bytes ≡ rest) ⊎ ((0x80 ≤ first) × (is_octet_count (first - 0x80) ≡ true) × (limited_at (first - 0x80) bytes ≡ Ok (n, rest)))
 unfolding length_at
-behind a bytes n rest e =
-    elim (chosen (ltb a 0x80) (Ok (a, bytes)) (cond (eqb a 0x81) (byte_at bytes) (cond (eqb a 0x82) (wide_length_at bytes) (Err Invalid))) (Ok (n, rest)) e) [
-      | inl (b, f) ↦ inl (let same = both_are a n bytes rest f in (ltb-true _ _ b, same.0, same.1))
-      | inr (b, f) ↦ elim (chosen (eqb a 0x81) (byte_at bytes) (cond (eqb a 0x82) (wide_length_at bytes) (Err Invalid)) (Ok (n, rest)) f) [
-        | inl (c, g) ↦ inr (inl (eqb-true _ _ c, g))
-        | inr (c, g) ↦ elim (chosen (eqb a 0x82) (wide_length_at bytes) (Err Invalid) (Ok (n, rest)) g) [
-          | inl (d, h) ↦ inr (inr (eqb-true _ _ d, h))
-          | inr (d, h) ↦ absurd cc
-        ]
+behind first bytes n rest e =
+    elim (chosen (ltb first 0x80) (Ok (first, bytes)) (cond (is_octet_count (first - 0x80)) (limited_at (first - 0x80) bytes) (Err Invalid)) (Ok (n, rest)) e) [
+      | inl (b, f) ↦ inl (let same = both_are first n bytes rest f in (ltb-true _ _ b, same.0, same.1))
+      | inr (b, f) ↦ elim (chosen (is_octet_count (first - 0x80)) (limited_at (first - 0x80) bytes) (Err Invalid) (Ok (n, rest)) f) [
+        | inl (c, g) ↦ inr (ltb-false _ _ b, c, g)
+        | inr (c, g) ↦ absurd cc
       ]
     ]
+
+long_form : (first : ℕ) (octets : List ℕ) (n : ℕ) → 1 ≤ length octets → IsLongLength first octets n → IsLength (first ∷ octets) n
+long_form first [] n some t = absurd (let no : ⊥ = omega (arith, some) in no)
+long_form first (high ∷ more) n some t = t
 
 length_takes : (bytes : List ℕ) (n : ℕ) (rest : List ℕ) → length_at bytes ≡ Ok (n, rest) → (text : List ℕ) × IsLength text n × (bytes ≡ text ++ rest)
 unfolding length_at
 length_takes [] n rest e = absurd cc
-length_takes (a ∷ bytes) n rest e =
-    elim (behind a bytes n rest e) [
-      | inl (lt, same, after) ↦ (a ∷ [], (lt, sym same), ap (λ (l : List ℕ). a ∷ l) after)
-      | inr (inl (is, f)) ↦ (let t = byte_takes bytes n rest f in (a ∷ n ∷ [], (is, refl), ap (λ (l : List ℕ). a ∷ l) (t.2 ∙ ap (λ (l : List ℕ). l ++ rest) t.1)))
-      | inr (inr (is, f)) ↦ (let t = wide_takes bytes n rest f in (a ∷ t.0 ∷ t.1 ∷ [], (is, t.3, t.4), ap (λ (l : List ℕ). a ∷ l) t.2))
+length_takes (first ∷ bytes) n rest e =
+    elim (behind first bytes n rest e) [
+      | inl (lt, same, after) ↦ (first ∷ [], (lt, sym same), ap (λ (l : List ℕ). first ∷ l) after)
+      | inr (ge, is, f) ↦
+          let t = limited_takes (first - 0x80) bytes n rest f in
+          let count : length t.0 ≡ first - 0x80 = t.1.0 in
+          let c = few (first - 0x80) is in (
+            first ∷ t.0,
+            long_form first t.0 n (rw count c.0) (record { counted = omega (arith, ge, count); few = rw count c.1; stands_for = t.1.1; limited = t.1.2 }),
+            ap (λ (l : List ℕ). first ∷ l) t.2,
+          )
     ]
 
 length_again : (text : List ℕ) (n : ℕ) (rest : List ℕ) → IsLength text n → length_at (text ++ rest) ≡ Ok (n, rest)
 unfolding length_at
 length_again [] n rest t = absurd t
-length_again (a ∷ []) n rest t = rw (lt-ltb a 0x80 t.0, t.1) refl
-length_again (a ∷ b ∷ []) n rest t = rw (t.0, t.1) refl
-length_again (a ∷ b ∷ c ∷ []) n rest t = rw t.0 (wide_again b c n rest t.1 t.2)
-length_again (a ∷ b ∷ c ∷ d ∷ more) n rest t = absurd t
+length_again (first ∷ []) n rest t = rw (lt-ltb first 0x80 t.0, t.1) refl
+length_again (first ∷ high ∷ more) n rest t =
+    let long : ltb first 0x80 ≡ false = le-ltb _ _ (omega (arith, t.counted)) in
+    let count : first - 0x80 ≡ length (high ∷ more) = omega (arith, t.counted) in
+    let is : is_octet_count (first - 0x80) ≡ true = few_again (first - 0x80) (omega (arith, count)) (rw count t.few) in
+    rw (long, is) (limited_again (first - 0x80) (high ∷ more) n rest (sym count, t.stands_for, t.limited))
 
 pub length_match : Matches length_at (λ text n rest. IsLength text n)
 length_match = record { takes = length_takes; again = length_again }
@@ -150,18 +188,11 @@ element_match tag =
 
 -- ---- integers
 
-abbrev IsBlock : ℕ → List ℕ → List ℕ → List ℕ → Type 0
-IsBlock n text x rest = (text ≡ x) × (length x ≡ n)
-
 abbrev IsContent : ℕ → List ℕ → ℕ → List ℕ → Type 0
 IsContent n text value rest = (is_integer_size n ≡ true) × Mapped big_endian (IsBlock n) text value rest
 
 abbrev IsHead : ℕ → List ℕ → ℕ → List ℕ → Type 0
 IsHead tag text n rest = IsHeader tag text n
-
-number_match : (n : ℕ) → Matches (number_at n) (Mapped big_endian (IsBlock n))
-unfolding number_at
-number_match n = Matches-map big_endian (bytes_at n) (IsBlock n) (bytes_match n)
 
 abbrev sized_at : ℕ → List ℕ → Read ℕ
 sized_at n bytes = cond (is_integer_size n) (number_at n bytes) (Err Invalid)

@@ -1,30 +1,52 @@
 -- The shortest spelling of each piece is one of its forms.
-use Rattle.std.proofs.Common.{◌≡◌, ℕ, ◌/◌, ◌%◌, ◌<◌, ◌≤◌, true, List, [], ◌∷◌, length, refl, sym, subst, arith, inl, inr}
+use Rattle.std.proofs.Common.{◌≡◌, ℕ, ◌+◌, ◌/◌, ◌%◌, ◌<◌, ◌≤◌, true, List, [], ◌∷◌, length, refl, sym, ap, ◌∙◌, subst, arith, inl, inr}
 use Rattle.std.proofs.lemmas.Bool.{cases_lt, lt-ltb, le-ltb}
 use Rattle.sspi_ber.specs.Limit.{max_content}
 use Rattle.sspi_ber.specs.Forms.{IsLength, IsElement, IsTagged, IsInteger, big_endian, is_integer_size}
-use Rattle.sspi_ber.specs.Short.{len_short, header, element, int_content, int_short}
+use Rattle.sspi_ber.specs.Short.{length_octets, len_short, header, element, int_content, int_short}
 
 len_small : (n : ℕ) → n < 0x80 → len_short n ≡ n ∷ []
 unfolding len_short
 len_small n lt = rw (lt-ltb n 0x80 lt) refl
 
-len_middle : (n : ℕ) → 0x80 ≤ n → n < 0x100 → len_short n ≡ 0x81 ∷ n ∷ []
+len_long : (n : ℕ) → 0x80 ≤ n → len_short n ≡ (0x80 + length (length_octets n)) ∷ length_octets n
 unfolding len_short
-len_middle n ge lt = rw (le-ltb n 0x80 ge, lt-ltb n 0x100 lt) refl
+len_long n ge = rw (le-ltb n 0x80 ge) refl
 
-len_wide : (n : ℕ) → 0x100 ≤ n → len_short n ≡ 0x82 ∷ n / 256 ∷ n % 256 ∷ []
-unfolding len_short
-len_wide n ge = let above : 0x80 ≤ n = omega arith in rw (le-ltb n 0x80 above, le-ltb n 0x100 ge) refl
+pub octets_one : (n : ℕ) → n < 0x100 → length_octets n ≡ n ∷ []
+unfolding length_octets
+octets_one n lt = rw (lt-ltb n 0x100 lt) refl
+
+pub octets_two : (n : ℕ) → 0x100 ≤ n → n < 0x10000 → length_octets n ≡ n / 0x100 ∷ n % 0x100 ∷ []
+unfolding length_octets
+octets_two n ge lt = rw (le-ltb n 0x100 ge, lt-ltb n 0x10000 lt) refl
+
+pub octets_three : (n : ℕ) → 0x10000 ≤ n → length_octets n ≡ n / 0x10000 ∷ n / 0x100 % 0x100 ∷ n % 0x100 ∷ []
+unfolding length_octets
+octets_three n ge = let above : 0x100 ≤ n = omega arith in rw (le-ltb n 0x100 above, le-ltb n 0x10000 ge) refl
+
+-- the octets of a number, in the long form
+long_octets : (first n : ℕ) → first ≡ 0x80 + length (length_octets n) → n ≤ max_content → IsLength (first ∷ length_octets n) n
+long_octets first n counted le =
+    elim (cases_lt n 0x100) [
+      | inl one ↦
+          let is = octets_one n one in
+          subst (λ (l : List ℕ). IsLength (first ∷ l) n) (sym is) (record { counted = counted ∙ ap (λ (l : List ℕ). 0x80 + length l) is; few = omega arith; stands_for = omega arith; limited = le })
+      | inr ge ↦ elim (cases_lt n 0x10000) [
+        | inl two ↦
+            let is = octets_two n ge two in
+            subst (λ (l : List ℕ). IsLength (first ∷ l) n) (sym is) (record { counted = counted ∙ ap (λ (l : List ℕ). 0x80 + length l) is; few = omega arith; stands_for = omega arith; limited = le })
+        | inr three ↦
+            let is = octets_three n three in
+            subst (λ (l : List ℕ). IsLength (first ∷ l) n) (sym is) (record { counted = counted ∙ ap (λ (l : List ℕ). 0x80 + length l) is; few = omega arith; stands_for = omega arith; limited = le })
+      ]
+    ]
 
 pub short_length : (n : ℕ) → n ≤ max_content → IsLength (len_short n) n
 short_length n le =
     elim (cases_lt n 0x80) [
       | inl lt ↦ subst (λ (l : List ℕ). IsLength l n) (sym (len_small n lt)) (lt, refl)
-      | inr ge ↦ elim (cases_lt n 0x100) [
-        | inl lt ↦ subst (λ (l : List ℕ). IsLength l n) (sym (len_middle n ge lt)) (refl, refl)
-        | inr wide ↦ subst (λ (l : List ℕ). IsLength l n) (sym (len_wide n wide)) (refl, omega arith, le)
-      ]
+      | inr ge ↦ subst (λ (l : List ℕ). IsLength l n) (sym (len_long n ge)) (long_octets _ n refl le)
     ]
 
 pub short_element : (tag : ℕ) (content : List ℕ) → length content ≤ max_content → IsElement tag (element tag content) content

@@ -1,12 +1,13 @@
 -- A length with how many bytes it took, and the length alone.
-use Rattle.std.proofs.Common.{◌≡◌, ℕ, ◌+◌, ◌-◌, ◌≤◌, List, [], ◌∷◌, length, subst, ◌∙◌, arith, eq-eqb, Option, None, Some, Ok, Err, refl, sym, ap}
+use Rattle.std.proofs.Common.{◌≡◌, ℕ, ◌+◌, ◌-◌, ◌≤◌, true, List, [], ◌∷◌, length, subst, ◌∙◌, arith, eq-eqb, Option, None, Some, Ok, Err, refl, sym, ap}
 use Rattle.sspi_ber.specs.declared.wire_kind.WireKind.{WireKind}
 use Rattle.sspi_ber.specs.declared.wire_kind.WireKind.TheVariants.{UnexpectedEof, InvalidData, ReadFault, WriteFault, InsufficientMemory}
 use Rattle.sspi_ber.specs.Fault.{Fault, Ended, Invalid, Read, ◌>>=◌}
 use Rattle.sspi_ber.specs.Outside.{Answers, Reads}
+use Rattle.std.proofs.lemmas.Bool.{le-ltb}
 use Rattle.std.proofs.lemmas.List.{length-append}
-use Rattle.sspi_ber.proofs.PiecesMatch.{length_match}
-use Rattle.sspi_ber.specs.Pieces.{byte_at, length_at, sized_length_at, header_at, sized_header_at}
+use Rattle.sspi_ber.proofs.PiecesMatch.{length_match, limited_takes}
+use Rattle.sspi_ber.specs.Pieces.{byte_at, is_octet_count, limited_at, length_at, sized_length_at, header_at, sized_header_at}
 
 abbrev whole : ℕ × ℕ → ℕ × ℕ
 whole sized = (sized.0, sized.1)
@@ -76,3 +77,27 @@ header_sized tag None mid after byte sized first is h = tt
 header_sized tag (Some []) mid after byte sized first is h = absurd first
 header_sized tag (Some (b ∷ rest)) mid after byte sized first is h =
     behind tag b rest after sized (sym first.0 ∙ is) (subst (λ (m : Option (List ℕ)). Reads whole m after (Ok sized) sized_length_at) first.1 h)
+
+-- ---- the long form
+
+long_size : (first : ℕ) (rest : List ℕ) (after : Option (List ℕ)) (len : ℕ) → 0x80 ≤ first → is_octet_count (first - 0x80) ≡ true
+    → Answers same after (Ok len) (limited_at (first - 0x80) rest) → Answers whole after (Ok (len, 1 + (first - 0x80))) (sized_length_at (first ∷ rest))
+unfolding sized_length_at length_at
+long_size first rest after len ge is h = rw (le-ltb first 0x80 ge, is) (long_with_size first rest after len (limited_at (first - 0x80) rest) refl h)
+  where
+    long_with_size : (first : ℕ) (rest : List ℕ) (after : Option (List ℕ)) (len : ℕ) (read : Read ℕ) → limited_at (first - 0x80) rest ≡ read
+        → Answers same after (Ok len) read → Answers whole after (Ok (len, 1 + (first - 0x80))) (read >>= with_size (first ∷ rest))
+    long_with_size first rest after len (Ok n) e h =
+        let t = limited_takes (first - 0x80) rest n.0 n.1 e in
+        let size : 1 + (first - 0x80) ≡ length (first ∷ rest) - length n.1 = omega (arith, t.1.0, ap length t.2, length-append t.0 n.1) in
+        let both : ℕ × ℕ = (n.0, length (first ∷ rest) - length n.1) in
+        (rw (h.0, size) (let e : both ≡ both = refl in e), h.1)
+    long_with_size first rest after len (Err fault) e h = absurd h
+
+pub length_sized : (before mid after : Option (List ℕ)) (first len : ℕ) → Reads (λ (b : ℕ). b) before mid (Ok first) byte_at → 0x80 ≤ first
+    → is_octet_count (first - 0x80) ≡ true → Reads same mid after (Ok len) (limited_at (first - 0x80)) → Reads whole before after (Ok (len, 1 + (first - 0x80))) sized_length_at
+length_sized None mid after first len byte ge is h = tt
+length_sized (Some []) mid after first len byte ge is h = absurd byte
+length_sized (Some (b ∷ rest)) mid after first len byte ge is h =
+    subst (λ (a : ℕ). Answers whole after (Ok (len, 1 + (first - 0x80))) (sized_length_at (a ∷ rest))) byte.0
+    (long_size first rest after len ge is (subst (λ (m : Option (List ℕ)). Reads same m after (Ok len) (limited_at (first - 0x80))) byte.1 h))

@@ -1,12 +1,12 @@
 -- What more bytes change in what a reader says: nothing where it read or met a piece that is not spelled; and enough zero
 -- bytes settle what ended too early.
-use Rattle.std.proofs.Common.{◌≡◌, ℕ, ◌≤◌, Bool, true, false, cond, eqb, ltb, leb, List, [], ◌∷◌, ◌++◌, length, take, drop, Option, None, Some, Ok, Err, refl, sym, ap, ◌∙◌, append_assoc, arith, ◌+◌, ◌*◌, inl, inr}
+use Rattle.std.proofs.Common.{◌≡◌, ℕ, ◌≤◌, Bool, true, false, cond, eqb, ltb, leb, List, [], ◌∷◌, ◌++◌, length, take, drop, Option, None, Some, Ok, Err, refl, sym, ap, ◌∙◌, append_assoc, arith, ◌+◌, ◌-◌, inl, inr}
 use Rattle.std.proofs.lemmas.Bool.{ltb-false, le-ltb, cases_Bool}
 use Rattle.std.proofs.lemmas.List.{length-append, length-replicate, replicate-append-replicate, take-append-le, drop-append-le}
 use Rattle.sspi_ber.specs.Fault.{Fault, Ended, Invalid, Read, ◌>>=◌, zeros}
 use Rattle.sspi_ber.specs.Limit.{max_content}
 use Rattle.sspi_ber.specs.Forms.{big_endian, is_integer_size}
-use Rattle.sspi_ber.specs.Pieces.{byte_at, bytes_at, wide_length_at, length_at, header_at, element_at, number_at, integer_at, tag_or_absent_at, present_at, field_at, tagged_at}
+use Rattle.sspi_ber.specs.Pieces.{byte_at, bytes_at, is_octet_count, limited_at, length_at, header_at, element_at, number_at, integer_at, tag_or_absent_at, present_at, field_at, tagged_at}
 use Rattle.sspi_ber.proofs.Match.{bind_ok, both_are, read_of, changed}
 use Rattle.sspi_ber.proofs.PiecesMatch.{chosen}
 
@@ -132,20 +132,22 @@ Steady-map f p sp = Steady-then p (λ x bytes. Ok (f x, bytes)) sp (λ x. Steady
 
 -- ---- the pieces
 
-pub wide_steady : Steady wide_length_at
-unfolding wide_length_at
-wide_steady =
-    Steady-then byte_at (λ high bytes. byte_at bytes >>= λ low. cond (leb (high * 256 + low.0) max_content) (Ok (high * 256 + low.0, low.1)) (Err Invalid)) byte_steady
-    (λ high. Steady-then byte_at (λ low bytes. cond (leb (high * 256 + low) max_content) (Ok (high * 256 + low, bytes)) (Err Invalid)) byte_steady
-    (λ low. Steady-cond (leb (high * 256 + low) max_content) (λ bytes. Ok (high * 256 + low, bytes)) (λ bytes. Err Invalid) (Steady-done (high * 256 + low)) Steady-refused))
+pub number_steady : (n : ℕ) → Steady (number_at n)
+unfolding number_at
+number_steady n = Steady-map big_endian (bytes_at n) (bytes_steady n)
+
+limited_steady : (count : ℕ) → Steady (limited_at count)
+unfolding limited_at
+limited_steady count =
+    Steady-then (number_at count) (λ n bytes. cond (leb n max_content) (Ok (n, bytes)) (Err Invalid)) (number_steady count)
+    (λ n. Steady-cond (leb n max_content) (λ bytes. Ok (n, bytes)) (λ bytes. Err Invalid) (Steady-done n) Steady-refused)
 
 pub length_steady : Steady length_at
 unfolding length_at
 length_steady =
-    Steady-then byte_at (λ first bytes. cond (ltb first 0x80) (Ok (first, bytes)) (cond (eqb first 0x81) (byte_at bytes) (cond (eqb first 0x82) (wide_length_at bytes) (Err Invalid)))) byte_steady
-    (λ first. Steady-cond (ltb first 0x80) (λ bytes. Ok (first, bytes)) (λ bytes. cond (eqb first 0x81) (byte_at bytes) (cond (eqb first 0x82) (wide_length_at bytes) (Err Invalid))) (Steady-done first)
-    (Steady-cond (eqb first 0x81) byte_at (λ bytes. cond (eqb first 0x82) (wide_length_at bytes) (Err Invalid)) byte_steady
-    (Steady-cond (eqb first 0x82) wide_length_at (λ bytes. Err Invalid) wide_steady Steady-refused)))
+    Steady-then byte_at (λ first bytes. cond (ltb first 0x80) (Ok (first, bytes)) (cond (is_octet_count (first - 0x80)) (limited_at (first - 0x80) bytes) (Err Invalid))) byte_steady
+    (λ first. Steady-cond (ltb first 0x80) (λ bytes. Ok (first, bytes)) (λ bytes. cond (is_octet_count (first - 0x80)) (limited_at (first - 0x80) bytes) (Err Invalid)) (Steady-done first)
+    (Steady-cond (is_octet_count (first - 0x80)) (limited_at (first - 0x80)) (λ bytes. Err Invalid) (limited_steady (first - 0x80)) Steady-refused))
 
 pub header_steady : (tag : ℕ) → Steady (header_at tag)
 unfolding header_at
@@ -156,10 +158,6 @@ header_steady tag =
 pub element_steady : (tag : ℕ) → Steady (element_at tag)
 unfolding element_at
 element_steady tag = Steady-then (header_at tag) bytes_at (header_steady tag) bytes_steady
-
-pub number_steady : (n : ℕ) → Steady (number_at n)
-unfolding number_at
-number_steady n = Steady-map big_endian (bytes_at n) (bytes_steady n)
 
 pub integer_steady : Steady integer_at
 unfolding integer_at

@@ -6,7 +6,7 @@ use Rattle.std.proofs.lemmas.List.{append-nil, length-append, take-append-drop}
 use Rattle.sspi_ber.specs.declared.wire_kind.WireKind.{WireKind}
 use Rattle.sspi_ber.specs.declared.wire_kind.WireKind.TheVariants.{UnexpectedEof, InvalidData, ReadFault, WriteFault, InsufficientMemory}
 use Rattle.sspi_ber.specs.Outside.{Wrote, WroteFront, Writes}
-use Rattle.sspi_ber.specs.Short.{len_short, header, element, element_size}
+use Rattle.sspi_ber.specs.Short.{length_octets, len_short, header, element, element_size}
 
 appends_then : (before mid after : Option (List ℕ)) (a b : List ℕ) → Appends before mid a → Appends mid after b → Appends before after (a ++ b)
 appends_then None mid after a b p q = tt
@@ -86,28 +86,36 @@ pub length-element : (tag : ℕ) (content : List ℕ) → length (element tag co
 unfolding element element_size
 length-element tag content = length-append (header tag (length content)) content ∙ ap (λ (n : ℕ). n + length content) (length-header tag (length content))
 
-len_one : (n : ℕ) → 1 ≤ length (len_short n)
-unfolding len_short
-len_one n = elim (cases_lt n 0x80) [
-  | inl lt ↦ rw (lt-ltb n 0x80 lt) (omega arith)
-  | inr ge ↦ elim (cases_lt n 0x100) [ inl lt ↦ rw (le-ltb n 0x80 ge, lt-ltb n 0x100 lt) (omega arith) | inr wide ↦ rw (le-ltb n 0x80 ge, le-ltb n 0x100 wide) (omega arith) ]
+octets_above : (n : ℕ) → 1 ≤ length (length_octets n)
+unfolding length_octets
+octets_above n = elim (cases_lt n 0x100) [
+  | inl lt ↦ rw (lt-ltb n 0x100 lt) (omega arith)
+  | inr ge ↦ elim (cases_lt n 0x10000) [ inl lt ↦ rw (le-ltb n 0x100 ge, lt-ltb n 0x10000 lt) (omega arith) | inr wide ↦ rw (le-ltb n 0x100 ge, le-ltb n 0x10000 wide) (omega arith) ]
 ]
 
-len_three : (n : ℕ) → length (len_short n) ≤ 3
-unfolding len_short
-len_three n = elim (cases_lt n 0x80) [
-  | inl lt ↦ rw (lt-ltb n 0x80 lt) (omega arith)
-  | inr ge ↦ elim (cases_lt n 0x100) [ inl lt ↦ rw (le-ltb n 0x80 ge, lt-ltb n 0x100 lt) (omega arith) | inr wide ↦ rw (le-ltb n 0x80 ge, le-ltb n 0x100 wide) (omega arith) ]
+octets_below : (n : ℕ) → length (length_octets n) ≤ 3
+unfolding length_octets
+octets_below n = elim (cases_lt n 0x100) [
+  | inl lt ↦ rw (lt-ltb n 0x100 lt) (omega arith)
+  | inr ge ↦ elim (cases_lt n 0x10000) [ inl lt ↦ rw (le-ltb n 0x100 ge, lt-ltb n 0x10000 lt) (omega arith) | inr wide ↦ rw (le-ltb n 0x100 ge, le-ltb n 0x10000 wide) (omega arith) ]
 ]
 
--- an element is larger than its content by 2 to 4 bytes
+len_above : (n : ℕ) → 1 ≤ length (len_short n)
+unfolding len_short
+len_above n = elim (cases_lt n 0x80) [ inl lt ↦ rw (lt-ltb n 0x80 lt) (omega arith) | inr ge ↦ rw (le-ltb n 0x80 ge) (omega arith) ]
+
+len_below : (n : ℕ) → length (len_short n) ≤ 4
+unfolding len_short
+len_below n = elim (cases_lt n 0x80) [ inl lt ↦ rw (lt-ltb n 0x80 lt) (omega arith) | inr ge ↦ (let three = octets_below n in rw (le-ltb n 0x80 ge) (omega arith)) ]
+
+-- an element is larger than its content by 2 to 5 bytes
 pub size_above : (n : ℕ) → n + 2 ≤ element_size n
 unfolding element_size
-size_above n = let one = len_one n in omega arith
+size_above n = let one = len_above n in omega arith
 
-pub size_below : (n : ℕ) → element_size n ≤ n + 4
+pub size_below : (n : ℕ) → element_size n ≤ n + 5
 unfolding element_size
-size_below n = let three = len_three n in omega arith
+size_below n = let four = len_below n in omega arith
 
 pub small_size : (n : ℕ) → n < 0x80 → element_size n ≡ n + 2
 unfolding element_size len_short

@@ -1,15 +1,25 @@
 -- The pieces of BER, as relations between bytes and what they stand for (X.690 8.1.3, 8.3, 8.7).
 use Rattle.std.specs.Prelude.{◌≡◌, ℕ, ◌+◌, ◌*◌, ◌<◌, ◌≤◌, Bool, ◌||◌, ◌==◌, IsTrue, List, [], ◌∷◌, ◌++◌, length, fold, Option, None, Some}
-use Rattle.sspi_ber.specs.Limit.{max_content}
+use Rattle.sspi_ber.specs.Limit.{max_content, max_length_octets}
 
--- A length: one byte below 0x80, or 0x81 and one byte, or 0x82 and two bytes of a number up to the limit. It need not be
--- the shortest of these.
+-- the number that bytes stand for, the first byte the highest
+abbrev pub big_endian : List ℕ → ℕ
+big_endian bytes = fold (λ high byte. high * 256 + byte) 0 bytes
+
+-- The long form of a length (X.690 8.1.3.5): the low seven bits of its first octet count the octets behind it, and these
+-- stand for the length.
+pub record IsLongLength (first : ℕ) (octets : List ℕ) (n : ℕ) : Type 0 where
+  pub counted : first ≡ 0x80 + length octets
+  pub few : length octets ≤ max_length_octets
+  pub stands_for : n ≡ big_endian octets
+  pub limited : n ≤ max_content
+
+-- A length: one octet below 0x80, or a long form, which need not be the shortest. An octet 0x80 alone, which stands before
+-- contents of no stated length (X.690 8.1.3.6), is none.
 abbrev pub IsLength : List ℕ → ℕ → Type 0
 IsLength [] n = ⊥
-IsLength (a ∷ []) n = (a < 0x80) × (n ≡ a)
-IsLength (a ∷ b ∷ []) n = (a ≡ 0x81) × (n ≡ b)
-IsLength (a ∷ b ∷ c ∷ []) n = (a ≡ 0x82) × (n ≡ b * 256 + c) × (n ≤ max_content)
-IsLength (a ∷ b ∷ c ∷ d ∷ more) n = ⊥
+IsLength (first ∷ []) n = (first < 0x80) × (n ≡ first)
+IsLength (first ∷ high ∷ more) n = IsLongLength first (high ∷ more) n
 
 -- a tag and a length
 pub record IsHeader (tag : ℕ) (text : List ℕ) (n : ℕ) : Type 0 where
@@ -29,10 +39,6 @@ pub record IsTagged (tag : ℕ) (text inner : List ℕ) : Type 0 where
   pub number : ℕ
   pub spelled : text ≡ tag ∷ (len ++ inner)
   pub measured : IsLength len number
-
--- the number that bytes stand for, the first byte the highest
-abbrev pub big_endian : List ℕ → ℕ
-big_endian bytes = fold (λ high byte. high * 256 + byte) 0 bytes
 
 -- content bytes that stand for a number which is not negative: the highest bit, the sign, is clear (X.690 8.3.3)
 abbrev pub IsNotNegative : List ℕ → Type 0

@@ -1,7 +1,7 @@
 -- The pieces of BER read from left to right, with the first fault. What is wrong with a length's first byte, or with the
 -- length of an integer, comes before a want of the bytes behind it.
-use Rattle.std.specs.Prelude.{ℕ, ◌+◌, ◌-◌, ◌*◌, nat_lt, nat_le, ◌==◌, List, [], ◌∷◌, length, take, drop, Option, None, Some, Ok, Err, if◌then◌else◌}
-use Rattle.sspi_ber.specs.Limit.{max_content}
+use Rattle.std.specs.Prelude.{ℕ, ◌-◌, nat_lt, nat_le, Bool, ◌&&◌, ◌==◌, List, [], ◌∷◌, length, take, drop, Option, None, Some, Ok, Err, if◌then◌else◌}
+use Rattle.sspi_ber.specs.Limit.{max_content, max_length_octets}
 use Rattle.sspi_ber.specs.Fault.{Ended, Invalid, Read, ◌>>=◌}
 use Rattle.sspi_ber.specs.Forms.{big_endian, is_integer_size}
 
@@ -12,17 +12,25 @@ byte_at (byte ∷ rest) = Ok (byte, rest)
 unfoldable pub bytes_at : ℕ → List ℕ → Read (List ℕ)
 bytes_at n bytes = if nat_lt (length bytes) n then Err Ended else Ok (take n bytes, drop n bytes)
 
--- the two bytes behind 0x82
-unfoldable pub wide_length_at : List ℕ → Read ℕ
-wide_length_at bytes = do
-  high ← byte_at bytes
-  low ← byte_at high.1
-  if nat_le (high.0 * 256 + low.0) max_content then Ok (high.0 * 256 + low.0, low.1) else Err Invalid
+unfoldable pub number_at : ℕ → List ℕ → Read ℕ
+number_at size bytes = do
+  content ← bytes_at size bytes
+  Ok (big_endian content.0, content.1)
+
+-- so many octets as a number up to the limit
+unfoldable pub limited_at : ℕ → List ℕ → Read ℕ
+limited_at count bytes = do
+  n ← number_at count bytes
+  if nat_le n.0 max_content then Ok n else Err Invalid
+
+-- how many octets may follow the first one of a length in the long form
+abbrev pub is_octet_count : ℕ → Bool
+is_octet_count count = nat_le 1 count && nat_le count max_length_octets
 
 unfoldable pub length_at : List ℕ → Read ℕ
 length_at bytes = do
   first ← byte_at bytes
-  if nat_lt first.0 0x80 then Ok first else if first.0 == 0x81 then byte_at first.1 else if first.0 == 0x82 then wide_length_at first.1 else Err Invalid
+  if nat_lt first.0 0x80 then Ok first else if is_octet_count (first.0 - 0x80) then limited_at (first.0 - 0x80) first.1 else Err Invalid
 
 unfoldable pub header_at : ℕ → List ℕ → Read ℕ
 header_at tag bytes = do
@@ -45,11 +53,6 @@ unfoldable pub element_at : ℕ → List ℕ → Read (List ℕ)
 element_at tag bytes = do
   n ← header_at tag bytes
   bytes_at n.0 n.1
-
-unfoldable pub number_at : ℕ → List ℕ → Read ℕ
-number_at size bytes = do
-  content ← bytes_at size bytes
-  Ok (big_endian content.0, content.1)
 
 unfoldable pub integer_at : List ℕ → Read ℕ
 integer_at bytes = do

@@ -3,8 +3,12 @@ use Rattle.std.specs.Prelude.{◌≡◌, ℕ, ◌+◌, ◌/◌, ◌%◌, nat_lt,
 use Rattle.sspi_ber.specs.declared.wire_kind.WireKind.{WireKind}
 use Rattle.sspi_ber.specs.declared.wire_kind.WireKind.TheVariants.{InvalidData}
 
+-- a number up to the limit in as few octets as hold it, the first one the highest
+unfoldable pub length_octets : ℕ → List ℕ
+length_octets n = if nat_lt n 0x100 then n ∷ [] else if nat_lt n 0x10000 then n / 0x100 ∷ n % 0x100 ∷ [] else n / 0x10000 ∷ n / 0x100 % 0x100 ∷ n % 0x100 ∷ []
+
 unfoldable pub len_short : ℕ → List ℕ
-len_short n = if nat_lt n 0x80 then n ∷ [] else if nat_lt n 0x100 then 0x81 ∷ n ∷ [] else 0x82 ∷ n / 256 ∷ n % 256 ∷ []
+len_short n = if nat_lt n 0x80 then n ∷ [] else (0x80 + length (length_octets n)) ∷ length_octets n
 
 -- a tag and the length of a content of n bytes
 unfoldable pub header : ℕ → ℕ → List ℕ

@@ -7,7 +7,7 @@ ghost use Rattle.sspi_ber.specs.Pieces.{length_at, element_at, integer_at};
 ghost use Rattle.sspi_ber.specs.Short.{len_short, element, element_size, int_content, int_short};
 
 use crate::identifier::{INTEGER, OCTET_STRING, SEQUENCE};
-use crate::limit::MAX_CONTENT;
+use crate::limit::{MAX_CONTENT, MAX_LENGTH_OCTETS};
 
 /// A length is read exactly where a form of one begins the bytes, and then exactly that form is taken.
 #[tactic(auto, using(crate::proofs::Agreement::agreement))]
@@ -55,9 +55,10 @@ pub fn shortest_is_shortest()
     ensures four { (value : ℕ) → 2 ^ 31 ≤ value → length (int_content value) ≡ 4 }
 {}
 
-/// The named constants are the limit of all lengths, and the identifier octets of X.690 8.1.2 for these types.
+/// The named constants are the limit of all lengths, the octets that they may need, and the identifier octets of X.690 8.1.2 for these types.
 pub fn constants_have_their_numbers()
-    ensures limit { MAX_CONTENT ≡ 65531 }
+    ensures limit { MAX_CONTENT ≡ 1048576 }
+    ensures octets { MAX_LENGTH_OCTETS ≡ 3 }
     ensures sequence { SEQUENCE ≡ 0x30 }
     ensures integer { INTEGER ≡ 0x02 }
     ensures octet_string { OCTET_STRING ≡ 0x04 }

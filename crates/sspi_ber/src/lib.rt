@@ -28,7 +28,7 @@ pub mod writing;
 
 pub use faulty::{FaultySink, FaultySource};
 pub use identifier::{Pc, Tag};
-pub use limit::MAX_CONTENT;
+pub use limit::{MAX_CONTENT, MAX_LENGTH_OCTETS};
 pub use reading::{
     read_contextual_tag, read_header, read_integer, read_length, read_octet_string_tag,
     read_sequence_tag, read_sized_header,

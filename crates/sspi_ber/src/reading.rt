@@ -2,10 +2,12 @@ ghost use Rattle.std.specs.Prelude.{◌≡◌, ◌≤◌, IfOk, IsTrue};
 ghost use Rattle.sspi_ber.specs.Forms.{is_integer_size};
 ghost use Rattle.sspi_ber.specs.Identifier.{contextual_identifier};
 ghost use Rattle.sspi_ber.specs.Outside.{Reads, ReadCause, LeavesRest};
-ghost use Rattle.sspi_ber.specs.Pieces.{byte_at, length_at, sized_length_at, header_at, sized_header_at, number_at, integer_at};
+ghost use Rattle.sspi_ber.specs.Pieces.{
+    byte_at, is_octet_count, limited_at, length_at, sized_length_at, header_at, sized_header_at, number_at, integer_at
+};
 
 use crate::identifier::{INTEGER, OCTET_STRING, Pc, SEQUENCE, contextual_identifier};
-use crate::limit::MAX_CONTENT;
+use crate::limit::{MAX_CONTENT, MAX_LENGTH_OCTETS};
 use crate::source::Source;
 use crate::wire_kind::WireKind;
 
@@ -21,103 +23,8 @@ fn read_byte<S: Source>(source: &mut S) -> Result<u8, WireKind>
     }
 }
 
-/// A length in one of its three forms, and how many bytes it took.
-#[tactic(auto, unfolding(crate::specs::Pieces::sized_length_at, crate::specs::Pieces::length_at, crate::specs::Pieces::wide_length_at))]
-fn read_sized_length<S: Source>(source: &mut S) -> Result<(u16, usize), WireKind>
-    ensures read { Reads (λ sized. (sized.0, sized.1)) (S.left source.old) (S.left source.new) result sized_length_at }
-    ensures size { IfOk result (λ sized. sized.1 ≤ 3) }
-    ensures cause { ReadCause (S.faults source.old) (S.faults source.new) result }
-    ensures rest { LeavesRest (S.left source.old) (S.left source.new) }
-{
-    let first = read_byte(source)?;
-    if first < 0x80 {
-        Ok((u16::from(first), 1))
-    } else if first == 0x81 {
-        let byte = read_byte(source)?;
-        Ok((u16::from(byte), 2))
-    } else if first == 0x82 {
-        let high = read_byte(source)?;
-        let low = read_byte(source)?;
-        let len = u16::from(high) * 256 + u16::from(low);
-        if usize::from(len) > MAX_CONTENT {
-            return Err(WireKind::InvalidData);
-        }
-        Ok((len, 3))
-    } else {
-        Err(WireKind::InvalidData)
-    }
-}
-
-/// A length in one of its three forms, shortest or not.
-#[tactic(auto, using(crate::proofs::Sized::length_half, crate::proofs::Sized::length_fault))]
-pub fn read_length<S: Source>(source: &mut S) -> Result<u16, WireKind>
-    ensures read { Reads (λ n. n) (S.left source.old) (S.left source.new) result length_at }
-    ensures cause { ReadCause (S.faults source.old) (S.faults source.new) result }
-    ensures rest { LeavesRest (S.left source.old) (S.left source.new) }
-{
-    match read_sized_length(source) {
-        Ok((len, _)) => Ok(len),
-        Err(kind) => Err(kind),
-    }
-}
-
-/// This identifier octet and a length, which is the answer. `InvalidData` where another byte comes first.
-#[tactic(auto, unfolding(crate::specs::Pieces::header_at))]
-pub fn read_header<S: Source>(source: &mut S, tag: u8) -> Result<u16, WireKind>
-    ensures read { Reads (λ n. n) (S.left source.old) (S.left source.new) result (header_at tag) }
-    ensures cause { ReadCause (S.faults source.old) (S.faults source.new) result }
-    ensures rest { LeavesRest (S.left source.old) (S.left source.new) }
-{
-    if read_byte(source)? != tag {
-        return Err(WireKind::InvalidData);
-    }
-    read_length(source)
-}
-
-/// The same with how many bytes the header took.
-#[tactic(auto, unfolding(crate::specs::Pieces::sized_header_at, crate::specs::Pieces::header_at, crate::specs::Pieces::sized_length_at))]
-pub fn read_sized_header<S: Source>(source: &mut S, tag: u8) -> Result<(u16, usize), WireKind>
-    ensures read { Reads (λ sized. (sized.0, sized.1)) (S.left source.old) (S.left source.new) result (sized_header_at tag) }
-    ensures size { IfOk result (λ sized. sized.1 ≤ 4) }
-    ensures cause { ReadCause (S.faults source.old) (S.faults source.new) result }
-    ensures rest { LeavesRest (S.left source.old) (S.left source.new) }
-{
-    if read_byte(source)? != tag {
-        return Err(WireKind::InvalidData);
-    }
-    let (len, size) = read_sized_length(source)?;
-    Ok((len, 1 + size))
-}
-
-/// The header of a SEQUENCE: its identifier octet and a length, which is the answer.
-pub fn read_sequence_tag<S: Source>(source: &mut S) -> Result<u16, WireKind>
-    ensures read { Reads (λ n. n) (S.left source.old) (S.left source.new) result (header_at 0x30) }
-    ensures cause { ReadCause (S.faults source.old) (S.faults source.new) result }
-    ensures rest { LeavesRest (S.left source.old) (S.left source.new) }
-{
-    read_header(source, SEQUENCE)
-}
-
-/// The header of a context-specific element. Of `tagnum` the low five bits count.
-pub fn read_contextual_tag<S: Source>(source: &mut S, tagnum: u8, pc: Pc) -> Result<u16, WireKind>
-    ensures read { Reads (λ n. n) (S.left source.old) (S.left source.new) result (header_at (contextual_identifier tagnum pc)) }
-    ensures cause { ReadCause (S.faults source.old) (S.faults source.new) result }
-    ensures rest { LeavesRest (S.left source.old) (S.left source.new) }
-{
-    read_header(source, contextual_identifier(tagnum, pc))
-}
-
-/// The header of an OCTET STRING.
-pub fn read_octet_string_tag<S: Source>(source: &mut S) -> Result<u16, WireKind>
-    ensures read { Reads (λ n. n) (S.left source.old) (S.left source.new) result (header_at 0x04) }
-    ensures cause { ReadCause (S.faults source.old) (S.faults source.new) result }
-    ensures rest { LeavesRest (S.left source.old) (S.left source.new) }
-{
-    read_header(source, OCTET_STRING)
-}
-
 /// `size` bytes as a number, the first byte the highest.
-fn read_number<S: Source>(source: &mut S, size: u16) -> Result<u64, WireKind>
+fn read_number<S: Source>(source: &mut S, size: u32) -> Result<u64, WireKind>
     requires { size ≤ 8 }
     ensures read { Reads (λ n. n) (S.left source.old) (S.left source.new) result (number_at size) }
     ensures cause { ReadCause (S.faults source.old) (S.faults source.new) result }
@@ -131,7 +38,117 @@ fn read_number<S: Source>(source: &mut S, size: u16) -> Result<u64, WireKind>
     Ok(value)
 }
 
-fn is_integer_size(size: u16) -> bool
+/// `count` octets as a length, which the limit bounds.
+#[tactic(auto, unfolding(crate::specs::Pieces::limited_at))]
+fn read_limited<S: Source>(source: &mut S, count: u32) -> Result<u32, WireKind>
+    requires { count ≤ 8 }
+    ensures read { Reads (λ n. n) (S.left source.old) (S.left source.new) result (limited_at count) }
+    ensures cause { ReadCause (S.faults source.old) (S.faults source.new) result }
+    ensures rest { LeavesRest (S.left source.old) (S.left source.new) }
+{
+    let len = read_number(source, count)?;
+    if len > MAX_CONTENT as u64 {
+        return Err(WireKind::InvalidData);
+    }
+    Ok(len as u32)
+}
+
+fn is_octet_count(count: u32) -> bool
+    ensures counts { result ≡ is_octet_count count }
+    ensures small { IsTrue result → count ≤ 3 }
+{
+    1 <= count && count <= MAX_LENGTH_OCTETS
+}
+
+/// A length in one of its four forms, and how many bytes it took.
+#[tactic(auto, unfolding(crate::specs::Pieces::sized_length_at, crate::specs::Pieces::length_at))]
+fn read_sized_length<S: Source>(source: &mut S) -> Result<(u32, usize), WireKind>
+    ensures read { Reads (λ sized. (sized.0, sized.1)) (S.left source.old) (S.left source.new) result sized_length_at }
+    ensures size { IfOk result (λ sized. sized.1 ≤ 4) }
+    ensures cause { ReadCause (S.faults source.old) (S.faults source.new) result }
+    ensures rest { LeavesRest (S.left source.old) (S.left source.new) }
+{
+    let first = read_byte(source)?;
+    if first < 0x80 {
+        return Ok((u32::from(first), 1));
+    }
+    let count = u32::from(first) - 0x80;
+    if !is_octet_count(count) {
+        return Err(WireKind::InvalidData);
+    }
+    let len = read_limited(source, count)?;
+    Ok((len, 1 + count as usize))
+}
+
+/// A length in one of its four forms, shortest or not.
+#[tactic(auto, using(crate::proofs::Sized::length_half, crate::proofs::Sized::length_fault))]
+pub fn read_length<S: Source>(source: &mut S) -> Result<u32, WireKind>
+    ensures read { Reads (λ n. n) (S.left source.old) (S.left source.new) result length_at }
+    ensures cause { ReadCause (S.faults source.old) (S.faults source.new) result }
+    ensures rest { LeavesRest (S.left source.old) (S.left source.new) }
+{
+    match read_sized_length(source) {
+        Ok((len, _)) => Ok(len),
+        Err(kind) => Err(kind),
+    }
+}
+
+/// This identifier octet and a length, which is the answer. `InvalidData` where another byte comes first.
+#[tactic(auto, unfolding(crate::specs::Pieces::header_at))]
+pub fn read_header<S: Source>(source: &mut S, tag: u8) -> Result<u32, WireKind>
+    ensures read { Reads (λ n. n) (S.left source.old) (S.left source.new) result (header_at tag) }
+    ensures cause { ReadCause (S.faults source.old) (S.faults source.new) result }
+    ensures rest { LeavesRest (S.left source.old) (S.left source.new) }
+{
+    if read_byte(source)? != tag {
+        return Err(WireKind::InvalidData);
+    }
+    read_length(source)
+}
+
+/// The same with how many bytes the header took.
+#[tactic(auto, unfolding(crate::specs::Pieces::sized_header_at, crate::specs::Pieces::header_at, crate::specs::Pieces::sized_length_at))]
+pub fn read_sized_header<S: Source>(source: &mut S, tag: u8) -> Result<(u32, usize), WireKind>
+    ensures read { Reads (λ sized. (sized.0, sized.1)) (S.left source.old) (S.left source.new) result (sized_header_at tag) }
+    ensures size { IfOk result (λ sized. sized.1 ≤ 5) }
+    ensures cause { ReadCause (S.faults source.old) (S.faults source.new) result }
+    ensures rest { LeavesRest (S.left source.old) (S.left source.new) }
+{
+    if read_byte(source)? != tag {
+        return Err(WireKind::InvalidData);
+    }
+    let (len, size) = read_sized_length(source)?;
+    Ok((len, 1 + size))
+}
+
+/// The header of a SEQUENCE: its identifier octet and a length, which is the answer.
+pub fn read_sequence_tag<S: Source>(source: &mut S) -> Result<u32, WireKind>
+    ensures read { Reads (λ n. n) (S.left source.old) (S.left source.new) result (header_at 0x30) }
+    ensures cause { ReadCause (S.faults source.old) (S.faults source.new) result }
+    ensures rest { LeavesRest (S.left source.old) (S.left source.new) }
+{
+    read_header(source, SEQUENCE)
+}
+
+/// The header of a context-specific element. Of `tagnum` the low five bits count.
+pub fn read_contextual_tag<S: Source>(source: &mut S, tagnum: u8, pc: Pc) -> Result<u32, WireKind>
+    ensures read { Reads (λ n. n) (S.left source.old) (S.left source.new) result (header_at (contextual_identifier tagnum pc)) }
+    ensures cause { ReadCause (S.faults source.old) (S.faults source.new) result }
+    ensures rest { LeavesRest (S.left source.old) (S.left source.new) }
+{
+    read_header(source, contextual_identifier(tagnum, pc))
+}
+
+/// The header of an OCTET STRING.
+pub fn read_octet_string_tag<S: Source>(source: &mut S) -> Result<u32, WireKind>
+    ensures read { Reads (λ n. n) (S.left source.old) (S.left source.new) result (header_at 0x04) }
+    ensures cause { ReadCause (S.faults source.old) (S.faults source.new) result }
+    ensures rest { LeavesRest (S.left source.old) (S.left source.new) }
+{
+    read_header(source, OCTET_STRING)
+}
+
+fn is_integer_size(size: u32) -> bool
     ensures counts { result ≡ is_integer_size size }
     ensures small { IsTrue result → size ≤ 8 }
 {

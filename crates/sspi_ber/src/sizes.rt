@@ -6,18 +6,20 @@ use crate::limit::MAX_CONTENT;
 use crate::wire_kind::WireKind;
 
 /// How many bytes the shortest length takes.
-#[tactic(auto, unfolding(crate::specs::Short::len_short))]
+#[tactic(auto, unfolding(crate::specs::Short::len_short, crate::specs::Short::length_octets))]
 pub(crate) fn length_size(len: usize) -> usize
     requires { len ≤ max_content }
     ensures size { result ≡ length (len_short len) }
-    ensures small { result ≤ 3 }
+    ensures small { result ≤ 4 }
 {
     if len < 0x80 {
         1
     } else if len < 0x100 {
         2
-    } else {
+    } else if len < 0x1_0000 {
         3
+    } else {
+        4
     }
 }
 
@@ -53,7 +55,7 @@ pub fn sizeof_contextual_tag(len: usize) -> Result<usize, WireKind>
 pub fn size_of_element(len: usize) -> usize
     requires { len ≤ max_content }
     ensures size { result ≡ element_size len }
-    ensures small { result ≤ len + 4 }
+    ensures small { result ≤ len + 5 }
 {
     1 + length_size(len) + len
 }

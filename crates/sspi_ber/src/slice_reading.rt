@@ -10,7 +10,7 @@ use crate::wire_kind::WireKind;
 
 /// The length behind this identifier octet. Answers `None`, and takes nothing, at the end and where another byte stands.
 #[tactic(auto, using(crate::proofs::Absent::absent), unfolding(crate::specs::Pieces::tag_or_absent_at))]
-pub fn read_tag_or_absent(source: &mut SliceSource<'_>, tag: u8) -> Result<Option<u16>, WireKind>
+pub fn read_tag_or_absent(source: &mut SliceSource<'_>, tag: u8) -> Result<Option<u32>, WireKind>
     ensures read { Gives (λ len. len) source.new result (tag_or_absent_at tag source.old) }
     ensures memory { NeedsNoMemory result }
 {
@@ -27,7 +27,7 @@ pub fn read_contextual_tag_or_absent(
     source: &mut SliceSource<'_>,
     tagnum: u8,
     pc: Pc,
-) -> Result<Option<u16>, WireKind>
+) -> Result<Option<u32>, WireKind>
     ensures read { Gives (λ len. len) source.new result (tag_or_absent_at (contextual_identifier tagnum pc) source.old) }
     ensures memory { NeedsNoMemory result }
 {
@@ -41,5 +41,5 @@ pub fn read_element<'a>(source: &mut SliceSource<'a>, tag: u8) -> Result<&'a [u8
     ensures memory { NeedsNoMemory result }
 {
     let len = read_header(source, tag)?;
-    source.take(usize::from(len))
+    source.take(len as usize)
 }

@@ -25,7 +25,7 @@ pub fn write_all<W: Sink>(sink: &mut W, piece: &[u8]) -> Result<(), WireKind>
     Ok(())
 }
 
-#[tactic(auto, unfolding(crate::specs::Short::len_short))]
+#[tactic(auto, unfolding(crate::specs::Short::len_short, crate::specs::Short::length_octets))]
 fn write_short_length<W: Sink>(sink: &mut W, len: usize) -> Result<(), WireKind>
     requires { len ≤ max_content }
     ensures wrote { Writes (W.written sink.old) (W.written sink.new) result (len_short len) }
@@ -35,13 +35,15 @@ fn write_short_length<W: Sink>(sink: &mut W, len: usize) -> Result<(), WireKind>
         write_all(sink, &[len as u8])
     } else if len < 0x100 {
         write_all(sink, &[0x81, len as u8])
+    } else if len < 0x1_0000 {
+        write_all(sink, &[0x82, (len / 0x100) as u8, (len % 0x100) as u8])
     } else {
-        write_all(sink, &[0x82, (len / 256) as u8, (len % 256) as u8])
+        write_all(sink, &[0x83, (len / 0x1_0000) as u8, (len / 0x100 % 0x100) as u8, (len % 0x100) as u8])
     }
 }
 
 /// An identifier octet, and the shortest length of a content that fits.
-#[tactic(auto, unfolding(crate::specs::Short::header, crate::specs::Short::len_short))]
+#[tactic(auto, unfolding(crate::specs::Short::header, crate::specs::Short::len_short, crate::specs::Short::length_octets))]
 pub fn write_header<W: Sink>(sink: &mut W, tag: u8, len: usize) -> Result<(), WireKind>
     requires { len ≤ max_content }
     ensures wrote { Writes (W.written sink.old) (W.written sink.new) result (header tag len) }
@@ -51,8 +53,10 @@ pub fn write_header<W: Sink>(sink: &mut W, tag: u8, len: usize) -> Result<(), Wi
         write_all(sink, &[tag, len as u8])
     } else if len < 0x100 {
         write_all(sink, &[tag, 0x81, len as u8])
+    } else if len < 0x1_0000 {
+        write_all(sink, &[tag, 0x82, (len / 0x100) as u8, (len % 0x100) as u8])
     } else {
-        write_all(sink, &[tag, 0x82, (len / 256) as u8, (len % 256) as u8])
+        write_all(sink, &[tag, 0x83, (len / 0x1_0000) as u8, (len / 0x100 % 0x100) as u8, (len % 0x100) as u8])
     }
 }
 

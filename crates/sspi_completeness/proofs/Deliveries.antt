@@ -18,23 +18,23 @@ use Rattle.sspi_tsreq.proofs.RoundTrip.{spelled_whole, one_request}
 use Rattle.sspi_delegate.specs.declared.carried.Carried.{Carried}
 use Rattle.sspi_credssp.specs.declared.turn.Turn.{Turn}
 use Rattle.sspi_delegate.specs.Causes.{NewestFits, MessageFits}
-use Rattle.sspi_delegate.specs.Deliveries.{is_taken}
+use Rattle.sspi_delegate.specs.Deliveries.{delivery_limit, is_taken}
 use Rattle.sspi_delegate.specs.Edits.{Delivers, FollowsEdits}
 use Rattle.sspi_delegate.specs.Run.{IsRead, IsFault, IsDelivered, IsSent, IsEntry, Logged, IsUnreadable}
 use Rattle.sspi_credssp.specs.Turn.{message_of}
 
-spelled_short : (r : TsRequest) → fits r ≡ true → length (spelled r) ≤ 65535
+spelled_short : (r : TsRequest) → fits r ≡ true → length (spelled r) ≤ delivery_limit
 spelled_short r fit =
     let le : length (fields (carried r)) ≤ max_content = leb-true (length (fields (carried r))) max_content fit in
     let whole = spelled_length r in
     let more = size_below (length (fields (carried r))) in
     omega arith
 
-taken_at : (ended : Bool) (delivered sent : List ℕ) → length sent ≤ 65535 → delivered ≡ take (length delivered) sent → (ended ≡ true → delivered ≡ sent) →
-    ended || nat_le 65535 (length delivered) ≡ true → delivered ≡ sent
+taken_at : (ended : Bool) (delivered sent : List ℕ) → length sent ≤ delivery_limit → delivered ≡ take (length delivered) sent → (ended ≡ true → delivered ≡ sent) →
+    ended || nat_le delivery_limit (length delivered) ≡ true → delivered ≡ sent
 taken_at true delivered sent short front whole taken = whole refl
 taken_at false delivered sent short front whole taken =
-    let far : 65535 ≤ length delivered = leb-true 65535 (length delivered) taken in
+    let far : delivery_limit ≤ length delivered = leb-true delivery_limit (length delivered) taken in
     front ∙ take_all (length delivered) sent (omega (arith, far, short))
 
 -- a message that fits is delivered whole

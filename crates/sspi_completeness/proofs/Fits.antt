@@ -29,10 +29,10 @@ shorter_of : (b : Bool) (x y : List ℕ) (n : ℕ) → length x ≤ n → length
 shorter_of true x y n p q = p
 shorter_of false x y n p q = q
 
-pub prescribed_length : (end : EndpointType) (version : ℕ) (nonce key : List ℕ) → length key ≤ 16384 → length (prescribed end version nonce key) ≤ 16384
+pub prescribed_length : (end : EndpointType) (version : ℕ) (nonce key : List ℕ) → length key ≤ 262144 → length (prescribed end version nonce key) ≤ 262144
 unfolding prescribed
 prescribed_length end version nonce key short =
-    shorter_of (nat_lt version 5) (echo end key) (sha256 (magic end ++ nonce ++ key)) 16384
+    shorter_of (nat_lt version 5) (echo end key) (sha256 (magic end ++ nonce ++ key)) 262144
     (omega (arith, echo_length end key, short)) (omega (arith, length-sha256 (magic end ++ nonce ++ key)))
 
 same_at : (end : EndpointType) (b c : Bool) (x y key : List ℕ) → b ≡ c → (b ≡ false → x ≡ y) →
@@ -88,7 +88,7 @@ pub record IsMessage (r : TsRequest) : Type 0 where
   pub fit : fits r ≡ true
 
 pub is_message : (r : TsRequest) → r.version < 2 ^ 32 → r.error_code ≡ None → IsNonce r.client_nonce →
-    size_of r.nego_tokens + size_of r.auth_info + size_of r.pub_key_auth + size_of r.client_nonce ≤ 65000 → IsMessage r
+    size_of r.nego_tokens + size_of r.auth_info + size_of r.pub_key_auth + size_of r.client_nonce ≤ 1_048_000 → IsMessage r
 is_message r version code is short = record {
   value = record { version = version; code = code_value r.error_code code; nonce = is };
   fit = message_fits r code short;

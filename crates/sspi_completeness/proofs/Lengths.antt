@@ -19,7 +19,7 @@ abbrev pub size_of : Option (List ℕ) → ℕ
 size_of None = 0
 size_of (Some bytes) = length bytes
 
-element_bound : (tag : ℕ) (content : List ℕ) → length (element tag content) ≤ length content + 4
+element_bound : (tag : ℕ) (content : List ℕ) → length (element tag content) ≤ length content + 5
 element_bound tag content = let e = length-element tag content in let b = size_below (length content) in omega arith
 
 choice_bound : (b : Bool) (x y : List ℕ) → length x ≤ 4 → length y ≤ 4 → length (if b then x else y) ≤ 4
@@ -35,7 +35,7 @@ integer_bound v =
     let four : length (v / 0x1000000 ∷ v / 0x10000 % 0x100 ∷ v / 0x100 % 0x100 ∷ v % 0x100 ∷ []) ≤ 4 = omega arith in
     choice_bound (nat_lt v 0x80) _ _ one (choice_bound (nat_lt v 0x8000) _ _ two (choice_bound (nat_lt v 0x800000) _ _ three four))
 
-version_bound : (v : ℕ) → length (version_field v) ≤ 12
+version_bound : (v : ℕ) → length (version_field v) ≤ 14
 unfolding version_field int_short
 version_bound v =
     let a = element_bound 0xA0 (element 0x02 (int_content v)) in
@@ -43,7 +43,7 @@ version_bound v =
     let i = integer_bound v in
     omega arith
 
-nego_bound : (token : Option (List ℕ)) → length (nego_field token) ≤ size_of token + 20
+nego_bound : (token : Option (List ℕ)) → length (nego_field token) ≤ size_of token + 25
 unfolding nego_field token_list token_item
 nego_bound None = omega arith
 nego_bound (Some token) =
@@ -54,7 +54,7 @@ nego_bound (Some token) =
     let f = element_bound 0x04 token in
     omega arith
 
-octets_bound : (tag : ℕ) (octets : Option (List ℕ)) → length (octets_field tag octets) ≤ size_of octets + 8
+octets_bound : (tag : ℕ) (octets : Option (List ℕ)) → length (octets_field tag octets) ≤ size_of octets + 10
 unfolding octets_field
 octets_bound tag None = omega arith
 octets_bound tag (Some octets) =
@@ -68,7 +68,7 @@ code_bound None none = omega arith
 code_bound (Some code) none = absurd cc
 
 fields_bound : (r : TsRequest) → r.error_code ≡ None →
-    length (fields r) ≤ 56 + size_of r.nego_tokens + size_of r.auth_info + size_of r.pub_key_auth + size_of r.client_nonce
+    length (fields r) ≤ 69 + size_of r.nego_tokens + size_of r.auth_info + size_of r.pub_key_auth + size_of r.client_nonce
 unfolding fields later_fields last_fields
 fields_bound r none =
     let last = code_field r.error_code ++ octets_field 0xA5 r.client_nonce in
@@ -98,7 +98,7 @@ less_kept false bytes = omega arith
 
 -- a message without an error code fits where its fields are short enough together
 pub message_fits : (r : TsRequest) → r.error_code ≡ None →
-    size_of r.nego_tokens + size_of r.auth_info + size_of r.pub_key_auth + size_of r.client_nonce ≤ 65000 → fits r ≡ true
+    size_of r.nego_tokens + size_of r.auth_info + size_of r.pub_key_auth + size_of r.client_nonce ≤ 1_048_000 → fits r ≡ true
 message_fits r none short =
     let bound = fields_bound (carried r) (no_code _ r.error_code none) in
     let nonce = less_kept (carries_nonce r.version) r.client_nonce in
@@ -116,9 +116,9 @@ text_if body short = rw (le-leb (length body) max_content short) refl
 pub record HasText (b : AuthIdentityBuffers) : Type 0 where
   pub text : List ℕ
   pub is : buffers_text b ≡ Ok text
-  pub short : length text ≤ 2 * (length b.user + length b.domain + length b.password.value) + 48
+  pub short : length text ≤ 2 * (length b.user + length b.domain + length b.password.value) + 60
 
-pub short_credentials : (b : AuthIdentityBuffers) → length b.user ≤ 4096 → length b.domain ≤ 4096 → length b.password.value ≤ 4096 → HasText b
+pub short_credentials : (b : AuthIdentityBuffers) → length b.user ≤ 8192 → length b.domain ≤ 8192 → length b.password.value ≤ 131072 → HasText b
 unfolding buffers_text
 short_credentials b user domain password =
     let d = bytes_le b.domain in
@@ -138,7 +138,7 @@ short_credentials b user domain password =
     let u2 = size_below (element_size (length u)) in
     let p1 = size_below (length p) in
     let p2 = size_below (element_size (length p)) in
-    let small : length (creds_body d u p) ≤ 2 * (length b.user + length b.domain + length b.password.value) + 44 = omega arith in
+    let small : length (creds_body d u p) ≤ 2 * (length b.user + length b.domain + length b.password.value) + 55 = omega arith in
     let outer = element_bound 0x30 (creds_body d u p) in
     record {
       text = element 0x30 (creds_body d u p);

@@ -33,7 +33,7 @@ use Rattle.sspi_completeness.proofs.Lengths.{size_of, no_code}
 -- What the ends of every mode have: one key and one kind of proof, and credentials with a text that delegates this identity.
 pub record AreAlike {C P : Type 0} (a : ClientView C) (b : ServerView C P) (text : List ℕ) (identity : AuthIdentity) : Type 0 where
   pub key_same : b.public_key ≡ a.public_key
-  pub key_short : length a.public_key ≤ 16384
+  pub key_short : length a.public_key ≤ 262144
   pub versions : nat_lt a.version 5 ≡ nat_lt b.version 5
   pub client_takes : nat_lt b.version a.least ≡ false
   pub server_takes : nat_lt a.version b.least ≡ false
@@ -41,7 +41,7 @@ pub record AreAlike {C P : Type 0} (a : ClientView C) (b : ServerView C P) (text
   pub server_version : b.version < 2 ^ 32
   pub nonce : length a.nonce ≡ 32
   pub text_is : delegated_text a.credentials a.delegation ≡ Ok text
-  pub text_short : length text ≤ 24624
+  pub text_short : length text ≤ 294972
   pub delegates : delegated_identity text ≡ Ok identity
 
 -- the server's last step: where its authentication ends early, the one before the client's proof comes
@@ -89,8 +89,8 @@ module _ {C D P : Type 0} (c : Meaning ContextSetting C) (laws : IsContext c) (k
     pub client_taker : IsTaker c (client_context (suc (suc j))) downs
     pub server_maker : IsMaker c peer_context downs
     pub server_taker : IsTaker c peer_context ups
-    pub client_short : (n : ℕ) → n ≤ suc j → length (client_step n).output ≤ 32768
-    pub server_short : (n : ℕ) → n ≤ j → length (server_step n).output ≤ 32768
+    pub client_short : (n : ℕ) → n ≤ suc j → length (client_step n).output ≤ 65536
+    pub server_short : (n : ℕ) → n ≤ j → length (server_step n).output ≤ 65536
     pub ups_short : (n : ℕ) (text : List ℕ) → length (ups n text) ≤ length text + 64
     pub downs_short : (n : ℕ) (text : List ℕ) → length (downs n text) ≤ length text + 64
 
@@ -118,7 +118,7 @@ carried_only d only = record {
 none_size : (field : Option (List ℕ)) → field ≡ None → size_of field ≤ 0
 none_size field none = rw none (omega arith)
 
-token_fits : (d : TsRequest) (version : ℕ) (token : List ℕ) → IsTokenOnly d → version < 2 ^ 32 → length token ≤ 32768 →
+token_fits : (d : TsRequest) (version : ℕ) (token : List ℕ) → IsTokenOnly d → version < 2 ^ 32 → length token ≤ 65536 →
     IsMessage (record d { version = version; nego_tokens = Some token })
 token_fits d version token only small short =
     let credentials = none_size d.auth_info only.credentials in
@@ -215,7 +215,7 @@ module _ {C D P : Type 0} (c : Meaning ContextSetting C) (laws : IsContext c) (k
   pub answer_code : answer_message.error_code ≡ None
   answer_code = no_code (carries_code a.version) proof_message.error_code proof_code
 
-  server_key_short : length b.public_key ≤ 16384
+  server_key_short : length b.public_key ≤ 262144
   server_key_short = omega (arith, ap length alike.key_same, alike.key_short)
 
   pub answer_fits : IsMessage answer_message

@@ -39,7 +39,7 @@ pub proof_length : (challenge name password : List ℕ) → length (proof_of cha
 unfolding proof_of
 proof_length challenge name password = length-sha256 _
 
-pub token_length : (i : AuthIdentity) (challenge : List ℕ) → length (inner_of i.username) ≤ 24577 → length (last_token i challenge) ≤ 24613
+pub token_length : (i : AuthIdentity) (challenge : List ℕ) → length (inner_of i.username) ≤ 49153 → length (last_token i challenge) ≤ 49189
 token_length i challenge short =
     let name = inner_of i.username in
     let proof = proof_of challenge name i.password.value in

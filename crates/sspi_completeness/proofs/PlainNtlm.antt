@@ -212,7 +212,7 @@ module _ {K D P : Type 0} (k : Meaning Setting K) (laws : IsContext (either 0 nt
     abbrev key : List ℕ
     key = key_for i challenge
 
-    short : length (inner_of i.username) ≤ 24577
+    short : length (inner_of i.username) ≤ 49153
     short = short_name i matching.identity_is matching.short
 
     -- ---- the objects of both ends
@@ -381,11 +381,11 @@ module _ {K D P : Type 0} (k : Meaning Setting K) (laws : IsContext (either 0 nt
 
     -- ---- all of it
 
-    client_short : (n : ℕ) → n ≤ 1 → length (client_steps n).output ≤ 32768
+    client_short : (n : ℕ) → n ≤ 1 → length (client_steps n).output ≤ 65536
     client_short zero less = omega arith
     client_short (suc n) less = let e = token_length i challenge short in omega (arith, e)
 
-    server_short : (n : ℕ) → n ≤ 0 → length (server_steps n).output ≤ 32768
+    server_short : (n : ℕ) → n ≤ 0 → length (server_steps n).output ≤ 65536
     server_short zero less = omega (arith, challenge_length)
     server_short (suc n) less = omega arith
 

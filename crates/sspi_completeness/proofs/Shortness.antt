@@ -51,7 +51,7 @@ units_bound text utf8 =
     let bound = text_bytes (chars text) in
     omega (arith, same, bound)
 
-name_bound : (format : UserNameFormat) (n : Name) → IsName n → length (units_of (user_text format n)) ≤ 4096 → length (units_of (domain_text format n)) ≤ 4096 → length (inner_of n) ≤ 24577
+name_bound : (format : UserNameFormat) (n : Name) → IsName n → length (units_of (user_text format n)) ≤ 8192 → length (units_of (domain_text format n)) ≤ 8192 → length (inner_of n) ≤ 49153
 name_bound UserPrincipalName n is user domain = let bound = units_bound (inner_of n) (inner_of-IsUtf8 n is) in omega (arith, bound, user)
 name_bound DownLevelLogonName n is user domain =
     let account = units_bound n.account is.account_text in
@@ -59,6 +59,6 @@ name_bound DownLevelLogonName n is user domain =
     let whole = inner_length n in
     omega (arith, account, qualified, whole, user, domain)
 
-pub short_name : (i : AuthIdentity) → IsIdentity i → IsShort i → length (inner_of i.username) ≤ 24577
+pub short_name : (i : AuthIdentity) → IsIdentity i → IsShort i → length (inner_of i.username) ≤ 49153
 unfolding buffers_of
 short_name i is short = name_bound i.username.format i.username is.name short.user_units short.domain_units

@@ -41,7 +41,7 @@ text_of_mode WithCredentials i short = short_credentials (buffers_of i) short.us
 text_of_mode CredentialLess i short = short_credentials (record { user = []; domain = []; password = record { value = [] } }) (omega arith) (omega arith) (omega arith)
 
 mode_bound : (mode : CredSspMode) (i : AuthIdentity) → IsShort i →
-    length (delegated mode (buffers_of i)).user + length (delegated mode (buffers_of i)).domain + length (delegated mode (buffers_of i)).password.value ≤ 12288
+    length (delegated mode (buffers_of i)).user + length (delegated mode (buffers_of i)).domain + length (delegated mode (buffers_of i)).password.value ≤ 147456
 mode_bound WithCredentials i short = omega (arith, short.user_units, short.domain_units, short.password_units)
 mode_bound CredentialLess i short = omega arith
 
@@ -49,7 +49,7 @@ mode_bound CredentialLess i short = omega arith
 pub record HasDelegated (mode : CredSspMode) (i : AuthIdentity) : Type 0 where
   pub text : List ℕ
   pub is : delegated_text (credentials.AuthIdentity i) mode ≡ Ok text
-  pub short : length text ≤ 24624
+  pub short : length text ≤ 294972
   pub holds : delegated_identity text ≡ Ok (delegated_as mode i)
 
 text_is : (mode : CredSspMode) (i : AuthIdentity) (text : List ℕ) → buffers_text (delegated mode (buffers_of i)) ≡ Ok text → delegated_text (credentials.AuthIdentity i) mode ≡ Ok text

@@ -40,11 +40,15 @@ pub record HasEntry (entries : List AuthIdentity) (identity : AuthIdentity) : Ty
   pub found : entry_of entries identity.username ≡ Some entry
   pub password : entry.password.value ≡ identity.password.value
 
+-- the longest key of matching ends, in bytes
+abbrev pub key_limit : ℕ
+key_limit = 262144
+
 -- user, domain and password have few code units
 pub record IsShort (identity : AuthIdentity) : Type 0 where
-  pub user_units : length (buffers_of identity).user ≤ 4096
-  pub domain_units : length (buffers_of identity).domain ≤ 4096
-  pub password_units : length (buffers_of identity).password.value ≤ 4096
+  pub user_units : length (buffers_of identity).user ≤ 8192
+  pub domain_units : length (buffers_of identity).domain ≤ 8192
+  pub password_units : length (buffers_of identity).password.value ≤ 131072
 
 -- Both authenticate by plain NTLM, with one key and one kind of proof, and each takes the other's version; the client has an
 -- identity whose password the server's proxy tells. The last fields say what is so of every client and server that is made.
@@ -52,7 +56,7 @@ pub record AreMatching {C D P : Type 0} (p : ProxyMeaning P) (client : ClientVie
   pub client_plain : IsPlainClient client.mode
   pub server_plain : IsPlainServer server.mode
   pub key_same : server.public_key ≡ client.public_key
-  pub key_short : length client.public_key ≤ 16384
+  pub key_short : length client.public_key ≤ key_limit
   pub versions : nat_lt client.version 5 ≡ nat_lt server.version 5
   pub client_takes : client.least ≤ server.version
   pub server_takes : server.least ≤ client.version

@@ -1,12 +1,13 @@
 -- How the newest delivery of a log is read.
-use Rattle.std.specs.Prelude.{◌≡◌, ◌≤◌, ℕ, ◌||◌, nat_le, Bool, true, false, List, [], ◌∷◌, length, Result, Ok, Err}
+use Rattle.std.specs.Prelude.{◌≡◌, ◌+◌, ◌≤◌, ℕ, ◌||◌, nat_le, Bool, true, false, List, [], ◌∷◌, length, Result, Ok, Err}
+use Rattle.sspi_ber.specs.Limit.{max_content}
 use Rattle.sspi_delegate.specs.declared.carried.Carried.{Carried}
 use Rattle.sspi_delegate.specs.declared.link.LinkError.{LinkError}
 use Rattle.sspi_delegate.specs.declared.link.LinkError.TheVariants.{Failed, InsufficientMemory}
 
--- at most so many bytes of one delivery are read
+-- at most so many bytes of one delivery are read: the longest message, whose header has five
 abbrev pub delivery_limit : ℕ
-delivery_limit = 65535
+delivery_limit = 5 + max_content
 
 -- nothing was asked of the newest delivery
 abbrev pub IsUnread : List Carried → Type 0

@@ -42,7 +42,7 @@ use std::alloc::Global;
 ///   is still given to the link where it fits; what comes of that changes nothing.
 /// - `Read`: what was delivered to this end is no request. The kind is `UnexpectedEof` where it ends too early or its header
 ///   is at fault, and else `InvalidData`.
-/// - `Write`: the message of this end has a content of more than 65531 bytes.
+/// - `Write`: the message of this end has a content past the limit of all lengths.
 /// - `LinkFault`: a call on the link failed.
 /// - `TurnsSpent`: the client made `turns` turns, each was answered, and none of them ended the exchange; at once where
 ///   `turns` is 0.

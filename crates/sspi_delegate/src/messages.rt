@@ -5,14 +5,18 @@ ghost use Rattle.sspi_delegate.specs.Messages.{Encodes, Sends, SendTold};
 
 use crate::answer::DelegateError;
 use crate::link::{Link, LinkError};
+<<<<<<< HEAD
+use sspi_ber::{MAX_CONTENT, VecSink, WireKind};
+=======
 use sspi_ber::{VecSink, WireKind};
 use sspi_credssp::End;
+>>>>>>> 044c7f386a36baaf31c311f90c2917102884abf8
 use sspi_tsreq::TsRequest;
 use sspi_types::Bytes;
 use std::alloc::Global;
 
-/// At most so many bytes of one delivery are read.
-pub const DELIVERY_LIMIT: usize = 65535;
+/// At most so many bytes of one delivery are read: the longest message, whose header has five.
+pub const DELIVERY_LIMIT: usize = 5 + MAX_CONTENT;
 
 const PIECE_LENGTH: usize = 2048;
 

@@ -3,7 +3,7 @@ use Rattle.std.specs.Prelude.{◌≡◌, ◌^◌, ◌<◌, ◌≤◌, [], length
 use Rattle.sspi_names.specs.declared.identity.AuthIdentity.{AuthIdentity}
 use Rattle.sspi_names.specs.Identity.{IsIdentity}
 use Rattle.sspi_credssp.specs.Noted.{default_least}
-use Rattle.sspi_completeness.specs.Matching.{HasEntry, IsShort, delegated_as, ComesToOk, IsCutShort}
+use Rattle.sspi_completeness.specs.Matching.{HasEntry, IsShort, key_limit, delegated_as, ComesToOk, IsCutShort}
 use Rattle.sspi_scenario.specs.declared.scenario.Scenario.{Scenario}
 use Rattle.sspi_scenario.specs.Scenario.{own_identity}
 use Rattle.sspi_run.specs.declared.record.Record.{Record}
@@ -27,7 +27,7 @@ pub record IsPlain (scenario : Scenario) : Type 0 where
   pub no_failure : scenario.proxy_fail ≡ []
   pub no_keytab : scenario.keytab ≡ None
   pub key_same : scenario.server_key ≡ scenario.key
-  pub key_short : length scenario.key ≤ 16384
+  pub key_short : length scenario.key ≤ key_limit
   pub versions : nat_lt scenario.client_version 5 ≡ nat_lt scenario.server_version 5
   pub client_takes : default_least ≤ scenario.server_version
   pub server_takes : default_least ≤ scenario.client_version

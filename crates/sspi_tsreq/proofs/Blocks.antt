@@ -52,11 +52,11 @@ pub block_failed : {A : Type 0} (before after : Option (List ℕ)) (view : A →
 block_failed None after view read = tt
 block_failed (Some x) after view read = tt
 
-short : (bytes : List ℕ) (n : ℕ) → length bytes < n → bytes_at n bytes ≡ Err Ended
+pub short : (bytes : List ℕ) (n : ℕ) → length bytes < n → bytes_at n bytes ≡ Err Ended
 unfolding bytes_at
 short bytes n lt = rw (lt-ltb (length bytes) n lt)
 
-whole : (bytes : List ℕ) (n : ℕ) → n ≤ length bytes → bytes_at n bytes ≡ Ok (take n bytes, drop n bytes)
+pub whole : (bytes : List ℕ) (n : ℕ) → n ≤ length bytes → bytes_at n bytes ≡ Ok (take n bytes, drop n bytes)
 unfolding bytes_at
 whole bytes n le = rw (le-ltb (length bytes) n le)
 

@@ -1,4 +1,5 @@
 pub mod Blocks
+pub mod Contents
 pub mod CredsBack
 pub mod CredsMatch
 pub mod CredsAre

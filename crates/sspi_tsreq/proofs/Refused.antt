@@ -1,5 +1,5 @@
 -- What a fault of reading is to a reader of credentials.
-use Rattle.std.proofs.Common.{◌≡◌, inl, inr, ℕ, ◌≤◌, [], ◌∷◌, Bool, true, false, cond, eqb, List, Option, None, Some, Result, Ok, Err, refl, sym, ap, ◌∙◌, subst, arith}
+use Rattle.std.proofs.Common.{◌≡◌, inl, inr, ℕ, ◌≤◌, [], ◌∷◌, Bool, true, false, cond, eqb, List, Option, None, Some, Result, Ok, Err, refl, sym, ap, ◌∙◌, subst, arith, Vec, Global}
 use Rattle.sspi_types.specs.declared.error.Error.{Error}
 use Rattle.sspi_types.specs.Memory.{memory_error}
 use Rattle.sspi_ber.specs.declared.wire_kind.WireKind.{WireKind}
@@ -20,6 +20,7 @@ use Rattle.sspi_names.specs.declared.credentials.CredentialsBuffers.TheVariants 
 use Rattle.sspi_tsreq.specs.Creds.{Passwords, malformed, unknown_type, smart_card, spelled_or_malformed, ◌and_then◌, creds_of, creds_in, fields_at, passwords_at, password_type, texts_of, text_or_refused}
 use Rattle.sspi_tsreq.specs.CredsAnswers.{IsCredsRefusal, IsOrMemory, ReadsCreds, CredsCause, refusal_by}
 use Rattle.sspi_tsreq.specs.CredsGrammar.{IsCreds}
+use Rattle.sspi_tsreq.specs.Filled.{CopyCause}
 use Rattle.sspi_tsreq.proofs.CredsAre.{password_stands, keytab_never}
 use Rattle.sspi_tsreq.proofs.CredsMatch.{whole_again}
 
@@ -34,6 +35,14 @@ refused view after InvalidData read g m = refused_at read Invalid g
 refused view after ReadFault read g m = absurd g
 refused view after WriteFault read g m = absurd g
 refused view after InsufficientMemory read g m = absurd m
+
+-- the cause of a refusal by a fault of copying
+pub copy_cause : (X : Type 0) (kind : WireKind) (f g : ℕ) → CopyCause {X = X} f g (Err kind) → CredsCause {X = CredentialsBuffers} f g (Err (refusal_by kind))
+copy_cause X UnexpectedEof f g c = (c, λ e. absurd cc)
+copy_cause X InvalidData f g c = (c, λ e. absurd cc)
+copy_cause X ReadFault f g c = (c.0, λ e. c.1)
+copy_cause X WriteFault f g c = absurd c
+copy_cause X InsufficientMemory f g c = (c, λ e. absurd cc)
 
 -- ---- the whole text
 
@@ -81,12 +90,12 @@ refusal_cause X WriteFault f g c = absurd c
 refusal_cause X InsufficientMemory f g c = absurd c
 
 content_kind : (text rest : List ℕ) (n : ℕ) (after : Option (List ℕ)) (kind : WireKind) (f g : ℕ) → header_at 0x30 text ≡ Ok (n, rest)
-    → Reads {X = List ℕ} (λ b. b) (Some rest) after (Err kind) (bytes_at n) → ReadCause {X = Unit {0}} f g (Err kind) → ReadsCreds (Some text) after (Err (refusal_by kind))
+    → Reads {X = Vec ℕ Global} (λ b. b.items) (Some rest) after (Err kind) (bytes_at n) → CopyCause {X = Vec ℕ Global} f g (Err kind) → ReadsCreds (Some text) after (Err (refusal_by kind))
 content_kind text rest n after UnexpectedEof f g e r c = inl (content_faulty text rest n Ended e r)
 content_kind text rest n after InvalidData f g e r c = inl (content_faulty text rest n Invalid e r)
 content_kind text rest n after ReadFault f g e r c = inr (inr refl)
 content_kind text rest n after WriteFault f g e r c = absurd c
-content_kind text rest n after InsufficientMemory f g e r c = absurd c
+content_kind text rest n after InsufficientMemory f g e r c = inr (inl refl)
 
 abbrev number_then : ℕ → List ℕ → Read ℕ
 number_then n rest = Ok (n, rest)
@@ -98,19 +107,19 @@ header_length : (read : Read ℕ) (mid : Option (List ℕ)) (n : ℕ) → (Answe
 header_length (Ok x) mid n h = (x.1, ap (λ k. number_then k x.1) (sym h.0), h.1)
 header_length (Err fault) mid n h = absurd h
 
-block_content : (read : Read (List ℕ)) (after : Option (List ℕ)) (body : List ℕ) → Answers (λ b. b) after (Ok body) read → (rest : List ℕ) × (read ≡ Ok (body, rest)) × (after ≡ Some rest)
+block_content : (read : Read (List ℕ)) (after : Option (List ℕ)) (body : Vec ℕ Global) → Answers (λ (b : Vec ℕ Global). b.items) after (Ok body) read → (rest : List ℕ) × (read ≡ Ok (body.items, rest)) × (after ≡ Some rest)
 block_content (Ok x) after body h = (x.1, ap (λ b. block_then b x.1) (sym h.0), h.1)
 block_content (Err fault) after body h = absurd h
 
 -- the content behind a header is not whole
 pub content_refused : (before mid after : Option (List ℕ)) (n size : ℕ) (kind : WireKind) (f g : ℕ) → size ≡ n → Reads {X = ℕ} (λ k. k) before mid (Ok n) (header_at 0x30)
-    → Reads {X = List ℕ} (λ b. b) mid after (Err kind) (bytes_at size) → ReadCause {X = Unit {0}} f g (Err kind) → ReadsCreds before after (Err (refusal_by kind))
+    → Reads {X = Vec ℕ Global} (λ b. b.items) mid after (Err kind) (bytes_at size) → CopyCause {X = Vec ℕ Global} f g (Err kind) → ReadsCreds before after (Err (refusal_by kind))
 content_refused None mid after n size kind f g same h r c = tt
 content_refused (Some text) mid after n size kind f g same h r c =
     let t = header_length (header_at 0x30 text) mid n h in
     content_kind text t.0 n after kind f g t.1
-    (subst (λ k. Reads {X = List ℕ} (λ b. b) (Some t.0) after (Err kind) (bytes_at k)) same
-    (subst (λ m. Reads {X = List ℕ} (λ b. b) m after (Err kind) (bytes_at size)) t.2 r)) c
+    (subst (λ k. Reads {X = Vec ℕ Global} (λ b. b.items) (Some t.0) after (Err kind) (bytes_at k)) same
+    (subst (λ m. Reads {X = Vec ℕ Global} (λ b. b.items) m after (Err kind) (bytes_at size)) t.2 r)) c
 
 -- what stands behind the SEQUENCE
 behind_is : (text body rest cred_type credentials : List ℕ) → element_at 0x30 text ≡ Ok (body, rest) → (t : IsCreds text cred_type credentials) → t.behind ≡ rest
@@ -131,17 +140,17 @@ whole_answer text body rest after (Err error) e left (inl h) = inl (body_read te
 whole_answer text body rest after (Err error) e left (inr h) = inr (inl h)
 
 -- the content behind a header is whole
-pub content_answer : (before mid after : Option (List ℕ)) (n size : ℕ) (body : List ℕ) (result : Result CredentialsBuffers Error) → size ≡ n
-    → Reads {X = ℕ} (λ k. k) before mid (Ok n) (header_at 0x30) → Reads {X = List ℕ} (λ b. b) mid after (Ok body) (bytes_at size)
-    → IsOrMemory (λ b. b) result (creds_in body) → ReadsCreds before after result
+pub content_answer : (before mid after : Option (List ℕ)) (n size : ℕ) (body : Vec ℕ Global) (result : Result CredentialsBuffers Error) → size ≡ n
+    → Reads {X = ℕ} (λ k. k) before mid (Ok n) (header_at 0x30) → Reads {X = Vec ℕ Global} (λ b. b.items) mid after (Ok body) (bytes_at size)
+    → IsOrMemory (λ b. b) result (creds_in body.items) → ReadsCreds before after result
 content_answer None mid after n size body result same h r answer = tt
 content_answer (Some text) mid after n size body result same h r answer =
     let t = header_length (header_at 0x30 text) mid n h in
-    let s : Reads {X = List ℕ} (λ b. b) (Some t.0) after (Ok body) (bytes_at n) =
-    subst (λ k. Reads {X = List ℕ} (λ b. b) (Some t.0) after (Ok body) (bytes_at k)) same
-    (subst (λ m. Reads {X = List ℕ} (λ b. b) m after (Ok body) (bytes_at size)) t.2 r) in
+    let s : Reads {X = Vec ℕ Global} (λ b. b.items) (Some t.0) after (Ok body) (bytes_at n) =
+    subst (λ k. Reads {X = Vec ℕ Global} (λ b. b.items) (Some t.0) after (Ok body) (bytes_at k)) same
+    (subst (λ m. Reads {X = Vec ℕ Global} (λ b. b.items) m after (Ok body) (bytes_at size)) t.2 r) in
     let u = block_content (bytes_at n t.0) after body s in
-    whole_answer text body u.0 after result (element_read text t.0 body u.0 n t.1 u.1) u.2 answer
+    whole_answer text body.items u.0 after result (element_read text t.0 body.items u.0 n t.1 u.1) u.2 answer
 
 -- ---- what is true of each refusal is true of what reading answers
 

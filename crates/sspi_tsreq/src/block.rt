@@ -1,8 +1,13 @@
-ghost use Rattle.std.specs.Prelude.{length};
-ghost use Rattle.sspi_ber.specs.Outside.{LeavesRest, ReadCause};
-ghost use Rattle.sspi_tsreq.specs.Filled.{Fills};
+ghost use Rattle.std.specs.Prelude.{◌≡◌, ◌<◌, ◌≤◌, ◌+◌, length};
+ghost use Rattle.sspi_ber.specs.Outside.{LeavesRest, ReadCause, Reads};
+ghost use Rattle.sspi_ber.specs.Pieces.{bytes_at};
+ghost use Rattle.sspi_tsreq.specs.Filled.{CopyCause, Fills, WantsForContent};
 
 use sspi_ber::{Source, WireKind};
+use std::alloc::Global;
+
+/// So many bytes are read before memory is taken for them.
+const PIECE_LENGTH: usize = 1024;
 
 /// Fills `into` with the next bytes of the source, in as many reads as it needs. `UnexpectedEof` where fewer are left.
 pub(crate) fn read_block<S: Source>(source: &mut S, into: &mut [u8]) -> Result<(), WireKind>
@@ -19,4 +24,36 @@ pub(crate) fn read_block<S: Source>(source: &mut S, into: &mut [u8]) -> Result<(
         filled += count;
     }
     Ok(())
+}
+
+/// The next `len` bytes of the source, in memory of their own. `UnexpectedEof` where fewer are left. Memory is taken piece by
+/// piece, for bytes that came: a source that has fewer than it announces costs no more than these.
+pub(crate) fn read_content<S: Source>(
+    alloc: Global,
+    source: &mut S,
+    len: usize,
+) -> Result<Vec<u8>, WireKind>
+    ensures read { Reads (λ content. content.items) (S.left source.old) (S.left source.new) result (bytes_at len) }
+    ensures memory { WantsForContent (S.left source.old) result }
+    ensures cause { CopyCause (S.faults source.old) (S.faults source.new) result }
+    ensures rest { LeavesRest (S.left source.old) (S.left source.new) }
+{
+    let mut content = Vec::new(alloc);
+    let mut room = [0; PIECE_LENGTH];
+    while content.len() < len {
+        let piece = &mut room[..piece_length(content.len(), len)];
+        read_block(source, piece)?;
+        content.extend_from_slice(piece)?;
+    }
+    Ok(content)
+}
+
+/// How many bytes the next piece has, where so many of the whole were read.
+fn piece_length(read: usize, whole: usize) -> usize
+    requires { read < whole }
+    ensures some { 0 < result }
+    ensures room { result ≤ PIECE_LENGTH }
+    ensures within { read + result ≤ whole }
+{
+    PIECE_LENGTH.min(whole - read)
 }

@@ -6,7 +6,7 @@ ghost use Rattle.sspi_tsreq.specs.CredsGrammar.{BeginsSequence, HasPasswords};
 ghost use Rattle.sspi_types.specs.Memory.{memory_error};
 ghost use Rattle.sspi_tsreq.specs.Creds.{creds_in, creds_of, fields_at, malformed, octets_in, password_type, passwords_at, spelled_or_malformed, text_or_refused, texts_of};
 
-use crate::block::read_block;
+use crate::block::read_content;
 use sspi_ber::identifier::{INTEGER, OCTET_STRING, SEQUENCE};
 use sspi_ber::{SliceSource, Source, WireKind, read_element, read_header};
 use sspi_names::{AuthIdentityBuffers, CredentialsBuffers, Utf16Text};
@@ -35,9 +35,8 @@ pub fn read_ts_credentials<S: Source>(
         Ok(len) => len,
         Err(kind) => return Err(refusal_of(kind)),
     };
-    let mut body = vec![in alloc; 0; usize::from(len)]?;
-    match read_block(source, &mut body) {
-        Ok(()) => read_creds(alloc, &body),
+    match read_content(alloc, source, len as usize) {
+        Ok(body) => read_creds(alloc, &body),
         Err(kind) => Err(refusal_of(kind)),
     }
 }

@@ -98,7 +98,7 @@ fn write_texts(alloc: Global, texts: &Texts<'_>) -> Result<Vec<u8>, Error>
 #[tactic(auto, using(crate::proofs::Room::fields_capped))]
 fn capped_fields(domain: usize, user: usize, password: usize) -> usize
     ensures capped { IsCapped result (password_fields_size domain user password) }
-    ensures small { result ≤ 3 * (max_content + 4) }
+    ensures small { result ≤ 3 * (max_content + 5) }
 {
     let domain = capped_element(capped_element(domain));
     let user = capped_element(capped_element(user));

@@ -209,7 +209,7 @@ fn bare_parts<'a>(version: u32) -> Parts<'a>
     }
 }
 
-fn read_outer_header(source: &mut SliceSource<'_>) -> Result<u16, WireKind>
+fn read_outer_header(source: &mut SliceSource<'_>) -> Result<u32, WireKind>
     ensures read { Gives (λ len. len) source.new result (as_ended (header_at 0x30 source.old)) }
     ensures memory { NeedsNoMemory result }
 {
@@ -226,6 +226,6 @@ pub(crate) fn read_request<'a>(source: &mut SliceSource<'a>) -> Result<Parts<'a>
     ensures memory { NeedsNoMemory result }
 {
     let len = read_outer_header(source)?;
-    let body = source.take(usize::from(len))?;
+    let body = source.take(len as usize)?;
     read_body(&mut SliceSource::new(body))
 }

@@ -115,7 +115,7 @@ impl TsRequest {
         ensures rest { LeavesRest (S.left source.old) (S.left source.new) }
     {
         match read_sized_header(source, 0x30) {
-            Ok((len, size)) => Ok(size + usize::from(len)),
+            Ok((len, size)) => Ok(size + len as usize),
             Err(WireKind::UnexpectedEof) => Err(WireKind::UnexpectedEof),
             Err(WireKind::InvalidData) => Err(WireKind::UnexpectedEof),
             Err(kind) => Err(kind),
@@ -139,14 +139,14 @@ impl TsRequest {
 
     /// How many bytes encoding writes. `InvalidData` exactly where the content passes the limit. Takes no memory.
     #[tactic(auto, using(crate::proofs::Capped::capped_fits, crate::proofs::Capped::capped_past, crate::proofs::Capped::spelled_size))]
-    pub fn buffer_len(&self) -> Result<u16, WireKind>
+    pub fn buffer_len(&self) -> Result<u32, WireKind>
         ensures { IsSizeIf (fits self.now) result (length (spelled self.now)) }
     {
         let size = fields_size(self);
         if size > MAX_CONTENT {
             return Err(WireKind::InvalidData);
         }
-        Ok(size_of_element(size) as u16)
+        Ok(size_of_element(size) as u32)
     }
 
     /// A refusal with the peer's status where the request has a code other than `SUCCESS`. Takes no memory.

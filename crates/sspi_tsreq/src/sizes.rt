@@ -12,7 +12,7 @@ use sspi_types::{Bytes, NStatusCode};
 #[tactic(auto, using(crate::proofs::Capped::bounds))]
 pub(crate) fn capped_element(len: usize) -> usize
     ensures capped { IsCapped result (element_size len) }
-    ensures small { result ≤ max_content + 4 }
+    ensures small { result ≤ max_content + 5 }
 {
     if len > MAX_CONTENT {
         MAX_CONTENT + 1
@@ -25,7 +25,7 @@ pub(crate) fn capped_element(len: usize) -> usize
 #[tactic(auto, unfolding(crate::specs::Spelling::octets_field))]
 fn octets_field_size(field: &Option<Bytes>) -> usize
     ensures capped { (tag : ℕ) → IsCapped result (length (octets_field tag field.now)) }
-    ensures small { result ≤ max_content + 4 }
+    ensures small { result ≤ max_content + 5 }
 {
     match field {
         None => 0,
@@ -37,7 +37,7 @@ fn octets_field_size(field: &Option<Bytes>) -> usize
 #[tactic(auto, unfolding(crate::specs::Spelling::nego_field))]
 fn nego_field_size(field: &Option<Bytes>) -> usize
     ensures capped { IsCapped result (length (nego_field field.now)) }
-    ensures small { result ≤ max_content + 4 }
+    ensures small { result ≤ max_content + 5 }
 {
     match field {
         None => 0,

@@ -49,7 +49,7 @@ fn writes(rt: &impl Abort, alloc: Global, request: &TsRequest, bytes: &[u8]) {
     assert_eq!(rt; request.encode_ts_request(&mut sink), Ok(()));
     assert!(rt; sink.written() == bytes);
     assert_eq!(rt;
-        request.buffer_len().map(|len| usize::from(len)),
+        request.buffer_len().map(|len| len as usize),
         Ok(bytes.len())
     );
 }

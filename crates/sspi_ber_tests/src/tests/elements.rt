@@ -5,10 +5,10 @@ use sspi_ber::{
 };
 use std::process::Abort;
 
-/// A header of a SEQUENCE of 256 bytes; one of the context-specific tag 4, primitive, of 240; the text `hello` in the tag 3; the
+/// A header of a SEQUENCE of 65536 bytes; one of the context-specific tag 4, primitive, of 240; the text `hello` in the tag 3; the
 /// octet of an ENUMERATED, constructed; the text `hi`; a header of an OCTET STRING of 3; and the tag 1 of none.
-const ELEMENTS: [u8; 25] = [
-    0x30, 0x82, 0x01, 0x00, 0x84, 0x81, 0xf0, 0xa3, 0x07, 0x04, 0x05, 0x68, 0x65, 0x6c, 0x6c, 0x6f,
+const ELEMENTS: [u8; 26] = [
+    0x30, 0x83, 0x01, 0x00, 0x00, 0x84, 0x81, 0xf0, 0xa3, 0x07, 0x04, 0x05, 0x68, 0x65, 0x6c, 0x6c, 0x6f,
     0x2a, 0x04, 0x02, 0x68, 0x69, 0x04, 0x03, 0xa1, 0x00,
 ];
 
@@ -20,7 +20,7 @@ fn wrote(rt: &impl Abort, size: Result<usize, WireKind>, expected: usize) {
 #[test]
 fn elements_are_written(rt: HostRuntime) {
     let mut sink = VecSink::new(rt.alloc());
-    wrote(&rt, write_sequence_tag(&mut sink, 0x100), 4);
+    wrote(&rt, write_sequence_tag(&mut sink, 0x1_0000), 5);
     wrote(
         &rt,
         write_contextual_tag(&mut sink, 4, 0xf0, Pc::Primitive),
@@ -42,18 +42,18 @@ fn elements_are_written(rt: HostRuntime) {
     assert!(rt; sink.written() == ELEMENTS.as_slice());
 }
 
-fn read(rt: &impl Abort, len: Result<u16, WireKind>, expected: Result<u16, WireKind>) {
+fn read(rt: &impl Abort, len: Result<u32, WireKind>, expected: Result<u32, WireKind>) {
     assert_eq!(rt; len, expected);
 }
 
-fn read_or_absent(rt: &impl Abort, len: Result<Option<u16>, WireKind>, expected: Option<u16>) {
+fn read_or_absent(rt: &impl Abort, len: Result<Option<u32>, WireKind>, expected: Option<u32>) {
     assert_eq!(rt; len, Ok(expected));
 }
 
 #[test]
 fn elements_are_read(rt: HostRuntime) {
     let mut source = SliceSource::new(&ELEMENTS);
-    read(&rt, read_sequence_tag(&mut source), Ok(0x100));
+    read(&rt, read_sequence_tag(&mut source), Ok(0x1_0000));
     read(
         &rt,
         read_contextual_tag(&mut source, 0x24, Pc::Primitive),

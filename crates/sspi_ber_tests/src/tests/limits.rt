@@ -7,18 +7,71 @@ use std::process::Abort;
 
 const TOO_LONG: Result<usize, WireKind> = Err(WireKind::InvalidData);
 
-// What a content past the limit of 65531 bytes and the largest number are to each size.
+/// Where the shortest length takes another form, and at the limit of 1048576 bytes: the length of a content, the size of an
+/// element with it, and the size of an OCTET STRING of it in another element; a dash where one does not fit.
+const SIZES: &str = "\
+0 2 4
+127 129 132
+128 131 134
+255 258 262
+256 260 264
+65531 65535 65539
+65532 65536 65541
+65535 65539 65544
+65536 65541 65546
+1048571 1048576 1048581
+1048572 1048577 -
+1048576 1048581 -
+1048577 - -
+18446744073709551615 - -";
+
 #[test]
-fn sizes_at_the_limit(rt: HostRuntime) {
-    is(&rt, sizeof_sequence(65531), Ok(65535));
-    is(&rt, sizeof_sequence(65532), TOO_LONG);
-    is(&rt, sizeof_sequence_tag(65531), Ok(4));
+fn sizes_of_elements(rt: HostRuntime) {
+    for line in SIZES.lines() {
+        match line.split_once(' ') {
+            None => assert!(rt; false, "{line}"),
+            Some((len, sizes)) => match sizes.split_once(' ') {
+                None => assert!(rt; false, "{line}"),
+                Some((size, nested)) => has_sizes(&rt, number(len), expected(size), expected(nested)),
+            },
+        }
+    }
+}
+
+fn has_sizes(
+    rt: &impl Abort,
+    len: usize,
+    size: Result<usize, WireKind>,
+    nested: Result<usize, WireKind>,
+) {
+    is(rt, sizeof_sequence(len), size);
+    is(rt, sizeof_octet_string(len), size);
+    is(rt, sizeof_sequence_octet_string(len), nested);
+}
+
+fn expected(text: &str) -> Result<usize, WireKind> {
+    if text == "-" {
+        TOO_LONG
+    } else {
+        Ok(number(text))
+    }
+}
+
+// 7 where the text is no number, which no line has.
+fn number(text: &str) -> usize {
+    text.parse().unwrap_or(7)
+}
+
+// Past the limit nothing is written.
+#[test]
+fn headers_at_the_limit(rt: HostRuntime) {
+    is(&rt, sizeof_sequence_tag(65535), Ok(4));
+    is(&rt, sizeof_sequence_tag(65536), Ok(5));
+    is(&rt, sizeof_sequence_tag(1048576), Ok(5));
+    is(&rt, sizeof_sequence_tag(1048577), TOO_LONG);
     is(&rt, sizeof_contextual_tag(0x80), Ok(3));
     is(&rt, sizeof_contextual_tag(usize::MAX), TOO_LONG);
-    is(&rt, sizeof_octet_string(usize::MAX), TOO_LONG);
-    is(&rt, sizeof_sequence_octet_string(65527), Ok(65535));
-    is(&rt, sizeof_sequence_octet_string(65528), TOO_LONG);
-    writes_nothing(&rt, rt.alloc(), 65532);
+    writes_nothing(&rt, rt.alloc(), 1048577);
 }
 
 fn is(rt: &impl Abort, size: Result<usize, WireKind>, expected: Result<usize, WireKind>) {

@@ -257,7 +257,7 @@ fn of_a_key_table_to_delegate(rt: HostRuntime) {
     delegates_no_key_table::<Client<Asks<0>>>(&rt, rt.alloc());
 }
 
-/// The credentials of `DOM\ann` with a password of so many letters, whose text has a content of 45 bytes and two for each.
+/// The credentials of `DOM\ann` with a password of so many letters, whose text has a content of 50 bytes and two for each.
 fn with_letters(rt: &impl Abort, alloc: Global, letters: usize) -> Credentials {
     let password = given(rt, "a".repeat(alloc, letters));
     Credentials::AuthIdentity(identity(rt, alloc, "DOM\\ann", password.as_str()))
@@ -265,17 +265,17 @@ fn with_letters(rt: &impl Abort, alloc: Global, letters: usize) -> Credentials {
 
 fn delegates_up_to_the_limit<E: ClientEnd>(rt: &impl Abort, alloc: Global) {
     let (kind, reason) = (ErrorKind::InternalError, Reason::TooLong);
-    delegates_none_of::<E>(rt, alloc, with_letters(rt, alloc, 32744), kind, reason);
-    let mut client = waits_for_proof::<E>(rt, alloc, with_letters(rt, alloc, 32743));
+    delegates_none_of::<E>(rt, alloc, with_letters(rt, alloc, 524264), kind, reason);
+    let mut client = waits_for_proof::<E>(rt, alloc, with_letters(rt, alloc, 524263));
     let last = concludes(rt, &mut client, with_bare_proof(rt, alloc, &SERVER_PROOF));
     holds(
         rt,
-        text_of(&last.auth_info).len() == 65535,
+        text_of(&last.auth_info).len() == 1048581,
         "another length",
     );
 }
 
-/// A content of 65533 bytes is too long, and one of 65531 is not.
+/// A content of 1048578 bytes is too long, and one of 1048576 is not.
 #[test]
 fn of_credentials_past_the_limit(rt: HostRuntime) {
     delegates_up_to_the_limit::<Client<Asks<0>>>(&rt, rt.alloc());

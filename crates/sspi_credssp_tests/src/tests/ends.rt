@@ -386,7 +386,7 @@ pub fn read(rt: &impl Abort, alloc: Global, bytes: &[u8]) -> TsRequest {
 /// Whether this message is spelled so.
 pub fn is_spelled(alloc: Global, request: &TsRequest, bytes: &[u8]) -> bool {
     match (TsRequest::from_buffer(alloc, bytes), request.buffer_len()) {
-        (Ok(read), Ok(len)) => read == *request && usize::from(len) == bytes.len(),
+        (Ok(read), Ok(len)) => read == *request && len as usize == bytes.len(),
         _ => false,
     }
 }

@@ -287,7 +287,6 @@ fn rows() -> [Row; 12] {
     let told = Wanted::Client(ErrorKind::InvalidToken, Some(NStatusCode(0xc0070308)));
     let unread = Wanted::Other(DelegateError::Read(End::Server, WireKind::UnexpectedEof));
     let spent = Wanted::Other(DelegateError::TurnsSpent);
-    let too_long = Wanted::Other(DelegateError::Write(End::Client));
     let fault = Wanted::Other(DelegateError::LinkFault);
     [
         limited(5, Wanted::Credentials(3), 6, 5, 104),
@@ -296,10 +295,10 @@ fn rows() -> [Row; 12] {
         limited(0, spent, 0, 0, 0),
         Row {
             setting: Setting {
-                user: ("a", 65500),
+                user: ("a", 65536),
                 ..PLAIN
             },
-            wanted: too_long,
+            wanted: Wanted::Client(ErrorKind::InternalError, None),
             turns: 3,
             sent: 2,
             delivered: 27,

@@ -105,17 +105,36 @@ fn refusals_without_a_code(rt: HostRuntime) -> Result<(), Fail> {
     )
 }
 
-/// Of a delivery 65535 bytes are read; its first 19 are the message.
+/// Bytes behind a message are read with it, however many.
 #[test]
-fn a_delivery_past_the_limit(rt: HostRuntime) -> Result<(), Fail> {
+fn a_delivery_with_more_behind(rt: HostRuntime) -> Result<(), Fail> {
     let alloc = rt.alloc();
     let mut edit = String::from_str(alloc, "edit 0 add ")?;
     edit.push_str(&"00".repeat(alloc, 65536)?)?;
     edit.push_str("\n")?;
     let mut read = String::from_str(alloc, "\n! 3011a003020106a10a30083006a00404024e31")?;
-    read.push_str(&"00".repeat(alloc, 65516)?)?;
+    read.push_str(&"00".repeat(alloc, 65536)?)?;
     read.push_str("\n< 3019")?;
     shows(&rt, alloc, edit.as_str(), (0, 7), read.as_str(), DELEGATED)
+}
+
+/// Of a delivery 1048581 bytes are read, which is the longest message: of three bytes behind one none is read.
+#[test]
+fn a_delivery_past_the_limit(rt: HostRuntime) -> Result<(), Fail> {
+    let alloc = rt.alloc();
+    let mut scenario = String::from_str(
+        alloc,
+        "mode ntlm\nuser DOM\\ann\nkey 010203\nedit 4 add 070707\npassword ",
+    )?;
+    scenario.push_str(&"a".repeat(alloc, 524227)?)?;
+    reports(
+        &rt,
+        alloc,
+        scenario.as_str(),
+        (0, 6),
+        "\n> 3083100000a003020106a283",
+        "aaa\n",
+    )
 }
 
 /// The proxy folds the case of ASCII letters, and tries each account of the name.

@@ -1,4 +1,5 @@
 use crate::tests::{DELEGATED, reports, shows};
+use std::alloc::Global;
 use std::test::Fail;
 
 const NEGOTIATE: &str = "> 3011a003020106a10a30083006a00404024e31\n";
@@ -137,17 +138,47 @@ fn edits(rt: HostRuntime) -> Result<(), Fail> {
     Ok(())
 }
 
+/// A scenario whose last value is so many letters.
+fn with_letters(alloc: Global, front: &str, letters: usize) -> Result<String, Fail> {
+    let mut scenario = String::from_str(alloc, front)?;
+    scenario.push_str(&"a".repeat(alloc, letters)?)?;
+    Ok(scenario)
+}
+
+/// A name of 65536 bytes is too long for the mechanism; one of 65500 is not, and its message needs a length of two octets.
 #[test]
-fn a_name_that_no_message_holds(rt: HostRuntime) -> Result<(), Fail> {
-    let mut scenario = String::from_str(rt.alloc(), "mode ntlm\npassword pw\nkey 010203\nuser ")?;
-    scenario.push_str(&"a".repeat(rt.alloc(), 65500)?)?;
+fn long_names(rt: HostRuntime) -> Result<(), Fail> {
+    let (alloc, front) = (rt.alloc(), "mode ntlm\npassword pw\nkey 010203\nuser ");
+    let long = with_letters(alloc, front, 65500)?;
+    reports(&rt, alloc, long.as_str(), (0, 6), "\n> 308300", " password=pw\n")?;
+    let longer = with_letters(alloc, front, 65536)?;
     reports(
         &rt,
-        rt.alloc(),
-        scenario.as_str(),
+        alloc,
+        longer.as_str(),
         (1, 3),
         NEGOTIATE,
-        "\nwrite client\n",
+        "\nclient InternalError\n",
+    )
+}
+
+/// With 524227 letters the last message has the longest content, with one more it does not fit, and with 524264 the credentials do
+/// not.
+#[test]
+fn long_passwords(rt: HostRuntime) -> Result<(), Fail> {
+    let (alloc, front) = (rt.alloc(), "mode ntlm\nuser DOM\\ann\nkey 010203\npassword ");
+    let longest = with_letters(alloc, front, 524227)?;
+    reports(&rt, alloc, longest.as_str(), (0, 6), "\n> 3083100000a003020106a283", "aaa\n")?;
+    let past = with_letters(alloc, front, 524228)?;
+    reports(&rt, alloc, past.as_str(), (1, 5), NEGOTIATE, "\nwrite client\n")?;
+    let none = with_letters(alloc, front, 524264)?;
+    reports(
+        &rt,
+        alloc,
+        none.as_str(),
+        (1, 5),
+        NEGOTIATE,
+        "\nclient InternalError\n",
     )
 }
 

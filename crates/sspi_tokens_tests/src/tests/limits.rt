@@ -18,11 +18,11 @@ fn is_read(rt: &impl Abort, decoded: Result<NegTokenTarg, Error>, token: &NegTok
     }
 }
 
-/// The spelling has 65535 bytes, and the token is read from it.
+/// The spelling has 1048581 bytes, and the token is read from it.
 fn fits(rt: &impl Abort, alloc: Global, token: &NegTokenTarg, encoded: Result<Vec<u8>, Error>) {
     match encoded {
         Ok(text) => {
-            assert_eq!(rt; text.len(), 65535);
+            assert_eq!(rt; text.len(), 1048581);
             is_read(rt, NegTokenTarg::decode(alloc, &text), token);
         }
         Err(_) => unmade(rt),
@@ -43,11 +43,11 @@ fn too_long(rt: &impl Abort, alloc: Global, token: Result<NegTokenTarg, AllocErr
     }
 }
 
-// The longest token that fits has 65535 bytes.
+// The longest token that fits has 1048581 bytes.
 #[test]
 fn of_answers(rt: HostRuntime) {
-    longest(&rt, rt.alloc(), answer(rt.alloc(), 65519));
-    too_long(&rt, rt.alloc(), answer(rt.alloc(), 65520));
+    longest(&rt, rt.alloc(), answer(rt.alloc(), 1048561));
+    too_long(&rt, rt.alloc(), answer(rt.alloc(), 1048562));
 }
 
 /// The same of the first token.
@@ -67,7 +67,7 @@ fn too_long_offer(rt: &impl Abort, alloc: Global, offer: Result<NegTokenInit, Al
 
 #[test]
 fn of_offers(rt: HostRuntime) {
-    too_long_offer(&rt, rt.alloc(), offer_of(rt.alloc(), 70000));
+    too_long_offer(&rt, rt.alloc(), offer_of(rt.alloc(), 1048549));
 }
 
 fn push_ntlm(alloc: Global, oids: &mut Vec<Oid>, count: u32) -> Result<(), AllocError> {
@@ -77,12 +77,12 @@ fn push_ntlm(alloc: Global, oids: &mut Vec<Oid>, count: u32) -> Result<(), Alloc
     Ok(())
 }
 
-/// An identifier of one byte, one of 200, and 4000 times NTLM.
+/// An identifier of one byte, one of 200, and 6000 times NTLM.
 fn many(alloc: Global) -> Result<NegTokenInit, AllocError> {
     let mut oids = Vec::new(alloc);
     oids.push(Oid::from_content(alloc, &[0x2a])?)?;
     oids.push(Oid::from_content(alloc, &[0x81; 200])?)?;
-    push_ntlm(alloc, &mut oids, 4000)?;
+    push_ntlm(alloc, &mut oids, 6000)?;
     Ok(NegTokenInit {
         mech_types: Some(MechTypeList::from_vec(oids)),
         mech_token: None,
@@ -125,10 +125,10 @@ fn offered(rt: &impl Abort, alloc: Global, offer: Result<NegTokenInit, AllocErro
     }
 }
 
-/// 6000 times NTLM.
+/// 87382 times NTLM, of 12 bytes each.
 fn too_many(alloc: Global) -> Result<MechTypeList, AllocError> {
     let mut oids = Vec::new(alloc);
-    push_ntlm(alloc, &mut oids, 6000)?;
+    push_ntlm(alloc, &mut oids, 87382)?;
     Ok(MechTypeList::from_vec(oids))
 }
 

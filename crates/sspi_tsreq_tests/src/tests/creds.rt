@@ -392,12 +392,12 @@ fn is_too_long(rt: &impl Abort, written: Option<Result<Vec<u8>, Error>>) {
     }
 }
 
-// A password of 32749 code units has 65498 bytes; with what stands around it the content has 33 more.
+// A password of 524269 code units has 1048538 bytes; with what stands around it the content has 38 more.
 #[test]
 fn the_limit(rt: HostRuntime) {
     let alloc = rt.alloc();
-    has_length(&rt, written(alloc, with_password(alloc, 65498)), 65535);
-    is_too_long(&rt, written(alloc, with_password(alloc, 65500)));
+    has_length(&rt, written(alloc, with_password(alloc, 1048538)), 1048581);
+    is_too_long(&rt, written(alloc, with_password(alloc, 1048540)));
 }
 
 fn fails_at(rt: &impl Abort, alloc: Global, call: u64) {

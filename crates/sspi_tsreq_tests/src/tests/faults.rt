@@ -11,7 +11,9 @@ end:
 end: 31
 end: 30
 end: 30 80
-end: 30 83 00 00 01
+end: 30 84 00 00 00 01
+end: 30 83 10 00 01
+end: 30 83 00 00
 end: 30 82 ff fc
 end: 30 03 a0 03
 ";
@@ -22,11 +24,15 @@ end:
 bad: a1
 end: a0
 bad: a0 80
-bad: a0 83 00 00 01
+bad: a0 84
+bad: a0 83 10 00 01
 end: a0 81
 end: a0 82
 end: a0 82 00
-bad: a0 82 ff fc
+end: a0 82 ff fc
+end: a0 83
+end: a0 83 10 00
+end: a0 83 10 00 00
 end: a0 03
 bad: a0 03 04
 end: a0 03 02
@@ -40,7 +46,8 @@ end: a0 03 02 04 01
 /// Each place of the token, behind version 6.
 const TOKEN: &str = "
 end: a0 03 02 01 06 a1
-bad: a0 03 02 01 06 a1 83
+end: a0 03 02 01 06 a1 83
+bad: a0 03 02 01 06 a1 84
 end: a0 03 02 01 06 a1 06
 bad: a0 03 02 01 06 a1 06 31
 end: a0 03 02 01 06 a1 06 30
@@ -152,17 +159,17 @@ fn cases(rt: &impl Abort, alloc: Global, text: &str, count: u32, is_content: boo
 
 #[test]
 fn outer_faults(rt: HostRuntime) {
-    cases(&rt, rt.alloc(), OUTER, 7, false);
+    cases(&rt, rt.alloc(), OUTER, 9, false);
 }
 
 #[test]
 fn version_faults(rt: HostRuntime) {
-    cases(&rt, rt.alloc(), VERSION, 17, true);
+    cases(&rt, rt.alloc(), VERSION, 21, true);
 }
 
 #[test]
 fn token_faults(rt: HostRuntime) {
-    cases(&rt, rt.alloc(), TOKEN, 19, true);
+    cases(&rt, rt.alloc(), TOKEN, 20, true);
 }
 
 #[test]

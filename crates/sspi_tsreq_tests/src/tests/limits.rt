@@ -12,12 +12,12 @@ fn with_credentials(alloc: Global, len: usize) -> Result<TsRequest, AllocError> 
     Ok(request)
 }
 
-/// The request takes 65535 bytes, and is read from them.
-fn fits(rt: &impl Abort, alloc: Global, request: &TsRequest) {
-    assert_eq!(rt; request.buffer_len(), Ok(65535));
+/// The request takes so many bytes, and is read from them.
+fn fits(rt: &impl Abort, alloc: Global, request: &TsRequest, size: u32) {
+    assert_eq!(rt; request.buffer_len(), Ok(size));
     let mut sink = VecSink::new(alloc);
     assert_eq!(rt; request.encode_ts_request(&mut sink), Ok(()));
-    assert_eq!(rt; sink.written().len(), 65535);
+    assert_eq!(rt; sink.written().len(), size as usize);
     reads(rt, alloc, sink.written(), request);
 }
 
@@ -32,9 +32,9 @@ fn passes(rt: &impl Abort, alloc: Global, request: &TsRequest) {
     assert_eq!(rt; request.buffer_len(), Err(WireKind::InvalidData));
 }
 
-fn longest(rt: &impl Abort, alloc: Global, request: Result<TsRequest, AllocError>) {
+fn has_size(rt: &impl Abort, alloc: Global, request: Result<TsRequest, AllocError>, size: u32) {
     match request {
-        Ok(request) => fits(rt, alloc, &request),
+        Ok(request) => fits(rt, alloc, &request, size),
         Err(_) => unmade(rt),
     }
 }
@@ -46,8 +46,12 @@ fn too_long(rt: &impl Abort, alloc: Global, request: Result<TsRequest, AllocErro
     }
 }
 
+// The longest content has 1048576 bytes.
 #[test]
 fn the_limit(rt: HostRuntime) {
-    longest(&rt, rt.alloc(), with_credentials(rt.alloc(), 65518));
-    too_long(&rt, rt.alloc(), with_credentials(rt.alloc(), 65519));
+    let alloc = rt.alloc();
+    has_size(&rt, alloc, with_credentials(alloc, 65519), 65536);
+    has_size(&rt, alloc, with_credentials(alloc, 65523), 65541);
+    has_size(&rt, alloc, with_credentials(alloc, 1048561), 1048581);
+    too_long(&rt, alloc, with_credentials(alloc, 1048562));
 }

@@ -10,7 +10,7 @@ use Rattle.sspi_credssp.specs.Server.{ServerView}
 use Rattle.sspi_credssp.specs.Table.{TableView, table_meaning}
 use Rattle.sspi_delegate.specs.declared.edit.Edit.{Edit}
 use Rattle.sspi_delegate.specs.Edits.{MemoryLinkView}
-use Rattle.sspi_completeness.specs.Matching.{IsPlainClient, IsPlainServer, HasChallenge, AreMatching, unedited, none_told, IsShort, delegated_as, ComesToOk}
+use Rattle.sspi_completeness.specs.Matching.{IsPlainClient, IsPlainServer, HasChallenge, AreMatching, unedited, none_told, IsShort, key_limit, delegated_as, ComesToOk}
 use Rattle.sspi_completeness.proofs.tests.delegate_matched.Goals as goal
 
 alone : (i : AuthIdentity) → entry_of (i ∷ []) i.username ≡ Some i
@@ -29,7 +29,7 @@ record AreMade {C D : Type 0} (client : ClientView C) (server : ServerView D Tab
   pub server_version : sv < 2 ^ 32
 
 abbrev matched : {C D : Type 0} (client : ClientView C) (server : ServerView D TableView) (i mine known : AuthIdentity) (key : List ℕ) (mode : CredSspMode) (cv sv : ℕ) →
-    AreMade client server i mine known key mode cv sv → IsIdentity i → IsShort i → length key ≤ 16384 → nat_lt cv 5 ≡ nat_lt sv 5 →
+    AreMade client server i mine known key mode cv sv → IsIdentity i → IsShort i → length key ≤ key_limit → nat_lt cv 5 ≡ nat_lt sv 5 →
     AreMatching table_meaning client server
 matched client server i mine known key mode cv sv made is short few versions = record {
   client_plain = made.client_values.6;
