@@ -1,5 +1,5 @@
-use sspi_credssp::End;
 use sspi_ber::WireKind;
+use sspi_credssp::End;
 use sspi_names::AuthIdentity;
 use sspi_types::Error;
 

@@ -17,13 +17,12 @@ ghost use Rattle.sspi_delegate.specs.Run.{LoggedButLast};
 ghost use Rattle.sspi_delegate.specs.Turns.{next_end, AllGoOn};
 
 use crate::answer::{DelegateError, Delegation};
-use sspi_credssp::End;
 use crate::ends::{ClientRound, ServerRound, client_round, server_round};
 use crate::link::{Link, LinkError};
 use crate::messages::{send, take_delivery};
 use crate::transcript::Transcript;
 use sspi_ber::WireKind;
-use sspi_credssp::{CredSspClient, CredSspServer, CredentialsProxy, SspiContext};
+use sspi_credssp::{CredSspClient, CredSspServer, CredentialsProxy, End, SspiContext};
 use sspi_mech::{Kdc, Mechanism};
 use sspi_names::AuthIdentity;
 use sspi_tsreq::TsRequest;
@@ -238,9 +237,8 @@ fn give<L: Link>(alloc: Global, link: &mut L, transcript: &Transcript) -> Result
     ensures err { IfErr result (λ error. (base : List Carried) (start limit : ℕ) →
         Turned base start transcript.now.turns (L.log link.old) (L.faults link.old) →
         Stopped base start limit error transcript.now.turns (L.log link.new) (L.faults link.new)) }
-    ensures given { (base : List Carried) (start : ℕ) → start ≤ L.faults link.old → HasMessage transcript.now.turns →
+    ensures given { (base : List Carried) (start : ℕ) → L.faults link.old ≡ start → HasMessage transcript.now.turns →
         LoggedButLast base transcript.now.turns (L.log link.old) → Given base start transcript.now.turns (L.log link.new) (L.faults link.new) }
-    ensures faults { L.faults link.old ≤ L.faults link.new }
     ensures link { IfErr result IsNoRefusal }
     ensures same { OnErr result (L.log link.new ≡ L.log link.old) }
     ensures told { StaysTold (L.edits link.old) (L.edits link.new) (L.log link.old) (L.log link.new) }
