@@ -1,5 +1,6 @@
 -- The history of a fresh end gives the chain of its turns.
 use Rattle.std.proofs.Common.{◌≡◌, ℕ, sym, refl, subst, List, [], ◌∷◌, Option, None, Some, IsSome, Result, Ok, Err, Bool, true, false}
+use Rattle.sspi_types.specs.declared.credential_use.CredentialUse.TheVariants.{Inbound}
 use Rattle.sspi_types.specs.declared.error.Error.{Error}
 use Rattle.sspi_types.specs.declared.security_status.SecurityStatus.{SecurityStatus}
 use Rattle.sspi_types.specs.declared.security_status.SecurityStatus.TheVariants as statuses
@@ -11,18 +12,19 @@ use Rattle.sspi_mech.specs.declared.step.Step.{Step}
 use Rattle.sspi_names.specs.declared.credentials.CredentialsBuffers.{CredentialsBuffers}
 use Rattle.sspi_names.specs.declared.identity.AuthIdentity.{AuthIdentity}
 use Rattle.sspi_tsreq.specs.declared.request.TsRequest.{TsRequest}
+use Rattle.sspi_credssp.specs.declared.mode.ServerMode.{ServerMode}
 use Rattle.sspi_credssp.specs.declared.state.CredSspState.{CredSspState}
 use Rattle.sspi_credssp.specs.declared.turn.Outcome.{Outcome}
 use Rattle.sspi_credssp.specs.declared.turn.Outcome.TheVariants as outcome
 use Rattle.sspi_credssp.specs.declared.turn.Turn.{Turn}
-use Rattle.sspi_credssp.specs.Begun.{IfContext}
+use Rattle.sspi_credssp.specs.Begun.{Begun, IfContext}
 use Rattle.sspi_credssp.specs.Client.{ClientView, IsFreshClient}
 use Rattle.sspi_credssp.specs.ClientStep.{Asked, Walked, stepped, resumed, still_asked, recounted, OnStep, StepsTo, DoneStep, refused_answer}
 use Rattle.sspi_credssp.specs.ClientTurn.{ClientTurn, NegoReply, SameClient, client_frame, client_turn}
-use Rattle.sspi_credssp.specs.Context.{ContextSetting}
+use Rattle.sspi_credssp.specs.Context.{ContextSetting, ForServer}
 use Rattle.sspi_credssp.specs.Server.{ServerView, IsFreshServer}
 use Rattle.sspi_credssp.specs.ServerStep as accept
-use Rattle.sspi_credssp.specs.ServerTurn.{ServerTurn, StateAnswer, NegoAnswer, SameServer, server_frame, server_turn}
+use Rattle.sspi_credssp.specs.ServerTurn.{UnlessMade, ServerTurn, StateAnswer, NegoAnswer, SameServer, server_frame, server_turn}
 use Rattle.sspi_delegate.specs.declared.answer.Delegation.{Delegation}
 use Rattle.sspi_delegate.specs.declared.answer.DelegateError.{DelegateError}
 use Rattle.sspi_delegate.specs.declared.answer.DelegateError.TheVariants as errors
@@ -206,9 +208,13 @@ module _ {C : Type 0} (c : Meaning ContextSetting C) where
     refused_at a b context had mode entries (Some statuses.NoLsaContext) handle token answer m step = accepted_at a b context had mode entries handle token accept.Unknown answer m step
 
     module _ (faults : P → ℕ) (failing : P → Option (List ℕ)) (first : ServerView C P) where
-      server_rested : (old mid : ServerView C P) (d : TsRequest) (came : Outcome) → ServerTurn c old d came mid → mid.acts.negotiated ≡ false →
-          ServerRested c told first (server_stage old) (server_stage mid)
-      server_rested old mid d came turn was = record { context = turn.moves.unstepped was; handle = λ some. (turn.moves.handle some).0 }
+      server_rested : (old mid : ServerView C P) (d : TsRequest) (came : Outcome) → SameServer c first old → ServerTurn c old d came mid →
+          mid.acts.negotiated ≡ false → ServerRested c told first (server_stage old) (server_stage mid)
+      server_rested old mid d came same turn was = record {
+        context = subst (λ (mode : ServerMode). UnlessMade c old.context mid.context
+            (λ m. Begun c old.context old.handle (ForServer mode) Inbound None mid.handle m)) same.mode (turn.moves.unstepped was);
+        handle = λ some. (turn.moves.handle some).0;
+      }
 
       server_stepped : (old mid : ServerView C P) (d : TsRequest) (known : accept.Knowing) (answer : Result Step Error) → SameServer c first old →
           told first.proxy ≡ told old.proxy → IfContext mid.context (accept.Accepted c told old mid.handle d.nego_tokens known answer) →
@@ -222,7 +228,7 @@ module _ {C : Type 0} (c : Meaning ContextSetting C) where
           StateAnswer c (server_frame c old mid) (server_turn c d (outcome.Reply reply) mid) old.state reply → mid.acts.status ≡ status →
           accept.DoneStep c told status old d mid →
           ServerMovedBy c told first negotiated status (outcome.Reply reply) d.nego_tokens mid.output (server_stage old) (server_stage mid)
-      server_replied old mid d reply false status is same entries turn h came step = server_rested old mid d (outcome.Reply reply) turn is
+      server_replied old mid d reply false status is same entries turn h came step = server_rested old mid d (outcome.Reply reply) same turn is
       server_replied old mid d reply true (Some status) is same entries turn h came step =
           server_stepped old mid d (accept.known_at c told status) (Ok (record { status = status; output = mid.output })) same entries step
       server_replied old mid d reply true None is same entries turn h came step =
@@ -230,17 +236,17 @@ module _ {C : Type 0} (c : Meaning ContextSetting C) where
           (subst (λ (s : CredSspState). StateAnswer c (server_frame c old mid) (server_turn c d (outcome.Reply reply) mid) s reply) (turn.turn.acts.negotiated is) h))
 
       server_finished : (old mid : ServerView C P) (d : TsRequest) (negotiated : Bool) (status : Option SecurityStatus) → mid.acts.negotiated ≡ negotiated →
-          ServerTurn c old d outcome.Finished mid →
+          SameServer c first old → ServerTurn c old d outcome.Finished mid →
           ServerMovedBy c told first negotiated status outcome.Finished d.nego_tokens mid.output (server_stage old) (server_stage mid)
-      server_finished old mid d false status is turn = server_rested old mid d outcome.Finished turn is
-      server_finished old mid d true status is turn = let nego = turn.turn.acts.negotiated is in let state = turn.turn.reply.0 in absurd (cc (nego, state))
+      server_finished old mid d false status is same turn = server_rested old mid d outcome.Finished same turn is
+      server_finished old mid d true status is same turn = let nego = turn.turn.acts.negotiated is in let state = turn.turn.reply.0 in absurd (cc (nego, state))
 
       server_stopped : (old mid : ServerView C P) (d : TsRequest) (error : Error) (reply : Option TsRequest) (negotiated : Bool) (status : Option SecurityStatus) →
           mid.acts.negotiated ≡ negotiated → SameServer c first old → told first.proxy ≡ told old.proxy → ServerTurn c old d (outcome.Refused error.error_type reply) mid →
           accept.OnStep c told negotiated (IfContext mid.context
           (accept.RefusedAt c told status old mid.handle d.nego_tokens (accept.refused_step status mid.output error))) →
           ServerMovedBy c told first negotiated status (outcome.Refused error.error_type reply) d.nego_tokens mid.output (server_stage old) (server_stage mid)
-      server_stopped old mid d error reply false status is same entries turn step = server_rested old mid d (outcome.Refused error.error_type reply) turn is
+      server_stopped old mid d error reply false status is same entries turn step = server_rested old mid d (outcome.Refused error.error_type reply) same turn is
       server_stopped old mid d error reply true (Some status) is same entries turn step =
           let answer : Result Step Error = Ok (record { status = status; output = mid.output }) in
           on_context mid.context (accept.RefusedAt c told (Some status) old mid.handle d.nego_tokens answer)
@@ -255,7 +261,7 @@ module _ {C : Type 0} (c : Meaning ContextSetting C) where
       server_moved old mid d (outcome.Reply reply) same entries makes =
           server_replied old mid d reply mid.acts.negotiated mid.acts.status refl same entries makes.0 makes.0.turn.reply refl makes.1
       server_moved old mid d (outcome.Final reply) same entries makes = absurd makes
-      server_moved old mid d outcome.Finished same entries makes = server_finished old mid d mid.acts.negotiated mid.acts.status refl makes.0
+      server_moved old mid d outcome.Finished same entries makes = server_finished old mid d mid.acts.negotiated mid.acts.status refl same makes.0
       server_moved old mid d (outcome.Refused kind reply) same entries makes =
           subst (λ (e : _). ServerMovedBy c told first mid.acts.negotiated mid.acts.status (outcome.Refused e reply) d.nego_tokens mid.output (server_stage old) (server_stage mid))
           makes.1

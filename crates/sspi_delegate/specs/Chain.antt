@@ -1,7 +1,8 @@
 -- The contexts of an end's turns, as a chain: each negotiating turn is one step of the context that the turns before have left, on
--- the token that was delivered in that turn, and nothing else but its counts moves a context. A chain speaks of the end as it was
+-- the token that was delivered in that turn, and nothing else moves a context but sealing and opening. A chain speaks of the end as it was
 -- made, of its turns, of what its KDC replied and its proxy told, and of no state of the end in between.
 use Rattle.std.specs.Prelude.{◌≡◌, ℕ, List, [], ◌∷◌, Option, None, Some, IsSome, Result, Ok, Err, Bool, true, false}
+use Rattle.sspi_types.specs.declared.credential_use.CredentialUse.TheVariants.{Inbound}
 use Rattle.sspi_types.specs.declared.error.Error.{Error}
 use Rattle.sspi_types.specs.declared.security_status.SecurityStatus.{SecurityStatus}
 use Rattle.sspi_mech.specs.Meaning.{Meaning}
@@ -14,13 +15,14 @@ use Rattle.sspi_names.specs.declared.network.NetworkRequest.{NetworkRequest}
 use Rattle.sspi_credssp.specs.declared.turn.Outcome.{Outcome}
 use Rattle.sspi_credssp.specs.declared.turn.Outcome.TheVariants as outcome
 use Rattle.sspi_credssp.specs.declared.turn.Turn.{Turn}
-use Rattle.sspi_credssp.specs.Begun.{IfContext}
+use Rattle.sspi_credssp.specs.Begun.{Begun, IfContext}
 use Rattle.sspi_credssp.specs.Client.{ClientView}
 use Rattle.sspi_credssp.specs.ClientStep.{Asked, Walked}
-use Rattle.sspi_credssp.specs.Context.{ContextSetting}
+use Rattle.sspi_credssp.specs.Context.{ContextSetting, ForServer}
 use Rattle.sspi_credssp.specs.Counts.{sealed_in, unsealed_in, SameBut}
 use Rattle.sspi_credssp.specs.Server.{ServerView}
 use Rattle.sspi_credssp.specs.ServerStep.{Knowing, Unknown, Accepted, RefusedAt, known_at}
+use Rattle.sspi_credssp.specs.ServerTurn.{UnlessMade}
 use Rattle.sspi_delegate.specs.declared.answer.Delegation.{Delegation}
 use Rattle.sspi_delegate.specs.declared.answer.DelegateError.{DelegateError}
 use Rattle.sspi_delegate.specs.declared.answer.DelegateError.TheVariants as errors
@@ -108,9 +110,10 @@ module _ {C P : Type 0} (c : Meaning ContextSetting C) (told : P → Option (Lis
   abbrev pub ServerStepped : Knowing → ServerStage C → Option (List ℕ) → Result Step Error → ServerStage C → Type 0
   ServerStepped known stage token answer next = IfContext next.context (Accepted c told (server_at stage) next.handle token known answer)
 
-  -- no step: the context may have sealed and opened
+  -- no step: the context may have sealed and opened, or was but made, in a turn that was refused before its step
   pub record ServerRested (stage next : ServerStage C) : Type 0 where
-    pub context : SameBut c stage.context next.context
+    pub context : UnlessMade c stage.context next.context
+        (λ m. Begun c stage.context stage.handle (ForServer first.mode) Inbound None next.handle m)
     pub handle : IsSome stage.context → next.handle ≡ stage.handle
 
   -- As on a client. A turn that was not refused at the end of the authentication came to know its peer, and completed the context;
