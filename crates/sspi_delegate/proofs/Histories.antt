@@ -10,7 +10,7 @@ use Rattle.sspi_credssp.specs.Context.{ContextSetting}
 use Rattle.sspi_credssp.specs.Proxy.{ProxyMeaning, IsAsked, HasAsked}
 use Rattle.sspi_credssp.specs.Server.{ServerView}
 use Rattle.sspi_credssp.specs.ServerAsks.{calls_in}
-use Rattle.sspi_credssp.specs.ServerStep.{DoneStep}
+use Rattle.sspi_credssp.specs.ServerStep.{DoneStep, MakesAlone}
 use Rattle.sspi_credssp.specs.ServerTurn.{ServerTurn, HoldsIdentity}
 use Rattle.sspi_credssp.specs.Turn.{UnlessRefused}
 use Rattle.sspi_delegate.specs.declared.answer.Delegation.{Delegation}
@@ -65,29 +65,29 @@ module _ {C D : Type 0} (c : Meaning ContextSetting C) (k : KdcCalls D) where
 module _ {C : Type 0} (c : Meaning ContextSetting C) where
   module _ {P : Type 0} (p : ProxyMeaning P) where
     pub server_made : (first old mid new : ServerView C P) (d : TsRequest) (out : Outcome) (turns turns2 : List Turn) →
-        ServerHistory c p first (server_turns turns) old → ServerMakes c p old d out mid →
+        ServerHistory c p first (server_turns turns) old → ServerMakes c p old d out mid → MakesAlone c p old mid →
         IsAsked p (calls_in old mid.acts.status) old.proxy mid.proxy → UnlessRefused out (HasAsked p (calls_in old mid.acts.status) old.proxy mid.proxy) →
         new ≡ record mid { output = [] } → turns2 ≡ recorded Server d mid.acts mid.output out ∷ turns →
         ServerHistory c p first (server_turns turns2) new
-    server_made first old mid new d out turns turns2 history makes proxy asked rest is =
-        rw is (old, history, record { mid = mid; turn = refl; makes = makes; proxy = proxy; asked = asked; rest = rest })
+    server_made first old mid new d out turns turns2 history makes alone proxy asked rest is =
+        rw is (old, history, record { mid = mid; turn = refl; makes = makes; made = alone; proxy = proxy; asked = asked; rest = rest })
 
     pub server_gave : (first old mid new : ServerView C P) (d : TsRequest) (identity : AuthIdentity) (turns turns2 : List Turn) →
         ServerHistory c p first (server_turns turns) old →
         ServerTurn c old d outcome.Finished mid × HoldsIdentity c mid.context d.auth_info identity → DoneStep c p mid.acts.status old d mid →
-        IsAsked p (calls_in old mid.acts.status) old.proxy mid.proxy → HasAsked p (calls_in old mid.acts.status) old.proxy mid.proxy →
+        MakesAlone c p old mid → IsAsked p (calls_in old mid.acts.status) old.proxy mid.proxy → HasAsked p (calls_in old mid.acts.status) old.proxy mid.proxy →
         new ≡ record mid { output = [] } → turns2 ≡ recorded Server d mid.acts mid.output outcome.Finished ∷ turns →
         ServerGave c p first identity (server_turns turns2) new
-    server_gave first old mid new d identity turns turns2 history turn step proxy asked rest is =
-        (server_made first old mid new d outcome.Finished turns turns2 history (turn.0, step, identity, turn.1) proxy asked rest is, rw (is, rest) turn.1)
+    server_gave first old mid new d identity turns turns2 history turn step alone proxy asked rest is =
+        (server_made first old mid new d outcome.Finished turns turns2 history (turn.0, step, identity, turn.1) alone proxy asked rest is, rw (is, rest) turn.1)
 
     pub server_stopped : (first old mid new : ServerView C P) (d : TsRequest) (error : Error) (reply : Option TsRequest) (turns turns2 : List Turn) →
         ServerHistory c p first (server_turns turns) old →
-        ServerTurn c old d (outcome.Refused error.error_type reply) mid → ServerRefuses c p old d error mid →
+        ServerTurn c old d (outcome.Refused error.error_type reply) mid → ServerRefuses c p old d error mid → MakesAlone c p old mid →
         IsAsked p (calls_in old mid.acts.status) old.proxy mid.proxy →
         new ≡ record mid { output = [] } → turns2 ≡ recorded Server d mid.acts mid.output (outcome.Refused error.error_type reply) ∷ turns →
         ServerStopped c p first error (server_turns turns2) new
-    server_stopped first old mid new d error reply turns turns2 history turn refuses proxy rest is = record {
+    server_stopped first old mid new d error reply turns turns2 history turn refuses alone proxy rest is = record {
       old = old;
       mid = mid;
       d = d;
@@ -97,6 +97,7 @@ module _ {C : Type 0} (c : Meaning ContextSetting C) where
       before = history;
       turn = turn;
       refuses = refuses;
+      made = alone;
       proxy = proxy;
       rest = rest;
     }
@@ -106,7 +107,7 @@ module _ {C : Type 0} (c : Meaning ContextSetting C) where
     server_stopped_history first now error turns s = rw s.newest (
       s.old,
       s.before,
-      record { mid = s.mid; turn = refl; makes = (error, refl, s.turn, s.refuses); proxy = s.proxy; asked = tt; rest = s.rest },
+      record { mid = s.mid; turn = refl; makes = (error, refl, s.turn, s.refuses); made = s.made; proxy = s.proxy; asked = tt; rest = s.rest },
     )
 
     pub server_past_history : (first now : ServerView C P) (turns : List Turn) (result : Result Delegation DelegateError) →

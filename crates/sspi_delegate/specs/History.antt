@@ -103,7 +103,6 @@ module _ {C : Type 0} (c : Meaning ContextSetting C) where
       pub heeds : ServerMeetsOld c old d new → error.error_type ≡ kinds.DowngradeDetected
       pub status : error.nstatus ≡ None
       pub step : HasAccepted c p {T = ServerState} old d (Err error) new
-      pub made : MakesAlone c p old new
 
     -- the server took d and came to this, by a step of its context where it authenticates; a refusal has its cause, and the
     -- end the identity whose credentials were opened
@@ -120,6 +119,7 @@ module _ {C : Type 0} (c : Meaning ContextSetting C) where
       pub mid : ServerView C P
       pub turn : t ≡ server_turn c t.delivered t.outcome mid
       pub makes : ServerMakes old t.delivered t.outcome mid
+      pub made : MakesAlone c p old mid
       -- the proxy was asked so often at most; exactly so often, and of no call that it tells it fails, where nothing was refused
       pub proxy : IsAsked p (calls_in old mid.acts.status) old.proxy mid.proxy
       pub asked : UnlessRefused t.outcome (HasAsked p (calls_in old mid.acts.status) old.proxy mid.proxy)
@@ -145,6 +145,7 @@ module _ {C : Type 0} (c : Meaning ContextSetting C) where
       pub before : ServerHistory first past old
       pub turn : ServerTurn c old d (outcome.Refused error.error_type reply) mid
       pub refuses : ServerRefuses old d error mid
+      pub made : MakesAlone c p old mid
       pub proxy : IsAsked p (calls_in old mid.acts.status) old.proxy mid.proxy
       -- the output was taken for the record
       pub rest : now ≡ record mid { output = [] }
