@@ -20,6 +20,10 @@ pub enum Key {
     Target,
     Delegation,
     Keytab,
+    ClientProtocol,
+    ServerProtocol,
+    ClientPackages,
+    ServerPackages,
     Account,
     Accounts,
     ProxyFail,
@@ -27,7 +31,7 @@ pub enum Key {
     Edit,
 }
 
-const NAMES: [(Key, &str); 18] = [
+const NAMES: [(Key, &str); 22] = [
     (Key::Mode, "mode"),
     (Key::User, "user"),
     (Key::Password, "password"),
@@ -41,6 +45,10 @@ const NAMES: [(Key, &str); 18] = [
     (Key::Target, "target"),
     (Key::Delegation, "delegation"),
     (Key::Keytab, "keytab"),
+    (Key::ClientProtocol, "client-protocol"),
+    (Key::ServerProtocol, "server-protocol"),
+    (Key::ClientPackages, "client-packages"),
+    (Key::ServerPackages, "server-packages"),
     (Key::Account, "account"),
     (Key::Accounts, "accounts"),
     (Key::ProxyFail, "proxy-fail"),

@@ -12,7 +12,7 @@ use crate::key::{Key, has};
 use crate::lines::parted;
 use crate::number::number;
 use crate::rows::Rows;
-use crate::scenario::{Mode, Scenario};
+use crate::scenario::{Mode, Package, Scenario};
 use crate::words::{self, Accounts};
 use sspi_names::{AuthIdentity, Username, UsernameError};
 use sspi_tsreq::CredSspMode;
@@ -47,6 +47,10 @@ impl Values {
             target: text(alloc, "TERMSRV/host.example.com")?,
             delegation: CredSspMode::WithCredentials,
             keytab: None,
+            client_protocol: Package::Ntlm,
+            server_protocol: Package::Ntlm,
+            client_packages: None,
+            server_packages: None,
             account: Rows::new(alloc),
             proxy_fail: Rows::new(alloc),
             turns: 5,
@@ -77,6 +81,10 @@ impl Values {
             Key::Target => told.target = text(alloc, value)?,
             Key::Delegation => told.delegation = found(words::delegation_named(value))?,
             Key::Keytab => told.keytab = Some(hexadecimal::bytes(alloc, value)?),
+            Key::ClientProtocol => told.client_protocol = found(words::package_named(value))?,
+            Key::ServerProtocol => told.server_protocol = found(words::package_named(value))?,
+            Key::ClientPackages => told.client_packages = Some(text(alloc, value)?),
+            Key::ServerPackages => told.server_packages = Some(text(alloc, value)?),
             Key::Account => told.account.push(account(alloc, value)?)?,
             Key::Accounts => self.accounts = found(words::accounts_named(value))?,
             Key::ProxyFail => told.proxy_fail.push(u64::from(found(number(value))?))?,
