@@ -16,19 +16,19 @@ use Rattle.sspi_credssp.specs.Begun.{BeginCause}
 use Rattle.sspi_credssp.specs.Client.{ClientView}
 use Rattle.sspi_credssp.specs.ClientCause.{ClientCause, StateCause, DeliverCause, BlobOpens, OpenedCause, CheckedCause, SealsCause, altered, unsealed}
 use Rattle.sspi_credssp.specs.ClientTurn.{NegoReply, StartsUnused, OnceNegotiated, client_frame, client_turn}
-use Rattle.sspi_credssp.specs.Turn.{Turn, ClientFrame, Replied, Ended, Stopped}
+use Rattle.sspi_credssp.specs.Turn.{ClientFrame}
 use Rattle.sspi_credssp.specs.Context.{ContextSetting, ForClient}
 use Rattle.sspi_credssp.specs.Counts.{sealed_in, unsealed_in, SealsIn, SameBut, cleared}
 use Rattle.sspi_credssp.specs.Credentials.{delegated_text, IfText}
 use Rattle.sspi_credssp.specs.Exchange.{opens_other, BlobStops}
 use Rattle.sspi_credssp.specs.PublicKey.{prescribed}
 use Rattle.sspi_credssp.specs.Requests.{is_code}
-use Rattle.sspi_delegate.specs.declared.turn.Outcome.{Outcome}
-use Rattle.sspi_delegate.specs.declared.turn.Outcome.TheVariants as outcome
+use Rattle.sspi_credssp.specs.declared.turn.Outcome.{Outcome}
+use Rattle.sspi_credssp.specs.declared.turn.Outcome.TheVariants as outcome
 use Rattle.sspi_delegate.specs.Asking.{KdcCalls}
-use Rattle.sspi_delegate.specs.EndTurns.{came_of}
 use Rattle.sspi_delegate.specs.History.{ClientMakes}
 use Rattle.sspi_completeness.proofs.Ends.{Comes, is_false, stops_later, made_past, sealed_few, Holds, IsMaker, IsTaker, holds_still, sealed_field, ClientIs}
+use Rattle.sspi_credssp.specs.declared.turn.Turn.{Turn}
 
 module _ {C D : Type 0} (c : Meaning ContextSetting C) (k : KdcCalls D) where
   abbrev View : Type 0
@@ -59,9 +59,9 @@ module _ {C D : Type 0} (c : Meaning ContextSetting C) (k : KdcCalls D) where
     abbrev proof_text : List ℕ
     proof_text = prescribed Server w a.nonce a.public_key
 
-    never_replies : (mid : View) (kdc2 : D) (r : TsRequest) → ClientMakes c k old kdc d (Replied r) mid kdc2 → ⊥
+    never_replies : (mid : View) (kdc2 : D) (r : TsRequest) → ClientMakes c k old kdc d (outcome.Reply r) mid kdc2 → ⊥
     never_replies mid kdc2 r makes =
-        let nego = reply_nego (client_frame c old mid) (client_turn c d (Replied r) mid) mid.acts.status r makes.0.turn.reply in
+        let nego = reply_nego (client_frame c old mid) (client_turn c d (outcome.Reply r) mid) mid.acts.status r makes.0.turn.reply in
         let auth = given.is.state_is in cc
 
     unused : StartsUnused c old
@@ -73,7 +73,7 @@ module _ {C D : Type 0} (c : Meaning ContextSetting C) (k : KdcCalls D) where
     texts_of : (mid : View) → mid.credentials ≡ old.credentials → mid.delegation ≡ old.delegation → delegated_text mid.credentials mid.delegation ≡ Ok text
     texts_of mid one two = (rw (one, given.is.same.credentials, two, given.is.same.delegation) refl) ∙ given.text_is
 
-    delivered : (mid : View) (kdc2 : D) (r : TsRequest) → ClientMakes c k old kdc d (Ended r) mid kdc2 →
+    delivered : (mid : View) (kdc2 : D) (r : TsRequest) → ClientMakes c k old kdc d (outcome.Final r) mid kdc2 →
         r ≡ record d { version = a.version; nego_tokens = None; pub_key_auth = None; auth_info = Some (own 1 text) }
     delivered mid kdc2 r makes =
         let turn = makes.0 in
@@ -117,7 +117,7 @@ module _ {C D : Type 0} (c : Meaning ContextSetting C) (k : KdcCalls D) where
     opened_never false m kind texts is same few next h = given.taker.never m 0 proof_text kind same (next refl) (omega arith) h
     opened_never true m kind texts is same few next h = checked_never m kind texts is same few h
 
-    delivery_refused : (mid : View) (kdc2 : D) (kind : ErrorKind) → ClientMakes c k old kdc d (Stopped kind None) mid kdc2 → kind ≢ InsufficientMemory → ⊥
+    delivery_refused : (mid : View) (kdc2 : D) (kind : ErrorKind) → ClientMakes c k old kdc d (outcome.Refused kind None) mid kdc2 → kind ≢ InsufficientMemory → ⊥
     delivery_refused mid kdc2 kind makes others =
         let error = makes.0 in
         let turn = makes.2 in
@@ -147,7 +147,7 @@ module _ {C D : Type 0} (c : Meaning ContextSetting C) (k : KdcCalls D) where
         (λ unchecked. let none : unsealed_by mid.acts ≡ 0 = rw (unchecked, turn.turn.acts.opened) refl in omega (arith, opened, opened_before, opened_here, none))
         at
 
-    pub last_turn : (out : Outcome) (mid : View) (kdc2 : D) → ClientMakes c k old kdc d (came_of out) mid kdc2 →
+    pub last_turn : (out : Outcome) (mid : View) (kdc2 : D) → ClientMakes c k old kdc d out mid kdc2 →
         Comes out (λ r. r ≡ record d { version = a.version; nego_tokens = None; pub_key_auth = None; auth_info = Some (own 1 text) })
     last_turn (outcome.Reply r) mid kdc2 makes = absurd (never_replies mid kdc2 r makes)
     last_turn (outcome.Final r) mid kdc2 makes = delivered mid kdc2 r makes

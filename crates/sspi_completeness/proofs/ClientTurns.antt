@@ -27,13 +27,13 @@ use Rattle.sspi_credssp.specs.Counts.{sealed_in, SealsIn, is_waiting_in, cleared
 use Rattle.sspi_credssp.specs.Noted.{noted_next}
 use Rattle.sspi_credssp.specs.PublicKey.{prescribed}
 use Rattle.sspi_credssp.specs.Requests.{is_code, unless_empty}
-use Rattle.sspi_credssp.specs.Turn.{Turn, ClientFrame, Replied, Ended, Stopped, AtNoted}
-use Rattle.sspi_delegate.specs.declared.turn.Outcome.{Outcome}
-use Rattle.sspi_delegate.specs.declared.turn.Outcome.TheVariants as outcome
+use Rattle.sspi_credssp.specs.Turn.{ClientFrame, AtNoted}
+use Rattle.sspi_credssp.specs.declared.turn.Outcome.{Outcome}
+use Rattle.sspi_credssp.specs.declared.turn.Outcome.TheVariants as outcome
 use Rattle.sspi_delegate.specs.Asking.{KdcCalls}
-use Rattle.sspi_delegate.specs.EndTurns.{came_of}
 use Rattle.sspi_delegate.specs.History.{ClientMakes}
 use Rattle.sspi_completeness.proofs.Ends.{Comes, in_context, is_false, stops_later, made_past, sealed_few, noted_at, Holds, IsMaker, sealed_field, unused_in, ClientIs, fits_later}
+use Rattle.sspi_credssp.specs.declared.turn.Turn.{Turn}
 
 module _ {C : Type 0} (c : Meaning ContextSetting C) (laws : IsContext c) where
   abbrev View : Type 0
@@ -115,7 +115,7 @@ module _ {C : Type 0} (c : Meaning ContextSetting C) (laws : IsContext c) where
           )
 
       replied_at : (mid : View) (kdc2 : D) (status : Option SecurityStatus) (log : List Asked) (r : TsRequest) → k.replies kdc log kdc2 →
-          NegoReply c (client_frame c old mid) (client_turn c d (Replied r) mid) status r → DoneStep c status old d 0 log mid →
+          NegoReply c (client_frame c old mid) (client_turn c d (outcome.Reply r) mid) status r → DoneStep c status old d 0 log mid →
           (status ≡ Some step.status) × Left mid y handle After kdc2 step
       replied_at mid kdc2 None log r replied h done = absurd h
       replied_at mid kdc2 (Some st) log r replied h done = let s = walked_at mid kdc2 st log replied done in (ap Some s.0, s.1)
@@ -148,11 +148,11 @@ module _ {C : Type 0} (c : Meaning ContextSetting C) (laws : IsContext c) where
 
       -- what a refusal of such a turn rests on
       record Refusal (mid : View) (kdc2 : D) (kind : ErrorKind) : Type 0 where
-        pub turn : ClientTurn c old d (Stopped kind None) mid
+        pub turn : ClientTurn c old d (outcome.Refused kind None) mid
         pub left : Left mid y handle After kdc2 step
         pub cause : NegoCause c (Some step.status) mid kind
 
-      refusal : (mid : View) (kdc2 : D) (kind : ErrorKind) → ClientMakes c k old kdc d (Stopped kind None) mid kdc2 → kind ≢ InsufficientMemory → Refusal mid kdc2 kind
+      refusal : (mid : View) (kdc2 : D) (kind : ErrorKind) → ClientMakes c k old kdc d (outcome.Refused kind None) mid kdc2 → kind ≢ InsufficientMemory → Refusal mid kdc2 kind
       refusal mid kdc2 kind makes others =
           let error = makes.0 in
           let turn = makes.2 in
@@ -167,7 +167,7 @@ module _ {C : Type 0} (c : Meaning ContextSetting C) (laws : IsContext c) where
             cause = subst (λ (x : ErrorKind). NegoCause c (Some step.status) mid x) makes.1 (subst (λ (x : Option SecurityStatus). NegoCause c x mid error.error_type) s.0 cause);
           }
 
-      never_ends : (mid : View) (kdc2 : D) (r : TsRequest) → ClientMakes c k old kdc d (Ended r) mid kdc2 → ⊥
+      never_ends : (mid : View) (kdc2 : D) (r : TsRequest) → ClientMakes c k old kdc d (outcome.Final r) mid kdc2 → ⊥
       never_ends mid kdc2 r makes = let auth = makes.0.turn.reply.state in let nego = given.is.state_is in cc
 
       noted_now : (mid : View) → mid.noted ≡ noted_next old.context old.noted d.version → mid.noted ≡ noted_at first w
@@ -176,13 +176,13 @@ module _ {C : Type 0} (c : Meaning ContextSetting C) (laws : IsContext c) where
       -- ---- a token
 
       token_replied : (w2 : ℕ) (mid : View) (kdc2 : D) (r : TsRequest) → step.status ≡ statuses.ContinueNeeded → (first ≡ false → w2 ≡ w) →
-          ClientMakes c k old kdc d (Replied r) mid kdc2 →
+          ClientMakes c k old kdc d (outcome.Reply r) mid kdc2 →
           (r ≡ record d { version = a.version; nego_tokens = Some step.output }) × ClientIs c a mid w2 false NegoToken 0 0 × Holds c mid.context y
           × (mid.handle ≡ handle) × After kdc2
       token_replied w2 mid kdc2 r goes peer makes =
           let turn = makes.0 in
           let frame = client_frame c old mid in
-          let t = client_turn c d (Replied r) mid in
+          let t = client_turn c d (outcome.Reply r) mid in
           let s = replied_at mid kdc2 mid.acts.status makes.1.asked r makes.1.replied turn.turn.reply makes.1.step in
           let status : mid.acts.status ≡ Some statuses.ContinueNeeded = s.0 ∙ ap Some goes in
           let token : TokenReply c frame t r = subst (λ (x : Option SecurityStatus). NegoReply c frame t x r) status turn.turn.reply in
@@ -208,7 +208,7 @@ module _ {C : Type 0} (c : Meaning ContextSetting C) (laws : IsContext c) where
           )
 
       pub token_turn : (w2 : ℕ) (out : Outcome) (mid : View) (kdc2 : D) → step.status ≡ statuses.ContinueNeeded → (first ≡ false → w2 ≡ w) →
-          ClientMakes c k old kdc d (came_of out) mid kdc2 →
+          ClientMakes c k old kdc d out mid kdc2 →
           Comes out (λ r. (r ≡ record d { version = a.version; nego_tokens = Some step.output }) × ClientIs c a mid w2 false NegoToken 0 0 × Holds c mid.context y
           × (mid.handle ≡ handle) × After kdc2)
       token_turn w2 (outcome.Reply r) mid kdc2 goes peer makes = token_replied w2 mid kdc2 r goes peer makes
@@ -221,7 +221,7 @@ module _ {C : Type 0} (c : Meaning ContextSetting C) (laws : IsContext c) where
       -- ---- the proof
 
       module _ (blob : ℕ → List ℕ → List ℕ) (maker : IsMaker c y blob) (later : first ≡ false) where
-        proof_replied : (mid : View) (kdc2 : D) (r : TsRequest) → step.status ≡ statuses.Ok → ClientMakes c k old kdc d (Replied r) mid kdc2 →
+        proof_replied : (mid : View) (kdc2 : D) (r : TsRequest) → step.status ≡ statuses.Ok → ClientMakes c k old kdc d (outcome.Reply r) mid kdc2 →
             (r ≡ record d {
               version = a.version;
               nego_tokens = unless_empty step.output;
@@ -231,7 +231,7 @@ module _ {C : Type 0} (c : Meaning ContextSetting C) (laws : IsContext c) where
         proof_replied mid kdc2 r ends makes =
             let turn = makes.0 in
             let frame = client_frame c old mid in
-            let t = client_turn c d (Replied r) mid in
+            let t = client_turn c d (outcome.Reply r) mid in
             let s = replied_at mid kdc2 mid.acts.status makes.1.asked r makes.1.replied turn.turn.reply makes.1.step in
             let status : mid.acts.status ≡ Some statuses.Ok = s.0 ∙ ap Some ends in
             let proof : ProofReply c frame t r = subst (λ (x : Option SecurityStatus). NegoReply c frame t x r) status turn.turn.reply in
@@ -267,7 +267,7 @@ module _ {C : Type 0} (c : Meaning ContextSetting C) (laws : IsContext c) where
             subst (λ (x : Option C). ProveCause c (Some w) x mid kind) there (subst (λ (x : Option ℕ). ProveCause c x context mid kind) is cause) in
             maker.never m _ kind same few at
 
-        proof_refused : (mid : View) (kdc2 : D) (kind : ErrorKind) → step.status ≡ statuses.Ok → ClientMakes c k old kdc d (Stopped kind None) mid kdc2 →
+        proof_refused : (mid : View) (kdc2 : D) (kind : ErrorKind) → step.status ≡ statuses.Ok → ClientMakes c k old kdc d (outcome.Refused kind None) mid kdc2 →
             kind ≢ InsufficientMemory → ⊥
         proof_refused mid kdc2 kind ends makes others =
             let x = refusal mid kdc2 kind makes others in
@@ -280,7 +280,7 @@ module _ {C : Type 0} (c : Meaning ContextSetting C) (laws : IsContext c) where
             prove_never mid mid.noted mid.context x.left.holds.held kind noted x.left.holds.there x.left.holds.same (omega (arith, sealed, before, two, here))
             (subst (λ (s : SecurityStatus). NegoCause c (Some s) mid kind) ends x.cause)
 
-        pub proof_turn : (out : Outcome) (mid : View) (kdc2 : D) → step.status ≡ statuses.Ok → ClientMakes c k old kdc d (came_of out) mid kdc2 →
+        pub proof_turn : (out : Outcome) (mid : View) (kdc2 : D) → step.status ≡ statuses.Ok → ClientMakes c k old kdc d out mid kdc2 →
             Comes out (λ r. (r ≡ record d {
               version = a.version;
               nego_tokens = unless_empty step.output;

@@ -16,12 +16,12 @@ use Rattle.sspi_tsreq.proofs.Capped.{spelled_length}
 use Rattle.sspi_tsreq.proofs.RequestMatch.{request_again}
 use Rattle.sspi_tsreq.proofs.RoundTrip.{spelled_whole, one_request}
 use Rattle.sspi_delegate.specs.declared.carried.Carried.{Carried}
-use Rattle.sspi_delegate.specs.declared.turn.Turn.{Turn}
+use Rattle.sspi_credssp.specs.declared.turn.Turn.{Turn}
 use Rattle.sspi_delegate.specs.Causes.{NewestFits, MessageFits}
 use Rattle.sspi_delegate.specs.Deliveries.{is_taken}
 use Rattle.sspi_delegate.specs.Edits.{Delivers, FollowsEdits}
 use Rattle.sspi_delegate.specs.Run.{IsRead, IsFault, IsDelivered, IsSent, IsEntry, Logged, IsUnreadable}
-use Rattle.sspi_delegate.specs.Turns.{message_of}
+use Rattle.sspi_credssp.specs.Turn.{message_of}
 
 spelled_short : (r : TsRequest) → fits r ≡ true → length (spelled r) ≤ 65535
 spelled_short r fit =

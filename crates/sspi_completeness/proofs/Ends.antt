@@ -20,8 +20,8 @@ use Rattle.sspi_credssp.specs.Noted.{noted_next}
 use Rattle.sspi_credssp.specs.Server.{ServerView, IsFreshServer}
 use Rattle.sspi_credssp.specs.ServerTurn.{SameServer, noted_first}
 use Rattle.sspi_credssp.specs.Stops.{StopsIf, differs}
-use Rattle.sspi_delegate.specs.declared.turn.Outcome.{Outcome}
-use Rattle.sspi_delegate.specs.declared.turn.Outcome.TheVariants.{Reply, Final, Finished, Refused}
+use Rattle.sspi_credssp.specs.declared.turn.Outcome.{Outcome}
+use Rattle.sspi_credssp.specs.declared.turn.Outcome.TheVariants.{Reply, Final, Finished, Refused}
 
 -- an undisturbed turn has a message, of which this is so; or it was refused for want of memory
 abbrev pub Comes : Outcome → (TsRequest → Type 0) → Type 0

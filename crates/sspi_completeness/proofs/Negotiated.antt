@@ -16,10 +16,9 @@ use Rattle.sspi_credssp.specs.PublicKey.{prescribed}
 use Rattle.sspi_credssp.specs.Requests.{is_code, nonce_of, unless_empty}
 use Rattle.sspi_credssp.specs.Server.{ServerView, IsFreshServer}
 use Rattle.sspi_credssp.specs.ServerTurn.{IsOver, HoldsIdentity}
-use Rattle.sspi_delegate.specs.declared.turn.Outcome.{Outcome}
-use Rattle.sspi_delegate.specs.declared.turn.Outcome.TheVariants.{Reply, Final, Finished, Refused}
+use Rattle.sspi_credssp.specs.declared.turn.Outcome.{Outcome}
+use Rattle.sspi_credssp.specs.declared.turn.Outcome.TheVariants.{Reply, Final, Finished, Refused}
 use Rattle.sspi_delegate.specs.Asking.{KdcCalls}
-use Rattle.sspi_delegate.specs.EndTurns.{came_of}
 use Rattle.sspi_delegate.specs.History.{ClientMakes, ServerMakes}
 use Rattle.sspi_completeness.proofs.Accepting.{IsPeer, Takes}
 use Rattle.sspi_completeness.proofs.ClientDelivery as client_last
@@ -239,7 +238,7 @@ module _ {C D P : Type 0} (c : Meaning ContextSetting C) (laws : IsContext c) (k
   }
 
   client_token : (n : ℕ) (x mid : CView) (kdc kdc2 : D) (d : TsRequest) (out : Outcome) → n ≤ j → ClientNego n x kdc → d ≡ given_of n →
-      ClientMakes c k x kdc d (came_of out) mid kdc2 → Comes out (λ r. (r ≡ up_of n) × ClientNego (suc n) (record mid { output = [] }) kdc2)
+      ClientMakes c k x kdc d out mid kdc2 → Comes out (λ r. (r ≡ up_of n) × ClientNego (suc n) (record mid { output = [] }) kdc2)
   client_token n x mid kdc kdc2 d out less at is makes =
       comes_map out _ _
       (λ r h. (
@@ -254,7 +253,7 @@ module _ {C D P : Type 0} (c : Meaning ContextSetting C) (laws : IsContext c) (k
       (client_given n x kdc d (omega (arith, less)) at is) b.version out mid kdc2 (it.client_goes n less) (peer_speaks n) makes)
 
   client_proof : (x mid : CView) (kdc kdc2 : D) (d : TsRequest) (out : Outcome) → ClientNego (suc j) x kdc → d ≡ carried (down_of j) →
-      ClientMakes c k x kdc d (came_of out) mid kdc2 → Comes out (λ r. (r ≡ proof_of) × ClientLast (record mid { output = [] }))
+      ClientMakes c k x kdc d out mid kdc2 → Comes out (λ r. (r ≡ proof_of) × ClientLast (record mid { output = [] }))
   client_proof x mid kdc kdc2 d out at is makes =
       comes_map out _ _
       (λ r h. (
@@ -279,7 +278,7 @@ module _ {C D P : Type 0} (c : Meaning ContextSetting C) (laws : IsContext c) (k
       ∙ ap (prescribed end a.version (nonce_of nonce_sent)) (sym alike.key_same)
 
   client_delivery : (x mid : CView) (kdc kdc2 : D) (d : TsRequest) (out : Outcome) → ClientLast x → d ≡ carried answer_of →
-      ClientMakes c k x kdc d (came_of out) mid kdc2 → Comes out (λ r. r ≡ last_of)
+      ClientMakes c k x kdc d out mid kdc2 → Comes out (λ r. r ≡ last_of)
   client_delivery x mid kdc kdc2 d out at is makes =
       comes_map out _ _
       (λ r h. h ∙ ap (λ (q : TsRequest). record q { version = a.version; nego_tokens = None; pub_key_auth = None; auth_info = Some (it.ups 1 text) }) is)
@@ -297,7 +296,7 @@ module _ {C D P : Type 0} (c : Meaning ContextSetting C) (laws : IsContext c) (k
       }) kdc out mid kdc2 makes)
 
   client_goes : (i : Round j) (x mid : CView) (kdc kdc2 : D) (d : TsRequest) (out : Outcome) → ClientAt i x kdc → d ≡ given i →
-      ClientMakes c k x kdc d (came_of out) mid kdc2 → Comes out (λ r. (r ≡ up i) × (is_last i ≡ false → ClientAt (next i) (record mid { output = [] }) kdc2))
+      ClientMakes c k x kdc d out mid kdc2 → Comes out (λ r. (r ≡ up i) × (is_last i ≡ false → ClientAt (next i) (record mid { output = [] }) kdc2))
   client_goes (Token n zero e) x mid kdc kdc2 d out at is makes =
       comes_map out _ _ (λ r h. (h.0, λ later. subst (λ (m : ℕ). ClientNego (suc m) (record mid { output = [] }) kdc2) (is_j n e) h.1))
       (client_token n x mid kdc kdc2 d out (within n zero e) at is makes)
@@ -327,7 +326,7 @@ module _ {C D P : Type 0} (c : Meaning ContextSetting C) (laws : IsContext c) (k
   server_given n y d at version takes = record { is = at.is; takes = takes; version = version; begins = it.server_begins }
 
   server_token : (n : ℕ) (y mid : SView) (d : TsRequest) (out : Outcome) → n < last_step early j → ServerNego n y → d ≡ carried (up_of n) →
-      ServerMakes c told faults y d (came_of out) mid → Comes out (λ r. (r ≡ down_of n) × ServerNego (suc n) (record mid { output = [] }))
+      ServerMakes c told faults y d out mid → Comes out (λ r. (r ≡ down_of n) × ServerNego (suc n) (record mid { output = [] }))
   server_token n y mid d out less at is makes =
       comes_map out _ _
       (λ r h. (
@@ -384,7 +383,7 @@ module _ {C D P : Type 0} (c : Meaning ContextSetting C) (laws : IsContext c) (k
 
   -- the last token of the server, after which its authentication may be over
   last_token : (early2 : Bool) → early ≡ early2 → (n : ℕ) (y mid : SView) (d : TsRequest) (out : Outcome) → n ≡ j → ServerNego n y → d ≡ carried (up_of n) →
-      told y.proxy ≡ told b.proxy → faults mid.proxy ≡ faults y.proxy → faults y.proxy < 2 ^ 64 - 1 → ServerMakes c told faults y d (came_of out) mid →
+      told y.proxy ≡ told b.proxy → faults mid.proxy ≡ faults y.proxy → faults y.proxy < 2 ^ 64 - 1 → ServerMakes c told faults y d out mid →
       Comes out (λ r. (r ≡ down_of n) × BeforeProof early2 (record mid { output = [] }))
   last_token true when n y mid d out is_last at is tells still calm makes =
       let m : last_step early j ≡ n = ap (λ (x : Bool). last_step x j) when ∙ sym is_last in
@@ -407,7 +406,7 @@ module _ {C D P : Type 0} (c : Meaning ContextSetting C) (laws : IsContext c) (k
       (server_token n y mid d out (omega (arith, m, is_last)) at is makes)
 
   answers_proof : (early2 : Bool) → early ≡ early2 → (y mid : SView) (d : TsRequest) (out : Outcome) → BeforeProof early2 y → d ≡ carried proof_of →
-      told y.proxy ≡ told b.proxy → faults mid.proxy ≡ faults y.proxy → faults y.proxy < 2 ^ 64 - 1 → ServerMakes c told faults y d (came_of out) mid →
+      told y.proxy ≡ told b.proxy → faults mid.proxy ≡ faults y.proxy → faults y.proxy < 2 ^ 64 - 1 → ServerMakes c told faults y d out mid →
       Comes out (λ r. (r ≡ answer_of) × ServerLast (record mid { output = [] }))
   answers_proof true when y mid d out at is tells still calm makes =
       comes_map out _ _ (λ r h. answer_more mid d r is h)
@@ -424,7 +423,7 @@ module _ {C D P : Type 0} (c : Meaning ContextSetting C) (laws : IsContext c) (k
       out mid still calm makes)
 
   server_goes : (i : Round j) (y mid : SView) (d : TsRequest) (out : Outcome) → is_last i ≡ false → ServerAt i y → d ≡ carried (up i) → told y.proxy ≡ told b.proxy →
-      faults mid.proxy ≡ faults y.proxy → faults y.proxy < 2 ^ 64 - 1 → ServerMakes c told faults y d (came_of out) mid →
+      faults mid.proxy ≡ faults y.proxy → faults y.proxy < 2 ^ 64 - 1 → ServerMakes c told faults y d out mid →
       Comes out (λ r. (r ≡ down i) × ServerAt (next i) (record mid { output = [] }))
   server_goes (Token n zero e) y mid d out goes at is tells still calm makes = last_token early refl n y mid d out (is_j n e) at is tells still calm makes
   server_goes (Token n (suc rest) e) y mid d out goes at is tells still calm makes =
@@ -433,7 +432,7 @@ module _ {C D P : Type 0} (c : Meaning ContextSetting C) (laws : IsContext c) (k
   server_goes Last y mid d out goes at is tells still calm makes = absurd cc
 
   server_ends : (i : Round j) (y mid : SView) (d : TsRequest) (out : Outcome) → is_last i ≡ true → ServerAt i y → d ≡ carried (up i) →
-      ServerMakes c told faults y d (came_of out) mid → Ends out ((identity2 : AuthIdentity) → HoldsIdentity c mid.context d.auth_info identity2 → identity2 ≡ identity)
+      ServerMakes c told faults y d out mid → Ends out ((identity2 : AuthIdentity) → HoldsIdentity c mid.context d.auth_info identity2 → identity2 ≡ identity)
   server_ends (Token n rest e) y mid d out last at is makes = absurd cc
   server_ends Proof y mid d out last at is makes = absurd cc
   server_ends Last y mid d out last at is makes =

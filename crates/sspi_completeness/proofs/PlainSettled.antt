@@ -15,7 +15,7 @@ use Rattle.sspi_delegate.specs.declared.answer.DelegateError.{DelegateError}
 use Rattle.sspi_delegate.specs.declared.answer.DelegateError.TheVariants as errors
 use Rattle.sspi_delegate.specs.declared.carried.Carried.{Carried}
 use Rattle.sspi_delegate.specs.declared.edit.Edit.{Edit}
-use Rattle.sspi_delegate.specs.declared.turn.Turn.{Turn}
+use Rattle.sspi_credssp.specs.declared.turn.Turn.{Turn}
 use Rattle.sspi_delegate.specs.Asking.{KdcCalls}
 use Rattle.sspi_delegate.specs.Causes.{RunEnds}
 use Rattle.sspi_delegate.specs.EndTurns.{client_turns, server_turns}

@@ -10,21 +10,22 @@ use Rattle.sspi_credssp.specs.Context.{ContextSetting}
 use Rattle.sspi_credssp.specs.Server.{ServerView}
 use Rattle.sspi_credssp.specs.ServerTurn.{HoldsIdentity}
 use Rattle.sspi_delegate.specs.declared.carried.Carried.{Carried}
-use Rattle.sspi_delegate.specs.declared.carried.End.{End}
-use Rattle.sspi_delegate.specs.declared.carried.End.TheVariants.{Client, Server}
-use Rattle.sspi_delegate.specs.declared.turn.Outcome.{Outcome}
-use Rattle.sspi_delegate.specs.declared.turn.Outcome.TheVariants.{Reply, Final, Finished, Refused}
-use Rattle.sspi_delegate.specs.declared.turn.Turn.{Turn}
+use Rattle.sspi_credssp.specs.declared.turn.End.{End}
+use Rattle.sspi_credssp.specs.declared.turn.End.TheVariants.{Client, Server}
+use Rattle.sspi_credssp.specs.declared.turn.Outcome.{Outcome}
+use Rattle.sspi_credssp.specs.declared.turn.Outcome.TheVariants.{Reply, Final, Finished, Refused}
+use Rattle.sspi_credssp.specs.declared.turn.Turn.{Turn}
 use Rattle.sspi_delegate.specs.Asking.{KdcCalls}
 use Rattle.sspi_delegate.specs.Causes.{one_of, turns_of}
 use Rattle.sspi_delegate.specs.Edits.{FollowsEdits}
-use Rattle.sspi_delegate.specs.EndTurns.{as_turn, came_of, onto_client, onto_server, client_turns, server_turns}
+use Rattle.sspi_delegate.specs.EndTurns.{onto_client, onto_server, client_turns, server_turns}
 use Rattle.sspi_delegate.specs.History.{ClientMakes, ClientMade, ClientHistory, ServerMakes, ServerMade, ServerHistory}
 use Rattle.sspi_delegate.specs.Run.{IsDelivered, Logged}
-use Rattle.sspi_delegate.specs.Turns.{other, next_end, message_of, GoesOn, AllGoOn, Alternates}
+use Rattle.sspi_delegate.specs.Turns.{other, next_end, GoesOn, AllGoOn, Alternates}
 use Rattle.sspi_completeness.proofs.Deliveries.{next_request}
 use Rattle.sspi_completeness.proofs.Ends.{Comes, Ends}
 use Rattle.sspi_completeness.proofs.Fits.{IsMessage}
+use Rattle.sspi_credssp.specs.Turn.{message_of}
 
 pub wrong_end : (e : End) → e ≡ Client → e ≡ Server → ⊥
 wrong_end e one two = cc
@@ -95,19 +96,19 @@ module _ {C D P : Type 0} (c : Meaning ContextSetting C) (k : KdcCalls D) (told 
     pub client_start : ClientAt start a kdc_first
     pub server_start : ServerAt start b
     pub client_goes : (i : Round) (x mid : CView) (kdc kdc2 : D) (d : TsRequest) (out : Outcome) → ClientAt i x kdc → d ≡ given i →
-        ClientMakes c k x kdc d (came_of out) mid kdc2 → Comes out (λ r. (r ≡ up i) × (is_last i ≡ false → ClientAt (next i) (record mid { output = [] }) kdc2))
+        ClientMakes c k x kdc d out mid kdc2 → Comes out (λ r. (r ≡ up i) × (is_last i ≡ false → ClientAt (next i) (record mid { output = [] }) kdc2))
     pub server_goes : (i : Round) (y mid : SView) (d : TsRequest) (out : Outcome) → is_last i ≡ false → ServerAt i y → d ≡ carried (up i) → told y.proxy ≡ told b.proxy →
-        faults mid.proxy ≡ faults y.proxy → faults y.proxy < 2 ^ 64 - 1 → ServerMakes c told faults y d (came_of out) mid →
+        faults mid.proxy ≡ faults y.proxy → faults y.proxy < 2 ^ 64 - 1 → ServerMakes c told faults y d out mid →
         Comes out (λ r. (r ≡ down i) × ServerAt (next i) (record mid { output = [] }))
     pub server_ends : (i : Round) (y mid : SView) (d : TsRequest) (out : Outcome) → is_last i ≡ true → ServerAt i y → d ≡ carried (up i) →
-        ServerMakes c told faults y d (came_of out) mid → Ends out ((identity2 : AuthIdentity) → HoldsIdentity c mid.context d.auth_info identity2 → identity2 ≡ identity)
+        ServerMakes c told faults y d out mid → Ends out ((identity2 : AuthIdentity) → HoldsIdentity c mid.context d.auth_info identity2 → identity2 ≡ identity)
 
   -- ---- the newest turn of an exchange, and the ends before it
 
   -- one end makes the turn, and the other stays
   pub data Extends (t : Turn) (x : CView) (kdc : D) (y : SView) (x2 : CView) (kdc2 : D) (y2 : SView) : Type 0 where
-    by_client : t.end ≡ Client → ClientMade c k x kdc (as_turn t) x2 kdc2 → y2 ≡ y → Extends t x kdc y x2 kdc2 y2
-    by_server : t.end ≡ Server → ServerMade c told faults failing y (as_turn t) y2 → x2 ≡ x → kdc2 ≡ kdc → Extends t x kdc y x2 kdc2 y2
+    by_client : t.end ≡ Client → ClientMade c k x kdc t x2 kdc2 → y2 ≡ y → Extends t x kdc y x2 kdc2 y2
+    by_server : t.end ≡ Server → ServerMade c told faults failing y t y2 → x2 ≡ x → kdc2 ≡ kdc → Extends t x kdc y x2 kdc2 y2
 
   pub record Peeled (t : Turn) (past : List Turn) (x2 : CView) (kdc2 : D) (y2 : SView) : Type 0 where
     pub x : CView
@@ -121,8 +122,8 @@ module _ {C D P : Type 0} (c : Meaning ContextSetting C) (k : KdcCalls D) (told 
       ServerHistory c told faults failing b (server_turns (t ∷ past)) y2 → Peeled t past x2 kdc2 y2
   peel t past x2 kdc2 y2 clients servers = at t.end refl clients servers
     where
-      at : (e : End) → t.end ≡ e → ClientHistory c k a kdc_first (onto_client e (as_turn t) (client_turns past)) x2 kdc2 →
-          ServerHistory c told faults failing b (onto_server e (as_turn t) (server_turns past)) y2 → Peeled t past x2 kdc2 y2
+      at : (e : End) → t.end ≡ e → ClientHistory c k a kdc_first (onto_client e t (client_turns past)) x2 kdc2 →
+          ServerHistory c told faults failing b (onto_server e t (server_turns past)) y2 → Peeled t past x2 kdc2 y2
       at Client is clients servers =
           record { x = clients.0; kdc = clients.1; y = y2; client = clients.2; server = servers; extends = by_client is clients.3 refl }
       at Server is clients servers =
@@ -182,7 +183,7 @@ module _ {C D P : Type 0} (c : Meaning ContextSetting C) (k : KdcCalls D) (told 
 
     server_turned : (base log : List Carried) (t : Turn) (past : List Turn) (x2 : CView) (kdc2 : D) (y y2 : SView) (i : known.Round) (b2 : Bool) → known.is_last i ≡ b2 →
         (known.is_last i ≡ false → known.ClientAt (known.next i) x2 kdc2) → known.ServerAt i y → turns_of Client past ≡ suc (known.rank i) → t.delivered ≡ carried (known.up i) →
-        t.end ≡ Server → ServerMade c told faults failing y (as_turn t) y2 → ProxySame y → IsCalmAt y2 → TurnIs t past x2 kdc2 y2
+        t.end ≡ Server → ServerMade c told faults failing y t y2 → ProxySame y → IsCalmAt y2 → TurnIs t past x2 kdc2 y2
     server_turned base log t past x2 kdc2 y y2 i true is client server count given e made proxy calm =
         server_end e (count ∙ ap suc (known.last_rank i is))
         (subst (λ (v : SView). Ends t.outcome ((identity2 : AuthIdentity) → HoldsIdentity c v.context t.delivered.auth_info identity2 → identity2 ≡ identity)) (sym made.rest)

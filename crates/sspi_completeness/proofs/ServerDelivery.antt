@@ -18,10 +18,8 @@ use Rattle.sspi_credssp.specs.Exchange.{OpensIdentity, opens_identity, BlobStops
 use Rattle.sspi_credssp.specs.Server.{ServerView}
 use Rattle.sspi_credssp.specs.ServerCause.{UnreadCause, unread, OpenedCause}
 use Rattle.sspi_credssp.specs.ServerTurn.{StateAnswer, MayCheck, StartsUnused, OnceNegotiated, HoldsIdentity, server_frame, server_turn}
-use Rattle.sspi_credssp.specs.Turn.{Replied, Finished, Stopped}
-use Rattle.sspi_delegate.specs.declared.turn.Outcome.{Outcome}
-use Rattle.sspi_delegate.specs.declared.turn.Outcome.TheVariants as outcome
-use Rattle.sspi_delegate.specs.EndTurns.{came_of}
+use Rattle.sspi_credssp.specs.declared.turn.Outcome.{Outcome}
+use Rattle.sspi_credssp.specs.declared.turn.Outcome.TheVariants as outcome
 use Rattle.sspi_delegate.specs.History.{ServerMakes}
 use Rattle.sspi_completeness.proofs.Ends.{Ends, is_false, stops_later, Holds, IsTaker, holds_still, ServerIs}
 use Rattle.sspi_completeness.proofs.ServerTurns.{cause_past}
@@ -45,9 +43,9 @@ module _ {C P : Type 0} (c : Meaning ContextSetting C) (laws : IsContext c) (tol
 
   module _ (b old : View) (w : ℕ) (d : TsRequest) (z : C) (peers : ℕ → List ℕ → List ℕ) (text : List ℕ) (identity : AuthIdentity)
       (given : DeliveryGiven b old w d z peers text identity) where
-    never_replies : (mid : View) (r : TsRequest) → ServerMakes c told faults old d (Replied r) mid → ⊥
+    never_replies : (mid : View) (r : TsRequest) → ServerMakes c told faults old d (outcome.Reply r) mid → ⊥
     never_replies mid r makes =
-        subst (λ (s : CredSspState). StateAnswer c (server_frame c old mid) (server_turn c d (Replied r) mid) s r) given.is.state_is makes.0.turn.reply
+        subst (λ (s : CredSspState). StateAnswer c (server_frame c old mid) (server_turn c d (outcome.Reply r) mid) s r) given.is.state_is makes.0.turn.reply
 
     held_now : (mid : View) → OnceNegotiated old.state (SameBut c old.context mid.context) → Holds c mid.context z
     held_now mid bare = holds_still c old.context mid.context z (bare_at old.state _ given.is.state_is bare) given.holds
@@ -57,7 +55,7 @@ module _ {C P : Type 0} (c : Meaning ContextSetting C) (laws : IsContext c) (tol
         let one : text2 ≡ text = given.taker.opened m 1 _ text text2 same opens in
         let both : Ok identity2 ≡ Ok identity = sym is ∙ ap delegated_identity one ∙ given.delegates in cc
 
-    gives : (mid : View) (identity2 : AuthIdentity) → ServerMakes c told faults old d Finished mid → HoldsIdentity c mid.context d.auth_info identity2 → identity2 ≡ identity
+    gives : (mid : View) (identity2 : AuthIdentity) → ServerMakes c told faults old d outcome.Finished mid → HoldsIdentity c mid.context d.auth_info identity2 → identity2 ≡ identity
     gives mid identity2 makes holds =
         let h = held_now mid makes.0.moves.bare in
         identity_of h.held identity2 h.same
@@ -74,7 +72,7 @@ module _ {C P : Type 0} (c : Meaning ContextSetting C) (laws : IsContext c) (tol
     opened_never false m kind same next h = given.taker.never m 1 text kind same (next refl) (omega arith) h
     opened_never true m kind same next h = unread_never m kind same h
 
-    delivery_refused : (mid : View) (kind : ErrorKind) (reply : Option TsRequest) → ServerMakes c told faults old d (Stopped kind reply) mid → kind ≢ InsufficientMemory → ⊥
+    delivery_refused : (mid : View) (kind : ErrorKind) (reply : Option TsRequest) → ServerMakes c told faults old d (outcome.Refused kind reply) mid → kind ≢ InsufficientMemory → ⊥
     delivery_refused mid kind reply makes others =
         let error = makes.0 in
         let turn = makes.2 in
@@ -93,7 +91,7 @@ module _ {C P : Type 0} (c : Meaning ContextSetting C) (laws : IsContext c) (tol
         opened_never mid.acts.opened h.held error.error_type h.same
         (λ unopened. let none : unsealed_by mid.acts ≡ 0 = rw (unchecked, unopened) refl in omega (arith, opened, before, here, none)) at
 
-    pub last_turn : (out : Outcome) (mid : View) → ServerMakes c told faults old d (came_of out) mid →
+    pub last_turn : (out : Outcome) (mid : View) → ServerMakes c told faults old d out mid →
         Ends out ((identity2 : AuthIdentity) → HoldsIdentity c mid.context d.auth_info identity2 → identity2 ≡ identity)
     last_turn (outcome.Reply r) mid makes = never_replies mid r makes
     last_turn (outcome.Final r) mid makes = makes

@@ -26,11 +26,10 @@ use Rattle.sspi_credssp.specs.Server.{ServerView}
 use Rattle.sspi_credssp.specs.ServerCause.{IdentifyCause, OverCause, unknown, incomplete, known, AfterCause, ExchangeCause, BlobCause, ProofCause, AnswerCause, altered, unsealed, lacks_nonce}
 use Rattle.sspi_credssp.specs.ServerStep.{Unknown, Identified, Completed}
 use Rattle.sspi_credssp.specs.ServerTurn.{IsOver, OverAnswer, ProofAnswer, StateAnswer, StartsUnused, OnceNegotiated, ServerTurn, noted_first, after_status, server_frame, server_turn}
-use Rattle.sspi_credssp.specs.Turn.{Came, Replied, Finished, Stopped, AtNoted}
+use Rattle.sspi_credssp.specs.Turn.{AtNoted}
 use Rattle.sspi_mech.specs.Calls.{ToComplete}
-use Rattle.sspi_delegate.specs.declared.turn.Outcome.{Outcome}
-use Rattle.sspi_delegate.specs.declared.turn.Outcome.TheVariants as outcome
-use Rattle.sspi_delegate.specs.EndTurns.{came_of}
+use Rattle.sspi_credssp.specs.declared.turn.Outcome.{Outcome}
+use Rattle.sspi_credssp.specs.declared.turn.Outcome.TheVariants as outcome
 use Rattle.sspi_delegate.specs.History.{ServerMakes}
 use Rattle.sspi_completeness.proofs.Accepting.{IsPeer, named_is, come_at}
 use Rattle.sspi_completeness.proofs.Ends.{Comes, is_false, stops_later, sealed_few, Holds, IsMaker, IsTaker, holds_still, sealed_field, ServerIs}
@@ -69,7 +68,7 @@ module _ {C P : Type 0} (c : Meaning ContextSetting C) (laws : IsContext c) (tol
       pub_key_auth = Some (own 0 (prescribed Server w (nonce_of d.client_nonce) b.public_key));
     }
 
-    answered : (mid : View) (r : TsRequest) → ProofAnswer c (server_frame c old mid) (server_turn c d (Replied r) mid) r → Holds c mid.context z → mid.noted ≡ Some w →
+    answered : (mid : View) (r : TsRequest) → ProofAnswer c (server_frame c old mid) (server_turn c d (outcome.Reply r) mid) r → Holds c mid.context z → mid.noted ≡ Some w →
         mid.public_key ≡ b.public_key → mid.version ≡ b.version → sealed_in c mid.context ≡ 1 → r ≡ answer
     answered mid r proof holds noted public_key version one =
         let seals = subst (λ (x : Option ℕ). AtNoted x (λ n. SealsIn c mid.context (sealed_in c mid.context - 1)
@@ -119,15 +118,15 @@ module _ {C P : Type 0} (c : Meaning ContextSetting C) (laws : IsContext c) (tol
       noted_at : (mid : View) (m : C) → mid.context ≡ Some m → (IsSome mid.context → mid.noted ≡ noted_first old.noted d.version) → mid.noted ≡ Some w
       noted_at mid m there noted = noted (rw there refl) ∙ ap (noted_first old.noted) version ∙ is.notes
 
-      unopened : (mid : View) (came : Came) → ServerTurn c old d came mid → mid.acts.opened ≡ false
-      unopened mid came turn = is_false mid.acts.opened (λ was. let auth = (turn.turn.acts.opened was).0 in let at = is.state_is in cc)
+      unopened : (mid : View) (out : Outcome) → ServerTurn c old d out mid → mid.acts.opened ≡ false
+      unopened mid out turn = is_false mid.acts.opened (λ was. let auth = (turn.turn.acts.opened was).0 in let at = is.state_is in cc)
 
-      proof_replied : (mid : View) (r : TsRequest) → ServerMakes c told faults old d (Replied r) mid →
+      proof_replied : (mid : View) (r : TsRequest) → ServerMakes c told faults old d (outcome.Reply r) mid →
           (r ≡ answer) × ServerIs c b mid w AuthInfo 1 1 × Holds c mid.context z
       proof_replied mid r makes =
           let turn = makes.0 in
-          let proof : ProofAnswer c (server_frame c old mid) (server_turn c d (Replied r) mid) r =
-          subst (λ (s : CredSspState). StateAnswer c (server_frame c old mid) (server_turn c d (Replied r) mid) s r) is.state_is turn.turn.reply in
+          let proof : ProofAnswer c (server_frame c old mid) (server_turn c d (outcome.Reply r) mid) r =
+          subst (λ (s : CredSspState). StateAnswer c (server_frame c old mid) (server_turn c d (outcome.Reply r) mid) s r) is.state_is turn.turn.reply in
           let h = held_now mid turn.moves.bare in
           let one : sealed_by mid.acts ≡ 1 = rw (proof.proved, turn.turn.acts.sealed) refl in
           let opened_one : unsealed_by mid.acts ≡ 1 = rw (proof.checked, unopened mid _ turn) refl in
@@ -147,7 +146,7 @@ module _ {C P : Type 0} (c : Meaning ContextSetting C) (laws : IsContext c) (tol
             h,
           )
 
-      proof_refused : (mid : View) (kind : ErrorKind) (reply : Option TsRequest) → ServerMakes c told faults old d (Stopped kind reply) mid → kind ≢ InsufficientMemory → ⊥
+      proof_refused : (mid : View) (kind : ErrorKind) (reply : Option TsRequest) → ServerMakes c told faults old d (outcome.Refused kind reply) mid → kind ≢ InsufficientMemory → ⊥
       proof_refused mid kind reply makes others =
           let turn = makes.2 in
           let others2 : makes.0.error_type ≢ InsufficientMemory = λ memory. others (sym makes.1 ∙ memory) in
@@ -162,10 +161,10 @@ module _ {C P : Type 0} (c : Meaning ContextSetting C) (laws : IsContext c) (tol
           (omega (arith, sealed, sealed_before, two))
           (λ unchecked. let none : unsealed_by mid.acts ≡ 0 = rw (unchecked, unopened mid _ turn) refl in omega (arith, opened, opened_before, none)) cause
 
-      proof_ends : (mid : View) → ServerMakes c told faults old d Finished mid → ⊥
+      proof_ends : (mid : View) → ServerMakes c told faults old d outcome.Finished mid → ⊥
       proof_ends mid makes = let auth = makes.0.turn.reply.0 in let at = is.state_is in cc
 
-      pub proof_turn : (out : Outcome) (mid : View) → ServerMakes c told faults old d (came_of out) mid →
+      pub proof_turn : (out : Outcome) (mid : View) → ServerMakes c told faults old d out mid →
           Comes out (λ r. (r ≡ answer) × ServerIs c b mid w AuthInfo 1 1 × Holds c mid.context z)
       proof_turn (outcome.Reply r) mid makes = proof_replied mid r makes
       proof_turn (outcome.Final r) mid makes = absurd makes
@@ -194,12 +193,12 @@ module _ {C P : Type 0} (c : Meaning ContextSetting C) (laws : IsContext c) (tol
     -- ---- with the client's proof
 
     module _ (own peers : ℕ → List ℕ → List ℕ) (proof_given : ProofGiven b w d z own peers) where
-      exchange_replied : (mid : View) (r : TsRequest) → ServerMakes c told faults old d (Replied r) mid →
+      exchange_replied : (mid : View) (r : TsRequest) → ServerMakes c told faults old d (outcome.Reply r) mid →
           (r ≡ answer b old w d z own peers proof_given) × ServerIs c b mid w AuthInfo 1 1 × Holds c mid.context z
       exchange_replied mid r makes =
           let turn = makes.0 in
           let frame = server_frame c old mid in
-          let t = server_turn c d (Replied r) mid in
+          let t = server_turn c d (outcome.Reply r) mid in
           let s = replies c laws told faults b old w d step y handle given mid r makes in
           let proof : ProofAnswer c frame t r = subst (λ (x : Option (List ℕ)). OverAnswer c frame t x r) proof_given.proof
           (over_answer c laws told faults step.status frame t r over s.answer) in
@@ -231,12 +230,12 @@ module _ {C P : Type 0} (c : Meaning ContextSetting C) (laws : IsContext c) (tol
       exchange_at (Some x) blob mid kind is h = h
 
       exchange_refused : (mid : View) (kind : ErrorKind) (reply : Option TsRequest) → faults mid.proxy ≡ faults old.proxy → faults old.proxy < 2 ^ 64 - 1 →
-          ServerMakes c told faults old d (Stopped kind reply) mid → kind ≢ InsufficientMemory → ⊥
+          ServerMakes c told faults old d (outcome.Refused kind reply) mid → kind ≢ InsufficientMemory → ⊥
       exchange_refused mid kind reply still calm makes others =
           let x = refusal c laws told faults b old w d step y handle given mid kind reply makes others in
           let after = over_after mid kind still calm (over_cause c laws told faults step.status old d mid kind over x.cause) in
           let start = unused c laws told faults b old w d step y handle given in
-          let quiet = nego_acts c laws told faults (server_frame c old mid) (server_turn c d (Stopped kind reply) mid) x.turn.turn.acts given.is.state_is in
+          let quiet = nego_acts c laws told faults (server_frame c old mid) (server_turn c d (outcome.Refused kind reply) mid) x.turn.turn.acts given.is.state_is in
           let sealed = x.turn.moves.sealed start in
           let opened = x.turn.moves.unsealed start in
           let sealed_before = given.is.sealed_is in
@@ -248,7 +247,7 @@ module _ {C P : Type 0} (c : Meaning ContextSetting C) (laws : IsContext c) (tol
           (λ unchecked. let none : unsealed_by mid.acts ≡ 0 = rw (unchecked, quiet.1) refl in omega (arith, opened, opened_before, none))
           (exchange_at d.pub_key_auth _ mid kind proof_given.proof after.2)
 
-      pub exchange_turn : (out : Outcome) (mid : View) → faults mid.proxy ≡ faults old.proxy → faults old.proxy < 2 ^ 64 - 1 → ServerMakes c told faults old d (came_of out) mid →
+      pub exchange_turn : (out : Outcome) (mid : View) → faults mid.proxy ≡ faults old.proxy → faults old.proxy < 2 ^ 64 - 1 → ServerMakes c told faults old d out mid →
           Comes out (λ r. (r ≡ answer b old w d z own peers proof_given) × ServerIs c b mid w AuthInfo 1 1 × Holds c mid.context z)
       exchange_turn (outcome.Reply r) mid still calm makes = exchange_replied mid r makes
       exchange_turn (outcome.Final r) mid still calm makes = absurd makes
@@ -258,12 +257,12 @@ module _ {C P : Type 0} (c : Meaning ContextSetting C) (laws : IsContext c) (tol
     -- ---- before the client's proof came
 
     module _ (absent : d.pub_key_auth ≡ None) (speaks : step.output ≢ []) where
-      over_replied : (mid : View) (r : TsRequest) → ServerMakes c told faults old d (Replied r) mid →
+      over_replied : (mid : View) (r : TsRequest) → ServerMakes c told faults old d (outcome.Reply r) mid →
           (r ≡ record d { version = b.version; nego_tokens = Some step.output }) × ServerIs c b mid w PubKeyInfo 0 0 × Holds c mid.context z
       over_replied mid r makes =
           let turn = makes.0 in
           let frame = server_frame c old mid in
-          let t = server_turn c d (Replied r) mid in
+          let t = server_turn c d (outcome.Reply r) mid in
           let s = replies c laws told faults b old w d step y handle given mid r makes in
           let token : OverAnswer c frame t None r = subst (λ (x : Option (List ℕ)). OverAnswer c frame t x r) absent
           (over_answer c laws told faults step.status frame t r over s.answer) in
@@ -289,14 +288,14 @@ module _ {C P : Type 0} (c : Meaning ContextSetting C) (laws : IsContext c) (tol
           )
 
       over_refused : (mid : View) (kind : ErrorKind) (reply : Option TsRequest) → faults mid.proxy ≡ faults old.proxy → faults old.proxy < 2 ^ 64 - 1 →
-          ServerMakes c told faults old d (Stopped kind reply) mid → kind ≢ InsufficientMemory → ⊥
+          ServerMakes c told faults old d (outcome.Refused kind reply) mid → kind ≢ InsufficientMemory → ⊥
       over_refused mid kind reply still calm makes others =
           let x = refusal c laws told faults b old w d step y handle given mid kind reply makes others in
           let after = over_after mid kind still calm (over_cause c laws told faults step.status old d mid kind over x.cause) in
           let empty : (mid.output ≡ []) × (kind ≡ InvalidToken) = subst (λ (f : Option (List ℕ)). AfterCause c f d.client_nonce mid kind) absent after.2 in
           speaks (sym after.1 ∙ empty.0)
 
-      pub over_turn : (out : Outcome) (mid : View) → faults mid.proxy ≡ faults old.proxy → faults old.proxy < 2 ^ 64 - 1 → ServerMakes c told faults old d (came_of out) mid →
+      pub over_turn : (out : Outcome) (mid : View) → faults mid.proxy ≡ faults old.proxy → faults old.proxy < 2 ^ 64 - 1 → ServerMakes c told faults old d out mid →
           Comes out (λ r. (r ≡ record d { version = b.version; nego_tokens = Some step.output }) × ServerIs c b mid w PubKeyInfo 0 0 × Holds c mid.context z)
       over_turn (outcome.Reply r) mid still calm makes = over_replied mid r makes
       over_turn (outcome.Final r) mid still calm makes = absurd makes

@@ -22,13 +22,13 @@ use Rattle.sspi_credssp.specs.ServerCause.{ServerCause, StateCause, NegoCause, O
 use Rattle.sspi_credssp.specs.ServerStep.{Knowing, Unknown, Completed, DoneStep, HasCome, known_at}
 use Rattle.sspi_credssp.specs.ServerTurn.{IsOver, MayCheck, NegoAnswer, OverAnswer, StateAnswer, ServerActs, ServerTurn, SameServer, StartsUnused, noted_first, server_frame, server_turn}
 use Rattle.sspi_credssp.specs.Stops.{differs}
-use Rattle.sspi_credssp.specs.Turn.{Turn, ServerFrame, Replied, Finished, Stopped}
-use Rattle.sspi_delegate.specs.declared.turn.Outcome.{Outcome}
-use Rattle.sspi_delegate.specs.declared.turn.Outcome.TheVariants as outcome
-use Rattle.sspi_delegate.specs.EndTurns.{came_of}
+use Rattle.sspi_credssp.specs.Turn.{ServerFrame}
+use Rattle.sspi_credssp.specs.declared.turn.Outcome.{Outcome}
+use Rattle.sspi_credssp.specs.declared.turn.Outcome.TheVariants as outcome
 use Rattle.sspi_delegate.specs.History.{ServerMakes}
 use Rattle.sspi_completeness.proofs.Accepting.{Takes, Left, come_at, refused_at}
 use Rattle.sspi_completeness.proofs.Ends.{Comes, is_false, stops_later, made_past, differs_never, Holds, unused_in, ServerIs}
+use Rattle.sspi_credssp.specs.declared.turn.Turn.{Turn}
 
 module _ {C P : Type 0} (c : Meaning ContextSetting C) (laws : IsContext c) (told : P → Option (List AuthIdentity)) (faults : P → ℕ) where
   abbrev View : Type 0
@@ -110,23 +110,23 @@ module _ {C P : Type 0} (c : Meaning ContextSetting C) (laws : IsContext c) (tol
     pub noted_now : (mid : View) (m : C) → mid.context ≡ Some m → (IsSome mid.context → mid.noted ≡ noted_first old.noted d.version) → mid.noted ≡ Some w
     noted_now mid m there noted = noted (rw there refl) ∙ ap (noted_first old.noted) given.version ∙ given.is.notes
 
-    came : (mid : View) (status : Option SecurityStatus) (r : TsRequest) → NegoAnswer c (server_frame c old mid) (server_turn c d (Replied r) mid) status r →
+    out : (mid : View) (status : Option SecurityStatus) (r : TsRequest) → NegoAnswer c (server_frame c old mid) (server_turn c d (outcome.Reply r) mid) status r →
         DoneStep c told status old d mid → status ≡ Some step.status
-    came mid None r h done = absurd h
-    came mid (Some st) r h done = ap Some (come_at c laws told old d.nego_tokens step y handle given.takes mid (known_at c told st) st done).0
+    out mid None r h done = absurd h
+    out mid (Some st) r h done = ap Some (come_at c laws told old d.nego_tokens step y handle given.takes mid (known_at c told st) st done).0
 
     -- the answer and the step of a turn that replied
     pub record Replies (mid : View) (r : TsRequest) : Type 0 where
       pub status_is : mid.acts.status ≡ Some step.status
-      pub answer : NegoAnswer c (server_frame c old mid) (server_turn c d (Replied r) mid) (Some step.status) r
+      pub answer : NegoAnswer c (server_frame c old mid) (server_turn c d (outcome.Reply r) mid) (Some step.status) r
       pub done : DoneStep c told (Some step.status) old d mid
 
-    pub replies : (mid : View) (r : TsRequest) → ServerMakes c told faults old d (Replied r) mid → Replies mid r
+    pub replies : (mid : View) (r : TsRequest) → ServerMakes c told faults old d (outcome.Reply r) mid → Replies mid r
     replies mid r makes =
         let frame = server_frame c old mid in
-        let t = server_turn c d (Replied r) mid in
+        let t = server_turn c d (outcome.Reply r) mid in
         let answer = subst (λ (s : CredSspState). StateAnswer c frame t s r) given.is.state_is makes.0.turn.reply in
-        let status = came mid mid.acts.status r answer makes.1 in
+        let status = out mid mid.acts.status r answer makes.1 in
         record {
           status_is = status;
           answer = subst (λ (x : Option SecurityStatus). NegoAnswer c frame t x r) status answer;
@@ -136,7 +136,7 @@ module _ {C P : Type 0} (c : Meaning ContextSetting C) (laws : IsContext c) (tol
     pub over_left : (mid : View) → IsOver (Some step.status) → DoneStep c told (Some step.status) old d mid → Leaves mid Completed
     over_left mid over done = (come_at c laws told old d.nego_tokens step y handle given.takes mid Completed step.status (over_done step.status old d mid over done)).1
 
-    pub never_finishes : (mid : View) → ServerMakes c told faults old d Finished mid → ⊥
+    pub never_finishes : (mid : View) → ServerMakes c told faults old d outcome.Finished mid → ⊥
     never_finishes mid makes = let auth = makes.0.turn.reply.0 in let nego = given.is.state_is in cc
 
     began : (status : Option SecurityStatus) (mid : View) (kind : ErrorKind) → mid.acts.status ≡ status → (IsSome mid.acts.status → mid.acts.negotiated ≡ true) →
@@ -146,10 +146,10 @@ module _ {C P : Type 0} (c : Meaning ContextSetting C) (laws : IsContext c) (tol
 
     -- what a refusal rests on
     pub record Refusal (mid : View) (kind : ErrorKind) (reply : Option TsRequest) : Type 0 where
-      pub turn : ServerTurn c old d (Stopped kind reply) mid
+      pub turn : ServerTurn c old d (outcome.Refused kind reply) mid
       pub cause : NegoCause c told faults (Some step.status) old d mid kind
 
-    pub refusal : (mid : View) (kind : ErrorKind) (reply : Option TsRequest) → ServerMakes c told faults old d (Stopped kind reply) mid → kind ≢ InsufficientMemory →
+    pub refusal : (mid : View) (kind : ErrorKind) (reply : Option TsRequest) → ServerMakes c told faults old d (outcome.Refused kind reply) mid → kind ≢ InsufficientMemory →
         Refusal mid kind reply
     refusal mid kind reply makes others =
         let error = makes.0 in
@@ -166,16 +166,16 @@ module _ {C P : Type 0} (c : Meaning ContextSetting C) (laws : IsContext c) (tol
 
     -- ---- a token, and more to come
 
-    token_replied : (mid : View) (r : TsRequest) → step.status ≡ statuses.ContinueNeeded → ServerMakes c told faults old d (Replied r) mid →
+    token_replied : (mid : View) (r : TsRequest) → step.status ≡ statuses.ContinueNeeded → ServerMakes c told faults old d (outcome.Reply r) mid →
         (r ≡ record d { version = b.version; nego_tokens = Some step.output }) × ServerIs c b mid w NegoToken 0 0 × Holds c mid.context y × (mid.handle ≡ handle)
     token_replied mid r goes makes =
         let turn = makes.0 in
         let s = replies mid r makes in
-        let answer = subst (λ (x : SecurityStatus). NegoAnswer c (server_frame c old mid) (server_turn c d (Replied r) mid) (Some x) r) goes s.answer in
+        let answer = subst (λ (x : SecurityStatus). NegoAnswer c (server_frame c old mid) (server_turn c d (outcome.Reply r) mid) (Some x) r) goes s.answer in
         let done = subst (λ (x : SecurityStatus). DoneStep c told (Some x) old d mid) goes s.done in
         let left = (come_at c laws told old d.nego_tokens step y handle given.takes mid Unknown statuses.ContinueNeeded done).1 in
         let status : mid.acts.status ≡ Some statuses.ContinueNeeded = s.status_is ∙ ap Some goes in
-        let quiet = nego_acts (server_frame c old mid) (server_turn c d (Replied r) mid) turn.turn.acts given.is.state_is in
+        let quiet = nego_acts (server_frame c old mid) (server_turn c d (outcome.Reply r) mid) turn.turn.acts given.is.state_is in
         let unproved : mid.acts.proved ≡ false = answer.1 in
         let unchecked : mid.acts.checked ≡ false = is_false mid.acts.checked (λ was.
         subst (λ (x : Option SecurityStatus). MayCheck NegoToken x) status
@@ -197,7 +197,7 @@ module _ {C P : Type 0} (c : Meaning ContextSetting C) (laws : IsContext c) (tol
           left.handle_is,
         )
 
-    pub token_turn : (out : Outcome) (mid : View) → step.status ≡ statuses.ContinueNeeded → ServerMakes c told faults old d (came_of out) mid →
+    pub token_turn : (out : Outcome) (mid : View) → step.status ≡ statuses.ContinueNeeded → ServerMakes c told faults old d out mid →
         Comes out (λ r. (r ≡ record d { version = b.version; nego_tokens = Some step.output }) × ServerIs c b mid w NegoToken 0 0 × Holds c mid.context y × (mid.handle ≡ handle))
     token_turn (outcome.Reply r) mid goes makes = token_replied mid r goes makes
     token_turn (outcome.Final r) mid goes makes = absurd makes

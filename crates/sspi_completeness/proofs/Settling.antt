@@ -15,28 +15,29 @@ use Rattle.sspi_delegate.specs.declared.answer.Delegation.{Delegation}
 use Rattle.sspi_delegate.specs.declared.answer.DelegateError.{DelegateError}
 use Rattle.sspi_delegate.specs.declared.answer.DelegateError.TheVariants as errors
 use Rattle.sspi_delegate.specs.declared.carried.Carried.{Carried}
-use Rattle.sspi_delegate.specs.declared.carried.End.{End}
-use Rattle.sspi_delegate.specs.declared.carried.End.TheVariants.{Client, Server}
+use Rattle.sspi_credssp.specs.declared.turn.End.{End}
+use Rattle.sspi_credssp.specs.declared.turn.End.TheVariants.{Client, Server}
 use Rattle.sspi_delegate.specs.declared.edit.Edit.{Edit}
-use Rattle.sspi_delegate.specs.declared.turn.Outcome.{Outcome}
-use Rattle.sspi_delegate.specs.declared.turn.Outcome.TheVariants.{Reply, Final, Finished, Refused}
-use Rattle.sspi_delegate.specs.declared.turn.Turn.{Turn}
+use Rattle.sspi_credssp.specs.declared.turn.Outcome.{Outcome}
+use Rattle.sspi_credssp.specs.declared.turn.Outcome.TheVariants.{Reply, Final, Finished, Refused}
+use Rattle.sspi_credssp.specs.declared.turn.Turn.{Turn}
 use Rattle.sspi_delegate.specs.Asking.{KdcCalls}
 use Rattle.sspi_delegate.specs.Causes.{Cause, RunEnds, Given, carried, too_long, link_failed, no_memory, turns_of, IsClientRefusal, IsServerRefusal, IsFinished}
 use Rattle.sspi_delegate.specs.Edits.{FollowsEdits}
-use Rattle.sspi_delegate.specs.EndTurns.{as_turn, onto_server, client_turns, server_turns}
+use Rattle.sspi_delegate.specs.EndTurns.{onto_server, client_turns, server_turns}
 use Rattle.sspi_delegate.proofs.Histories.{client_stopped_history}
 use Rattle.sspi_delegate.specs.History.{ClientHistory, ClientPast, ServerHistory}
 use Rattle.sspi_delegate.specs.Link.{FollowsTold, StaysTold}
 use Rattle.sspi_delegate.specs.Messages.{newest_message, CarryFails, AnswerTold}
 use Rattle.sspi_delegate.specs.Run.{LoggedButLast}
 use Rattle.sspi_delegate.specs.ServerRun.{server_end, GivesNewest}
-use Rattle.sspi_delegate.specs.Turns.{next_end, message_of, Alternates}
+use Rattle.sspi_delegate.specs.Turns.{next_end, Alternates}
 use Rattle.sspi_completeness.specs.Matching.{AreWhole, IsUndisturbed, unedited, shown, IsCalm, NoneFailed, none_told, none_counted}
 use Rattle.sspi_completeness.proofs.Deliveries.{always_readable, never_too_long}
 use Rattle.sspi_completeness.proofs.Ends.{Comes, Ends}
 use Rattle.sspi_completeness.proofs.Fits.{IsMessage}
 use Rattle.sspi_completeness.proofs.Points.{IsKnown, IsCalmAt, wrong_end, server_none, Stands, client_next, server_next, TurnIs, client_turn, server_turn, server_end as ends_here, stands, stands_on, newest_turn}
+use Rattle.sspi_credssp.specs.Turn.{message_of}
 
 -- what an undisturbed exchange is settled by: Ok after this many messages of the client, or it may not make as many, or
 -- there was no memory
@@ -162,7 +163,7 @@ module _ {C D P : Type 0} (c : Meaning ContextSetting C) (k : KdcCalls D) (told 
     TurnSo t past = TurnIs c k told faults failing a b kdc_first last identity known t past x kdc y
 
     held_by : (e : End) (t : Turn) (past : List Turn) (identity2 : AuthIdentity) → e ≡ Server →
-        GivesNewest c (server_end y) (onto_server e (as_turn t) (server_turns past)) identity2 → HoldsIdentity c y.context t.delivered.auth_info identity2
+        GivesNewest c (server_end y) (onto_server e t (server_turns past)) identity2 → HoldsIdentity c y.context t.delivered.auth_info identity2
     held_by Client t past identity2 is gives = absurd cc
     held_by Server t past identity2 is gives = gives
 

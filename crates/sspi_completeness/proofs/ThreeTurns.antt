@@ -25,22 +25,22 @@ use Rattle.sspi_credssp.specs.Context.{either}
 use Rattle.sspi_credssp.specs.Server.{ServerView, IsFreshServer}
 use Rattle.sspi_credssp.specs.ServerStep.{DoneStep, Knowing, Unknown, Identified, Completed, Accepted, accepted, identified, completed, recounted, server_args}
 use Rattle.sspi_credssp.specs.ServerTurn.{IsOver, MayCheck}
-use Rattle.sspi_credssp.specs.Turn.{Came, Replied, Ended, Finished, Stopped}
-use Rattle.sspi_credssp.specs.Turn as end
 use Rattle.sspi_delegate.specs.declared.answer.Delegation.{Delegation}
 use Rattle.sspi_delegate.specs.declared.answer.DelegateError.{DelegateError}
 use Rattle.sspi_delegate.specs.declared.carried.Carried.{Carried}
-use Rattle.sspi_delegate.specs.declared.carried.End.{End}
-use Rattle.sspi_delegate.specs.declared.carried.End.TheVariants.{Client, Server}
-use Rattle.sspi_delegate.specs.declared.turn.Turn.{Turn}
+use Rattle.sspi_credssp.specs.declared.turn.End.{End}
+use Rattle.sspi_credssp.specs.declared.turn.End.TheVariants.{Client, Server}
+use Rattle.sspi_credssp.specs.declared.turn.Turn.{Turn}
 use Rattle.sspi_delegate.specs.Causes.{one_of, turns_of, NewestIs, IsFinished, RunEnds}
-use Rattle.sspi_delegate.specs.EndTurns.{as_turn, onto_server, server_turns, WentOn, OthersWentOn}
+use Rattle.sspi_delegate.specs.EndTurns.{onto_server, server_turns, OthersGoOn}
+use Rattle.sspi_delegate.specs.Turns.{GoesOn, other, next_end, Alternates}
 use Rattle.sspi_delegate.specs.Headline.{HasExchanged}
 use Rattle.sspi_delegate.specs.History.{ServerMakes, ServerMade, ServerHistory}
-use Rattle.sspi_delegate.specs.Turns.{other, next_end, Alternates}
 use Rattle.sspi_completeness.specs.Matching.{config_of}
 use Rattle.sspi_completeness.proofs.Ends.{in_context}
 use Rattle.sspi_completeness.proofs.NtlmEnds.{IfNtlm, server_first}
+use Rattle.sspi_credssp.specs.declared.turn.Outcome.{Outcome}
+use Rattle.sspi_credssp.specs.declared.turn.Outcome.TheVariants as outcome
 
 asks_at : (b : Bool) (m m2 : NtlmState) (step : Step) → challenges m b ≡ Goes m2 step → step.status ≡ statuses.ContinueNeeded
 asks_at true m m2 step e =
@@ -91,26 +91,26 @@ module _ {K P : Type 0} (k : Meaning Setting K) (told : P → Option (List AuthI
   nego_check state status nego may = subst (λ (s : CredSspState). MayCheck s status) nego may
 
   -- a server checks no proof in its first turn
-  first_checks : (first mid : ServerView (SspiContext NtlmState K) P) (d : TsRequest) (came : Came) → IsFreshServer first → WentOn came →
-      ServerMakes (either ntlm_meaning k) told faults first d came mid → mid.acts.checked ≡ true → ⊥
-  first_checks first mid d (Replied reply) fresh went makes checked =
+  first_checks : (first mid : ServerView (SspiContext NtlmState K) P) (d : TsRequest) (out : Outcome) → IsFreshServer first → GoesOn out →
+      ServerMakes (either ntlm_meaning k) told faults first d out mid → mid.acts.checked ≡ true → ⊥
+  first_checks first mid d (outcome.Reply reply) fresh went makes checked =
       first_not_over first mid d mid.acts.status fresh.context makes.1 (nego_check first.state mid.acts.status fresh.state (makes.0.turn.acts.checked checked).0)
-  first_checks first mid d (Ended reply) fresh went makes checked = makes
-  first_checks first mid d Finished fresh went makes checked = went
-  first_checks first mid d (Stopped kind reply) fresh went makes checked = went
+  first_checks first mid d (outcome.Final reply) fresh went makes checked = makes
+  first_checks first mid d outcome.Finished fresh went makes checked = went
+  first_checks first mid d (outcome.Refused kind reply) fresh went makes checked = went
 
-  made_checks : (first old now : ServerView (SspiContext NtlmState K) P) (u : end.Turn) → old ≡ first → IsFreshServer first → WentOn u.came →
+  made_checks : (first old now : ServerView (SspiContext NtlmState K) P) (u : Turn) → old ≡ first → IsFreshServer first → GoesOn u.outcome →
       ServerMade (either ntlm_meaning k) told faults failing old u now → u.acts.checked ≡ true → ⊥
   made_checks first old now u same fresh went made checked =
-      first_checks first made.mid u.delivered u.came fresh went
-      (subst (λ (x : ServerView (SspiContext NtlmState K) P). ServerMakes (either ntlm_meaning k) told faults x u.delivered u.came made.mid) same made.makes)
-      (sym (ap (λ (t : end.Turn). t.acts.checked) made.turn) ∙ checked)
+      first_checks first made.mid u.delivered u.outcome fresh went
+      (subst (λ (x : ServerView (SspiContext NtlmState K) P). ServerMakes (either ntlm_meaning k) told faults x u.delivered u.outcome made.mid) same made.makes)
+      (sym (ap (λ (t : Turn). t.acts.checked) made.turn) ∙ checked)
 
   exchange_alone : (checked proved : Bool) → (checked && proved) || false ≡ true → checked ≡ true
   exchange_alone true proved h = refl
   exchange_alone false proved h = absurd cc
 
-  pub three_of_server : (first now : ServerView (SspiContext NtlmState K) P) (turns : List end.Turn) → IsFreshServer first → OthersWentOn turns → HasExchanged turns →
+  pub three_of_server : (first now : ServerView (SspiContext NtlmState K) P) (turns : List Turn) → IsFreshServer first → OthersGoOn turns → HasExchanged turns →
       ServerHistory (either ntlm_meaning k) told faults failing first turns now → 3 ≤ length turns
   three_of_server first now [] fresh others has history = absurd has
   three_of_server first now (t ∷ []) fresh others has history = absurd (cc (has))
@@ -124,7 +124,7 @@ abbrev ahead : End → ℕ
 ahead Client = 0
 ahead Server = 1
 
-one_more : (e : End) (t : end.Turn) (past : List end.Turn) (n : ℕ) → n ≡ length past + ahead e → n + one_of Client e ≡ length (onto_server e t past) + ahead (other e)
+one_more : (e : End) (t : Turn) (past : List Turn) (n : ℕ) → n ≡ length past + ahead e → n + one_of Client e ≡ length (onto_server e t past) + ahead (other e)
 one_more Client t past n h = omega arith
 one_more Server t past n h = omega arith
 
@@ -132,7 +132,7 @@ pub client_count : (turns : List Turn) → Alternates turns → turns_of Client 
 client_count [] order = refl
 client_count (t ∷ past) order =
     let before = client_count past order.2 in
-    one_more t.end (as_turn t) (server_turns past) (turns_of Client past) (before ∙ ap (λ (e : End). length (server_turns past) + ahead e) (sym order.0))
+    one_more t.end t (server_turns past) (turns_of Client past) (before ∙ ap (λ (e : End). length (server_turns past) + ahead e) (sym order.0))
 
 pub three_turns : (turns : List Turn) → Alternates turns → NewestIs Server IsFinished turns → 3 ≤ length (server_turns turns) → 3 ≤ turns_of Client turns
 three_turns [] order newest three = absurd newest
@@ -145,7 +145,7 @@ module _ {K P : Type 0} (k : Meaning Setting K) (told : P → Option (List AuthI
   -- an exchange that is Ok had three messages of the client
   pub ok_three : (base log : List Carried) (start now limit : ℕ) (result : Result Delegation DelegateError) (turns : List Turn)
       (first server : ServerView (SspiContext NtlmState K) P) → RunEnds base start limit result turns log now → IsFreshServer first →
-      OthersWentOn (server_turns turns) → OnOk result (HasExchanged (server_turns turns)) →
+      OthersGoOn (server_turns turns) → OnOk result (HasExchanged (server_turns turns)) →
       ServerHistory (either ntlm_meaning k) told faults failing first (server_turns turns) server → IfOk result (λ delegation. 3 ≤ delegation.turns)
   ok_three base log start now limit (Ok delegation) turns first server ends fresh others has history =
       let three = three_turns turns ends.0.order ends.0.newest (three_of_server k told faults failing first server (server_turns turns) fresh others has history) in

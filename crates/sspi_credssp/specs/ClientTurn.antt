@@ -20,13 +20,17 @@ use Rattle.sspi_credssp.specs.Credentials.{delegated_text, IfText}
 use Rattle.sspi_credssp.specs.Noted.{noted_next}
 use Rattle.sspi_credssp.specs.PublicKey.{prescribed}
 use Rattle.sspi_credssp.specs.Requests.{unless_empty, is_code, IsLong}
-use Rattle.sspi_credssp.specs.Turn.{Came, Replied, Ended, Finished, Stopped, Turn, UnlessStopped, AtNoted, FitsNoted, ClientFrame}
+use Rattle.sspi_credssp.specs.Turn.{UnlessRefused, AtNoted, FitsNoted, ClientFrame}
+use Rattle.sspi_credssp.specs.declared.turn.End.TheVariants.{Client}
+use Rattle.sspi_credssp.specs.declared.turn.Outcome.{Outcome}
+use Rattle.sspi_credssp.specs.declared.turn.Outcome.TheVariants as outcome
+use Rattle.sspi_credssp.specs.declared.turn.Turn.{Turn}
 
-abbrev pub state_after : CredSspState → Came → Bool → CredSspState
-state_after state (Replied reply) proved = if proved then AuthInfo else state
-state_after state (Ended reply) proved = Final
-state_after state Finished proved = Final
-state_after state (Stopped kind reply) proved = state
+abbrev pub state_after : CredSspState → Outcome → Bool → CredSspState
+state_after state (outcome.Reply reply) proved = if proved then AuthInfo else state
+state_after state (outcome.Final reply) proved = Final
+state_after state outcome.Finished proved = Final
+state_after state (outcome.Refused kind reply) proved = state
 
 -- a fact of each turn past the authentication
 abbrev pub OnceNegotiated : CredSspState → Type 0 → Type 0
@@ -82,18 +86,18 @@ module _ {C : Type 0} (c : Meaning ContextSetting C) where
   NegoReply f t (Some statuses.Ok) reply = ProofReply f t reply
   NegoReply f t (Some other) reply = TokenReply f t reply
 
-  abbrev pub ClientReplies : ClientFrame C → Turn → Came → Type 0
-  ClientReplies f t (Replied reply) = NegoReply f t t.acts.status reply
-  ClientReplies f t (Ended reply) = FinalReply f t reply
-  ClientReplies f t Finished = ⊥
-  ClientReplies f t (Stopped kind None) = Unit {0}
-  ClientReplies f t (Stopped kind (Some reply)) = ⊥
+  abbrev pub ClientReplies : ClientFrame C → Turn → Outcome → Type 0
+  ClientReplies f t (outcome.Reply reply) = NegoReply f t t.acts.status reply
+  ClientReplies f t (outcome.Final reply) = FinalReply f t reply
+  ClientReplies f t outcome.Finished = ⊥
+  ClientReplies f t (outcome.Refused kind None) = Unit {0}
+  ClientReplies f t (outcome.Refused kind (Some reply)) = ⊥
 
   pub record IsClientTurn (f : ClientFrame C) (t : Turn) : Type 0 where
-    pub code : UnlessStopped t.came (is_code t.delivered.error_code ≡ false)
-    pub version : UnlessStopped t.came (FitsNoted f.noted t.delivered.version)
+    pub code : UnlessRefused t.outcome (is_code t.delivered.error_code ≡ false)
+    pub version : UnlessRefused t.outcome (FitsNoted f.noted t.delivered.version)
     pub acts : ClientActs f t
-    pub reply : ClientReplies f t t.came
+    pub reply : ClientReplies f t t.outcome
 
   -- the frame of one call: a turn seals at most one text and opens at most one blob, each the last of the context
   abbrev pub client_frame : ClientView C → ClientView C → ClientFrame C
@@ -110,8 +114,8 @@ module _ {C : Type 0} (c : Meaning ContextSetting C) where
     context = new.context;
   }
 
-  abbrev pub client_turn : TsRequest → Came → ClientView C → Turn
-  client_turn d came new = record { delivered = d; acts = new.acts; output = new.output; came = came }
+  abbrev pub client_turn : TsRequest → Outcome → ClientView C → Turn
+  client_turn d out new = record { end = Client; delivered = d; acts = new.acts; output = new.output; outcome = out }
 
   -- what no call changes
   pub record SameClient (old new : ClientView C) : Type 0 where
@@ -137,15 +141,15 @@ module _ {C : Type 0} (c : Meaning ContextSetting C) where
       if is_waiting_in c old.context || is_code d.error_code then old.noted else noted_next old.context old.noted d.version
 
   -- how far a turn moves the client
-  pub record ClientMoves (old : ClientView C) (d : TsRequest) (came : Came) (new : ClientView C) : Type 0 where
+  pub record ClientMoves (old : ClientView C) (d : TsRequest) (out : Outcome) (new : ClientView C) : Type 0 where
     pub same : SameClient old new
     pub handle : KeepsHandle old new
-    pub state : new.state ≡ state_after old.state came new.acts.proved
+    pub state : new.state ≡ state_after old.state out new.acts.proved
     pub noted : new.noted ≡ noted_after old d
-    pub noted_going : UnlessStopped came (new.noted ≡ noted_next old.context old.noted d.version)
+    pub noted_going : UnlessRefused out (new.noted ≡ noted_next old.context old.noted d.version)
     pub noted_proved : new.acts.proved ≡ true → new.noted ≡ noted_next old.context old.noted d.version
     pub noted_checked : new.acts.checked ≡ true → new.noted ≡ noted_next old.context old.noted d.version
-    pub begun : UnlessStopped came (IsSome new.context)
+    pub begun : UnlessRefused out (IsSome new.context)
     pub sealed : StartsUnused old → sealed_in c new.context ≡ sealed_in c old.context + sealed_by new.acts
     pub unsealed : StartsUnused old → unsealed_in c new.context ≡ unsealed_in c old.context + unsealed_by new.acts
     -- no step of the context follows its first message
@@ -154,9 +158,9 @@ module _ {C : Type 0} (c : Meaning ContextSetting C) where
     pub unstepped : new.acts.negotiated ≡ false → SameBut c old.context new.context
     pub unanswered : new.acts.status ≡ None → new.output ≡ []
 
-  pub record ClientTurn (old : ClientView C) (d : TsRequest) (came : Came) (new : ClientView C) : Type 0 where
-    pub turn : IsClientTurn (client_frame old new) (client_turn d came new)
-    pub moves : ClientMoves old d came new
+  pub record ClientTurn (old : ClientView C) (d : TsRequest) (out : Outcome) (new : ClientView C) : Type 0 where
+    pub turn : IsClientTurn (client_frame old new) (client_turn d out new)
+    pub moves : ClientMoves old d out new
 
   -- Sealing the client's proof: refused it leaves the client as it was; else the blob is the context's last message.
   pub record Proved (old : ClientView C) (blob : List ℕ) (new : ClientView C) : Type 0 where
@@ -217,15 +221,15 @@ module _ {C : Type 0} (c : Meaning ContextSetting C) where
     pub kept : now.kept ≡ Some (record d { version = now.version })
 
   abbrev pub CompletedTurn : ClientView C → TsRequest → ClientState → ClientView C → Type 0
-  CompletedTurn old d (ReplyNeeded reply) new = ClientTurn old d (Replied reply) new
-  CompletedTurn old d (FinalMessage reply) new = ClientTurn old d (Ended reply) new
+  CompletedTurn old d (ReplyNeeded reply) new = ClientTurn old d (outcome.Reply reply) new
+  CompletedTurn old d (FinalMessage reply) new = ClientTurn old d (outcome.Final reply) new
 
   abbrev pub ClientAnswers : ClientView C → TsRequest → Result ClientState Error → ClientView C → Type 0
   ClientAnswers old d (Ok state) new = CompletedTurn old d state new
-  ClientAnswers old d (Err error) new = ClientTurn old d (Stopped error.error_type None) new
+  ClientAnswers old d (Err error) new = ClientTurn old d (outcome.Refused error.error_type None) new
 
   abbrev pub ClientGoes : ClientView C → TsRequest → Result Progress Error → ClientView C → Type 0
   ClientGoes old d (Ok (Completed state)) new = CompletedTurn old d state new
   ClientGoes old d (Ok (Suspended question)) new =
       IsUnderway old d new × (new.acts ≡ record no_acts { negotiated = true }) × (new.output ≡ [])
-  ClientGoes old d (Err error) new = ClientTurn old d (Stopped error.error_type None) new
+  ClientGoes old d (Err error) new = ClientTurn old d (outcome.Refused error.error_type None) new

@@ -24,7 +24,11 @@ use Rattle.sspi_credssp.specs.PublicKey.{prescribed}
 use Rattle.sspi_credssp.specs.Requests.{IsLong, nonce_of}
 use Rattle.sspi_credssp.specs.Server.{ServerView}
 use Rattle.sspi_credssp.specs.Stops.{differs}
-use Rattle.sspi_credssp.specs.Turn.{Came, Replied, Ended, Finished, Stopped, Turn, UnlessStopped, AtNoted, ServerFrame}
+use Rattle.sspi_credssp.specs.Turn.{UnlessRefused, AtNoted, ServerFrame}
+use Rattle.sspi_credssp.specs.declared.turn.End.TheVariants.{Server}
+use Rattle.sspi_credssp.specs.declared.turn.Outcome.{Outcome}
+use Rattle.sspi_credssp.specs.declared.turn.Outcome.TheVariants as outcome
+use Rattle.sspi_credssp.specs.declared.turn.Turn.{Turn}
 
 -- the authentication has ended
 abbrev pub IsOver : Option SecurityStatus → Type 0
@@ -61,11 +65,11 @@ after_reply state true status = AuthInfo
 after_reply NegoToken false status = after_status status
 after_reply state false status = state
 
-abbrev pub server_state_after : CredSspState → Came → Bool → Option SecurityStatus → CredSspState
-server_state_after state (Replied reply) proved status = after_reply state proved status
-server_state_after state (Ended reply) proved status = state
-server_state_after state Finished proved status = Final
-server_state_after state (Stopped kind reply) proved status = state
+abbrev pub server_state_after : CredSspState → Outcome → Bool → Option SecurityStatus → CredSspState
+server_state_after state (outcome.Reply reply) proved status = after_reply state proved status
+server_state_after state (outcome.Final reply) proved status = state
+server_state_after state outcome.Finished proved status = Final
+server_state_after state (outcome.Refused kind reply) proved status = state
 
 -- what goes back of an authentication: a token, or the server's proof
 abbrev pub answered_by : TsRequest → Answer → TsRequest
@@ -125,18 +129,18 @@ module _ {C : Type 0} (c : Meaning ContextSetting C) where
   StateAnswer f t AuthInfo r = ⊥
   StateAnswer f t Final r = ⊥
 
-  abbrev pub ServerReplies : ServerFrame C → Turn → Came → Type 0
-  ServerReplies f t (Replied r) = StateAnswer f t f.state r
-  ServerReplies f t (Ended r) = ⊥
-  ServerReplies f t Finished = (f.state ≡ AuthInfo) × (t.acts.opened ≡ true)
-  ServerReplies f t (Stopped kind None) = ⊥
-  ServerReplies f t (Stopped kind (Some r)) =
+  abbrev pub ServerReplies : ServerFrame C → Turn → Outcome → Type 0
+  ServerReplies f t (outcome.Reply r) = StateAnswer f t f.state r
+  ServerReplies f t (outcome.Final r) = ⊥
+  ServerReplies f t outcome.Finished = (f.state ≡ AuthInfo) × (t.acts.opened ≡ true)
+  ServerReplies f t (outcome.Refused kind None) = ⊥
+  ServerReplies f t (outcome.Refused kind (Some r)) =
       r ≡ error_request f.state (version_back f.context f.noted t.delivered.version f.version) kind t.delivered
 
   pub record IsServerTurn (f : ServerFrame C) (t : Turn) : Type 0 where
-    pub version : UnlessStopped t.came (AtNoted f.noted (λ noted. t.delivered.version ≡ noted))
+    pub version : UnlessRefused t.outcome (AtNoted f.noted (λ noted. t.delivered.version ≡ noted))
     pub acts : ServerActs f t
-    pub reply : ServerReplies f t t.came
+    pub reply : ServerReplies f t t.outcome
 
   -- the field was the last that the context opened, and it holds this identity
   abbrev pub HoldsIdentity : Option C → Option (List ℕ) → AuthIdentity → Type 0
@@ -157,8 +161,8 @@ module _ {C : Type 0} (c : Meaning ContextSetting C) where
       context = new.context;
     }
 
-    abbrev pub server_turn : TsRequest → Came → ServerView C P → Turn
-    server_turn d came new = record { delivered = d; acts = new.acts; output = new.output; came = came }
+    abbrev pub server_turn : TsRequest → Outcome → ServerView C P → Turn
+    server_turn d out new = record { end = Server; delivered = d; acts = new.acts; output = new.output; outcome = out }
 
     -- what no call changes
     pub record SameServer (old new : ServerView C P) : Type 0 where
@@ -175,13 +179,13 @@ module _ {C : Type 0} (c : Meaning ContextSetting C) where
     StartsUnused old = old.state ≡ NegoToken → IsUnusedIn c old.context
 
     -- how far a turn moves the server
-    pub record ServerMoves (old : ServerView C P) (d : TsRequest) (came : Came) (new : ServerView C P) : Type 0 where
+    pub record ServerMoves (old : ServerView C P) (d : TsRequest) (out : Outcome) (new : ServerView C P) : Type 0 where
       pub same : SameServer old new
       pub handle : KeepsHandle old new
-      pub state : new.state ≡ server_state_after old.state came new.acts.proved new.acts.status
+      pub state : new.state ≡ server_state_after old.state out new.acts.proved new.acts.status
       pub noted : IsSome new.context → new.noted ≡ noted_first old.noted d.version
       pub unnoted : new.context ≡ None → new.noted ≡ old.noted
-      pub begun : UnlessStopped came (IsSome new.context)
+      pub begun : UnlessRefused out (IsSome new.context)
       pub noted_proved : new.acts.proved ≡ true → new.noted ≡ noted_first old.noted d.version
       pub noted_checked : new.acts.checked ≡ true → new.noted ≡ noted_first old.noted d.version
       pub noted_opened : new.acts.opened ≡ true → new.noted ≡ noted_first old.noted d.version
@@ -243,9 +247,9 @@ module _ {C : Type 0} (c : Meaning ContextSetting C) where
         ServerOpensBlob old field new × (new.acts.opened ≡ true) × HoldsIdentity new.context field identity
     ServerOpens old field (Err error) new = ServerOpensBlob old field new
 
-    pub record ServerTurn (old : ServerView C P) (d : TsRequest) (came : Came) (new : ServerView C P) : Type 0 where
-      pub turn : IsServerTurn (server_frame old new) (server_turn d came new)
-      pub moves : ServerMoves old d came new
+    pub record ServerTurn (old : ServerView C P) (d : TsRequest) (out : Outcome) (new : ServerView C P) : Type 0 where
+      pub turn : IsServerTurn (server_frame old new) (server_turn d out new)
+      pub moves : ServerMoves old d out new
 
     -- a call that is refused before it looks at the version, or by it, keeps what the server had, or the new context
     pub record BeginRefused (old : ServerView C P) (version : ℕ) (new : ServerView C P) : Type 0 where
@@ -259,17 +263,17 @@ module _ {C : Type 0} (c : Meaning ContextSetting C) where
 
     -- a turn past the version check that is refused, with the request that tells the client
     abbrev pub HaltedTurn : ServerView C P → TsRequest → ErrorKind → ServerView C P → Type 0
-    HaltedTurn old d kind new = ServerTurn old d (Stopped kind (Some (error_request old.state new.version kind d))) new
+    HaltedTurn old d kind new = ServerTurn old d (outcome.Refused kind (Some (error_request old.state new.version kind d))) new
 
     abbrev pub Answered : ServerView C P → TsRequest → Result Answer Error → ServerView C P → Type 0
-    Answered old d (Ok answer) new = ServerTurn old d (Replied (answered_by (record d { version = new.version }) answer)) new
+    Answered old d (Ok answer) new = ServerTurn old d (outcome.Reply (answered_by (record d { version = new.version }) answer)) new
     Answered old d (Err error) new = HaltedTurn old d error.error_type new
 
     abbrev pub EndedTurn : ServerView C P → TsRequest → ServerState → ServerView C P → Type 0
-    EndedTurn old d (ends.ReplyNeeded reply) new = ServerTurn old d (Replied reply) new
+    EndedTurn old d (ends.ReplyNeeded reply) new = ServerTurn old d (outcome.Reply reply) new
     EndedTurn old d (ends.Finished identity) new =
-        ServerTurn old d Finished new × HoldsIdentity new.context d.auth_info identity
+        ServerTurn old d outcome.Finished new × HoldsIdentity new.context d.auth_info identity
 
     abbrev pub ServerGoes : ServerView C P → TsRequest → Result ServerState ServerError → ServerView C P → Type 0
     ServerGoes old d (Ok state) new = EndedTurn old d state new
-    ServerGoes old d (Err refusal) new = ServerTurn old d (Stopped refusal.error.error_type refusal.ts_request) new
+    ServerGoes old d (Err refusal) new = ServerTurn old d (outcome.Refused refusal.error.error_type refusal.ts_request) new

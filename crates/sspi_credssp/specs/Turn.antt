@@ -1,33 +1,25 @@
--- One turn of an end: a delivered request, and what the end made of it.
+-- One turn of an end: the message that it has for the peer, and what the end is at it.
 use Rattle.std.specs.Prelude.{◌≡◌, ℕ, List, Option, None, Some}
-use Rattle.sspi_types.specs.declared.error_kind.ErrorKind.{ErrorKind}
 use Rattle.sspi_names.specs.declared.credentials.Credentials.{Credentials}
 use Rattle.sspi_tsreq.specs.declared.mode.CredSspMode.{CredSspMode}
 use Rattle.sspi_tsreq.specs.declared.request.TsRequest.{TsRequest}
-use Rattle.sspi_credssp.specs.declared.acts.Acts.{Acts}
 use Rattle.sspi_credssp.specs.declared.state.CredSspState.{CredSspState}
+use Rattle.sspi_credssp.specs.declared.turn.Outcome.{Outcome}
+use Rattle.sspi_credssp.specs.declared.turn.Outcome.TheVariants.{Reply, Final, Finished, Refused}
 
--- what a turn ended in: a reply that is answered, the client's last message, the server's end, or a refusal, on a server
--- with the request that tells its client
-pub data Came : Type 0 where
-  Replied : TsRequest → Came
-  Ended : TsRequest → Came
-  Finished : Came
-  Stopped : ErrorKind → Option TsRequest → Came
-
-pub record Turn : Type 0 where
-  pub delivered : TsRequest
-  pub acts : Acts
-  -- the token that the context's step gave
-  pub output : List ℕ
-  pub came : Came
+-- the message that a turn has for the peer
+abbrev pub message_of : Outcome → Option TsRequest
+message_of (Reply reply) = Some reply
+message_of (Final reply) = Some reply
+message_of Finished = None
+message_of (Refused kind reply) = reply
 
 -- a fact of each turn that was not refused
-abbrev pub UnlessStopped : Came → Type 0 → Type 0
-UnlessStopped (Replied reply) P = P
-UnlessStopped (Ended reply) P = P
-UnlessStopped Finished P = P
-UnlessStopped (Stopped kind reply) P = Unit {0}
+abbrev pub UnlessRefused : Outcome → Type 0 → Type 0
+UnlessRefused (Reply reply) P = P
+UnlessRefused (Final reply) P = P
+UnlessRefused Finished P = P
+UnlessRefused (Refused kind reply) P = Unit {0}
 
 -- a fact of the peer's version, which is noted
 abbrev pub AtNoted : Option ℕ → (ℕ → Type 0) → Type 0

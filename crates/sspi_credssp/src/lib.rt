@@ -33,6 +33,7 @@ pub mod server_state;
 pub mod state;
 pub mod table_proxy;
 mod token;
+pub mod turn;
 
 pub use acts::Acts;
 pub use client::CredSspClient;
@@ -48,3 +49,4 @@ pub use server_state::{ServerError, ServerState};
 pub use sspi_tsreq::CredSspMode;
 pub use state::CredSspState;
 pub use table_proxy::TableProxy;
+pub use turn::{End, Outcome, Turn};

@@ -13,7 +13,10 @@ use Rattle.sspi_credssp.specs.Credentials.{IfText, delegated_text}
 use Rattle.sspi_credssp.specs.Context.{ContextSetting}
 use Rattle.sspi_credssp.specs.Counts.{SameBut, SealsIn, OpensIn, silent, cleared}
 use Rattle.sspi_credssp.specs.PublicKey.{prescribed}
-use Rattle.sspi_credssp.specs.Turn.{Turn, ClientFrame, Came, Replied, Ended, Finished, Stopped, UnlessStopped, FitsNoted, AtNoted}
+use Rattle.sspi_credssp.specs.Turn.{ClientFrame, UnlessRefused, FitsNoted, AtNoted}
+use Rattle.sspi_credssp.specs.declared.turn.Outcome.{Outcome}
+use Rattle.sspi_credssp.specs.declared.turn.Outcome.TheVariants as outcome
+use Rattle.sspi_credssp.specs.declared.turn.Turn.{Turn}
 
 -- a frame as another turn over the same end sees it, as far as the turn speaks of it
 pub record SameFrame {C : Type 0} (c : Meaning ContextSetting C) (f g : ClientFrame C) (t : Turn) : Type 0 where
@@ -23,7 +26,7 @@ pub record SameFrame {C : Type 0} (c : Meaning ContextSetting C) (f g : ClientFr
   pub credentials : g.credentials ≡ f.credentials
   pub delegation : g.delegation ≡ f.delegation
   pub state : g.state ≡ f.state
-  pub noted : UnlessStopped t.came (g.noted ≡ f.noted)
+  pub noted : UnlessRefused t.outcome (g.noted ≡ f.noted)
   pub proved : t.acts.proved ≡ true → (g.noted ≡ f.noted) × (g.made ≡ f.made) × SameBut c f.context g.context
   pub checked : t.acts.checked ≡ true → (g.noted ≡ f.noted) × (g.opened ≡ f.opened) × SameBut c f.context g.context
   pub sealed : t.acts.sealed ≡ true → g.made ≡ f.made
@@ -104,24 +107,24 @@ module _ {C : Type 0} (c : Meaning ContextSetting C) (law : IsContext c) where
   nego_over f g t (Some statuses.Ok) reply same h = proof_over f g t reply same h
   nego_over f g t (Some other) reply same h = token_over f g t reply same h
 
-  replies_over : (f g : ClientFrame C) (t : Turn) (came : Came) → SameFrame c f g t → ClientReplies c f t came → ClientReplies c g t came
-  replies_over f g t (Replied reply) same h = nego_over f g t t.acts.status reply same h
-  replies_over f g t (Ended reply) same h = final_over f g t reply same h
-  replies_over f g t Finished same h = h
-  replies_over f g t (Stopped kind None) same h = h
-  replies_over f g t (Stopped kind (Some reply)) same h = h
+  replies_over : (f g : ClientFrame C) (t : Turn) (out : Outcome) → SameFrame c f g t → ClientReplies c f t out → ClientReplies c g t out
+  replies_over f g t (outcome.Reply reply) same h = nego_over f g t t.acts.status reply same h
+  replies_over f g t (outcome.Final reply) same h = final_over f g t reply same h
+  replies_over f g t outcome.Finished same h = h
+  replies_over f g t (outcome.Refused kind None) same h = h
+  replies_over f g t (outcome.Refused kind (Some reply)) same h = h
 
-  fits_over : (noted noted2 : Option ℕ) (version : ℕ) (came : Came) → UnlessStopped came (noted2 ≡ noted) → UnlessStopped came (FitsNoted noted version) →
-      UnlessStopped came (FitsNoted noted2 version)
-  fits_over noted noted2 version (Replied reply) same h = rw same h
-  fits_over noted noted2 version (Ended reply) same h = rw same h
-  fits_over noted noted2 version Finished same h = rw same h
-  fits_over noted noted2 version (Stopped kind reply) same h = h
+  fits_over : (noted noted2 : Option ℕ) (version : ℕ) (out : Outcome) → UnlessRefused out (noted2 ≡ noted) → UnlessRefused out (FitsNoted noted version) →
+      UnlessRefused out (FitsNoted noted2 version)
+  fits_over noted noted2 version (outcome.Reply reply) same h = rw same h
+  fits_over noted noted2 version (outcome.Final reply) same h = rw same h
+  fits_over noted noted2 version outcome.Finished same h = rw same h
+  fits_over noted noted2 version (outcome.Refused kind reply) same h = h
 
   pub client_over : (f g : ClientFrame C) (t : Turn) → SameFrame c f g t → IsClientTurn c f t → IsClientTurn c g t
   client_over f g t same turn = record {
     code = turn.code;
-    version = fits_over f.noted g.noted t.delivered.version t.came same.noted turn.version;
+    version = fits_over f.noted g.noted t.delivered.version t.outcome same.noted turn.version;
     acts = acts_over f g t same turn.acts;
-    reply = replies_over f g t t.came same turn.reply;
+    reply = replies_over f g t t.outcome same turn.reply;
   }

@@ -21,12 +21,17 @@ use Rattle.sspi_credssp.specs.ClientStep.{client_args, Asked, Walked, stepped, r
 use Rattle.sspi_credssp.specs.Context.{ContextSetting}
 use Rattle.sspi_credssp.specs.Counts.{sealed_in, unsealed_in, SameBut, silent, is_waiting_in}
 use Rattle.sspi_credssp.specs.Noted.{noted_next}
-use Rattle.sspi_credssp.specs.Turn.{Turn, Came, Replied, Ended, Finished, Stopped, ClientFrame}
+use Rattle.sspi_credssp.specs.Turn.{ClientFrame}
 use Rattle.sspi_delegate.specs.ClientRun.{client_state, client_noted, ClientEnd, client_end, client_frame_at, EachClientTurn, ClientRan, HasBegun, ClientFollows}
-use Rattle.sspi_delegate.specs.EndTurns.{made_in, opened_in, is_replied, is_ended, any_proved, any_ended, WentOn, AllWentOn, OthersWentOn}
+use Rattle.sspi_delegate.specs.EndTurns.{made_in, opened_in, is_replied, is_ended, any_proved, any_ended, OthersGoOn}
+use Rattle.sspi_delegate.specs.Turns.{GoesOn, AllGoOn}
 use Rattle.sspi_delegate.specs.Refusals.{StepsSo}
+use Rattle.sspi_delegate.proofs.Alternating.{others_go}
 use Rattle.sspi_delegate.proofs.ClientOver.{client_over}
 use Rattle.sspi_delegate.proofs.EndSteps.{or_false, or_not, is_false, IsQuiet, AllQuiet, quiet_made, Touched, touched, untouched, unless_given, unless_map, made_by_proof, made_by_seal, opened_by_check, unused_in, same_but}
+use Rattle.sspi_credssp.specs.declared.turn.Outcome.{Outcome}
+use Rattle.sspi_credssp.specs.declared.turn.Outcome.TheVariants as outcome
+use Rattle.sspi_credssp.specs.declared.turn.Turn.{Turn}
 
 -- ---- tests
 
@@ -56,10 +61,6 @@ noted_first None noted version begun none = absurd (cc (begun))
 noted_first (Some m) None version begun none = refl
 noted_first (Some m) (Some noted) version begun none = absurd (cc (none))
 
-pub others_went : (past : List Turn) → AllWentOn past → OthersWentOn past
-others_went [] going = tt
-others_went (t ∷ past) going = going.1
-
 module _ {C : Type 0} (c : Meaning ContextSetting C) where
   noted_more : (context : Option C) (noted : Option ℕ) (t : Turn) (past : List Turn) → HasBegun c context past → noted ≡ client_noted past →
       noted_next context noted t.delivered.version ≡ client_noted (t ∷ past)
@@ -82,21 +83,21 @@ module _ {C : Type 0} (c : Meaning ContextSetting C) where
         opened = acts.opened;
       }
 
-  reply_unproved : (came : Came) (proved : Bool) → WentOn came → is_ended came ≡ false → is_replied came && proved ≡ false → proved ≡ false
-  reply_unproved (Replied reply) proved went ended h = h
-  reply_unproved (Ended reply) proved went ended h = absurd (cc (ended))
-  reply_unproved Finished proved went ended h = absurd went
-  reply_unproved (Stopped kind reply) proved went ended h = absurd went
+  reply_unproved : (out : Outcome) (proved : Bool) → GoesOn out → is_ended out ≡ false → is_replied out && proved ≡ false → proved ≡ false
+  reply_unproved (outcome.Reply reply) proved went ended h = h
+  reply_unproved (outcome.Final reply) proved went ended h = absurd (cc (ended))
+  reply_unproved outcome.Finished proved went ended h = absurd went
+  reply_unproved (outcome.Refused kind reply) proved went ended h = absurd went
 
   nego_state : (past : List Turn) → any_proved past ≡ false → any_ended past ≡ false → client_state past ≡ NegoToken
   nego_state past unproved unended = rw (unended, unproved) refl
 
-  all_quiet : (e : ClientEnd C) (past : List Turn) → EachClientTurn c e past → AllWentOn past → any_proved past ≡ false → any_ended past ≡ false → AllQuiet past
+  all_quiet : (e : ClientEnd C) (past : List Turn) → EachClientTurn c e past → AllGoOn past → any_proved past ≡ false → any_ended past ≡ false → AllQuiet past
   all_quiet e [] each went unproved unended = tt
   all_quiet e (t ∷ past) each went unproved unended =
-      let p = or_false (is_replied t.came && t.acts.proved) (any_proved past) unproved in
-      let q = or_false (is_ended t.came) (any_ended past) unended in (
-        quiet_acts (client_frame_at e past t) t each.0.acts (nego_state past p.1 q.1) (reply_unproved t.came t.acts.proved went.0 q.0 p.0),
+      let p = or_false (is_replied t.outcome && t.acts.proved) (any_proved past) unproved in
+      let q = or_false (is_ended t.outcome) (any_ended past) unended in (
+        quiet_acts (client_frame_at e past t) t each.0.acts (nego_state past p.1 q.1) (reply_unproved t.outcome t.acts.proved went.0 q.0 p.0),
         all_quiet e past each.1 went.1 p.1 q.1,
       )
 
@@ -127,7 +128,7 @@ module _ {C : Type 0} (c : Meaning ContextSetting C) where
       credentials = same.credentials;
       delegation = same.delegation;
       state = refl;
-      noted = unless_given t.came _ refl;
+      noted = unless_given t.outcome _ refl;
       proved = λ was. (refl, refl, touch.0 was);
       checked = λ was. (refl, refl, touch.1 was);
       sealed = λ was. refl;
@@ -135,7 +136,7 @@ module _ {C : Type 0} (c : Meaning ContextSetting C) where
     each_over law e e2 past same touch.2 each.1,
   )
 
-  touched_by : (e : ClientEnd C) (state : CredSspState) (past : List Turn) (P : Type 0) → state ≡ client_state past → EachClientTurn c e past → AllWentOn past →
+  touched_by : (e : ClientEnd C) (state : CredSspState) (past : List Turn) (P : Type 0) → state ≡ client_state past → EachClientTurn c e past → AllGoOn past →
       OnceNegotiated state P → Touched P past
   touched_by e NegoToken past P is each went bare =
       let s = state_nego (any_ended past) (any_proved past) (sym is) in untouched P past (all_quiet e past each went s.1 s.0)
@@ -175,11 +176,11 @@ module _ {C : Type 0} (c : Meaning ContextSetting C) where
   sealed_alone : (f : ClientFrame C) (t : Turn) → ClientActs c f t → t.acts.sealed ≡ true → t.acts.proved ≡ false
   sealed_alone f t acts was = is_false t.acts.proved (λ proved. let s = proved_alone f t acts proved in absurd (cc (s, was)))
 
-  pub client_turned : (law : IsContext c) (first old new : ClientView C) (past : List Turn) (d : TsRequest) (came : Came) →
-      ClientFollows c first old past → ClientTurn c old d came new → ClientRan c first new (client_turn c d came new ∷ past)
-  client_turned law first old new past d came follows turn =
+  pub client_turned : (law : IsContext c) (first old new : ClientView C) (past : List Turn) (d : TsRequest) (out : Outcome) →
+      ClientFollows c first old past → ClientTurn c old d out new → ClientRan c first new (client_turn c d out new ∷ past)
+  client_turned law first old new past d out follows turn =
       let unused = starts_unused first old past follows in
-      let t : Turn = client_turn c d came new in
+      let t : Turn = client_turn c d out new in
       let made : sealed_in c new.context ≡ made_in past + sealed_by new.acts = turn.moves.sealed unused ∙ ap (λ (n : ℕ). n + sealed_by new.acts) follows.ran.made in
       let opened : unsealed_in c new.context ≡ opened_in past + unsealed_by new.acts = turn.moves.unsealed unused ∙ ap (λ (n : ℕ). n + unsealed_by new.acts) follows.ran.opened in
       let noted : noted_next old.context old.noted d.version ≡ client_noted (t ∷ past) = noted_more c old.context old.noted t past follows.begun follows.noted in
@@ -195,7 +196,7 @@ module _ {C : Type 0} (c : Meaning ContextSetting C) where
             credentials = refl;
             delegation = refl;
             state = sym follows.state;
-            noted = unless_map came _ _ (λ h. sym (h ∙ noted)) turn.moves.noted_going;
+            noted = unless_map out _ _ (λ h. sym (h ∙ noted)) turn.moves.noted_going;
             proved = λ was. (
               sym (turn.moves.noted_proved was ∙ noted),
               made_by_proof new.acts (made_in past) (sealed_in c new.context) made was (proved_alone (client_frame c old new) t turn.turn.acts was),
@@ -221,12 +222,12 @@ module _ {C : Type 0} (c : Meaning ContextSetting C) where
   reply_state f t (Some statuses.Ok) reply h = h.state
   reply_state f t (Some other) reply h = h.state
 
-  replied_state : (f : ClientFrame C) (t : Turn) (past : List Turn) (reply : TsRequest) → f.state ≡ client_state past → t.came ≡ Replied reply →
-      NegoReply c f t t.acts.status reply → state_after f.state (Replied reply) t.acts.proved ≡ client_state (t ∷ past)
-  replied_state f t past reply is came h =
+  replied_state : (f : ClientFrame C) (t : Turn) (past : List Turn) (reply : TsRequest) → f.state ≡ client_state past → t.outcome ≡ outcome.Reply reply →
+      NegoReply c f t t.acts.status reply → state_after f.state (outcome.Reply reply) t.acts.proved ≡ client_state (t ∷ past)
+  replied_state f t past reply is out h =
       let nego = reply_state f t t.acts.status reply h in
       let s = state_nego (any_ended past) (any_proved past) (sym is ∙ nego) in
-      rw (came, nego, s.0, s.1, or_not t.acts.proved) refl
+      rw (out, nego, s.0, s.1, or_not t.acts.proved) refl
 
   -- a context that has ended its step waits for no KDC
   walked_idle : (law : IsContext c) (start : ClientView C) (handle : Option CredentialsBuffers) (token : Option (List ℕ)) (tries : ℕ) (log : List Asked)
@@ -257,15 +258,15 @@ module _ {C : Type 0} (c : Meaning ContextSetting C) where
   waits_same law (Some m) (Some m2) same = sym (law.waits_counted m2 (silent (c.counts m2))) ∙ ap c.waits same ∙ law.waits_counted m (silent (c.counts m))
 
   pub client_replied : (law : IsContext c) (replies : List Asked → Type 0) (first old new : ClientView C) (past : List Turn) (d : TsRequest) (reply : TsRequest) →
-      ClientFollows c first old past → ClientTurn c old d (Replied reply) new → StepsSo c replies old d (Ok (Completed (ReplyNeeded reply))) new →
-      ClientFollows c first new (client_turn c d (Replied reply) new ∷ past)
+      ClientFollows c first old past → ClientTurn c old d (outcome.Reply reply) new → StepsSo c replies old d (Ok (Completed (ReplyNeeded reply))) new →
+      ClientFollows c first new (client_turn c d (outcome.Reply reply) new ∷ past)
   client_replied law replies first old new past d reply follows turn steps = record {
-    ran = client_turned law first old new past d (Replied reply) follows turn;
+    ran = client_turned law first old new past d (outcome.Reply reply) follows turn;
     state = turn.moves.state
-        ∙ replied_state (client_frame c old new) (client_turn c d (Replied reply) new) past reply follows.state refl turn.turn.reply;
-    noted = turn.moves.noted_going ∙ noted_more c old.context old.noted (client_turn c d (Replied reply) new) past follows.begun follows.noted;
+        ∙ replied_state (client_frame c old new) (client_turn c d (outcome.Reply reply) new) past reply follows.state refl turn.turn.reply;
+    noted = turn.moves.noted_going ∙ noted_more c old.context old.noted (client_turn c d (outcome.Reply reply) new) past follows.begun follows.noted;
     begun = turn.moves.begun;
-    idle = idle_in law old d steps.asked new.acts.status new (client_frame c old new) (client_turn c d (Replied reply) new) reply turn.turn.reply steps.step;
+    idle = idle_in law old d steps.asked new.acts.status new (client_frame c old new) (client_turn c d (outcome.Reply reply) new) reply turn.turn.reply steps.step;
     going = (tt, follows.going);
   }
 
@@ -277,11 +278,11 @@ module _ {C : Type 0} (c : Meaning ContextSetting C) where
   ended_idle law Final old new is bare idle = absurd (cc (is))
 
   pub client_ended : (law : IsContext c) (first old new : ClientView C) (past : List Turn) (d : TsRequest) (reply : TsRequest) →
-      ClientFollows c first old past → ClientTurn c old d (Ended reply) new → ClientFollows c first new (client_turn c d (Ended reply) new ∷ past)
+      ClientFollows c first old past → ClientTurn c old d (outcome.Final reply) new → ClientFollows c first new (client_turn c d (outcome.Final reply) new ∷ past)
   client_ended law first old new past d reply follows turn = record {
-    ran = client_turned law first old new past d (Ended reply) follows turn;
+    ran = client_turned law first old new past d (outcome.Final reply) follows turn;
     state = turn.moves.state;
-    noted = turn.moves.noted_going ∙ noted_more c old.context old.noted (client_turn c d (Ended reply) new) past follows.begun follows.noted;
+    noted = turn.moves.noted_going ∙ noted_more c old.context old.noted (client_turn c d (outcome.Final reply) new) past follows.begun follows.noted;
     begun = turn.moves.begun;
     idle = ended_idle law old.state old.context new.context turn.turn.reply.state turn.moves.bare follows.idle;
     going = (tt, follows.going);
@@ -299,7 +300,7 @@ module _ {C : Type 0} (c : Meaning ContextSetting C) where
         each = each_over law (client_end old) (client_end now) past (same_end old now way.ready.same)
             (touched_by (client_end old) old.state past (SameBut c old.context now.context) follows.state follows.ran.each follows.going way.ready.bare)
             follows.ran.each;
-        others = others_went past follows.going;
+        others = others_go past follows.going;
       }
 
   -- what was taken out of the client is no part of its run

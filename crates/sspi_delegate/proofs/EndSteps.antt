@@ -4,8 +4,11 @@ use Rattle.sspi_mech.specs.Meaning.{Meaning}
 use Rattle.sspi_credssp.specs.declared.acts.Acts.{Acts}
 use Rattle.sspi_credssp.specs.Acts.{sealed_by, unsealed_by}
 use Rattle.sspi_credssp.specs.Counts.{sealed_in, unsealed_in, IsUnusedIn, SameBut}
-use Rattle.sspi_credssp.specs.Turn.{Turn, Came, Replied, Ended, Finished, Stopped, UnlessStopped}
+use Rattle.sspi_credssp.specs.Turn.{UnlessRefused}
 use Rattle.sspi_delegate.specs.EndTurns.{made_in, opened_in}
+use Rattle.sspi_credssp.specs.declared.turn.Outcome.{Outcome}
+use Rattle.sspi_credssp.specs.declared.turn.Outcome.TheVariants as outcome
+use Rattle.sspi_credssp.specs.declared.turn.Turn.{Turn}
 
 pub or_false : (a b : Bool) → a || b ≡ false → (a ≡ false) × (b ≡ false)
 or_false true b h = absurd (cc (h))
@@ -50,17 +53,17 @@ untouched P [] quiet = tt
 untouched P (t ∷ past) quiet =
     ((λ was. let s = quiet.0.proved in absurd (cc (s, was))), (λ was. let s = quiet.0.checked in absurd (cc (s, was))), untouched P past quiet.1)
 
-pub unless_given : (came : Came) (P : Type 0) → P → UnlessStopped came P
-unless_given (Replied reply) P h = h
-unless_given (Ended reply) P h = h
-unless_given Finished P h = h
-unless_given (Stopped kind reply) P h = tt
+pub unless_given : (out : Outcome) (P : Type 0) → P → UnlessRefused out P
+unless_given (outcome.Reply reply) P h = h
+unless_given (outcome.Final reply) P h = h
+unless_given outcome.Finished P h = h
+unless_given (outcome.Refused kind reply) P h = tt
 
-pub unless_map : (came : Came) (P Q : Type 0) → (P → Q) → UnlessStopped came P → UnlessStopped came Q
-unless_map (Replied reply) P Q f h = f h
-unless_map (Ended reply) P Q f h = f h
-unless_map Finished P Q f h = f h
-unless_map (Stopped kind reply) P Q f h = h
+pub unless_map : (out : Outcome) (P Q : Type 0) → (P → Q) → UnlessRefused out P → UnlessRefused out Q
+unless_map (outcome.Reply reply) P Q f h = f h
+unless_map (outcome.Final reply) P Q f h = f h
+unless_map outcome.Finished P Q f h = f h
+unless_map (outcome.Refused kind reply) P Q f h = h
 
 -- the number of the one text that a turn sealed, and of the one blob that it opened
 pub made_by_proof : (acts : Acts) (made now : ℕ) → now ≡ made + sealed_by acts → acts.proved ≡ true → acts.sealed ≡ false → made ≡ now - 1

@@ -8,16 +8,17 @@ use Rattle.sspi_delegate.specs.declared.answer.Delegation.{Delegation}
 use Rattle.sspi_delegate.specs.declared.answer.DelegateError.{DelegateError}
 use Rattle.sspi_delegate.specs.declared.answer.DelegateError.TheVariants as errors
 use Rattle.sspi_delegate.specs.declared.carried.Carried.{Carried}
-use Rattle.sspi_delegate.specs.declared.carried.End.{End}
-use Rattle.sspi_delegate.specs.declared.carried.End.TheVariants.{Client, Server}
-use Rattle.sspi_delegate.specs.declared.turn.Outcome.{Outcome}
-use Rattle.sspi_delegate.specs.declared.turn.Outcome.TheVariants.{Reply, Final, Finished, Refused}
-use Rattle.sspi_delegate.specs.declared.turn.Turn.{Turn}
+use Rattle.sspi_credssp.specs.declared.turn.End.{End}
+use Rattle.sspi_credssp.specs.declared.turn.End.TheVariants.{Client, Server}
+use Rattle.sspi_credssp.specs.declared.turn.Outcome.{Outcome}
+use Rattle.sspi_credssp.specs.declared.turn.Outcome.TheVariants.{Reply, Final, Finished, Refused}
+use Rattle.sspi_credssp.specs.declared.turn.Turn.{Turn}
 use Rattle.sspi_delegate.specs.Causes.{NewestIs, IsClientRefusal, IsServerRefusal, IsFinished, MessageFits, NewestFits, MayLackAfter, MayLack, TurnLeft, turns_of, RunEnds}
 use Rattle.sspi_delegate.specs.Deliveries.{is_taken}
 use Rattle.sspi_delegate.specs.Exactly.{IsOnly, IsClientError, IsServerError, IsOk, Exactly}
 use Rattle.sspi_delegate.specs.Run.{Logged, LoggedButLast, OpenFor, UnreadFor, IsUnreadable, IsFault}
-use Rattle.sspi_delegate.specs.Turns.{other, next_end, message_of, GoesOn, AllGoOn}
+use Rattle.sspi_delegate.specs.Turns.{other, next_end, GoesOn, AllGoOn}
+use Rattle.sspi_credssp.specs.Turn.{message_of}
 
 -- ---- the log has an entry of each turn, or of each but the newest
 

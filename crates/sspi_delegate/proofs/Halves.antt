@@ -6,7 +6,6 @@ use Rattle.sspi_names.specs.declared.identity.AuthIdentity.{AuthIdentity}
 use Rattle.sspi_credssp.specs.Client.{ClientView}
 use Rattle.sspi_credssp.specs.Context.{ContextSetting}
 use Rattle.sspi_credssp.specs.Server.{ServerView}
-use Rattle.sspi_credssp.specs.Turn as end
 use Rattle.sspi_delegate.specs.declared.answer.DelegateError.{DelegateError}
 use Rattle.sspi_delegate.specs.declared.answer.DelegateError.TheVariants as errors
 use Rattle.sspi_delegate.specs.Asking.{KdcCalls}
@@ -14,9 +13,10 @@ use Rattle.sspi_delegate.specs.Causes.{IsAnswerTo}
 use Rattle.sspi_delegate.specs.History.{ClientHistory, ClientStopped, between, ClientStops, ServerHistory, ServerStopped, ServerStops}
 use Rattle.sspi_delegate.specs.Rounds.{IsNoRefusal, ClientHalfStops, ServerHalfStops}
 use Rattle.sspi_delegate.proofs.Histories.{client_stopped_history, server_stopped_history}
+use Rattle.sspi_credssp.specs.declared.turn.Turn.{Turn}
 
 module _ {C D : Type 0} (c : Meaning ContextSetting C) (k : KdcCalls D) where
-  pub client_half_stopped : (first now : ClientView C) (kdc kdc2 : D) (turns : List end.Turn) (error : DelegateError) → IsNoRefusal error →
+  pub client_half_stopped : (first now : ClientView C) (kdc kdc2 : D) (turns : List Turn) (error : DelegateError) → IsNoRefusal error →
       ClientHistory c k first kdc turns now kdc2 → ClientHalfStops c k first kdc error turns now kdc2
   client_half_stopped first now kdc kdc2 turns (errors.Client error) link h = absurd link
   client_half_stopped first now kdc kdc2 turns (errors.Server error) link h = absurd link
@@ -26,14 +26,14 @@ module _ {C D : Type 0} (c : Meaning ContextSetting C) (k : KdcCalls D) where
   client_half_stopped first now kdc kdc2 turns errors.TurnsSpent link h = h
   client_half_stopped first now kdc kdc2 turns errors.InsufficientMemory link h = between h
 
-  pub client_half_refused : (first now : ClientView C) (kdc kdc2 : D) (turns : List end.Turn) (error : Error) (answer : DelegateError) →
+  pub client_half_refused : (first now : ClientView C) (kdc kdc2 : D) (turns : List Turn) (error : Error) (answer : DelegateError) →
       IsAnswerTo error.error_type (errors.Client error) answer → ClientStopped c k first kdc error turns now kdc2 →
       ClientHalfStops c k first kdc answer turns now kdc2
   client_half_refused first now kdc kdc2 turns error answer (inl memory) s =
       rw memory.1 (between (client_stopped_history c k first now kdc kdc2 error turns s))
   client_half_refused first now kdc kdc2 turns error answer (inr refusal) s = rw refusal.1 s
 
-  pub client_half_past : (first now : ClientView C) (kdc kdc2 : D) (turns : List end.Turn) (error : DelegateError) →
+  pub client_half_past : (first now : ClientView C) (kdc kdc2 : D) (turns : List Turn) (error : DelegateError) →
       ClientHalfStops c k first kdc error turns now kdc2 → ClientStops c k first kdc error turns now kdc2
   client_half_past first now kdc kdc2 turns (errors.Client error) h = h
   client_half_past first now kdc kdc2 turns (errors.Server error) h = absurd h
@@ -45,8 +45,8 @@ module _ {C D : Type 0} (c : Meaning ContextSetting C) (k : KdcCalls D) where
 
   module _ {P : Type 0} (told : P → Option (List AuthIdentity)) (faults : P → ℕ) (failing : P → Option (List ℕ)) where
     -- the other end of a half that was ended by an error
-    pub server_beside : (first now : ClientView C) (kdc kdc2 : D) (turns : List end.Turn) (error : DelegateError) (server server2 : ServerView C P)
-        (servers : List end.Turn) → ClientHalfStops c k first kdc error turns now kdc2 → ServerHistory c told faults failing server servers server2 →
+    pub server_beside : (first now : ClientView C) (kdc kdc2 : D) (turns : List Turn) (error : DelegateError) (server server2 : ServerView C P)
+        (servers : List Turn) → ClientHalfStops c k first kdc error turns now kdc2 → ServerHistory c told faults failing server servers server2 →
         ServerStops c told faults failing server error servers server2
     server_beside first now kdc kdc2 turns (errors.Client error) server server2 servers half h = h
     server_beside first now kdc kdc2 turns (errors.Server error) server server2 servers half h = absurd half
@@ -56,8 +56,8 @@ module _ {C D : Type 0} (c : Meaning ContextSetting C) (k : KdcCalls D) where
     server_beside first now kdc kdc2 turns errors.TurnsSpent server server2 servers half h = h
     server_beside first now kdc kdc2 turns errors.InsufficientMemory server server2 servers half h = h
 
-    pub client_beside : (first now : ClientView C) (kdc kdc2 : D) (turns : List end.Turn) (error : DelegateError) (server server2 : ServerView C P)
-        (servers : List end.Turn) → ServerHalfStops c told faults failing server error servers server2 → ClientHistory c k first kdc turns now kdc2 →
+    pub client_beside : (first now : ClientView C) (kdc kdc2 : D) (turns : List Turn) (error : DelegateError) (server server2 : ServerView C P)
+        (servers : List Turn) → ServerHalfStops c told faults failing server error servers server2 → ClientHistory c k first kdc turns now kdc2 →
         ClientStops c k first kdc error turns now kdc2
     client_beside first now kdc kdc2 turns (errors.Client error) server server2 servers half h = absurd half
     client_beside first now kdc kdc2 turns (errors.Server error) server server2 servers half h = h
@@ -68,7 +68,7 @@ module _ {C D : Type 0} (c : Meaning ContextSetting C) (k : KdcCalls D) where
     client_beside first now kdc kdc2 turns errors.InsufficientMemory server server2 servers half h = between h
 
 module _ {C P : Type 0} (c : Meaning ContextSetting C) (told : P → Option (List AuthIdentity)) (faults : P → ℕ) (failing : P → Option (List ℕ)) where
-  pub server_half_stopped : (first now : ServerView C P) (turns : List end.Turn) (error : DelegateError) → IsNoRefusal error →
+  pub server_half_stopped : (first now : ServerView C P) (turns : List Turn) (error : DelegateError) → IsNoRefusal error →
       ServerHistory c told faults failing first turns now → ServerHalfStops c told faults failing first error turns now
   server_half_stopped first now turns (errors.Client error) link h = absurd link
   server_half_stopped first now turns (errors.Server error) link h = absurd link
@@ -78,13 +78,13 @@ module _ {C P : Type 0} (c : Meaning ContextSetting C) (told : P → Option (Lis
   server_half_stopped first now turns errors.TurnsSpent link h = h
   server_half_stopped first now turns errors.InsufficientMemory link h = h
 
-  pub server_half_refused : (first now : ServerView C P) (turns : List end.Turn) (error : Error) (answer : DelegateError) →
+  pub server_half_refused : (first now : ServerView C P) (turns : List Turn) (error : Error) (answer : DelegateError) →
       IsAnswerTo error.error_type (errors.Server error) answer → ServerStopped c told faults failing first error turns now →
       ServerHalfStops c told faults failing first answer turns now
   server_half_refused first now turns error answer (inl memory) s = rw memory.1 (server_stopped_history c told faults failing first now error turns s)
   server_half_refused first now turns error answer (inr refusal) s = rw refusal.1 s
 
-  pub server_half_past : (first now : ServerView C P) (turns : List end.Turn) (error : DelegateError) →
+  pub server_half_past : (first now : ServerView C P) (turns : List Turn) (error : DelegateError) →
       ServerHalfStops c told faults failing first error turns now → ServerStops c told faults failing first error turns now
   server_half_past first now turns (errors.Client error) h = absurd h
   server_half_past first now turns (errors.Server error) h = h

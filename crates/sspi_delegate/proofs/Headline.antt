@@ -6,35 +6,35 @@ use Rattle.sspi_credssp.specs.Acts.{count_of}
 use Rattle.sspi_credssp.specs.ClientTurn.{ClientActs, ClientReplies}
 use Rattle.sspi_credssp.specs.Context.{ContextSetting}
 use Rattle.sspi_credssp.specs.ServerTurn.{ServerReplies}
-use Rattle.sspi_credssp.specs.Turn.{Came, Replied, Ended, Finished, Stopped, ClientFrame, ServerFrame}
-use Rattle.sspi_credssp.specs.Turn as end
+use Rattle.sspi_credssp.specs.Turn.{ClientFrame, ServerFrame}
 use Rattle.sspi_delegate.specs.declared.answer.Delegation.{Delegation}
 use Rattle.sspi_delegate.specs.declared.answer.DelegateError.{DelegateError}
 use Rattle.sspi_delegate.specs.declared.answer.DelegateError.TheVariants as errors
 use Rattle.sspi_delegate.specs.declared.carried.Carried.{Carried}
-use Rattle.sspi_delegate.specs.declared.carried.End.{End}
-use Rattle.sspi_delegate.specs.declared.carried.End.TheVariants.{Client, Server}
-use Rattle.sspi_delegate.specs.declared.turn.Outcome.{Outcome}
-use Rattle.sspi_delegate.specs.declared.turn.Outcome.TheVariants as outcome
-use Rattle.sspi_delegate.specs.declared.turn.Turn.{Turn}
+use Rattle.sspi_credssp.specs.declared.turn.End.{End}
+use Rattle.sspi_credssp.specs.declared.turn.End.TheVariants.{Client, Server}
+use Rattle.sspi_credssp.specs.declared.turn.Outcome.{Outcome}
+use Rattle.sspi_credssp.specs.declared.turn.Outcome.TheVariants as outcome
+use Rattle.sspi_credssp.specs.declared.turn.Turn.{Turn}
 use Rattle.sspi_delegate.specs.Causes.{NewestIs, IsFinished, RunEnds}
 use Rattle.sspi_delegate.specs.ClientRun.{ClientEnd, client_frame_at, EachClientTurn}
-use Rattle.sspi_delegate.specs.EndTurns.{came_of, as_turn, onto_client, onto_server, client_turns, server_turns, is_replied, is_ended, any_ended, any_proved, any_finished, WentOn, AllWentOn, OthersWentOn}
+use Rattle.sspi_delegate.specs.EndTurns.{onto_client, onto_server, client_turns, server_turns, is_replied, is_ended, any_ended, any_proved, any_finished, OthersGoOn}
+use Rattle.sspi_delegate.specs.Turns.{GoesOn, AllGoOn, Alternates}
 use Rattle.sspi_delegate.specs.Headline.{sealed_turns, NeverSeals, SealsAfterProof, any_exchange, HasExchanged}
 use Rattle.sspi_delegate.specs.Run.{HasLog}
 use Rattle.sspi_delegate.specs.ServerRun.{server_state, any_over, ServerEnd, server_frame_at, EachServerTurn}
-use Rattle.sspi_delegate.specs.Turns.{Alternates}
-use Rattle.sspi_delegate.proofs.ClientSteps.{others_went, state_auth, reply_state}
+use Rattle.sspi_delegate.proofs.Alternating.{others_go}
+use Rattle.sspi_delegate.proofs.ClientSteps.{state_auth, reply_state}
 use Rattle.sspi_delegate.proofs.EndSteps.{or_false, is_false}
 use Rattle.sspi_delegate.proofs.LogSteps.{given_log}
 
 -- ---- how often the credentials were sealed
 
-sealed_of : List end.Turn → ℕ
+sealed_of : List Turn → ℕ
 sealed_of [] = 0
 sealed_of (t ∷ past) = sealed_of past + count_of t.acts.sealed
 
-split_by : (e : End) (t : end.Turn) (clients servers : List end.Turn) →
+split_by : (e : End) (t : Turn) (clients servers : List Turn) →
     sealed_of (onto_client e t clients) + sealed_of (onto_server e t servers) ≡ sealed_of clients + sealed_of servers + count_of t.acts.sealed
 unfolding sealed_of
 split_by Client t clients servers = omega arith
@@ -45,32 +45,32 @@ unfolding sealed_of
 sealed_split [] = omega arith
 sealed_split (t ∷ past) =
     ap (λ (n : ℕ). n + count_of t.acts.sealed) (sealed_split past)
-    ∙ sym (split_by t.end (as_turn t) (client_turns past) (server_turns past))
+    ∙ sym (split_by t.end t (client_turns past) (server_turns past))
 
-never_seals : (past : List end.Turn) → NeverSeals past → sealed_of past ≡ 0
+never_seals : (past : List Turn) → NeverSeals past → sealed_of past ≡ 0
 unfolding sealed_of
 never_seals [] never = refl
 never_seals (t ∷ past) never = rw (never_seals past never.1, never.0) refl
 
 module _ {C : Type 0} (c : Meaning ContextSetting C) where
-  reply_unsealed : (f : ClientFrame C) (t : end.Turn) (came : Came) → ClientActs c f t → ClientReplies c f t came → WentOn came → is_ended came ≡ false → t.acts.sealed ≡ false
-  reply_unsealed f t (Replied reply) acts h went ended = is_false t.acts.sealed (λ was.
+  reply_unsealed : (f : ClientFrame C) (t : Turn) (out : Outcome) → ClientActs c f t → ClientReplies c f t out → GoesOn out → is_ended out ≡ false → t.acts.sealed ≡ false
+  reply_unsealed f t (outcome.Reply reply) acts h went ended = is_false t.acts.sealed (λ was.
       let auth = (acts.checked (acts.sealed was).0).0 in let nego = reply_state c f t t.acts.status reply h in absurd (cc (auth, nego)))
-  reply_unsealed f t (Ended reply) acts h went ended = absurd (cc (ended))
-  reply_unsealed f t Finished acts h went ended = absurd went
-  reply_unsealed f t (Stopped kind reply) acts h went ended = absurd went
+  reply_unsealed f t (outcome.Final reply) acts h went ended = absurd (cc (ended))
+  reply_unsealed f t outcome.Finished acts h went ended = absurd went
+  reply_unsealed f t (outcome.Refused kind reply) acts h went ended = absurd went
 
-  unsealed_before : (e : ClientEnd C) (past : List end.Turn) → EachClientTurn c e past → AllWentOn past → any_ended past ≡ false → NeverSeals past
+  unsealed_before : (e : ClientEnd C) (past : List Turn) → EachClientTurn c e past → AllGoOn past → any_ended past ≡ false → NeverSeals past
   unsealed_before e [] each went unended = tt
   unsealed_before e (t ∷ past) each went unended =
-      let s = or_false (is_ended t.came) (any_ended past) unended in
-      (reply_unsealed (client_frame_at e past t) t t.came each.0.acts each.0.reply went.0 s.0, unsealed_before e past each.1 went.1 s.1)
+      let s = or_false (is_ended t.outcome) (any_ended past) unended in
+      (reply_unsealed (client_frame_at e past t) t t.outcome each.0.acts each.0.reply went.0 s.0, unsealed_before e past each.1 went.1 s.1)
 
-  pub server_never_seals : (e : ServerEnd C) (past : List end.Turn) → EachServerTurn c e past → NeverSeals past
+  pub server_never_seals : (e : ServerEnd C) (past : List Turn) → EachServerTurn c e past → NeverSeals past
   server_never_seals e [] each = tt
   server_never_seals e (t ∷ past) each = (each.0.acts.sealed, server_never_seals e past each.1)
 
-  sealed_last : (e : ClientEnd C) (t : end.Turn) (past : List end.Turn) (sealed : Bool) → t.acts.sealed ≡ sealed → EachClientTurn c e (t ∷ past) → AllWentOn past →
+  sealed_last : (e : ClientEnd C) (t : Turn) (past : List Turn) (sealed : Bool) → t.acts.sealed ≡ sealed → EachClientTurn c e (t ∷ past) → AllGoOn past →
       sealed_of past ≤ 1 → sealed_of past + count_of t.acts.sealed ≤ 1
   sealed_last e t past true was each went before =
       let s = state_auth (any_ended past) (any_proved past) (each.0.acts.checked (each.0.acts.sealed was).0).0 in
@@ -78,19 +78,19 @@ module _ {C : Type 0} (c : Meaning ContextSetting C) where
       rw (none, was) (omega arith)
   sealed_last e t past false was each went before = rw was (omega arith)
 
-  client_once : (e : ClientEnd C) (past : List end.Turn) → EachClientTurn c e past → OthersWentOn past → sealed_of past ≤ 1
+  client_once : (e : ClientEnd C) (past : List Turn) → EachClientTurn c e past → OthersGoOn past → sealed_of past ≤ 1
   unfolding sealed_of
   client_once e [] each went = omega arith
   client_once e (t ∷ past) each went =
-      sealed_last e t past t.acts.sealed refl each went (client_once e past each.1 (others_went past went))
+      sealed_last e t past t.acts.sealed refl each went (client_once e past each.1 (others_go past went))
 
-  pub sealed_once : (e : ClientEnd C) (e2 : ServerEnd C) (turns : List Turn) → EachClientTurn c e (client_turns turns) → OthersWentOn (client_turns turns) →
+  pub sealed_once : (e : ClientEnd C) (e2 : ServerEnd C) (turns : List Turn) → EachClientTurn c e (client_turns turns) → OthersGoOn (client_turns turns) →
       EachServerTurn c e2 (server_turns turns) → sealed_turns turns ≤ 1
   sealed_once e e2 turns client went server =
       rw (sealed_split turns, never_seals (server_turns turns) (server_never_seals e2 (server_turns turns) server))
       (omega (arith, client_once e (client_turns turns) client went))
 
-  pub seals_after_proof : (e : ClientEnd C) (past : List end.Turn) → EachClientTurn c e past → SealsAfterProof c e past
+  pub seals_after_proof : (e : ClientEnd C) (past : List Turn) → EachClientTurn c e past → SealsAfterProof c e past
   seals_after_proof e [] each = tt
   seals_after_proof e (t ∷ past) each =
       ((λ was. let s = each.0.acts.sealed was in ((each.0.acts.checked s.0).0, s.1)), seals_after_proof e past each.1)
@@ -115,11 +115,11 @@ module _ {C : Type 0} (c : Meaning ContextSetting C) where
   both_true : (a b : Bool) → a ≡ true → b ≡ true → a && b ≡ true
   both_true a b h k = rw (h, k) refl
 
-  proved_exchange : (e : ServerEnd C) (past : List end.Turn) → EachServerTurn c e past → any_proved past ≡ true → any_exchange past ≡ true
+  proved_exchange : (e : ServerEnd C) (past : List Turn) → EachServerTurn c e past → any_proved past ≡ true → any_exchange past ≡ true
   proved_exchange e [] each was = absurd (cc (was))
-  proved_exchange e (t ∷ past) each was = elim (or_true (is_replied t.came && t.acts.proved) (any_proved past) was) [
+  proved_exchange e (t ∷ past) each was = elim (or_true (is_replied t.outcome && t.acts.proved) (any_proved past) was) [
     | inl here ↦ or_left (t.acts.checked && t.acts.proved) (any_exchange past)
-        (both_true t.acts.checked t.acts.proved (each.0.acts.proved (and_second (is_replied t.came) t.acts.proved here)).0 (and_second (is_replied t.came) t.acts.proved here))
+        (both_true t.acts.checked t.acts.proved (each.0.acts.proved (and_second (is_replied t.outcome) t.acts.proved here)).0 (and_second (is_replied t.outcome) t.acts.proved here))
     | inr before ↦ or_right (t.acts.checked && t.acts.proved) (any_exchange past) (proved_exchange e past each.1 before)
   ]
 
@@ -130,28 +130,28 @@ module _ {C : Type 0} (c : Meaning ContextSetting C) where
   state_proved false false true h = absurd (cc (h))
   state_proved false false false h = absurd (cc (h))
 
-  finished_exchanged : (e : ServerEnd C) (f : ServerFrame C) (t : end.Turn) (past : List end.Turn) (came : Came) → f.state ≡ server_state past → EachServerTurn c e past →
-      came ≡ Finished → ServerReplies c f t came → any_exchange past ≡ true
-  finished_exchanged e f t past (Replied reply) is each came h = absurd (cc (came))
-  finished_exchanged e f t past (Ended reply) is each came h = absurd (cc (came))
-  finished_exchanged e f t past Finished is each came h =
+  finished_exchanged : (e : ServerEnd C) (f : ServerFrame C) (t : Turn) (past : List Turn) (out : Outcome) → f.state ≡ server_state past → EachServerTurn c e past →
+      out ≡ outcome.Finished → ServerReplies c f t out → any_exchange past ≡ true
+  finished_exchanged e f t past (outcome.Reply reply) is each out h = absurd (cc (out))
+  finished_exchanged e f t past (outcome.Final reply) is each out h = absurd (cc (out))
+  finished_exchanged e f t past outcome.Finished is each out h =
       proved_exchange e past each (state_proved (any_finished past) (any_proved past) (any_over past) (sym is ∙ h.0))
-  finished_exchanged e f t past (Stopped kind reply) is each came h = absurd (cc (came))
+  finished_exchanged e f t past (outcome.Refused kind reply) is each out h = absurd (cc (out))
 
-  as_finished : (out : Outcome) → IsFinished out → came_of out ≡ Finished
+  as_finished : (out : Outcome) → IsFinished out → out ≡ outcome.Finished
   as_finished (outcome.Reply reply) h = absurd h
   as_finished (outcome.Final reply) h = absurd h
   as_finished outcome.Finished h = refl
   as_finished (outcome.Refused kind reply) h = absurd h
 
-  newest_exchanged : (e : ServerEnd C) (n : End) (t : end.Turn) (past : List end.Turn) → n ≡ Server → t.came ≡ Finished → EachServerTurn c e (onto_server n t past) →
+  newest_exchanged : (e : ServerEnd C) (n : End) (t : Turn) (past : List Turn) → n ≡ Server → t.outcome ≡ outcome.Finished → EachServerTurn c e (onto_server n t past) →
       HasExchanged (onto_server n t past)
-  newest_exchanged e Client t past is came each = absurd (cc (is))
-  newest_exchanged e Server t past is came each = finished_exchanged e (server_frame_at e past t) t past t.came refl each.1 came each.0.reply
+  newest_exchanged e Client t past is out each = absurd (cc (is))
+  newest_exchanged e Server t past is out each = finished_exchanged e (server_frame_at e past t) t past t.outcome refl each.1 out each.0.reply
 
   pub exchanged : (e : ServerEnd C) (turns : List Turn) → NewestIs Server IsFinished turns → EachServerTurn c e (server_turns turns) → HasExchanged (server_turns turns)
   exchanged e [] newest each = absurd newest
-  exchanged e (t ∷ past) newest each = newest_exchanged e t.end (as_turn t) (server_turns past) newest.0 (as_finished t.outcome newest.1) each
+  exchanged e (t ∷ past) newest each = newest_exchanged e t.end t (server_turns past) newest.0 (as_finished t.outcome newest.1) each
 
 -- ---- the log at every answer
 

@@ -10,24 +10,22 @@ use Rattle.sspi_credssp.specs.Context.{ContextSetting}
 use Rattle.sspi_credssp.specs.Server.{ServerView}
 use Rattle.sspi_credssp.specs.ServerStep.{DoneStep}
 use Rattle.sspi_credssp.specs.ServerTurn.{ServerTurn, HoldsIdentity}
-use Rattle.sspi_credssp.specs.Turn.{Finished, Stopped}
-use Rattle.sspi_credssp.specs.Turn as end
 use Rattle.sspi_delegate.specs.declared.answer.Delegation.{Delegation}
 use Rattle.sspi_delegate.specs.declared.answer.DelegateError.{DelegateError}
 use Rattle.sspi_delegate.specs.declared.answer.DelegateError.TheVariants as errors
-use Rattle.sspi_delegate.specs.declared.carried.End.TheVariants.{Client, Server}
-use Rattle.sspi_delegate.specs.declared.turn.Outcome.{Outcome}
-use Rattle.sspi_delegate.specs.declared.turn.Outcome.TheVariants as outcome
-use Rattle.sspi_delegate.specs.declared.turn.Turn.{Turn}
+use Rattle.sspi_credssp.specs.declared.turn.End.TheVariants.{Client, Server}
+use Rattle.sspi_credssp.specs.declared.turn.Outcome.{Outcome}
+use Rattle.sspi_credssp.specs.declared.turn.Outcome.TheVariants as outcome
+use Rattle.sspi_credssp.specs.declared.turn.Turn.{Turn}
 use Rattle.sspi_delegate.specs.Asking.{KdcCalls}
-use Rattle.sspi_delegate.specs.EndTurns.{client_turns, server_turns, came_of}
+use Rattle.sspi_delegate.specs.EndTurns.{client_turns, server_turns}
 use Rattle.sspi_delegate.specs.History.{ClientMakes, ClientHistory, ClientStopped, ServerMakes, ServerRefuses, ServerHistory, ServerGave, ServerStopped, ServerPast}
 use Rattle.sspi_delegate.specs.Refusals.{ClientRefuses, ProxyStays}
 use Rattle.sspi_delegate.specs.Rounds.{recorded}
 
 module _ {C D : Type 0} (c : Meaning ContextSetting C) (k : KdcCalls D) where
   pub client_made : (first old mid new : ClientView C) (kdc_first kdc kdc2 : D) (d : TsRequest) (out : Outcome) (turns turns2 : List Turn) →
-      ClientHistory c k first kdc_first (client_turns turns) old kdc → ClientMakes c k old kdc d (came_of out) mid kdc2 →
+      ClientHistory c k first kdc_first (client_turns turns) old kdc → ClientMakes c k old kdc d out mid kdc2 →
       new ≡ record mid { output = [] } → turns2 ≡ recorded Client d mid.acts mid.output out ∷ turns →
       ClientHistory c k first kdc_first (client_turns turns2) new kdc2
   client_made first old mid new kdc_first kdc kdc2 d out turns turns2 history makes rest is =
@@ -35,7 +33,7 @@ module _ {C D : Type 0} (c : Meaning ContextSetting C) (k : KdcCalls D) where
 
   pub client_stopped : (first old mid new : ClientView C) (kdc_first kdc kdc2 : D) (d : TsRequest) (error : Error) (turns turns2 : List Turn) →
       ClientHistory c k first kdc_first (client_turns turns) old kdc →
-      ClientTurn c old d (Stopped error.error_type None) mid × ClientRefuses c (λ asked. k.replies kdc asked kdc2) old d error mid →
+      ClientTurn c old d (outcome.Refused error.error_type None) mid × ClientRefuses c (λ asked. k.replies kdc asked kdc2) old d error mid →
       new ≡ record mid { output = [] } → turns2 ≡ recorded Client d mid.acts mid.output (outcome.Refused error.error_type None) ∷ turns →
       ClientStopped c k first kdc_first error (client_turns turns2) new kdc2
   client_stopped first old mid new kdc_first kdc kdc2 d error turns turns2 history turn rest is = record {
@@ -52,7 +50,7 @@ module _ {C D : Type 0} (c : Meaning ContextSetting C) (k : KdcCalls D) where
   }
 
   -- a turn that was refused is one of the history
-  pub client_stopped_history : (first now : ClientView C) (kdc kdc2 : D) (error : Error) (turns : List end.Turn) →
+  pub client_stopped_history : (first now : ClientView C) (kdc kdc2 : D) (error : Error) (turns : List Turn) →
       ClientStopped c k first kdc error turns now kdc2 → ClientHistory c k first kdc turns now kdc2
   client_stopped_history first now kdc kdc2 error turns s = rw s.newest (
     s.old,
@@ -64,7 +62,7 @@ module _ {C D : Type 0} (c : Meaning ContextSetting C) (k : KdcCalls D) where
 module _ {C : Type 0} (c : Meaning ContextSetting C) where
   module _ {P : Type 0} (told : P → Option (List AuthIdentity)) (faults : P → ℕ) (failing : P → Option (List ℕ)) where
     pub server_made : (first old mid new : ServerView C P) (d : TsRequest) (out : Outcome) (turns turns2 : List Turn) →
-        ServerHistory c told faults failing first (server_turns turns) old → ServerMakes c told faults old d (came_of out) mid →
+        ServerHistory c told faults failing first (server_turns turns) old → ServerMakes c told faults old d out mid →
         ProxyStays told failing faults old.proxy mid.proxy →
         new ≡ record mid { output = [] } → turns2 ≡ recorded Server d mid.acts mid.output out ∷ turns →
         ServerHistory c told faults failing first (server_turns turns2) new
@@ -73,7 +71,7 @@ module _ {C : Type 0} (c : Meaning ContextSetting C) where
 
     pub server_gave : (first old mid new : ServerView C P) (d : TsRequest) (identity : AuthIdentity) (turns turns2 : List Turn) →
         ServerHistory c told faults failing first (server_turns turns) old →
-        ServerTurn c old d Finished mid × HoldsIdentity c mid.context d.auth_info identity → DoneStep c told mid.acts.status old d mid →
+        ServerTurn c old d outcome.Finished mid × HoldsIdentity c mid.context d.auth_info identity → DoneStep c told mid.acts.status old d mid →
         ProxyStays told failing faults old.proxy mid.proxy →
         new ≡ record mid { output = [] } → turns2 ≡ recorded Server d mid.acts mid.output outcome.Finished ∷ turns →
         ServerGave c told faults failing first identity (server_turns turns2) new
@@ -82,7 +80,7 @@ module _ {C : Type 0} (c : Meaning ContextSetting C) where
 
     pub server_stopped : (first old mid new : ServerView C P) (d : TsRequest) (error : Error) (reply : Option TsRequest) (turns turns2 : List Turn) →
         ServerHistory c told faults failing first (server_turns turns) old →
-        ServerTurn c old d (Stopped error.error_type reply) mid → ServerRefuses c told faults old d error mid →
+        ServerTurn c old d (outcome.Refused error.error_type reply) mid → ServerRefuses c told faults old d error mid →
         ProxyStays told failing faults old.proxy mid.proxy →
         new ≡ record mid { output = [] } → turns2 ≡ recorded Server d mid.acts mid.output (outcome.Refused error.error_type reply) ∷ turns →
         ServerStopped c told faults failing first error (server_turns turns2) new
@@ -100,7 +98,7 @@ module _ {C : Type 0} (c : Meaning ContextSetting C) where
       rest = rest;
     }
 
-    pub server_stopped_history : (first now : ServerView C P) (error : Error) (turns : List end.Turn) →
+    pub server_stopped_history : (first now : ServerView C P) (error : Error) (turns : List Turn) →
         ServerStopped c told faults failing first error turns now → ServerHistory c told faults failing first turns now
     server_stopped_history first now error turns s = rw s.newest (
       s.old,
@@ -108,7 +106,7 @@ module _ {C : Type 0} (c : Meaning ContextSetting C) where
       record { mid = s.mid; turn = refl; makes = (error, refl, s.turn, s.refuses); proxy = s.proxy; rest = s.rest },
     )
 
-    pub server_past_history : (first now : ServerView C P) (turns : List end.Turn) (result : Result Delegation DelegateError) →
+    pub server_past_history : (first now : ServerView C P) (turns : List Turn) (result : Result Delegation DelegateError) →
         ServerPast c told faults failing first result turns now → ServerHistory c told faults failing first turns now
     server_past_history first now turns (Ok delegation) h = h.0
     server_past_history first now turns (Err (errors.Client error)) h = h

@@ -11,14 +11,13 @@ use Rattle.sspi_credssp.specs.ClientTurn.{ClientTurn, client_turn}
 use Rattle.sspi_credssp.specs.Context.{ContextSetting}
 use Rattle.sspi_credssp.specs.Server.{ServerView, IsFreshServer}
 use Rattle.sspi_credssp.specs.ServerTurn.{ServerTurn, server_turn}
-use Rattle.sspi_credssp.specs.Turn.{Came, Replied, Ended, Finished, Stopped}
-use Rattle.sspi_credssp.specs.Turn as end
 use Rattle.sspi_delegate.specs.declared.answer.Delegation.{Delegation}
 use Rattle.sspi_delegate.specs.declared.answer.DelegateError.{DelegateError}
 use Rattle.sspi_delegate.specs.declared.answer.DelegateError.TheVariants as errors
 use Rattle.sspi_delegate.specs.Asking.{KdcCalls}
 use Rattle.sspi_delegate.specs.ClientRun.{ClientRan, ClientFollows}
-use Rattle.sspi_delegate.specs.EndTurns.{WentOn, AllWentOn, OthersWentOn}
+use Rattle.sspi_delegate.specs.EndTurns.{OthersGoOn}
+use Rattle.sspi_delegate.specs.Turns.{GoesOn, AllGoOn}
 use Rattle.sspi_delegate.specs.History.{ClientMakes, ClientHistory, ClientStopped, ClientLeft, between, waiting, ClientStops, ClientPast, ServerMakes, ServerHistory, ServerStopped, ServerPast}
 use Rattle.sspi_delegate.specs.Refusals.{any_replies, ClientRefuses, ClientRefused, ServerRefused, RefusedBy, ProxyStays}
 use Rattle.sspi_delegate.specs.ServerRun.{ServerRan, ServerFollows, server_end, GivesNewest}
@@ -26,11 +25,14 @@ use Rattle.sspi_delegate.proofs.ClientSteps.{client_fresh, client_turned, client
 use Rattle.sspi_delegate.proofs.Histories.{client_stopped_history, server_past_history}
 use Rattle.sspi_delegate.proofs.Refusing.{proxy_on}
 use Rattle.sspi_delegate.proofs.ServerSteps.{server_fresh, server_turned, server_follows, server_emptied}
+use Rattle.sspi_credssp.specs.declared.turn.Outcome.{Outcome}
+use Rattle.sspi_credssp.specs.declared.turn.Outcome.TheVariants as outcome
+use Rattle.sspi_credssp.specs.declared.turn.Turn.{Turn}
 
 module _ {C : Type 0} (c : Meaning ContextSetting C) (law : IsContext c) where
   -- ---- the client
 
-  client_follows_emptied : (first now : ClientView C) (past : List end.Turn) → ClientFollows c first now past → ClientFollows c first (record now { output = [] }) past
+  client_follows_emptied : (first now : ClientView C) (past : List Turn) → ClientFollows c first now past → ClientFollows c first (record now { output = [] }) past
   client_follows_emptied first now past follows = record {
     ran = client_emptied c first now past follows.ran;
     state = follows.state;
@@ -41,49 +43,49 @@ module _ {C : Type 0} (c : Meaning ContextSetting C) (law : IsContext c) where
   }
 
   module _ {D : Type 0} (k : KdcCalls D) where
-    client_turn_of : (old mid : ClientView C) (kdc kdc2 : D) (d : TsRequest) (came : Came) → ClientMakes c k old kdc d came mid kdc2 → ClientTurn c old d came mid
-    client_turn_of old mid kdc kdc2 d (Replied reply) makes = makes.0
-    client_turn_of old mid kdc kdc2 d (Ended reply) makes = makes.0
-    client_turn_of old mid kdc kdc2 d Finished makes = absurd makes
-    client_turn_of old mid kdc kdc2 d (Stopped kind None) makes = makes.2
-    client_turn_of old mid kdc kdc2 d (Stopped kind (Some reply)) makes = absurd makes
+    client_turn_of : (old mid : ClientView C) (kdc kdc2 : D) (d : TsRequest) (out : Outcome) → ClientMakes c k old kdc d out mid kdc2 → ClientTurn c old d out mid
+    client_turn_of old mid kdc kdc2 d (outcome.Reply reply) makes = makes.0
+    client_turn_of old mid kdc kdc2 d (outcome.Final reply) makes = makes.0
+    client_turn_of old mid kdc kdc2 d outcome.Finished makes = absurd makes
+    client_turn_of old mid kdc kdc2 d (outcome.Refused kind None) makes = makes.2
+    client_turn_of old mid kdc kdc2 d (outcome.Refused kind (Some reply)) makes = absurd makes
 
-    client_went : (first old mid : ClientView C) (kdc kdc2 : D) (past : List end.Turn) (d : TsRequest) (came : Came) → WentOn came →
-        ClientFollows c first old past → ClientMakes c k old kdc d came mid kdc2 → ClientFollows c first mid (client_turn c d came mid ∷ past)
-    client_went first old mid kdc kdc2 past d (Replied reply) went follows makes =
+    client_went : (first old mid : ClientView C) (kdc kdc2 : D) (past : List Turn) (d : TsRequest) (out : Outcome) → GoesOn out →
+        ClientFollows c first old past → ClientMakes c k old kdc d out mid kdc2 → ClientFollows c first mid (client_turn c d out mid ∷ past)
+    client_went first old mid kdc kdc2 past d (outcome.Reply reply) went follows makes =
         client_replied c law (λ asked. k.replies kdc asked kdc2) first old mid past d reply follows makes.0 makes.1
-    client_went first old mid kdc kdc2 past d (Ended reply) went follows makes = client_ended c law first old mid past d reply follows makes.0
-    client_went first old mid kdc kdc2 past d Finished went follows makes = absurd went
-    client_went first old mid kdc kdc2 past d (Stopped kind reply) went follows makes = absurd went
+    client_went first old mid kdc kdc2 past d (outcome.Final reply) went follows makes = client_ended c law first old mid past d reply follows makes.0
+    client_went first old mid kdc kdc2 past d outcome.Finished went follows makes = absurd went
+    client_went first old mid kdc kdc2 past d (outcome.Refused kind reply) went follows makes = absurd went
 
-    pub history_follows : (first now : ClientView C) (kdc kdc2 : D) (turns : List end.Turn) → IsFreshClient first → AllWentOn turns →
+    pub history_follows : (first now : ClientView C) (kdc kdc2 : D) (turns : List Turn) → IsFreshClient first → AllGoOn turns →
         ClientHistory c k first kdc turns now kdc2 → ClientFollows c first now turns
     history_follows first now kdc kdc2 [] fresh went h = subst (λ (v : ClientView C). ClientFollows c first v []) (sym h.0) (client_fresh c first fresh)
     history_follows first now kdc kdc2 (t ∷ past) fresh went h =
         let made = h.3 in
         let follows = history_follows first h.0 kdc h.1 past fresh went.1 h.2 in
-        subst (λ (x : end.Turn). ClientFollows c first now (x ∷ past)) (sym made.turn)
-        (subst (λ (v : ClientView C). ClientFollows c first v (client_turn c t.delivered t.came made.mid ∷ past)) (sym made.rest)
-        (client_follows_emptied first made.mid _ (client_went first h.0 made.mid h.1 kdc2 past t.delivered t.came went.0 follows made.makes)))
+        subst (λ (x : Turn). ClientFollows c first now (x ∷ past)) (sym made.turn)
+        (subst (λ (v : ClientView C). ClientFollows c first v (client_turn c t.delivered t.outcome made.mid ∷ past)) (sym made.rest)
+        (client_follows_emptied first made.mid _ (client_went first h.0 made.mid h.1 kdc2 past t.delivered t.outcome went.0 follows made.makes)))
 
-    pub history_ran : (first now : ClientView C) (kdc kdc2 : D) (turns : List end.Turn) → IsFreshClient first → OthersWentOn turns →
+    pub history_ran : (first now : ClientView C) (kdc kdc2 : D) (turns : List Turn) → IsFreshClient first → OthersGoOn turns →
         ClientHistory c k first kdc turns now kdc2 → ClientRan c first now turns
     history_ran first now kdc kdc2 [] fresh others h = (history_follows first now kdc kdc2 [] fresh tt h).ran
     history_ran first now kdc kdc2 (t ∷ past) fresh others h =
         let made = h.3 in
         let follows = history_follows first h.0 kdc h.1 past fresh others h.2 in
-        subst (λ (x : end.Turn). ClientRan c first now (x ∷ past)) (sym made.turn)
-        (subst (λ (v : ClientView C). ClientRan c first v (client_turn c t.delivered t.came made.mid ∷ past)) (sym made.rest)
+        subst (λ (x : Turn). ClientRan c first now (x ∷ past)) (sym made.turn)
+        (subst (λ (v : ClientView C). ClientRan c first v (client_turn c t.delivered t.outcome made.mid ∷ past)) (sym made.rest)
         (client_emptied c first made.mid _
-        (client_turned c law first h.0 made.mid past t.delivered t.came follows (client_turn_of h.0 made.mid h.1 kdc2 t.delivered t.came made.makes))))
+        (client_turned c law first h.0 made.mid past t.delivered t.outcome follows (client_turn_of h.0 made.mid h.1 kdc2 t.delivered t.outcome made.makes))))
 
-    left_ran : (first now : ClientView C) (kdc kdc2 : D) (turns : List end.Turn) → IsFreshClient first → OthersWentOn turns →
+    left_ran : (first now : ClientView C) (kdc kdc2 : D) (turns : List Turn) → IsFreshClient first → OthersGoOn turns →
         ClientLeft c k first kdc turns now kdc2 → ClientRan c first now turns
     left_ran first now kdc kdc2 turns fresh others (between h) = history_ran first now kdc kdc2 turns fresh others h
     left_ran first now kdc kdc2 turns fresh others (waiting old kdc1 d went h way) =
         client_underway c law first old now turns d (history_follows first old kdc kdc1 turns fresh went h) way.underway
 
-    stops_ran : (first now : ClientView C) (kdc kdc2 : D) (turns : List end.Turn) (error : DelegateError) → IsFreshClient first → OthersWentOn turns →
+    stops_ran : (first now : ClientView C) (kdc kdc2 : D) (turns : List Turn) (error : DelegateError) → IsFreshClient first → OthersGoOn turns →
         ClientStops c k first kdc error turns now kdc2 → ClientRan c first now turns
     stops_ran first now kdc kdc2 turns (errors.Client error) fresh others s =
         history_ran first now kdc kdc2 turns fresh others (client_stopped_history c k first now kdc kdc2 error turns s)
@@ -94,8 +96,8 @@ module _ {C : Type 0} (c : Meaning ContextSetting C) (law : IsContext c) where
     stops_ran first now kdc kdc2 turns errors.TurnsSpent fresh others h = history_ran first now kdc kdc2 turns fresh others h
     stops_ran first now kdc kdc2 turns errors.InsufficientMemory fresh others h = left_ran first now kdc kdc2 turns fresh others h
 
-    pub client_past_ran : (first now : ClientView C) (kdc kdc2 : D) (turns : List end.Turn) (result : Result Delegation DelegateError) →
-        IsFreshClient first → OthersWentOn turns → ClientPast c k first kdc result turns now kdc2 → ClientRan c first now turns
+    pub client_past_ran : (first now : ClientView C) (kdc kdc2 : D) (turns : List Turn) (result : Result Delegation DelegateError) →
+        IsFreshClient first → OthersGoOn turns → ClientPast c k first kdc result turns now kdc2 → ClientRan c first now turns
     client_past_ran first now kdc kdc2 turns (Ok delegation) fresh others h = history_ran first now kdc kdc2 turns fresh others h
     client_past_ran first now kdc kdc2 turns (Err error) fresh others h = stops_ran first now kdc kdc2 turns error fresh others h
 
@@ -108,7 +110,7 @@ module _ {C : Type 0} (c : Meaning ContextSetting C) (law : IsContext c) where
       steps = record { asked = h.steps.asked; replied = tt; step = h.steps.step; unasked = h.steps.unasked };
     }
 
-    client_refused : (first now : ClientView C) (kdc kdc2 : D) (turns : List end.Turn) (error : Error) → IsFreshClient first → OthersWentOn turns →
+    client_refused : (first now : ClientView C) (kdc kdc2 : D) (turns : List Turn) (error : Error) → IsFreshClient first → OthersGoOn turns →
         ClientStopped c k first kdc error turns now kdc2 → ClientRefused c first error now turns
     client_refused first now kdc kdc2 turns error fresh others s = record {
       old = s.old;
@@ -116,7 +118,7 @@ module _ {C : Type 0} (c : Meaning ContextSetting C) (law : IsContext c) where
       d = s.d;
       past = s.past;
       newest = s.newest;
-      follows = history_follows first s.old kdc s.kdc1 s.past fresh (subst (λ (l : List end.Turn). OthersWentOn l) s.newest others) s.before;
+      follows = history_follows first s.old kdc s.kdc1 s.past fresh (subst (λ (l : List Turn). OthersGoOn l) s.newest others) s.before;
       refuses = refused_anyhow (λ asked. k.replies s.kdc1 asked kdc2) s.old s.mid s.d error s.refuses;
       rest = s.rest;
     }
@@ -124,7 +126,7 @@ module _ {C : Type 0} (c : Meaning ContextSetting C) (law : IsContext c) where
   -- ---- the server
 
   module _ {P : Type 0} (told : P → Option (List AuthIdentity)) (faults : P → ℕ) (failing : P → Option (List ℕ)) where
-    server_follows_emptied : (first now : ServerView C P) (past : List end.Turn) → ServerFollows c first now past → ServerFollows c first (record now { output = [] }) past
+    server_follows_emptied : (first now : ServerView C P) (past : List Turn) → ServerFollows c first now past → ServerFollows c first (record now { output = [] }) past
     server_follows_emptied first now past follows = record {
       ran = server_emptied c first now past follows.ran;
       state = follows.state;
@@ -132,51 +134,51 @@ module _ {C : Type 0} (c : Meaning ContextSetting C) (law : IsContext c) where
       going = follows.going;
     }
 
-    server_turn_of : (old mid : ServerView C P) (d : TsRequest) (came : Came) → ServerMakes c told faults old d came mid → ServerTurn c old d came mid
-    server_turn_of old mid d (Replied reply) makes = makes.0
-    server_turn_of old mid d (Ended reply) makes = absurd makes
-    server_turn_of old mid d Finished makes = makes.0
-    server_turn_of old mid d (Stopped kind reply) makes = makes.2
+    server_turn_of : (old mid : ServerView C P) (d : TsRequest) (out : Outcome) → ServerMakes c told faults old d out mid → ServerTurn c old d out mid
+    server_turn_of old mid d (outcome.Reply reply) makes = makes.0
+    server_turn_of old mid d (outcome.Final reply) makes = absurd makes
+    server_turn_of old mid d outcome.Finished makes = makes.0
+    server_turn_of old mid d (outcome.Refused kind reply) makes = makes.2
 
-    server_went : (first old mid : ServerView C P) (past : List end.Turn) (d : TsRequest) (came : Came) → WentOn came →
-        ServerFollows c first old past → ServerMakes c told faults old d came mid → ServerFollows c first mid (server_turn c d came mid ∷ past)
-    server_went first old mid past d (Replied reply) went follows makes = server_follows c law first old mid past d reply follows makes.0
-    server_went first old mid past d (Ended reply) went follows makes = absurd makes
-    server_went first old mid past d Finished went follows makes = absurd went
-    server_went first old mid past d (Stopped kind reply) went follows makes = absurd went
+    server_went : (first old mid : ServerView C P) (past : List Turn) (d : TsRequest) (out : Outcome) → GoesOn out →
+        ServerFollows c first old past → ServerMakes c told faults old d out mid → ServerFollows c first mid (server_turn c d out mid ∷ past)
+    server_went first old mid past d (outcome.Reply reply) went follows makes = server_follows c law first old mid past d reply follows makes.0
+    server_went first old mid past d (outcome.Final reply) went follows makes = absurd makes
+    server_went first old mid past d outcome.Finished went follows makes = absurd went
+    server_went first old mid past d (outcome.Refused kind reply) went follows makes = absurd went
 
-    pub server_history_follows : (first now : ServerView C P) (turns : List end.Turn) → IsFreshServer first → AllWentOn turns →
+    pub server_history_follows : (first now : ServerView C P) (turns : List Turn) → IsFreshServer first → AllGoOn turns →
         ServerHistory c told faults failing first turns now → ServerFollows c first now turns
     server_history_follows first now [] fresh went h = subst (λ (v : ServerView C P). ServerFollows c first v []) (sym h) (server_fresh c first fresh)
     server_history_follows first now (t ∷ past) fresh went h =
         let made = h.2 in
         let follows = server_history_follows first h.0 past fresh went.1 h.1 in
-        subst (λ (x : end.Turn). ServerFollows c first now (x ∷ past)) (sym made.turn)
-        (subst (λ (v : ServerView C P). ServerFollows c first v (server_turn c t.delivered t.came made.mid ∷ past)) (sym made.rest)
-        (server_follows_emptied first made.mid _ (server_went first h.0 made.mid past t.delivered t.came went.0 follows made.makes)))
+        subst (λ (x : Turn). ServerFollows c first now (x ∷ past)) (sym made.turn)
+        (subst (λ (v : ServerView C P). ServerFollows c first v (server_turn c t.delivered t.outcome made.mid ∷ past)) (sym made.rest)
+        (server_follows_emptied first made.mid _ (server_went first h.0 made.mid past t.delivered t.outcome went.0 follows made.makes)))
 
-    pub server_history_ran : (first now : ServerView C P) (turns : List end.Turn) → IsFreshServer first → OthersWentOn turns →
+    pub server_history_ran : (first now : ServerView C P) (turns : List Turn) → IsFreshServer first → OthersGoOn turns →
         ServerHistory c told faults failing first turns now → ServerRan c first now turns
     server_history_ran first now [] fresh others h = (server_history_follows first now [] fresh tt h).ran
     server_history_ran first now (t ∷ past) fresh others h =
         let made = h.2 in
         let follows = server_history_follows first h.0 past fresh others h.1 in
-        subst (λ (x : end.Turn). ServerRan c first now (x ∷ past)) (sym made.turn)
-        (subst (λ (v : ServerView C P). ServerRan c first v (server_turn c t.delivered t.came made.mid ∷ past)) (sym made.rest)
+        subst (λ (x : Turn). ServerRan c first now (x ∷ past)) (sym made.turn)
+        (subst (λ (v : ServerView C P). ServerRan c first v (server_turn c t.delivered t.outcome made.mid ∷ past)) (sym made.rest)
         (server_emptied c first made.mid _
-        (server_turned c law first h.0 made.mid past t.delivered t.came follows (server_turn_of h.0 made.mid t.delivered t.came made.makes))))
+        (server_turned c law first h.0 made.mid past t.delivered t.outcome follows (server_turn_of h.0 made.mid t.delivered t.outcome made.makes))))
 
-    pub server_past_ran : (first now : ServerView C P) (turns : List end.Turn) (result : Result Delegation DelegateError) → IsFreshServer first →
-        OthersWentOn turns → ServerPast c told faults failing first result turns now → ServerRan c first now turns
+    pub server_past_ran : (first now : ServerView C P) (turns : List Turn) (result : Result Delegation DelegateError) → IsFreshServer first →
+        OthersGoOn turns → ServerPast c told faults failing first result turns now → ServerRan c first now turns
     server_past_ran first now turns result fresh others past =
         server_history_ran first now turns fresh others (server_past_history c told faults failing first now turns result past)
 
-    pub server_past_gives : (first now : ServerView C P) (turns : List end.Turn) (result : Result Delegation DelegateError) →
+    pub server_past_gives : (first now : ServerView C P) (turns : List Turn) (result : Result Delegation DelegateError) →
         ServerPast c told faults failing first result turns now → IfOk result (λ delegation. GivesNewest c (server_end now) turns delegation.credentials)
     server_past_gives first now turns (Ok delegation) h = h.1
     server_past_gives first now turns (Err error) h = tt
 
-    history_proxy : (first now : ServerView C P) (turns : List end.Turn) → ServerHistory c told faults failing first turns now →
+    history_proxy : (first now : ServerView C P) (turns : List Turn) → ServerHistory c told faults failing first turns now →
         ProxyStays told failing faults first.proxy now.proxy
     history_proxy first now [] h = subst (λ (v : ServerView C P). ProxyStays told failing faults first.proxy v.proxy) (sym h)
         (record { told_same = refl; failing_same = refl; counted = omega arith; calm = λ none. refl })
@@ -185,7 +187,7 @@ module _ {C : Type 0} (c : Meaning ContextSetting C) (law : IsContext c) where
         subst (λ (v : ServerView C P). ProxyStays told failing faults first.proxy v.proxy) (sym made.rest)
         (proxy_on told failing faults first.proxy h.0.proxy made.mid.proxy (history_proxy first h.0 past h.1) made.proxy)
 
-    server_refused : (first now : ServerView C P) (turns : List end.Turn) (error : Error) → IsFreshServer first → OthersWentOn turns →
+    server_refused : (first now : ServerView C P) (turns : List Turn) (error : Error) → IsFreshServer first → OthersGoOn turns →
         ServerStopped c told faults failing first error turns now → ServerRefused c told faults first error now turns
     server_refused first now turns error fresh others s =
         let stays = history_proxy first s.old s.past s.before in
@@ -196,7 +198,7 @@ module _ {C : Type 0} (c : Meaning ContextSetting C) (law : IsContext c) where
           reply = s.reply;
           past = s.past;
           newest = s.newest;
-          follows = server_history_follows first s.old s.past fresh (subst (λ (l : List end.Turn). OthersWentOn l) s.newest others) s.before;
+          follows = server_history_follows first s.old s.past fresh (subst (λ (l : List Turn). OthersGoOn l) s.newest others) s.before;
           told_before = stays.told_same;
           faults_before = stays.counted;
           cause = s.refuses.cause;
@@ -207,8 +209,8 @@ module _ {C : Type 0} (c : Meaning ContextSetting C) (law : IsContext c) where
 
     -- ---- the refusal that is answered
 
-    pub past_refused : {D : Type 0} (k : KdcCalls D) (client client2 : ClientView C) (kdc kdc2 : D) (server server2 : ServerView C P) (clients servers : List end.Turn)
-        (result : Result Delegation DelegateError) → IsFreshClient client → IsFreshServer server → OthersWentOn clients → OthersWentOn servers →
+    pub past_refused : {D : Type 0} (k : KdcCalls D) (client client2 : ClientView C) (kdc kdc2 : D) (server server2 : ServerView C P) (clients servers : List Turn)
+        (result : Result Delegation DelegateError) → IsFreshClient client → IsFreshServer server → OthersGoOn clients → OthersGoOn servers →
         ClientPast c k client kdc result clients client2 kdc2 → ServerPast c told faults failing server result servers server2 →
         RefusedBy c told faults client client2 server server2 result clients servers
     past_refused k client client2 kdc kdc2 server server2 clients servers (Ok delegation) fresh fresh2 others others2 h h2 = tt

@@ -7,16 +7,17 @@ use Rattle.sspi_tsreq.specs.declared.request.TsRequest.{TsRequest}
 use Rattle.sspi_delegate.specs.declared.answer.DelegateError.{DelegateError}
 use Rattle.sspi_delegate.specs.declared.answer.DelegateError.TheVariants as errors
 use Rattle.sspi_delegate.specs.declared.carried.Carried.{Carried}
-use Rattle.sspi_delegate.specs.declared.carried.End.{End}
-use Rattle.sspi_delegate.specs.declared.carried.End.TheVariants.{Client, Server}
-use Rattle.sspi_delegate.specs.declared.turn.Outcome.{Outcome}
-use Rattle.sspi_delegate.specs.declared.turn.Outcome.TheVariants.{Reply, Final, Finished, Refused}
-use Rattle.sspi_delegate.specs.declared.turn.Turn.{Turn}
+use Rattle.sspi_credssp.specs.declared.turn.End.{End}
+use Rattle.sspi_credssp.specs.declared.turn.End.TheVariants.{Client, Server}
+use Rattle.sspi_credssp.specs.declared.turn.Outcome.{Outcome}
+use Rattle.sspi_credssp.specs.declared.turn.Outcome.TheVariants.{Reply, Final, Finished, Refused}
+use Rattle.sspi_credssp.specs.declared.turn.Turn.{Turn}
 use Rattle.sspi_delegate.specs.Causes.{Between, Asked, Turned, Finishes, Stopped, NewestIs, IsClientRefusal, IsServerRefusal, IsFinished, IsAnswerTo, MayLackAfter, MayLack, TurnLeft, HasMessage, Given, carried, too_long, link_failed, no_memory, turns_of}
 use Rattle.sspi_delegate.specs.Deliveries.{delivery_limit, IsUnread, Fed, HeadTaken, Takes}
 use Rattle.sspi_delegate.specs.Recorded.{PushedSuch}
 use Rattle.sspi_delegate.specs.Run.{Logged, LoggedButLast, HasLog, IsDelivered, IsRead, IsSent}
-use Rattle.sspi_delegate.specs.Turns.{next_end, message_of, GoesOn, AllGoOn, Alternates}
+use Rattle.sspi_delegate.specs.Turns.{next_end, GoesOn, AllGoOn, Alternates}
+use Rattle.sspi_credssp.specs.Turn.{message_of}
 
 goes_may_lack : (outcome : Outcome) → GoesOn outcome → MayLackAfter outcome
 goes_may_lack (Reply reply) goes = tt

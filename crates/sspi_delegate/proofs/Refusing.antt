@@ -19,8 +19,9 @@ use Rattle.sspi_credssp.specs.Context.{ContextSetting}
 use Rattle.sspi_credssp.specs.Counts.{is_waiting_in}
 use Rattle.sspi_credssp.specs.Noted.{noted_next}
 use Rattle.sspi_credssp.specs.Stops.{StopsIf}
-use Rattle.sspi_credssp.specs.Turn.{Stopped, FitsNoted}
+use Rattle.sspi_credssp.specs.Turn.{FitsNoted}
 use Rattle.sspi_delegate.specs.Refusals.{ClientRefuses, ProxyStays}
+use Rattle.sspi_credssp.specs.declared.turn.Outcome.TheVariants as outcome
 
 same_version : (noted version : ℕ) → version ≡ noted → not (noted == version) ≡ false
 same_version noted version same = rw (eq-eqb noted version (sym same)) refl
@@ -68,7 +69,7 @@ module _ {C : Type 0} (c : Meaning ContextSetting C) where
   state_cause state d new kind is h = rw is h
 
   resumed_cause : (start : ClientView C) (d : TsRequest) (mid new : ClientView C) (log : List Asked) (error : Error) → IsUnderway c start d mid →
-      ResumeCause c mid new error.error_type → ClientTurn c start d (Stopped error.error_type None) new → HasStepped c start d 0 log (Err error) new →
+      ResumeCause c mid new error.error_type → ClientTurn c start d (outcome.Refused error.error_type None) new → HasStepped c start d 0 log (Err error) new →
       ClientCause c start d new error.error_type
   resumed_cause start d mid new log error way cause turn step =
       let nego = resumed_nego start d mid new error.error_type way cause in
@@ -82,7 +83,7 @@ module _ {C : Type 0} (c : Meaning ContextSetting C) where
 
   pub resumed_refuses : (replies : List Asked → Type 0) (start : ClientView C) (d : TsRequest) (mid new : ClientView C) (log : List Asked) (error : Error) → IsUnderway c start d mid →
       (error.error_type ≢ InsufficientMemory → ResumeCause c mid new error.error_type) → error.nstatus ≡ None →
-      ClientTurn c start d (Stopped error.error_type None) new → HasStepped c start d 0 log (Err error) new → replies log → new.acts.negotiated ≡ true →
+      ClientTurn c start d (outcome.Refused error.error_type None) new → HasStepped c start d 0 log (Err error) new → replies log → new.acts.negotiated ≡ true →
       ClientRefuses c replies start d error new
   resumed_refuses replies start d mid new log error way cause plain turn step replied negotiated = record {
     cause = λ other. resumed_cause start d mid new log error way (cause other) turn step;

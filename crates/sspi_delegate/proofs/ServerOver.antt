@@ -15,25 +15,28 @@ use Rattle.sspi_credssp.specs.ErrorRequest.{version_back}
 use Rattle.sspi_credssp.specs.PublicKey.{prescribed}
 use Rattle.sspi_credssp.specs.Requests.{nonce_of}
 use Rattle.sspi_credssp.specs.ServerTurn.{IsServerTurn, ServerActs, Proven, ServerReplies, StateAnswer, NegoAnswer, OverAnswer, TokenAnswer, ProofAnswer, MayCheck}
-use Rattle.sspi_credssp.specs.Turn.{Turn, ServerFrame, Came, Replied, Ended, Finished, Stopped, UnlessStopped, AtNoted}
+use Rattle.sspi_credssp.specs.Turn.{ServerFrame, UnlessRefused, AtNoted}
 use Rattle.sspi_delegate.proofs.ClientOver.{seals_still, opens_still, at_noted}
+use Rattle.sspi_credssp.specs.declared.turn.Outcome.{Outcome}
+use Rattle.sspi_credssp.specs.declared.turn.Outcome.TheVariants as outcome
+use Rattle.sspi_credssp.specs.declared.turn.Turn.{Turn}
 
 -- a fact of a turn that was refused
-abbrev pub OnceStopped : Came → Type 0 → Type 0
-OnceStopped (Replied reply) P = Unit {0}
-OnceStopped (Ended reply) P = Unit {0}
-OnceStopped Finished P = Unit {0}
-OnceStopped (Stopped kind reply) P = P
+abbrev pub OnceRefused : Outcome → Type 0 → Type 0
+OnceRefused (outcome.Reply reply) P = Unit {0}
+OnceRefused (outcome.Final reply) P = Unit {0}
+OnceRefused outcome.Finished P = Unit {0}
+OnceRefused (outcome.Refused kind reply) P = P
 
 -- a frame as another turn over the same end sees it, as far as the turn speaks of it
 pub record SameFrame {C : Type 0} (c : Meaning ContextSetting C) (f g : ServerFrame C) (t : Turn) : Type 0 where
   pub public_key : g.public_key ≡ f.public_key
   pub version : g.version ≡ f.version
   pub state : g.state ≡ f.state
-  pub noted : UnlessStopped t.came (g.noted ≡ f.noted)
+  pub noted : UnlessRefused t.outcome (g.noted ≡ f.noted)
   pub proved : t.acts.proved ≡ true → (g.noted ≡ f.noted) × (g.made ≡ f.made) × (g.opened ≡ f.opened) × SameBut c f.context g.context
   pub checked : t.acts.checked ≡ true → g.noted ≡ f.noted
-  pub refused : OnceStopped t.came ((g.context ≡ f.context) × (IsSome f.context → g.noted ≡ f.noted))
+  pub refused : OnceRefused t.outcome ((g.context ≡ f.context) × (IsSome f.context → g.noted ≡ f.noted))
 
 module _ {C : Type 0} (c : Meaning ContextSetting C) (law : IsContext c) where
   proven_over : (f g : ServerFrame C) (t : Turn) (noted : ℕ) → SameFrame c f g t → t.acts.proved ≡ true → Proven c f.context f.opened f.public_key t.delivered noted → Proven c g.context g.opened g.public_key t.delivered noted
@@ -97,30 +100,30 @@ module _ {C : Type 0} (c : Meaning ContextSetting C) (law : IsContext c) where
   back_over None noted noted2 delivered own same = refl
   back_over (Some m) noted noted2 delivered own same = rw (same refl) refl
 
-  replies_over : (f g : ServerFrame C) (t : Turn) (came : Came) → SameFrame c f g t →
-      OnceStopped came ((g.context ≡ f.context) × (IsSome f.context → g.noted ≡ f.noted)) → ServerReplies c f t came → ServerReplies c g t came
-  replies_over f g t (Replied reply) same once h =
+  replies_over : (f g : ServerFrame C) (t : Turn) (out : Outcome) → SameFrame c f g t →
+      OnceRefused out ((g.context ≡ f.context) × (IsSome f.context → g.noted ≡ f.noted)) → ServerReplies c f t out → ServerReplies c g t out
+  replies_over f g t (outcome.Reply reply) same once h =
       subst (λ (s : CredSspState). StateAnswer c g t s reply) (sym same.state) (state_over f g t f.state reply same h)
-  replies_over f g t (Ended reply) same once h = h
-  replies_over f g t Finished same once h = (same.state ∙ h.0, h.1)
-  replies_over f g t (Stopped kind None) same once h = h
-  replies_over f g t (Stopped kind (Some reply)) same once h =
+  replies_over f g t (outcome.Final reply) same once h = h
+  replies_over f g t outcome.Finished same once h = (same.state ∙ h.0, h.1)
+  replies_over f g t (outcome.Refused kind None) same once h = h
+  replies_over f g t (outcome.Refused kind (Some reply)) same once h =
       let back : version_back g.context g.noted t.delivered.version g.version ≡ version_back f.context f.noted t.delivered.version f.version =
       ap (λ (x : Option C). version_back x g.noted t.delivered.version g.version) once.0
       ∙ ap (λ (v : ℕ). version_back f.context g.noted t.delivered.version v) same.version
       ∙ back_over f.context f.noted g.noted t.delivered.version f.version once.1 in
       rw (same.state, back) h
 
-  fits_over : (noted noted2 : Option ℕ) (version : ℕ) (came : Came) → UnlessStopped came (noted2 ≡ noted) →
-      UnlessStopped came (AtNoted noted (λ n. version ≡ n)) → UnlessStopped came (AtNoted noted2 (λ n. version ≡ n))
-  fits_over noted noted2 version (Replied reply) same h = rw same h
-  fits_over noted noted2 version (Ended reply) same h = rw same h
-  fits_over noted noted2 version Finished same h = rw same h
-  fits_over noted noted2 version (Stopped kind reply) same h = h
+  fits_over : (noted noted2 : Option ℕ) (version : ℕ) (out : Outcome) → UnlessRefused out (noted2 ≡ noted) →
+      UnlessRefused out (AtNoted noted (λ n. version ≡ n)) → UnlessRefused out (AtNoted noted2 (λ n. version ≡ n))
+  fits_over noted noted2 version (outcome.Reply reply) same h = rw same h
+  fits_over noted noted2 version (outcome.Final reply) same h = rw same h
+  fits_over noted noted2 version outcome.Finished same h = rw same h
+  fits_over noted noted2 version (outcome.Refused kind reply) same h = h
 
   pub server_over : (f g : ServerFrame C) (t : Turn) → SameFrame c f g t → IsServerTurn c f t → IsServerTurn c g t
   server_over f g t same turn = record {
-    version = fits_over f.noted g.noted t.delivered.version t.came same.noted turn.version;
+    version = fits_over f.noted g.noted t.delivered.version t.outcome same.noted turn.version;
     acts = acts_over f g t same turn.acts;
-    reply = replies_over f g t t.came same same.refused turn.reply;
+    reply = replies_over f g t t.outcome same same.refused turn.reply;
   }

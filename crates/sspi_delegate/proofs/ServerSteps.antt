@@ -12,11 +12,15 @@ use Rattle.sspi_credssp.specs.Context.{ContextSetting}
 use Rattle.sspi_credssp.specs.Counts.{sealed_in, unsealed_in, SameBut}
 use Rattle.sspi_credssp.specs.Server.{ServerView, IsFreshServer}
 use Rattle.sspi_credssp.specs.ServerTurn.{ServerActs, ServerReplies, StateAnswer, NegoAnswer, ServerTurn, SameServer, StartsUnused, server_frame, server_turn, noted_first, after_reply, IsOver, MayCheck, OnceNegotiated}
-use Rattle.sspi_credssp.specs.Turn.{Turn, Came, Replied, Ended, Finished, Stopped, ServerFrame}
-use Rattle.sspi_delegate.specs.EndTurns.{made_in, opened_in, is_replied, is_finished, any_proved, any_finished, WentOn, AllWentOn}
+use Rattle.sspi_credssp.specs.Turn.{ServerFrame}
+use Rattle.sspi_delegate.specs.EndTurns.{made_in, opened_in, is_replied, is_finished, any_proved, any_finished}
+use Rattle.sspi_delegate.specs.Turns.{GoesOn, AllGoOn}
 use Rattle.sspi_delegate.specs.ServerRun.{is_over, any_over, server_state, server_noted, ServerEnd, server_end, server_frame_at, EachServerTurn, ServerRan, ServerFollows}
 use Rattle.sspi_delegate.proofs.EndSteps.{IsQuiet, AllQuiet, or_false, or_not, is_false, quiet_made, unused_in, same_but, Touched, touched, untouched, unless_given, unless_map, made_by_proof, opened_by_check}
-use Rattle.sspi_delegate.proofs.ServerOver.{OnceStopped, server_over}
+use Rattle.sspi_delegate.proofs.ServerOver.{OnceRefused, server_over}
+use Rattle.sspi_credssp.specs.declared.turn.Outcome.{Outcome}
+use Rattle.sspi_credssp.specs.declared.turn.Outcome.TheVariants as outcome
+use Rattle.sspi_credssp.specs.declared.turn.Turn.{Turn}
 
 -- ---- the state
 
@@ -70,23 +74,23 @@ module _ {C : Type 0} (c : Meaning ContextSetting C) where
   quiet_nego f t (Some statuses.Renegotiate) reply is over h = absurd h
   quiet_nego f t (Some statuses.NoLsaContext) reply is over h = absurd h
 
-  quiet_turn : (f : ServerFrame C) (t : Turn) (came : Came) → ServerActs c f t → f.state ≡ NegoToken → WentOn came → ServerReplies c f t came →
-      is_replied came && is_over t.acts.status ≡ false → IsQuiet t.acts
-  quiet_turn f t (Replied reply) acts nego went h over =
+  quiet_turn : (f : ServerFrame C) (t : Turn) (out : Outcome) → ServerActs c f t → f.state ≡ NegoToken → GoesOn out → ServerReplies c f t out →
+      is_replied out && is_over t.acts.status ≡ false → IsQuiet t.acts
+  quiet_turn f t (outcome.Reply reply) acts nego went h over =
       let k = quiet_nego f t t.acts.status reply refl over (subst (λ (s : CredSspState). StateAnswer c f t s reply) nego h) in
       quiet_token f t acts nego k.0 k.1
-  quiet_turn f t (Ended reply) acts nego went h over = absurd h
-  quiet_turn f t Finished acts nego went h over = absurd went
-  quiet_turn f t (Stopped kind reply) acts nego went h over = absurd went
+  quiet_turn f t (outcome.Final reply) acts nego went h over = absurd h
+  quiet_turn f t outcome.Finished acts nego went h over = absurd went
+  quiet_turn f t (outcome.Refused kind reply) acts nego went h over = absurd went
 
-  all_quiet : (e : ServerEnd C) (past : List Turn) → EachServerTurn c e past → AllWentOn past → any_finished past ≡ false → any_proved past ≡ false →
+  all_quiet : (e : ServerEnd C) (past : List Turn) → EachServerTurn c e past → AllGoOn past → any_finished past ≡ false → any_proved past ≡ false →
       any_over past ≡ false → AllQuiet past
   all_quiet e [] each went unfinished unproved going = tt
   all_quiet e (t ∷ past) each went unfinished unproved going =
-      let p = or_false (is_finished t.came) (any_finished past) unfinished in
-      let q = or_false (is_replied t.came && t.acts.proved) (any_proved past) unproved in
-      let r = or_false (is_replied t.came && is_over t.acts.status) (any_over past) going in (
-        quiet_turn (server_frame_at e past t) t t.came each.0.acts (nego_state past p.1 q.1 r.1) went.0 each.0.reply r.0,
+      let p = or_false (is_finished t.outcome) (any_finished past) unfinished in
+      let q = or_false (is_replied t.outcome && t.acts.proved) (any_proved past) unproved in
+      let r = or_false (is_replied t.outcome && is_over t.acts.status) (any_over past) going in (
+        quiet_turn (server_frame_at e past t) t t.outcome each.0.acts (nego_state past p.1 q.1 r.1) went.0 each.0.reply r.0,
         all_quiet e past each.1 went.1 p.1 q.1 r.1,
       )
 
@@ -96,13 +100,13 @@ module _ {C : Type 0} (c : Meaning ContextSetting C) where
     pub public_key : e2.public_key ≡ e.public_key
     pub version : e2.version ≡ e.version
 
-  went_once : (came : Came) (P : Type 0) → WentOn came → OnceStopped came P
-  went_once (Replied reply) P went = tt
-  went_once (Ended reply) P went = tt
-  went_once Finished P went = tt
-  went_once (Stopped kind reply) P went = absurd went
+  went_once : (out : Outcome) (P : Type 0) → GoesOn out → OnceRefused out P
+  went_once (outcome.Reply reply) P went = tt
+  went_once (outcome.Final reply) P went = tt
+  went_once outcome.Finished P went = tt
+  went_once (outcome.Refused kind reply) P went = absurd went
 
-  each_over : (law : IsContext c) (e e2 : ServerEnd C) (past : List Turn) → SameEnd e e2 → AllWentOn past → Touched (SameBut c e.context e2.context) past →
+  each_over : (law : IsContext c) (e e2 : ServerEnd C) (past : List Turn) → SameEnd e e2 → AllGoOn past → Touched (SameBut c e.context e2.context) past →
       EachServerTurn c e past → EachServerTurn c e2 past
   each_over law e e2 [] same went touch each = tt
   each_over law e e2 (t ∷ past) same went touch each = (
@@ -110,10 +114,10 @@ module _ {C : Type 0} (c : Meaning ContextSetting C) where
       public_key = same.public_key;
       version = same.version;
       state = refl;
-      noted = unless_given t.came _ refl;
+      noted = unless_given t.outcome _ refl;
       proved = λ was. (refl, refl, refl, touch.0 was);
       checked = λ was. refl;
-      refused = went_once t.came _ went.0;
+      refused = went_once t.outcome _ went.0;
     }) each.0,
     each_over law e e2 past same went.1 touch.2 each.1,
   )
@@ -126,11 +130,11 @@ module _ {C : Type 0} (c : Meaning ContextSetting C) where
   opened_alone : (f : ServerFrame C) (t : Turn) → ServerActs c f t → t.acts.opened ≡ true → t.acts.checked ≡ false
   opened_alone f t acts was = is_false t.acts.checked (λ checked. let s = checked_alone f t acts checked in absurd (cc (s, was)))
 
-  once : (came : Came) (Q : Type 0) → Q → OnceStopped came Q
-  once (Replied reply) Q h = tt
-  once (Ended reply) Q h = tt
-  once Finished Q h = tt
-  once (Stopped kind reply) Q h = h
+  once : (out : Outcome) (Q : Type 0) → Q → OnceRefused out Q
+  once (outcome.Reply reply) Q h = tt
+  once (outcome.Final reply) Q h = tt
+  once outcome.Finished Q h = tt
+  once (outcome.Refused kind reply) Q h = h
 
   nego_moves : (status : Option SecurityStatus) (proved : Bool) → (is_over status ≡ false → (status ≡ Some statuses.ContinueNeeded) × (proved ≡ false)) →
       after_reply NegoToken proved status ≡ (if proved then AuthInfo else (if is_over status then PubKeyInfo else NegoToken))
@@ -168,19 +172,19 @@ module _ {C : Type 0} (c : Meaning ContextSetting C) where
   state_key false proved over h = refl
 
   state_moved : (f : ServerFrame C) (t : Turn) (past : List Turn) (state : CredSspState) (reply : TsRequest) → state ≡ server_state past →
-      t.came ≡ Replied reply → StateAnswer c f t state reply → after_reply state t.acts.proved t.acts.status ≡ server_state (t ∷ past)
-  state_moved f t past NegoToken reply is came h =
+      t.outcome ≡ outcome.Reply reply → StateAnswer c f t state reply → after_reply state t.acts.proved t.acts.status ≡ server_state (t ∷ past)
+  state_moved f t past NegoToken reply is out h =
       let s = state_nego (any_finished past) (any_proved past) (any_over past) (sym is) in
-      rw (came, s.0, s.1, s.2, or_not t.acts.proved, or_not (is_over t.acts.status))
+      rw (out, s.0, s.1, s.2, or_not t.acts.proved, or_not (is_over t.acts.status))
       (nego_moves t.acts.status t.acts.proved (nego_status f t t.acts.status reply h))
-  state_moved f t past PubKeyInfo reply is came h =
+  state_moved f t past PubKeyInfo reply is out h =
       let s = state_key (any_finished past) (any_proved past) (any_over past) (sym is) in
-      rw (came, s, h.proved) refl
-  state_moved f t past AuthInfo reply is came h = absurd h
-  state_moved f t past Final reply is came h = absurd h
+      rw (out, s, h.proved) refl
+  state_moved f t past AuthInfo reply is out h = absurd h
+  state_moved f t past Final reply is out h = absurd h
 
   touched_by : (e : ServerEnd C) (state : CredSspState) (past : List Turn) (Q : Type 0) → state ≡ server_state past → EachServerTurn c e past →
-      AllWentOn past → OnceNegotiated state Q → Touched Q past
+      AllGoOn past → OnceNegotiated state Q → Touched Q past
   touched_by e NegoToken past Q is each went bare =
       let s = state_nego (any_finished past) (any_proved past) (any_over past) (sym is) in
       untouched Q past (all_quiet e past each went s.0 s.1 s.2)
@@ -207,11 +211,11 @@ module _ {C : Type 0} (c : Meaning ContextSetting C) where
     same_end : (old new : ServerView C P) → SameServer c old new → SameEnd (server_end old) (server_end new)
     same_end old new same = record { public_key = same.public_key; version = same.version }
 
-    pub server_turned : (law : IsContext c) (first old new : ServerView C P) (past : List Turn) (d : TsRequest) (came : Came) →
-        ServerFollows c first old past → ServerTurn c old d came new → ServerRan c first new (server_turn c d came new ∷ past)
-    server_turned law first old new past d came follows turn =
+    pub server_turned : (law : IsContext c) (first old new : ServerView C P) (past : List Turn) (d : TsRequest) (out : Outcome) →
+        ServerFollows c first old past → ServerTurn c old d out new → ServerRan c first new (server_turn c d out new ∷ past)
+    server_turned law first old new past d out follows turn =
         let unused = starts_unused first old past follows in
-        let t : Turn = server_turn c d came new in
+        let t : Turn = server_turn c d out new in
         let made : sealed_in c new.context ≡ made_in past + sealed_by new.acts = turn.moves.sealed unused ∙ ap (λ (n : ℕ). n + sealed_by new.acts) follows.ran.made in
         let opened : unsealed_in c new.context ≡ opened_in past + unsealed_by new.acts = turn.moves.unsealed unused ∙ ap (λ (n : ℕ). n + unsealed_by new.acts) follows.ran.opened in
         let noted : noted_first old.noted d.version ≡ server_noted (t ∷ past) = noted_more old.noted t past follows.noted in
@@ -224,7 +228,7 @@ module _ {C : Type 0} (c : Meaning ContextSetting C) where
               public_key = refl;
               version = refl;
               state = sym follows.state;
-              noted = unless_map came _ _ (λ some. sym (turn.moves.noted some ∙ noted)) turn.moves.begun;
+              noted = unless_map out _ _ (λ some. sym (turn.moves.noted some ∙ noted)) turn.moves.begun;
               proved = λ was. (
                 sym (turn.moves.noted_proved was ∙ noted),
                 made_by_proof new.acts (made_in past) (sealed_in c new.context) made was turn.turn.acts.sealed,
@@ -233,7 +237,7 @@ module _ {C : Type 0} (c : Meaning ContextSetting C) where
                 same_but c new.context,
               );
               checked = λ was. sym (turn.moves.noted_checked was ∙ noted);
-              refused = once came _ (refl, λ some. sym (turn.moves.noted some ∙ noted));
+              refused = once out _ (refl, λ some. sym (turn.moves.noted some ∙ noted));
             }) turn.turn,
             each_over law (server_end old) (server_end new) past (same_end old new turn.moves.same) follows.going
                 (touched_by (server_end old) old.state past (SameBut c old.context new.context) follows.state follows.ran.each follows.going turn.moves.bare)
@@ -243,18 +247,18 @@ module _ {C : Type 0} (c : Meaning ContextSetting C) where
         }
 
     pub server_follows : (law : IsContext c) (first old new : ServerView C P) (past : List Turn) (d : TsRequest) (reply : TsRequest) →
-        ServerFollows c first old past → ServerTurn c old d (Replied reply) new → ServerFollows c first new (server_turn c d (Replied reply) new ∷ past)
+        ServerFollows c first old past → ServerTurn c old d (outcome.Reply reply) new → ServerFollows c first new (server_turn c d (outcome.Reply reply) new ∷ past)
     server_follows law first old new past d reply follows turn = record {
-      ran = server_turned law first old new past d (Replied reply) follows turn;
+      ran = server_turned law first old new past d (outcome.Reply reply) follows turn;
       state = turn.moves.state
-          ∙ state_moved (server_frame c old new) (server_turn c d (Replied reply) new) past old.state reply follows.state refl turn.turn.reply;
-      noted = turn.moves.noted turn.moves.begun ∙ noted_more old.noted (server_turn c d (Replied reply) new) past follows.noted;
+          ∙ state_moved (server_frame c old new) (server_turn c d (outcome.Reply reply) new) past old.state reply follows.state refl turn.turn.reply;
+      noted = turn.moves.noted turn.moves.begun ∙ noted_more old.noted (server_turn c d (outcome.Reply reply) new) past follows.noted;
       going = (tt, follows.going);
     }
 
     pub server_finished : (law : IsContext c) (first old new : ServerView C P) (past : List Turn) (d : TsRequest) →
-        ServerFollows c first old past → ServerTurn c old d Finished new → ServerRan c first new (server_turn c d Finished new ∷ past)
-    server_finished law first old new past d follows turn = server_turned law first old new past d Finished follows turn
+        ServerFollows c first old past → ServerTurn c old d outcome.Finished new → ServerRan c first new (server_turn c d outcome.Finished new ∷ past)
+    server_finished law first old new past d follows turn = server_turned law first old new past d outcome.Finished follows turn
 
     pub server_emptied : (first now : ServerView C P) (past : List Turn) → ServerRan c first now past → ServerRan c first (record now { output = [] }) past
     server_emptied first now past ran = record {

@@ -10,14 +10,15 @@ use Rattle.sspi_delegate.specs.declared.answer.Delegation.{Delegation}
 use Rattle.sspi_delegate.specs.declared.answer.DelegateError.{DelegateError}
 use Rattle.sspi_delegate.specs.declared.answer.DelegateError.TheVariants as errors
 use Rattle.sspi_delegate.specs.declared.carried.Carried.{Carried}
-use Rattle.sspi_delegate.specs.declared.carried.End.{End}
-use Rattle.sspi_delegate.specs.declared.carried.End.TheVariants.{Client, Server}
-use Rattle.sspi_delegate.specs.declared.turn.Outcome.{Outcome}
-use Rattle.sspi_delegate.specs.declared.turn.Outcome.TheVariants.{Reply, Final, Finished, Refused}
-use Rattle.sspi_delegate.specs.declared.turn.Turn.{Turn}
+use Rattle.sspi_credssp.specs.declared.turn.End.{End}
+use Rattle.sspi_credssp.specs.declared.turn.End.TheVariants.{Client, Server}
+use Rattle.sspi_credssp.specs.declared.turn.Outcome.{Outcome}
+use Rattle.sspi_credssp.specs.declared.turn.Outcome.TheVariants.{Reply, Final, Finished, Refused}
+use Rattle.sspi_credssp.specs.declared.turn.Turn.{Turn}
 use Rattle.sspi_delegate.specs.Deliveries.{HeadWithin}
 use Rattle.sspi_delegate.specs.Run.{Logged, LoggedButLast, HasLog, IsDelivered, UnreadFor, OpenFor, IsUnreadable}
-use Rattle.sspi_delegate.specs.Turns.{other, next_end, message_of, AllGoOn, Alternates}
+use Rattle.sspi_delegate.specs.Turns.{other, next_end, AllGoOn, Alternates}
+use Rattle.sspi_credssp.specs.Turn.{message_of}
 
 -- how many turns an end has made
 abbrev pub one_of : End → End → ℕ

@@ -10,8 +10,10 @@ use Rattle.sspi_credssp.specs.Client.{ClientView}
 use Rattle.sspi_credssp.specs.ClientTurn.{IsClientTurn, SameClient}
 use Rattle.sspi_credssp.specs.Context.{ContextSetting}
 use Rattle.sspi_credssp.specs.Counts.{sealed_in, unsealed_in, is_waiting_in}
-use Rattle.sspi_credssp.specs.Turn.{Turn, ClientFrame}
-use Rattle.sspi_delegate.specs.EndTurns.{made_in, opened_in, any_proved, any_ended, AllWentOn, OthersWentOn}
+use Rattle.sspi_credssp.specs.Turn.{ClientFrame}
+use Rattle.sspi_delegate.specs.EndTurns.{made_in, opened_in, any_proved, any_ended, OthersGoOn}
+use Rattle.sspi_delegate.specs.Turns.{AllGoOn}
+use Rattle.sspi_credssp.specs.declared.turn.Turn.{Turn}
 
 -- the state after these turns
 abbrev pub client_state : List Turn → CredSspState
@@ -71,7 +73,7 @@ module _ {C : Type 0} (c : Meaning ContextSetting C) where
     pub opened : unsealed_in c now.context ≡ opened_in past
     pub each : EachClientTurn (client_end now) past
     -- only the newest turn may have been refused
-    pub others : OthersWentOn past
+    pub others : OthersGoOn past
 
   abbrev pub HasBegun : Option C → List Turn → Type 0
   HasBegun context [] = context ≡ None
@@ -85,4 +87,4 @@ module _ {C : Type 0} (c : Meaning ContextSetting C) where
     pub begun : HasBegun now.context past
     -- no turn is suspended
     pub idle : is_waiting_in c now.context ≡ false
-    pub going : AllWentOn past
+    pub going : AllGoOn past

@@ -7,9 +7,9 @@ use Rattle.sspi_delegate.specs.declared.answer.Delegation.{Delegation}
 use Rattle.sspi_delegate.specs.declared.answer.DelegateError.{DelegateError}
 use Rattle.sspi_delegate.specs.declared.answer.DelegateError.TheVariants as errors
 use Rattle.sspi_delegate.specs.declared.carried.Carried.{Carried}
-use Rattle.sspi_delegate.specs.declared.carried.End.{End}
-use Rattle.sspi_delegate.specs.declared.carried.End.TheVariants.{Client, Server}
-use Rattle.sspi_delegate.specs.declared.turn.Turn.{Turn}
+use Rattle.sspi_credssp.specs.declared.turn.End.{End}
+use Rattle.sspi_credssp.specs.declared.turn.End.TheVariants.{Client, Server}
+use Rattle.sspi_credssp.specs.declared.turn.Turn.{Turn}
 use Rattle.sspi_delegate.specs.Causes.{NewestIs, IsClientRefusal, IsServerRefusal, IsFinished, NewestFits, TurnLeft, turns_of}
 use Rattle.sspi_delegate.specs.Run.{Logged, LoggedButLast, OpenFor, IsUnreadable}
 use Rattle.sspi_delegate.specs.Turns.{next_end, AllGoOn}

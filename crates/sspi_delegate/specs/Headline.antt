@@ -10,9 +10,8 @@ use Rattle.sspi_credssp.specs.Counts.{OpensIn}
 use Rattle.sspi_credssp.specs.PublicKey.{prescribed}
 use Rattle.sspi_credssp.specs.Server.{ServerView, IsFreshServer}
 use Rattle.sspi_credssp.specs.Turn.{AtNoted}
-use Rattle.sspi_credssp.specs.Turn as end
 use Rattle.sspi_delegate.specs.declared.carried.Carried.{Carried}
-use Rattle.sspi_delegate.specs.declared.turn.Turn.{Turn}
+use Rattle.sspi_credssp.specs.declared.turn.Turn.{Turn}
 use Rattle.sspi_delegate.specs.ClientRun.{client_state, client_noted, ClientEnd, ClientRan}
 use Rattle.sspi_delegate.specs.EndTurns.{client_turns, server_turns, opened_in}
 use Rattle.sspi_delegate.specs.Run.{HasLog}
@@ -30,24 +29,24 @@ abbrev pub sealed_turns : List Turn → ℕ
 sealed_turns [] = 0
 sealed_turns (t ∷ past) = sealed_turns past + count_of t.acts.sealed
 
-abbrev pub NeverSeals : List end.Turn → Type 0
+abbrev pub NeverSeals : List Turn → Type 0
 NeverSeals [] = Unit {0}
 NeverSeals (t ∷ past) = (t.acts.sealed ≡ false) × NeverSeals past
 
 -- in one of the turns the client's proof was checked and the server's own was sealed
-abbrev pub any_exchange : List end.Turn → Bool
+abbrev pub any_exchange : List Turn → Bool
 any_exchange [] = false
 any_exchange (t ∷ past) = (t.acts.checked && t.acts.proved) || any_exchange past
 
 -- in a turn before the newest
-abbrev pub HasExchanged : List end.Turn → Type 0
+abbrev pub HasExchanged : List Turn → Type 0
 HasExchanged [] = ⊥
 HasExchanged (t ∷ past) = any_exchange past ≡ true
 
 module _ {C : Type 0} (c : Meaning ContextSetting C) where
   -- Each of the client's turns that sealed the credentials came after its authentication, and was delivered a pubKeyAuth
   -- that opens to the proof that the server owes.
-  abbrev pub SealsAfterProof : ClientEnd C → List end.Turn → Type 0
+  abbrev pub SealsAfterProof : ClientEnd C → List Turn → Type 0
   SealsAfterProof e [] = Unit {0}
   SealsAfterProof e (t ∷ past) =
       (t.acts.sealed ≡ true → (client_state past ≡ AuthInfo)

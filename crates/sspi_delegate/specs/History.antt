@@ -16,38 +16,39 @@ use Rattle.sspi_credssp.specs.Server.{ServerView}
 use Rattle.sspi_credssp.specs.ServerCause.{ServerCause}
 use Rattle.sspi_credssp.specs.ServerStep.{DoneStep, HasAccepted}
 use Rattle.sspi_credssp.specs.ServerTurn.{ServerTurn, HoldsIdentity, server_turn}
-use Rattle.sspi_credssp.specs.Turn.{Came, Replied, Ended, Finished, Stopped}
-use Rattle.sspi_credssp.specs.Turn as end
 use Rattle.sspi_delegate.specs.declared.answer.Delegation.{Delegation}
 use Rattle.sspi_delegate.specs.declared.answer.DelegateError.{DelegateError}
 use Rattle.sspi_delegate.specs.declared.answer.DelegateError.TheVariants as errors
 use Rattle.sspi_delegate.specs.Asking.{KdcCalls}
-use Rattle.sspi_delegate.specs.EndTurns.{AllWentOn}
+use Rattle.sspi_delegate.specs.Turns.{AllGoOn}
 use Rattle.sspi_delegate.specs.Refusals.{StepsSo, ClientRefuses, ProxyStays}
 use Rattle.sspi_delegate.specs.ServerRun.{server_end, GivesNewest}
+use Rattle.sspi_credssp.specs.declared.turn.Outcome.{Outcome}
+use Rattle.sspi_credssp.specs.declared.turn.Outcome.TheVariants as outcome
+use Rattle.sspi_credssp.specs.declared.turn.Turn.{Turn}
 
 module _ {C D : Type 0} (c : Meaning ContextSetting C) (k : KdcCalls D) where
   -- The client took d and came to this, by a step of its context where it authenticates; a refusal has its cause. The KDC was
   -- asked what that step asked, and replied so.
-  abbrev pub ClientMakes : ClientView C → D → TsRequest → Came → ClientView C → D → Type 0
-  ClientMakes old kdc d (Replied reply) new kdc2 =
-      ClientTurn c old d (Replied reply) new × StepsSo c (λ asked. k.replies kdc asked kdc2) old d (Ok (Completed (ReplyNeeded reply))) new
-  ClientMakes old kdc d (Ended reply) new kdc2 =
-      ClientTurn c old d (Ended reply) new × StepsSo c (λ asked. k.replies kdc asked kdc2) old d (Ok (Completed (FinalMessage reply))) new
-  ClientMakes old kdc d Finished new kdc2 = ⊥
-  ClientMakes old kdc d (Stopped kind None) new kdc2 = (error : Error) × (error.error_type ≡ kind) ×
-      ClientTurn c old d (Stopped kind None) new × ClientRefuses c (λ asked. k.replies kdc asked kdc2) old d error new
-  ClientMakes old kdc d (Stopped kind (Some reply)) new kdc2 = ⊥
+  abbrev pub ClientMakes : ClientView C → D → TsRequest → Outcome → ClientView C → D → Type 0
+  ClientMakes old kdc d (outcome.Reply reply) new kdc2 =
+      ClientTurn c old d (outcome.Reply reply) new × StepsSo c (λ asked. k.replies kdc asked kdc2) old d (Ok (Completed (ReplyNeeded reply))) new
+  ClientMakes old kdc d (outcome.Final reply) new kdc2 =
+      ClientTurn c old d (outcome.Final reply) new × StepsSo c (λ asked. k.replies kdc asked kdc2) old d (Ok (Completed (FinalMessage reply))) new
+  ClientMakes old kdc d outcome.Finished new kdc2 = ⊥
+  ClientMakes old kdc d (outcome.Refused kind None) new kdc2 = (error : Error) × (error.error_type ≡ kind) ×
+      ClientTurn c old d (outcome.Refused kind None) new × ClientRefuses c (λ asked. k.replies kdc asked kdc2) old d error new
+  ClientMakes old kdc d (outcome.Refused kind (Some reply)) new kdc2 = ⊥
 
   -- a turn of a client that was `old`; its output was then taken for the record
-  pub record ClientMade (old : ClientView C) (kdc : D) (t : end.Turn) (now : ClientView C) (kdc2 : D) : Type 0 where
+  pub record ClientMade (old : ClientView C) (kdc : D) (t : Turn) (now : ClientView C) (kdc2 : D) : Type 0 where
     pub mid : ClientView C
-    pub turn : t ≡ client_turn c t.delivered t.came mid
-    pub makes : ClientMakes old kdc t.delivered t.came mid kdc2
+    pub turn : t ≡ client_turn c t.delivered t.outcome mid
+    pub makes : ClientMakes old kdc t.delivered t.outcome mid kdc2
     pub rest : now ≡ record mid { output = [] }
 
   -- from a client that was `first` these turns, the newest first, lead to one that is `now`; and its KDC from `kdc` to `kdc2`
-  abbrev pub ClientHistory : ClientView C → D → List end.Turn → ClientView C → D → Type 0
+  abbrev pub ClientHistory : ClientView C → D → List Turn → ClientView C → D → Type 0
   ClientHistory first kdc [] now kdc2 = (now ≡ first) × (kdc2 ≡ kdc)
   ClientHistory first kdc (t ∷ past) now kdc2 = (old : ClientView C) × (kdc1 : D) × ClientHistory first kdc past old kdc1 × ClientMade old kdc1 t now kdc2
 
@@ -60,33 +61,33 @@ module _ {C D : Type 0} (c : Meaning ContextSetting C) (k : KdcCalls D) where
     pub lost : k.lost asked_by kdc2
 
   -- The newest of these turns was refused with this error; the turns before it led the client to `old`.
-  pub record ClientStopped (first : ClientView C) (kdc : D) (error : Error) (turns : List end.Turn) (now : ClientView C) (kdc2 : D) : Type 0 where
+  pub record ClientStopped (first : ClientView C) (kdc : D) (error : Error) (turns : List Turn) (now : ClientView C) (kdc2 : D) : Type 0 where
     pub old : ClientView C
     pub kdc1 : D
     pub mid : ClientView C
     pub d : TsRequest
-    pub past : List end.Turn
-    pub newest : turns ≡ client_turn c d (Stopped error.error_type None) mid ∷ past
+    pub past : List Turn
+    pub newest : turns ≡ client_turn c d (outcome.Refused error.error_type None) mid ∷ past
     pub before : ClientHistory first kdc past old kdc1
-    pub turn : ClientTurn c old d (Stopped error.error_type None) mid
+    pub turn : ClientTurn c old d (outcome.Refused error.error_type None) mid
     pub refuses : ClientRefuses c (λ asked. k.replies kdc1 asked kdc2) old d error mid
     -- the output was taken for the record
     pub rest : now ≡ record mid { output = [] }
 
   -- where there was no memory the client may have been left waiting for its KDC, in a turn that is not recorded
-  pub data ClientLeft (first : ClientView C) (kdc : D) (turns : List end.Turn) (now : ClientView C) (kdc2 : D) : Type 0 where
+  pub data ClientLeft (first : ClientView C) (kdc : D) (turns : List Turn) (now : ClientView C) (kdc2 : D) : Type 0 where
     between : ClientHistory first kdc turns now kdc2 → ClientLeft first kdc turns now kdc2
-    waiting : (old : ClientView C) (kdc1 : D) (d : TsRequest) → AllWentOn turns → ClientHistory first kdc turns old kdc1 →
+    waiting : (old : ClientView C) (kdc1 : D) (d : TsRequest) → AllGoOn turns → ClientHistory first kdc turns old kdc1 →
         IsWaiting old kdc1 d now kdc2 → ClientLeft first kdc turns now kdc2
 
   -- the history of the client of an exchange that ended in this error
-  abbrev pub ClientStops : ClientView C → D → DelegateError → List end.Turn → ClientView C → D → Type 0
+  abbrev pub ClientStops : ClientView C → D → DelegateError → List Turn → ClientView C → D → Type 0
   ClientStops first kdc (errors.Client error) turns now kdc2 = ClientStopped first kdc error turns now kdc2
   ClientStops first kdc errors.InsufficientMemory turns now kdc2 = ClientLeft first kdc turns now kdc2
   ClientStops first kdc other turns now kdc2 = ClientHistory first kdc turns now kdc2
 
   -- the history of the client of an exchange, by its answer
-  abbrev pub ClientPast : ClientView C → D → Result Delegation DelegateError → List end.Turn → ClientView C → D → Type 0
+  abbrev pub ClientPast : ClientView C → D → Result Delegation DelegateError → List Turn → ClientView C → D → Type 0
   ClientPast first kdc (Ok delegation) turns now kdc2 = ClientHistory first kdc turns now kdc2
   ClientPast first kdc (Err error) turns now kdc2 = ClientStops first kdc error turns now kdc2
 
@@ -100,53 +101,53 @@ module _ {C : Type 0} (c : Meaning ContextSetting C) where
 
     -- the server took d and came to this, by a step of its context where it authenticates; a refusal has its cause, and the
     -- end the identity whose credentials were opened
-    abbrev pub ServerMakes : ServerView C P → TsRequest → Came → ServerView C P → Type 0
-    ServerMakes old d (Replied reply) new = ServerTurn c old d (Replied reply) new × DoneStep c told new.acts.status old d new
-    ServerMakes old d (Ended reply) new = ⊥
-    ServerMakes old d Finished new = ServerTurn c old d Finished new × DoneStep c told new.acts.status old d new
+    abbrev pub ServerMakes : ServerView C P → TsRequest → Outcome → ServerView C P → Type 0
+    ServerMakes old d (outcome.Reply reply) new = ServerTurn c old d (outcome.Reply reply) new × DoneStep c told new.acts.status old d new
+    ServerMakes old d (outcome.Final reply) new = ⊥
+    ServerMakes old d outcome.Finished new = ServerTurn c old d outcome.Finished new × DoneStep c told new.acts.status old d new
         × (identity : AuthIdentity) × HoldsIdentity c new.context d.auth_info identity
-    ServerMakes old d (Stopped kind reply) new =
-        (error : Error) × (error.error_type ≡ kind) × ServerTurn c old d (Stopped kind reply) new × ServerRefuses old d error new
+    ServerMakes old d (outcome.Refused kind reply) new =
+        (error : Error) × (error.error_type ≡ kind) × ServerTurn c old d (outcome.Refused kind reply) new × ServerRefuses old d error new
 
     module _ (failing : P → Option (List ℕ)) where
       -- a turn of a server that was `old`; its output was then taken for the record
-      pub record ServerMade (old : ServerView C P) (t : end.Turn) (now : ServerView C P) : Type 0 where
+      pub record ServerMade (old : ServerView C P) (t : Turn) (now : ServerView C P) : Type 0 where
         pub mid : ServerView C P
-        pub turn : t ≡ server_turn c t.delivered t.came mid
-        pub makes : ServerMakes old t.delivered t.came mid
+        pub turn : t ≡ server_turn c t.delivered t.outcome mid
+        pub makes : ServerMakes old t.delivered t.outcome mid
         pub proxy : ProxyStays told failing faults old.proxy mid.proxy
         pub rest : now ≡ record mid { output = [] }
 
       -- from a server that was `first` these turns, the newest first, lead to one that is `now`
-      abbrev pub ServerHistory : ServerView C P → List end.Turn → ServerView C P → Type 0
+      abbrev pub ServerHistory : ServerView C P → List Turn → ServerView C P → Type 0
       ServerHistory first [] now = now ≡ first
       ServerHistory first (t ∷ past) now = (old : ServerView C P) × ServerHistory first past old × ServerMade old t now
 
       -- the newest of these turns gave this identity
-      abbrev pub ServerGave : ServerView C P → AuthIdentity → List end.Turn → ServerView C P → Type 0
+      abbrev pub ServerGave : ServerView C P → AuthIdentity → List Turn → ServerView C P → Type 0
       ServerGave first identity turns now = ServerHistory first turns now × GivesNewest c (server_end now) turns identity
 
       -- The newest of these turns was refused with this error; the turns before it led the server to `old`.
-      pub record ServerStopped (first : ServerView C P) (error : Error) (turns : List end.Turn) (now : ServerView C P) : Type 0 where
+      pub record ServerStopped (first : ServerView C P) (error : Error) (turns : List Turn) (now : ServerView C P) : Type 0 where
         pub old : ServerView C P
         pub mid : ServerView C P
         pub d : TsRequest
         pub reply : Option TsRequest
-        pub past : List end.Turn
-        pub newest : turns ≡ server_turn c d (Stopped error.error_type reply) mid ∷ past
+        pub past : List Turn
+        pub newest : turns ≡ server_turn c d (outcome.Refused error.error_type reply) mid ∷ past
         pub before : ServerHistory first past old
-        pub turn : ServerTurn c old d (Stopped error.error_type reply) mid
+        pub turn : ServerTurn c old d (outcome.Refused error.error_type reply) mid
         pub refuses : ServerRefuses old d error mid
         pub proxy : ProxyStays told failing faults old.proxy mid.proxy
         -- the output was taken for the record
         pub rest : now ≡ record mid { output = [] }
 
       -- the history of the server of an exchange that ended in this error
-      abbrev pub ServerStops : ServerView C P → DelegateError → List end.Turn → ServerView C P → Type 0
+      abbrev pub ServerStops : ServerView C P → DelegateError → List Turn → ServerView C P → Type 0
       ServerStops first (errors.Server error) turns now = ServerStopped first error turns now
       ServerStops first other turns now = ServerHistory first turns now
 
       -- the history of the server of an exchange, by its answer
-      abbrev pub ServerPast : ServerView C P → Result Delegation DelegateError → List end.Turn → ServerView C P → Type 0
+      abbrev pub ServerPast : ServerView C P → Result Delegation DelegateError → List Turn → ServerView C P → Type 0
       ServerPast first (Ok delegation) turns now = ServerGave first delegation.credentials turns now
       ServerPast first (Err error) turns now = ServerStops first error turns now

@@ -1,7 +1,7 @@
 -- The log of a link: its entries, the newest first.
 use Rattle.std.specs.Prelude.{◌≡◌, ℕ, ◌==◌, ◌&&◌, ◌||◌, nat_lt, Bool, true, false, List, [], ◌∷◌, ◌++◌, length, take}
 use Rattle.sspi_delegate.specs.declared.carried.Carried.{Carried}
-use Rattle.sspi_delegate.specs.declared.carried.End.{End}
+use Rattle.sspi_credssp.specs.declared.turn.End.{End}
 
 -- the entry of a message whose delivery begins
 abbrev pub begun : End → List ℕ → Carried

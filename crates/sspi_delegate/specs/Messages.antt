@@ -8,12 +8,12 @@ use Rattle.sspi_tsreq.specs.Spelling.{fits, spelled}
 use Rattle.sspi_delegate.specs.declared.answer.DelegateError.{DelegateError}
 use Rattle.sspi_delegate.specs.declared.answer.DelegateError.TheVariants.{Client, Server, Read, Write, LinkFault, TurnsSpent, InsufficientMemory}
 use Rattle.sspi_delegate.specs.declared.carried.Carried.{Carried}
-use Rattle.sspi_delegate.specs.declared.carried.End.{End}
+use Rattle.sspi_credssp.specs.declared.turn.End.{End}
 use Rattle.sspi_delegate.specs.declared.edit.Edit.{Edit}
 use Rattle.sspi_delegate.specs.Edits.{edited, sent_texts}
 use Rattle.sspi_delegate.specs.Log.{begun}
-use Rattle.sspi_delegate.specs.declared.turn.Turn.{Turn}
-use Rattle.sspi_delegate.specs.Turns.{message_of}
+use Rattle.sspi_credssp.specs.declared.turn.Turn.{Turn}
+use Rattle.sspi_credssp.specs.Turn.{message_of}
 
 -- a message is spelled, or it is too long
 abbrev pub Encodes : TsRequest → Result (List ℕ) WireKind → Type 0

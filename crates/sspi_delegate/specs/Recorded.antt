@@ -1,14 +1,14 @@
 -- The turn that a round adds to the transcript.
 use Rattle.std.specs.Prelude.{◌≡◌, List, [], ◌∷◌}
 use Rattle.sspi_tsreq.specs.declared.request.TsRequest.{TsRequest}
-use Rattle.sspi_delegate.specs.declared.carried.End.{End}
-use Rattle.sspi_delegate.specs.declared.carried.End.TheVariants.{Client, Server}
+use Rattle.sspi_credssp.specs.declared.turn.End.{End}
+use Rattle.sspi_credssp.specs.declared.turn.End.TheVariants.{Client, Server}
 use Rattle.sspi_delegate.specs.declared.ends.ClientRound.{ClientRound}
 use Rattle.sspi_delegate.specs.declared.ends.ClientRound.TheVariants as client
 use Rattle.sspi_delegate.specs.declared.ends.ServerRound.{ServerRound}
 use Rattle.sspi_delegate.specs.declared.ends.ServerRound.TheVariants as server
-use Rattle.sspi_delegate.specs.declared.turn.Outcome.{Outcome}
-use Rattle.sspi_delegate.specs.declared.turn.Turn.{Turn}
+use Rattle.sspi_credssp.specs.declared.turn.Outcome.{Outcome}
+use Rattle.sspi_credssp.specs.declared.turn.Turn.{Turn}
 use Rattle.sspi_delegate.specs.Causes.{IsClientRefusal, IsServerRefusal, IsFinished}
 use Rattle.sspi_delegate.specs.Turns.{GoesOn}
 

@@ -18,12 +18,12 @@ use Rattle.sspi_credssp.specs.Server.{ServerView}
 use Rattle.sspi_credssp.specs.ServerCause.{ServerCause}
 use Rattle.sspi_credssp.specs.ServerStep.{HasAccepted}
 use Rattle.sspi_credssp.specs.ServerTurn.{server_turn}
-use Rattle.sspi_credssp.specs.Turn.{Stopped}
-use Rattle.sspi_credssp.specs.Turn as end
 use Rattle.sspi_delegate.specs.declared.answer.DelegateError.{DelegateError}
 use Rattle.sspi_delegate.specs.declared.answer.DelegateError.TheVariants as errors
 use Rattle.sspi_delegate.specs.ClientRun.{ClientFollows}
 use Rattle.sspi_delegate.specs.ServerRun.{ServerFollows}
+use Rattle.sspi_credssp.specs.declared.turn.Outcome.TheVariants as outcome
+use Rattle.sspi_credssp.specs.declared.turn.Turn.{Turn}
 
 -- what calls on a proxy leave: what it tells stays, and its count of faults does not fall, nor rise where it tells that no call fails
 pub record ProxyStays {P : Type 0} (told : P → Option (List AuthIdentity)) (failing : P → Option (List ℕ)) (faults : P → ℕ) (old new : P) : Type 0 where
@@ -57,12 +57,12 @@ module _ {C : Type 0} (c : Meaning ContextSetting C) where
     pub steps : StepsSo replies old d (Err error) new
 
   -- The newest of a client's turns was refused with this error: before it the client was where the turns before left it.
-  pub record ClientRefused (first : ClientView C) (error : Error) (now : ClientView C) (turns : List end.Turn) : Type 0 where
+  pub record ClientRefused (first : ClientView C) (error : Error) (now : ClientView C) (turns : List Turn) : Type 0 where
     pub old : ClientView C
     pub new : ClientView C
     pub d : TsRequest
-    pub past : List end.Turn
-    pub newest : turns ≡ client_turn c d (Stopped error.error_type None) new ∷ past
+    pub past : List Turn
+    pub newest : turns ≡ client_turn c d (outcome.Refused error.error_type None) new ∷ past
     pub follows : ClientFollows c first old past
     pub refuses : ClientRefuses any_replies old d error new
     -- the output was taken for the record
@@ -70,13 +70,13 @@ module _ {C : Type 0} (c : Meaning ContextSetting C) where
 
   module _ {P : Type 0} (told : P → Option (List AuthIdentity)) (faults : P → ℕ) where
     -- The newest of a server's turns was refused with this error: before it the server was where the turns before left it.
-    pub record ServerRefused (first : ServerView C P) (error : Error) (now : ServerView C P) (turns : List end.Turn) : Type 0 where
+    pub record ServerRefused (first : ServerView C P) (error : Error) (now : ServerView C P) (turns : List Turn) : Type 0 where
       pub old : ServerView C P
       pub new : ServerView C P
       pub d : TsRequest
       pub reply : Option TsRequest
-      pub past : List end.Turn
-      pub newest : turns ≡ server_turn c d (Stopped error.error_type reply) new ∷ past
+      pub past : List Turn
+      pub newest : turns ≡ server_turn c d (outcome.Refused error.error_type reply) new ∷ past
       pub follows : ServerFollows c first old past
       pub told_before : told old.proxy ≡ told first.proxy
       pub faults_before : faults first.proxy ≤ faults old.proxy
@@ -87,7 +87,7 @@ module _ {C : Type 0} (c : Meaning ContextSetting C) where
       pub rest : now ≡ record new { output = [] }
 
     -- a refusal that an exchange answers is the one of the last turn
-    abbrev pub RefusedBy : {X : Type 0} → ClientView C → ClientView C → ServerView C P → ServerView C P → Result X DelegateError → List end.Turn → List end.Turn → Type 0
+    abbrev pub RefusedBy : {X : Type 0} → ClientView C → ClientView C → ServerView C P → ServerView C P → Result X DelegateError → List Turn → List Turn → Type 0
     RefusedBy client client2 server server2 (Ok x) clients servers = Unit {0}
     RefusedBy client client2 server server2 (Err (errors.Client error)) clients servers = ClientRefused client error client2 clients
     RefusedBy client client2 server server2 (Err (errors.Server error)) clients servers = ServerRefused server error server2 servers

@@ -9,23 +9,22 @@ use Rattle.sspi_credssp.specs.Client.{ClientView}
 use Rattle.sspi_credssp.specs.ClientTurn.{ClientTurn, IsUnderway}
 use Rattle.sspi_credssp.specs.Context.{ContextSetting}
 use Rattle.sspi_credssp.specs.Server.{ServerView}
-use Rattle.sspi_credssp.specs.Turn.{Replied, Ended, Stopped}
-use Rattle.sspi_credssp.specs.Turn as end
 use Rattle.sspi_credssp.specs.declared.client_state.Progress.TheVariants.{Completed}
 use Rattle.sspi_delegate.specs.declared.answer.DelegateError.{DelegateError}
 use Rattle.sspi_delegate.specs.declared.answer.DelegateError.TheVariants as errors
-use Rattle.sspi_delegate.specs.declared.carried.End.{End}
+use Rattle.sspi_credssp.specs.declared.turn.End.{End}
 use Rattle.sspi_delegate.specs.declared.ends.ClientRound.{ClientRound}
 use Rattle.sspi_delegate.specs.declared.ends.ClientRound.TheVariants as client
 use Rattle.sspi_delegate.specs.declared.ends.Concluded.{Concluded}
 use Rattle.sspi_delegate.specs.declared.ends.Concluded.TheVariants as concluded
 use Rattle.sspi_delegate.specs.declared.ends.ServerRound.{ServerRound}
 use Rattle.sspi_delegate.specs.declared.ends.ServerRound.TheVariants as server
-use Rattle.sspi_delegate.specs.declared.turn.Outcome.{Outcome}
-use Rattle.sspi_delegate.specs.declared.turn.Turn.{Turn}
+use Rattle.sspi_credssp.specs.declared.turn.Outcome.{Outcome}
+use Rattle.sspi_credssp.specs.declared.turn.Turn.{Turn}
 use Rattle.sspi_delegate.specs.Asking.{KdcCalls}
 use Rattle.sspi_delegate.specs.History.{ClientHistory, IsWaiting, ClientStopped, ClientLeft, ClientStops, ServerHistory, ServerGave, ServerStopped, ServerStops}
 use Rattle.sspi_delegate.specs.Refusals.{StepsSo, ClientRefuses}
+use Rattle.sspi_credssp.specs.declared.turn.Outcome.TheVariants as outcome
 
 -- a turn as it is recorded
 abbrev pub recorded : End → TsRequest → Acts → List ℕ → Outcome → Turn
@@ -45,11 +44,11 @@ module _ {C D : Type 0} (c : Meaning ContextSetting C) (k : KdcCalls D) where
   -- what came of a client's call and of all that its KDC was asked
   abbrev pub ClientConcludes : ClientView C → D → TsRequest → Concluded → ClientView C → D → Type 0
   ClientConcludes old kdc d (concluded.Answered (ReplyNeeded reply)) new kdc2 =
-      ClientTurn c old d (Replied reply) new × StepsSo c (λ asked. k.replies kdc asked kdc2) old d (Ok (Completed (ReplyNeeded reply))) new
+      ClientTurn c old d (outcome.Reply reply) new × StepsSo c (λ asked. k.replies kdc asked kdc2) old d (Ok (Completed (ReplyNeeded reply))) new
   ClientConcludes old kdc d (concluded.Answered (FinalMessage reply)) new kdc2 =
-      ClientTurn c old d (Ended reply) new × StepsSo c (λ asked. k.replies kdc asked kdc2) old d (Ok (Completed (FinalMessage reply))) new
+      ClientTurn c old d (outcome.Final reply) new × StepsSo c (λ asked. k.replies kdc asked kdc2) old d (Ok (Completed (FinalMessage reply))) new
   ClientConcludes old kdc d (concluded.Refused error) new kdc2 =
-      ClientTurn c old d (Stopped error.error_type None) new × ClientRefuses c (λ asked. k.replies kdc asked kdc2) old d error new
+      ClientTurn c old d (outcome.Refused error.error_type None) new × ClientRefuses c (λ asked. k.replies kdc asked kdc2) old d error new
   ClientConcludes old kdc d concluded.Lost new kdc2 = IsUnderway c old d new
 
   abbrev pub WaitsWhereLost : ClientView C → D → TsRequest → Concluded → ClientView C → D → Type 0
@@ -58,32 +57,32 @@ module _ {C D : Type 0} (c : Meaning ContextSetting C) (k : KdcCalls D) where
   WaitsWhereLost old kdc d concluded.Lost now kdc2 = IsWaiting c k old kdc d now kdc2
 
   -- what a turn makes of the client's history
-  abbrev pub ClientRoundPast : ClientView C → D → ClientRound → List end.Turn → ClientView C → D → Type 0
+  abbrev pub ClientRoundPast : ClientView C → D → ClientRound → List Turn → ClientView C → D → Type 0
   ClientRoundPast first kdc client.Replied turns now kdc2 = ClientHistory c k first kdc turns now kdc2
   ClientRoundPast first kdc (client.Refused error) turns now kdc2 = ClientStopped c k first kdc error turns now kdc2
   ClientRoundPast first kdc client.Lost turns now kdc2 = ClientLeft c k first kdc turns now kdc2
 
   -- what half a round makes of it
-  abbrev pub ClientHalfStops : ClientView C → D → DelegateError → List end.Turn → ClientView C → D → Type 0
+  abbrev pub ClientHalfStops : ClientView C → D → DelegateError → List Turn → ClientView C → D → Type 0
   ClientHalfStops first kdc (errors.Server error) turns now kdc2 = ⊥
   ClientHalfStops first kdc error turns now kdc2 = ClientStops c k first kdc error turns now kdc2
 
-  abbrev pub ClientHalfPast : ClientView C → D → Result (Unit {0}) DelegateError → List end.Turn → ClientView C → D → Type 0
+  abbrev pub ClientHalfPast : ClientView C → D → Result (Unit {0}) DelegateError → List Turn → ClientView C → D → Type 0
   ClientHalfPast first kdc (Ok done) turns now kdc2 = ClientHistory c k first kdc turns now kdc2
   ClientHalfPast first kdc (Err error) turns now kdc2 = ClientHalfStops first kdc error turns now kdc2
 
 module _ {C P : Type 0} (c : Meaning ContextSetting C) (told : P → Option (List AuthIdentity)) (faults : P → ℕ) (failing : P → Option (List ℕ)) where
-  abbrev pub ServerRoundPast : ServerView C P → ServerRound → List end.Turn → ServerView C P → Type 0
+  abbrev pub ServerRoundPast : ServerView C P → ServerRound → List Turn → ServerView C P → Type 0
   ServerRoundPast first server.Replied turns now = ServerHistory c told faults failing first turns now
   ServerRoundPast first (server.Finished identity) turns now = ServerGave c told faults failing first identity turns now
   ServerRoundPast first (server.Refused error) turns now = ServerStopped c told faults failing first error turns now
   ServerRoundPast first server.Lost turns now = ServerHistory c told faults failing first turns now
 
-  abbrev pub ServerHalfStops : ServerView C P → DelegateError → List end.Turn → ServerView C P → Type 0
+  abbrev pub ServerHalfStops : ServerView C P → DelegateError → List Turn → ServerView C P → Type 0
   ServerHalfStops first (errors.Client error) turns now = ⊥
   ServerHalfStops first error turns now = ServerStops c told faults failing first error turns now
 
-  abbrev pub ServerHalfPast : ServerView C P → Result (Option AuthIdentity) DelegateError → List end.Turn → ServerView C P → Type 0
+  abbrev pub ServerHalfPast : ServerView C P → Result (Option AuthIdentity) DelegateError → List Turn → ServerView C P → Type 0
   ServerHalfPast first (Ok None) turns now = ServerHistory c told faults failing first turns now
   ServerHalfPast first (Ok (Some identity)) turns now = ServerGave c told faults failing first identity turns now
   ServerHalfPast first (Err error) turns now = ServerHalfStops first error turns now

@@ -10,9 +10,9 @@ use Rattle.sspi_tsreq.specs.Grammar.{IsRequest}
 use Rattle.sspi_tsreq.specs.Spelling.{fits, spelled}
 use Rattle.sspi_tsreq.specs.Value.{first_request}
 use Rattle.sspi_delegate.specs.declared.carried.Carried.{Carried}
-use Rattle.sspi_delegate.specs.declared.turn.Turn.{Turn}
+use Rattle.sspi_credssp.specs.declared.turn.Turn.{Turn}
 use Rattle.sspi_delegate.specs.Deliveries.{delivery_limit, IsUnread, is_taken, HeadOpen}
-use Rattle.sspi_delegate.specs.Turns.{message_of}
+use Rattle.sspi_credssp.specs.Turn.{message_of}
 
 -- the bytes begin with this request
 abbrev pub IsRead : List ℕ → TsRequest → Type 0

@@ -11,8 +11,10 @@ use Rattle.sspi_credssp.specs.Context.{ContextSetting}
 use Rattle.sspi_credssp.specs.Counts.{sealed_in, unsealed_in}
 use Rattle.sspi_credssp.specs.Server.{ServerView}
 use Rattle.sspi_credssp.specs.ServerTurn.{IsServerTurn, SameServer, HoldsIdentity}
-use Rattle.sspi_credssp.specs.Turn.{Turn, ServerFrame}
-use Rattle.sspi_delegate.specs.EndTurns.{made_in, opened_in, is_replied, any_proved, any_finished, AllWentOn, OthersWentOn}
+use Rattle.sspi_credssp.specs.Turn.{ServerFrame}
+use Rattle.sspi_delegate.specs.EndTurns.{made_in, opened_in, is_replied, any_proved, any_finished, OthersGoOn}
+use Rattle.sspi_delegate.specs.Turns.{AllGoOn}
+use Rattle.sspi_credssp.specs.declared.turn.Turn.{Turn}
 
 abbrev pub is_over : Option SecurityStatus → Bool
 is_over None = false
@@ -23,7 +25,7 @@ is_over (Some other) = false
 -- one of the turns has answered the last token
 abbrev pub any_over : List Turn → Bool
 any_over [] = false
-any_over (t ∷ past) = (is_replied t.came && is_over t.acts.status) || any_over past
+any_over (t ∷ past) = (is_replied t.outcome && is_over t.acts.status) || any_over past
 
 -- the state after these turns
 abbrev pub server_state : List Turn → CredSspState
@@ -76,11 +78,11 @@ module _ {C : Type 0} (c : Meaning ContextSetting C) where
       pub opened : unsealed_in c now.context ≡ opened_in past
       pub each : EachServerTurn (server_end now) past
       -- only the newest turn may have been refused, or be the last
-      pub others : OthersWentOn past
+      pub others : OthersGoOn past
 
     -- all turns went on, and the server is where they left it
     pub record ServerFollows (first now : ServerView C P) (past : List Turn) : Type 0 where
       pub ran : ServerRan first now past
       pub state : now.state ≡ server_state past
       pub noted : now.noted ≡ server_noted past
-      pub going : AllWentOn past
+      pub going : AllGoOn past

@@ -1,11 +1,10 @@
 -- The turns of an exchange, the newest first.
-use Rattle.std.specs.Prelude.{◌≡◌, ℕ, List, [], ◌∷◌, Option, None, Some}
-use Rattle.sspi_tsreq.specs.declared.request.TsRequest.{TsRequest}
-use Rattle.sspi_delegate.specs.declared.carried.End.{End}
-use Rattle.sspi_delegate.specs.declared.carried.End.TheVariants.{Client, Server}
-use Rattle.sspi_delegate.specs.declared.turn.Outcome.{Outcome}
-use Rattle.sspi_delegate.specs.declared.turn.Outcome.TheVariants.{Reply, Final, Finished, Refused}
-use Rattle.sspi_delegate.specs.declared.turn.Turn.{Turn}
+use Rattle.std.specs.Prelude.{◌≡◌, ℕ, List, [], ◌∷◌}
+use Rattle.sspi_credssp.specs.declared.turn.End.{End}
+use Rattle.sspi_credssp.specs.declared.turn.End.TheVariants.{Client, Server}
+use Rattle.sspi_credssp.specs.declared.turn.Outcome.{Outcome}
+use Rattle.sspi_credssp.specs.declared.turn.Outcome.TheVariants.{Reply, Final, Finished, Refused}
+use Rattle.sspi_credssp.specs.declared.turn.Turn.{Turn}
 
 -- a transcript: its turns, and for how many more there is room
 pub record TranscriptView : Type 0 where
@@ -20,13 +19,6 @@ other Server = Client
 abbrev pub next_end : List Turn → End
 next_end [] = Client
 next_end (t ∷ past) = other t.end
-
--- the message that a turn has for the peer
-abbrev pub message_of : Outcome → Option TsRequest
-message_of (Reply reply) = Some reply
-message_of (Final reply) = Some reply
-message_of Finished = None
-message_of (Refused kind reply) = reply
 
 -- the exchange goes on after this outcome
 abbrev pub GoesOn : Outcome → Type 0

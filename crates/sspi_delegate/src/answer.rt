@@ -1,4 +1,4 @@
-use crate::carried::End;
+use sspi_credssp::End;
 use sspi_ber::WireKind;
 use sspi_names::AuthIdentity;
 use sspi_types::Error;

@@ -1,11 +1,5 @@
+use sspi_credssp::End;
 use sspi_types::Bytes;
-
-/// One of the two ends of an exchange.
-#[derive(Clone, Copy, Debug, PartialEq, Eq)]
-pub enum End {
-    Client,
-    Server,
-}
 
 /// An entry of a link's log: a message that was given to the link, and what was delivered of it.
 #[derive(Drop)]

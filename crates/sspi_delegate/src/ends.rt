@@ -3,15 +3,16 @@ ghost use Rattle.sspi_credssp.specs.Client.{ClientView};
 ghost use Rattle.sspi_credssp.specs.Context.{either};
 ghost use Rattle.sspi_credssp.specs.Server.{ServerView};
 ghost use Rattle.sspi_delegate.specs.Asking.{HasReplied, HasNoReply, kdc_calls};
-ghost use Rattle.sspi_delegate.specs.EndTurns.{client_turns, server_turns, AllWentOn};
+ghost use Rattle.sspi_delegate.specs.EndTurns.{client_turns, server_turns};
+ghost use Rattle.sspi_delegate.specs.Turns.{AllGoOn};
 ghost use Rattle.sspi_delegate.specs.History.{ClientHistory, ServerHistory};
 ghost use Rattle.sspi_delegate.specs.Recorded.{ClientPushed, ServerPushed};
 ghost use Rattle.sspi_delegate.specs.Refusals.{KdcStays, ProxyStays};
 ghost use Rattle.sspi_delegate.specs.Rounds.{recorded, ClientConcludes, WaitsWhereLost, ClientRoundPast, ServerRoundPast};
 
-use crate::carried::End;
+use sspi_credssp::End;
 use crate::transcript::Transcript;
-use crate::turn::{Outcome, Turn};
+use sspi_credssp::{Outcome, Turn};
 use sspi_credssp::{
     ClientState, CredSspClient, CredSspServer, CredentialsProxy, Progress, ServerError,
     ServerState, SspiContext,
@@ -102,7 +103,7 @@ pub(crate) fn client_round<N: Mechanism, K: Mechanism, D: Kdc>(
 ) -> ClientRound
     ensures turn { ClientPushed request result transcript.old.turns transcript.new.turns }
     ensures client_history { let c = either N.meaning K.meaning in let k = kdc_calls D.told D.asked D.faults in
-        (first : ClientView (SspiContext N K)) (kdc_first : D) → AllWentOn (client_turns transcript.old.turns) →
+        (first : ClientView (SspiContext N K)) (kdc_first : D) → AllGoOn (client_turns transcript.old.turns) →
         ClientHistory c k first kdc_first (client_turns transcript.old.turns) client.old kdc.old →
         ClientRoundPast c k first kdc_first result (client_turns transcript.new.turns) client.new kdc.new }
     ensures server { server_turns transcript.new.turns ≡ server_turns transcript.old.turns }

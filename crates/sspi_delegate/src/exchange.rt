@@ -17,7 +17,7 @@ ghost use Rattle.sspi_delegate.specs.Run.{LoggedButLast};
 ghost use Rattle.sspi_delegate.specs.Turns.{next_end, AllGoOn};
 
 use crate::answer::{DelegateError, Delegation};
-use crate::carried::End;
+use sspi_credssp::End;
 use crate::ends::{ClientRound, ServerRound, client_round, server_round};
 use crate::link::{Link, LinkError};
 use crate::messages::{send, take_delivery};

@@ -1,8 +1,9 @@
 ghost use Rattle.std.specs.Prelude.{◌≡◌, ◌≤◌, [], length, reverse, IfOk};
 
-use crate::carried::{Carried, End};
+use crate::carried::Carried;
 use crate::link::{Link, LinkError};
 use crate::log::Log;
+use sspi_credssp::End;
 use sspi_types::Bytes;
 use std::alloc::Global;
 use std::marker::Model;

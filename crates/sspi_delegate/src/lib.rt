@@ -20,18 +20,18 @@ mod log;
 pub mod memory_link;
 mod messages;
 pub mod transcript;
-pub mod turn;
 
 pub use answer::{DelegateError, Delegation};
-pub use carried::{Carried, End};
+pub use carried::Carried;
 pub use edit::{Edit, EditKind};
 pub use exchange::delegate;
 pub use kept_link::{Carrier, KeptLink};
 pub use link::{Link, LinkError};
 pub use memory_link::MemoryLink;
 pub use messages::DELIVERY_LIMIT;
+pub use sspi_credssp::{End, Outcome, Turn};
 pub use transcript::Transcript;
-pub use turn::{Outcome, Turn};
+
 
 #[cfg(test)]
 mod tests;

@@ -1,4 +1,4 @@
-use crate::carried::End;
+use sspi_credssp::End;
 use std::alloc::{AllocError, AllocFailed};
 
 /// Why a call on a link was refused.

@@ -1,9 +1,10 @@
 ghost use Rattle.std.specs.Prelude.{◌≡◌, [], reverse};
 
-use crate::carried::{Carried, End};
+use crate::carried::Carried;
 use crate::edit::{Edit, deliver_edited};
 use crate::link::{Link, LinkError};
 use crate::log::Log;
+use sspi_credssp::End;
 use sspi_types::Bytes;
 use std::alloc::Global;
 use std::marker::Model;

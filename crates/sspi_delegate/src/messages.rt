@@ -4,7 +4,7 @@ ghost use Rattle.sspi_delegate.specs.Link.{LinkCause, NeverFails, StaysTold};
 ghost use Rattle.sspi_delegate.specs.Messages.{Encodes, Sends, SendTold};
 
 use crate::answer::DelegateError;
-use crate::carried::End;
+use sspi_credssp::End;
 use crate::link::{Link, LinkError};
 use sspi_ber::{VecSink, WireKind};
 use sspi_tsreq::TsRequest;

@@ -1,7 +1,7 @@
 ghost use Rattle.std.specs.Prelude.{◌≡◌, ◌<◌, [], ◌∷◌, reverse, slice_get, OnOk};
 ghost use Rattle.std.specs.Option.{option_copied};
 
-use crate::turn::Turn;
+use sspi_credssp::Turn;
 use std::alloc::{AllocError, Global};
 use std::marker::Model;
 

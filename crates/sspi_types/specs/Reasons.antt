@@ -1,11 +1,12 @@
 use Rattle.std.specs.Prelude.{ℕ, List, codes}
 use Rattle.sspi_types.specs.declared.reason.Reason.{Reason}
-use Rattle.sspi_types.specs.declared.reason.Reason.TheVariants.{ErrorStatus, PeerVersion, NoPubKey, NoAuthInfo, NoNonce, ShortBlob, EmptyToken, EchoDiffers, HashDiffers, Sequence, NoVersion, Status, TooLong, CredType, SmartCard, Keytab, NoAuthData, NoPackage, Disabled, MechUnknown, NoSharedMech, NoMechTypes, NegResult, NoMic, NoIdentity, NoCandidate, NotPassword, Proxy, TokenForm, NoBuffer, Number, Utf, UserName, Proof, Tag, Kdc, Spent, Unsupported, Package, Io, Memory, Mechanism}
+use Rattle.sspi_types.specs.declared.reason.Reason.TheVariants.{ErrorStatus, PeerVersion, OldPeer, NoPubKey, NoAuthInfo, NoNonce, ShortBlob, EmptyToken, EchoDiffers, HashDiffers, Sequence, NoVersion, Status, TooLong, CredType, SmartCard, Keytab, NoAuthData, NoPackage, Disabled, MechUnknown, NoSharedMech, NoMechTypes, NegResult, NoMic, NoIdentity, NoCandidate, NotPassword, Proxy, TokenForm, NoBuffer, Number, Utf, UserName, Proof, Tag, Kdc, Spent, Unsupported, Package, Io, Memory, Mechanism}
 
 -- the text of each reason
 abbrev pub reason_text : Reason → List ℕ
 reason_text ErrorStatus = codes "CredSSP server returned an error status"
 reason_text PeerVersion = codes "CredSSP peer changed protocol version"
+reason_text OldPeer = codes "the peer's version is below the least accepted"
 reason_text NoPubKey = codes "expected an encrypted public key"
 reason_text NoAuthInfo = codes "expected an encrypted ts credentials"
 reason_text NoNonce = codes "client nonce is empty, but a peer version is >= 5"

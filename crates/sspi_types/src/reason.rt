@@ -8,6 +8,8 @@ pub enum Reason {
     ErrorStatus,
     /// The peer's version is another than in its request before.
     PeerVersion,
+    /// The peer's version is below the least that the end takes.
+    OldPeer,
     /// A request lacks `pubKeyAuth` (MS-CSSP 2.2.1) where it has to come.
     NoPubKey,
     /// A request lacks `authInfo` (MS-CSSP 2.2.1) where it has to come.
@@ -98,6 +100,7 @@ impl Reason {
         match self {
             Reason::ErrorStatus => "CredSSP server returned an error status",
             Reason::PeerVersion => "CredSSP peer changed protocol version",
+            Reason::OldPeer => "the peer's version is below the least accepted",
             Reason::NoPubKey => "expected an encrypted public key",
             Reason::NoAuthInfo => "expected an encrypted ts credentials",
             Reason::NoNonce => "client nonce is empty, but a peer version is >= 5",

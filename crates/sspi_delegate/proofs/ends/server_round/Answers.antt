@@ -1,6 +1,6 @@
 use Rattle.sspi_credssp.specs.Context.{either}
 use Rattle.sspi_delegate.proofs.Recording.{refusal_pushed}
-use Rattle.sspi_delegate.specs.declared.turn.Outcome.TheVariants as outcome
+use Rattle.sspi_credssp.specs.declared.turn.Outcome.TheVariants as outcome
 use Rattle.sspi_delegate.proofs.Histories.{server_made, server_gave, server_stopped}
 use Rattle.sspi_delegate.proofs.ends.server_round.Goals as goal
 

@@ -1,6 +1,6 @@
-use Rattle.sspi_delegate.specs.declared.carried.End.TheVariants.{Client}
+use Rattle.sspi_credssp.specs.declared.turn.End.TheVariants.{Client}
 use Rattle.sspi_credssp.specs.Context.{either}
-use Rattle.sspi_delegate.proofs.Alternating.{clients_went}
+use Rattle.sspi_delegate.proofs.Alternating.{clients_go}
 use Rattle.sspi_delegate.proofs.Halves.{client_half_stopped, client_half_refused}
 use Rattle.sspi_delegate.proofs.LogSteps.{turned, lost, client_refused}
 use Rattle.sspi_delegate.specs.Asking.{kdc_calls}
@@ -27,23 +27,23 @@ returns-in-Lost-clause-half g c base start limit next left w =
 
 pub returns-in-Ok-give-clause-client_history : goal.returns-in-Ok-give-clause-client_history
 returns-in-Ok-give-clause-client_history g c first kdc_first going history =
-    c.in-Replied.ensures.client_history first kdc_first (clients_went _ going) history
+    c.in-Replied.ensures.client_history first kdc_first (clients_go _ going) history
 
 pub returns-in-Err-give-clause-client_history : goal.returns-in-Err-give-clause-client_history
 returns-in-Err-give-clause-client_history g c first kdc_first going history =
     client_half_stopped (either g.N.Mechanism.meaning g.K.Mechanism.meaning) (kdc_calls g.D.Kdc.told g.D.Kdc.asked g.D.Kdc.faults) first c.client_round.new.client kdc_first
     c.client_round.new.kdc _ c.in-Err-give.error c.in-Err-give.ensures.link
-    (c.in-Replied.ensures.client_history first kdc_first (clients_went _ going) history)
+    (c.in-Replied.ensures.client_history first kdc_first (clients_go _ going) history)
 
 pub returns-in-Refused-clause-client_history : goal.returns-in-Refused-clause-client_history
 returns-in-Refused-clause-client_history g c first kdc_first going history =
     client_half_refused (either g.N.Mechanism.meaning g.K.Mechanism.meaning) (kdc_calls g.D.Kdc.told g.D.Kdc.asked g.D.Kdc.faults) first c.client_round.new.client kdc_first
     c.client_round.new.kdc _ c.in-Refused.error c.client_error.result c.client_error.ensures
-    (c.in-Refused.ensures.client_history first kdc_first (clients_went _ going) history)
+    (c.in-Refused.ensures.client_history first kdc_first (clients_go _ going) history)
 
 pub returns-in-Lost-clause-client_history : goal.returns-in-Lost-clause-client_history
 returns-in-Lost-clause-client_history g c first kdc_first going history =
-    c.in-Lost.ensures.client_history first kdc_first (clients_went _ going) history
+    c.in-Lost.ensures.client_history first kdc_first (clients_go _ going) history
 
 pub returns-in-Err-clause-client_history : goal.returns-in-Err-clause-client_history
 returns-in-Err-clause-client_history g c first kdc_first going history =

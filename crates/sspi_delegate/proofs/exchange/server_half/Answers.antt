@@ -1,6 +1,6 @@
 use Rattle.std.proofs.Common.{Option}
 use Rattle.sspi_names.specs.declared.identity.AuthIdentity.{AuthIdentity}
-use Rattle.sspi_delegate.specs.declared.carried.End.TheVariants.{Server}
+use Rattle.sspi_credssp.specs.declared.turn.End.TheVariants.{Server}
 use Rattle.sspi_delegate.specs.Causes.{IsServerRefusal}
 use Rattle.sspi_credssp.specs.Context.{either}
 use Rattle.sspi_delegate.proofs.Halves.{server_half_stopped, server_half_refused}

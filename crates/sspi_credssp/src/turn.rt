@@ -1,10 +1,16 @@
 ghost use Rattle.std.specs.Prelude.{◌≡◌};
 ghost use Rattle.std.specs.Option.{option_copied};
 
-use crate::carried::End;
-use sspi_credssp::Acts;
+use crate::acts::Acts;
 use sspi_tsreq::TsRequest;
 use sspi_types::{Bytes, ErrorKind};
+
+/// One of the two ends of an exchange.
+#[derive(Clone, Copy, Debug, PartialEq, Eq)]
+pub enum End {
+    Client,
+    Server,
+}
 
 /// One turn of an end: the request that it was given, and what it made of it.
 #[derive(Drop)]
@@ -32,7 +38,7 @@ pub enum Outcome {
 }
 
 impl Outcome {
-    ghost use Rattle.sspi_delegate.specs.Turns.{message_of};
+    ghost use Rattle.sspi_credssp.specs.Turn.{message_of};
 
     /// The message for the peer. Takes no memory.
     pub fn message(&self) -> Option<&TsRequest>
