@@ -6,7 +6,7 @@ use Rattle.std.proofs.lemmas.Bool.{false_from_ne_true}
 use Rattle.std.proofs.lemmas.Slice.Eq.{bytes_eq-Decides}
 use Rattle.sspi_tsreq.specs.declared.mode.CredSspMode.TheVariants.{WithCredentials, CredentialLess}
 use Rattle.sspi_scenario.specs.declared.scenario.Mode.TheVariants as mode
-use Rattle.sspi_scenario.specs.declared.scenario.Package.TheVariants as package
+use Rattle.sspi_scenario.specs.declared.scenario.Package.TheVariants as packages
 use Rattle.sspi_scenario.specs.declared.words.Accounts.TheVariants as accounts
 use Rattle.sspi_scenario.specs.Words.{mode_of, package_of, delegation_of, accounts_of}
 
@@ -26,7 +26,7 @@ module _ (word : List ℕ) where
   unfolding mode_of
   no_mode n m = rw (differs word _ n, differs word _ m) refl
 
-  pub is_package : word ≡ codes "ntlm" → Some package.Ntlm ≡ package_of word
+  pub is_package : word ≡ codes "ntlm" → Some packages.Ntlm ≡ package_of word
   unfolding package_of
   is_package e = rw e refl
 

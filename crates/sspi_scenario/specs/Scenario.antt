@@ -7,7 +7,7 @@ use Rattle.sspi_tsreq.specs.declared.mode.CredSspMode.TheVariants.{WithCredentia
 use Rattle.sspi_scenario.specs.declared.key.Key.{Key}
 use Rattle.sspi_scenario.specs.declared.key.Key.TheVariants as key
 use Rattle.sspi_scenario.specs.declared.scenario.Mode.TheVariants as mode
-use Rattle.sspi_scenario.specs.declared.scenario.Package.TheVariants as package
+use Rattle.sspi_scenario.specs.declared.scenario.Package.TheVariants as packages
 use Rattle.sspi_scenario.specs.declared.scenario.Scenario.{Scenario}
 use Rattle.sspi_scenario.specs.declared.scenario.ScenarioError.{ScenarioError}
 use Rattle.sspi_scenario.specs.declared.scenario.ScenarioError.TheVariants as error
@@ -49,14 +49,16 @@ defaults = record {
     target = codes "TERMSRV/host.example.com";
     delegation = WithCredentials;
     keytab = None;
-    client_protocol = package.Ntlm;
-    server_protocol = package.Ntlm;
+    client_protocol = packages.Ntlm;
+    server_protocol = packages.Ntlm;
     client_packages = None;
     server_packages = None;
     account = [];
     proxy_fail = [];
     turns = 5;
     edit = [];
+    client_least = 5;
+    server_least = 5;
   };
   accounts = accounts.Own;
 }

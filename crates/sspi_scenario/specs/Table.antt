@@ -56,10 +56,12 @@ row key.Accounts = once (codes "accounts") (λ text. option_map (λ x values. re
 row key.ProxyFail = again (codes "proxy-fail") (tells number_of (λ x s. record s { proxy_fail = s.proxy_fail ++ x ∷ [] }))
 row key.Turns = once (codes "turns") (tells number_of (λ x s. record s { turns = x }))
 row key.Edit = again (codes "edit") (tells edit_of (λ x s. record s { edit = s.edit ++ x ∷ [] }))
+row key.ClientLeast = once (codes "client-least") (tells number_of (λ x s. record s { client_least = x }))
+row key.ServerLeast = once (codes "server-least") (tells number_of (λ x s. record s { server_least = x }))
 
 -- the keys that there are
 abbrev pub all_keys : List Key
 all_keys =
     key.Mode ∷ key.User ∷ key.Password ∷ key.Key ∷ key.ServerKey ∷ key.ClientVersion ∷ key.ServerVersion ∷ key.Nonce ∷ key.Challenge ∷
     key.Computer ∷ key.Target ∷ key.Delegation ∷ key.Keytab ∷ key.ClientProtocol ∷ key.ServerProtocol ∷ key.ClientPackages ∷
-    key.ServerPackages ∷ key.Account ∷ key.Accounts ∷ key.ProxyFail ∷ key.Turns ∷ key.Edit ∷ []
+    key.ServerPackages ∷ key.Account ∷ key.Accounts ∷ key.ProxyFail ∷ key.Turns ∷ key.Edit ∷ key.ClientLeast ∷ key.ServerLeast ∷ []

@@ -6,7 +6,7 @@ use Rattle.sspi_tsreq.specs.declared.mode.CredSspMode.TheVariants.{WithCredentia
 use Rattle.sspi_scenario.specs.declared.scenario.Mode.{Mode}
 use Rattle.sspi_scenario.specs.declared.scenario.Mode.TheVariants as mode
 use Rattle.sspi_scenario.specs.declared.scenario.Package.{Package}
-use Rattle.sspi_scenario.specs.declared.scenario.Package.TheVariants as package
+use Rattle.sspi_scenario.specs.declared.scenario.Package.TheVariants as packages
 use Rattle.sspi_scenario.specs.declared.words.Accounts.{Accounts}
 use Rattle.sspi_scenario.specs.declared.words.Accounts.TheVariants as accounts
 
@@ -17,7 +17,7 @@ mode_of word =
     else None
 
 unfoldable pub package_of : List ℕ → Option Package
-package_of word = if bytes_eq word (codes "ntlm") then Some package.Ntlm else None
+package_of word = if bytes_eq word (codes "ntlm") then Some packages.Ntlm else None
 
 unfoldable pub delegation_of : List ℕ → Option CredSspMode
 delegation_of word =

@@ -29,9 +29,11 @@ pub enum Key {
     ProxyFail,
     Turns,
     Edit,
+    ClientLeast,
+    ServerLeast,
 }
 
-const NAMES: [(Key, &str); 22] = [
+const NAMES: [(Key, &str); 24] = [
     (Key::Mode, "mode"),
     (Key::User, "user"),
     (Key::Password, "password"),
@@ -54,6 +56,8 @@ const NAMES: [(Key, &str); 22] = [
     (Key::ProxyFail, "proxy-fail"),
     (Key::Turns, "turns"),
     (Key::Edit, "edit"),
+    (Key::ClientLeast, "client-least"),
+    (Key::ServerLeast, "server-least"),
 ];
 
 impl Key {

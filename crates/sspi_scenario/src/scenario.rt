@@ -65,6 +65,9 @@ pub struct Scenario {
     /// How many turns the client has at most.
     pub turns: u32,
     pub edit: Rows<Edit>,
+    /// The least version of its peer that the client takes.
+    pub client_least: u32,
+    pub server_least: u32,
 }
 
 /// Why a text gave no scenario.

@@ -55,6 +55,8 @@ impl Values {
             proxy_fail: Rows::new(alloc),
             turns: 5,
             edit: Rows::new(alloc),
+            client_least: 5,
+            server_least: 5,
         };
         Ok(Values {
             scenario,
@@ -90,6 +92,8 @@ impl Values {
             Key::ProxyFail => told.proxy_fail.push(u64::from(found(number(value))?))?,
             Key::Turns => told.turns = found(number(value))?,
             Key::Edit => told.edit.push(edit(alloc, value)?)?,
+            Key::ClientLeast => told.client_least = found(number(value))?,
+            Key::ServerLeast => told.server_least = found(number(value))?,
         }
         Ok(())
     }

@@ -4,7 +4,7 @@ use std::process::Abort;
 use std::test::Fail;
 
 /// Texts, each with the number of its first faulty line.
-const FAULTS: [(&str, usize); 38] = [
+const FAULTS: [(&str, usize); 41] = [
     ("", 0),
     ("mode ntlm\nuser a\npassword p\n", 0),
     ("mode negotiate\nuser a\npassword p\n", 0),
@@ -25,6 +25,9 @@ const FAULTS: [(&str, usize); 38] = [
     ("turns +5", 1),
     ("turns", 1),
     ("turns 4294967296", 1),
+    ("client-least", 1),
+    ("server-least 05", 1),
+    ("client-least 0\nclient-least 0", 2),
     ("nonce 00", 1),
     ("challenge 00000000000000", 1),
     ("delegation  with", 1),

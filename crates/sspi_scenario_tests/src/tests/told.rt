@@ -9,7 +9,8 @@ const EVERY_KEY: &[u8] = b"# every key\n\nmode negotiate\nuser DOM\\ann lee\npas
       challenge 0102030405060708\ncomputer\ntarget a b\ndelegation less\nkeytab 05\n\
       client-protocol ntlm\nserver-protocol ntlm\nclient-packages !kerberos,ntlm\nserver-packages\n\
       account DOM\\bob two words\naccount \\x \nproxy-fail 2\nproxy-fail 0\nturns 3\n\
-      edit 0 drop\nedit 1 cut 7\nedit 1 set 3 fF\nedit 2 add \nedit 3 give 0102\nedit 4 again 1\nedit 5 fail";
+      edit 0 drop\nedit 1 cut 7\nedit 1 set 3 fF\nedit 2 add \nedit 3 give 0102\nedit 4 again 1\nedit 5 fail\n\
+      client-least 0\nserver-least 4294967295";
 
 const FEWEST_KEYS: &[u8] = b"mode ntlm\nuser DOM\\ann\npassword pw\nkey 010203\n";
 
@@ -45,6 +46,8 @@ fn lists_are_told(told: &Scenario) -> bool {
         && told.keytab.is_some()
         && told.proxy_fail.as_slice() == [2, 0].as_slice()
         && told.turns == 3
+        && told.client_least == 0
+        && told.server_least == 4294967295
         && told.edit.as_slice().len() == 7
 }
 
@@ -87,6 +90,8 @@ fn lists_are_the_default(given: &Scenario) -> bool {
         && accounts[0].password.value.as_str() == "pw"
         && given.keytab.is_none()
         && given.turns == 5
+        && given.client_least == 5
+        && given.server_least == 5
         && given.edit.as_slice().is_empty()
         && given.proxy_fail.as_slice().is_empty()
 }
