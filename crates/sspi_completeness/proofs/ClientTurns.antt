@@ -1,9 +1,9 @@
 -- The turns of a client in an undisturbed exchange: one that sends a token, the one that sends its proof, and its last.
-use Rattle.std.proofs.Common.{◌≡◌, ◌≢◌, ℕ, ◌-◌, ◌<◌, ◌^◌, List, Bool, true, false, Option, None, Some, IsSome, refl, ap, sym, ◌∙◌, subst, arith}
+use Rattle.std.proofs.Common.{◌≡◌, ◌≢◌, ℕ, ◌-◌, ◌<◌, ◌^◌, List, Bool, true, false, Option, None, Some, IsSome, refl, ap, sym, ◌∙◌, subst, arith, nat_lt}
 use Rattle.sspi_types.specs.declared.credential_use.CredentialUse.TheVariants.{Outbound}
 use Rattle.sspi_types.specs.declared.error.Error.{Error}
 use Rattle.sspi_types.specs.declared.error_kind.ErrorKind.{ErrorKind}
-use Rattle.sspi_types.specs.declared.error_kind.ErrorKind.TheVariants.{OutOfSequence, InvalidToken, MessageAltered, InsufficientMemory}
+use Rattle.sspi_types.specs.declared.error_kind.ErrorKind.TheVariants.{OutOfSequence, InvalidToken, MessageAltered, DowngradeDetected, InsufficientMemory}
 use Rattle.sspi_types.specs.declared.security_status.SecurityStatus.{SecurityStatus}
 use Rattle.sspi_types.specs.declared.security_status.SecurityStatus.TheVariants as statuses
 use Rattle.sspi_names.specs.declared.credentials.CredentialsBuffers.{CredentialsBuffers}
@@ -21,10 +21,10 @@ use Rattle.sspi_credssp.specs.Begun.{BeginCause}
 use Rattle.sspi_credssp.specs.Client.{ClientView}
 use Rattle.sspi_credssp.specs.ClientCause.{ClientCause, StateCause, NegoCause, ProveCause}
 use Rattle.sspi_credssp.specs.ClientStep.{Asked, Walked, stepped, resumed, still_asked, recounted, StepsTo, DoneStep, OnStep, refused_answer, client_args}
-use Rattle.sspi_credssp.specs.ClientTurn.{ClientActs, ClientTurn, SameClient, NegoReply, ProofReply, TokenReply, StartsUnused, client_frame, client_turn}
+use Rattle.sspi_credssp.specs.ClientTurn.{ClientActs, ClientTurn, SameClient, NegoReply, ProofReply, TokenReply, StartsUnused, client_frame, client_turn, noted_next}
 use Rattle.sspi_credssp.specs.Context.{ContextSetting, ForClient}
 use Rattle.sspi_credssp.specs.Counts.{sealed_in, SealsIn, is_waiting_in, cleared}
-use Rattle.sspi_credssp.specs.Noted.{noted_next}
+use Rattle.sspi_credssp.specs.Noted.{noted_in}
 use Rattle.sspi_credssp.specs.PublicKey.{prescribed}
 use Rattle.sspi_credssp.specs.Requests.{is_code, unless_empty}
 use Rattle.sspi_credssp.specs.Turn.{ClientFrame, AtNoted}
@@ -32,7 +32,7 @@ use Rattle.sspi_credssp.specs.declared.turn.Outcome.{Outcome}
 use Rattle.sspi_credssp.specs.declared.turn.Outcome.TheVariants as outcome
 use Rattle.sspi_delegate.specs.Asking.{KdcCalls}
 use Rattle.sspi_delegate.specs.History.{ClientMakes}
-use Rattle.sspi_completeness.proofs.Ends.{Comes, in_context, is_false, stops_later, made_past, sealed_few, noted_at, Holds, IsMaker, sealed_field, unused_in, ClientIs, fits_later}
+use Rattle.sspi_completeness.proofs.Ends.{Comes, in_context, is_false, stops_later, made_past, sealed_few, noted_at, Holds, IsMaker, sealed_field, unused_in, ClientIs, takes_later, takes_noted}
 use Rattle.sspi_credssp.specs.declared.turn.Turn.{Turn}
 
 module _ {C : Type 0} (c : Meaning ContextSetting C) (laws : IsContext c) where
@@ -64,6 +64,7 @@ module _ {C : Type 0} (c : Meaning ContextSetting C) (laws : IsContext c) where
     credentials = two.credentials ∙ one.credentials;
     delegation = two.delegation ∙ one.delegation;
     version = two.version ∙ one.version;
+    least = two.least ∙ one.least;
     mode = two.mode ∙ one.mode;
     target = two.target ∙ one.target;
     nonce = two.nonce ∙ one.nonce;
@@ -139,7 +140,8 @@ module _ {C : Type 0} (c : Meaning ContextSetting C) (laws : IsContext c) where
           subst (λ (s : CredSspState). StateCause c s d mid kind) given.is.state_is
           (made_past old.context mid.context _ _ (never_made kind)
           (stops_later _ MessageAltered kind _ (rw given.version given.is.fits)
-          (stops_later _ InvalidToken kind _ given.code (stops_later _ OutOfSequence kind _ given.is.idle cause))))
+          (stops_later _ DowngradeDetected kind _ (rw given.version given.is.young)
+          (stops_later _ InvalidToken kind _ given.code (stops_later _ OutOfSequence kind _ given.is.idle cause)))))
 
       began : (status : Option SecurityStatus) (mid : View) (kind : ErrorKind) → mid.acts.status ≡ status → (IsSome mid.acts.status → mid.acts.negotiated ≡ true) →
           NegoCause c status mid kind → mid.acts.negotiated ≡ true
@@ -170,16 +172,17 @@ module _ {C : Type 0} (c : Meaning ContextSetting C) (laws : IsContext c) where
       never_ends : (mid : View) (kdc2 : D) (r : TsRequest) → ClientMakes c k old kdc d (outcome.Final r) mid kdc2 → ⊥
       never_ends mid kdc2 r makes = let auth = makes.0.turn.reply.state in let nego = given.is.state_is in cc
 
-      noted_now : (mid : View) → mid.noted ≡ noted_next old.context old.noted d.version → mid.noted ≡ noted_at first w
-      noted_now mid noted = noted ∙ ap (noted_next old.context old.noted) given.version ∙ given.is.notes
+      noted_now : (mid : View) → mid.noted ≡ noted_next c old d → mid.noted ≡ noted_at first w
+      noted_now mid noted = noted ∙ ap (noted_in old.context old.least old.noted) given.version ∙ given.is.notes
 
       -- ---- a token
 
       token_replied : (w2 : ℕ) (mid : View) (kdc2 : D) (r : TsRequest) → step.status ≡ statuses.ContinueNeeded → (first ≡ false → w2 ≡ w) →
+          nat_lt w2 a.least ≡ false →
           ClientMakes c k old kdc d (outcome.Reply r) mid kdc2 →
           (r ≡ record d { version = a.version; nego_tokens = Some step.output }) × ClientIs c a mid w2 false NegoToken 0 0 × Holds c mid.context y
           × (mid.handle ≡ handle) × After kdc2
-      token_replied w2 mid kdc2 r goes peer makes =
+      token_replied w2 mid kdc2 r goes peer takes makes =
           let turn = makes.0 in
           let frame = client_frame c old mid in
           let t = client_turn c d (outcome.Reply r) mid in
@@ -190,15 +193,16 @@ module _ {C : Type 0} (c : Meaning ContextSetting C) (laws : IsContext c) where
           let unproved : mid.acts.proved ≡ false = is_false mid.acts.proved (λ was. let ok = (turn.turn.acts.proved was).0 in cc) in
           let none_sealed : sealed_by mid.acts ≡ 0 = rw (unproved, quiet.1) refl in
           let none_opened : unsealed_by mid.acts ≡ 0 = rw (quiet.0, quiet.2) refl in
-          let later = fits_later c mid s.1.holds.held first w w2 peer s.1.holds.there (noted_now mid turn.moves.noted_going) in
-          let same = same_on a old mid given.is.same turn.moves.same in (
+          let same = same_on a old mid given.is.same turn.moves.same in
+          let later = takes_later c mid s.1.holds.held first w w2 peer (rw same.least takes) s.1.holds.there (noted_now mid turn.moves.noted_going) in (
             token.reply ∙ (rw (same.version, s.1.output_is) refl),
             record {
               same = same;
               state_is = turn.moves.state ∙ (rw (unproved, given.is.state_is) refl);
               idle = s.1.idle;
-              fits = later.0;
-              notes = later.1;
+              fits = later.fits;
+              young = later.young;
+              notes = later.notes;
               sealed_is = turn.moves.sealed unused ∙ (rw (given.is.sealed_is, none_sealed) refl);
               unsealed_is = turn.moves.unsealed unused ∙ (rw (given.is.unsealed_is, none_opened) refl);
             },
@@ -208,15 +212,16 @@ module _ {C : Type 0} (c : Meaning ContextSetting C) (laws : IsContext c) where
           )
 
       pub token_turn : (w2 : ℕ) (out : Outcome) (mid : View) (kdc2 : D) → step.status ≡ statuses.ContinueNeeded → (first ≡ false → w2 ≡ w) →
+          nat_lt w2 a.least ≡ false →
           ClientMakes c k old kdc d out mid kdc2 →
           Comes out (λ r. (r ≡ record d { version = a.version; nego_tokens = Some step.output }) × ClientIs c a mid w2 false NegoToken 0 0 × Holds c mid.context y
           × (mid.handle ≡ handle) × After kdc2)
-      token_turn w2 (outcome.Reply r) mid kdc2 goes peer makes = token_replied w2 mid kdc2 r goes peer makes
-      token_turn w2 (outcome.Final r) mid kdc2 goes peer makes = absurd (never_ends mid kdc2 r makes)
-      token_turn w2 outcome.Finished mid kdc2 goes peer makes = makes
-      token_turn w2 (outcome.Refused kind None) mid kdc2 goes peer makes =
+      token_turn w2 (outcome.Reply r) mid kdc2 goes peer takes makes = token_replied w2 mid kdc2 r goes peer takes makes
+      token_turn w2 (outcome.Final r) mid kdc2 goes peer takes makes = absurd (never_ends mid kdc2 r makes)
+      token_turn w2 outcome.Finished mid kdc2 goes peer takes makes = makes
+      token_turn w2 (outcome.Refused kind None) mid kdc2 goes peer takes makes =
           λ others. subst (λ (x : SecurityStatus). NegoCause c (Some x) mid kind) goes (refusal mid kdc2 kind makes others).cause
-      token_turn w2 (outcome.Refused kind (Some r)) mid kdc2 goes peer makes = absurd makes
+      token_turn w2 (outcome.Refused kind (Some r)) mid kdc2 goes peer takes makes = absurd makes
 
       -- ---- the proof
 
@@ -240,7 +245,7 @@ module _ {C : Type 0} (c : Meaning ContextSetting C) (laws : IsContext c) where
             let none_opened : unsealed_by mid.acts ≡ 0 = rw (quiet.0, quiet.2) refl in
             let sealed_now : sealed_in c mid.context ≡ 1 = turn.moves.sealed unused ∙ (rw (given.is.sealed_is, one) refl) in
             let noted : mid.noted ≡ Some w = noted_now mid turn.moves.noted_going ∙ ap (λ (x : Bool). noted_at x w) later in
-            let more = fits_later c mid s.1.holds.held first w w (λ _. refl) s.1.holds.there (noted_now mid turn.moves.noted_going) in
+            let more = takes_noted c mid s.1.holds.held w s.1.holds.there noted in
             let same = same_on a old mid given.is.same turn.moves.same in
             let seals = subst (λ (x : Option ℕ). AtNoted x (λ n. SealsIn c mid.context (sealed_in c mid.context - 1) (prescribed Client n mid.nonce mid.public_key) r.pub_key_auth))
             noted proof.proof in
@@ -251,8 +256,9 @@ module _ {C : Type 0} (c : Meaning ContextSetting C) (laws : IsContext c) where
                 same = same;
                 state_is = turn.moves.state ∙ (rw proof.proved refl);
                 idle = s.1.idle;
-                fits = more.0;
-                notes = more.1;
+                fits = more.fits;
+                young = more.young;
+                notes = more.notes;
                 sealed_is = sealed_now;
                 unsealed_is = turn.moves.unsealed unused ∙ (rw (given.is.unsealed_is, none_opened) refl);
               },

@@ -12,14 +12,13 @@ use Rattle.sspi_credssp.specs.declared.state.CredSspState.TheVariants.{NegoToken
 use Rattle.sspi_credssp.specs.Acts.{count_of, sealed_by}
 use Rattle.sspi_credssp.specs.Begun.{IfContext, MadeOr}
 use Rattle.sspi_credssp.specs.Client.{ClientView, IsFreshClient}
-use Rattle.sspi_credssp.specs.ClientCause.{is_altered}
 use Rattle.sspi_credssp.specs.ClientTurn.{SameClient}
 use Rattle.sspi_credssp.specs.Context.{ContextSetting}
 use Rattle.sspi_credssp.specs.Counts.{sealed_in, unsealed_in, IsUnusedIn, SameBut, SealsIn, is_waiting_in, silent, cleared}
-use Rattle.sspi_credssp.specs.Noted.{noted_next}
+use Rattle.sspi_credssp.specs.Noted.{differs, is_altered_in, is_old, is_old_in, noted_in, noted_with}
 use Rattle.sspi_credssp.specs.Server.{ServerView, IsFreshServer}
-use Rattle.sspi_credssp.specs.ServerTurn.{SameServer, noted_first}
-use Rattle.sspi_credssp.specs.Stops.{StopsIf, differs}
+use Rattle.sspi_credssp.specs.ServerTurn.{SameServer}
+use Rattle.sspi_credssp.specs.Stops.{StopsIf}
 use Rattle.sspi_credssp.specs.declared.turn.Outcome.{Outcome}
 use Rattle.sspi_credssp.specs.declared.turn.Outcome.TheVariants.{Reply, Final, Finished, Refused}
 
@@ -117,31 +116,50 @@ module _ {C : Type 0} (c : Meaning ContextSetting C) where
     pub same : SameClient c a v
     pub state_is : v.state ≡ state
     pub idle : is_waiting_in c v.context ≡ false
-    pub fits : is_altered v.context v.noted w ≡ false
-    pub notes : noted_next v.context v.noted w ≡ noted_at first w
+    pub fits : is_altered_in v.context v.noted w ≡ false
+    pub young : is_old_in v.context v.least v.noted w ≡ false
+    pub notes : noted_in v.context v.least v.noted w ≡ noted_at first w
     pub sealed_is : sealed_in c v.context ≡ sealed
     pub unsealed_is : unsealed_in c v.context ≡ unsealed
 
   pub fresh_client : (a : ClientView C) (w : ℕ) → IsFreshClient a → ClientIs a a w true NegoToken 0 0
   fresh_client a w fresh = record {
-    same = record { public_key = refl; credentials = refl; delegation = refl; version = refl; mode = refl; target = refl; nonce = refl };
+    same = record { public_key = refl; credentials = refl; delegation = refl; version = refl; least = refl; mode = refl; target = refl; nonce = refl };
     state_is = fresh.state;
     idle = rw fresh.context refl;
     fits = rw fresh.context refl;
-    notes = rw fresh.context refl;
+    young = rw fresh.context refl;
+    notes = rw (fresh.context, fresh.noted) refl;
     sealed_is = rw fresh.context refl;
     unsealed_is = rw fresh.context refl;
   }
 
-  fits_at : (m : C) (first : Bool) (w w2 : ℕ) → (first ≡ false → w2 ≡ w) →
-      (is_altered (Some m) (noted_at first w) w2 ≡ false) × (noted_next (Some m) (noted_at first w) w2 ≡ Some w2)
-  fits_at m true w w2 same = (refl, refl)
-  fits_at m false w w2 same = rw (same refl) (differs_never w, refl)
+  -- what a client does that is given this version next: it does not refuse it, and has it noted then
+  pub record Takes (v : ClientView C) (w : ℕ) : Type 0 where
+    pub fits : is_altered_in v.context v.noted w ≡ false
+    pub young : is_old_in v.context v.least v.noted w ≡ false
+    pub notes : noted_in v.context v.least v.noted w ≡ Some w
 
-  -- once the client has a context, its peer may speak the noted version
-  pub fits_later : (v : ClientView C) (m : C) (first : Bool) (w w2 : ℕ) → (first ≡ false → w2 ≡ w) → v.context ≡ Some m → v.noted ≡ noted_at first w →
-      (is_altered v.context v.noted w2 ≡ false) × (noted_next v.context v.noted w2 ≡ Some w2)
-  fits_later v m first w w2 same there noted = rw (there, noted) (fits_at m first w w2 same)
+  -- it is the noted version
+  pub takes_noted : (v : ClientView C) (m : C) (w : ℕ) → v.context ≡ Some m → v.noted ≡ Some w → Takes v w
+  takes_noted v m w there noted = record {
+    fits = rw (there, noted) (differs_never w);
+    young = rw (there, noted) refl;
+    notes = rw (there, noted) refl;
+  }
+
+  -- or none is noted yet, and this one is not below the least
+  takes_first : (v : ClientView C) (m : C) (w : ℕ) → nat_lt w v.least ≡ false → v.context ≡ Some m → v.noted ≡ None → Takes v w
+  takes_first v m w takes there none = record {
+    fits = rw (there, none) refl;
+    young = rw (there, none) takes;
+    notes = rw (there, none, takes) refl;
+  }
+
+  pub takes_later : (v : ClientView C) (m : C) (first : Bool) (w w2 : ℕ) → (first ≡ false → w2 ≡ w) → nat_lt w2 v.least ≡ false → v.context ≡ Some m →
+      v.noted ≡ noted_at first w → Takes v w2
+  takes_later v m true w w2 same takes there noted = takes_first v m w2 takes there noted
+  takes_later v m false w w2 same takes there noted = takes_noted v m w2 there (noted ∙ ap Some (sym (same refl)))
 
   same_emptied : (a v : ClientView C) → SameClient c a v → SameClient c a (record v { output = [] })
   same_emptied a v same = record {
@@ -149,6 +167,7 @@ module _ {C : Type 0} (c : Meaning ContextSetting C) where
     credentials = same.credentials;
     delegation = same.delegation;
     version = same.version;
+    least = same.least;
     mode = same.mode;
     target = same.target;
     nonce = same.nonce;
@@ -161,6 +180,7 @@ module _ {C : Type 0} (c : Meaning ContextSetting C) where
     state_is = is.state_is;
     idle = is.idle;
     fits = is.fits;
+    young = is.young;
     notes = is.notes;
     sealed_is = is.sealed_is;
     unsealed_is = is.unsealed_is;
@@ -172,16 +192,18 @@ module _ {C : Type 0} (c : Meaning ContextSetting C) where
       pub same : SameServer c b v
       pub state_is : v.state ≡ state
       pub fits : differs v.noted w ≡ false
-      pub notes : noted_first v.noted w ≡ Some w
+      pub young : is_old v.least v.noted w ≡ false
+      pub notes : noted_with v.least v.noted w ≡ Some w
       pub sealed_is : sealed_in c v.context ≡ sealed
       pub unsealed_is : unsealed_in c v.context ≡ unsealed
 
-    pub fresh_server : (b : ServerView C P) (w : ℕ) → IsFreshServer b → ServerIs b b w NegoToken 0 0
-    fresh_server b w fresh = record {
-      same = record { public_key = refl; version = refl; mode = refl };
+    pub fresh_server : (b : ServerView C P) (w : ℕ) → nat_lt w b.least ≡ false → IsFreshServer b → ServerIs b b w NegoToken 0 0
+    fresh_server b w takes fresh = record {
+      same = record { public_key = refl; version = refl; least = refl; mode = refl };
       state_is = fresh.state;
       fits = rw fresh.noted refl;
-      notes = rw fresh.noted refl;
+      young = rw fresh.noted takes;
+      notes = rw (fresh.noted, takes) refl;
       sealed_is = rw fresh.context refl;
       unsealed_is = rw fresh.context refl;
     }
@@ -189,9 +211,10 @@ module _ {C : Type 0} (c : Meaning ContextSetting C) where
     pub server_emptied : (b v : ServerView C P) (w : ℕ) (state : CredSspState) (sealed unsealed : ℕ) → ServerIs b v w state sealed unsealed →
         ServerIs b (record v { output = [] }) w state sealed unsealed
     server_emptied b v w state sealed unsealed is = record {
-      same = record { public_key = is.same.public_key; version = is.same.version; mode = is.same.mode };
+      same = record { public_key = is.same.public_key; version = is.same.version; least = is.same.least; mode = is.same.mode };
       state_is = is.state_is;
       fits = is.fits;
+      young = is.young;
       notes = is.notes;
       sealed_is = is.sealed_is;
       unsealed_is = is.unsealed_is;

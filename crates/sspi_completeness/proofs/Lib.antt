@@ -11,6 +11,7 @@ pub mod ServerDelivery
 pub mod Points
 pub mod Settling
 pub mod Negotiation
+pub mod NeverRefusing
 pub mod Negotiated
 pub mod NtlmRound
 pub mod Shortness

@@ -250,7 +250,7 @@ module _ {C D P : Type 0} (c : Meaning ContextSetting C) (laws : IsContext c) (k
         },
       ))
       (client.token_turn c laws k a x (peer_version n) (is_first n) kdc d (it.client_step n) (it.client_context (suc n)) it.client_handle (it.KdcAt (suc n))
-      (client_given n x kdc d (omega (arith, less)) at is) b.version out mid kdc2 (it.client_goes n less) (peer_speaks n) makes)
+      (client_given n x kdc d (omega (arith, less)) at is) b.version out mid kdc2 (it.client_goes n less) (peer_speaks n) alike.client_takes makes)
 
   client_proof : (x mid : CView) (kdc kdc2 : D) (d : TsRequest) (out : Outcome) → ClientNego (suc j) x kdc → d ≡ carried (down_of j) →
       ClientMakes c k x kdc d out mid kdc2 → Comes out (λ r. (r ≡ proof_of) × ClientLast (record mid { output = [] }))
@@ -471,7 +471,7 @@ module _ {C D P : Type 0} (c : Meaning ContextSetting C) (laws : IsContext c) (k
     ClientAt = ClientAt;
     ServerAt = ServerAt;
     client_start = record { is = fresh_client c a first_request.version client_new; has = client_new.context; kdc_at = it.kdc_start };
-    server_start = record { is = fresh_server c b a.version server_new; has = server_new.context };
+    server_start = record { is = fresh_server c b a.version alike.server_takes server_new; has = server_new.context };
     client_goes = client_goes;
     server_goes = server_goes;
     server_ends = server_ends;

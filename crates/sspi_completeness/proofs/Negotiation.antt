@@ -33,6 +33,8 @@ pub record AreAlike {C P : Type 0} (a : ClientView C) (b : ServerView C P) (text
   pub key_same : b.public_key ≡ a.public_key
   pub key_short : length a.public_key ≤ 16384
   pub versions : nat_lt a.version 5 ≡ nat_lt b.version 5
+  pub client_takes : nat_lt b.version a.least ≡ false
+  pub server_takes : nat_lt a.version b.least ≡ false
   pub client_version : a.version < 2 ^ 32
   pub server_version : b.version < 2 ^ 32
   pub nonce : length a.nonce ≡ 32

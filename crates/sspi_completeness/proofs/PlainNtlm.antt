@@ -1,5 +1,6 @@
 -- The authentication of matching ends by plain NTLM, evaluated: two messages of the client and two steps of the server.
 use Rattle.std.proofs.Common.{◌≡◌, ◌≢◌, ℕ, zero, suc, ◌-◌, ◌≤◌, ◌<◌, ◌^◌, List, [], ◌∷◌, length, map, filter, false, Option, None, Some, Ok, Err, refl, ap, sym, ◌∙◌, subst, arith}
+use Rattle.std.proofs.lemmas.Bool.{le-ltb}
 use Rattle.sspi_types.specs.declared.credential_use.CredentialUse.TheVariants.{Inbound, Outbound}
 use Rattle.sspi_types.specs.declared.error.Error.{Error}
 use Rattle.sspi_types.specs.declared.error_kind.ErrorKind.{ErrorKind}
@@ -399,6 +400,8 @@ module _ {K D P : Type 0} (k : Meaning Setting K) (laws : IsContext (either ntlm
       key_same = matching.key_same;
       key_short = matching.key_short;
       versions = matching.versions;
+      client_takes = le-ltb b.version a.least matching.client_takes;
+      server_takes = le-ltb a.version b.least matching.server_takes;
       client_version = matching.client_version;
       server_version = matching.server_version;
       nonce = matching.nonce;

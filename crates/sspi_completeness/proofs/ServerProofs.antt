@@ -25,7 +25,8 @@ use Rattle.sspi_credssp.specs.Requests.{nonce_of, IsLong}
 use Rattle.sspi_credssp.specs.Server.{ServerView}
 use Rattle.sspi_credssp.specs.ServerCause.{IdentifyCause, OverCause, unknown, incomplete, known, AfterCause, ExchangeCause, BlobCause, ProofCause, AnswerCause, altered, unsealed, lacks_nonce}
 use Rattle.sspi_credssp.specs.ServerStep.{Unknown, Identified, Completed}
-use Rattle.sspi_credssp.specs.ServerTurn.{IsOver, OverAnswer, ProofAnswer, StateAnswer, StartsUnused, OnceNegotiated, ServerTurn, noted_first, after_status, server_frame, server_turn}
+use Rattle.sspi_credssp.specs.Noted.{noted_with}
+use Rattle.sspi_credssp.specs.ServerTurn.{IsOver, OverAnswer, ProofAnswer, StateAnswer, StartsUnused, OnceNegotiated, ServerTurn, after_status, server_frame, server_turn}
 use Rattle.sspi_credssp.specs.Turn.{AtNoted}
 use Rattle.sspi_mech.specs.Calls.{ToComplete}
 use Rattle.sspi_credssp.specs.declared.turn.Outcome.{Outcome}
@@ -115,8 +116,8 @@ module _ {C P : Type 0} (c : Meaning ContextSetting C) (laws : IsContext c) (tol
       held_now : (mid : View) → OnceNegotiated old.state (SameBut c old.context mid.context) → Holds c mid.context z
       held_now mid bare = holds_still c old.context mid.context z (bare_at old.state _ is.state_is bare) holds
 
-      noted_at : (mid : View) (m : C) → mid.context ≡ Some m → (IsSome mid.context → mid.noted ≡ noted_first old.noted d.version) → mid.noted ≡ Some w
-      noted_at mid m there noted = noted (rw there refl) ∙ ap (noted_first old.noted) version ∙ is.notes
+      noted_at : (mid : View) (m : C) → mid.context ≡ Some m → (IsSome mid.context → mid.noted ≡ noted_with old.least old.noted d.version) → mid.noted ≡ Some w
+      noted_at mid m there noted = noted (rw there refl) ∙ ap (noted_with old.least old.noted) version ∙ is.notes
 
       unopened : (mid : View) (out : Outcome) → ServerTurn c old d out mid → mid.acts.opened ≡ false
       unopened mid out turn = is_false mid.acts.opened (λ was. let auth = (turn.turn.acts.opened was).0 in let at = is.state_is in cc)
@@ -133,12 +134,13 @@ module _ {C P : Type 0} (c : Meaning ContextSetting C) (laws : IsContext c) (tol
           let sealed_now : sealed_in c mid.context ≡ 1 = turn.moves.sealed unstarted ∙ (rw (is.sealed_is, one) refl) in
           let noted = noted_at mid h.held h.there turn.moves.noted in
           let same = same_on c laws told faults b old mid is.same turn.moves.same in
-          let still = stands_noted c laws told faults mid.noted w noted in (
+          let still = stands_noted c laws told faults mid.least mid.noted w noted in (
             answered mid r proof h noted same.public_key same.version sealed_now,
             record {
               same = same;
               state_is = turn.moves.state ∙ (rw proof.proved refl);
               fits = still.0;
+              young = still.2;
               notes = still.1;
               sealed_is = sealed_now;
               unsealed_is = turn.moves.unsealed unstarted ∙ (rw (is.unsealed_is, opened_one) refl);
@@ -211,12 +213,13 @@ module _ {C P : Type 0} (c : Meaning ContextSetting C) (laws : IsContext c) (tol
           let sealed_now : sealed_in c mid.context ≡ 1 = turn.moves.sealed start ∙ (rw (given.is.sealed_is, one) refl) in
           let noted = noted_now c laws told faults b old w d step y handle given mid h.held h.there turn.moves.noted in
           let same = same_on c laws told faults b old mid given.is.same turn.moves.same in
-          let still = stands_noted c laws told faults mid.noted w noted in (
+          let still = stands_noted c laws told faults mid.least mid.noted w noted in (
             answered b old w d z own peers proof_given mid r proof h noted same.public_key same.version sealed_now,
             record {
               same = same;
               state_is = turn.moves.state ∙ (rw proof.proved refl);
               fits = still.0;
+              young = still.2;
               notes = still.1;
               sealed_is = sealed_now;
               unsealed_is = turn.moves.unsealed start ∙ (rw (given.is.unsealed_is, opened_one) refl);
@@ -274,12 +277,13 @@ module _ {C P : Type 0} (c : Meaning ContextSetting C) (laws : IsContext c) (tol
           let none_sealed : sealed_by mid.acts ≡ 0 = rw (token.2, quiet.0) refl in
           let none_opened : unsealed_by mid.acts ≡ 0 = rw (unchecked, quiet.1) refl in
           let same = same_on c laws told faults b old mid given.is.same turn.moves.same in
-          let still = stands_noted c laws told faults mid.noted w (noted_now c laws told faults b old w d step y handle given mid h.held h.there turn.moves.noted) in (
+          let still = stands_noted c laws told faults mid.least mid.noted w (noted_now c laws told faults b old w d step y handle given mid h.held h.there turn.moves.noted) in (
             token.0.reply ∙ (rw (same.version, left.output_is) refl),
             record {
               same = same;
               state_is = turn.moves.state ∙ (rw (given.is.state_is, token.2, s.status_is) (asks_proof step.status over));
               fits = still.0;
+              young = still.2;
               notes = still.1;
               sealed_is = turn.moves.sealed start ∙ (rw (given.is.sealed_is, none_sealed) refl);
               unsealed_is = turn.moves.unsealed start ∙ (rw (given.is.unsealed_is, none_opened) refl);

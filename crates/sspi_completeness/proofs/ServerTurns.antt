@@ -3,7 +3,7 @@
 use Rattle.std.proofs.Common.{◌≡◌, ◌≢◌, ℕ, List, true, false, Option, None, Some, IsSome, refl, ap, sym, ◌∙◌, subst}
 use Rattle.sspi_types.specs.declared.credential_use.CredentialUse.TheVariants.{Inbound}
 use Rattle.sspi_types.specs.declared.error_kind.ErrorKind.{ErrorKind}
-use Rattle.sspi_types.specs.declared.error_kind.ErrorKind.TheVariants.{MessageAltered, InsufficientMemory}
+use Rattle.sspi_types.specs.declared.error_kind.ErrorKind.TheVariants.{MessageAltered, DowngradeDetected, InsufficientMemory}
 use Rattle.sspi_types.specs.declared.security_status.SecurityStatus.{SecurityStatus}
 use Rattle.sspi_types.specs.declared.security_status.SecurityStatus.TheVariants as statuses
 use Rattle.sspi_names.specs.declared.credentials.CredentialsBuffers.{CredentialsBuffers}
@@ -20,8 +20,8 @@ use Rattle.sspi_credssp.specs.Context.{ContextSetting, ForServer}
 use Rattle.sspi_credssp.specs.Server.{ServerView}
 use Rattle.sspi_credssp.specs.ServerCause.{ServerCause, StateCause, NegoCause, OverCause}
 use Rattle.sspi_credssp.specs.ServerStep.{Knowing, Unknown, Completed, DoneStep, HasCome, known_at}
-use Rattle.sspi_credssp.specs.ServerTurn.{IsOver, MayCheck, NegoAnswer, OverAnswer, StateAnswer, ServerActs, ServerTurn, SameServer, StartsUnused, noted_first, server_frame, server_turn}
-use Rattle.sspi_credssp.specs.Stops.{differs}
+use Rattle.sspi_credssp.specs.ServerTurn.{IsOver, MayCheck, NegoAnswer, OverAnswer, StateAnswer, ServerActs, ServerTurn, SameServer, StartsUnused, server_frame, server_turn}
+use Rattle.sspi_credssp.specs.Noted.{differs, is_old, noted_with}
 use Rattle.sspi_credssp.specs.Turn.{ServerFrame}
 use Rattle.sspi_credssp.specs.declared.turn.Outcome.{Outcome}
 use Rattle.sspi_credssp.specs.declared.turn.Outcome.TheVariants as outcome
@@ -40,14 +40,12 @@ module _ {C P : Type 0} (c : Meaning ContextSetting C) (laws : IsContext c) (tol
 
   pub same_on : (b old mid : View) → SameServer c b old → SameServer c old mid → SameServer c b mid
   same_on b old mid one two =
-      record { public_key = two.public_key ∙ one.public_key; version = two.version ∙ one.version; mode = two.mode ∙ one.mode }
-
-  noted_later : (noted noted2 : Option ℕ) (w : ℕ) → noted2 ≡ noted_first noted w → noted_first noted w ≡ Some w → noted2 ≡ Some w
-  noted_later noted noted2 w first is = first ∙ is
+      record { public_key = two.public_key ∙ one.public_key; version = two.version ∙ one.version; least = two.least ∙ one.least; mode = two.mode ∙ one.mode }
 
   -- the version stays noted
-  pub stands_noted : (noted : Option ℕ) (w : ℕ) → noted ≡ Some w → (differs noted w ≡ false) × (noted_first noted w ≡ Some w)
-  stands_noted noted w is = rw is (differs_never w, refl)
+  pub stands_noted : (least : ℕ) (noted : Option ℕ) (w : ℕ) → noted ≡ Some w →
+      (differs noted w ≡ false) × (noted_with least noted w ≡ Some w) × (is_old least noted w ≡ false)
+  stands_noted least noted w is = rw is (differs_never w, refl, refl)
 
   -- a refusal is past what a turn looks at first
   pub cause_past : (b old mid : View) (w : ℕ) (d : TsRequest) (state : CredSspState) (sealed unsealed : ℕ) (kind : ErrorKind) →
@@ -57,7 +55,8 @@ module _ {C P : Type 0} (c : Meaning ContextSetting C) (laws : IsContext c) (tol
       let never : BeginCause c (ForServer old.mode) Inbound None kind → ⊥ =
       λ h. begins kind (subst (λ x. BeginCause c (ForServer x) Inbound None kind) is.same.mode h) in
       subst (λ (s : CredSspState). StateCause c told faults s old d mid kind) is.state_is
-      (stops_later _ MessageAltered kind _ (rw version is.fits) (made_past old.context mid.context _ _ never cause))
+      (stops_later _ MessageAltered kind _ (rw version is.fits)
+      (stops_later _ DowngradeDetected kind _ (rw version is.young) (made_past old.context mid.context _ _ never cause)))
 
   over_done : (st : SecurityStatus) (old : View) (d : TsRequest) (mid : View) → IsOver (Some st) → DoneStep c told (Some st) old d mid → HasCome c told Completed st old d mid
   over_done statuses.Ok old d mid over h = h
@@ -107,8 +106,8 @@ module _ {C P : Type 0} (c : Meaning ContextSetting C) (laws : IsContext c) (tol
     pub unused : StartsUnused c old
     unused = λ nego. unused_in c old.context given.is.sealed_is given.is.unsealed_is
 
-    pub noted_now : (mid : View) (m : C) → mid.context ≡ Some m → (IsSome mid.context → mid.noted ≡ noted_first old.noted d.version) → mid.noted ≡ Some w
-    noted_now mid m there noted = noted (rw there refl) ∙ ap (noted_first old.noted) given.version ∙ given.is.notes
+    pub noted_now : (mid : View) (m : C) → mid.context ≡ Some m → (IsSome mid.context → mid.noted ≡ noted_with old.least old.noted d.version) → mid.noted ≡ Some w
+    noted_now mid m there noted = noted (rw there refl) ∙ ap (noted_with old.least old.noted) given.version ∙ given.is.notes
 
     out : (mid : View) (status : Option SecurityStatus) (r : TsRequest) → NegoAnswer c (server_frame c old mid) (server_turn c d (outcome.Reply r) mid) status r →
         DoneStep c told status old d mid → status ≡ Some step.status
@@ -182,13 +181,14 @@ module _ {C P : Type 0} (c : Meaning ContextSetting C) (laws : IsContext c) (tol
         (subst (λ (x : CredSspState). MayCheck x mid.acts.status) given.is.state_is (turn.turn.acts.checked was).0)) in
         let none_sealed : sealed_by mid.acts ≡ 0 = rw (unproved, quiet.0) refl in
         let none_opened : unsealed_by mid.acts ≡ 0 = rw (unchecked, quiet.1) refl in
-        let noted = stands_noted mid.noted w (noted_now mid left.held left.there turn.moves.noted) in
+        let noted = stands_noted mid.least mid.noted w (noted_now mid left.held left.there turn.moves.noted) in
         let same = same_on b old mid given.is.same turn.moves.same in (
           answer.0.reply ∙ (rw (same.version, left.output_is) refl),
           record {
             same = same;
             state_is = turn.moves.state ∙ (rw (given.is.state_is, unproved, status) refl);
             fits = noted.0;
+            young = noted.2;
             notes = noted.1;
             sealed_is = turn.moves.sealed unused ∙ (rw (given.is.sealed_is, none_sealed) refl);
             unsealed_is = turn.moves.unsealed unused ∙ (rw (given.is.unsealed_is, none_opened) refl);

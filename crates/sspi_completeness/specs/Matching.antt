@@ -38,12 +38,14 @@ pub record IsShort (identity : AuthIdentity) : Type 0 where
   pub domain_units : length (buffers_of identity).domain ≤ 4096
   pub password_units : length (buffers_of identity).password.value ≤ 4096
 
--- One key and one kind of proof; the client has an identity whose password the server's proxy tells. The last fields say
+-- One key and one kind of proof, and each end takes the other's version; the client has an identity whose password the server's proxy tells. The last fields say
 -- what is so of every client and server that is made.
 pub record AreMatching {C D P : Type 0} (told : P → Option (List AuthIdentity)) (client : ClientView C) (server : ServerView D P) : Type 0 where
   pub key_same : server.public_key ≡ client.public_key
   pub key_short : length client.public_key ≤ 16384
   pub versions : nat_lt client.version 5 ≡ nat_lt server.version 5
+  pub client_takes : client.least ≤ server.version
+  pub server_takes : server.least ≤ client.version
   pub identity : AuthIdentity
   pub credentials_are : client.credentials ≡ credentials.AuthIdentity identity
   pub short : IsShort identity

@@ -3,6 +3,7 @@
 //! `specs/Matching.antt` says which ends match, and when a link disturbs nothing.
 #![tactic(auto)]
 
+pub mod laws;
 pub mod plain;
 
 pub use plain::delegate_plainly;

@@ -23,6 +23,7 @@ fn copied(alloc: Global, bytes: &[u8]) -> Result<Vec<u8>, AllocError>
     bytes.iter().copied().collect(alloc)
 }
 
+/// A client that takes every version.
 fn client_of(
     alloc: Global,
     identity: AuthIdentity,
@@ -32,12 +33,12 @@ fn client_of(
 ) -> Result<CredSspClient<Ntlm, Ntlm>, AllocError>
     ensures fresh { IfOk result IsFreshClient }
     ensures values { IfOk result (λ client. (client.public_key ≡ key.now) × (client.credentials ≡ credentials.AuthIdentity identity)
-        × (client.delegation ≡ mode) × (client.version ≡ version) × (length client.nonce ≡ 32)) }
+        × (client.delegation ≡ mode) × (client.version ≡ version) × (length client.nonce ≡ 32) × (client.least ≡ 0)) }
 {
     let config = NtlmConfig::new(Text::from_text(alloc, "CLIENT")?);
     let public_key = copied(alloc, key)?;
     let target = String::from_str(alloc, "TERMSRV/host.example.com")?;
-    Ok(CredSspClient::new_with_version(
+    let client = CredSspClient::new_with_version(
         alloc,
         public_key,
         Credentials::AuthIdentity(identity),
@@ -46,10 +47,11 @@ fn client_of(
         ClientMode::Ntlm(config),
         target,
         [9; 32],
-    ))
+    );
+    Ok(client.with_least_version(0))
 }
 
-/// A server whose proxy knows this identity alone, and never fails.
+/// A server that takes every version, and whose proxy knows this identity alone and never fails.
 fn server_of(
     alloc: Global,
     identity: AuthIdentity,
@@ -58,19 +60,20 @@ fn server_of(
 ) -> Result<CredSspServer<Ntlm, Ntlm, TableProxy>, AllocError>
     ensures fresh { IfOk result IsFreshServer }
     ensures values { IfOk result (λ server. (server.public_key ≡ key.now) × (server.version ≡ version) × (length (challenge_of server.mode) ≡ 8)
-        × (server.proxy ≡ record { entries = identity ∷ []; failing = []; calls = 0; faults = 0 })) }
+        × (server.proxy ≡ record { entries = identity ∷ []; failing = []; calls = 0; faults = 0 }) × (server.least ≡ 0)) }
 {
     let config = NtlmConfig::new(Text::from_text(alloc, "SERVER")?);
     let public_key = copied(alloc, key)?;
     let mut known = Vec::new(alloc);
     known.push(identity)?;
-    Ok(CredSspServer::new_with_version(
+    let server = CredSspServer::new_with_version(
         alloc,
         public_key,
         TableProxy::new(alloc, known, Vec::new(alloc)),
         version,
         ServerMode::Ntlm(config),
-    ))
+    );
+    Ok(server.with_least_version(0))
 }
 
 /// An exchange in memory of two ends that know the same identity.

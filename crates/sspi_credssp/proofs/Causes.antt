@@ -3,7 +3,7 @@ use Rattle.std.proofs.Common.{◌≡◌, ◌≢◌, ℕ, List, Option, None, Som
 use Rattle.sspi_types.specs.declared.credential_use.CredentialUse.TheVariants.{Outbound}
 use Rattle.sspi_types.specs.declared.error.Error.{Error}
 use Rattle.sspi_types.specs.declared.error_kind.ErrorKind.{ErrorKind}
-use Rattle.sspi_types.specs.declared.error_kind.ErrorKind.TheVariants.{InsufficientMemory, MessageAltered}
+use Rattle.sspi_types.specs.declared.error_kind.ErrorKind.TheVariants.{InsufficientMemory, MessageAltered, DowngradeDetected}
 use Rattle.sspi_tsreq.specs.declared.request.TsRequest.{TsRequest}
 use Rattle.sspi_mech.specs.Meaning.{Meaning}
 use Rattle.sspi_credssp.specs.declared.public_key.EndpointType.TheVariants.{Server}
@@ -11,11 +11,12 @@ use Rattle.sspi_credssp.specs.declared.state.CredSspState.{CredSspState}
 use Rattle.sspi_credssp.specs.declared.state.CredSspState.TheVariants.{NegoToken, PubKeyInfo, AuthInfo, Final}
 use Rattle.sspi_credssp.specs.Begun.{BeginCause, MadeOr}
 use Rattle.sspi_credssp.specs.Client.{ClientView}
-use Rattle.sspi_credssp.specs.ClientCause.{ClientCause, StateCause, OpenedCause, DeliverCause, is_altered}
+use Rattle.sspi_credssp.specs.ClientCause.{ClientCause, StateCause, OpenedCause, DeliverCause}
 use Rattle.sspi_credssp.specs.Context.{ContextSetting, ForClient}
 use Rattle.sspi_credssp.specs.Counts.{is_waiting_in}
 use Rattle.sspi_credssp.specs.Credentials.{delegated_text}
 use Rattle.sspi_credssp.specs.Exchange.{IsSealedBlob}
+use Rattle.sspi_credssp.specs.Noted.{is_altered_in, is_old_in}
 use Rattle.sspi_credssp.specs.PublicKey.{prescribed}
 use Rattle.sspi_credssp.specs.Requests.{is_code}
 use Rattle.sspi_credssp.specs.Stops.{StopsIf}
@@ -52,22 +53,26 @@ module _ {C : Type 0} (c : Meaning ContextSetting C) where
 
   -- a turn that was refused past the version check
   pub client_cause_past : {T : Type 0} (old new : ClientView C) (d request : TsRequest) (state : CredSspState) (v : ℕ) (r : Result T Error) →
-      is_waiting_in c old.context ≡ false → is_code d.error_code ≡ false → is_altered old.context old.noted d.version ≡ false →
+      is_waiting_in c old.context ≡ false → is_code d.error_code ≡ false →
+      is_old_in old.context old.least old.noted d.version ≡ false → is_altered_in old.context old.noted d.version ≡ false →
       IsSome new.context → state ≡ old.state → request ≡ record d { version = v } →
       IfErr r (λ e. e.error_type ≢ InsufficientMemory → StateCause c state request new e.error_type) →
       IfErr r (λ e. e.error_type ≢ InsufficientMemory → ClientCause c old d new e.error_type)
-  client_cause_past old new d request state v (Ok x) idle code altered begun same_state same h = h
-  client_cause_past old new d request state v (Err e) idle code altered begun same_state same h = λ memory.
+  client_cause_past old new d request state v (Ok x) idle code young altered begun same_state same h = h
+  client_cause_past old new d request state v (Err e) idle code young altered begun same_state same h = λ memory.
       let later : StateCause c old.state d new e.error_type =
       subst (λ s. StateCause c s d new e.error_type) same_state
       (state_cause_same state d v new e.error_type (subst (λ x. StateCause c state x new e.error_type) same (h memory))) in
-      rw (idle, code, altered) (made_later old.context new.context _ _ begun later)
+      rw (idle, code, young, altered) (made_later old.context new.context _ _ begun later)
 
   -- a turn that was refused as it began
   pub client_cause_begun : (old new : ClientView C) (d : TsRequest) (kind : ErrorKind) →
       is_waiting_in c old.context ≡ false → is_code d.error_code ≡ false →
-      StopsIf (is_altered old.context old.noted d.version) MessageAltered kind
-      (MadeOr old.context new.context (BeginCause c (ForClient old.mode) Outbound (Some old.credentials) kind) ⊥) →
+      StopsIf (is_old_in old.context old.least old.noted d.version) DowngradeDetected kind
+      (StopsIf (is_altered_in old.context old.noted d.version) MessageAltered kind
+      (MadeOr old.context new.context (BeginCause c (ForClient old.mode) Outbound (Some old.credentials) kind) ⊥)) →
       ClientCause c old d new kind
   client_cause_begun old new d kind idle code h =
-      rw (idle, code) (stops_map (is_altered old.context old.noted d.version) MessageAltered kind _ _ (made_map old.context new.context _ _ _ (λ none. absurd none)) h)
+      rw (idle, code)
+      (stops_map (is_old_in old.context old.least old.noted d.version) DowngradeDetected kind _ _
+      (stops_map (is_altered_in old.context old.noted d.version) MessageAltered kind _ _ (made_map old.context new.context _ _ _ (λ none. absurd none))) h)

@@ -37,6 +37,7 @@ module _ {C : Type 0} (c : Meaning ContextSetting C) where
           credentials = ready.same.credentials;
           delegation = ready.same.delegation;
           version = ready.same.version;
+          least = ready.same.least;
           mode = ready.same.mode;
           target = ready.same.target;
           nonce = ready.same.nonce;
@@ -45,6 +46,8 @@ module _ {C : Type 0} (c : Meaning ContextSetting C) where
         state = ready.state;
         noted = ready.noted;
         fits = ready.fits;
+        young = ready.young;
+        passed = ready.passed;
         begun = refl;
         sealed = λ su. (stays (before su)).sealed ∙ sym (ap (sealed_in c) here ∙ (before su).sealed) ∙ ready.sealed su;
         unsealed = λ su. (stays (before su)).unsealed ∙ sym (ap (unsealed_in c) here ∙ (before su).unsealed) ∙ ready.unsealed su;
@@ -63,6 +66,7 @@ module _ {C : Type 0} (c : Meaning ContextSetting C) where
       credentials = ready.same.credentials;
       delegation = ready.same.delegation;
       version = ready.same.version;
+      least = ready.same.least;
       mode = ready.same.mode;
       target = ready.same.target;
       nonce = ready.same.nonce;
@@ -71,6 +75,8 @@ module _ {C : Type 0} (c : Meaning ContextSetting C) where
     state = ready.state;
     noted = ready.noted;
     fits = ready.fits;
+    young = ready.young;
+    passed = ready.passed;
     begun = ready.begun;
     sealed = ready.sealed;
     unsealed = ready.unsealed;

@@ -1,11 +1,15 @@
 pub mod Causes
 pub mod ClientReady
 pub mod ContextLaws
+pub mod ClientHeeding
+pub mod CredentialRefusals
 pub mod CredentialTexts
 pub mod Deliver
 pub mod LittleEndian
 pub mod Proxies
+pub mod ServerBeginning
 pub mod ServerCauses
+pub mod ServerHeeding
 pub mod ServerOpening
 pub mod ServerReady
 pub mod ServerRefusals

@@ -3,7 +3,7 @@ use Rattle.std.proofs.Common.{◌≡◌, ◌≢◌, ℕ, List, Option, None, Som
 use Rattle.sspi_types.specs.declared.credential_use.CredentialUse.TheVariants.{Inbound}
 use Rattle.sspi_types.specs.declared.error.Error.{Error}
 use Rattle.sspi_types.specs.declared.error_kind.ErrorKind.{ErrorKind}
-use Rattle.sspi_types.specs.declared.error_kind.ErrorKind.TheVariants.{InsufficientMemory, MessageAltered}
+use Rattle.sspi_types.specs.declared.error_kind.ErrorKind.TheVariants.{InsufficientMemory, MessageAltered, DowngradeDetected}
 use Rattle.sspi_names.specs.declared.credentials.CredentialsBuffers.{CredentialsBuffers}
 use Rattle.sspi_types.specs.declared.security_status.SecurityStatus.{SecurityStatus}
 use Rattle.sspi_types.specs.declared.security_status.SecurityStatus.TheVariants as statuses
@@ -18,7 +18,7 @@ use Rattle.sspi_credssp.specs.Server.{ServerView}
 use Rattle.sspi_credssp.specs.ServerCause.{ServerCause, StateCause, NegoCause, AfterCause, OverCause, known}
 use Rattle.sspi_credssp.specs.ServerStep.{Completed, HasCome}
 use Rattle.sspi_credssp.specs.ServerTurn.{IsOver}
-use Rattle.sspi_credssp.specs.Stops.{StopsIf, differs}
+use Rattle.sspi_credssp.specs.Noted.{differs, is_old, VersionStops}
 use Rattle.sspi_credssp.proofs.Causes.{stops_map, made_map, made_later}
 
 -- noting a version leaves the context and the credentials that it acquired
@@ -31,21 +31,23 @@ module _ {C : Type 0} (c : Meaning ContextSetting C) where
   -- a turn that was refused as it began
   pub server_cause_begun : {P : Type 0} (told : P → Option (List AuthIdentity)) (faults : P → ℕ) (old new : ServerView C P) (d : TsRequest) (kind : ErrorKind) →
       MadeOr old.context new.context (BeginCause c (ForServer old.mode) Inbound None kind)
-      (StopsIf (differs old.noted d.version) MessageAltered kind ⊥) →
+      (VersionStops old.least old.noted d.version kind ⊥) →
       ServerCause c told faults old d new kind
   server_cause_begun told faults old new d kind h =
-      made_map old.context new.context _ _ _ (stops_map (differs old.noted d.version) MessageAltered kind _ _ (λ none. absurd none)) h
+      made_map old.context new.context _ _ _
+      (stops_map (is_old old.least old.noted d.version) DowngradeDetected kind _ _
+      (stops_map (differs old.noted d.version) MessageAltered kind _ _ (λ none. absurd none))) h
 
   module _ {P : Type 0} (told : P → Option (List AuthIdentity)) (faults : P → ℕ) where
     -- a turn that was refused past the version check
     pub server_cause_past : {T : Type 0} (old new : ServerView C P) (d : TsRequest) (state : CredSspState) (r : Result T ServerError) →
-        differs old.noted d.version ≡ false → IsSome new.context → state ≡ old.state →
+        is_old old.least old.noted d.version ≡ false → differs old.noted d.version ≡ false → IsSome new.context → state ≡ old.state →
         IfErr r (λ refusal. refusal.error.error_type ≢ InsufficientMemory → StateCause c told faults state old d new refusal.error.error_type) →
         IfErr r (λ refusal. refusal.error.error_type ≢ InsufficientMemory → ServerCause c told faults old d new refusal.error.error_type)
-    server_cause_past old new d state (Ok x) fits begun same_state h = h
-    server_cause_past old new d state (Err refusal) fits begun same_state h = λ memory.
+    server_cause_past old new d state (Ok x) young fits begun same_state h = h
+    server_cause_past old new d state (Err refusal) young fits begun same_state h = λ memory.
         made_later old.context new.context _ _ begun
-        (rw fits (subst (λ s. StateCause c told faults s old d new refusal.error.error_type) same_state (h memory)))
+        (rw (young, fits) (subst (λ s. StateCause c told faults s old d new refusal.error.error_type) same_state (h memory)))
 
     over_cause : (s : SecurityStatus) (old : ServerView C P) (d : TsRequest) (new : ServerView C P) (kind : ErrorKind) →
         IsOver (Some s) → OverCause c told faults s old d new kind → NegoCause c told faults (Some s) old d new kind

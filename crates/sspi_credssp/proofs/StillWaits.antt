@@ -54,6 +54,7 @@ module _ {C : Type 0} (c : Meaning ContextSetting C) (laws : IsContext c) where
             credentials = ready2.same.credentials;
             delegation = ready2.same.delegation;
             version = ready2.same.version;
+            least = ready2.same.least;
             mode = ready2.same.mode;
             target = ready2.same.target;
             nonce = ready2.same.nonce;
@@ -62,6 +63,8 @@ module _ {C : Type 0} (c : Meaning ContextSetting C) (laws : IsContext c) where
           state = ready2.state;
           noted = ready2.noted;
           fits = ready2.fits;
+          young = ready2.young;
+          passed = ready2.passed;
           begun = ready2.begun;
           sealed = ready2.sealed;
           unsealed = ready2.unsealed;

@@ -15,6 +15,8 @@ pub record ClientView (C : Type 0) : Type 0 where
   pub credentials : Credentials
   pub delegation : CredSspMode
   pub version : ℕ
+  -- the least version of a server that it takes
+  pub least : ℕ
   pub mode : ClientMode
   -- the name of the service
   pub target : List ℕ

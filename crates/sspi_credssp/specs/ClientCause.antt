@@ -3,7 +3,7 @@ use Rattle.std.specs.Prelude.{◌≡◌, ℕ, ◌-◌, List, Option, None, Some,
 use Rattle.sspi_types.specs.declared.credential_use.CredentialUse.TheVariants.{Outbound}
 use Rattle.sspi_types.specs.declared.error.Error.{Error}
 use Rattle.sspi_types.specs.declared.error_kind.ErrorKind.{ErrorKind}
-use Rattle.sspi_types.specs.declared.error_kind.ErrorKind.TheVariants.{OutOfSequence, InvalidToken, MessageAltered, InternalError}
+use Rattle.sspi_types.specs.declared.error_kind.ErrorKind.TheVariants.{OutOfSequence, InvalidToken, MessageAltered, InternalError, DowngradeDetected}
 use Rattle.sspi_types.specs.declared.nstatus.NStatusCode.{NStatusCode}
 use Rattle.sspi_types.specs.declared.security_status.SecurityStatus.{SecurityStatus}
 use Rattle.sspi_types.specs.declared.security_status.SecurityStatus.TheVariants as statuses
@@ -19,14 +19,10 @@ use Rattle.sspi_credssp.specs.Context.{ContextSetting, ForClient}
 use Rattle.sspi_credssp.specs.Counts.{is_waiting_in}
 use Rattle.sspi_credssp.specs.Credentials.{delegated_text}
 use Rattle.sspi_credssp.specs.Exchange.{OpensOther, BlobStops}
+use Rattle.sspi_credssp.specs.Noted.{is_altered_in, is_old_in}
 use Rattle.sspi_credssp.specs.PublicKey.{prescribed}
 use Rattle.sspi_credssp.specs.Requests.{is_code}
-use Rattle.sspi_credssp.specs.Stops.{StopsIf, differs}
-
--- the version differs from the noted one; in its first turn, which makes the context, a client looks at none
-abbrev pub is_altered : {C : Type 0} → Option C → Option ℕ → ℕ → Bool
-is_altered None noted version = false
-is_altered (Some m) noted version = differs noted version
+use Rattle.sspi_credssp.specs.Stops.{StopsIf}
 
 module _ {C : Type 0} (c : Meaning ContextSetting C) where
   -- the NTSTATUS code of a refusal: the peer's error code, where that is the reason
@@ -80,9 +76,10 @@ module _ {C : Type 0} (c : Meaning ContextSetting C) where
   ClientCause old d new kind =
       StopsIf (is_waiting_in c old.context) OutOfSequence kind
       (StopsIf (is_code d.error_code) InvalidToken kind
-      (StopsIf (is_altered old.context old.noted d.version) MessageAltered kind
+      (StopsIf (is_old_in old.context old.least old.noted d.version) DowngradeDetected kind
+      (StopsIf (is_altered_in old.context old.noted d.version) MessageAltered kind
       (MadeOr old.context new.context (BeginCause c (ForClient old.mode) Outbound (Some old.credentials) kind)
-      (StateCause old.state d new kind))))
+      (StateCause old.state d new kind)))))
 
   abbrev pub KeptCause : Option TsRequest → ClientView C → ErrorKind → Type 0
   KeptCause None new kind = kind ≡ OutOfSequence

@@ -1,5 +1,5 @@
 -- A client's turn (MS-CSSP 3.1.5.1).
-use Rattle.std.specs.Prelude.{◌≡◌, ℕ, ◌+◌, ◌-◌, ◌||◌, List, [], Option, None, Some, IsSome, Result, Ok, Err, Bool, true, false, if◌then◌else◌}
+use Rattle.std.specs.Prelude.{◌≡◌, ℕ, ◌+◌, ◌-◌, ◌||◌, List, [], Option, None, Some, is_some, IsSome, Result, Ok, Err, Bool, true, false, if◌then◌else◌}
 use Rattle.sspi_types.specs.declared.error.Error.{Error}
 use Rattle.sspi_types.specs.declared.security_status.SecurityStatus.{SecurityStatus}
 use Rattle.sspi_types.specs.declared.security_status.SecurityStatus.TheVariants as statuses
@@ -17,7 +17,7 @@ use Rattle.sspi_credssp.specs.Client.{ClientView}
 use Rattle.sspi_credssp.specs.Context.{ContextSetting}
 use Rattle.sspi_credssp.specs.Counts.{sealed_in, unsealed_in, IsUnusedIn, SameBut, SealsIn, OpensIn, is_waiting_in}
 use Rattle.sspi_credssp.specs.Credentials.{delegated_text, IfText}
-use Rattle.sspi_credssp.specs.Noted.{noted_next}
+use Rattle.sspi_credssp.specs.Noted.{is_altered_in, is_old_in, noted_in}
 use Rattle.sspi_credssp.specs.PublicKey.{prescribed}
 use Rattle.sspi_credssp.specs.Requests.{unless_empty, is_code, IsLong}
 use Rattle.sspi_credssp.specs.Turn.{UnlessRefused, AtNoted, FitsNoted, ClientFrame}
@@ -95,7 +95,7 @@ module _ {C : Type 0} (c : Meaning ContextSetting C) where
 
   pub record IsClientTurn (f : ClientFrame C) (t : Turn) : Type 0 where
     pub code : UnlessRefused t.outcome (is_code t.delivered.error_code ≡ false)
-    pub version : UnlessRefused t.outcome (FitsNoted f.noted t.delivered.version)
+    pub version : UnlessRefused t.outcome (FitsNoted f.looks f.noted t.delivered.version)
     pub acts : ClientActs f t
     pub reply : ClientReplies f t t.outcome
 
@@ -110,6 +110,7 @@ module _ {C : Type 0} (c : Meaning ContextSetting C) where
     state = old.state;
     made = sealed_in c new.context - 1;
     opened = unsealed_in c new.context - 1;
+    looks = is_some old.context;
     noted = new.noted;
     context = new.context;
   }
@@ -123,6 +124,7 @@ module _ {C : Type 0} (c : Meaning ContextSetting C) where
     pub credentials : new.credentials ≡ old.credentials
     pub delegation : new.delegation ≡ old.delegation
     pub version : new.version ≡ old.version
+    pub least : new.least ≡ old.least
     pub mode : new.mode ≡ old.mode
     pub target : new.target ≡ old.target
     pub nonce : new.nonce ≡ old.nonce
@@ -135,10 +137,13 @@ module _ {C : Type 0} (c : Meaning ContextSetting C) where
   abbrev pub StartsUnused : ClientView C → Type 0
   StartsUnused old = old.state ≡ NegoToken → IsUnusedIn c old.context
 
+  -- the version that is noted where a call looks at the delivered one
+  abbrev pub noted_next : ClientView C → TsRequest → Option ℕ
+  noted_next old d = noted_in old.context old.least old.noted d.version
+
   -- the version that is noted after a call: a call that is refused before it looks at the version notes none
   abbrev pub noted_after : ClientView C → TsRequest → Option ℕ
-  noted_after old d =
-      if is_waiting_in c old.context || is_code d.error_code then old.noted else noted_next old.context old.noted d.version
+  noted_after old d = if is_waiting_in c old.context || is_code d.error_code then old.noted else noted_next old d
 
   -- how far a turn moves the client
   pub record ClientMoves (old : ClientView C) (d : TsRequest) (out : Outcome) (new : ClientView C) : Type 0 where
@@ -146,9 +151,9 @@ module _ {C : Type 0} (c : Meaning ContextSetting C) where
     pub handle : KeepsHandle old new
     pub state : new.state ≡ state_after old.state out new.acts.proved
     pub noted : new.noted ≡ noted_after old d
-    pub noted_going : UnlessRefused out (new.noted ≡ noted_next old.context old.noted d.version)
-    pub noted_proved : new.acts.proved ≡ true → new.noted ≡ noted_next old.context old.noted d.version
-    pub noted_checked : new.acts.checked ≡ true → new.noted ≡ noted_next old.context old.noted d.version
+    pub noted_going : UnlessRefused out (new.noted ≡ noted_next old d)
+    pub noted_proved : new.acts.proved ≡ true → new.noted ≡ noted_next old d
+    pub noted_checked : new.acts.checked ≡ true → new.noted ≡ noted_next old d
     pub begun : UnlessRefused out (IsSome new.context)
     pub sealed : StartsUnused old → sealed_in c new.context ≡ sealed_in c old.context + sealed_by new.acts
     pub unsealed : StartsUnused old → unsealed_in c new.context ≡ unsealed_in c old.context + unsealed_by new.acts
@@ -205,8 +210,10 @@ module _ {C : Type 0} (c : Meaning ContextSetting C) where
     pub same : SameClient start now
     pub handle : KeepsHandle start now
     pub state : now.state ≡ start.state
-    pub noted : now.noted ≡ noted_next start.context start.noted d.version
-    pub fits : FitsNoted now.noted d.version
+    pub noted : now.noted ≡ noted_next start d
+    pub fits : FitsNoted (is_some start.context) now.noted d.version
+    pub young : is_old_in start.context start.least start.noted d.version ≡ false
+    pub passed : is_altered_in start.context start.noted d.version ≡ false
     pub begun : IsSome now.context
     pub sealed : StartsUnused start → sealed_in c now.context ≡ sealed_in c start.context
     pub unsealed : StartsUnused start → unsealed_in c now.context ≡ unsealed_in c start.context

@@ -9,6 +9,7 @@ pub mod Counts
 pub mod Credentials
 pub mod ErrorRequest
 pub mod Exchange
+pub mod Heeded
 pub mod Noted
 pub mod PackageName
 pub mod Proxy

@@ -12,6 +12,8 @@ pub record ServerView (C P : Type 0) : Type 0 where
   pub public_key : List ℕ
   pub proxy : P
   pub version : ℕ
+  -- the least version of a client that it takes
+  pub least : ℕ
   pub mode : ServerMode
   pub state : CredSspState
   pub context : Option C

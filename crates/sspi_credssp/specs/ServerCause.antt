@@ -19,12 +19,13 @@ use Rattle.sspi_credssp.specs.Begun.{BeginCause, IfContext, MadeOr}
 use Rattle.sspi_credssp.specs.Context.{ContextSetting, ForServer}
 use Rattle.sspi_credssp.specs.Credentials.{delegated_identity}
 use Rattle.sspi_credssp.specs.Exchange.{OpensOther, BlobStops}
+use Rattle.sspi_credssp.specs.Noted.{VersionStops}
 use Rattle.sspi_credssp.specs.Proxy.{counted_on, AreCandidates}
 use Rattle.sspi_credssp.specs.PublicKey.{prescribed}
 use Rattle.sspi_credssp.specs.Requests.{nonce_of}
 use Rattle.sspi_credssp.specs.Server.{ServerView}
 use Rattle.sspi_credssp.specs.ServerStep.{Unknown, Identified, Completed, HasCome}
-use Rattle.sspi_credssp.specs.Stops.{StopsIf, differs}
+use Rattle.sspi_credssp.specs.Stops.{StopsIf}
 
 -- from version 5 on the nonce must be there
 abbrev pub lacks_nonce : Bool → Option (List ℕ) → Bool
@@ -113,5 +114,5 @@ module _ {C : Type 0} (c : Meaning ContextSetting C) where
     abbrev pub ServerCause : ServerView C P → TsRequest → ServerView C P → ErrorKind → Type 0
     ServerCause old d new kind =
         MadeOr old.context new.context (BeginCause c (ForServer old.mode) Inbound None kind)
-        (StopsIf (differs old.noted d.version) MessageAltered kind
+        (VersionStops old.least old.noted d.version kind
         (StateCause old.state old d new kind))

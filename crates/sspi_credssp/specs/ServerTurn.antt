@@ -1,5 +1,6 @@
 -- A server's turn (MS-CSSP 3.1.5.2).
 use Rattle.std.specs.Prelude.{◌≡◌, ◌≢◌, ℕ, ◌+◌, ◌-◌, List, [], length, Option, None, Some, IsSome, Result, Ok, Err, Bool, true, false, nat_lt}
+use Rattle.sspi_types.specs.declared.credential_use.CredentialUse.TheVariants.{Inbound}
 use Rattle.sspi_types.specs.declared.error.Error.{Error}
 use Rattle.sspi_types.specs.declared.error_kind.ErrorKind.{ErrorKind}
 use Rattle.sspi_types.specs.declared.security_status.SecurityStatus.{SecurityStatus}
@@ -16,14 +17,15 @@ use Rattle.sspi_credssp.specs.declared.server_state.ServerState.TheVariants as e
 use Rattle.sspi_credssp.specs.declared.state.CredSspState.{CredSspState}
 use Rattle.sspi_credssp.specs.declared.state.CredSspState.TheVariants.{NegoToken, PubKeyInfo, AuthInfo, Final}
 use Rattle.sspi_credssp.specs.Acts.{no_acts, count_of, sealed_by, unsealed_by}
-use Rattle.sspi_credssp.specs.Context.{ContextSetting}
-use Rattle.sspi_credssp.specs.Counts.{sealed_in, unsealed_in, IsUnusedIn, SameBut, SealsIn, OpensIn}
+use Rattle.sspi_credssp.specs.Begun.{Begun}
+use Rattle.sspi_credssp.specs.Context.{ContextSetting, ForServer}
+use Rattle.sspi_credssp.specs.Counts.{sealed_in, unsealed_in, IsUnusedIn, SameBut, cleared, SealsIn, OpensIn}
 use Rattle.sspi_credssp.specs.Exchange.{OpensIdentity}
 use Rattle.sspi_credssp.specs.ErrorRequest.{error_request, version_back}
 use Rattle.sspi_credssp.specs.PublicKey.{prescribed}
 use Rattle.sspi_credssp.specs.Requests.{IsLong, nonce_of}
 use Rattle.sspi_credssp.specs.Server.{ServerView}
-use Rattle.sspi_credssp.specs.Stops.{differs}
+use Rattle.sspi_credssp.specs.Noted.{differs, is_old, noted_with}
 use Rattle.sspi_credssp.specs.Turn.{UnlessRefused, AtNoted, ServerFrame}
 use Rattle.sspi_credssp.specs.declared.turn.End.TheVariants.{Server}
 use Rattle.sspi_credssp.specs.declared.turn.Outcome.{Outcome}
@@ -49,10 +51,6 @@ abbrev pub HasNonce : Bool → Option (List ℕ) → Type 0
 HasNonce true sent_nonce = Unit {0}
 HasNonce false None = ⊥
 HasNonce false (Some sent_nonce) = length sent_nonce ≡ 32
-
-abbrev pub noted_first : Option ℕ → ℕ → Option ℕ
-noted_first None version = Some version
-noted_first (Some noted) version = Some noted
 
 -- the state after a turn: a reply with a proof is answered by the credentials, one at the end of the authentication by
 -- the client's proof
@@ -142,6 +140,13 @@ module _ {C : Type 0} (c : Meaning ContextSetting C) where
     pub acts : ServerActs f t
     pub reply : ServerReplies f t t.outcome
 
+  -- one context of two, but for its counts; or none was, and this holds of the other
+  abbrev pub UnlessMade : Option C → Option C → (C → Type 0) → Type 0
+  UnlessMade None None Made = Unit {0}
+  UnlessMade None (Some m) Made = Made m
+  UnlessMade (Some m) None Made = ⊥
+  UnlessMade (Some m) (Some m2) Made = cleared c m2 ≡ cleared c m
+
   -- the field was the last that the context opened, and it holds this identity
   abbrev pub HoldsIdentity : Option C → Option (List ℕ) → AuthIdentity → Type 0
   HoldsIdentity None field identity = ⊥
@@ -168,6 +173,7 @@ module _ {C : Type 0} (c : Meaning ContextSetting C) where
     pub record SameServer (old new : ServerView C P) : Type 0 where
       pub public_key : new.public_key ≡ old.public_key
       pub version : new.version ≡ old.version
+      pub least : new.least ≡ old.least
       pub mode : new.mode ≡ old.mode
 
     -- a context and the credentials that it acquired are kept
@@ -178,23 +184,28 @@ module _ {C : Type 0} (c : Meaning ContextSetting C) where
     abbrev pub StartsUnused : ServerView C P → Type 0
     StartsUnused old = old.state ≡ NegoToken → IsUnusedIn c old.context
 
+    -- the context is the one that the server had, but for its counts, or a new one that has acquired credentials; or there is none
+    abbrev pub IsUnstepped : ServerView C P → ServerView C P → Type 0
+    IsUnstepped old new = UnlessMade old.context new.context
+        (λ m. Begun c old.context old.handle (ForServer old.mode) Inbound None new.handle m)
+
     -- how far a turn moves the server
     pub record ServerMoves (old : ServerView C P) (d : TsRequest) (out : Outcome) (new : ServerView C P) : Type 0 where
       pub same : SameServer old new
       pub handle : KeepsHandle old new
       pub state : new.state ≡ server_state_after old.state out new.acts.proved new.acts.status
-      pub noted : IsSome new.context → new.noted ≡ noted_first old.noted d.version
+      pub noted : IsSome new.context → new.noted ≡ noted_with old.least old.noted d.version
       pub unnoted : new.context ≡ None → new.noted ≡ old.noted
       pub begun : UnlessRefused out (IsSome new.context)
-      pub noted_proved : new.acts.proved ≡ true → new.noted ≡ noted_first old.noted d.version
-      pub noted_checked : new.acts.checked ≡ true → new.noted ≡ noted_first old.noted d.version
-      pub noted_opened : new.acts.opened ≡ true → new.noted ≡ noted_first old.noted d.version
+      pub noted_proved : new.acts.proved ≡ true → new.noted ≡ noted_with old.least old.noted d.version
+      pub noted_checked : new.acts.checked ≡ true → new.noted ≡ noted_with old.least old.noted d.version
+      pub noted_opened : new.acts.opened ≡ true → new.noted ≡ noted_with old.least old.noted d.version
       pub sealed : StartsUnused old → sealed_in c new.context ≡ sealed_in c old.context + sealed_by new.acts
       pub unsealed : StartsUnused old → unsealed_in c new.context ≡ unsealed_in c old.context + unsealed_by new.acts
       -- no step of the context follows its first message, but in the authentication
       pub bare : OnceNegotiated old.state (SameBut c old.context new.context)
-      -- a call that took no step only has the context count, and one whose step gave no answer has no token
-      pub unstepped : new.acts.negotiated ≡ false → SameBut c old.context new.context
+      -- a call that took no step makes a context at most, or has it count; and one whose step gave no answer has no token
+      pub unstepped : new.acts.negotiated ≡ false → IsUnstepped old new
       pub unanswered : new.acts.status ≡ None → new.output ≡ []
 
     -- A turn on d that began at `start` has come past the version check. What follows speaks of the context as it is now.
@@ -202,9 +213,10 @@ module _ {C : Type 0} (c : Meaning ContextSetting C) where
       pub same : SameServer start now
       pub handle : KeepsHandle start now
       pub state : now.state ≡ start.state
-      pub noted : now.noted ≡ noted_first start.noted d.version
+      pub noted : now.noted ≡ noted_with start.least start.noted d.version
       pub fits : AtNoted now.noted (λ noted. d.version ≡ noted)
-      pub passed : differs now.noted d.version ≡ false
+      pub young : is_old start.least start.noted d.version ≡ false
+      pub passed : differs start.noted d.version ≡ false
       pub begun : IsSome now.context
       pub sealed : StartsUnused start → sealed_in c now.context ≡ sealed_in c start.context
       pub unsealed : StartsUnused start → unsealed_in c now.context ≡ unsealed_in c start.context
@@ -254,8 +266,9 @@ module _ {C : Type 0} (c : Meaning ContextSetting C) where
     -- a call that is refused before it looks at the version, or by it, keeps what the server had, or the new context
     pub record BeginRefused (old : ServerView C P) (version : ℕ) (new : ServerView C P) : Type 0 where
       pub handle : KeepsHandle old new
-      pub noted : IsSome new.context → new.noted ≡ noted_first old.noted version
+      pub noted : IsSome new.context → new.noted ≡ noted_with old.least old.noted version
       pub unnoted : new.context ≡ None → new.noted ≡ old.noted
+      pub unstepped : IsUnstepped old new
       pub back : (own : ℕ) → version_back new.context new.noted version own ≡ version
       pub sealed : StartsUnused old → sealed_in c new.context ≡ sealed_in c old.context
       pub unsealed : StartsUnused old → unsealed_in c new.context ≡ unsealed_in c old.context

@@ -1,5 +1,5 @@
 -- One turn of an end: the message that it has for the peer, and what the end is at it.
-use Rattle.std.specs.Prelude.{◌≡◌, ℕ, List, Option, None, Some}
+use Rattle.std.specs.Prelude.{◌≡◌, ℕ, List, Option, None, Some, Bool, true, false}
 use Rattle.sspi_names.specs.declared.credentials.Credentials.{Credentials}
 use Rattle.sspi_tsreq.specs.declared.mode.CredSspMode.{CredSspMode}
 use Rattle.sspi_tsreq.specs.declared.request.TsRequest.{TsRequest}
@@ -26,13 +26,14 @@ abbrev pub AtNoted : Option ℕ → (ℕ → Type 0) → Type 0
 AtNoted None P = ⊥
 AtNoted (Some version) P = P version
 
--- the delivered version is the noted one, where one is noted
-abbrev pub FitsNoted : Option ℕ → ℕ → Type 0
-FitsNoted None version = Unit {0}
-FitsNoted (Some noted) version = version ≡ noted
+-- a turn that looks at its peer's version notes it, or finds that it is the noted one
+abbrev pub FitsNoted : Bool → Option ℕ → ℕ → Type 0
+FitsNoted false noted version = Unit {0}
+FitsNoted true noted version = AtNoted noted (λ n. version ≡ n)
 
 -- What a client is at a turn: its own values; its state before the turn; the numbers that the messages of this turn have
--- among those that its context sealed and opened; the version that is noted once the turn is over; and its context.
+-- among those that its context sealed and opened; whether it looks at the delivered version, as in each turn but its first;
+-- the version that is noted once the turn is over; and its context.
 pub record ClientFrame (C : Type 0) : Type 0 where
   pub public_key : List ℕ
   pub nonce : List ℕ
@@ -42,6 +43,7 @@ pub record ClientFrame (C : Type 0) : Type 0 where
   pub state : CredSspState
   pub made : ℕ
   pub opened : ℕ
+  pub looks : Bool
   pub noted : Option ℕ
   pub context : Option C
 

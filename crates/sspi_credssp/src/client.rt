@@ -6,15 +6,15 @@ ghost use Rattle.sspi_credssp.specs.Acts.{no_acts};
 ghost use Rattle.sspi_credssp.specs.Client.{ClientView};
 ghost use Rattle.sspi_credssp.specs.Context.{either, ForClient};
 ghost use Rattle.sspi_credssp.specs.Counts.{IsUnusedIn, is_waiting_in, left_in};
-ghost use Rattle.sspi_credssp.specs.Noted.{noted_next};
+ghost use Rattle.sspi_credssp.specs.Noted.{default_least, is_altered_in, is_old_in, noted_in, VersionStops};
 ghost use Rattle.sspi_credssp.specs.Requests.{is_code};
-ghost use Rattle.sspi_credssp.specs.Stops.{StopsIf, differs};
-ghost use Rattle.sspi_credssp.specs.Turn.{FitsNoted};
+ghost use Rattle.sspi_credssp.specs.Stops.{StopsIf};
 
 use crate::acts::Acts;
 use crate::client_state::{ClientState, Progress};
 use crate::context::SspiContext;
 use crate::mode::ClientMode;
+use crate::peer_version::{DEFAULT_LEAST_VERSION, note_version};
 use crate::request::at_version;
 use crate::state::CredSspState;
 use sspi_mech::{Mechanism, Reply};
@@ -33,6 +33,7 @@ pub struct CredSspClient<N, K> {
     pub(crate) credentials: Credentials,
     pub(crate) cred_ssp_mode: CredSspMode,
     pub(crate) ts_request_version: u32,
+    pub(crate) least_version: u32,
     pub(crate) client_mode: ClientMode,
     pub(crate) service_principal_name: Text,
     pub(crate) client_nonce: [u8; 32],
@@ -56,6 +57,7 @@ impl<N, K> Model for CredSspClient<N, K> {
       credentials = a.credentials;
       delegation = a.cred_ssp_mode;
       version = a.ts_request_version;
+      least = a.least_version;
       mode = a.client_mode;
       target = a.service_principal_name;
       nonce = a.client_nonce;
@@ -86,7 +88,7 @@ impl<N, K> CredSspClient<N, K> {
     ) -> CredSspClient<N, K>
         ensures fresh { IsFreshClient result }
         ensures values { (result.public_key ≡ public_key.items) × (result.credentials ≡ credentials) × (result.delegation ≡ cred_ssp_mode)
-            × (result.version ≡ 6) × (result.mode ≡ client_mode) × (result.target ≡ string_bytes service_principal_name) × (result.nonce ≡ client_nonce) }
+            × (result.version ≡ 6) × (result.least ≡ default_least) × (result.mode ≡ client_mode) × (result.target ≡ string_bytes service_principal_name) × (result.nonce ≡ client_nonce) }
     {
         CredSspClient::new_with_version(
             alloc,
@@ -117,7 +119,7 @@ impl<N, K> CredSspClient<N, K> {
     ) -> CredSspClient<N, K>
         ensures fresh { IsFreshClient result }
         ensures values { (result.public_key ≡ public_key.items) × (result.credentials ≡ credentials) × (result.delegation ≡ cred_ssp_mode)
-            × (result.version ≡ ts_request_version) × (result.mode ≡ client_mode) × (result.target ≡ string_bytes service_principal_name) × (result.nonce ≡ client_nonce) }
+            × (result.version ≡ ts_request_version) × (result.least ≡ default_least) × (result.mode ≡ client_mode) × (result.target ≡ string_bytes service_principal_name) × (result.nonce ≡ client_nonce) }
     {
         CredSspClient {
             alloc,
@@ -125,6 +127,7 @@ impl<N, K> CredSspClient<N, K> {
             credentials,
             cred_ssp_mode,
             ts_request_version,
+            least_version: DEFAULT_LEAST_VERSION,
             client_mode,
             service_principal_name: Text::from_string(service_principal_name),
             client_nonce,
@@ -136,6 +139,17 @@ impl<N, K> CredSspClient<N, K> {
             output: Bytes::new(alloc),
             suspended: None,
         }
+    }
+
+    /// The same client, which refuses a server whose first version is below this; 0 takes every version. Without this call
+    /// the least is 5: below it the proofs are the key itself and one more than it (MS-CSSP 3.1.5), which whoever relays the
+    /// exchange can choose. Takes no memory.
+    pub fn with_least_version(self, least: u32) -> CredSspClient<N, K>
+        ensures { result ≡ record self { least = least } }
+    {
+        let mut client = self;
+        client.least_version = least;
+        client
     }
 
     /// What the last call did on the security context, also where it was refused.
@@ -157,9 +171,10 @@ impl<N, K> CredSspClient<N, K> {
 
 impl<N: Mechanism, K: Mechanism> CredSspClient<N, K> {
     ghost use Rattle.sspi_credssp.specs.Begun.{Begun, BeginCause, IfContext, MadeOr};
-    ghost use Rattle.sspi_credssp.specs.ClientCause.{ClientCause, ResumeCause, StateCause, is_altered, status_of};
+    ghost use Rattle.sspi_credssp.specs.ClientCause.{ClientCause, ResumeCause, StateCause, status_of};
     ghost use Rattle.sspi_credssp.specs.ClientStep.{Asked, HasStepped, StepsTo, OnSuspended};
     ghost use Rattle.sspi_credssp.specs.ClientTurn.{ClientGoes, IsReady, IsUnderway, SameClient};
+    ghost use Rattle.sspi_credssp.specs.Heeded.{ClientHeeds};
 
     /// Whether a turn is suspended.
     pub fn waiting(&self) -> bool
@@ -184,8 +199,9 @@ impl<N: Mechanism, K: Mechanism> CredSspClient<N, K> {
     /// Takes the server's message and makes the client's next one; the first call takes a default request.
     ///
     /// Refused: `OutOfSequence` while a turn is suspended and once the last message was made; `InvalidToken`, with the code
-    /// as its status, where the server reports an error; `MessageAltered` where the server changes its version or its proof
-    /// is not the right one; `InvalidToken` where the proof is absent or too short; `InternalError` where the authentication
+    /// as its status, where the server reports an error; `DowngradeDetected` where no version of the server is noted yet and
+    /// this one is below the least, which then is not noted; `MessageAltered` where the server changes its version or its
+    /// proof is not the right one; `InvalidToken` where the proof is absent or too short; `InternalError` where the authentication
     /// ends before a version was noted; and with the kinds of the context, of the credentials' text, and want of memory. After
     /// a refusal the state, the mode and the acquired credentials are as before, and the request is dropped.
     pub fn process(&mut self, ts_request: TsRequest) -> Result<Progress, Error>
@@ -196,8 +212,9 @@ impl<N: Mechanism, K: Mechanism> CredSspClient<N, K> {
         ensures code { is_waiting_in (either N.meaning K.meaning) self.old.context ≡ false → is_code ts_request.error_code ≡ true →
             IsErr result × IfErr result (λ error. error.error_type ≡ ErrorKind.InvalidToken) × (self.new ≡ record self.old { acts = no_acts; output = [] }) }
         ensures altered { is_waiting_in (either N.meaning K.meaning) self.old.context ≡ false → is_code ts_request.error_code ≡ false →
-            is_altered self.old.context self.old.noted ts_request.version ≡ true →
+            is_altered_in self.old.context self.old.noted ts_request.version ≡ true →
             IsErr result × (self.new ≡ record self.old { acts = no_acts; output = [] }) }
+        ensures heeded { ClientHeeds (either N.meaning K.meaning) self.old ts_request result self.new }
         ensures unmade { self.new.context ≡ None → self.new ≡ record self.old { acts = no_acts; output = [] } }
         ensures status { IfErr result (λ error. error.nstatus ≡ status_of (either N.meaning K.meaning) self.old ts_request) }
         ensures waited { is_waiting_in (either N.meaning K.meaning) self.old.context ≡ true →
@@ -301,11 +318,15 @@ impl<N: Mechanism, K: Mechanism> CredSspClient<N, K> {
         ensures begun { let c = either N.meaning K.meaning in OnOk result (IfContext self.new.context
             (Begun c self.old.context self.old.handle (ForClient self.old.mode) purposes.Outbound (Some self.old.credentials) self.new.handle)) }
         ensures err { OnErr result (self.new ≡ self.old) }
-        ensures noted { OnErr result (self.new.noted ≡ noted_next self.old.context self.old.noted version) }
-        ensures passed { OnOk result ((is_altered self.old.context self.old.noted version ≡ false) × IsSome self.new.context) }
+        ensures noted { OnErr result (self.new.noted ≡ noted_in self.old.context self.old.least self.old.noted version) }
+        ensures passed { OnOk result (IsSome self.new.context × (is_altered_in self.old.context self.old.noted version ≡ false)
+            × (is_old_in self.old.context self.old.least self.old.noted version ≡ false)) }
         ensures cause { let c = either N.meaning K.meaning in IfErr result (λ error. error.error_type ≢ ErrorKind.InsufficientMemory →
-            StopsIf (is_altered self.old.context self.old.noted version) ErrorKind.MessageAltered error.error_type
-            (MadeOr self.old.context self.new.context (BeginCause c (ForClient self.old.mode) purposes.Outbound (Some self.old.credentials) error.error_type) ⊥)) }
+            StopsIf (is_old_in self.old.context self.old.least self.old.noted version) ErrorKind.DowngradeDetected error.error_type
+            (StopsIf (is_altered_in self.old.context self.old.noted version) ErrorKind.MessageAltered error.error_type
+            (MadeOr self.old.context self.new.context (BeginCause c (ForClient self.old.mode) purposes.Outbound (Some self.old.credentials) error.error_type) ⊥))) }
+        ensures exact { IfErr result (λ error. is_old_in self.old.context self.old.least self.old.noted version ≡ true →
+            error.error_type ≡ ErrorKind.DowngradeDetected) }
         ensures plain { IfErr result (λ error. error.nstatus ≡ None) }
     {
         match &self.context {
@@ -313,7 +334,7 @@ impl<N: Mechanism, K: Mechanism> CredSspClient<N, K> {
                 Ok(()) => Ok(()),
                 Err(error) => Err(error),
             },
-            Some(_) => self.note_version(version),
+            Some(_) => note_version(&mut self.peer_version, self.least_version, version),
         }
     }
 
@@ -343,27 +364,6 @@ impl<N: Mechanism, K: Mechanism> CredSspClient<N, K> {
                 Ok(())
             }
             Err(error) => Err(error),
-        }
-    }
-
-    fn note_version(&mut self, version: u32) -> Result<(), Error>
-        requires { IsSome self.old.context }
-        ensures ok { OnOk result (self.new ≡ record self.old { noted = noted_next self.old.context self.old.noted version }) }
-        ensures fits { OnOk result (FitsNoted self.new.noted version) }
-        ensures passed { OnOk result (differs self.old.noted version ≡ false) }
-        ensures err { OnErr result (self.new ≡ self.old) }
-        ensures noted { OnErr result (self.new.noted ≡ noted_next self.old.context self.old.noted version) }
-        ensures altered { OnErr result (differs self.old.noted version ≡ true) }
-        ensures kind { IfErr result (λ error. error.error_type ≡ ErrorKind.MessageAltered) }
-        ensures plain { IfErr result (λ error. error.nstatus ≡ None) }
-    {
-        match self.peer_version {
-            None => {
-                self.peer_version = Some(version);
-                Ok(())
-            }
-            Some(noted) if noted == version => Ok(()),
-            Some(_) => Err(Error::new(ErrorKind::MessageAltered, Reason::PeerVersion)),
         }
     }
 }

@@ -21,6 +21,7 @@ mod credentials;
 pub mod error_code;
 pub mod failing_proxy;
 pub mod mode;
+mod peer_version;
 mod proof;
 pub mod proxy;
 pub mod public_key;

@@ -4,12 +4,12 @@ ghost use Rattle.sspi_credssp.specs.Acts.{no_acts};
 ghost use Rattle.sspi_credssp.specs.Begun.{Begun, BeginCause, IfContext, MadeOr};
 ghost use Rattle.sspi_credssp.specs.Context.{either, ForServer};
 ghost use Rattle.sspi_credssp.specs.Counts.{IsUnusedIn};
-ghost use Rattle.sspi_credssp.specs.Stops.{StopsIf, differs};
-ghost use Rattle.sspi_credssp.specs.Turn.{AtNoted};
+ghost use Rattle.sspi_credssp.specs.Noted.{default_least, differs, is_old, noted_with, VersionStops};
 
 use crate::acts::Acts;
 use crate::context::SspiContext;
 use crate::mode::ServerMode;
+use crate::peer_version::{DEFAULT_LEAST_VERSION, note_version};
 use crate::proxy::CredentialsProxy;
 use crate::request::at_version;
 use crate::server_refusal::refusal;
@@ -30,6 +30,7 @@ pub struct CredSspServer<N, K, C> {
     pub(crate) public_key: Bytes,
     pub(crate) credentials: C,
     pub(crate) ts_request_version: u32,
+    pub(crate) least_version: u32,
     pub(crate) server_mode: ServerMode,
     pub(crate) state: CredSspState,
     pub(crate) context: Option<SspiContext<N, K>>,
@@ -49,6 +50,7 @@ impl<N, K, C> Model for CredSspServer<N, K, C> {
       public_key = a.public_key;
       proxy = a.credentials;
       version = a.ts_request_version;
+      least = a.least_version;
       mode = a.server_mode;
       state = a.state;
       context = a.context;
@@ -72,7 +74,7 @@ impl<N, K, C> CredSspServer<N, K, C> {
         client_mode: ServerMode,
     ) -> CredSspServer<N, K, C>
         ensures fresh { IsFreshServer result }
-        ensures values { (result.public_key ≡ public_key.items) × (result.proxy ≡ credentials) × (result.version ≡ 6) × (result.mode ≡ client_mode) }
+        ensures values { (result.public_key ≡ public_key.items) × (result.proxy ≡ credentials) × (result.version ≡ 6) × (result.least ≡ default_least) × (result.mode ≡ client_mode) }
     {
         CredSspServer::new_with_version(alloc, public_key, credentials, 6, client_mode)
     }
@@ -89,13 +91,15 @@ impl<N, K, C> CredSspServer<N, K, C> {
         client_mode: ServerMode,
     ) -> CredSspServer<N, K, C>
         ensures fresh { IsFreshServer result }
-        ensures values { (result.public_key ≡ public_key.items) × (result.proxy ≡ credentials) × (result.version ≡ ts_request_version) × (result.mode ≡ client_mode) }
+        ensures values { (result.public_key ≡ public_key.items) × (result.proxy ≡ credentials) × (result.version ≡ ts_request_version)
+            × (result.least ≡ default_least) × (result.mode ≡ client_mode) }
     {
         CredSspServer {
             alloc,
             public_key: Bytes::from_vec(public_key),
             credentials,
             ts_request_version,
+            least_version: DEFAULT_LEAST_VERSION,
             server_mode: client_mode,
             state: CredSspState::NegoToken,
             context: None,
@@ -104,6 +108,17 @@ impl<N, K, C> CredSspServer<N, K, C> {
             acts: Acts::none(),
             output: Bytes::new(alloc),
         }
+    }
+
+    /// The same server, which refuses a client whose first version is below this; 0 takes every version. Without this call
+    /// the least is 5: below it the proofs are the key itself and one more than it (MS-CSSP 3.1.5), which whoever relays the
+    /// exchange can choose. Takes no memory.
+    pub fn with_least_version(self, least: u32) -> CredSspServer<N, K, C>
+        ensures { result ≡ record self { least = least } }
+    {
+        let mut server = self;
+        server.least_version = least;
+        server
     }
 
     /// What the last call did on the security context, also where it was refused.
@@ -123,14 +138,16 @@ impl<N, K, C> CredSspServer<N, K, C> {
 }
 
 impl<N: Mechanism, K: Mechanism, C: CredentialsProxy> CredSspServer<N, K, C> {
+    ghost use Rattle.sspi_credssp.specs.Heeded.{ServerHeeds};
     ghost use Rattle.sspi_credssp.specs.Server.{ServerView};
     ghost use Rattle.sspi_credssp.specs.ServerCause.{ServerCause, StateCause};
     ghost use Rattle.sspi_credssp.specs.ServerStep.{HasAcceptedTurn};
-    ghost use Rattle.sspi_credssp.specs.ServerTurn.{ServerGoes, IsOver, IsReady, BeginRefused, noted_first};
+    ghost use Rattle.sspi_credssp.specs.ServerTurn.{ServerGoes, IsOver, IsReady, BeginRefused};
 
     /// Takes the client's message and makes the server's next one, or reads the credentials that end the exchange.
     ///
-    /// Refused, in this order: with the kinds of a new context; `MessageAltered` where the client changes its version; in
+    /// Refused, in this order: with the kinds of a new context; `DowngradeDetected` where no version of the client is noted
+    /// yet and this one is below the least, which then is not noted; `MessageAltered` where the client changes its version; in
     /// the authentication with the kinds of the context, `LogonDenied` where the look-up of the peer failed, `NoCredentials`
     /// where it found nobody, `InvalidToken` where the authentication ended with neither a token nor a proof,
     /// `InternalError` at another status of the context; in an exchange `InvalidToken` where the proof is absent, the nonce
@@ -146,6 +163,7 @@ impl<N: Mechanism, K: Mechanism, C: CredentialsProxy> CredSspServer<N, K, C> {
         ensures plain { IfErr result (λ refusal. refusal.error.nstatus ≡ None) }
         ensures altered { differs self.old.noted ts_request.version ≡ true →
             IsErr result × (self.new ≡ record self.old { acts = no_acts; output = [] }) }
+        ensures heeded { ServerHeeds (either N.meaning K.meaning) self.old ts_request result self.new }
         ensures unmade { self.new.context ≡ None → self.new ≡ record self.old { acts = no_acts; output = [] } }
         ensures once { C.calls self.new.proxy ≤ C.calls self.old.proxy + 1 }
         ensures unasked { (IsOver self.new.acts.status → ⊥) → self.new.proxy ≡ self.old.proxy }
@@ -174,19 +192,24 @@ impl<N: Mechanism, K: Mechanism, C: CredentialsProxy> CredSspServer<N, K, C> {
             d.version ≡ version → self.old ≡ record start { acts = no_acts; output = [] } → IsReady c start d self.new) }
         ensures begun { let c = either N.meaning K.meaning in OnOk result (IfContext self.new.context
             (Begun c self.old.context self.old.handle (ForServer self.old.mode) purposes.Inbound None self.new.handle)) }
-        ensures passed { OnOk result ((differs self.old.noted version ≡ false) × IsSome self.new.context) }
+        ensures passed { OnOk result (IsSome self.new.context × (differs self.old.noted version ≡ false)
+            × (is_old self.old.least self.old.noted version ≡ false)) }
         ensures known { OnOk result (IsSome self.new.noted) }
         ensures refused { OnErr result (BeginRefused (either N.meaning K.meaning) self.old version self.new) }
-        ensures err { OnErr result (self.new ≡ self.old) }
+        ensures err { OnErr result (self.new ≡ record self.old { context = self.new.context; handle = self.new.handle }) }
+        ensures altered { differs self.old.noted version ≡ true → IsErr result × (self.new ≡ self.old) }
+        ensures unmade { self.new.context ≡ None → self.new ≡ self.old }
         ensures cause { let c = either N.meaning K.meaning in IfErr result (λ error. error.error_type ≢ ErrorKind.InsufficientMemory →
             MadeOr self.old.context self.new.context (BeginCause c (ForServer self.old.mode) purposes.Inbound None error.error_type)
-            (StopsIf (differs self.old.noted version) ErrorKind.MessageAltered error.error_type ⊥)) }
+            (VersionStops self.old.least self.old.noted version error.error_type ⊥)) }
+        ensures exact { IfErr result (λ error. IsSome self.new.context → is_old self.old.least self.old.noted version ≡ true →
+            error.error_type ≡ ErrorKind.DowngradeDetected) }
         ensures plain { IfErr result (λ error. error.nstatus ≡ None) }
     {
         match &self.context {
-            Some(_) => self.note_version(version),
+            Some(_) => note_version(&mut self.peer_version, self.least_version, version),
             None => match self.make_context() {
-                Ok(()) => self.note_version(version),
+                Ok(()) => note_version(&mut self.peer_version, self.least_version, version),
                 Err(error) => Err(error),
             },
         }
@@ -218,29 +241,6 @@ impl<N: Mechanism, K: Mechanism, C: CredentialsProxy> CredSspServer<N, K, C> {
                 Ok(())
             }
             Err(error) => Err(error),
-        }
-    }
-
-    fn note_version(&mut self, version: u32) -> Result<(), Error>
-        requires { IsSome self.old.context }
-        ensures ok { OnOk result (self.new ≡ record self.old { noted = noted_first self.old.noted version }) }
-        ensures fits { OnOk result (AtNoted self.new.noted (λ noted. version ≡ noted)) }
-        ensures passed { OnOk result (differs self.old.noted version ≡ false) }
-        ensures still { OnOk result (differs self.new.noted version ≡ false) }
-        ensures known { OnOk result (IsSome self.new.noted) }
-        ensures err { OnErr result (self.new ≡ self.old) }
-        ensures noted { OnErr result (self.new.noted ≡ noted_first self.old.noted version) }
-        ensures altered { OnErr result (differs self.old.noted version ≡ true) }
-        ensures kind { IfErr result (λ error. error.error_type ≡ ErrorKind.MessageAltered) }
-        ensures plain { IfErr result (λ error. error.nstatus ≡ None) }
-    {
-        match self.peer_version {
-            None => {
-                self.peer_version = Some(version);
-                Ok(())
-            }
-            Some(noted) if noted == version => Ok(()),
-            Some(_) => Err(Error::new(ErrorKind::MessageAltered, Reason::PeerVersion)),
         }
     }
 

@@ -8,19 +8,24 @@ use sspi_types::{Bytes, ErrorKind};
 /// One of the two ends of an exchange.
 #[derive(Clone, Copy, Debug, PartialEq, Eq)]
 pub enum End {
+    /// The end whose credentials are delegated.
     Client,
+    /// The end that takes them.
     Server,
 }
 
 /// One turn of an end: the request that it was given, and what it made of it.
 #[derive(Drop)]
 pub struct Turn {
+    /// The end that made the turn.
     pub end: End,
+    /// The request as it was read from the delivery; the client's first is one that it makes itself.
     pub delivered: TsRequest,
     /// What the end did on its security context, also in a turn that was refused.
     pub acts: Acts,
     /// The token that the context's step gave; empty where no step answered.
     pub output: Bytes,
+    /// What the turn ended in.
     pub outcome: Outcome,
 }
 

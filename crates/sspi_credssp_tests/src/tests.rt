@@ -3,6 +3,7 @@ mod client_refusals;
 mod delegation;
 mod ends;
 mod kdc;
+mod least_versions;
 mod peers;
 mod proxies;
 mod server_refusals;

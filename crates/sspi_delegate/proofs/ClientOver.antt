@@ -1,6 +1,6 @@
 -- A client's turn stays a turn where its context is exchanged for one that is equal but for the counts, or for any other
 -- where the turn says nothing of the context.
-use Rattle.std.proofs.Common.{◌≡◌, ℕ, true, List, sym, ◌∙◌, ap, subst, Option, None, Some, Result, Ok, Err}
+use Rattle.std.proofs.Common.{◌≡◌, ℕ, Bool, true, List, sym, ◌∙◌, ap, subst, Option, None, Some, Result, Ok, Err}
 use Rattle.sspi_mech.specs.Context.{IsContext}
 use Rattle.sspi_mech.specs.Meaning.{Meaning}
 use Rattle.sspi_tsreq.specs.declared.request.TsRequest.{TsRequest}
@@ -26,6 +26,7 @@ pub record SameFrame {C : Type 0} (c : Meaning ContextSetting C) (f g : ClientFr
   pub credentials : g.credentials ≡ f.credentials
   pub delegation : g.delegation ≡ f.delegation
   pub state : g.state ≡ f.state
+  pub looks : g.looks ≡ f.looks
   pub noted : UnlessRefused t.outcome (g.noted ≡ f.noted)
   pub proved : t.acts.proved ≡ true → (g.noted ≡ f.noted) × (g.made ≡ f.made) × SameBut c f.context g.context
   pub checked : t.acts.checked ≡ true → (g.noted ≡ f.noted) × (g.opened ≡ f.opened) × SameBut c f.context g.context
@@ -114,17 +115,18 @@ module _ {C : Type 0} (c : Meaning ContextSetting C) (law : IsContext c) where
   replies_over f g t (outcome.Refused kind None) same h = h
   replies_over f g t (outcome.Refused kind (Some reply)) same h = h
 
-  fits_over : (noted noted2 : Option ℕ) (version : ℕ) (out : Outcome) → UnlessRefused out (noted2 ≡ noted) → UnlessRefused out (FitsNoted noted version) →
-      UnlessRefused out (FitsNoted noted2 version)
-  fits_over noted noted2 version (outcome.Reply reply) same h = rw same h
-  fits_over noted noted2 version (outcome.Final reply) same h = rw same h
-  fits_over noted noted2 version outcome.Finished same h = rw same h
-  fits_over noted noted2 version (outcome.Refused kind reply) same h = h
+  fits_over : (looks : Bool) (noted noted2 : Option ℕ) (version : ℕ) (out : Outcome) → UnlessRefused out (noted2 ≡ noted) →
+      UnlessRefused out (FitsNoted looks noted version) →
+      UnlessRefused out (FitsNoted looks noted2 version)
+  fits_over looks noted noted2 version (outcome.Reply reply) same h = rw same h
+  fits_over looks noted noted2 version (outcome.Final reply) same h = rw same h
+  fits_over looks noted noted2 version outcome.Finished same h = rw same h
+  fits_over looks noted noted2 version (outcome.Refused kind reply) same h = h
 
   pub client_over : (f g : ClientFrame C) (t : Turn) → SameFrame c f g t → IsClientTurn c f t → IsClientTurn c g t
   client_over f g t same turn = record {
     code = turn.code;
-    version = fits_over f.noted g.noted t.delivered.version t.outcome same.noted turn.version;
+    version = rw same.looks (fits_over f.looks f.noted g.noted t.delivered.version t.outcome same.noted turn.version);
     acts = acts_over f g t same turn.acts;
     reply = replies_over f g t t.outcome same turn.reply;
   }

@@ -1,5 +1,5 @@
 -- One more turn of a client: what holds of its turns so far holds of them with this one.
-use Rattle.std.proofs.Common.{◌≡◌, ℕ, ◌+◌, Bool, true, false, ◌&&◌, List, [], ◌∷◌, sym, ◌∙◌, ap, subst, refl, Option, None, Some, IsSome, Ok, if◌then◌else◌}
+use Rattle.std.proofs.Common.{◌≡◌, ℕ, ◌+◌, Bool, true, false, ◌&&◌, List, [], ◌∷◌, sym, ◌∙◌, ap, subst, refl, Option, None, Some, is_some, IsSome, Ok, if◌then◌else◌}
 use Rattle.sspi_types.specs.declared.security_status.SecurityStatus.{SecurityStatus}
 use Rattle.sspi_types.specs.declared.security_status.SecurityStatus.TheVariants as statuses
 use Rattle.sspi_mech.specs.Context.{IsContext}
@@ -9,7 +9,7 @@ use Rattle.sspi_credssp.specs.declared.state.CredSspState.{CredSspState}
 use Rattle.sspi_credssp.specs.declared.state.CredSspState.TheVariants.{NegoToken, PubKeyInfo, AuthInfo, Final}
 use Rattle.sspi_credssp.specs.Acts.{sealed_by, unsealed_by}
 use Rattle.sspi_credssp.specs.Client.{ClientView, IsFreshClient}
-use Rattle.sspi_credssp.specs.ClientTurn.{ClientActs, NegoReply, ClientTurn, IsUnderway, SameClient, StartsUnused, client_frame, client_turn, state_after, OnceNegotiated}
+use Rattle.sspi_credssp.specs.ClientTurn.{ClientActs, NegoReply, ClientTurn, IsUnderway, SameClient, StartsUnused, client_frame, client_turn, noted_next, state_after, OnceNegotiated}
 use Rattle.sspi_names.specs.declared.credentials.CredentialsBuffers.{CredentialsBuffers}
 use Rattle.sspi_mech.specs.declared.step.Answer.{Answer}
 use Rattle.sspi_mech.specs.declared.step.Answer.TheVariants.{Done}
@@ -20,9 +20,9 @@ use Rattle.sspi_credssp.specs.Begun.{IfContext}
 use Rattle.sspi_credssp.specs.ClientStep.{client_args, Asked, Walked, stepped, resumed, still_asked, recounted, DoneStep}
 use Rattle.sspi_credssp.specs.Context.{ContextSetting}
 use Rattle.sspi_credssp.specs.Counts.{sealed_in, unsealed_in, SameBut, silent, is_waiting_in}
-use Rattle.sspi_credssp.specs.Noted.{noted_next}
-use Rattle.sspi_credssp.specs.Turn.{ClientFrame}
-use Rattle.sspi_delegate.specs.ClientRun.{client_state, client_noted, ClientEnd, client_end, client_frame_at, EachClientTurn, ClientRan, HasBegun, ClientFollows}
+use Rattle.sspi_credssp.specs.Noted.{noted_in, noted_with}
+use Rattle.sspi_credssp.specs.Turn.{ClientFrame, UnlessRefused, FitsNoted}
+use Rattle.sspi_delegate.specs.ClientRun.{client_state, client_noted, has_turn, ClientEnd, client_end, client_frame_at, EachClientTurn, ClientRan, HasBegun, ClientFollows}
 use Rattle.sspi_delegate.specs.EndTurns.{made_in, opened_in, is_replied, is_ended, any_proved, any_ended, OthersGoOn}
 use Rattle.sspi_delegate.specs.Turns.{GoesOn, AllGoOn}
 use Rattle.sspi_delegate.specs.Refusals.{StepsSo}
@@ -47,27 +47,41 @@ state_auth false false h = absurd (cc (h))
 
 -- ---- the version that is noted
 
-noted_some : (t u : Turn) (past : List Turn) → IsSome (client_noted (t ∷ u ∷ past))
-noted_some t u [] = refl
-noted_some t u (v ∷ past) = noted_some u v past
+-- a turn that looked at its peer's version and was not refused has noted it
+pub went_noted : (noted : Option ℕ) (version : ℕ) (out : Outcome) → GoesOn out → UnlessRefused out (FitsNoted true noted version) → IsSome noted
+went_noted (Some v) version out went fits = refl
+went_noted None version (outcome.Reply reply) went fits = absurd fits
+went_noted None version (outcome.Final reply) went fits = absurd fits
+went_noted None version outcome.Finished went fits = absurd went
+went_noted None version (outcome.Refused kind reply) went fits = absurd went
 
-noted_kept : {C : Type 0} (context : Option C) (noted : Option ℕ) (version : ℕ) → IsSome context → IsSome noted → noted_next context noted version ≡ noted
-noted_kept None noted version begun some = absurd (cc (begun))
-noted_kept (Some m) None version begun some = absurd (cc (some))
-noted_kept (Some m) (Some noted) version begun some = refl
+noted_kept : {C : Type 0} (context : Option C) (least : ℕ) (noted : Option ℕ) (version : ℕ) → IsSome noted → noted_in context least noted version ≡ noted
+noted_kept None least noted version some = refl
+noted_kept (Some m) least None version some = absurd (cc (some))
+noted_kept (Some m) least (Some noted) version some = refl
 
-noted_first : {C : Type 0} (context : Option C) (noted : Option ℕ) (version : ℕ) → IsSome context → noted ≡ None → noted_next context noted version ≡ Some version
-noted_first None noted version begun none = absurd (cc (begun))
-noted_first (Some m) None version begun none = refl
-noted_first (Some m) (Some noted) version begun none = absurd (cc (none))
+noted_second : {C : Type 0} (context : Option C) (least : ℕ) (noted : Option ℕ) (version : ℕ) → IsSome context → noted ≡ None →
+    noted_in context least noted version ≡ noted_with least None version
+noted_second None least noted version begun none = absurd (cc (begun))
+noted_second (Some m) least None version begun none = refl
+noted_second (Some m) least (Some noted) version begun none = absurd (cc (none))
 
 module _ {C : Type 0} (c : Meaning ContextSetting C) where
-  noted_more : (context : Option C) (noted : Option ℕ) (t : Turn) (past : List Turn) → HasBegun c context past → noted ≡ client_noted past →
-      noted_next context noted t.delivered.version ≡ client_noted (t ∷ past)
-  noted_more context noted t [] begun is = rw begun refl
-  noted_more context noted t (u ∷ []) begun is = noted_first context noted t.delivered.version begun is
-  noted_more context noted t (u ∷ v ∷ past) begun is =
-      noted_kept context noted t.delivered.version begun (rw is (noted_some u v past)) ∙ is
+  -- each turn past the first has noted a version
+  pub noted_by_two : (e : ClientEnd C) (t u : Turn) (past : List Turn) → EachClientTurn c e (t ∷ u ∷ past) → AllGoOn (t ∷ u ∷ past) →
+      IsSome (client_noted e.least (t ∷ u ∷ past))
+  noted_by_two e t u past each going = went_noted (client_noted e.least (t ∷ u ∷ past)) t.delivered.version t.outcome going.0 each.0.version
+
+  noted_more : (old : ClientView C) (t : Turn) (past : List Turn) → HasBegun c old.context past → old.noted ≡ client_noted old.least past →
+      EachClientTurn c (client_end old) past → AllGoOn past → noted_next c old t.delivered ≡ client_noted old.least (t ∷ past)
+  noted_more old t [] begun is each going = rw (begun, is) refl
+  noted_more old t (u ∷ []) begun is each going = noted_second old.context old.least old.noted t.delivered.version begun is
+  noted_more old t (u ∷ v ∷ past) begun is each going =
+      noted_kept old.context old.least old.noted t.delivered.version (rw is (noted_by_two (client_end old) u v past each going)) ∙ is
+
+  looks_more : (context : Option C) (past : List Turn) → HasBegun c context past → has_turn past ≡ is_some context
+  looks_more context [] begun = rw begun refl
+  looks_more context (t ∷ past) begun = sym begun
 
 -- ---- turns that came before the client's proof
 
@@ -114,6 +128,7 @@ module _ {C : Type 0} (c : Meaning ContextSetting C) where
     pub public_key : e2.public_key ≡ e.public_key
     pub nonce : e2.nonce ≡ e.nonce
     pub version : e2.version ≡ e.version
+    pub least : e2.least ≡ e.least
     pub credentials : e2.credentials ≡ e.credentials
     pub delegation : e2.delegation ≡ e.delegation
 
@@ -128,9 +143,10 @@ module _ {C : Type 0} (c : Meaning ContextSetting C) where
       credentials = same.credentials;
       delegation = same.delegation;
       state = refl;
-      noted = unless_given t.outcome _ refl;
-      proved = λ was. (refl, refl, touch.0 was);
-      checked = λ was. (refl, refl, touch.1 was);
+      looks = refl;
+      noted = unless_given t.outcome _ (ap (λ (n : ℕ). client_noted n (t ∷ past)) same.least);
+      proved = λ was. (ap (λ (n : ℕ). client_noted n (t ∷ past)) same.least, refl, touch.0 was);
+      checked = λ was. (ap (λ (n : ℕ). client_noted n (t ∷ past)) same.least, refl, touch.1 was);
       sealed = λ was. refl;
     }) each.0,
     each_over law e e2 past same touch.2 each.1,
@@ -149,6 +165,7 @@ module _ {C : Type 0} (c : Meaning ContextSetting C) where
     public_key = same.public_key;
     nonce = same.nonce;
     version = same.version;
+    least = same.least;
     credentials = same.credentials;
     delegation = same.delegation;
   }
@@ -159,12 +176,18 @@ module _ {C : Type 0} (c : Meaning ContextSetting C) where
     credentials = after.credentials ∙ first.credentials;
     delegation = after.delegation ∙ first.delegation;
     version = after.version ∙ first.version;
+    least = after.least ∙ first.least;
     mode = after.mode ∙ first.mode;
     target = after.target ∙ first.target;
     nonce = after.nonce ∙ first.nonce;
   }
 
   -- ---- one more turn
+
+  noted_of : (first old new : ClientView C) (t : Turn) (past : List Turn) → ClientFollows c first old past → new.least ≡ old.least →
+      noted_next c old t.delivered ≡ client_noted new.least (t ∷ past)
+  noted_of first old new t past follows same =
+      noted_more c old t past follows.begun follows.noted follows.ran.each follows.going ∙ sym (ap (λ (n : ℕ). client_noted n (t ∷ past)) same)
 
   -- a turn that proves seals nothing else, and one that seals the credentials proves nothing
   proved_alone : (f : ClientFrame C) (t : Turn) → ClientActs c f t → t.acts.proved ≡ true → t.acts.sealed ≡ false
@@ -183,7 +206,7 @@ module _ {C : Type 0} (c : Meaning ContextSetting C) where
       let t : Turn = client_turn c d out new in
       let made : sealed_in c new.context ≡ made_in past + sealed_by new.acts = turn.moves.sealed unused ∙ ap (λ (n : ℕ). n + sealed_by new.acts) follows.ran.made in
       let opened : unsealed_in c new.context ≡ opened_in past + unsealed_by new.acts = turn.moves.unsealed unused ∙ ap (λ (n : ℕ). n + unsealed_by new.acts) follows.ran.opened in
-      let noted : noted_next old.context old.noted d.version ≡ client_noted (t ∷ past) = noted_more c old.context old.noted t past follows.begun follows.noted in
+      let noted : noted_next c old d ≡ client_noted new.least (t ∷ past) = noted_of first old new t past follows turn.moves.same.least in
       record {
         same = same_on first old new follows.ran.same turn.moves.same;
         made = made;
@@ -196,6 +219,7 @@ module _ {C : Type 0} (c : Meaning ContextSetting C) where
             credentials = refl;
             delegation = refl;
             state = sym follows.state;
+            looks = looks_more c old.context past follows.begun;
             noted = unless_map out _ _ (λ h. sym (h ∙ noted)) turn.moves.noted_going;
             proved = λ was. (
               sym (turn.moves.noted_proved was ∙ noted),
@@ -264,7 +288,7 @@ module _ {C : Type 0} (c : Meaning ContextSetting C) where
     ran = client_turned law first old new past d (outcome.Reply reply) follows turn;
     state = turn.moves.state
         ∙ replied_state (client_frame c old new) (client_turn c d (outcome.Reply reply) new) past reply follows.state refl turn.turn.reply;
-    noted = turn.moves.noted_going ∙ noted_more c old.context old.noted (client_turn c d (outcome.Reply reply) new) past follows.begun follows.noted;
+    noted = turn.moves.noted_going ∙ noted_of first old new (client_turn c d (outcome.Reply reply) new) past follows turn.moves.same.least;
     begun = turn.moves.begun;
     idle = idle_in law old d steps.asked new.acts.status new (client_frame c old new) (client_turn c d (outcome.Reply reply) new) reply turn.turn.reply steps.step;
     going = (tt, follows.going);
@@ -282,7 +306,7 @@ module _ {C : Type 0} (c : Meaning ContextSetting C) where
   client_ended law first old new past d reply follows turn = record {
     ran = client_turned law first old new past d (outcome.Final reply) follows turn;
     state = turn.moves.state;
-    noted = turn.moves.noted_going ∙ noted_more c old.context old.noted (client_turn c d (outcome.Final reply) new) past follows.begun follows.noted;
+    noted = turn.moves.noted_going ∙ noted_of first old new (client_turn c d (outcome.Final reply) new) past follows turn.moves.same.least;
     begun = turn.moves.begun;
     idle = ended_idle law old.state old.context new.context turn.turn.reply.state turn.moves.bare follows.idle;
     going = (tt, follows.going);
@@ -311,6 +335,7 @@ module _ {C : Type 0} (c : Meaning ContextSetting C) where
       credentials = ran.same.credentials;
       delegation = ran.same.delegation;
       version = ran.same.version;
+      least = ran.same.least;
       mode = ran.same.mode;
       target = ran.same.target;
       nonce = ran.same.nonce;
@@ -324,7 +349,7 @@ module _ {C : Type 0} (c : Meaning ContextSetting C) where
   pub client_fresh : (first : ClientView C) → IsFreshClient first → ClientFollows c first first []
   client_fresh first fresh = record {
     ran = record {
-      same = record { public_key = refl; credentials = refl; delegation = refl; version = refl; mode = refl; target = refl; nonce = refl };
+      same = record { public_key = refl; credentials = refl; delegation = refl; version = refl; least = refl; mode = refl; target = refl; nonce = refl };
       made = rw fresh.context refl;
       opened = rw fresh.context refl;
       each = tt;

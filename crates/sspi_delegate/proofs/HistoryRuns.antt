@@ -43,14 +43,14 @@ module _ {C : Type 0} (c : Meaning ContextSetting C) (law : IsContext c) where
   }
 
   module _ {D : Type 0} (k : KdcCalls D) where
-    client_turn_of : (old mid : ClientView C) (kdc kdc2 : D) (d : TsRequest) (out : Outcome) → ClientMakes c k old kdc d out mid kdc2 → ClientTurn c old d out mid
+    pub client_turn_of : (old mid : ClientView C) (kdc kdc2 : D) (d : TsRequest) (out : Outcome) → ClientMakes c k old kdc d out mid kdc2 → ClientTurn c old d out mid
     client_turn_of old mid kdc kdc2 d (outcome.Reply reply) makes = makes.0
     client_turn_of old mid kdc kdc2 d (outcome.Final reply) makes = makes.0
     client_turn_of old mid kdc kdc2 d outcome.Finished makes = absurd makes
     client_turn_of old mid kdc kdc2 d (outcome.Refused kind None) makes = makes.2
     client_turn_of old mid kdc kdc2 d (outcome.Refused kind (Some reply)) makes = absurd makes
 
-    client_went : (first old mid : ClientView C) (kdc kdc2 : D) (past : List Turn) (d : TsRequest) (out : Outcome) → GoesOn out →
+    pub client_went : (first old mid : ClientView C) (kdc kdc2 : D) (past : List Turn) (d : TsRequest) (out : Outcome) → GoesOn out →
         ClientFollows c first old past → ClientMakes c k old kdc d out mid kdc2 → ClientFollows c first mid (client_turn c d out mid ∷ past)
     client_went first old mid kdc kdc2 past d (outcome.Reply reply) went follows makes =
         client_replied c law (λ asked. k.replies kdc asked kdc2) first old mid past d reply follows makes.0 makes.1
@@ -106,6 +106,7 @@ module _ {C : Type 0} (c : Meaning ContextSetting C) (law : IsContext c) where
         ClientRefuses c any_replies old d error mid
     refused_anyhow replies old mid d error h = record {
       cause = h.cause;
+      heeds = h.heeds;
       status = h.status;
       steps = record { asked = h.steps.asked; replied = tt; step = h.steps.step; unasked = h.steps.unasked };
     }
@@ -134,13 +135,13 @@ module _ {C : Type 0} (c : Meaning ContextSetting C) (law : IsContext c) where
       going = follows.going;
     }
 
-    server_turn_of : (old mid : ServerView C P) (d : TsRequest) (out : Outcome) → ServerMakes c told faults old d out mid → ServerTurn c old d out mid
+    pub server_turn_of : (old mid : ServerView C P) (d : TsRequest) (out : Outcome) → ServerMakes c told faults old d out mid → ServerTurn c old d out mid
     server_turn_of old mid d (outcome.Reply reply) makes = makes.0
     server_turn_of old mid d (outcome.Final reply) makes = absurd makes
     server_turn_of old mid d outcome.Finished makes = makes.0
     server_turn_of old mid d (outcome.Refused kind reply) makes = makes.2
 
-    server_went : (first old mid : ServerView C P) (past : List Turn) (d : TsRequest) (out : Outcome) → GoesOn out →
+    pub server_went : (first old mid : ServerView C P) (past : List Turn) (d : TsRequest) (out : Outcome) → GoesOn out →
         ServerFollows c first old past → ServerMakes c told faults old d out mid → ServerFollows c first mid (server_turn c d out mid ∷ past)
     server_went first old mid past d (outcome.Reply reply) went follows makes = server_follows c law first old mid past d reply follows makes.0
     server_went first old mid past d (outcome.Final reply) went follows makes = absurd makes

@@ -7,6 +7,7 @@ mod Exactness
 mod Halves
 mod Headline
 pub mod Histories
+pub mod Heeding
 pub mod HistoryRuns
 mod LogSteps
 mod Newest

@@ -3,7 +3,7 @@ use Rattle.std.proofs.Common.{◌≡◌, ◌≢◌, ℕ, ◌==◌, Bool, true, f
 use Rattle.std.proofs.lemmas.Bool.{true≢false}
 use Rattle.sspi_types.specs.declared.error.Error.{Error}
 use Rattle.sspi_types.specs.declared.error_kind.ErrorKind.{ErrorKind}
-use Rattle.sspi_types.specs.declared.error_kind.ErrorKind.TheVariants.{OutOfSequence, InvalidToken, MessageAltered, InsufficientMemory}
+use Rattle.sspi_types.specs.declared.error_kind.ErrorKind.TheVariants.{OutOfSequence, InvalidToken, MessageAltered, DowngradeDetected, InsufficientMemory}
 use Rattle.sspi_types.specs.declared.security_status.SecurityStatus.{SecurityStatus}
 use Rattle.sspi_mech.specs.Meaning.{Meaning}
 use Rattle.sspi_names.specs.declared.identity.AuthIdentity.{AuthIdentity}
@@ -12,25 +12,16 @@ use Rattle.sspi_credssp.specs.declared.state.CredSspState.{CredSspState}
 use Rattle.sspi_credssp.specs.declared.state.CredSspState.TheVariants.{NegoToken}
 use Rattle.sspi_credssp.specs.Begun.{IfContext, MadeOr}
 use Rattle.sspi_credssp.specs.Client.{ClientView}
-use Rattle.sspi_credssp.specs.ClientCause.{ClientCause, ResumeCause, KeptCause, NegoCause, StateCause, is_altered}
+use Rattle.sspi_credssp.specs.ClientCause.{ClientCause, ResumeCause, KeptCause, NegoCause, StateCause}
 use Rattle.sspi_credssp.specs.ClientStep.{Asked, HasStepped, OnStep}
 use Rattle.sspi_credssp.specs.ClientTurn.{ClientTurn, IsUnderway}
 use Rattle.sspi_credssp.specs.Context.{ContextSetting}
 use Rattle.sspi_credssp.specs.Counts.{is_waiting_in}
-use Rattle.sspi_credssp.specs.Noted.{noted_next}
+use Rattle.sspi_credssp.specs.Noted.{is_altered_in, is_old_in}
 use Rattle.sspi_credssp.specs.Stops.{StopsIf}
 use Rattle.sspi_credssp.specs.Turn.{FitsNoted}
 use Rattle.sspi_delegate.specs.Refusals.{ClientRefuses, ProxyStays}
 use Rattle.sspi_credssp.specs.declared.turn.Outcome.TheVariants as outcome
-
-same_version : (noted version : ℕ) → version ≡ noted → not (noted == version) ≡ false
-same_version noted version same = rw (eq-eqb noted version (sym same)) refl
-
-fits_unaltered : {C : Type 0} (context : Option C) (noted now : Option ℕ) (version : ℕ) → now ≡ noted_next context noted version → FitsNoted now version →
-    is_altered context noted version ≡ false
-fits_unaltered None noted now version is fits = refl
-fits_unaltered (Some m) None now version is fits = refl
-fits_unaltered (Some m) (Some noted) now version is fits = same_version noted version (subst (λ (x : Option ℕ). FitsNoted x version) is fits)
 
 stops_past : (test : Bool) (here kind : ErrorKind) (Later : Type 0) → test ≡ false → Later → StopsIf test here kind Later
 stops_past test here kind Later unmet h = rw unmet h
@@ -76,10 +67,10 @@ module _ {C : Type 0} (c : Meaning ContextSetting C) where
       let negotiated : new.acts.negotiated ≡ true = nego_negotiated new.acts.status new error.error_type refl turn.turn.acts.answered nego in
       stops_past (is_waiting_in c start.context) OutOfSequence error.error_type _ way.ready.idle
       (stops_past _ InvalidToken error.error_type _ way.ready.code
-      (stops_past (is_altered start.context start.noted d.version) MessageAltered error.error_type _
-      (fits_unaltered start.context start.noted mid.noted d.version way.ready.noted way.ready.fits)
+      (stops_past (is_old_in start.context start.least start.noted d.version) DowngradeDetected error.error_type _ way.ready.young
+      (stops_past (is_altered_in start.context start.noted d.version) MessageAltered error.error_type _ way.ready.passed
       (made_past start.context new.context _ _ _ (on_step new.acts.negotiated _ negotiated step)
-      (state_cause start.state d new error.error_type (sym way.ready.state ∙ way.state) nego))))
+      (state_cause start.state d new error.error_type (sym way.ready.state ∙ way.state) nego)))))
 
   pub resumed_refuses : (replies : List Asked → Type 0) (start : ClientView C) (d : TsRequest) (mid new : ClientView C) (log : List Asked) (error : Error) → IsUnderway c start d mid →
       (error.error_type ≢ InsufficientMemory → ResumeCause c mid new error.error_type) → error.nstatus ≡ None →
@@ -87,6 +78,7 @@ module _ {C : Type 0} (c : Meaning ContextSetting C) where
       ClientRefuses c replies start d error new
   resumed_refuses replies start d mid new log error way cause plain turn step replied negotiated = record {
     cause = λ other. resumed_cause start d mid new log error way (cause other) turn step;
+    heeds = λ met. absurd (true≢false (sym met.old ∙ way.ready.young));
     status = rw (way.ready.idle, way.ready.code) plain;
     steps = record { asked = log; replied = replied; step = step; unasked = λ none. absurd (true≢false (sym negotiated ∙ none)) };
   }

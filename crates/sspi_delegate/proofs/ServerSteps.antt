@@ -10,12 +10,14 @@ use Rattle.sspi_credssp.specs.declared.state.CredSspState.TheVariants.{NegoToken
 use Rattle.sspi_credssp.specs.Acts.{sealed_by, unsealed_by}
 use Rattle.sspi_credssp.specs.Context.{ContextSetting}
 use Rattle.sspi_credssp.specs.Counts.{sealed_in, unsealed_in, SameBut}
+use Rattle.sspi_credssp.specs.Noted.{noted_with}
 use Rattle.sspi_credssp.specs.Server.{ServerView, IsFreshServer}
-use Rattle.sspi_credssp.specs.ServerTurn.{ServerActs, ServerReplies, StateAnswer, NegoAnswer, ServerTurn, SameServer, StartsUnused, server_frame, server_turn, noted_first, after_reply, IsOver, MayCheck, OnceNegotiated}
+use Rattle.sspi_credssp.specs.ServerTurn.{ServerActs, ServerReplies, StateAnswer, NegoAnswer, ServerTurn, SameServer, StartsUnused, server_frame, server_turn, after_reply, IsOver, MayCheck, OnceNegotiated}
 use Rattle.sspi_credssp.specs.Turn.{ServerFrame}
 use Rattle.sspi_delegate.specs.EndTurns.{made_in, opened_in, is_replied, is_finished, any_proved, any_finished}
 use Rattle.sspi_delegate.specs.Turns.{GoesOn, AllGoOn}
 use Rattle.sspi_delegate.specs.ServerRun.{is_over, any_over, server_state, server_noted, ServerEnd, server_end, server_frame_at, EachServerTurn, ServerRan, ServerFollows}
+use Rattle.sspi_delegate.proofs.ClientSteps.{went_noted}
 use Rattle.sspi_delegate.proofs.EndSteps.{IsQuiet, AllQuiet, or_false, or_not, is_false, quiet_made, unused_in, same_but, Touched, touched, untouched, unless_given, unless_map, made_by_proof, opened_by_check}
 use Rattle.sspi_delegate.proofs.ServerOver.{OnceRefused, server_over}
 use Rattle.sspi_credssp.specs.declared.turn.Outcome.{Outcome}
@@ -37,19 +39,20 @@ nego_state past unfinished unproved going = rw (unfinished, unproved, going) ref
 
 -- ---- the version that is noted
 
-noted_some : (t : Turn) (past : List Turn) → IsSome (server_noted (t ∷ past))
-noted_some t [] = refl
-noted_some t (u ∷ past) = noted_some u past
-
-noted_kept : (noted : Option ℕ) (version : ℕ) → IsSome noted → noted_first noted version ≡ noted
-noted_kept None version some = absurd (cc (some))
-noted_kept (Some noted) version some = refl
-
-noted_more : (noted : Option ℕ) (t : Turn) (past : List Turn) → noted ≡ server_noted past → noted_first noted t.delivered.version ≡ server_noted (t ∷ past)
-noted_more noted t [] is = rw is refl
-noted_more noted t (u ∷ past) is = noted_kept noted t.delivered.version (rw is (noted_some u past)) ∙ is
+noted_kept : (least : ℕ) (noted : Option ℕ) (version : ℕ) → IsSome noted → noted_with least noted version ≡ noted
+noted_kept least None version some = absurd (cc (some))
+noted_kept least (Some noted) version some = refl
 
 module _ {C : Type 0} (c : Meaning ContextSetting C) where
+  -- each turn that went on has noted a version
+  pub noted_by_one : (e : ServerEnd C) (t : Turn) (past : List Turn) → EachServerTurn c e (t ∷ past) → AllGoOn (t ∷ past) → IsSome (server_noted e.least (t ∷ past))
+  noted_by_one e t past each going = went_noted (server_noted e.least (t ∷ past)) t.delivered.version t.outcome going.0 each.0.version
+
+  noted_more : (e : ServerEnd C) (noted : Option ℕ) (t : Turn) (past : List Turn) → noted ≡ server_noted e.least past → EachServerTurn c e past → AllGoOn past →
+      noted_with e.least noted t.delivered.version ≡ server_noted e.least (t ∷ past)
+  noted_more e noted t [] is each going = rw is refl
+  noted_more e noted t (u ∷ past) is each going = noted_kept e.least noted t.delivered.version (rw is (noted_by_one e u past each going)) ∙ is
+
   -- ---- turns that came before the end of the authentication
 
   -- while tokens are exchanged nothing is checked, proved or opened
@@ -99,6 +102,7 @@ module _ {C : Type 0} (c : Meaning ContextSetting C) where
   pub record SameEnd (e e2 : ServerEnd C) : Type 0 where
     pub public_key : e2.public_key ≡ e.public_key
     pub version : e2.version ≡ e.version
+    pub least : e2.least ≡ e.least
 
   went_once : (out : Outcome) (P : Type 0) → GoesOn out → OnceRefused out P
   went_once (outcome.Reply reply) P went = tt
@@ -114,9 +118,9 @@ module _ {C : Type 0} (c : Meaning ContextSetting C) where
       public_key = same.public_key;
       version = same.version;
       state = refl;
-      noted = unless_given t.outcome _ refl;
-      proved = λ was. (refl, refl, refl, touch.0 was);
-      checked = λ was. refl;
+      noted = unless_given t.outcome _ (ap (λ (n : ℕ). server_noted n (t ∷ past)) same.least);
+      proved = λ was. (ap (λ (n : ℕ). server_noted n (t ∷ past)) same.least, refl, refl, touch.0 was);
+      checked = λ was. ap (λ (n : ℕ). server_noted n (t ∷ past)) same.least;
       refused = went_once t.outcome _ went.0;
     }) each.0,
     each_over law e e2 past same went.1 touch.2 each.1,
@@ -205,11 +209,18 @@ module _ {C : Type 0} (c : Meaning ContextSetting C) where
     same_on a b d first after = record {
       public_key = after.public_key ∙ first.public_key;
       version = after.version ∙ first.version;
+      least = after.least ∙ first.least;
       mode = after.mode ∙ first.mode;
     }
 
     same_end : (old new : ServerView C P) → SameServer c old new → SameEnd (server_end old) (server_end new)
-    same_end old new same = record { public_key = same.public_key; version = same.version }
+    same_end old new same = record { public_key = same.public_key; version = same.version; least = same.least }
+
+    noted_of : (first old new : ServerView C P) (t : Turn) (past : List Turn) → ServerFollows c first old past → new.least ≡ old.least →
+        noted_with old.least old.noted t.delivered.version ≡ server_noted new.least (t ∷ past)
+    noted_of first old new t past follows same =
+        noted_more (server_end old) old.noted t past follows.noted follows.ran.each follows.going
+        ∙ sym (ap (λ (n : ℕ). server_noted n (t ∷ past)) same)
 
     pub server_turned : (law : IsContext c) (first old new : ServerView C P) (past : List Turn) (d : TsRequest) (out : Outcome) →
         ServerFollows c first old past → ServerTurn c old d out new → ServerRan c first new (server_turn c d out new ∷ past)
@@ -218,7 +229,7 @@ module _ {C : Type 0} (c : Meaning ContextSetting C) where
         let t : Turn = server_turn c d out new in
         let made : sealed_in c new.context ≡ made_in past + sealed_by new.acts = turn.moves.sealed unused ∙ ap (λ (n : ℕ). n + sealed_by new.acts) follows.ran.made in
         let opened : unsealed_in c new.context ≡ opened_in past + unsealed_by new.acts = turn.moves.unsealed unused ∙ ap (λ (n : ℕ). n + unsealed_by new.acts) follows.ran.opened in
-        let noted : noted_first old.noted d.version ≡ server_noted (t ∷ past) = noted_more old.noted t past follows.noted in
+        let noted : noted_with old.least old.noted d.version ≡ server_noted new.least (t ∷ past) = noted_of first old new t past follows turn.moves.same.least in
         record {
           same = same_on first old new follows.ran.same turn.moves.same;
           made = made;
@@ -252,7 +263,7 @@ module _ {C : Type 0} (c : Meaning ContextSetting C) where
       ran = server_turned law first old new past d (outcome.Reply reply) follows turn;
       state = turn.moves.state
           ∙ state_moved (server_frame c old new) (server_turn c d (outcome.Reply reply) new) past old.state reply follows.state refl turn.turn.reply;
-      noted = turn.moves.noted turn.moves.begun ∙ noted_more old.noted (server_turn c d (outcome.Reply reply) new) past follows.noted;
+      noted = turn.moves.noted turn.moves.begun ∙ noted_of first old new (server_turn c d (outcome.Reply reply) new) past follows turn.moves.same.least;
       going = (tt, follows.going);
     }
 
@@ -262,7 +273,7 @@ module _ {C : Type 0} (c : Meaning ContextSetting C) where
 
     pub server_emptied : (first now : ServerView C P) (past : List Turn) → ServerRan c first now past → ServerRan c first (record now { output = [] }) past
     server_emptied first now past ran = record {
-      same = record { public_key = ran.same.public_key; version = ran.same.version; mode = ran.same.mode };
+      same = record { public_key = ran.same.public_key; version = ran.same.version; least = ran.same.least; mode = ran.same.mode };
       made = ran.made;
       opened = ran.opened;
       each = ran.each;
@@ -272,7 +283,7 @@ module _ {C : Type 0} (c : Meaning ContextSetting C) where
     pub server_fresh : (first : ServerView C P) → IsFreshServer first → ServerFollows c first first []
     server_fresh first fresh = record {
       ran = record {
-        same = record { public_key = refl; version = refl; mode = refl };
+        same = record { public_key = refl; version = refl; least = refl; mode = refl };
         made = rw fresh.context refl;
         opened = rw fresh.context refl;
         each = tt;

@@ -1,6 +1,6 @@
 -- The turns of a client, one after another (MS-CSSP 3.1.5.1). The client's state and the version that it noted are those
 -- that its turns say.
-use Rattle.std.specs.Prelude.{◌≡◌, ℕ, List, [], ◌∷◌, Option, None, Some, IsSome, false, if◌then◌else◌}
+use Rattle.std.specs.Prelude.{◌≡◌, ℕ, List, [], ◌∷◌, Option, None, Some, IsSome, Bool, true, false, if◌then◌else◌}
 use Rattle.sspi_mech.specs.Meaning.{Meaning}
 use Rattle.sspi_names.specs.declared.credentials.Credentials.{Credentials}
 use Rattle.sspi_tsreq.specs.declared.mode.CredSspMode.{CredSspMode}
@@ -10,6 +10,7 @@ use Rattle.sspi_credssp.specs.Client.{ClientView}
 use Rattle.sspi_credssp.specs.ClientTurn.{IsClientTurn, SameClient}
 use Rattle.sspi_credssp.specs.Context.{ContextSetting}
 use Rattle.sspi_credssp.specs.Counts.{sealed_in, unsealed_in, is_waiting_in}
+use Rattle.sspi_credssp.specs.Noted.{noted_with}
 use Rattle.sspi_credssp.specs.Turn.{ClientFrame}
 use Rattle.sspi_delegate.specs.EndTurns.{made_in, opened_in, any_proved, any_ended, OthersGoOn}
 use Rattle.sspi_delegate.specs.Turns.{AllGoOn}
@@ -19,18 +20,24 @@ use Rattle.sspi_credssp.specs.declared.turn.Turn.{Turn}
 abbrev pub client_state : List Turn → CredSspState
 client_state past = if any_ended past then Final else (if any_proved past then AuthInfo else NegoToken)
 
--- the version that is noted: that of the second request, since the first is the client's own
-abbrev pub client_noted : List Turn → Option ℕ
-client_noted [] = None
-client_noted (t ∷ []) = None
-client_noted (t ∷ u ∷ []) = Some t.delivered.version
-client_noted (t ∷ u ∷ v ∷ past) = client_noted (u ∷ v ∷ past)
+-- the version that is noted: that of the second request, since the first is the client's own, unless it is below the least
+abbrev pub client_noted : ℕ → List Turn → Option ℕ
+client_noted least [] = None
+client_noted least (t ∷ []) = None
+client_noted least (t ∷ u ∷ []) = noted_with least None t.delivered.version
+client_noted least (t ∷ u ∷ v ∷ past) = client_noted least (u ∷ v ∷ past)
+
+-- a turn came before
+abbrev pub has_turn : List Turn → Bool
+has_turn [] = false
+has_turn (t ∷ past) = true
 
 -- what a client keeps over its turns, and its context
 pub record ClientEnd (C : Type 0) : Type 0 where
   pub public_key : List ℕ
   pub nonce : List ℕ
   pub version : ℕ
+  pub least : ℕ
   pub credentials : Credentials
   pub delegation : CredSspMode
   pub context : Option C
@@ -40,6 +47,7 @@ client_end client = record {
   public_key = client.public_key;
   nonce = client.nonce;
   version = client.version;
+  least = client.least;
   credentials = client.credentials;
   delegation = client.delegation;
   context = client.context;
@@ -56,7 +64,8 @@ client_frame_at e past t = record {
   state = client_state past;
   made = made_in past;
   opened = opened_in past;
-  noted = client_noted (t ∷ past);
+  looks = has_turn past;
+  noted = client_noted e.least (t ∷ past);
   context = e.context;
 }
 
@@ -83,7 +92,7 @@ module _ {C : Type 0} (c : Meaning ContextSetting C) where
   pub record ClientFollows (first now : ClientView C) (past : List Turn) : Type 0 where
     pub ran : ClientRan first now past
     pub state : now.state ≡ client_state past
-    pub noted : now.noted ≡ client_noted past
+    pub noted : now.noted ≡ client_noted now.least past
     pub begun : HasBegun now.context past
     -- no turn is suspended
     pub idle : is_waiting_in c now.context ≡ false

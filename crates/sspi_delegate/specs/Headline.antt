@@ -14,6 +14,7 @@ use Rattle.sspi_delegate.specs.declared.carried.Carried.{Carried}
 use Rattle.sspi_credssp.specs.declared.turn.Turn.{Turn}
 use Rattle.sspi_delegate.specs.ClientRun.{client_state, client_noted, ClientEnd, ClientRan}
 use Rattle.sspi_delegate.specs.EndTurns.{client_turns, server_turns, opened_in}
+use Rattle.sspi_delegate.specs.Heeded.{EachHeedsServer, EachHeedsClient}
 use Rattle.sspi_delegate.specs.Run.{HasLog}
 use Rattle.sspi_delegate.specs.ServerRun.{ServerRan}
 use Rattle.sspi_delegate.specs.Turns.{Alternates}
@@ -50,15 +51,17 @@ module _ {C : Type 0} (c : Meaning ContextSetting C) where
   SealsAfterProof e [] = Unit {0}
   SealsAfterProof e (t ∷ past) =
       (t.acts.sealed ≡ true → (client_state past ≡ AuthInfo)
-      × AtNoted (client_noted (t ∷ past)) (λ noted.
+      × AtNoted (client_noted e.least (t ∷ past)) (λ noted.
       OpensIn c e.context (opened_in past) t.delivered.pub_key_auth (prescribed endpoint.Server noted e.nonce e.public_key)))
       × SealsAfterProof e past
 
   module _ {P : Type 0} where
     -- The turns alternate, each is that of its end, and each has its entry in the log and was given what the entry before
-    -- delivered; the newest one may have none.
+    -- delivered; the newest one may have none. A peer that is too old is refused as that, and no other.
     pub record IsRun (client client2 : ClientView C) (server server2 : ServerView C P) (base log : List Carried) (turns : List Turn) : Type 0 where
       pub order : Alternates turns
       pub entries : HasLog base turns log
       pub client_ran : ClientRan c client client2 (client_turns turns)
       pub server_ran : ServerRan c server server2 (server_turns turns)
+      pub client_heeds : EachHeedsServer c client2.least (client_turns turns)
+      pub server_heeds : EachHeedsClient c server2.context server2.least (server_turns turns)

@@ -12,6 +12,7 @@ use Rattle.sspi_credssp.specs.declared.server_state.ServerState.{ServerState}
 use Rattle.sspi_credssp.specs.Client.{ClientView}
 use Rattle.sspi_credssp.specs.ClientTurn.{ClientTurn, IsUnderway, client_turn}
 use Rattle.sspi_credssp.specs.Context.{ContextSetting}
+use Rattle.sspi_credssp.specs.Heeded.{ServerMeetsOld}
 use Rattle.sspi_credssp.specs.Server.{ServerView}
 use Rattle.sspi_credssp.specs.ServerCause.{ServerCause}
 use Rattle.sspi_credssp.specs.ServerStep.{DoneStep, HasAccepted}
@@ -96,6 +97,7 @@ module _ {C : Type 0} (c : Meaning ContextSetting C) where
     -- why the server refused d, and the step that it took of its context before
     pub record ServerRefuses (old : ServerView C P) (d : TsRequest) (error : Error) (new : ServerView C P) : Type 0 where
       pub cause : error.error_type ≢ kinds.InsufficientMemory → ServerCause c told faults old d new error.error_type
+      pub heeds : ServerMeetsOld c old d new → error.error_type ≡ kinds.DowngradeDetected
       pub status : error.nstatus ≡ None
       pub step : HasAccepted c told {T = ServerState} old d (Err error) new
 

@@ -7,6 +7,7 @@ pub mod Edits
 pub mod EndTurns
 pub mod Exactly
 pub mod Headline
+pub mod Heeded
 pub mod History
 pub mod Link
 pub mod Log

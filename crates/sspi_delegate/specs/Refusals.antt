@@ -1,7 +1,7 @@
 -- Why an end refused its last turn: what it looked at, in its order, and what its context answered.
 use Rattle.std.specs.Prelude.{◌≡◌, ◌≢◌, ◌≤◌, ℕ, List, [], ◌∷◌, Option, Some, None, Result, Ok, Err, false}
 use Rattle.sspi_types.specs.declared.error.Error.{Error}
-use Rattle.sspi_types.specs.declared.error_kind.ErrorKind.TheVariants.{InsufficientMemory}
+use Rattle.sspi_types.specs.declared.error_kind.ErrorKind.TheVariants.{DowngradeDetected, InsufficientMemory}
 use Rattle.sspi_mech.specs.Meaning.{Meaning}
 use Rattle.sspi_mech.specs.declared.step.Reply.{Reply}
 use Rattle.sspi_names.specs.declared.network.NetworkRequest.{NetworkRequest}
@@ -14,6 +14,7 @@ use Rattle.sspi_credssp.specs.ClientCause.{ClientCause, status_of}
 use Rattle.sspi_credssp.specs.ClientStep.{Asked, HasStepped}
 use Rattle.sspi_credssp.specs.ClientTurn.{client_turn}
 use Rattle.sspi_credssp.specs.Context.{ContextSetting}
+use Rattle.sspi_credssp.specs.Heeded.{ClientMeetsOld}
 use Rattle.sspi_credssp.specs.Server.{ServerView}
 use Rattle.sspi_credssp.specs.ServerCause.{ServerCause}
 use Rattle.sspi_credssp.specs.ServerStep.{HasAccepted}
@@ -53,6 +54,7 @@ module _ {C : Type 0} (c : Meaning ContextSetting C) where
   -- a turn of the client on d was refused
   pub record ClientRefuses (replies : List Asked → Type 0) (old : ClientView C) (d : TsRequest) (error : Error) (new : ClientView C) : Type 0 where
     pub cause : error.error_type ≢ InsufficientMemory → ClientCause c old d new error.error_type
+    pub heeds : ClientMeetsOld c old d → error.error_type ≡ DowngradeDetected
     pub status : error.nstatus ≡ status_of c old d
     pub steps : StepsSo replies old d (Err error) new
 

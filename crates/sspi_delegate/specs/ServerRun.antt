@@ -9,6 +9,7 @@ use Rattle.sspi_credssp.specs.declared.state.CredSspState.{CredSspState}
 use Rattle.sspi_credssp.specs.declared.state.CredSspState.TheVariants.{NegoToken, PubKeyInfo, AuthInfo, Final}
 use Rattle.sspi_credssp.specs.Context.{ContextSetting}
 use Rattle.sspi_credssp.specs.Counts.{sealed_in, unsealed_in}
+use Rattle.sspi_credssp.specs.Noted.{noted_with}
 use Rattle.sspi_credssp.specs.Server.{ServerView}
 use Rattle.sspi_credssp.specs.ServerTurn.{IsServerTurn, SameServer, HoldsIdentity}
 use Rattle.sspi_credssp.specs.Turn.{ServerFrame}
@@ -32,20 +33,21 @@ abbrev pub server_state : List Turn → CredSspState
 server_state past =
     if any_finished past then Final else (if any_proved past then AuthInfo else (if any_over past then PubKeyInfo else NegoToken))
 
--- the version that is noted: that of the first request
-abbrev pub server_noted : List Turn → Option ℕ
-server_noted [] = None
-server_noted (t ∷ []) = Some t.delivered.version
-server_noted (t ∷ u ∷ past) = server_noted (u ∷ past)
+-- the version that is noted: that of the first request, unless it is below the least
+abbrev pub server_noted : ℕ → List Turn → Option ℕ
+server_noted least [] = None
+server_noted least (t ∷ []) = noted_with least None t.delivered.version
+server_noted least (t ∷ u ∷ past) = server_noted least (u ∷ past)
 
 -- what a server keeps over its turns, and its context
 pub record ServerEnd (C : Type 0) : Type 0 where
   pub public_key : List ℕ
   pub version : ℕ
+  pub least : ℕ
   pub context : Option C
 
 abbrev pub server_end : {C P : Type 0} → ServerView C P → ServerEnd C
-server_end server = record { public_key = server.public_key; version = server.version; context = server.context }
+server_end server = record { public_key = server.public_key; version = server.version; least = server.least; context = server.context }
 
 -- what the server is at the turn t after these turns
 abbrev pub server_frame_at : {C : Type 0} → ServerEnd C → List Turn → Turn → ServerFrame C
@@ -55,7 +57,7 @@ server_frame_at e past t = record {
   state = server_state past;
   made = made_in past;
   opened = opened_in past;
-  noted = server_noted (t ∷ past);
+  noted = server_noted e.least (t ∷ past);
   context = e.context;
 }
 
@@ -84,5 +86,5 @@ module _ {C : Type 0} (c : Meaning ContextSetting C) where
     pub record ServerFollows (first now : ServerView C P) (past : List Turn) : Type 0 where
       pub ran : ServerRan first now past
       pub state : now.state ≡ server_state past
-      pub noted : now.noted ≡ server_noted past
+      pub noted : now.noted ≡ server_noted now.least past
       pub going : AllGoOn past

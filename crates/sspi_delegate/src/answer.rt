@@ -1,11 +1,12 @@
-use sspi_credssp::End;
 use sspi_ber::WireKind;
+use sspi_credssp::End;
 use sspi_names::AuthIdentity;
 use sspi_types::Error;
 
 /// What an exchange came to: the credentials that the server opened.
 #[derive(Drop)]
 pub struct Delegation {
+    /// The identity that the server opened.
     pub credentials: AuthIdentity,
     /// The number of the client's turns.
     pub turns: u32,

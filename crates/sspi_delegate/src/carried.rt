@@ -6,6 +6,7 @@ use sspi_types::Bytes;
 pub struct Carried {
     /// The end that sent it.
     pub from: End,
+    /// The whole message, as its end gave it to the link.
     pub sent: Bytes,
     /// What was handed out of the delivery so far.
     pub delivered: Bytes,

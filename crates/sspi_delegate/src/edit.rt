@@ -8,7 +8,9 @@ use std::alloc::{AllocError, Global};
 /// What a `MemoryLink` does to one entry of its log, which is counted from 0.
 #[derive(Drop)]
 pub struct Edit {
+    /// The number of the entry, from 0.
     pub entry: u32,
+    /// What happens to it.
     pub kind: EditKind,
 }
 

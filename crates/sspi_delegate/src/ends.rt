@@ -10,12 +10,10 @@ ghost use Rattle.sspi_delegate.specs.Recorded.{ClientPushed, ServerPushed};
 ghost use Rattle.sspi_delegate.specs.Refusals.{KdcStays, ProxyStays};
 ghost use Rattle.sspi_delegate.specs.Rounds.{recorded, ClientConcludes, WaitsWhereLost, ClientRoundPast, ServerRoundPast};
 
-use sspi_credssp::End;
 use crate::transcript::Transcript;
-use sspi_credssp::{Outcome, Turn};
 use sspi_credssp::{
-    ClientState, CredSspClient, CredSspServer, CredentialsProxy, Progress, ServerError,
-    ServerState, SspiContext,
+    ClientState, CredSspClient, CredSspServer, CredentialsProxy, End, Outcome, Progress,
+    ServerError, ServerState, SspiContext, Turn,
 };
 use sspi_mech::{Kdc, KdcError, Mechanism, Reply};
 use sspi_names::{AuthIdentity, NetworkRequest};

@@ -17,13 +17,12 @@ ghost use Rattle.sspi_delegate.specs.Run.{LoggedButLast};
 ghost use Rattle.sspi_delegate.specs.Turns.{next_end, AllGoOn};
 
 use crate::answer::{DelegateError, Delegation};
-use sspi_credssp::End;
 use crate::ends::{ClientRound, ServerRound, client_round, server_round};
 use crate::link::{Link, LinkError};
 use crate::messages::{send, take_delivery};
 use crate::transcript::Transcript;
 use sspi_ber::WireKind;
-use sspi_credssp::{CredSspClient, CredSspServer, CredentialsProxy, SspiContext};
+use sspi_credssp::{CredSspClient, CredSspServer, CredentialsProxy, End, SspiContext};
 use sspi_mech::{Kdc, Mechanism};
 use sspi_names::AuthIdentity;
 use sspi_tsreq::TsRequest;
@@ -53,7 +52,8 @@ use std::alloc::Global;
 /// message that it took. Both ends are as their last turn left them. Where there was no memory for a reply of the KDC, the
 /// client waits for it in one further turn, which has no record.
 ///
-/// `delegates` speaks of ends that have made no call since `new` or `new_with_version` and of a transcript without turns,
+/// `delegates` speaks of ends to which nothing was delivered since they were made, by whatever version and least version, and
+/// of a transcript without turns,
 /// `accounts` of any ends and a transcript without turns, and `stays` of every call; the first holds the other two.
 pub fn delegate<N: Mechanism, K: Mechanism, C: CredentialsProxy, L: Link, D: Kdc>(
     alloc: Global,

@@ -32,6 +32,5 @@ pub use messages::DELIVERY_LIMIT;
 pub use sspi_credssp::{End, Outcome, Turn};
 pub use transcript::Transcript;
 
-
 #[cfg(test)]
 mod tests;

@@ -6,6 +6,7 @@ use std::alloc::{AllocError, AllocFailed};
 pub enum LinkError {
     /// The link failed, and its count of faults rose.
     Failed,
+    /// There was no memory for the message or its entry.
     InsufficientMemory,
 }
 

@@ -4,9 +4,9 @@ ghost use Rattle.sspi_delegate.specs.Link.{LinkCause, NeverFails, StaysTold};
 ghost use Rattle.sspi_delegate.specs.Messages.{Encodes, Sends, SendTold};
 
 use crate::answer::DelegateError;
-use sspi_credssp::End;
 use crate::link::{Link, LinkError};
 use sspi_ber::{VecSink, WireKind};
+use sspi_credssp::End;
 use sspi_tsreq::TsRequest;
 use sspi_types::Bytes;
 use std::alloc::Global;

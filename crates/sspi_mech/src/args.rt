@@ -6,7 +6,9 @@ use sspi_types::{ClientRequestFlags, DataRepresentation, ServerRequestFlags};
 pub struct InitializeSecurityContext<'a> {
     /// The acquired credentials. A step that needs a name refuses where there are none.
     pub credentials_handle: Option<&'a CredentialsBuffers>,
+    /// What the client asks of the context, `USE_SESSION_KEY` and the like.
     pub context_requirements: ClientRequestFlags,
+    /// The byte order of the peer's machine; the plain mechanisms do not look at it.
     pub target_data_representation: DataRepresentation,
     /// The name of the service, as `TERMSRV/host`.
     pub target_name: Option<&'a str>,
@@ -17,8 +19,11 @@ pub struct InitializeSecurityContext<'a> {
 /// What a server's step is given (AcceptSecurityContext).
 #[derive(Clone, Copy)]
 pub struct AcceptSecurityContext<'a> {
+    /// The acquired credentials, where the mechanism asks a server for some.
     pub credentials_handle: Option<&'a CredentialsBuffers>,
+    /// What the server asks of the context.
     pub context_requirements: ServerRequestFlags,
+    /// The byte order of the peer's machine; the plain mechanisms do not look at it.
     pub target_data_representation: DataRepresentation,
     /// The token that the peer sent.
     pub input: &'a [u8],

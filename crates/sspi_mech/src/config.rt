@@ -6,12 +6,14 @@ use std::alloc::{AllocError, Global};
 /// What a mechanism is made of.
 #[derive(Clone, Copy)]
 pub enum MechConfig<'a> {
+    /// Of this configuration of NTLM.
     Ntlm(&'a NtlmConfig),
 }
 
 /// The configuration of NTLM.
 #[derive(Drop, PartialEq, Eq)]
 pub struct NtlmConfig {
+    /// The name of the client's machine, which plain NTLM does not look at.
     pub client_computer_name: Option<Text>,
     /// The challenge that a server sends in its first message.
     pub challenge: [u8; 8],

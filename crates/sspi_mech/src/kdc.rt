@@ -9,6 +9,7 @@ use std::marker::Model;
 pub enum KdcError {
     /// It could not be asked, or did not answer.
     Failed,
+    /// There was no memory for the request or the reply.
     InsufficientMemory,
 }
 

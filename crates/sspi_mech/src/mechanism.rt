@@ -134,7 +134,7 @@ pub trait Mechanism: Sized + Drop {
         ensures cause { IfErr result (λ error. error.error_type ≢ ErrorKind.InsufficientMemory →
             meaning.refuses self.old (ToSign text.now) error.error_type) };
 
-    /// Checks the MIC that the peer made of a text (VerifySignature).
+    /// Checks the MIC that the peer made of a text (VerifySignature). Takes no memory: each refusal is one of the mechanism itself.
     fn verify(&mut self, mic: &[u8], text: &[u8]) -> Result<(), Error>
         ensures mic { OnOk result (meaning.verifies self.new (meaning.counts self.old).verified mic.now text.now) }
         ensures ok { OnOk result (self.new ≡ meaning.counted self.old (one_verified (meaning.counts self.old))) }
@@ -142,8 +142,7 @@ pub trait Mechanism: Sized + Drop {
         ensures permitted { OnOk result (meaning.permits self.old (ToVerify mic.now text.now)) }
         ensures err { OnErr result (self.new ≡ self.old) }
         ensures plain { IfErr result (λ error. error.nstatus ≡ None) }
-        ensures cause { IfErr result (λ error. error.error_type ≢ ErrorKind.InsufficientMemory →
-            meaning.refuses self.old (ToVerify mic.now text.now) error.error_type) };
+        ensures cause { IfErr result (λ error. meaning.refuses self.old (ToVerify mic.now text.now) error.error_type) };
 
     /// Whether this is a server that authenticates user to user.
     fn user_to_user(&self) -> bool

@@ -11,7 +11,9 @@ const TAG_LENGTH: usize = 16;
 /// Who made a message.
 #[derive(Clone, Copy)]
 pub enum Direction {
+    /// Made by the client.
     FromClient,
+    /// Made by the server.
     FromServer,
 }
 
@@ -148,7 +150,7 @@ impl Protection {
         ensures permitted { OnOk result (verify_refusal self.old.key direction self.old.verified mic.now text.now ≡ None) }
         ensures err { OnErr result (self.new ≡ self.old) }
         ensures plain { IfErr result (λ error. error.nstatus ≡ None) }
-        ensures cause { IfErr result (λ error. IsCause (verify_refusal self.old.key direction self.old.verified mic.now text.now) error.error_type) }
+        ensures cause { IfErr result (λ error. verify_refusal self.old.key direction self.old.verified mic.now text.now ≡ Some error.error_type) }
     {
         let key = self.key()?;
         let count = next(self.verified)?;

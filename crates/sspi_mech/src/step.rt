@@ -6,16 +6,20 @@ use sspi_types::{Bytes, Error, SecurityStatus};
 /// A step that was made: how the context stands, and the token for the peer, which may be empty.
 #[derive(Drop)]
 pub struct Step {
+    /// Whether the authentication is over (`Ok`, `CompleteNeeded`) or goes on.
     pub status: SecurityStatus,
+    /// The token for the peer; empty where there is none to send.
     pub output: Bytes,
 }
 
 /// What a client's step answers.
 #[derive(Drop)]
 pub enum Answer {
+    /// The step is made.
     Done(Step),
     /// The step goes on by `resume`, once the KDC has answered this request.
     Ask(NetworkRequest),
+    /// The step is refused with this error.
     Refused(Error),
 }
 
@@ -37,6 +41,7 @@ impl Answer {
 /// What came of a request to a KDC.
 #[derive(Drop)]
 pub enum Reply {
+    /// The bytes that the KDC sent back.
     Answered(Bytes),
     /// The KDC could not be asked.
     Failed,
@@ -45,6 +50,7 @@ pub enum Reply {
 /// How far a step came that was not refused.
 #[derive(Drop)]
 pub enum Progressing {
+    /// The step is made.
     Done(Step),
     /// The step waits for the answer to this request.
     Suspended(NetworkRequest),

@@ -76,7 +76,7 @@ module _ {N K : Type 0} {n : Meaning Setting N} {k : Meaning Setting K} where
       OnOk result ((hand n k).verifies new.mech ((hand n k).counts old.mech).verified mic text) →
       OnOk result (new.mech ≡ (hand n k).counted old.mech (one_verified ((hand n k).counts old.mech))) →
       OnOk result ((hand n k).permits old.mech (ToVerify mic text)) → OnErr result (new.mech ≡ old.mech) →
-      IfErr result (λ error. error.error_type ≢ InsufficientMemory → (hand n k).refuses old.mech (ToVerify mic text) error.error_type) →
+      IfErr result (λ error. (hand n k).refuses old.mech (ToVerify mic text) error.error_type) →
       Passes n k (Verifies mic text (values_of old)) (values_of old) old result new
   verified_part mic text old new (Ok u) same h counted permitted still cause =
       record {
@@ -87,7 +87,7 @@ module _ {N K : Type 0} {n : Meaning Setting N} {k : Meaning Setting K} where
         );
       }
   verified_part mic text old new (Err error) same h counted permitted still cause =
-      record { onward = λ rest. record { as_planned = λ other. refused error (cause other, still) refl same } }
+      record { onward = λ rest. record { as_planned = λ other. refused error (cause, still) refl same } }
 
   pub named_part : {T : Type 0} {v : Values} {part : Name → Plan → Plan} {old new : Negotiation (NegotiatedProtocol N K)} (result : Result T Error) (name : Name) →
       (hand n k).names old.mech ≡ Some name → Passes n k (part name) v old result new → Passes n k (λ rest. Names (values_of old) (λ x. part x rest)) v old result new

@@ -240,7 +240,7 @@ impl<N: Mechanism, K: Mechanism> NegotiatedProtocol<N, K> {
         ensures permitted { OnOk result ((hand N.meaning K.meaning).permits self.old (ToVerify token.now text.now)) }
         ensures err { OnErr result (self.new ≡ self.old) }
         ensures plain { IfErr result (λ error. error.nstatus ≡ None) }
-        ensures cause { IfErr result (λ error. error.error_type ≢ ErrorKind.InsufficientMemory →
+        ensures cause { IfErr result (λ error.
             (hand N.meaning K.meaning).refuses self.old (ToVerify token.now text.now) error.error_type) }
     {
         match self {

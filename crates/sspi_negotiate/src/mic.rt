@@ -32,8 +32,8 @@ fn verify_with<N: Mechanism, K: Mechanism>(
     ensures permitted { OnOk result ((hand N.meaning K.meaning).permits protocol.old (ToVerify mic.now text.now)) }
     ensures err { OnErr result (protocol.new ≡ protocol.old) }
     ensures plain { IfErr result (λ error. error.nstatus ≡ None) }
-    ensures cause { IfErr result (λ error. error.error_type ≢ ErrorKind.InsufficientMemory →
-        (hand N.meaning K.meaning).refuses protocol.old (ToVerify mic.now text.now) error.error_type) }
+    ensures cause { IfErr result (λ error.
+            (hand N.meaning K.meaning).refuses protocol.old (ToVerify mic.now text.now) error.error_type) }
 {
     protocol.verify_mic_token(mic.as_slice(), text.as_slice())
 }

@@ -8,6 +8,7 @@ use Rattle.sspi_credssp.specs.declared.context.SspiContext.{SspiContext}
 use Rattle.sspi_credssp.specs.declared.mode.ClientMode.TheVariants as client
 use Rattle.sspi_credssp.specs.declared.mode.ServerMode.TheVariants as server
 use Rattle.sspi_credssp.specs.Client.{ClientView, IsFreshClient}
+use Rattle.sspi_credssp.specs.Noted.{default_least}
 use Rattle.sspi_credssp.specs.Server.{ServerView, IsFreshServer}
 use Rattle.sspi_credssp.specs.Table.{TableView}
 use Rattle.sspi_delegate.specs.Edits.{MemoryLinkView}
@@ -32,6 +33,7 @@ pub record IsClientOf (scenario : Scenario) (a : ClientView NtlmContext) : Type 
   pub credentials : a.credentials ≡ credentials_in scenario
   pub delegation : a.delegation ≡ scenario.delegation
   pub version : a.version ≡ scenario.client_version
+  pub least : a.least ≡ default_least
   pub mode : a.mode ≡ client.Ntlm (record { client_computer_name = Some scenario.computer; challenge = replicate 8 0 })
   pub target : a.target ≡ scenario.target
   pub nonce : a.nonce ≡ scenario.nonce
@@ -41,6 +43,7 @@ pub record IsServerOf (scenario : Scenario) (a : ServerView NtlmContext TableVie
   pub public_key : a.public_key ≡ scenario.server_key
   pub proxy : a.proxy ≡ record { entries = scenario.account; failing = scenario.proxy_fail; calls = 0; faults = 0 }
   pub version : a.version ≡ scenario.server_version
+  pub least : a.least ≡ default_least
   pub mode : a.mode ≡ server.Ntlm (record { client_computer_name = None; challenge = scenario.challenge })
 
 -- the link has the scenario's edits, and carried nothing yet

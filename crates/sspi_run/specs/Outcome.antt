@@ -2,6 +2,7 @@
 use Rattle.std.specs.Prelude.{◌≡◌, ◌^◌, ◌<◌, ◌≤◌, [], length, None, IfOk, nat_lt}
 use Rattle.sspi_names.specs.declared.identity.AuthIdentity.{AuthIdentity}
 use Rattle.sspi_names.specs.Identity.{IsIdentity}
+use Rattle.sspi_credssp.specs.Noted.{default_least}
 use Rattle.sspi_completeness.specs.Matching.{HasEntry, IsShort, delegated_as, ComesToOk, IsCutShort}
 use Rattle.sspi_scenario.specs.declared.scenario.Scenario.{Scenario}
 use Rattle.sspi_scenario.specs.Scenario.{own_identity}
@@ -20,7 +21,7 @@ pub record AreValues (scenario : Scenario) : Type 0 where
   pub challenge : length scenario.challenge ≡ 8
 
 -- Nothing is edited and no look-up fails; the client has the password that the server's table knows, and both ends have
--- one key and one kind of proof.
+-- one key and one kind of proof, and each takes the other's version.
 pub record IsPlain (scenario : Scenario) : Type 0 where
   pub no_edit : scenario.edit ≡ []
   pub no_failure : scenario.proxy_fail ≡ []
@@ -28,6 +29,8 @@ pub record IsPlain (scenario : Scenario) : Type 0 where
   pub key_same : scenario.server_key ≡ scenario.key
   pub key_short : length scenario.key ≤ 16384
   pub versions : nat_lt scenario.client_version 5 ≡ nat_lt scenario.server_version 5
+  pub client_takes : default_least ≤ scenario.server_version
+  pub server_takes : default_least ≤ scenario.client_version
   pub entry : HasEntry scenario.account (user_identity scenario)
   pub short : IsShort (user_identity scenario)
 

@@ -51,6 +51,9 @@ pub trait ClientEnd: End {
     /// A client of this version, whose nonce repeats a byte.
     fn make(alloc: Global, parts: ClientParts, mode: CredSspMode, version: u32, nonce: u8) -> Self;
 
+    /// The same client, which takes servers from this version on.
+    fn taking(self, least: u32) -> Self;
+
     fn resume(&mut self, reply: &Reply) -> Said;
 
     fn waiting(&self) -> bool;
@@ -72,6 +75,9 @@ pub trait ServerEnd: End {
 
     /// A server of this version.
     fn make(alloc: Global, parts: ServerParts, version: u32) -> Self;
+
+    /// The same server, which takes clients from this version on.
+    fn taking(self, least: u32) -> Self;
 }
 
 fn said_by_client(progress: Result<Progress, Error>) -> Said {
@@ -123,6 +129,10 @@ impl<N: Mechanism, K: Mechanism> ClientEnd for CredSspClient<N, K> {
         )
     }
 
+    fn taking(self, least: u32) -> Self {
+        self.with_least_version(least)
+    }
+
     fn resume(&mut self, reply: &Reply) -> Said {
         said_by_client(CredSspClient::resume(self, reply))
     }
@@ -163,6 +173,10 @@ impl<N: Mechanism, K: Mechanism> ServerEnd for CredSspServer<N, K, TableProxy> {
     fn make(alloc: Global, parts: ServerParts, version: u32) -> Self {
         let mode = ServerMode::Ntlm(parts.config);
         CredSspServer::new_with_version(alloc, parts.key, parts.proxy, version, mode)
+    }
+
+    fn taking(self, least: u32) -> Self {
+        self.with_least_version(least)
     }
 }
 

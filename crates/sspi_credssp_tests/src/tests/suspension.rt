@@ -135,7 +135,7 @@ fn refuses_proofs<E: End>(rt: &impl Abort, alloc: Global, client: &mut E) {
 }
 
 fn ends_early_and_delegates<E: ClientEnd>(rt: &impl Abort, alloc: Global) {
-    let mut client = plain_client::<E>(rt, alloc);
+    let mut client = plain_client::<E>(rt, alloc).taking(4);
     ends_early(rt, alloc, &mut client);
     refuses_proofs(rt, alloc, &mut client);
     delegates(

@@ -45,7 +45,7 @@ fn exchanges<C: End, S: End>(
     );
 }
 
-/// Ends of these versions, over a channel of this key.
+/// Ends of these versions, which take every version, over a channel of this key.
 fn proves<C: ClientEnd, S: ServerEnd>(
     rt: &impl Abort,
     alloc: Global,
@@ -57,10 +57,10 @@ fn proves<C: ClientEnd, S: ServerEnd>(
 ) {
     let mode = CredSspMode::WithCredentials;
     let parts = client_parts(rt, alloc, ann(rt, alloc), key);
-    let mut client = C::make(alloc, parts, mode, versions.0, nonce);
+    let mut client = C::make(alloc, parts, mode, versions.0, nonce).taking(0);
     let account = account(rt, alloc, "DOM\\ann", "pw");
     let parts = server_parts(rt, alloc, account, key);
-    let mut server = S::make(alloc, parts, versions.1);
+    let mut server = S::make(alloc, parts, versions.1).taking(0);
     exchanges(rt, &mut client, &mut server, of_client, of_server);
 }
 
@@ -150,10 +150,10 @@ fn differ<C: ClientEnd, S: ServerEnd>(
 ) -> TsRequest {
     let mode = CredSspMode::WithCredentials;
     let parts = client_parts(rt, alloc, ann(rt, alloc), &KEY);
-    let mut client = C::make(alloc, parts, mode, versions.0, 0);
+    let mut client = C::make(alloc, parts, mode, versions.0, 0).taking(0);
     let account = account(rt, alloc, "DOM\\ann", "pw");
     let parts = server_parts(rt, alloc, account, &KEY);
-    let mut server = S::make(alloc, parts, versions.1);
+    let mut server = S::make(alloc, parts, versions.1).taking(0);
     let back = refuses_proof(rt, &mut client, &mut server, proof, reason);
     holds(rt, back.version == versions.1, "another version");
     back

@@ -43,6 +43,8 @@ struct Setting {
     key: (usize, usize),
     /// The client's version and the server's.
     versions: (u32, u32),
+    /// The least version of a peer that either takes.
+    least: u32,
     turns: u32,
     edit: Option<(u32, Kind)>,
 }
@@ -104,7 +106,7 @@ fn identity(alloc: Global, setting: &Setting) -> Result<AuthIdentity, Fail> {
 
 fn client_of(alloc: Global, setting: &Setting) -> Result<CredSspClient<Ntlm, Ntlm>, Fail> {
     let config = NtlmConfig::new(Text::from_text(alloc, "CLIENT")?);
-    Ok(CredSspClient::new_with_version(
+    let client = CredSspClient::new_with_version(
         alloc,
         key(alloc, setting.key)?,
         Credentials::AuthIdentity(identity(alloc, setting)?),
@@ -113,7 +115,8 @@ fn client_of(alloc: Global, setting: &Setting) -> Result<CredSspClient<Ntlm, Ntl
         ClientMode::Ntlm(config),
         repeated(alloc, "TERMSRV/host.example.com", 1)?,
         [0; 32],
-    ))
+    );
+    Ok(client.with_least_version(setting.least))
 }
 
 /// A server that knows the client's own identity.
@@ -124,13 +127,14 @@ fn server_of(
     let config = NtlmConfig::new(Text::from_text(alloc, "SERVER")?);
     let mut known = Vec::new(alloc);
     known.push(identity(alloc, setting)?)?;
-    Ok(CredSspServer::new_with_version(
+    let server = CredSspServer::new_with_version(
         alloc,
         key(alloc, setting.key)?,
         TableProxy::new(alloc, known, Vec::new(alloc)),
         setting.versions.1,
         ServerMode::Ntlm(config),
-    ))
+    );
+    Ok(server.with_least_version(setting.least))
 }
 
 fn memory_link(alloc: Global, setting: &Setting) -> Result<MemoryLink, AllocError> {
@@ -238,6 +242,7 @@ const PLAIN: Setting = Setting {
     user: ("DOM\\ann", 1),
     key: (1, 4),
     versions: (6, 6),
+    least: 5,
     turns: 5,
     edit: None,
 };
@@ -275,8 +280,9 @@ fn limited(limit: u32, wanted: Wanted, turns: usize, sent: usize, delivered: usi
     }
 }
 
-fn rows() -> [Row; 11] {
+fn rows() -> [Row; 12] {
     let altered = Wanted::Client(ErrorKind::MessageAltered, None);
+    let old = Wanted::Client(ErrorKind::DowngradeDetected, None);
     let malformed = Wanted::Client(ErrorKind::InvalidToken, None);
     let told = Wanted::Client(ErrorKind::InvalidToken, Some(NStatusCode(0xc0070308)));
     let unread = Wanted::Other(DelegateError::Read(End::Server, WireKind::UnexpectedEof));
@@ -300,6 +306,7 @@ fn rows() -> [Row; 11] {
         },
         edited(3, Kind::Again(2), altered, 5, 4, 149),
         edited(3, Kind::Set(6, 5), altered, 5, 4, 95),
+        edited(1, Kind::Set(6, 4), old, 3, 2, 27),
         edited(3, short_proof(), malformed, 5, 4, 26),
         edited(1, error_code(), told, 3, 2, 15),
         edited(0, Kind::Drop, unread, 1, 1, 0),
@@ -336,6 +343,7 @@ fn an_altered_proof_is_told_to_the_client(rt: HostRuntime) -> Result<(), Fail> {
     let setting = Setting {
         key: (0, 270),
         versions: (4, 6),
+        least: 4,
         ..PLAIN
     };
     let mut link = memory_link(rt.alloc(), &setting)?;
@@ -343,6 +351,25 @@ fn an_altered_proof_is_told_to_the_client(rt: HostRuntime) -> Result<(), Fail> {
     let wanted = Wanted::Server(ErrorKind::MessageAltered);
     assert!(rt; is_wanted(&exchanged.answer, wanted));
     assert_log(&rt, link.log(), &mixed_messages(), 0);
+    Ok(())
+}
+
+/// The server tells its client that its version is too old, and the client's own least version is not asked.
+#[test]
+fn an_old_client_is_told_so(rt: HostRuntime) -> Result<(), Fail> {
+    let setting = Setting {
+        versions: (4, 6),
+        ..PLAIN
+    };
+    let mut link = memory_link(rt.alloc(), &setting)?;
+    let exchanged = exchange(rt.alloc(), &setting, &mut link)?;
+    let wanted = Wanted::Server(ErrorKind::DowngradeDetected);
+    assert!(rt; is_wanted(&exchanged.answer, wanted));
+    let messages = [
+        "3011a003020104a10a30083006a00404024e31",
+        "300da003020104a4060204c0070350",
+    ];
+    assert_log(&rt, link.log(), &messages, 0);
     Ok(())
 }
 

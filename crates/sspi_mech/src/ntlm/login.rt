@@ -13,7 +13,9 @@ const LONGEST_NAME: usize = 65535;
 /// Who a client logs on as.
 #[derive(Drop)]
 pub struct Login {
+    /// The name of the user, with its domain where it has one.
     pub name: Username,
+    /// The password, as text.
     pub password: Text,
 }
 

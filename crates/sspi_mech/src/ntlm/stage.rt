@@ -23,9 +23,11 @@ pub enum Stage {
 /// Who a client says it is, and what is to show it.
 #[derive(Drop)]
 pub struct Claim {
+    /// The name that the client gave.
     pub name: Username,
     /// The bytes of the name, as they stood in the message.
     pub text: Bytes,
+    /// What only who knows the password can make of the name and the challenge.
     pub proof: [u8; 32],
 }
 

@@ -102,14 +102,6 @@ fn refusals_without_a_code(rt: HostRuntime) -> Result<(), Fail> {
         (1, 5),
         "\n< 305da003020105a3320430",
         last,
-    )?;
-    shows(
-        &rt,
-        alloc,
-        "client-version 2\nserver-version 2\naccounts none\n",
-        (1, 5),
-        "\n< 301ca003020102a3150413",
-        last,
     )
 }
 

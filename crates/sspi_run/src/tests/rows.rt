@@ -151,23 +151,34 @@ fn a_name_that_no_message_holds(rt: HostRuntime) -> Result<(), Fail> {
     )
 }
 
-/// Below version 5 one is added to the key for the server's proof, and ends of both kinds do not understand each other.
+/// The first version that an end hears is too old, and the server says so in that version.
 #[test]
-fn versions(rt: HostRuntime) -> Result<(), Fail> {
-    let before_5 =
-        "mode ntlm\nuser DOM\\ann\npassword pw\nkey ffff00\nclient-version 4\nserver-version 4\n";
-    reports(&rt, rt.alloc(), before_5, (0, 6), "000001\n> ", DELEGATED)?;
-    let mut mixed = String::from_str(
-        rt.alloc(),
-        "mode ntlm\nuser DOM\\ann\npassword pw\nclient-version 4\nkey ",
-    )?;
-    mixed.push_str(&"01".repeat(rt.alloc(), 270)?)?;
-    reports(
+fn old_versions(rt: HostRuntime) -> Result<(), Fail> {
+    let alloc = rt.alloc();
+    let refused = "\n< 300da003020104a4060204c0070350\nserver DowngradeDetected\n";
+    shows(&rt, alloc, "client-version 4\n", (1, 3), "", refused)?;
+    shows(
         &rt,
-        rt.alloc(),
-        mixed.as_str(),
-        (1, 5),
-        "\n< 3041a003020106a3320430",
-        "a4060204c007030f\nserver MessageAltered\n",
+        alloc,
+        "client-version 4\nserver-version 4\n",
+        (1, 3),
+        "",
+        refused,
+    )?;
+    shows(
+        &rt,
+        alloc,
+        "client-version 2\n",
+        (1, 3),
+        "",
+        "\n< 3005a003020102\nserver DowngradeDetected\n",
+    )?;
+    shows(
+        &rt,
+        alloc,
+        "edit 1 set 6 04\n",
+        (1, 4),
+        "\n! 3019a003020104",
+        "\nclient DowngradeDetected\n",
     )
 }

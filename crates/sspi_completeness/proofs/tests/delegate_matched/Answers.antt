@@ -20,8 +20,9 @@ alone i = rw (ignoring_case-equiv.refl i.username) refl
 -- how the two ends were made
 record AreMade {C D : Type 0} (client : ClientView C) (server : ServerView D TableView) (i mine known : AuthIdentity) (key : List ℕ) (mode : CredSspMode) (cv sv : ℕ) : Type 0 where
   pub client_values : (client.public_key ≡ key) × (client.credentials ≡ credentials.AuthIdentity mine) × (client.delegation ≡ mode) × (client.version ≡ cv) × (length client.nonce ≡ 32)
+      × (client.least ≡ 0)
   pub server_values : (server.public_key ≡ key) × (server.version ≡ sv) × (length (challenge_of server.mode) ≡ 8)
-      × (server.proxy ≡ record { entries = known ∷ []; failing = []; calls = 0; faults = 0 })
+      × (server.proxy ≡ record { entries = known ∷ []; failing = []; calls = 0; faults = 0 }) × (server.least ≡ 0)
   pub mine_is : mine ≡ i
   pub known_is : known ≡ i
   pub client_version : cv < 2 ^ 32
@@ -34,6 +35,8 @@ matched client server i mine known key mode cv sv made is short few versions = r
   key_same = made.server_values.0 ∙ sym made.client_values.0;
   key_short = omega (arith, ap length made.client_values.0, few);
   versions = rw (made.client_values.3, made.server_values.1) versions;
+  client_takes = omega (arith, made.client_values.5);
+  server_takes = omega (arith, made.server_values.4);
   identity = i;
   credentials_are = made.client_values.1 ∙ ap credentials.AuthIdentity made.mine_is;
   short = short;

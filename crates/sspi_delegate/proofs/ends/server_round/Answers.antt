@@ -33,6 +33,6 @@ returns-in-Err-clause-server_history g c first history =
     server_stopped (either g.N.Mechanism.meaning g.K.Mechanism.meaning) g.C.CredentialsProxy.told g.C.CredentialsProxy.faults g.C.CredentialsProxy.failing
     first c.args.server.now c.process.new.self c.record_server-in-Err.new.server c.args.request
     c.in-Err.field-0.error c.in-Err.field-0.ts_request c.args.transcript.now.turns c.record_server-in-Err.new.transcript.turns history
-    c.in-Err.ensures.turn (record { cause = c.in-Err.ensures.cause; status = c.in-Err.ensures.plain; step = c.in-Err.ensures.step })
+    c.in-Err.ensures.turn (record { cause = c.in-Err.ensures.cause; heeds = λ met. (c.in-Err.ensures.heeded.refuses met).0; status = c.in-Err.ensures.plain; step = c.in-Err.ensures.step })
     (record { told_same = c.process.ensures.told; failing_same = c.process.ensures.failing; counted = c.process.ensures.faults; calm = c.process.ensures.calm })
     c.record_server-in-Err.ensures.rest (rw (← c.in-Ok.ensures.turns, ← c.in-Ok-clone.ensures) c.record_server-in-Err.ensures.turn)

@@ -5,6 +5,7 @@ use Rattle.sspi_delegate.specs.Asking.{kdc_calls}
 use Rattle.sspi_delegate.proofs.Alternating.{clients_others, servers_others}
 use Rattle.sspi_delegate.proofs.Exactness.{exactly}
 use Rattle.sspi_delegate.proofs.Headline.{run_log, run_order, sealed_once, seals_after_proof, server_never_seals, exchanged_ok}
+use Rattle.sspi_delegate.proofs.Heeding.{client_past_heeds, server_past_heeds}
 use Rattle.sspi_delegate.proofs.HistoryRuns.{client_past_ran, server_past_ran, server_past_gives, past_refused}
 use Rattle.sspi_delegate.proofs.exchange.delegate.Goals as goal
 
@@ -40,8 +41,11 @@ returns-clause-delegates g c fresh =
     let client = client_past_ran m law k _ _ _ _ _ result fresh.client_is (clients_others turns order) client_past in
     let server = server_past_ran m law g.C.CredentialsProxy.told g.C.CredentialsProxy.faults g.C.CredentialsProxy.failing _ _ _ result fresh.server_is
     (servers_others turns order) server_past in
+    let client_heeds = client_past_heeds m law k _ _ _ _ _ result fresh.client_is (clients_others turns order) client_past in
+    let server_heeds = server_past_heeds m law g.C.CredentialsProxy.told g.C.CredentialsProxy.faults g.C.CredentialsProxy.failing _ _ _ result fresh.server_is
+    (servers_others turns order) server_past in
     record {
-      the_turns_are_a_run = record { order = order; entries = run_log _ _ _ _ _ _ _ cause; client_ran = client; server_ran = server };
+      the_turns_are_a_run = record { order = order; entries = run_log _ _ _ _ _ _ _ cause; client_ran = client; server_ran = server; client_heeds = client_heeds; server_heeds = server_heeds };
       credentials_are_sealed_at_most_once = sealed_once m _ _ turns client.each client.others server.each;
       the_client_seals_after_the_proof = seals_after_proof m _ _ client.each;
       the_server_never_seals = server_never_seals m _ _ server.each;

@@ -1,19 +1,27 @@
-use Rattle.std.proofs.Common.{◌≡◌, None, rules}
+use Rattle.std.proofs.Common.{◌≡◌, None, sym, subst, rules}
 use Rattle.sspi_types.specs.declared.credential_use.CredentialUse.TheVariants.{Inbound}
-use Rattle.sspi_credssp.specs.Begun.{Begun}
+use Rattle.sspi_credssp.specs.Begun.{Begun, IfContext}
 use Rattle.sspi_credssp.specs.Context.{either, ForServer}
-use Rattle.sspi_credssp.proofs.ServerCauses.{begun_noted}
+use Rattle.sspi_credssp.proofs.ServerBeginning.{new_refused, whatever}
 use Rattle.sspi_credssp.proofs.server.CredSspServer.begin.Goals as goal
-
-pub returns-in-Ok-clause-begun : goal.returns-in-Ok-clause-begun
-returns-in-Ok-clause-begun g c =
-    let now = c.args.self.now in
-    begun_noted _ c.make_context.new.self _ _
-    (λ handle m. Begun (either g.N.Mechanism.meaning g.K.Mechanism.meaning) now.context now.handle (ForServer now.mode) Inbound None handle m)
-    c.note_version-in-Ok.ensures.ok c.in-Ok.ensures.begun
 
 pub returns-in-Err-clause-cause : goal.returns-in-Err-clause-cause
 returns-in-Err-clause-cause g c = λ memory.
     let none : c.args.self.now.context ≡ None = search rules in
     let gone : c.make_context.new.self.context ≡ None = search rules in
     rw (none, gone) (c.in-Err.ensures.cause memory)
+
+pub returns-in-Ok-clause-begun : goal.returns-in-Ok-clause-begun
+returns-in-Ok-clause-begun g c =
+    let it = either g.N.Mechanism.meaning g.K.Mechanism.meaning in
+    let now = c.args.self.now in
+    whatever c.note_version-in-Ok.result _
+    (subst (λ v. IfContext v.context (Begun it now.context now.handle (ForServer now.mode) Inbound None v.handle)) (sym c.self-in-None.view_is) c.in-Ok.ensures.begun)
+
+pub returns-in-Ok-clause-refused : goal.returns-in-Ok-clause-refused
+returns-in-Ok-clause-refused g c =
+    let it = either g.N.Mechanism.meaning g.K.Mechanism.meaning in
+    let now = c.args.self.now in
+    new_refused it c.note_version-in-Ok.result now _ c.args.version (search rules) c.in-Ok.ensures.noted c.in-Ok.ensures.state (search rules)
+    (subst (λ v. IfContext v.context (Begun it now.context now.handle (ForServer now.mode) Inbound None v.handle)) (sym c.self-in-None.view_is) c.in-Ok.ensures.begun)
+    (search rules) (search rules)

@@ -1,0 +1,120 @@
+-- A server's call that is refused while it makes its context or looks at its client's version.
+use Rattle.std.proofs.Common.{◌≡◌, ◌+◌, ℕ, List, [], Option, None, Some, IsSome, Result, Ok, Err, OnOk, OnErr, Bool, true, false, refl, sym, ◌∙◌, ap, subst, arith}
+use Rattle.sspi_types.specs.declared.credential_use.CredentialUse.TheVariants.{Inbound}
+use Rattle.sspi_types.specs.declared.error.Error.{Error}
+use Rattle.sspi_names.specs.declared.credentials.CredentialsBuffers.{CredentialsBuffers}
+use Rattle.sspi_names.specs.declared.identity.AuthIdentity.{AuthIdentity}
+use Rattle.sspi_tsreq.specs.declared.request.TsRequest.{TsRequest}
+use Rattle.sspi_mech.specs.Context.{IsUnused}
+use Rattle.sspi_mech.specs.Meaning.{Meaning}
+use Rattle.sspi_credssp.specs.declared.acts.Acts.{Acts}
+use Rattle.sspi_credssp.specs.declared.server_state.ServerError.{ServerError}
+use Rattle.sspi_credssp.specs.declared.state.CredSspState.{CredSspState}
+use Rattle.sspi_credssp.specs.declared.state.CredSspState.TheVariants.{NegoToken}
+use Rattle.sspi_credssp.specs.declared.turn.Outcome.TheVariants as outcome
+use Rattle.sspi_credssp.specs.Acts.{no_acts, sealed_by, unsealed_by}
+use Rattle.sspi_credssp.specs.Begun.{Begun, IfContext}
+use Rattle.sspi_credssp.specs.Context.{ContextSetting, ForServer}
+use Rattle.sspi_credssp.specs.Counts.{IsUnusedIn, sealed_in, unsealed_in}
+use Rattle.sspi_credssp.specs.ErrorRequest.{error_request, version_back}
+use Rattle.sspi_credssp.specs.Noted.{noted_with}
+use Rattle.sspi_credssp.specs.Server.{ServerView}
+use Rattle.sspi_credssp.specs.ServerStep.{OnStep}
+use Rattle.sspi_credssp.specs.ServerTurn.{BeginRefused, ServerTurn, UnlessMade}
+use Rattle.sspi_credssp.proofs.ServerReady.{not_yet}
+
+pub whatever : {T : Type 0} (r : Result T Error) (Q : Type 0) → Q → OnOk r Q
+whatever (Ok x) Q h = h
+whatever (Err e) Q h = tt
+
+more_by_none : (n m : ℕ) (acts : Acts) → acts ≡ no_acts → n ≡ m → (n ≡ m + sealed_by acts) × (n ≡ m + unsealed_by acts)
+more_by_none n m acts idle same = (rw (idle, same) (omega arith), rw (idle, same) (omega arith))
+
+module _ {C : Type 0} (c : Meaning ContextSetting C) where
+  unmade_before : (o : Option C) (Q : C → Type 0) → IfContext o Q → UnlessMade c None o Q
+  unmade_before None Q h = tt
+  unmade_before (Some m) Q h = h
+
+  back_again : (o : Option C) (noted : Option ℕ) (version own : ℕ) → noted ≡ None → version_back o noted version own ≡ version
+  back_again None noted version own none = refl
+  back_again (Some m) noted version own none = rw none refl
+
+  unsealed_so_far : (o : Option C) → IsUnusedIn c o → (sealed_in c o ≡ 0) × (unsealed_in c o ≡ 0)
+  unsealed_so_far None h = (refl, refl)
+  unsealed_so_far (Some m) h = (h.sealed, h.unsealed)
+
+  module _ {P : Type 0} where
+    -- the version was refused that a new context met first
+    pub new_refused : {T : Type 0} (r : Result T Error) (old new : ServerView C P) (version : ℕ) →
+        old.context ≡ None → old.noted ≡ None → old.state ≡ NegoToken → IsUnusedIn c new.context →
+        IfContext new.context (λ m. Begun c old.context old.handle (ForServer old.mode) Inbound None new.handle m) →
+        new.noted ≡ noted_with old.least old.noted version → OnErr r (new.noted ≡ old.noted) → OnErr r (BeginRefused c old version new)
+    new_refused (Ok x) old new version none unnoted state unused begun noted same = tt
+    new_refused (Err e) old new version none unnoted state unused begun noted same =
+        let fresh = unsealed_so_far new.context unused in
+        record {
+          handle = λ some. absurd (cc (some, none));
+          noted = λ some. noted;
+          unnoted = λ gone. same;
+          unstepped = subst (λ (o : Option C). UnlessMade c o new.context (λ m. Begun c old.context old.handle (ForServer old.mode) Inbound None new.handle m))
+              (sym none) (unmade_before new.context _ begun);
+          back = λ own. back_again new.context new.noted version own (same ∙ unnoted);
+          sealed = λ su. fresh.0 ∙ rw none refl;
+          unsealed = λ su. fresh.1 ∙ rw none refl;
+          bare = not_yet old.state _ state;
+        }
+
+    -- the turn that such a call is
+    pub begin_halted : (old new : ServerView C P) (d : TsRequest) (error : Error) (refusal : ServerError) (state : CredSspState) →
+        BeginRefused c (record old { acts = no_acts; output = [] }) d.version new →
+        new ≡ record old { context = new.context; handle = new.handle; noted = new.noted; acts = no_acts; output = [] } → state ≡ old.state →
+        refusal ≡ record { ts_request = Some (error_request state d.version error.error_type d); error = error } →
+        ServerTurn c old d (outcome.Refused refusal.error.error_type refusal.ts_request) new
+    begin_halted old new d error refusal state refused is stays given =
+        let idle : new.acts ≡ no_acts = ap (λ (v : ServerView C P). v.acts) is in
+        let negotiated : new.acts.negotiated ≡ false = ap (λ (a : Acts). a.negotiated) idle in
+        let status : new.acts.status ≡ None = ap (λ (a : Acts). a.status) idle in
+        let checked : new.acts.checked ≡ false = ap (λ (a : Acts). a.checked) idle in
+        let proved : new.acts.proved ≡ false = ap (λ (a : Acts). a.proved) idle in
+        let opened : new.acts.opened ≡ false = ap (λ (a : Acts). a.opened) idle in
+        subst (λ (r : ServerError). ServerTurn c old d (outcome.Refused r.error.error_type r.ts_request) new) (sym given)
+        (record {
+          turn = record {
+            version = tt;
+            acts = record {
+              negotiated = λ was. absurd (cc (was, negotiated));
+              answered = λ some. absurd (cc (some, status));
+              checked = λ was. absurd (cc (was, checked));
+              proved = λ was. absurd (cc (was, proved));
+              opened = λ was. absurd (cc (was, opened));
+              sealed = ap (λ (a : Acts). a.sealed) idle;
+            };
+            reply = rw (stays, refused.back new.version) refl;
+          };
+          moves = record {
+            same = record {
+              public_key = ap (λ (v : ServerView C P). v.public_key) is;
+              version = ap (λ (v : ServerView C P). v.version) is;
+              least = ap (λ (v : ServerView C P). v.least) is;
+              mode = ap (λ (v : ServerView C P). v.mode) is;
+            };
+            handle = refused.handle;
+            state = ap (λ (v : ServerView C P). v.state) is;
+            noted = refused.noted;
+            unnoted = refused.unnoted;
+            begun = tt;
+            noted_proved = λ was. absurd (cc (was, proved));
+            noted_checked = λ was. absurd (cc (was, checked));
+            noted_opened = λ was. absurd (cc (was, opened));
+            sealed = λ su. (more_by_none _ _ new.acts idle (refused.sealed su)).0;
+            unsealed = λ su. (more_by_none _ _ new.acts idle (refused.unsealed su)).1;
+            bare = refused.bare;
+            unstepped = λ none. refused.unstepped;
+            unanswered = λ none. ap (λ (v : ServerView C P). v.output) is;
+          };
+        })
+
+    -- a call without a step says nothing of one
+    pub no_step : (told : P → Option (List AuthIdentity)) (negotiated : Bool) (Q : Type 0) → negotiated ≡ false → OnStep c told negotiated Q
+    no_step told true Q none = absurd (cc (none))
+    no_step told false Q none = tt

@@ -1,0 +1,252 @@
+-- Each turn of a run is refused for the age of its peer's version exactly where it finds one.
+use Rattle.std.proofs.Common.{◌≡◌, ℕ, ◌<◌, List, [], ◌∷◌, Bool, true, false, Option, None, Some, IsSome, Result, Ok, Err, refl, sym, ◌∙◌, ap, subst, nat_lt, if◌then◌else◌}
+use Rattle.std.proofs.lemmas.Bool.{ltb-true, lt-ltb, true≢false}
+use Rattle.sspi_types.specs.declared.error.Error.{Error}
+use Rattle.sspi_types.specs.declared.error_kind.ErrorKind.{ErrorKind}
+use Rattle.sspi_types.specs.declared.error_kind.ErrorKind.TheVariants.{DowngradeDetected}
+use Rattle.sspi_mech.specs.Context.{IsContext}
+use Rattle.sspi_mech.specs.Meaning.{Meaning}
+use Rattle.sspi_names.specs.declared.identity.AuthIdentity.{AuthIdentity}
+use Rattle.sspi_tsreq.specs.declared.request.TsRequest.{TsRequest}
+use Rattle.sspi_credssp.specs.declared.server_state.ServerState.{ServerState}
+use Rattle.sspi_credssp.specs.declared.turn.Outcome.{Outcome}
+use Rattle.sspi_credssp.specs.declared.turn.Outcome.TheVariants as outcome
+use Rattle.sspi_credssp.specs.declared.turn.Turn.{Turn}
+use Rattle.sspi_credssp.specs.Client.{ClientView, IsFreshClient}
+use Rattle.sspi_credssp.specs.ClientTurn.{client_turn}
+use Rattle.sspi_credssp.specs.Context.{ContextSetting}
+use Rattle.sspi_credssp.specs.Heeded.{ClientMeetsOld, ServerMeetsOld}
+use Rattle.sspi_credssp.specs.Noted.{is_old, is_old_in, noted_with}
+use Rattle.sspi_credssp.specs.Server.{ServerView, IsFreshServer}
+use Rattle.sspi_credssp.specs.ServerTurn.{server_turn}
+use Rattle.sspi_credssp.specs.Turn.{AtNoted, UnlessRefused}
+use Rattle.sspi_credssp.proofs.ClientHeeding.{client_met}
+use Rattle.sspi_credssp.proofs.ServerHeeding.{server_met}
+use Rattle.sspi_delegate.specs.declared.answer.Delegation.{Delegation}
+use Rattle.sspi_delegate.specs.declared.answer.DelegateError.{DelegateError}
+use Rattle.sspi_delegate.specs.declared.answer.DelegateError.TheVariants as errors
+use Rattle.sspi_delegate.specs.Asking.{KdcCalls}
+use Rattle.sspi_delegate.specs.ClientRun.{client_noted, ClientEnd, client_end, EachClientTurn, HasBegun, ClientFollows}
+use Rattle.sspi_delegate.specs.EndTurns.{OthersGoOn}
+use Rattle.sspi_delegate.specs.Heeded.{is_first, is_second, IsDowngrade, FindsOldServer, FindsOldClient, HeedsServer, HeedsClient, EachHeedsServer, EachHeedsClient}
+use Rattle.sspi_delegate.specs.History.{ClientMakes, ClientHistory, ClientLeft, between, waiting, ClientStops, ClientPast, ServerMakes, ServerHistory, ServerPast}
+use Rattle.sspi_delegate.specs.ServerRun.{server_noted, ServerEnd, server_end, EachServerTurn, ServerFollows}
+use Rattle.sspi_delegate.specs.Turns.{GoesOn, AllGoOn}
+use Rattle.sspi_delegate.proofs.ClientSteps.{client_underway, noted_by_two, went_noted}
+use Rattle.sspi_delegate.proofs.Histories.{client_stopped_history, server_past_history}
+use Rattle.sspi_delegate.proofs.HistoryRuns.{client_turn_of, client_went, history_follows, server_turn_of, server_went, server_history_follows}
+use Rattle.sspi_delegate.proofs.ServerSteps.{noted_by_one, server_turned}
+
+-- what was noted is not below the least
+young_noted : (least version : ℕ) → IsSome (noted_with least None version) → version < least → ⊥
+young_noted least version some old = young (nat_lt version least) version some (lt-ltb version least old)
+  where
+    young : (b : Bool) (v : ℕ) → IsSome (if b then None else Some v) → b ≡ true → ⊥
+    young true v some was = absurd (cc (some))
+    young false v some was = absurd (cc (was))
+
+at_some : (noted : Option ℕ) (P : ℕ → Type 0) → AtNoted noted P → IsSome noted
+at_some None P h = absurd h
+at_some (Some v) P h = refl
+
+goes_apart : (out : Outcome) → GoesOn out → IsDowngrade out → ⊥
+goes_apart (outcome.Reply reply) goes h = h
+goes_apart (outcome.Final reply) goes h = h
+goes_apart outcome.Finished goes h = h
+goes_apart (outcome.Refused kind reply) goes h = goes
+
+old_in : {C : Type 0} (context : Option C) (least : ℕ) (noted : Option ℕ) (version : ℕ) → IsSome context → noted ≡ None →
+    nat_lt version least ≡ true → is_old_in context least noted version ≡ true
+old_in None least noted version begun none old = absurd (cc (begun))
+old_in (Some m) least noted version begun none old = rw none old
+
+young_in : {C : Type 0} (context : Option C) (least : ℕ) (noted : Option ℕ) (version : ℕ) → IsSome noted → is_old_in context least noted version ≡ true → ⊥
+young_in None least noted version some old = absurd (cc (old))
+young_in (Some m) least None version some old = absurd (cc (some))
+young_in (Some m) least (Some v) version some old = absurd (cc (old))
+
+first_in : {C : Type 0} (context : Option C) (least : ℕ) (noted : Option ℕ) (version : ℕ) → noted ≡ None → is_old_in context least noted version ≡ true →
+    nat_lt version least ≡ true
+first_in None least noted version none old = absurd (cc (old))
+first_in (Some m) least noted version none old = rw none at old
+
+module _ {C : Type 0} (c : Meaning ContextSetting C) where
+  -- ---- a client's turns
+
+  second_noted : (least : ℕ) (t : Turn) (past : List Turn) → (is_second past ≡ true → IsSome (client_noted least (t ∷ past))) →
+      FindsOldServer least past t → ⊥
+  second_noted least t [] noted found = let s = found.second in absurd (cc (s))
+  second_noted least t (u ∷ []) noted found = young_noted least t.delivered.version (noted refl) found.old
+  second_noted least t (u ∷ v ∷ past) noted found = let s = found.second in absurd (cc (s))
+
+  some_noted : (e : ClientEnd C) (t : Turn) (past : List Turn) → EachClientTurn c e (t ∷ past) → AllGoOn (t ∷ past) → is_second past ≡ true →
+      IsSome (client_noted e.least (t ∷ past))
+  some_noted e t [] each going second = absurd (cc (second))
+  some_noted e t (u ∷ past) each going second = noted_by_two c e t u past each going
+
+  -- turns that went on
+  went_heeds : (e : ClientEnd C) (past : List Turn) → EachClientTurn c e past → AllGoOn past → EachHeedsServer c e.least past
+  went_heeds e [] each going = tt
+  went_heeds e (t ∷ past) each going = (
+    record {
+      refuses = λ found. absurd (second_noted e.least t past (some_noted e t past each going) found);
+      only = λ never is. absurd (goes_apart t.outcome going.0 is);
+    },
+    went_heeds e past each.1 going.1,
+  )
+
+  met_at : (old : ClientView C) (past : List Turn) (version : ℕ) → HasBegun c old.context past → old.noted ≡ client_noted old.least past →
+      is_second past ≡ true → nat_lt version old.least ≡ true → is_old_in old.context old.least old.noted version ≡ true
+  met_at old [] version begun noted second below = absurd (cc (second))
+  met_at old (u ∷ []) version begun noted second below = old_in old.context old.least old.noted version begun noted below
+  met_at old (u ∷ v ∷ past) version begun noted second below = absurd (cc (second))
+
+  found_at : (old : ClientView C) (past : List Turn) (version : ℕ) → HasBegun c old.context past → old.noted ≡ client_noted old.least past →
+      EachClientTurn c (client_end old) past → AllGoOn past → is_old_in old.context old.least old.noted version ≡ true →
+      (is_second past ≡ true) × (nat_lt version old.least ≡ true)
+  found_at old [] version begun noted each going met = absurd (true≢false (sym met ∙ rw begun refl))
+  found_at old (u ∷ []) version begun noted each going met = (refl, first_in old.context old.least old.noted version noted met)
+  found_at old (u ∷ v ∷ past) version begun noted each going met =
+      absurd (young_in old.context old.least old.noted version (rw noted (noted_by_two c (client_end old) u v past each going)) met)
+
+  module _ (law : IsContext c) where
+    module _ {D : Type 0} (k : KdcCalls D) where
+      newest_heeds : (first old mid : ClientView C) (kdc kdc2 : D) (past : List Turn) (d : TsRequest) (out : Outcome) → ClientFollows c first old past →
+          ClientMakes c k old kdc d out mid kdc2 → mid.least ≡ old.least → HeedsServer c mid.least past (client_turn c d out mid)
+      newest_heeds first old mid kdc kdc2 past d (outcome.Reply reply) follows makes same =
+          let after = client_went c law k first old mid kdc kdc2 past d (outcome.Reply reply) tt follows makes in
+          (went_heeds (client_end mid) (client_turn c d (outcome.Reply reply) mid ∷ past) after.ran.each after.going).0
+      newest_heeds first old mid kdc kdc2 past d (outcome.Final reply) follows makes same =
+          let after = client_went c law k first old mid kdc kdc2 past d (outcome.Final reply) tt follows makes in
+          (went_heeds (client_end mid) (client_turn c d (outcome.Final reply) mid ∷ past) after.ran.each after.going).0
+      newest_heeds first old mid kdc kdc2 past d outcome.Finished follows makes same = absurd makes
+      newest_heeds first old mid kdc kdc2 past d (outcome.Refused kind None) follows makes same =
+          let error : Error = makes.0 in
+          let why = makes.3 in
+          record {
+            refuses = λ found. sym makes.1 ∙ why.heeds (record {
+              idle = follows.idle;
+              code = found.code;
+              old = met_at old past d.version follows.begun follows.noted found.second (lt-ltb d.version old.least (rw (← same) found.old));
+            });
+            only = λ never is.
+                let met = client_met c never old d 0 why.steps.asked error mid why.cause why.steps.step (makes.1 ∙ is) in
+                let found = found_at old past d.version follows.begun follows.noted follows.ran.each follows.going met.old in
+                record { second = found.0; code = met.code; old = rw same (ltb-true d.version old.least found.1) };
+          }
+      newest_heeds first old mid kdc kdc2 past d (outcome.Refused kind (Some reply)) follows makes same = absurd makes
+
+      history_heeds : (first now : ClientView C) (kdc kdc2 : D) (turns : List Turn) → IsFreshClient first → OthersGoOn turns →
+          ClientHistory c k first kdc turns now kdc2 → EachHeedsServer c now.least turns
+      history_heeds first now kdc kdc2 [] fresh others h = tt
+      history_heeds first now kdc kdc2 (t ∷ past) fresh others h =
+          let made = h.3 in
+          let follows = history_follows c law k first h.0 kdc h.1 past fresh others h.2 in
+          let turn = client_turn_of c law k h.0 made.mid h.1 kdc2 t.delivered t.outcome made.makes in
+          let same : made.mid.least ≡ h.0.least = turn.moves.same.least in
+          let least : now.least ≡ made.mid.least = ap (λ (v : ClientView C). v.least) made.rest in (
+            subst (λ (n : ℕ). HeedsServer c n past t) (sym least)
+                (subst (λ (x : Turn). HeedsServer c made.mid.least past x) (sym made.turn)
+                (newest_heeds first h.0 made.mid h.1 kdc2 past t.delivered t.outcome follows made.makes same)),
+            subst (λ (n : ℕ). EachHeedsServer c n past) (sym (least ∙ same)) (went_heeds (client_end h.0) past follows.ran.each follows.going),
+          )
+
+      left_heeds : (first now : ClientView C) (kdc kdc2 : D) (turns : List Turn) → IsFreshClient first → OthersGoOn turns →
+          ClientLeft c k first kdc turns now kdc2 → EachHeedsServer c now.least turns
+      left_heeds first now kdc kdc2 turns fresh others (between h) = history_heeds first now kdc kdc2 turns fresh others h
+      left_heeds first now kdc kdc2 turns fresh others (waiting old kdc1 d went h way) =
+          let ran = client_underway c law first old now turns d (history_follows c law k first old kdc kdc1 turns fresh went h) way.underway in
+          went_heeds (client_end now) turns ran.each went
+
+      stops_heeds : (first now : ClientView C) (kdc kdc2 : D) (turns : List Turn) (error : DelegateError) → IsFreshClient first → OthersGoOn turns →
+          ClientStops c k first kdc error turns now kdc2 → EachHeedsServer c now.least turns
+      stops_heeds first now kdc kdc2 turns (errors.Client error) fresh others s =
+          history_heeds first now kdc kdc2 turns fresh others (client_stopped_history c k first now kdc kdc2 error turns s)
+      stops_heeds first now kdc kdc2 turns (errors.Server error) fresh others h = history_heeds first now kdc kdc2 turns fresh others h
+      stops_heeds first now kdc kdc2 turns (errors.Read to kind) fresh others h = history_heeds first now kdc kdc2 turns fresh others h
+      stops_heeds first now kdc kdc2 turns (errors.Write from) fresh others h = history_heeds first now kdc kdc2 turns fresh others h
+      stops_heeds first now kdc kdc2 turns errors.LinkFault fresh others h = history_heeds first now kdc kdc2 turns fresh others h
+      stops_heeds first now kdc kdc2 turns errors.TurnsSpent fresh others h = history_heeds first now kdc kdc2 turns fresh others h
+      stops_heeds first now kdc kdc2 turns errors.InsufficientMemory fresh others h = left_heeds first now kdc kdc2 turns fresh others h
+
+      pub client_past_heeds : (first now : ClientView C) (kdc kdc2 : D) (turns : List Turn) (result : Result Delegation DelegateError) →
+          IsFreshClient first → OthersGoOn turns → ClientPast c k first kdc result turns now kdc2 → EachHeedsServer c now.least turns
+      client_past_heeds first now kdc kdc2 turns (Ok delegation) fresh others h = history_heeds first now kdc kdc2 turns fresh others h
+      client_past_heeds first now kdc kdc2 turns (Err error) fresh others h = stops_heeds first now kdc kdc2 turns error fresh others h
+
+  -- ---- a server's turns
+
+  first_noted : (context : Option C) (least : ℕ) (t : Turn) (past : List Turn) → IsSome (server_noted least (t ∷ past)) → FindsOldClient context least past t → ⊥
+  first_noted context least t [] noted found = young_noted least t.delivered.version noted found.old
+  first_noted context least t (u ∷ past) noted found = let s = found.first in absurd (cc (s))
+
+  went_heeds_client : (context : Option C) (e : ServerEnd C) (past : List Turn) → EachServerTurn c e past → AllGoOn past → EachHeedsClient c context e.least past
+  went_heeds_client context e [] each going = tt
+  went_heeds_client context e (t ∷ past) each going = (
+    record {
+      refuses = λ found. absurd (first_noted context e.least t past (noted_by_one c e t past each going) found);
+      only = λ never is. absurd (goes_apart t.outcome going.0 is);
+    },
+    went_heeds_client context e past each.1 going.1,
+  )
+
+  met_first : {P : Type 0} (old : ServerView C P) (past : List Turn) (version : ℕ) → old.noted ≡ server_noted old.least past → is_first past ≡ true →
+      nat_lt version old.least ≡ true → is_old old.least old.noted version ≡ true
+  met_first old [] version noted first below = rw noted below
+  met_first old (u ∷ past) version noted first below = absurd (cc (first))
+
+  found_first : {P : Type 0} (old : ServerView C P) (past : List Turn) (version : ℕ) → old.noted ≡ server_noted old.least past →
+      EachServerTurn c (server_end old) past → AllGoOn past → is_old old.least old.noted version ≡ true →
+      (is_first past ≡ true) × (nat_lt version old.least ≡ true)
+  found_first old [] version noted each going met = (refl, rw noted at met)
+  found_first old (u ∷ past) version noted each going met =
+      absurd (young_in (Some old) old.least old.noted version (rw noted (noted_by_one c (server_end old) u past each going)) met)
+
+  module _ (law : IsContext c) {P : Type 0} (told : P → Option (List AuthIdentity)) (faults : P → ℕ) (failing : P → Option (List ℕ)) where
+    newest_heeds_client : (first old mid : ServerView C P) (past : List Turn) (d : TsRequest) (out : Outcome) → ServerFollows c first old past →
+        ServerMakes c told faults old d out mid → mid.least ≡ old.least → HeedsClient c mid.context mid.least past (server_turn c d out mid)
+    newest_heeds_client first old mid past d (outcome.Reply reply) follows makes same =
+        let after = server_went c law told faults failing first old mid past d (outcome.Reply reply) tt follows makes in
+        (went_heeds_client mid.context (server_end mid) (server_turn c d (outcome.Reply reply) mid ∷ past) after.ran.each after.going).0
+    newest_heeds_client first old mid past d (outcome.Final reply) follows makes same = absurd makes
+    newest_heeds_client first old mid past d outcome.Finished follows makes same =
+        let t : Turn = server_turn c d outcome.Finished mid in
+        let ran = server_turned c law first old mid past d outcome.Finished follows makes.0 in
+        record {
+          refuses = λ found. absurd (first_noted mid.context mid.least t past (at_some (server_noted mid.least (t ∷ past)) _ ran.each.0.version) found);
+          only = λ never is. absurd is;
+        }
+    newest_heeds_client first old mid past d (outcome.Refused kind reply) follows makes same =
+        let error : Error = makes.0 in
+        let why = makes.3 in
+        record {
+          refuses = λ found. sym makes.1 ∙ why.heeds (record {
+            begun = found.begun;
+            old = met_first old past d.version follows.noted found.first (lt-ltb d.version old.least (rw (← same) found.old));
+          });
+          only = λ never is.
+              let met = server_met c never told faults ServerState old d error mid (λ some. (makes.2.moves.handle some).1) why.cause why.step (makes.1 ∙ is) in
+              let found = found_first old past d.version follows.noted follows.ran.each follows.going met.old in
+              record { first = found.0; begun = met.begun; old = rw same (ltb-true d.version old.least found.1) };
+        }
+
+    server_history_heeds : (first now : ServerView C P) (turns : List Turn) → IsFreshServer first → OthersGoOn turns →
+        ServerHistory c told faults failing first turns now → EachHeedsClient c now.context now.least turns
+    server_history_heeds first now [] fresh others h = tt
+    server_history_heeds first now (t ∷ past) fresh others h =
+        let made = h.2 in
+        let follows = server_history_follows c law told faults failing first h.0 past fresh others h.1 in
+        let turn = server_turn_of c law told faults failing h.0 made.mid t.delivered t.outcome made.makes in
+        let same : made.mid.least ≡ h.0.least = turn.moves.same.least in (
+          subst (λ (v : ServerView C P). HeedsClient c v.context v.least past t) (sym made.rest)
+              (subst (λ (x : Turn). HeedsClient c made.mid.context made.mid.least past x) (sym made.turn)
+              (newest_heeds_client first h.0 made.mid past t.delivered t.outcome follows made.makes same)),
+          subst (λ (v : ServerView C P). EachHeedsClient c v.context v.least past) (sym made.rest)
+              (subst (λ (n : ℕ). EachHeedsClient c made.mid.context n past) (sym same)
+              (went_heeds_client made.mid.context (server_end h.0) past follows.ran.each follows.going)),
+        )
+
+    pub server_past_heeds : (first now : ServerView C P) (turns : List Turn) (result : Result Delegation DelegateError) → IsFreshServer first →
+        OthersGoOn turns → ServerPast c told faults failing first result turns now → EachHeedsClient c now.context now.least turns
+    server_past_heeds first now turns result fresh others past =
+        server_history_heeds first now turns fresh others (server_past_history c told faults failing first now turns result past)
