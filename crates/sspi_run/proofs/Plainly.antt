@@ -8,13 +8,14 @@ use Rattle.sspi_delegate.specs.Edits.{MemoryLinkView}
 use Rattle.sspi_delegate.specs.declared.carried.Carried.{Carried}
 use Rattle.sspi_completeness.specs.Matching.{challenge_of, AreMatching, IsUndisturbed, unedited, NoneFailed, none_told}
 use Rattle.sspi_scenario.specs.declared.scenario.Scenario.{Scenario}
+use Rattle.sspi_scenario.specs.Held.{HoldsValues}
 use Rattle.sspi_run.specs.Ends.{NtlmContext, credentials_by, IsClientOf, IsServerOf, link_in}
 use Rattle.sspi_run.specs.Exchange.{told_entries, told_failing, table_faults}
-use Rattle.sspi_run.specs.Outcome.{user_identity, AreValues, IsPlain}
+use Rattle.sspi_run.specs.Outcome.{user_identity, IsPlain}
 
 abbrev pub plain_match : (s : Scenario) (client : ClientView NtlmContext) (server : ServerView NtlmContext TableView) → IsClientOf s client → IsServerOf s server →
-    AreValues s → IsPlain s → AreMatching told_entries client server
-plain_match s client server client_named server_named values plain = record {
+    HoldsValues s → IsPlain s → AreMatching told_entries client server
+plain_match s client server client_named server_named held plain = record {
   key_same = server_named.public_key ∙ plain.key_same ∙ sym client_named.public_key;
   key_short = omega (arith, ap length client_named.public_key, plain.key_short);
   versions = rw (client_named.version, server_named.version) plain.versions;
@@ -26,11 +27,11 @@ plain_match s client server client_named server_named values plain = record {
   entries = s.account;
   tells = ap told_entries server_named.proxy;
   entry = plain.entry;
-  identity_is = values.identity;
-  client_version = omega (arith, client_named.version, values.client_version);
-  server_version = omega (arith, server_named.version, values.server_version);
-  nonce = ap length client_named.nonce ∙ values.nonce;
-  challenge = ap (λ (mode : ServerMode). length (challenge_of mode)) server_named.mode ∙ values.challenge;
+  identity_is = record { name = held.name; password_text = held.password_text };
+  client_version = omega (arith, client_named.version, held.client_bits);
+  server_version = omega (arith, server_named.version, held.server_bits);
+  nonce = ap length client_named.nonce ∙ held.nonce_length;
+  challenge = ap (λ (mode : ServerMode). length (challenge_of mode)) server_named.mode ∙ held.challenge_length;
 }
 
 pub plain_link : (s : Scenario) (link : MemoryLinkView) (new : List Carried) (now : ℕ) → link ≡ link_in s → IsPlain s →
