@@ -1,8 +1,7 @@
 -- The parts of a UTF-8 text between ASCII characters are UTF-8.
-use Rattle.std.proofs.Common.{◌≡◌, ℕ, ◌+◌, ◌<◌, ◌≤◌, arith, Bool, true, false, List, [], ◌∷◌, ◌++◌, length, length-append, get_or, take, drop, refl, ap, sym, subst, ◌∙◌, ◌⊎◌, inl, inr}
+use Rattle.std.proofs.Common.{◌≡◌, ℕ, ◌+◌, ◌<◌, ◌≤◌, arith, Bool, true, false, List, [], ◌∷◌, ◌++◌, length, length-append, get_or, refl, ap, sym, subst, ◌⊎◌, inl, inr}
 use Rattle.std.specs.Str.{IsUtf8}
 use Rattle.std.specs.List.{slice_split, onto_first, position_or_len, before_first, after_first}
-use Rattle.std.proofs.Math.Dec.{lit<}
 use Rattle.std.proofs.Math.ListN.{drop_of_length-le}
 use Rattle.std.proofs.Math.Seq.{take-append_seam, drop-append-add, get_or-append_seam}
 use Rattle.std.proofs.lemmas.Bool.{eqb-true, cases_lt}
@@ -74,7 +73,7 @@ behind-at line utf8 (inl here) =
     let space : get_or line (position_or_len is_space line) 0 ≡ 32 = eqb-true _ 32 (passes_at_first is_space line 0 here) in
     behind_utf8 (before_first is_space line) (get_or line (position_or_len is_space line) 0) (after_first is_space line) (omega (arith, space))
     (subst IsUtf8 (split_at_first is_space line 0 here) utf8)
-behind-at line utf8 (inr none) = rw (drop_of_length-le line (omega (arith, none))) IsUtf8-nil
+behind-at line utf8 (inr none) = rw (drop_of_length-le line {i = position_or_len is_space line + 1} (omega (arith, none))) IsUtf8-nil
 
 pub behind-space : (line : List ℕ) → IsUtf8 line → IsUtf8 (after_space line)
 unfolding after_space

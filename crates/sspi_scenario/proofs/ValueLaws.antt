@@ -1,5 +1,5 @@
 -- The values of a scenario are as their keys allow.
-use Rattle.std.proofs.Common.{◌≡◌, ℕ, ◌*◌, ◌<◌, ◌≤◌, ◌^◌, ◌==◌, ◌+◌, ◌/◌, ◌%◌, ◌&&◌, nat_le, arith, Bool, true, false, List, [], ◌∷◌, length, Option, Some, None, Result, Ok, Err, refl, ap, sym, subst, ◌∙◌}
+use Rattle.std.proofs.Common.{◌≡◌, ℕ, ◌*◌, ◌<◌, ◌≤◌, ◌^◌, ◌==◌, ◌+◌, ◌/◌, ◌%◌, ◌&&◌, nat_le, arith, Bool, true, false, List, [], ◌∷◌, length, Option, Some, None, Result, Ok, Err, refl, ap, subst}
 use Rattle.std.specs.Prelude.{fold, unwrap_or, if◌then◌else◌}
 use Rattle.std.specs.Option.{option_map}
 use Rattle.std.specs.Result.{result_ok}
@@ -80,6 +80,9 @@ keeps-by : {A : Type 0} (f : A → Values → Values) (o : Option A) (change : V
 keeps-by f None change e keeps = absurd cc
 keeps-by f (Some x) change e keeps = λ v h. subst (λ (c : Values → Values). HoldsValues (c v).scenario) (some-is (f x) change e) (keeps x refl v h)
 
+same-keeps : (made change : Values → Values) → Some made ≡ Some change → Keeps made → Keeps change
+same-keeps made change e keeps = subst Keeps (some-is made change e) keeps
+
 row-keeps : (k : Key) (text : List ℕ) (change : Values → Values) → IsUtf8 text → (row k).value text ≡ Some change → Keeps change
 row-keeps key.Mode text change utf8 e = keeps-by _ (mode_of text) change e (λ x is v h. h)
 row-keeps key.User text change utf8 e = keeps-by _ (parse_name text) change e (λ x is v h. record {
@@ -90,9 +93,9 @@ row-keeps key.User text change utf8 e = keeps-by _ (parse_name text) change e (�
   nonce_length = h.nonce_length;
   challenge_length = h.challenge_length;
 })
-row-keeps key.Password text change utf8 e = keeps-by _ (Some text) change e (λ x is v h. record {
+row-keeps key.Password text change utf8 e = same-keeps _ change e (λ v h. record {
   name = h.name;
-  password_text = subst IsUtf8 (some-is text x is) utf8;
+  password_text = utf8;
   client_bits = h.client_bits;
   server_bits = h.server_bits;
   nonce_length = h.nonce_length;
@@ -132,14 +135,14 @@ row-keeps key.Challenge text change utf8 e = keeps-by _ (hex_of_size 8 text) cha
   nonce_length = h.nonce_length;
   challenge_length = hex-length 8 text x is;
 })
-row-keeps key.Computer text change utf8 e = keeps-by _ (Some text) change e (λ x is v h. h)
-row-keeps key.Target text change utf8 e = keeps-by _ (Some text) change e (λ x is v h. h)
+row-keeps key.Computer text change utf8 e = same-keeps _ change e (λ v h. h)
+row-keeps key.Target text change utf8 e = same-keeps _ change e (λ v h. h)
 row-keeps key.Delegation text change utf8 e = keeps-by _ (delegation_of text) change e (λ x is v h. h)
 row-keeps key.Keytab text change utf8 e = keeps-by _ (hex_of text) change e (λ x is v h. h)
 row-keeps key.ClientProtocol text change utf8 e = keeps-by _ (package_of text) change e (λ x is v h. h)
 row-keeps key.ServerProtocol text change utf8 e = keeps-by _ (package_of text) change e (λ x is v h. h)
-row-keeps key.ClientPackages text change utf8 e = keeps-by _ (Some text) change e (λ x is v h. h)
-row-keeps key.ServerPackages text change utf8 e = keeps-by _ (Some text) change e (λ x is v h. h)
+row-keeps key.ClientPackages text change utf8 e = same-keeps _ change e (λ v h. h)
+row-keeps key.ServerPackages text change utf8 e = same-keeps _ change e (λ v h. h)
 row-keeps key.Account text change utf8 e = keeps-by _ (account_of text) change e (λ x is v h. h)
 row-keeps key.Accounts text change utf8 e = keeps-by _ (accounts_of text) change e (λ x is v h. h)
 row-keeps key.ProxyFail text change utf8 e = keeps-by _ (number_of text) change e (λ x is v h. h)
