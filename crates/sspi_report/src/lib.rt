@@ -8,6 +8,3 @@ mod names;
 mod outcome;
 
 pub use delegation::report;
-
-#[cfg(test)]
-mod tests;

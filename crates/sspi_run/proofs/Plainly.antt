@@ -7,12 +7,13 @@ use Rattle.sspi_delegate.specs.Edits.{MemoryLinkView}
 use Rattle.sspi_delegate.specs.declared.carried.Carried.{Carried}
 use Rattle.sspi_completeness.specs.Matching.{IsPlainClient, IsPlainServer, HasChallenge, AreMatching, IsUndisturbed, unedited, NoneFailed, none_told}
 use Rattle.sspi_scenario.specs.declared.scenario.Scenario.{Scenario}
+use Rattle.sspi_scenario.specs.Held.{HoldsValues}
 use Rattle.sspi_run.specs.Ends.{NtlmContext, credentials_by, IsClientOf, IsServerOf, link_in}
-use Rattle.sspi_run.specs.Outcome.{user_identity, AreValues, IsPlain}
+use Rattle.sspi_run.specs.Outcome.{user_identity, IsPlain}
 
 abbrev pub plain_match : (s : Scenario) (client : ClientView NtlmContext) (server : ServerView NtlmContext TableView) → IsClientOf s client → IsServerOf s server →
-    AreValues s → IsPlain s → AreMatching table_meaning client server
-plain_match s client server client_named server_named values plain = record {
+    HoldsValues s → IsPlain s → AreMatching table_meaning client server
+plain_match s client server client_named server_named held plain = record {
   client_plain = subst IsPlainClient (sym client_named.mode) tt;
   server_plain = subst IsPlainServer (sym server_named.mode) tt;
   key_same = server_named.public_key ∙ plain.key_same ∙ sym client_named.public_key;
@@ -26,11 +27,11 @@ plain_match s client server client_named server_named values plain = record {
   entries = s.account;
   tells = ap (λ (p : TableView). Some p.entries) server_named.proxy;
   entry = plain.entry;
-  identity_is = values.identity;
-  client_version = omega (arith, client_named.version, values.client_version);
-  server_version = omega (arith, server_named.version, values.server_version);
-  nonce = ap length client_named.nonce ∙ values.nonce;
-  challenge = subst HasChallenge (sym server_named.mode) values.challenge;
+  identity_is = record { name = held.name; password_text = held.password_text };
+  client_version = omega (arith, client_named.version, held.client_bits);
+  server_version = omega (arith, server_named.version, held.server_bits);
+  nonce = ap length client_named.nonce ∙ held.nonce_length;
+  challenge = subst HasChallenge (sym server_named.mode) held.challenge_length;
 }
 
 pub plain_link : (s : Scenario) (link : MemoryLinkView) (new : List Carried) (now : ℕ) → link ≡ link_in s → IsPlain s →

@@ -8,7 +8,6 @@ use Rattle.sspi_credssp.specs.declared.context.SspiContext.{SspiContext}
 use Rattle.sspi_credssp.specs.declared.mode.ClientMode.TheVariants as client
 use Rattle.sspi_credssp.specs.declared.mode.ServerMode.TheVariants as server
 use Rattle.sspi_credssp.specs.Client.{ClientView, IsFreshClient}
-use Rattle.sspi_credssp.specs.Noted.{default_least}
 use Rattle.sspi_credssp.specs.Server.{ServerView, IsFreshServer}
 use Rattle.sspi_credssp.specs.Table.{TableView}
 use Rattle.sspi_delegate.specs.Edits.{MemoryLinkView}
@@ -33,7 +32,7 @@ pub record IsClientOf (scenario : Scenario) (a : ClientView NtlmContext) : Type 
   pub credentials : a.credentials ≡ credentials_in scenario
   pub delegation : a.delegation ≡ scenario.delegation
   pub version : a.version ≡ scenario.client_version
-  pub least : a.least ≡ default_least
+  pub least : a.least ≡ scenario.client_least
   pub mode : a.mode ≡ client.Ntlm (record { client_computer_name = Some scenario.computer; challenge = replicate 8 0 })
   pub target : a.target ≡ scenario.target
   pub nonce : a.nonce ≡ scenario.nonce
@@ -43,7 +42,7 @@ pub record IsServerOf (scenario : Scenario) (a : ServerView NtlmContext TableVie
   pub public_key : a.public_key ≡ scenario.server_key
   pub proxy : a.proxy ≡ record { entries = scenario.account; failing = scenario.proxy_fail; calls = 0; faults = 0 }
   pub version : a.version ≡ scenario.server_version
-  pub least : a.least ≡ default_least
+  pub least : a.least ≡ scenario.server_least
   pub mode : a.mode ≡ server.Ntlm (record { client_computer_name = None; challenge = scenario.challenge })
 
 -- the link has the scenario's edits, and carried nothing yet

@@ -1,9 +1,8 @@
 -- What the exchange of a scenario comes to where nothing stands in its way.
-use Rattle.std.specs.Prelude.{◌≡◌, ◌^◌, ◌<◌, ◌≤◌, [], length, None, IfOk, nat_lt}
+use Rattle.std.specs.Prelude.{◌≡◌, ◌<◌, ◌≤◌, [], length, None, IfOk, nat_lt}
 use Rattle.sspi_names.specs.declared.identity.AuthIdentity.{AuthIdentity}
-use Rattle.sspi_names.specs.Identity.{IsIdentity}
-use Rattle.sspi_credssp.specs.Noted.{default_least}
 use Rattle.sspi_completeness.specs.Matching.{HasEntry, IsShort, key_limit, delegated_as, ComesToOk, IsCutShort}
+use Rattle.sspi_scenario.specs.declared.scenario.Mode.TheVariants.{Ntlm}
 use Rattle.sspi_scenario.specs.declared.scenario.Scenario.{Scenario}
 use Rattle.sspi_scenario.specs.Scenario.{own_identity}
 use Rattle.sspi_run.specs.declared.record.Record.{Record}
@@ -12,25 +11,18 @@ use Rattle.sspi_run.specs.Exchange.{answer_in}
 abbrev pub user_identity : Scenario → AuthIdentity
 user_identity scenario = own_identity scenario.user scenario.password
 
--- what is so of the values of each scenario
-pub record AreValues (scenario : Scenario) : Type 0 where
-  pub identity : IsIdentity (user_identity scenario)
-  pub client_version : scenario.client_version < 2 ^ 32
-  pub server_version : scenario.server_version < 2 ^ 32
-  pub nonce : length scenario.nonce ≡ 32
-  pub challenge : length scenario.challenge ≡ 8
-
--- Nothing is edited and no look-up fails; the client has the password that the server's table knows, and both ends have
--- one key and one kind of proof, and each takes the other's version.
+-- Both ends speak plain NTLM. Nothing is edited and no look-up fails; the client has the password that the server's table
+-- knows, both ends have one key and one kind of proof, and each takes the other's version.
 pub record IsPlain (scenario : Scenario) : Type 0 where
+  pub mode : scenario.mode ≡ Ntlm
   pub no_edit : scenario.edit ≡ []
   pub no_failure : scenario.proxy_fail ≡ []
   pub no_keytab : scenario.keytab ≡ None
   pub key_same : scenario.server_key ≡ scenario.key
   pub key_short : length scenario.key ≤ key_limit
   pub versions : nat_lt scenario.client_version 5 ≡ nat_lt scenario.server_version 5
-  pub client_takes : default_least ≤ scenario.server_version
-  pub server_takes : default_least ≤ scenario.client_version
+  pub client_takes : scenario.client_least ≤ scenario.server_version
+  pub server_takes : scenario.server_least ≤ scenario.client_version
   pub entry : HasEntry scenario.account (user_identity scenario)
   pub short : IsShort (user_identity scenario)
 

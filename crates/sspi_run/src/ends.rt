@@ -1,8 +1,7 @@
-ghost use Rattle.std.specs.Prelude.{◌≡◌, ◌<◌, ◌^◌, length, IfOk};
+ghost use Rattle.std.specs.Prelude.{◌≡◌, IfOk};
 ghost use Rattle.sspi_credssp.specs.Client.{IsFreshClient};
 ghost use Rattle.sspi_credssp.specs.Server.{IsFreshServer};
 ghost use Rattle.sspi_run.specs.Ends.{credentials_in, IsClientOf, IsServerOf, link_in, AreEndsOf};
-ghost use Rattle.sspi_run.specs.Outcome.{AreValues};
 
 use sspi_credssp::{ClientMode, CredSspClient, CredSspServer, ServerMode, TableProxy};
 use sspi_delegate::{Edit, MemoryLink};
@@ -28,36 +27,14 @@ pub struct Ends {
 
 /// The ends and the link that the scenario names.
 pub fn ends_of(alloc: Global, scenario: &Scenario) -> Result<Ends, AllocError>
-    ensures ends { IfOk result (AreEndsOf scenario.now) }
-    ensures values { AreValues scenario.now }
+    ensures { IfOk result (AreEndsOf scenario.now) }
 {
-    read_values(scenario);
     Ok(Ends {
         client: client_of(alloc, scenario)?,
         server: server_of(alloc, scenario)?,
         link: link_of(alloc, scenario)?,
     })
 }
-
-/// Reads the values of a scenario, for what their types say of them.
-fn read_values(scenario: &Scenario)
-    ensures { AreValues scenario.now }
-{
-    let _ = scenario.user.inner();
-    let _ = scenario.password.as_str();
-    read_version(scenario.client_version);
-    read_version(scenario.server_version);
-    read_arrays(scenario.nonce, scenario.challenge);
-}
-
-fn read_version(version: u32)
-    ensures { version < 2 ^ 32 }
-{}
-
-fn read_arrays(nonce: [u8; 32], challenge: [u8; 8])
-    ensures nonce { length nonce ≡ 32 }
-    ensures challenge { length challenge ≡ 8 }
-{}
 
 /// The client that the scenario names, to which nothing was delivered.
 fn client_of(alloc: Global, scenario: &Scenario) -> Result<Client, AllocError>
@@ -77,7 +54,8 @@ fn client_of(alloc: Global, scenario: &Scenario) -> Result<Client, AllocError>
         mode,
         target,
         scenario.nonce,
-    ))
+    )
+    .with_least_version(scenario.client_least))
 }
 
 fn credentials_of(alloc: Global, scenario: &Scenario) -> Result<Credentials, AllocError>
@@ -116,7 +94,8 @@ fn server_of(alloc: Global, scenario: &Scenario) -> Result<Server, AllocError>
         TableProxy::new(alloc, accounts, failing),
         scenario.server_version,
         mode,
-    ))
+    )
+    .with_least_version(scenario.server_least))
 }
 
 fn copy_accounts(alloc: Global, accounts: &[AuthIdentity]) -> Result<Vec<AuthIdentity>, AllocError>

@@ -1,7 +1,8 @@
 ghost use Rattle.std.specs.Prelude.{◌≡◌, IfOk};
 ghost use Rattle.sspi_run.specs.Ends.{AreEndsOf};
 ghost use Rattle.sspi_run.specs.Exchange.{IsExchange};
-ghost use Rattle.sspi_run.specs.Outcome.{AreValues, IsOutcome};
+ghost use Rattle.sspi_run.specs.Outcome.{IsOutcome};
+ghost use Rattle.sspi_scenario.specs.Held.{HoldsValues};
 
 use crate::ends::{Ends, ends_of};
 use crate::record::{Record, RunOutcome};
@@ -14,7 +15,7 @@ use std::alloc::{AllocError, Global};
 pub fn exchange(alloc: Global, scenario: Scenario) -> Result<Record, AllocError>
     ensures scenario { IfOk result (λ kept. kept.scenario ≡ scenario) }
     ensures exchange { IfOk result IsExchange }
-    ensures outcome { IfOk result IsOutcome }
+    ensures outcome { HoldsValues scenario → IfOk result IsOutcome }
 {
     match ends_of(alloc, &scenario) {
         Ok(ends) => Ok(meet(alloc, scenario, ends)),
@@ -26,7 +27,7 @@ pub fn exchange(alloc: Global, scenario: Scenario) -> Result<Record, AllocError>
 fn meet(alloc: Global, scenario: Scenario, ends: Ends) -> Record
     ensures scenario { result.scenario ≡ scenario }
     ensures exchange { AreEndsOf scenario ends → IsExchange result }
-    ensures outcome { AreEndsOf scenario ends → AreValues scenario → IsOutcome result }
+    ensures outcome { AreEndsOf scenario ends → HoldsValues scenario → IsOutcome result }
 {
     let Ends {
         mut client,

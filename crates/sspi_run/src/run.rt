@@ -79,6 +79,7 @@ fn conduct<S: Source>(alloc: Global, words: &[String], source: &mut S) -> Said
 }
 
 /// What the exchange of a scenario text comes to.
+#[tactic(auto, using(sspi_scenario::proofs::ValueLaws::scenario_holds))]
 fn carry_out(alloc: Global, text: &[u8]) -> Said
     ensures { CarriesOut text.now result }
 {

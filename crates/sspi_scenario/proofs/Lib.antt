@@ -9,3 +9,5 @@ pub mod Numerals
 pub mod Hexes
 pub mod LineSteps
 pub mod ScenarioLaws
+pub mod TextParts
+pub mod ValueLaws

@@ -208,3 +208,17 @@ apart text scenario before told after e settings =
     let whole = sym (readable-lines text (readable-by text (Ok scenario) (λ (h : Ok scenario ≡ Err 0). absurd cc) e (is_readable text) refl)) ∙ e in
     let none = decided-ok (first_fault [] (lines_from 1 (lines_of text))) (completed (told_in (lines_from 1 (lines_of text)))) scenario whole in
     apart-in [] (lines_from 1 (lines_of text)) before told after none settings
+
+decided-some : (fault : Option ℕ) (found : Option Scenario) (scenario : Scenario) → decided fault found ≡ Ok scenario → found ≡ Some scenario
+decided-some None (Some made) scenario e = let same : made ≡ scenario = cc in ap Some same
+decided-some None None scenario e = absurd cc
+decided-some (Some n) found scenario e = absurd cc
+
+-- a text that is a scenario is readable, and all its lines make that scenario
+pub told-whole : (text : List ℕ) (scenario : Scenario) → scenario_of text ≡ Ok scenario →
+    (is_readable text ≡ true) × (completed (told_in (lines_from 1 (lines_of text))) ≡ Some scenario)
+unfolding scenario_of_lines
+told-whole text scenario e =
+    let readable = readable-by text (Ok scenario) (λ (h : Ok scenario ≡ Err 0). absurd cc) e (is_readable text) refl in
+    let whole = sym (readable-lines text readable) ∙ e in
+    (readable, decided-some (first_fault [] (lines_from 1 (lines_of text))) (completed (told_in (lines_from 1 (lines_of text)))) scenario whole)

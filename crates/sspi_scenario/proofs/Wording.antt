@@ -5,21 +5,34 @@ use Rattle.std.specs.Str.{bytes_eq}
 use Rattle.std.proofs.lemmas.Bool.{false_from_ne_true}
 use Rattle.std.proofs.lemmas.Slice.Eq.{bytes_eq-Decides}
 use Rattle.sspi_tsreq.specs.declared.mode.CredSspMode.TheVariants.{WithCredentials, CredentialLess}
-use Rattle.sspi_scenario.specs.declared.scenario.Mode.TheVariants.{Ntlm}
+use Rattle.sspi_scenario.specs.declared.scenario.Mode.TheVariants as mode
+use Rattle.sspi_scenario.specs.declared.scenario.Package.TheVariants as packages
 use Rattle.sspi_scenario.specs.declared.words.Accounts.TheVariants as accounts
-use Rattle.sspi_scenario.specs.Words.{mode_of, delegation_of, accounts_of}
+use Rattle.sspi_scenario.specs.Words.{mode_of, package_of, delegation_of, accounts_of}
 
 pub differs : (word text : List ℕ) → (word ≡ text → ⊥) → bytes_eq word text ≡ false
 differs word text n = false_from_ne_true (bytes_eq word text) (λ e. n ((bytes_eq-Decides word text).0 e))
 
 module _ (word : List ℕ) where
-  pub is_ntlm : word ≡ codes "ntlm" → Some Ntlm ≡ mode_of word
+  pub is_ntlm : word ≡ codes "ntlm" → Some mode.Ntlm ≡ mode_of word
   unfolding mode_of
   is_ntlm e = rw e refl
 
-  pub no_mode : (word ≡ codes "ntlm" → ⊥) → None ≡ mode_of word
+  pub is_negotiate : word ≡ codes "negotiate" → Some mode.Negotiate ≡ mode_of word
   unfolding mode_of
-  no_mode n = rw (differs word _ n) refl
+  is_negotiate e = rw e refl
+
+  pub no_mode : (word ≡ codes "ntlm" → ⊥) → (word ≡ codes "negotiate" → ⊥) → None ≡ mode_of word
+  unfolding mode_of
+  no_mode n m = rw (differs word _ n, differs word _ m) refl
+
+  pub is_package : word ≡ codes "ntlm" → Some packages.Ntlm ≡ package_of word
+  unfolding package_of
+  is_package e = rw e refl
+
+  pub no_package : (word ≡ codes "ntlm" → ⊥) → None ≡ package_of word
+  unfolding package_of
+  no_package n = rw (differs word _ n) refl
 
   pub is_with : word ≡ codes "with" → Some WithCredentials ≡ delegation_of word
   unfolding delegation_of

@@ -11,4 +11,5 @@ pub mod Table
 pub mod Faults
 pub mod Reads
 pub mod Scenario
+pub mod Held
 pub mod Drafts

@@ -6,7 +6,8 @@ use Rattle.sspi_names.specs.declared.identity.AuthIdentity.{AuthIdentity}
 use Rattle.sspi_tsreq.specs.declared.mode.CredSspMode.TheVariants.{WithCredentials}
 use Rattle.sspi_scenario.specs.declared.key.Key.{Key}
 use Rattle.sspi_scenario.specs.declared.key.Key.TheVariants as key
-use Rattle.sspi_scenario.specs.declared.scenario.Mode.TheVariants.{Ntlm}
+use Rattle.sspi_scenario.specs.declared.scenario.Mode.TheVariants as mode
+use Rattle.sspi_scenario.specs.declared.scenario.Package.TheVariants as packages
 use Rattle.sspi_scenario.specs.declared.scenario.Scenario.{Scenario}
 use Rattle.sspi_scenario.specs.declared.scenario.ScenarioError.{ScenarioError}
 use Rattle.sspi_scenario.specs.declared.scenario.ScenarioError.TheVariants as error
@@ -35,7 +36,7 @@ proxy_table (told ∷ more) word own = told ∷ more
 abbrev pub defaults : Values
 defaults = record {
   scenario = record {
-    mode = Ntlm;
+    mode = mode.Ntlm;
     user = down_level [] [];
     password = [];
     key = [];
@@ -48,10 +49,16 @@ defaults = record {
     target = codes "TERMSRV/host.example.com";
     delegation = WithCredentials;
     keytab = None;
+    client_protocol = packages.Ntlm;
+    server_protocol = packages.Ntlm;
+    client_packages = None;
+    server_packages = None;
     account = [];
     proxy_fail = [];
     turns = 5;
     edit = [];
+    client_least = 5;
+    server_least = 5;
   };
   accounts = accounts.Own;
 }

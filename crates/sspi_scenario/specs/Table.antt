@@ -10,7 +10,7 @@ use Rattle.sspi_scenario.specs.Accounts.{account_of}
 use Rattle.sspi_scenario.specs.Edits.{edit_of}
 use Rattle.sspi_scenario.specs.Hex.{hex_of, hex_of_size}
 use Rattle.sspi_scenario.specs.Numbers.{number_of}
-use Rattle.sspi_scenario.specs.Words.{mode_of, delegation_of, accounts_of}
+use Rattle.sspi_scenario.specs.Words.{mode_of, package_of, delegation_of, accounts_of}
 
 -- value: what a value makes of the values of the lines before, or none where it is against the key's grammar
 pub record Row : Type 0 where
@@ -47,14 +47,21 @@ row key.Computer = once (codes "computer") (tells text_of (λ x s. record s { co
 row key.Target = once (codes "target") (tells text_of (λ x s. record s { target = x }))
 row key.Delegation = once (codes "delegation") (tells delegation_of (λ x s. record s { delegation = x }))
 row key.Keytab = once (codes "keytab") (tells hex_of (λ x s. record s { keytab = Some x }))
+row key.ClientProtocol = once (codes "client-protocol") (tells package_of (λ x s. record s { client_protocol = x }))
+row key.ServerProtocol = once (codes "server-protocol") (tells package_of (λ x s. record s { server_protocol = x }))
+row key.ClientPackages = once (codes "client-packages") (tells text_of (λ x s. record s { client_packages = Some x }))
+row key.ServerPackages = once (codes "server-packages") (tells text_of (λ x s. record s { server_packages = Some x }))
 row key.Account = again (codes "account") (tells account_of (λ x s. record s { account = s.account ++ x ∷ [] }))
 row key.Accounts = once (codes "accounts") (λ text. option_map (λ x values. record values { accounts = x }) (accounts_of text))
 row key.ProxyFail = again (codes "proxy-fail") (tells number_of (λ x s. record s { proxy_fail = s.proxy_fail ++ x ∷ [] }))
 row key.Turns = once (codes "turns") (tells number_of (λ x s. record s { turns = x }))
 row key.Edit = again (codes "edit") (tells edit_of (λ x s. record s { edit = s.edit ++ x ∷ [] }))
+row key.ClientLeast = once (codes "client-least") (tells number_of (λ x s. record s { client_least = x }))
+row key.ServerLeast = once (codes "server-least") (tells number_of (λ x s. record s { server_least = x }))
 
 -- the keys that there are
 abbrev pub all_keys : List Key
 all_keys =
     key.Mode ∷ key.User ∷ key.Password ∷ key.Key ∷ key.ServerKey ∷ key.ClientVersion ∷ key.ServerVersion ∷ key.Nonce ∷ key.Challenge ∷
-    key.Computer ∷ key.Target ∷ key.Delegation ∷ key.Keytab ∷ key.Account ∷ key.Accounts ∷ key.ProxyFail ∷ key.Turns ∷ key.Edit ∷ []
+    key.Computer ∷ key.Target ∷ key.Delegation ∷ key.Keytab ∷ key.ClientProtocol ∷ key.ServerProtocol ∷ key.ClientPackages ∷
+    key.ServerPackages ∷ key.Account ∷ key.Accounts ∷ key.ProxyFail ∷ key.Turns ∷ key.Edit ∷ key.ClientLeast ∷ key.ServerLeast ∷ []

@@ -4,12 +4,20 @@ use Rattle.std.specs.Str.{bytes_eq}
 use Rattle.sspi_tsreq.specs.declared.mode.CredSspMode.{CredSspMode}
 use Rattle.sspi_tsreq.specs.declared.mode.CredSspMode.TheVariants.{WithCredentials, CredentialLess}
 use Rattle.sspi_scenario.specs.declared.scenario.Mode.{Mode}
-use Rattle.sspi_scenario.specs.declared.scenario.Mode.TheVariants.{Ntlm}
+use Rattle.sspi_scenario.specs.declared.scenario.Mode.TheVariants as mode
+use Rattle.sspi_scenario.specs.declared.scenario.Package.{Package}
+use Rattle.sspi_scenario.specs.declared.scenario.Package.TheVariants as packages
 use Rattle.sspi_scenario.specs.declared.words.Accounts.{Accounts}
 use Rattle.sspi_scenario.specs.declared.words.Accounts.TheVariants as accounts
 
 unfoldable pub mode_of : List ℕ → Option Mode
-mode_of word = if bytes_eq word (codes "ntlm") then Some Ntlm else None
+mode_of word =
+    if bytes_eq word (codes "ntlm") then Some mode.Ntlm
+    else if bytes_eq word (codes "negotiate") then Some mode.Negotiate
+    else None
+
+unfoldable pub package_of : List ℕ → Option Package
+package_of word = if bytes_eq word (codes "ntlm") then Some packages.Ntlm else None
 
 unfoldable pub delegation_of : List ℕ → Option CredSspMode
 delegation_of word =

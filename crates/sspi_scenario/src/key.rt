@@ -20,14 +20,20 @@ pub enum Key {
     Target,
     Delegation,
     Keytab,
+    ClientProtocol,
+    ServerProtocol,
+    ClientPackages,
+    ServerPackages,
     Account,
     Accounts,
     ProxyFail,
     Turns,
     Edit,
+    ClientLeast,
+    ServerLeast,
 }
 
-const NAMES: [(Key, &str); 18] = [
+const NAMES: [(Key, &str); 24] = [
     (Key::Mode, "mode"),
     (Key::User, "user"),
     (Key::Password, "password"),
@@ -41,11 +47,17 @@ const NAMES: [(Key, &str); 18] = [
     (Key::Target, "target"),
     (Key::Delegation, "delegation"),
     (Key::Keytab, "keytab"),
+    (Key::ClientProtocol, "client-protocol"),
+    (Key::ServerProtocol, "server-protocol"),
+    (Key::ClientPackages, "client-packages"),
+    (Key::ServerPackages, "server-packages"),
     (Key::Account, "account"),
     (Key::Accounts, "accounts"),
     (Key::ProxyFail, "proxy-fail"),
     (Key::Turns, "turns"),
     (Key::Edit, "edit"),
+    (Key::ClientLeast, "client-least"),
+    (Key::ServerLeast, "server-least"),
 ];
 
 impl Key {

@@ -5,6 +5,7 @@ ghost use Rattle.std.specs.List.{list_any};
 ghost use Rattle.sspi_scenario.specs.declared.scenario.Scenario.{Scenario};
 ghost use Rattle.sspi_scenario.specs.Lines.{lines_of, is_line_feed, is_skipped};
 ghost use Rattle.sspi_scenario.specs.Faults.{Told, keys_of, lines_from, told_in};
+ghost use Rattle.sspi_scenario.specs.Held.{HoldsValues};
 ghost use Rattle.sspi_scenario.specs.Keys.{is_excluded};
 ghost use Rattle.sspi_scenario.specs.Scenario.{is_readable, scenario_of};
 
@@ -30,4 +31,10 @@ pub fn lines_of_a_scenario_stand_together()
     ensures { (text : List ℕ) (scenario : Scenario) (before : List Told) (told : Told) (after : List Told)
         → scenario_of text ≡ Ok scenario → told_in (lines_from 1 (lines_of text)) ≡ before ++ told ∷ after
         → is_excluded (keys_of before) told.key ≡ false }
+{}
+
+/// The values of a scenario are as their types say, also where a default stands: its user is a name, its password a text, the
+/// versions have 32 bits, the nonce 32 bytes and the challenge 8.
+pub fn values_are_as_their_types_say()
+    ensures { (text : List ℕ) (scenario : Scenario) → scenario_of text ≡ Ok scenario → HoldsValues scenario }
 {}

@@ -21,11 +21,9 @@ mod number;
 pub mod reading;
 pub mod rows;
 pub mod scenario;
-#[cfg(test)]
-mod tests;
 mod values;
 mod words;
 
 pub use reading::{TEXT_LIMIT, TextError, read_text};
 pub use rows::Rows;
-pub use scenario::{Mode, Scenario, ScenarioError};
+pub use scenario::{Mode, Package, Scenario, ScenarioError};

@@ -56,6 +56,3 @@ fn most_at(read: usize) -> usize
 {
     PIECE_LENGTH.min(TEXT_LIMIT + 1 - read)
 }
-
-#[cfg(test)]
-mod tests;

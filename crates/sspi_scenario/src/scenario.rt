@@ -20,6 +20,14 @@ use std::alloc::{AllocError, Global};
 pub enum Mode {
     /// Plain NTLM, without a negotiation.
     Ntlm,
+    /// SPNEGO, which agrees on a mechanism.
+    Negotiate,
+}
+
+/// A mechanism that an end of a negotiation has in hand before it hears from its peer.
+#[derive(Clone, Copy, Debug, PartialEq, Eq)]
+pub enum Package {
+    Ntlm,
 }
 
 /// What a scenario text tells: each field has the value of its key, or the key's default.
@@ -43,6 +51,13 @@ pub struct Scenario {
     pub delegation: CredSspMode,
     /// Where it is there the client's credentials are this keytab.
     pub keytab: Option<Bytes>,
+    /// What the client of a negotiation begins with.
+    pub client_protocol: Package,
+    pub server_protocol: Package,
+    /// Which packages the client of a negotiation may use, in the form that `PackageListConfig::parse` reads; where there is
+    /// no list, all of them.
+    pub client_packages: Option<Text>,
+    pub server_packages: Option<Text>,
     /// The table of the server's proxy.
     pub account: Rows<AuthIdentity>,
     /// The numbers of the proxy's calls that fail, from 0.
@@ -50,6 +65,9 @@ pub struct Scenario {
     /// How many turns the client has at most.
     pub turns: u32,
     pub edit: Rows<Edit>,
+    /// The least version of its peer that the client takes.
+    pub client_least: u32,
+    pub server_least: u32,
 }
 
 /// Why a text gave no scenario.

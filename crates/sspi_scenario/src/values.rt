@@ -12,7 +12,7 @@ use crate::key::{Key, has};
 use crate::lines::parted;
 use crate::number::number;
 use crate::rows::Rows;
-use crate::scenario::{Mode, Scenario};
+use crate::scenario::{Mode, Package, Scenario};
 use crate::words::{self, Accounts};
 use sspi_names::{AuthIdentity, Username, UsernameError};
 use sspi_tsreq::CredSspMode;
@@ -47,10 +47,16 @@ impl Values {
             target: text(alloc, "TERMSRV/host.example.com")?,
             delegation: CredSspMode::WithCredentials,
             keytab: None,
+            client_protocol: Package::Ntlm,
+            server_protocol: Package::Ntlm,
+            client_packages: None,
+            server_packages: None,
             account: Rows::new(alloc),
             proxy_fail: Rows::new(alloc),
             turns: 5,
             edit: Rows::new(alloc),
+            client_least: 5,
+            server_least: 5,
         };
         Ok(Values {
             scenario,
@@ -77,11 +83,17 @@ impl Values {
             Key::Target => told.target = text(alloc, value)?,
             Key::Delegation => told.delegation = found(words::delegation_named(value))?,
             Key::Keytab => told.keytab = Some(hexadecimal::bytes(alloc, value)?),
+            Key::ClientProtocol => told.client_protocol = found(words::package_named(value))?,
+            Key::ServerProtocol => told.server_protocol = found(words::package_named(value))?,
+            Key::ClientPackages => told.client_packages = Some(text(alloc, value)?),
+            Key::ServerPackages => told.server_packages = Some(text(alloc, value)?),
             Key::Account => told.account.push(account(alloc, value)?)?,
             Key::Accounts => self.accounts = found(words::accounts_named(value))?,
             Key::ProxyFail => told.proxy_fail.push(u64::from(found(number(value))?))?,
             Key::Turns => told.turns = found(number(value))?,
             Key::Edit => told.edit.push(edit(alloc, value)?)?,
+            Key::ClientLeast => told.client_least = found(number(value))?,
+            Key::ServerLeast => told.server_least = found(number(value))?,
         }
         Ok(())
     }

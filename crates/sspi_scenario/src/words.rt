@@ -1,7 +1,7 @@
 ghost use Rattle.std.specs.Prelude.{◌≡◌};
-ghost use Rattle.sspi_scenario.specs.Words.{mode_of, delegation_of, accounts_of};
+ghost use Rattle.sspi_scenario.specs.Words.{mode_of, package_of, delegation_of, accounts_of};
 
-use crate::scenario::Mode;
+use crate::scenario::{Mode, Package};
 use sspi_tsreq::CredSspMode;
 
 /// What the proxy's table holds where no `account` tells it.
@@ -12,12 +12,23 @@ pub enum Accounts {
     None,
 }
 
-#[tactic(auto, using(crate::proofs::Wording::is_ntlm, crate::proofs::Wording::no_mode))]
+#[tactic(auto, using(crate::proofs::Wording::is_ntlm, crate::proofs::Wording::is_negotiate, crate::proofs::Wording::no_mode))]
 pub fn mode_named(word: &str) -> Option<Mode>
     ensures { result ≡ mode_of word.now }
 {
     match word {
         "ntlm" => Some(Mode::Ntlm),
+        "negotiate" => Some(Mode::Negotiate),
+        _ => None,
+    }
+}
+
+#[tactic(auto, using(crate::proofs::Wording::is_package, crate::proofs::Wording::no_package))]
+pub fn package_named(word: &str) -> Option<Package>
+    ensures { result ≡ package_of word.now }
+{
+    match word {
+        "ntlm" => Some(Package::Ntlm),
         _ => None,
     }
 }

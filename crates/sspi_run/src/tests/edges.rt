@@ -102,6 +102,14 @@ fn refusals_without_a_code(rt: HostRuntime) -> Result<(), Fail> {
         (1, 5),
         "\n< 305da003020105a3320430",
         last,
+    )?;
+    shows(
+        &rt,
+        alloc,
+        "client-version 2\nserver-version 2\nserver-least 2\nclient-least 0\naccounts none\n",
+        (1, 5),
+        "\n< 301ca003020102a3150413",
+        last,
     )
 }
 

@@ -213,3 +213,64 @@ fn old_versions(rt: HostRuntime) -> Result<(), Fail> {
         "\nclient DowngradeDetected\n",
     )
 }
+
+/// Where both ends take them: below version 5 one is added to the key for the server's proof, and ends of both kinds do not
+/// understand each other.
+#[test]
+fn old_versions_that_are_taken(rt: HostRuntime) -> Result<(), Fail> {
+    let before_5 = "mode ntlm\nuser DOM\\ann\npassword pw\nkey ffff00\nclient-version 4\nserver-version 4\n\
+        client-least 4\nserver-least 4\n";
+    reports(&rt, rt.alloc(), before_5, (0, 6), "000001\n> ", DELEGATED)?;
+    let mut mixed = String::from_str(
+        rt.alloc(),
+        "mode ntlm\nuser DOM\\ann\npassword pw\nclient-version 4\nserver-least 4\nkey ",
+    )?;
+    mixed.push_str(&"01".repeat(rt.alloc(), 270)?)?;
+    reports(
+        &rt,
+        rt.alloc(),
+        mixed.as_str(),
+        (1, 5),
+        "\n< 3041a003020106a3320430",
+        "a4060204c007030f\nserver MessageAltered\n",
+    )
+}
+
+/// An end compares the first version that it hears with its least one, and each later version with the first.
+#[test]
+fn least_versions(rt: HostRuntime) -> Result<(), Fail> {
+    let alloc = rt.alloc();
+    shows(
+        &rt,
+        alloc,
+        "client-least 7\n",
+        (1, 3),
+        "",
+        "\nclient DowngradeDetected\n",
+    )?;
+    shows(&rt, alloc, "client-least 6\n", (0, 6), "", DELEGATED)?;
+    shows(
+        &rt,
+        alloc,
+        "server-least 6\nclient-least 0\n",
+        (0, 6),
+        "",
+        DELEGATED,
+    )?;
+    shows(
+        &rt,
+        alloc,
+        "edit 0 set 6 04\nedit 2 set 7 04\n",
+        (1, 4),
+        "",
+        "\nserver DowngradeDetected\n",
+    )?;
+    shows(
+        &rt,
+        alloc,
+        "edit 0 set 6 04\nedit 2 set 7 04\nserver-least 4\n",
+        (1, 7),
+        "",
+        "\nserver MessageAltered\n",
+    )
+}

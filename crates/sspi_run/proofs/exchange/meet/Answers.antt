@@ -46,7 +46,7 @@ returns-clause-exchange c ends =
     }
 
 pub returns-clause-outcome : goal.returns-clause-outcome
-returns-clause-outcome c ends values =
+returns-clause-outcome c ends held =
     let s = c.args.scenario in
     let client = c.args.ends.client in
     let server = c.args.ends.server in
@@ -62,7 +62,7 @@ returns-clause-outcome c ends values =
     let laws = lawful 0 0 ntlm_meaning ntlm_meaning ntlm_laws ntlm_laws in
     let settles : (plain : IsPlain s) → Settled 3 s.turns (delegated_as client.delegation (user_identity s)) answer =
     λ plain. settled_plainly ntlm_meaning laws (calls_of_kdc around) table_meaning client server ends.client_fresh ends.server_fresh
-    (plain_match s client server ends.client_named ends.server_named values plain) _ _ _ _ _ s.turns made.client made.server _ _ _ _ _
+    (plain_match s client server ends.client_named ends.server_named held plain) _ _ _ _ _ s.turns made.client made.server _ _ _ _ _
     (plain_link s c.args.ends.link made.link.log made.link.faults ends.link plain)
     delegates.accounts.turns_and_log_show_the_answer stays.the_link_tells_what_it_told stays.the_link_fails_where_its_edits_say_so
     delegates.accounts.client_turns_are_its_calls server_history

@@ -1,0 +1,64 @@
+use sspi_scenario::{Scenario, ScenarioError};
+use std::alloc::Global;
+use std::process::Abort;
+use std::test::Fail;
+
+/// Texts, each with the number of its first faulty line.
+const FAULTS: [(&str, usize); 41] = [
+    ("", 0),
+    ("mode ntlm\nuser a\npassword p\n", 0),
+    ("mode negotiate\nuser a\npassword p\n", 0),
+    ("mode x", 1),
+    ("mode", 1),
+    ("mode negotiates", 1),
+    ("mode  ntlm", 1),
+    ("mode ntlm\nmode ntlm", 2),
+    ("# a comment\n\nMode ntlm", 3),
+    (" mode ntlm", 1),
+    ("mode ntlm\r\n", 1),
+    ("kdc EXAMPLE.COM tcp://k", 1),
+    ("user a\\b@c", 1),
+    ("key 010", 1),
+    ("key 0g", 1),
+    ("key 01 ", 1),
+    ("turns 05", 1),
+    ("turns +5", 1),
+    ("turns", 1),
+    ("turns 4294967296", 1),
+    ("client-least", 1),
+    ("server-least 05", 1),
+    ("client-least 0\nclient-least 0", 2),
+    ("nonce 00", 1),
+    ("challenge 00000000000000", 1),
+    ("delegation  with", 1),
+    ("client-protocol kerberos", 1),
+    ("server-protocol NTLM", 1),
+    ("client-protocol ntlm\nserver-protocol", 2),
+    ("client-packages a\nserver-packages \nclient-packages a", 3),
+    ("account DOM\\ann", 1),
+    ("accounts none\n# one\naccount a p", 3),
+    ("account a p\naccounts own", 2),
+    ("edit 0 add", 1),
+    ("edit 0 drop ", 1),
+    ("edit 0 set 1 0", 1),
+    ("edit 0 set 1 000", 1),
+    ("edit 0 again", 1),
+    ("edit 00 drop", 1),
+    ("mode ntlm\nuser a\nuser b\nkey 0", 3),
+    ("mode negotiate\nclient-protocol x\nmode x", 2),
+];
+
+fn is_refused(rt: &impl Abort, alloc: Global, text: &str, line: usize) {
+    match Scenario::parse(alloc, text.as_bytes()) {
+        Err(ScenarioError::Line(found)) => assert!(rt; found == line, "{line} {text}"),
+        _ => assert!(rt; false, "{line} {text}"),
+    }
+}
+
+#[test]
+fn faults_are_found_at_their_lines(rt: HostRuntime) -> Result<(), Fail> {
+    for (text, line) in FAULTS {
+        is_refused(&rt, rt.alloc(), text, line);
+    }
+    Ok(())
+}

@@ -1,0 +1,110 @@
+use sspi_scenario::{Mode, Package, Scenario};
+use sspi_tsreq::CredSspMode;
+use std::process::Abort;
+use std::test::Fail;
+
+const EVERY_KEY: &[u8] = b"# every key\n\nmode negotiate\nuser DOM\\ann lee\npassword  p w\nkey 01aF\nserver-key \n\
+      client-version 4294967295\nserver-version 0\n\
+      nonce 000102030405060708090a0b0c0d0e0f101112131415161718191A1B1C1D1E1F\n\
+      challenge 0102030405060708\ncomputer\ntarget a b\ndelegation less\nkeytab 05\n\
+      client-protocol ntlm\nserver-protocol ntlm\nclient-packages !kerberos,ntlm\nserver-packages\n\
+      account DOM\\bob two words\naccount \\x \nproxy-fail 2\nproxy-fail 0\nturns 3\n\
+      edit 0 drop\nedit 1 cut 7\nedit 1 set 3 fF\nedit 2 add \nedit 3 give 0102\nedit 4 again 1\nedit 5 fail\n\
+      client-least 0\nserver-least 4294967295";
+
+const FEWEST_KEYS: &[u8] = b"mode ntlm\nuser DOM\\ann\npassword pw\nkey 010203\n";
+
+fn ends_are_told(told: &Scenario) -> bool {
+    told.mode == Mode::Negotiate
+        && told.user.inner() == "DOM\\ann lee"
+        && told.password.as_str() == " p w"
+        && told.key.as_slice() == [0x01, 0xaf].as_slice()
+        && told.server_key.is_empty()
+        && told.client_version == 4294967295
+        && told.server_version == 0
+        && told.nonce[31] == 31
+        && told.challenge == [1, 2, 3, 4, 5, 6, 7, 8]
+        && told.computer.is_empty()
+        && told.target.as_str() == "a b"
+        && told.delegation == CredSspMode::CredentialLess
+}
+
+fn packages_are_told(told: &Scenario) -> bool {
+    told.client_protocol == Package::Ntlm
+        && told.server_protocol == Package::Ntlm
+        && matches!(&told.client_packages, Some(list) if list.as_str() == "!kerberos,ntlm")
+        && matches!(&told.server_packages, Some(list) if list.is_empty())
+}
+
+fn lists_are_told(told: &Scenario) -> bool {
+    let accounts = told.account.as_slice();
+    accounts.len() == 2
+        && accounts[0].username.account_name() == "bob"
+        && accounts[0].password.value.as_str() == "two words"
+        && accounts[1].username.inner() == "x"
+        && accounts[1].password.value.is_empty()
+        && told.keytab.is_some()
+        && told.proxy_fail.as_slice() == [2, 0].as_slice()
+        && told.turns == 3
+        && told.client_least == 0
+        && told.server_least == 4294967295
+        && told.edit.as_slice().len() == 7
+}
+
+fn check_told(rt: &impl Abort, told: &Scenario) {
+    assert!(rt; ends_are_told(told));
+    assert!(rt; packages_are_told(told));
+    assert!(rt; lists_are_told(told));
+}
+
+#[test]
+fn every_key_is_read(rt: HostRuntime) -> Result<(), Fail> {
+    let told = Scenario::parse(rt.alloc(), EVERY_KEY)?;
+    check_told(&rt, &told);
+    Ok(())
+}
+
+fn ends_are_the_default(given: &Scenario) -> bool {
+    given.mode == Mode::Ntlm
+        && given.server_key.as_slice() == [1, 2, 3].as_slice()
+        && given.client_version == 6
+        && given.server_version == 6
+        && given.nonce == [0; 32]
+        && given.challenge == [0; 8]
+        && given.computer.as_str() == "CLIENT"
+        && given.target.as_str() == "TERMSRV/host.example.com"
+        && given.delegation == CredSspMode::WithCredentials
+}
+
+fn packages_are_the_default(given: &Scenario) -> bool {
+    given.client_protocol == Package::Ntlm
+        && given.server_protocol == Package::Ntlm
+        && given.client_packages.is_none()
+        && given.server_packages.is_none()
+}
+
+fn lists_are_the_default(given: &Scenario) -> bool {
+    let accounts = given.account.as_slice();
+    accounts.len() == 1
+        && accounts[0].username.inner() == "DOM\\ann"
+        && accounts[0].password.value.as_str() == "pw"
+        && given.keytab.is_none()
+        && given.turns == 5
+        && given.client_least == 5
+        && given.server_least == 5
+        && given.edit.as_slice().is_empty()
+        && given.proxy_fail.as_slice().is_empty()
+}
+
+fn check_defaults(rt: &impl Abort, given: &Scenario) {
+    assert!(rt; ends_are_the_default(given));
+    assert!(rt; packages_are_the_default(given));
+    assert!(rt; lists_are_the_default(given));
+}
+
+#[test]
+fn defaults_are_those_of_the_format(rt: HostRuntime) -> Result<(), Fail> {
+    let given = Scenario::parse(rt.alloc(), FEWEST_KEYS)?;
+    check_defaults(&rt, &given);
+    Ok(())
+}
