@@ -15,7 +15,7 @@ use Rattle.sspi_credssp.specs.Acts.{sealed_by, unsealed_by}
 use Rattle.sspi_credssp.specs.Begun.{BeginCause}
 use Rattle.sspi_credssp.specs.Client.{ClientView}
 use Rattle.sspi_credssp.specs.ClientCause.{ClientCause, StateCause, DeliverCause, BlobOpens, OpenedCause, CheckedCause, SealsCause, altered, unsealed}
-use Rattle.sspi_credssp.specs.ClientTurn.{NegoReply, StartsUnused, OnceNegotiated, client_frame, client_turn}
+use Rattle.sspi_credssp.specs.ClientTurn.{StartsUnused, OnceNegotiated, client_frame, client_turn}
 use Rattle.sspi_credssp.specs.Turn.{ClientFrame}
 use Rattle.sspi_credssp.specs.Context.{ContextSetting, ForClient}
 use Rattle.sspi_credssp.specs.Counts.{sealed_in, unsealed_in, SealsIn, SameBut, cleared}
@@ -28,7 +28,9 @@ use Rattle.sspi_credssp.specs.declared.turn.Outcome.TheVariants as outcome
 use Rattle.sspi_delegate.specs.Asking.{KdcCalls}
 use Rattle.sspi_delegate.specs.History.{ClientMakes}
 use Rattle.sspi_completeness.proofs.Ends.{Comes, is_false, stops_later, made_past, sealed_few, Holds, IsMaker, IsTaker, holds_still, sealed_field, ClientIs}
+use Rattle.sspi_completeness.proofs.Replies.{final_is, proof_is}
 use Rattle.sspi_credssp.specs.declared.turn.Turn.{Turn}
+use Rattle.sspi_credssp.specs.Shown.{ShowsNego, client_shown}
 
 module _ {C D : Type 0} (c : Meaning ContextSetting C) (k : KdcCalls D) where
   abbrev View : Type 0
@@ -46,7 +48,7 @@ module _ {C D : Type 0} (c : Meaning ContextSetting C) (k : KdcCalls D) where
     pub text_is : delegated_text a.credentials a.delegation ≡ Ok text
     pub begins : (kind : ErrorKind) → BeginCause c (ForClient a.mode) Outbound (Some a.credentials) kind → ⊥
 
-  reply_nego : (frame : ClientFrame C) (t : Turn) (status : Option SecurityStatus) (reply : TsRequest) → NegoReply c frame t status reply → frame.state ≡ NegoToken
+  reply_nego : (frame : ClientFrame C) (t : Turn) (status : Option SecurityStatus) (reply : TsRequest) → ShowsNego (client_shown frame) t status reply → frame.state ≡ NegoToken
   reply_nego frame t None reply h = absurd h
   reply_nego frame t (Some statuses.Ok) reply h = h.state
   reply_nego frame t (Some other) reply h = h.state
@@ -61,7 +63,7 @@ module _ {C D : Type 0} (c : Meaning ContextSetting C) (k : KdcCalls D) where
 
     never_replies : (mid : View) (kdc2 : D) (r : TsRequest) → ClientMakes c k old kdc d (outcome.Reply r) mid kdc2 → ⊥
     never_replies mid kdc2 r makes =
-        let nego = reply_nego (client_frame c old mid) (client_turn c d (outcome.Reply r) mid) mid.acts.status r makes.0.turn.reply in
+        let nego = reply_nego (client_frame c old mid) (client_turn c d (outcome.Reply r) mid) mid.acts.status r makes.0.turn.shown.reply in
         let auth = given.is.state_is in cc
 
     unused : StartsUnused c old
@@ -77,19 +79,19 @@ module _ {C D : Type 0} (c : Meaning ContextSetting C) (k : KdcCalls D) where
         r ≡ record d { version = a.version; nego_tokens = None; pub_key_auth = None; auth_info = Some (own 1 text) }
     delivered mid kdc2 r makes =
         let turn = makes.0 in
-        let final = turn.turn.reply in
+        let final = turn.turn.shown.reply in
         let holds = held_now mid turn.moves.bare in
         let unproved : mid.acts.proved ≡ false = is_false mid.acts.proved (λ was.
-        let answered = turn.turn.acts.answered (rw (turn.turn.acts.proved was).0 refl) in
-        let nego = turn.turn.acts.negotiated answered in let auth = given.is.state_is in cc) in
+        let answered = turn.turn.shown.acts.answered (rw (turn.turn.shown.acts.proved was).0 refl) in
+        let nego = turn.turn.shown.acts.negotiated answered in let auth = given.is.state_is in cc) in
         let one : sealed_by mid.acts ≡ 1 = rw (unproved, final.sealed) refl in
         let sealed_now : sealed_in c mid.context ≡ 2 = turn.moves.sealed unused ∙ (rw (given.is.sealed_is, one) refl) in
         let seals = subst (λ (x : Result (List ℕ) Error). IfText x (λ text. SealsIn c mid.context (sealed_in c mid.context - 1) text r.auth_info))
-        (texts_of mid turn.moves.same.credentials turn.moves.same.delegation) final.credentials in
+        (texts_of mid turn.moves.same.credentials turn.moves.same.delegation) turn.turn.held.reply in
         let field = sealed_field c mid.context y own _ text r.auth_info holds given.maker seals in
         let field_is : r.auth_info ≡ Some (own 1 text) = field ∙ (rw sealed_now refl) in
         let version = turn.moves.same.version ∙ given.is.same.version in
-        final.reply ∙ (rw (version, field_is) refl)
+        final_is (client_frame c old mid) (client_turn c d (outcome.Final r) mid) r final ∙ (rw (version, field_is) refl)
 
     never_made : (kind : ErrorKind) → BeginCause c (ForClient old.mode) Outbound (Some old.credentials) kind → ⊥
     never_made kind h =
@@ -145,7 +147,7 @@ module _ {C D : Type 0} (c : Meaning ContextSetting C) (k : KdcCalls D) where
         opened_never mid.acts.checked holds.held error.error_type (delegated_text mid.credentials mid.delegation)
         (texts_of mid turn.moves.same.credentials turn.moves.same.delegation) holds.same
         (omega (arith, sealed, sealed_before, sealed_here, two))
-        (λ unchecked. let none : unsealed_by mid.acts ≡ 0 = rw (unchecked, turn.turn.acts.opened) refl in omega (arith, opened, opened_before, opened_here, none))
+        (λ unchecked. let none : unsealed_by mid.acts ≡ 0 = rw (unchecked, turn.turn.shown.acts.opened) refl in omega (arith, opened, opened_before, opened_here, none))
         at
 
     pub last_turn : (out : Outcome) (mid : View) (kdc2 : D) → ClientMakes c k old kdc d out mid kdc2 →

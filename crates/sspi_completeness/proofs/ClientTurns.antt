@@ -21,7 +21,7 @@ use Rattle.sspi_credssp.specs.Begun.{BeginCause}
 use Rattle.sspi_credssp.specs.Client.{ClientView}
 use Rattle.sspi_credssp.specs.ClientCause.{ClientCause, StateCause, NegoCause, ProveCause}
 use Rattle.sspi_credssp.specs.ClientStep.{Asked, Walked, stepped, resumed, still_asked, recounted, StepsTo, DoneStep, OnStep, refused_answer, client_args}
-use Rattle.sspi_credssp.specs.ClientTurn.{ClientActs, ClientTurn, SameClient, NegoReply, ProofReply, TokenReply, StartsUnused, client_frame, client_turn, noted_next}
+use Rattle.sspi_credssp.specs.ClientTurn.{ClientTurn, SameClient, StartsUnused, client_frame, client_turn, noted_next}
 use Rattle.sspi_credssp.specs.Context.{ContextSetting, ForClient}
 use Rattle.sspi_credssp.specs.Counts.{sealed_in, SealsIn, is_waiting_in, cleared}
 use Rattle.sspi_credssp.specs.Noted.{noted_in}
@@ -33,7 +33,10 @@ use Rattle.sspi_credssp.specs.declared.turn.Outcome.TheVariants as outcome
 use Rattle.sspi_delegate.specs.Asking.{KdcCalls}
 use Rattle.sspi_delegate.specs.History.{ClientMakes}
 use Rattle.sspi_completeness.proofs.Ends.{Comes, in_context, is_false, stops_later, made_past, sealed_few, noted_at, Holds, IsMaker, sealed_field, unused_in, ClientIs, takes_later, takes_noted}
+use Rattle.sspi_completeness.proofs.Replies.{proof_is, token_is}
 use Rattle.sspi_credssp.specs.declared.turn.Turn.{Turn}
+use Rattle.sspi_credssp.specs.Shown.{ShowsClientActs, ShowsNego, ShowsProof, ShowsToken, client_shown}
+use Rattle.sspi_credssp.specs.Held.{HoldsNego, HoldsProof}
 
 module _ {C : Type 0} (c : Meaning ContextSetting C) (laws : IsContext c) where
   abbrev View : Type 0
@@ -51,11 +54,11 @@ module _ {C : Type 0} (c : Meaning ContextSetting C) (laws : IsContext c) where
       rw counted (laws.waits_counted m1 n ∙ done_idle start handle token tried log answer step m1 is walked)
 
   -- a turn of the authentication checks nothing, seals no credentials and opens none
-  nego_acts : (frame : ClientFrame C) (t : Turn) → ClientActs c frame t → frame.state ≡ NegoToken →
+  nego_acts : (frame : ClientFrame C) (t : Turn) → ShowsClientActs (client_shown frame) t → frame.state ≡ NegoToken →
       (t.acts.checked ≡ false) × (t.acts.sealed ≡ false) × (t.acts.opened ≡ false)
   nego_acts frame t acts nego =
       let unchecked : t.acts.checked ≡ false = is_false t.acts.checked (λ was. let s = (acts.checked was).0 in cc (s, nego)) in
-      let unsealed_so : t.acts.sealed ≡ false = is_false t.acts.sealed (λ was. let s = (acts.sealed was).0 in cc (s, unchecked)) in
+      let unsealed_so : t.acts.sealed ≡ false = is_false t.acts.sealed (λ was. let s = acts.sealed was in cc (s, unchecked)) in
       (unchecked, unsealed_so, acts.opened)
 
   same_on : (a old mid : View) → SameClient c a old → SameClient c old mid → SameClient c a mid
@@ -116,7 +119,7 @@ module _ {C : Type 0} (c : Meaning ContextSetting C) (laws : IsContext c) where
           )
 
       replied_at : (mid : View) (kdc2 : D) (status : Option SecurityStatus) (log : List Asked) (r : TsRequest) → k.replies kdc log kdc2 →
-          NegoReply c (client_frame c old mid) (client_turn c d (outcome.Reply r) mid) status r → DoneStep c status old d 0 log mid →
+          ShowsNego (client_shown (client_frame c old mid)) (client_turn c d (outcome.Reply r) mid) status r → DoneStep c status old d 0 log mid →
           (status ≡ Some step.status) × Left mid y handle After kdc2 step
       replied_at mid kdc2 None log r replied h done = absurd h
       replied_at mid kdc2 (Some st) log r replied h done = let s = walked_at mid kdc2 st log replied done in (ap Some s.0, s.1)
@@ -161,7 +164,7 @@ module _ {C : Type 0} (c : Meaning ContextSetting C) (laws : IsContext c) where
           let steps = makes.3.steps in
           let others2 : error.error_type ≢ InsufficientMemory = λ memory. others (sym makes.1 ∙ memory) in
           let cause = nego_cause mid error.error_type (makes.3.cause others2) in
-          let was = began mid.acts.status mid error.error_type refl turn.turn.acts.answered cause in
+          let was = began mid.acts.status mid error.error_type refl turn.turn.shown.acts.answered cause in
           let s = refused_at mid kdc2 mid.acts.status mid.acts.negotiated steps.asked error steps.replied was others2 steps.step in
           record {
             turn = turn;
@@ -170,7 +173,7 @@ module _ {C : Type 0} (c : Meaning ContextSetting C) (laws : IsContext c) where
           }
 
       never_ends : (mid : View) (kdc2 : D) (r : TsRequest) → ClientMakes c k old kdc d (outcome.Final r) mid kdc2 → ⊥
-      never_ends mid kdc2 r makes = let auth = makes.0.turn.reply.state in let nego = given.is.state_is in cc
+      never_ends mid kdc2 r makes = let auth = makes.0.turn.shown.reply.state in let nego = given.is.state_is in cc
 
       noted_now : (mid : View) → mid.noted ≡ noted_next c old d → mid.noted ≡ noted_at first w
       noted_now mid noted = noted ∙ ap (noted_in old.context old.least old.noted) given.version ∙ given.is.notes
@@ -186,16 +189,16 @@ module _ {C : Type 0} (c : Meaning ContextSetting C) (laws : IsContext c) where
           let turn = makes.0 in
           let frame = client_frame c old mid in
           let t = client_turn c d (outcome.Reply r) mid in
-          let s = replied_at mid kdc2 mid.acts.status makes.1.asked r makes.1.replied turn.turn.reply makes.1.step in
+          let s = replied_at mid kdc2 mid.acts.status makes.1.asked r makes.1.replied turn.turn.shown.reply makes.1.step in
           let status : mid.acts.status ≡ Some statuses.ContinueNeeded = s.0 ∙ ap Some goes in
-          let token : TokenReply c frame t r = subst (λ (x : Option SecurityStatus). NegoReply c frame t x r) status turn.turn.reply in
-          let quiet = nego_acts frame t turn.turn.acts given.is.state_is in
-          let unproved : mid.acts.proved ≡ false = is_false mid.acts.proved (λ was. let ok = (turn.turn.acts.proved was).0 in cc) in
+          let token : ShowsToken (client_shown frame) t r = subst (λ (x : Option SecurityStatus). ShowsNego (client_shown frame) t x r) status turn.turn.shown.reply in
+          let quiet = nego_acts frame t turn.turn.shown.acts given.is.state_is in
+          let unproved : mid.acts.proved ≡ false = is_false mid.acts.proved (λ was. let ok = (turn.turn.shown.acts.proved was).0 in cc) in
           let none_sealed : sealed_by mid.acts ≡ 0 = rw (unproved, quiet.1) refl in
           let none_opened : unsealed_by mid.acts ≡ 0 = rw (quiet.0, quiet.2) refl in
           let same = same_on a old mid given.is.same turn.moves.same in
           let later = takes_later c mid s.1.holds.held first w w2 peer (rw same.least takes) s.1.holds.there (noted_now mid turn.moves.noted_going) in (
-            token.reply ∙ (rw (same.version, s.1.output_is) refl),
+            token_is frame t r token ∙ (rw (same.version, s.1.output_is) refl),
             record {
               same = same;
               state_is = turn.moves.state ∙ (rw (unproved, given.is.state_is) refl);
@@ -237,10 +240,11 @@ module _ {C : Type 0} (c : Meaning ContextSetting C) (laws : IsContext c) where
             let turn = makes.0 in
             let frame = client_frame c old mid in
             let t = client_turn c d (outcome.Reply r) mid in
-            let s = replied_at mid kdc2 mid.acts.status makes.1.asked r makes.1.replied turn.turn.reply makes.1.step in
+            let s = replied_at mid kdc2 mid.acts.status makes.1.asked r makes.1.replied turn.turn.shown.reply makes.1.step in
             let status : mid.acts.status ≡ Some statuses.Ok = s.0 ∙ ap Some ends in
-            let proof : ProofReply c frame t r = subst (λ (x : Option SecurityStatus). NegoReply c frame t x r) status turn.turn.reply in
-            let quiet = nego_acts frame t turn.turn.acts given.is.state_is in
+            let proof : ShowsProof (client_shown frame) t r = subst (λ (x : Option SecurityStatus). ShowsNego (client_shown frame) t x r) status turn.turn.shown.reply in
+            let held : HoldsProof c frame r = subst (λ (x : Option SecurityStatus). HoldsNego c frame x r) status turn.turn.held.reply in
+            let quiet = nego_acts frame t turn.turn.shown.acts given.is.state_is in
             let one : sealed_by mid.acts ≡ 1 = rw (proof.proved, quiet.1) refl in
             let none_opened : unsealed_by mid.acts ≡ 0 = rw (quiet.0, quiet.2) refl in
             let sealed_now : sealed_in c mid.context ≡ 1 = turn.moves.sealed unused ∙ (rw (given.is.sealed_is, one) refl) in
@@ -248,10 +252,10 @@ module _ {C : Type 0} (c : Meaning ContextSetting C) (laws : IsContext c) where
             let more = takes_noted c mid s.1.holds.held w s.1.holds.there noted in
             let same = same_on a old mid given.is.same turn.moves.same in
             let seals = subst (λ (x : Option ℕ). AtNoted x (λ n. SealsIn c mid.context (sealed_in c mid.context - 1) (prescribed Client n mid.nonce mid.public_key) r.pub_key_auth))
-            noted proof.proof in
+            noted held.proof in
             let field = sealed_field c mid.context y blob _ _ r.pub_key_auth s.1.holds maker seals in
             let field_is : r.pub_key_auth ≡ Some (blob 0 (prescribed Client w a.nonce a.public_key)) = field ∙ (rw (sealed_now, same.nonce, same.public_key) refl) in (
-              proof.reply ∙ (rw (same.version, s.1.output_is, same.nonce, field_is) refl),
+              proof_is frame t r proof held.nonce ∙ (rw (same.version, s.1.output_is, same.nonce, field_is) refl),
               record {
                 same = same;
                 state_is = turn.moves.state ∙ (rw proof.proved refl);

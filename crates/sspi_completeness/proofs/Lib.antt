@@ -2,6 +2,7 @@ pub mod Lengths
 pub mod Fits
 pub mod Deliveries
 pub mod Ends
+pub mod Replies
 pub mod ClientTurns
 pub mod ClientDelivery
 pub mod Accepting

@@ -22,7 +22,8 @@ use Rattle.sspi_credssp.specs.Requests.{nonce_of, unless_empty}
 use Rattle.sspi_credssp.specs.Proxy.{ProxyMeaning}
 use Rattle.sspi_credssp.specs.ServerCause.{MakeCause}
 use Rattle.sspi_credssp.specs.Server.{ServerView}
-use Rattle.sspi_credssp.specs.ServerTurn.{IsOver, SameServer}
+use Rattle.sspi_credssp.specs.ServerTurn.{SameServer}
+use Rattle.sspi_credssp.specs.Shown.{IsOver}
 use Rattle.sspi_delegate.specs.Asking.{KdcCalls}
 use Rattle.sspi_completeness.proofs.Accepting.{IsPeer, Takes}
 use Rattle.sspi_completeness.proofs.ClientTurns.{Walks}

@@ -16,7 +16,8 @@ use Rattle.sspi_credssp.specs.Exchange.{OpensIdentity, opens_identity, BlobStops
 use Rattle.sspi_credssp.specs.Proxy.{ProxyMeaning}
 use Rattle.sspi_credssp.specs.Server.{ServerView}
 use Rattle.sspi_credssp.specs.ServerCause.{MakeCause, UnreadCause, unread, OpenedCause}
-use Rattle.sspi_credssp.specs.ServerTurn.{StateAnswer, MayCheck, StartsUnused, OnceNegotiated, HoldsIdentity, server_frame, server_turn}
+use Rattle.sspi_credssp.specs.ServerTurn.{StartsUnused, OnceNegotiated, HoldsIdentity, server_frame, server_turn}
+use Rattle.sspi_credssp.specs.Shown.{MayCheck, ShowsStateBack, server_shown}
 use Rattle.sspi_credssp.specs.declared.turn.Outcome.{Outcome}
 use Rattle.sspi_credssp.specs.declared.turn.Outcome.TheVariants as outcome
 use Rattle.sspi_delegate.specs.History.{ServerMakes}
@@ -44,7 +45,7 @@ module _ {C P : Type 0} (c : Meaning ContextSetting C) (laws : IsContext c) (p :
       (given : DeliveryGiven b old w d z peers text identity) where
     never_replies : (mid : View) (r : TsRequest) → ServerMakes c p old d (outcome.Reply r) mid → ⊥
     never_replies mid r makes =
-        subst (λ (s : CredSspState). StateAnswer c (server_frame c old mid) (server_turn c d (outcome.Reply r) mid) s r) given.is.state_is makes.0.turn.reply
+        subst (λ (s : CredSspState). ShowsStateBack (server_shown (server_frame c old mid)) (server_turn c d (outcome.Reply r) mid) s r) given.is.state_is makes.0.turn.shown.reply
 
     held_now : (mid : View) → OnceNegotiated old.state (SameBut c old.context mid.context) → Holds c mid.context z
     held_now mid bare = holds_still c old.context mid.context z (bare_at old.state _ given.is.state_is bare) given.holds
@@ -86,7 +87,7 @@ module _ {C P : Type 0} (c : Meaning ContextSetting C) (laws : IsContext c) (p :
         let before = given.is.unsealed_is in
         let here : unsealed_in c mid.context ≡ (c.counts h.held).unsealed = ap (unsealed_in c) h.there in
         let unchecked : mid.acts.checked ≡ false = is_false mid.acts.checked (λ was.
-        subst (λ (s : CredSspState). MayCheck s mid.acts.status) given.is.state_is (turn.turn.acts.checked was).0) in
+        subst (λ (s : CredSspState). MayCheck s mid.acts.status) given.is.state_is (turn.turn.shown.acts.checked was).0) in
         opened_never mid.acts.opened h.held error.error_type h.same
         (λ unopened. let none : unsealed_by mid.acts ≡ 0 = rw (unchecked, unopened) refl in omega (arith, opened, before, here, none)) at
 

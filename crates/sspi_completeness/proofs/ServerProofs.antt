@@ -25,15 +25,18 @@ use Rattle.sspi_credssp.specs.Server.{ServerView}
 use Rattle.sspi_credssp.specs.ServerCause.{MakeCause, IdentifyCause, OverCause, unknown, incomplete, known, AfterCause, ExchangeCause, BlobCause, ProofCause, AnswerCause, altered, unsealed, lacks_nonce}
 use Rattle.sspi_credssp.specs.ServerStep.{Unknown, Identified, Completed}
 use Rattle.sspi_credssp.specs.Noted.{noted_with}
-use Rattle.sspi_credssp.specs.ServerTurn.{IsOver, OverAnswer, ProofAnswer, StateAnswer, StartsUnused, OnceNegotiated, ServerTurn, after_status, server_frame, server_turn}
+use Rattle.sspi_credssp.specs.ServerTurn.{StartsUnused, OnceNegotiated, ServerTurn, after_status, server_frame, server_turn}
+use Rattle.sspi_credssp.specs.Shown.{IsOver, ShowsOver, ShowsProofBack, ShowsStateBack, server_shown}
 use Rattle.sspi_credssp.specs.Turn.{AtNoted}
 use Rattle.sspi_mech.specs.Calls.{ToComplete}
 use Rattle.sspi_credssp.specs.declared.turn.Outcome.{Outcome}
 use Rattle.sspi_credssp.specs.declared.turn.Outcome.TheVariants as outcome
+use Rattle.sspi_credssp.specs.Held.{HoldsProofBack}
 use Rattle.sspi_delegate.specs.History.{ServerMakes}
 use Rattle.sspi_completeness.proofs.Accepting.{IsPeer, named_is, come_at}
 use Rattle.sspi_completeness.proofs.Ends.{Comes, is_false, stops_later, sealed_few, Holds, IsMaker, IsTaker, holds_still, sealed_field, ServerIs}
 use Rattle.sspi_completeness.proofs.ServerTurns.{NegoGiven, nego_acts, same_on, stands_noted, cause_past, over_answer, over_cause, unused, noted_now, replies, over_left, never_finishes, refusal}
+use Rattle.sspi_completeness.proofs.Replies.{proof_back_is, token_back_is}
 
 asks_proof : (st : SecurityStatus) → IsOver (Some st) → after_status (Some st) ≡ PubKeyInfo
 asks_proof statuses.Ok over = refl
@@ -68,14 +71,14 @@ module _ {C P : Type 0} (c : Meaning ContextSetting C) (laws : IsContext c) (p :
       pub_key_auth = Some (own 0 (prescribed Server w (nonce_of d.client_nonce) b.public_key));
     }
 
-    answered : (mid : View) (r : TsRequest) → ProofAnswer c (server_frame c old mid) (server_turn c d (outcome.Reply r) mid) r → Holds c mid.context z → mid.noted ≡ Some w →
+    answered : (mid : View) (r : TsRequest) → ShowsProofBack (server_shown (server_frame c old mid)) (server_turn c d (outcome.Reply r) mid) r → HoldsProofBack c (server_frame c old mid) d r → Holds c mid.context z → mid.noted ≡ Some w →
         mid.public_key ≡ b.public_key → mid.version ≡ b.version → sealed_in c mid.context ≡ 1 → r ≡ answer
-    answered mid r proof holds noted public_key version one =
+    answered mid r proof held holds noted public_key version one =
         let seals = subst (λ (x : Option ℕ). AtNoted x (λ n. SealsIn c mid.context (sealed_in c mid.context - 1)
-        (prescribed Server n (nonce_of d.client_nonce) mid.public_key) r.pub_key_auth)) noted proof.proof in
+        (prescribed Server n (nonce_of d.client_nonce) mid.public_key) r.pub_key_auth)) noted held in
         let field = sealed_field c mid.context z own _ _ r.pub_key_auth holds proof_given.maker seals in
         let field_is : r.pub_key_auth ≡ Some (own 0 (prescribed Server w (nonce_of d.client_nonce) b.public_key)) = field ∙ (rw (one, public_key) refl) in
-        proof.reply ∙ (rw (version, field_is) refl)
+        proof_back_is (server_frame c old mid) (server_turn c d (outcome.Reply r) mid) r proof ∙ (rw (version, field_is) refl)
 
     answer_never : (m : C) (text : List ℕ) (kind : ErrorKind) → cleared c m ≡ z → (c.counts m).sealed < 2 ^ 64 - 1 →
         AnswerCause c m (peers 0 client_text) client_text text kind → ⊥
@@ -119,22 +122,22 @@ module _ {C P : Type 0} (c : Meaning ContextSetting C) (laws : IsContext c) (p :
       noted_at mid m there noted = noted (rw there refl) ∙ ap (noted_with old.least old.noted) version ∙ is.notes
 
       unopened : (mid : View) (out : Outcome) → ServerTurn c old d out mid → mid.acts.opened ≡ false
-      unopened mid out turn = is_false mid.acts.opened (λ was. let auth = (turn.turn.acts.opened was).0 in let at = is.state_is in cc)
+      unopened mid out turn = is_false mid.acts.opened (λ was. let auth = (turn.turn.shown.acts.opened was).0 in let at = is.state_is in cc)
 
       proof_replied : (mid : View) (r : TsRequest) → ServerMakes c p old d (outcome.Reply r) mid →
           (r ≡ answer) × ServerIs c b mid w AuthInfo 1 1 × Holds c mid.context z
       proof_replied mid r makes =
           let turn = makes.0 in
-          let proof : ProofAnswer c (server_frame c old mid) (server_turn c d (outcome.Reply r) mid) r =
-          subst (λ (s : CredSspState). StateAnswer c (server_frame c old mid) (server_turn c d (outcome.Reply r) mid) s r) is.state_is turn.turn.reply in
+          let proof : ShowsProofBack (server_shown (server_frame c old mid)) (server_turn c d (outcome.Reply r) mid) r =
+          subst (λ (s : CredSspState). ShowsStateBack (server_shown (server_frame c old mid)) (server_turn c d (outcome.Reply r) mid) s r) is.state_is turn.turn.shown.reply in
           let h = held_now mid turn.moves.bare in
-          let one : sealed_by mid.acts ≡ 1 = rw (proof.proved, turn.turn.acts.sealed) refl in
+          let one : sealed_by mid.acts ≡ 1 = rw (proof.proved, turn.turn.shown.acts.sealed) refl in
           let opened_one : unsealed_by mid.acts ≡ 1 = rw (proof.checked, unopened mid _ turn) refl in
           let sealed_now : sealed_in c mid.context ≡ 1 = turn.moves.sealed unstarted ∙ (rw (is.sealed_is, one) refl) in
           let noted = noted_at mid h.held h.there turn.moves.noted in
           let same = same_on c laws p b old mid is.same turn.moves.same in
           let still = stands_noted c laws p mid.least mid.noted w noted in (
-            answered mid r proof h noted same.public_key same.version sealed_now,
+            answered mid r proof (turn.turn.held.reply proof.proved) h noted same.public_key same.version sealed_now,
             record {
               same = same;
               state_is = turn.moves.state ∙ (rw proof.proved refl);
@@ -163,7 +166,7 @@ module _ {C P : Type 0} (c : Meaning ContextSetting C) (laws : IsContext c) (p :
           (λ unchecked. let none : unsealed_by mid.acts ≡ 0 = rw (unchecked, unopened mid _ turn) refl in omega (arith, opened, opened_before, none)) cause
 
       proof_ends : (mid : View) → ServerMakes c p old d outcome.Finished mid → ⊥
-      proof_ends mid makes = let auth = makes.0.turn.reply.0 in let at = is.state_is in cc
+      proof_ends mid makes = let auth = makes.0.turn.shown.reply.0 in let at = is.state_is in cc
 
       pub proof_turn : (out : Outcome) (mid : View) → ServerMakes c p old d out mid →
           Comes out (λ r. (r ≡ answer) × ServerIs c b mid w AuthInfo 1 1 × Holds c mid.context z)
@@ -201,11 +204,11 @@ module _ {C P : Type 0} (c : Meaning ContextSetting C) (laws : IsContext c) (p :
           let frame = server_frame c old mid in
           let t = server_turn c d (outcome.Reply r) mid in
           let s = replies c laws p b old w d step y handle given mid r makes in
-          let proof : ProofAnswer c frame t r = subst (λ (x : Option (List ℕ)). OverAnswer c frame t x r) proof_given.proof
+          let proof : ShowsProofBack (server_shown frame) t r = subst (λ (x : Option (List ℕ)). ShowsOver (server_shown frame) t x r) proof_given.proof
           (over_answer c laws p step.status frame t r over s.answer) in
           let left = over_left c laws p b old w d step y handle given mid over s.done in
           let h : Holds c mid.context z = record { held = left.held; there = left.there; same = named_is c laws (p.told old.proxy) y z left.held peer left.comes } in
-          let quiet = nego_acts c laws p frame t turn.turn.acts given.is.state_is in
+          let quiet = nego_acts c laws p frame t turn.turn.shown.acts given.is.state_is in
           let start = unused c laws p b old w d step y handle given in
           let one : sealed_by mid.acts ≡ 1 = rw (proof.proved, quiet.0) refl in
           let opened_one : unsealed_by mid.acts ≡ 1 = rw (proof.checked, quiet.1) refl in
@@ -213,7 +216,7 @@ module _ {C P : Type 0} (c : Meaning ContextSetting C) (laws : IsContext c) (p :
           let noted = noted_now c laws p b old w d step y handle given mid h.held h.there turn.moves.noted in
           let same = same_on c laws p b old mid given.is.same turn.moves.same in
           let still = stands_noted c laws p mid.least mid.noted w noted in (
-            answered b old w d z own peers proof_given mid r proof h noted same.public_key same.version sealed_now,
+            answered b old w d z own peers proof_given mid r proof (turn.turn.held.reply proof.proved) h noted same.public_key same.version sealed_now,
             record {
               same = same;
               state_is = turn.moves.state ∙ (rw proof.proved refl);
@@ -237,7 +240,7 @@ module _ {C P : Type 0} (c : Meaning ContextSetting C) (laws : IsContext c) (p :
           let x = refusal c laws p b old w d step y handle given mid kind reply makes others in
           let after = over_after mid kind still calm (over_cause c laws p step.status old d mid kind over x.cause) in
           let start = unused c laws p b old w d step y handle given in
-          let quiet = nego_acts c laws p (server_frame c old mid) (server_turn c d (outcome.Refused kind reply) mid) x.turn.turn.acts given.is.state_is in
+          let quiet = nego_acts c laws p (server_frame c old mid) (server_turn c d (outcome.Refused kind reply) mid) x.turn.turn.shown.acts given.is.state_is in
           let sealed = x.turn.moves.sealed start in
           let opened = x.turn.moves.unsealed start in
           let sealed_before = given.is.sealed_is in
@@ -266,21 +269,21 @@ module _ {C P : Type 0} (c : Meaning ContextSetting C) (laws : IsContext c) (p :
           let frame = server_frame c old mid in
           let t = server_turn c d (outcome.Reply r) mid in
           let s = replies c laws p b old w d step y handle given mid r makes in
-          let token : OverAnswer c frame t None r = subst (λ (x : Option (List ℕ)). OverAnswer c frame t x r) absent
+          let token : ShowsOver (server_shown frame) t None r = subst (λ (x : Option (List ℕ)). ShowsOver (server_shown frame) t x r) absent
           (over_answer c laws p step.status frame t r over s.answer) in
           let left = over_left c laws p b old w d step y handle given mid over s.done in
           let h : Holds c mid.context z = record { held = left.held; there = left.there; same = named_is c laws (p.told old.proxy) y z left.held peer left.comes } in
-          let quiet = nego_acts c laws p frame t turn.turn.acts given.is.state_is in
+          let quiet = nego_acts c laws p frame t turn.turn.shown.acts given.is.state_is in
           let start = unused c laws p b old w d step y handle given in
-          let unchecked : mid.acts.checked ≡ false = is_false mid.acts.checked (λ was. subst IsLong absent (turn.turn.acts.checked was).1) in
-          let none_sealed : sealed_by mid.acts ≡ 0 = rw (token.2, quiet.0) refl in
+          let unchecked : mid.acts.checked ≡ false = is_false mid.acts.checked (λ was. subst IsLong absent (turn.turn.shown.acts.checked was).1) in
+          let none_sealed : sealed_by mid.acts ≡ 0 = rw (token.0.unproved, quiet.0) refl in
           let none_opened : unsealed_by mid.acts ≡ 0 = rw (unchecked, quiet.1) refl in
           let same = same_on c laws p b old mid given.is.same turn.moves.same in
           let still = stands_noted c laws p mid.least mid.noted w (noted_now c laws p b old w d step y handle given mid h.held h.there turn.moves.noted) in (
-            token.0.reply ∙ (rw (same.version, left.output_is) refl),
+            token_back_is frame t r token.0 ∙ (rw (same.version, left.output_is) refl),
             record {
               same = same;
-              state_is = turn.moves.state ∙ (rw (given.is.state_is, token.2, s.status_is) (asks_proof step.status over));
+              state_is = turn.moves.state ∙ (rw (given.is.state_is, token.0.unproved, s.status_is) (asks_proof step.status over));
               fits = still.0;
               young = still.2;
               notes = still.1;

@@ -18,7 +18,8 @@ use Rattle.sspi_credssp.specs.Proxy.{ProxyMeaning}
 use Rattle.sspi_credssp.specs.Server.{ServerView}
 use Rattle.sspi_credssp.specs.ServerCause.{ServerCause, MakeCause, StateCause, NegoCause, OverCause}
 use Rattle.sspi_credssp.specs.ServerStep.{Knowing, Unknown, Completed, DoneStep, HasCome, known_at}
-use Rattle.sspi_credssp.specs.ServerTurn.{IsOver, MayCheck, NegoAnswer, OverAnswer, StateAnswer, ServerActs, ServerTurn, SameServer, StartsUnused, server_frame, server_turn}
+use Rattle.sspi_credssp.specs.ServerTurn.{ServerTurn, SameServer, StartsUnused, server_frame, server_turn}
+use Rattle.sspi_credssp.specs.Shown.{IsOver, MayCheck, ShowsNegoBack, ShowsOver, ShowsServerActs, ShowsStateBack, server_shown}
 use Rattle.sspi_credssp.specs.Noted.{differs, is_old, noted_with}
 use Rattle.sspi_credssp.specs.Turn.{ServerFrame}
 use Rattle.sspi_credssp.specs.declared.turn.Outcome.{Outcome}
@@ -26,6 +27,7 @@ use Rattle.sspi_credssp.specs.declared.turn.Outcome.TheVariants as outcome
 use Rattle.sspi_delegate.specs.History.{ServerMakes}
 use Rattle.sspi_completeness.proofs.Accepting.{Takes, Left, come_at, refused_at}
 use Rattle.sspi_completeness.proofs.Ends.{Comes, is_false, stops_later, made_past, differs_never, Holds, unused_in, ServerIs}
+use Rattle.sspi_completeness.proofs.Replies.{token_back_is}
 use Rattle.sspi_credssp.specs.declared.turn.Turn.{Turn}
 
 module _ {C P : Type 0} (c : Meaning ContextSetting C) (laws : IsContext c) (p : ProxyMeaning P) where
@@ -33,7 +35,7 @@ module _ {C P : Type 0} (c : Meaning ContextSetting C) (laws : IsContext c) (p :
   View = ServerView C P
 
   -- a turn of the authentication seals and opens no credentials
-  pub nego_acts : (frame : ServerFrame C) (t : Turn) → ServerActs c frame t → frame.state ≡ NegoToken → (t.acts.sealed ≡ false) × (t.acts.opened ≡ false)
+  pub nego_acts : (frame : ServerFrame C) (t : Turn) → ShowsServerActs (server_shown frame) t → frame.state ≡ NegoToken → (t.acts.sealed ≡ false) × (t.acts.opened ≡ false)
   nego_acts frame t acts nego = (acts.sealed, is_false t.acts.opened (λ was. let s = (acts.opened was).0 in cc (s, nego)))
 
   pub same_on : (b old mid : View) → SameServer c b old → SameServer c old mid → SameServer c b mid
@@ -67,7 +69,7 @@ module _ {C P : Type 0} (c : Meaning ContextSetting C) (laws : IsContext c) (p :
   over_done statuses.Renegotiate old d mid over h = absurd over
   over_done statuses.NoLsaContext old d mid over h = absurd over
 
-  pub over_answer : (st : SecurityStatus) (f : ServerFrame C) (t : Turn) (r : TsRequest) → IsOver (Some st) → NegoAnswer c f t (Some st) r → OverAnswer c f t t.delivered.pub_key_auth r
+  pub over_answer : (st : SecurityStatus) (f : ServerFrame C) (t : Turn) (r : TsRequest) → IsOver (Some st) → ShowsNegoBack (server_shown f) t (Some st) r → ShowsOver (server_shown f) t t.delivered.pub_key_auth r
   over_answer statuses.Ok f t r over h = h
   over_answer statuses.ContinueNeeded f t r over h = absurd over
   over_answer statuses.CompleteNeeded f t r over h = h
@@ -107,7 +109,7 @@ module _ {C P : Type 0} (c : Meaning ContextSetting C) (laws : IsContext c) (p :
     pub noted_now : (mid : View) (m : C) → mid.context ≡ Some m → (IsSome mid.context → mid.noted ≡ noted_with old.least old.noted d.version) → mid.noted ≡ Some w
     noted_now mid m there noted = noted (rw there refl) ∙ ap (noted_with old.least old.noted) given.version ∙ given.is.notes
 
-    out : (mid : View) (status : Option SecurityStatus) (r : TsRequest) → NegoAnswer c (server_frame c old mid) (server_turn c d (outcome.Reply r) mid) status r →
+    out : (mid : View) (status : Option SecurityStatus) (r : TsRequest) → ShowsNegoBack (server_shown (server_frame c old mid)) (server_turn c d (outcome.Reply r) mid) status r →
         DoneStep c p status old d mid → status ≡ Some step.status
     out mid None r h done = absurd h
     out mid (Some st) r h done = ap Some (come_at c laws p old d.nego_tokens step y handle given.takes mid (known_at c p st) st done).0
@@ -115,18 +117,18 @@ module _ {C P : Type 0} (c : Meaning ContextSetting C) (laws : IsContext c) (p :
     -- the answer and the step of a turn that replied
     pub record Replies (mid : View) (r : TsRequest) : Type 0 where
       pub status_is : mid.acts.status ≡ Some step.status
-      pub answer : NegoAnswer c (server_frame c old mid) (server_turn c d (outcome.Reply r) mid) (Some step.status) r
+      pub answer : ShowsNegoBack (server_shown (server_frame c old mid)) (server_turn c d (outcome.Reply r) mid) (Some step.status) r
       pub done : DoneStep c p (Some step.status) old d mid
 
     pub replies : (mid : View) (r : TsRequest) → ServerMakes c p old d (outcome.Reply r) mid → Replies mid r
     replies mid r makes =
         let frame = server_frame c old mid in
         let t = server_turn c d (outcome.Reply r) mid in
-        let answer = subst (λ (s : CredSspState). StateAnswer c frame t s r) given.is.state_is makes.0.turn.reply in
+        let answer = subst (λ (s : CredSspState). ShowsStateBack (server_shown frame) t s r) given.is.state_is makes.0.turn.shown.reply in
         let status = out mid mid.acts.status r answer makes.1 in
         record {
           status_is = status;
-          answer = subst (λ (x : Option SecurityStatus). NegoAnswer c frame t x r) status answer;
+          answer = subst (λ (x : Option SecurityStatus). ShowsNegoBack (server_shown frame) t x r) status answer;
           done = subst (λ (x : Option SecurityStatus). DoneStep c p x old d mid) status makes.1;
         }
 
@@ -134,7 +136,7 @@ module _ {C P : Type 0} (c : Meaning ContextSetting C) (laws : IsContext c) (p :
     over_left mid over done = (come_at c laws p old d.nego_tokens step y handle given.takes mid Completed step.status (over_done step.status old d mid over done)).1
 
     pub never_finishes : (mid : View) → ServerMakes c p old d outcome.Finished mid → ⊥
-    never_finishes mid makes = let auth = makes.0.turn.reply.0 in let nego = given.is.state_is in cc
+    never_finishes mid makes = let auth = makes.0.turn.shown.reply.0 in let nego = given.is.state_is in cc
 
     began : (status : Option SecurityStatus) (mid : View) (kind : ErrorKind) → mid.acts.status ≡ status → (IsSome mid.acts.status → mid.acts.negotiated ≡ true) →
         NegoCause c p status old d mid kind → mid.acts.negotiated ≡ true
@@ -153,7 +155,7 @@ module _ {C P : Type 0} (c : Meaning ContextSetting C) (laws : IsContext c) (p :
         let turn = makes.2 in
         let others2 : error.error_type ≢ InsufficientMemory = λ memory. others (sym makes.1 ∙ memory) in
         let cause = cause_past b old mid w d NegoToken 0 0 error.error_type given.is given.version given.begins (makes.3.cause others2) in
-        let was = began mid.acts.status mid error.error_type refl turn.turn.acts.answered cause in
+        let was = began mid.acts.status mid error.error_type refl turn.turn.shown.acts.answered cause in
         let status = refused_at c laws p old d.nego_tokens step y handle given.takes mid mid.acts.status mid.acts.negotiated error was others2 makes.3.step in
         record {
           turn = turn;
@@ -168,20 +170,20 @@ module _ {C P : Type 0} (c : Meaning ContextSetting C) (laws : IsContext c) (p :
     token_replied mid r goes makes =
         let turn = makes.0 in
         let s = replies mid r makes in
-        let answer = subst (λ (x : SecurityStatus). NegoAnswer c (server_frame c old mid) (server_turn c d (outcome.Reply r) mid) (Some x) r) goes s.answer in
+        let answer = subst (λ (x : SecurityStatus). ShowsNegoBack (server_shown (server_frame c old mid)) (server_turn c d (outcome.Reply r) mid) (Some x) r) goes s.answer in
         let done = subst (λ (x : SecurityStatus). DoneStep c p (Some x) old d mid) goes s.done in
         let left = (come_at c laws p old d.nego_tokens step y handle given.takes mid Unknown statuses.ContinueNeeded done).1 in
         let status : mid.acts.status ≡ Some statuses.ContinueNeeded = s.status_is ∙ ap Some goes in
-        let quiet = nego_acts (server_frame c old mid) (server_turn c d (outcome.Reply r) mid) turn.turn.acts given.is.state_is in
-        let unproved : mid.acts.proved ≡ false = answer.1 in
+        let quiet = nego_acts (server_frame c old mid) (server_turn c d (outcome.Reply r) mid) turn.turn.shown.acts given.is.state_is in
+        let unproved : mid.acts.proved ≡ false = answer.unproved in
         let unchecked : mid.acts.checked ≡ false = is_false mid.acts.checked (λ was.
         subst (λ (x : Option SecurityStatus). MayCheck NegoToken x) status
-        (subst (λ (x : CredSspState). MayCheck x mid.acts.status) given.is.state_is (turn.turn.acts.checked was).0)) in
+        (subst (λ (x : CredSspState). MayCheck x mid.acts.status) given.is.state_is (turn.turn.shown.acts.checked was).0)) in
         let none_sealed : sealed_by mid.acts ≡ 0 = rw (unproved, quiet.0) refl in
         let none_opened : unsealed_by mid.acts ≡ 0 = rw (unchecked, quiet.1) refl in
         let noted = stands_noted mid.least mid.noted w (noted_now mid left.held left.there turn.moves.noted) in
         let same = same_on b old mid given.is.same turn.moves.same in (
-          answer.0.reply ∙ (rw (same.version, left.output_is) refl),
+          token_back_is (server_frame c old mid) (server_turn c d (outcome.Reply r) mid) r answer ∙ (rw (same.version, left.output_is) refl),
           record {
             same = same;
             state_is = turn.moves.state ∙ (rw (given.is.state_is, unproved, status) refl);

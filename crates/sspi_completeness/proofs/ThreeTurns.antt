@@ -28,7 +28,7 @@ use Rattle.sspi_credssp.specs.Context.{either, ForServer}
 use Rattle.sspi_credssp.specs.Proxy.{ProxyMeaning}
 use Rattle.sspi_credssp.specs.Server.{ServerView, IsFreshServer}
 use Rattle.sspi_credssp.specs.ServerStep.{DoneStep, Knowing, Unknown, Identified, Completed, Accepted, accepted, identified, completed, recounted, server_args}
-use Rattle.sspi_credssp.specs.ServerTurn.{IsOver, MayCheck}
+use Rattle.sspi_credssp.specs.Shown.{IsOver, MayCheck}
 use Rattle.sspi_delegate.specs.declared.answer.Delegation.{Delegation}
 use Rattle.sspi_delegate.specs.declared.answer.DelegateError.{DelegateError}
 use Rattle.sspi_delegate.specs.declared.carried.Carried.{Carried}
@@ -108,7 +108,7 @@ module _ {K P : Type 0} (k : Meaning Setting K) (p : ProxyMeaning P) where
   first_checks : (first mid : ServerView (SspiContext NtlmState K) P) (d : TsRequest) (out : Outcome) → IsPlainServer first.mode → IsFreshServer first → GoesOn out →
       ServerMakes (either 0 ntlm_meaning k) p first d out mid → mid.acts.checked ≡ true → ⊥
   first_checks first mid d (outcome.Reply reply) plain fresh went makes checked =
-      first_not_over first mid d mid.acts.status plain fresh.context makes.1 (nego_check first.state mid.acts.status fresh.state (makes.0.turn.acts.checked checked).0)
+      first_not_over first mid d mid.acts.status plain fresh.context makes.1 (nego_check first.state mid.acts.status fresh.state (makes.0.turn.shown.acts.checked checked).0)
   first_checks first mid d (outcome.Final reply) plain fresh went makes checked = makes
   first_checks first mid d outcome.Finished plain fresh went makes checked = went
   first_checks first mid d (outcome.Refused kind reply) plain fresh went makes checked = went

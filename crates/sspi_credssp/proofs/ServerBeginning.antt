@@ -1,5 +1,5 @@
 -- A server's call that is refused while it makes its context or looks at its client's version.
-use Rattle.std.proofs.Common.{◌≡◌, ◌+◌, ℕ, List, [], Option, None, Some, IsSome, Result, Ok, Err, OnOk, OnErr, Bool, true, false, refl, sym, ◌∙◌, ap, subst, arith}
+use Rattle.std.proofs.Common.{inl, ◌≡◌, ◌+◌, ℕ, List, [], Option, None, Some, IsSome, Result, Ok, Err, OnOk, OnErr, Bool, true, false, refl, sym, ◌∙◌, ap, subst, arith}
 use Rattle.sspi_types.specs.declared.credential_use.CredentialUse.TheVariants.{Inbound}
 use Rattle.sspi_types.specs.declared.error.Error.{Error}
 use Rattle.sspi_names.specs.declared.credentials.CredentialsBuffers.{CredentialsBuffers}
@@ -86,16 +86,23 @@ module _ {C : Type 0} (c : Meaning ContextSetting C) where
         subst (λ (r : ServerError). ServerTurn c old d (outcome.Refused r.error.error_type r.ts_request) new) (sym given)
         (record {
           turn = record {
-            version = tt;
-            acts = record {
-              negotiated = λ was. absurd (cc (was, negotiated));
-              answered = λ some. absurd (cc (some, status));
+            shown = record {
+              version = tt;
+              acts = record {
+                negotiated = λ was. absurd (cc (was, negotiated));
+                answered = λ some. absurd (cc (some, status));
+                checked = λ was. absurd (cc (was, checked));
+                proved = λ was. absurd (cc (was, proved));
+                opened = λ was. absurd (cc (was, opened));
+                sealed = ap (λ (a : Acts). a.sealed) idle;
+              };
+              reply = record { version = inl refl; reply = rw stays refl };
+            };
+            held = record {
               checked = λ was. absurd (cc (was, checked));
               proved = λ was. absurd (cc (was, proved));
-              opened = λ was. absurd (cc (was, opened));
-              sealed = ap (λ (a : Acts). a.sealed) idle;
+              reply = sym (refused.back new.version);
             };
-            reply = rw (stays, refused.back new.version) refl;
           };
           moves = record {
             same = record {

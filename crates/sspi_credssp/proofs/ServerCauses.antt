@@ -18,7 +18,7 @@ use Rattle.sspi_credssp.specs.Proxy.{ProxyMeaning, ProxyTells, IsLater, AreFound
 use Rattle.sspi_credssp.specs.Server.{ServerView}
 use Rattle.sspi_credssp.specs.ServerCause.{ServerCause, MakeCause, StateCause, NegoCause, AfterCause, OverCause, known, IdentifyCause, nameless, looked, unset, LookUpRefused, failed, nobody}
 use Rattle.sspi_credssp.specs.ServerStep.{Completed, HasCome}
-use Rattle.sspi_credssp.specs.ServerTurn.{IsOver}
+use Rattle.sspi_credssp.specs.Shown.{IsOver}
 use Rattle.sspi_credssp.specs.Noted.{differs, is_old, VersionStops}
 use Rattle.sspi_credssp.proofs.Causes.{stops_map, made_map, made_later}
 

@@ -14,7 +14,7 @@ use Rattle.sspi_credssp.specs.Counts.{SameBut}
 use Rattle.sspi_credssp.specs.Proxy.{ProxyMeaning}
 use Rattle.sspi_credssp.specs.Server.{ServerView}
 use Rattle.sspi_credssp.specs.ServerStep.{Knowing, Unknown, Completed, Accepted, AcceptedSoFar, RefusedAt, CompletedStep, HasAccepted, HasCome, DoneStep, OnStep, refused_step, known_at, recounted, so_far}
-use Rattle.sspi_credssp.specs.ServerTurn.{IsOver}
+use Rattle.sspi_credssp.specs.Shown.{IsOver}
 use Rattle.sspi_credssp.proofs.Walks.{recounted_as, silent_as}
 
 module _ {C P : Type 0} (c : Meaning ContextSetting C) (laws : IsContext c) (p : ProxyMeaning P) where

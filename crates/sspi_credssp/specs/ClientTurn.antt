@@ -17,9 +17,11 @@ use Rattle.sspi_credssp.specs.Client.{ClientView}
 use Rattle.sspi_credssp.specs.Context.{ContextSetting}
 use Rattle.sspi_credssp.specs.Counts.{sealed_in, unsealed_in, IsUnusedIn, SameBut, SealsIn, OpensIn, is_waiting_in}
 use Rattle.sspi_credssp.specs.Credentials.{delegated_text, IfText}
+use Rattle.sspi_credssp.specs.Held.{HoldsClient}
 use Rattle.sspi_credssp.specs.Noted.{is_altered_in, is_old_in, noted_in}
 use Rattle.sspi_credssp.specs.PublicKey.{prescribed}
 use Rattle.sspi_credssp.specs.Requests.{unless_empty, is_code, IsLong}
+use Rattle.sspi_credssp.specs.Shown.{client_shown, ShowsClient}
 use Rattle.sspi_credssp.specs.Turn.{UnlessRefused, AtNoted, FitsNoted, ClientFrame}
 use Rattle.sspi_credssp.specs.declared.turn.End.TheVariants.{Client}
 use Rattle.sspi_credssp.specs.declared.turn.Outcome.{Outcome}
@@ -40,64 +42,10 @@ OnceNegotiated AuthInfo P = P
 OnceNegotiated Final P = P
 
 module _ {C : Type 0} (c : Meaning ContextSetting C) where
-  -- When each act may be set, also in a turn that is refused. The credentials are sealed only once the delivered
-  -- pubKeyAuth opened to the proof that the server owes.
-  pub record ClientActs (f : ClientFrame C) (t : Turn) : Type 0 where
-    pub negotiated : t.acts.negotiated ≡ true → f.state ≡ NegoToken
-    pub answered : IsSome t.acts.status → t.acts.negotiated ≡ true
-    pub proved : t.acts.proved ≡ true → (t.acts.status ≡ Some statuses.Ok) × IsSome f.noted
-    pub checked : t.acts.checked ≡ true → (f.state ≡ AuthInfo) × IsLong t.delivered.pub_key_auth
-    pub sealed : t.acts.sealed ≡ true → (t.acts.checked ≡ true) ×
-        AtNoted f.noted (λ noted. OpensIn c f.context f.opened t.delivered.pub_key_auth (prescribed Server noted f.nonce f.public_key))
-    pub opened : t.acts.opened ≡ false
-
-  -- the authentication goes on: the request goes back with the next token
-  pub record TokenReply (f : ClientFrame C) (t : Turn) (r : TsRequest) : Type 0 where
-    pub state : f.state ≡ NegoToken
-    pub reply : r ≡ record t.delivered { version = f.version; nego_tokens = Some t.output }
-
-  -- the authentication has ended: the request goes back with the client's proof
-  pub record ProofReply (f : ClientFrame C) (t : Turn) (r : TsRequest) : Type 0 where
-    pub state : f.state ≡ NegoToken
-    pub proved : t.acts.proved ≡ true
-    pub reply : r ≡ record t.delivered {
-      version = f.version;
-      nego_tokens = unless_empty t.output;
-      client_nonce = Some f.nonce;
-      pub_key_auth = r.pub_key_auth;
-    }
-    pub proof : AtNoted f.noted (λ noted. SealsIn c f.context f.made (prescribed Client noted f.nonce f.public_key) r.pub_key_auth)
-
-  -- the server's proof was the right one: the request goes back with the credentials
-  pub record FinalReply (f : ClientFrame C) (t : Turn) (r : TsRequest) : Type 0 where
-    pub state : f.state ≡ AuthInfo
-    pub checked : t.acts.checked ≡ true
-    pub sealed : t.acts.sealed ≡ true
-    pub reply : r ≡ record t.delivered {
-      version = f.version;
-      nego_tokens = None;
-      pub_key_auth = None;
-      auth_info = r.auth_info;
-    }
-    pub credentials : IfText (delegated_text f.credentials f.delegation) (λ text. SealsIn c f.context f.made text r.auth_info)
-
-  abbrev pub NegoReply : ClientFrame C → Turn → Option SecurityStatus → TsRequest → Type 0
-  NegoReply f t None reply = ⊥
-  NegoReply f t (Some statuses.Ok) reply = ProofReply f t reply
-  NegoReply f t (Some other) reply = TokenReply f t reply
-
-  abbrev pub ClientReplies : ClientFrame C → Turn → Outcome → Type 0
-  ClientReplies f t (outcome.Reply reply) = NegoReply f t t.acts.status reply
-  ClientReplies f t (outcome.Final reply) = FinalReply f t reply
-  ClientReplies f t outcome.Finished = ⊥
-  ClientReplies f t (outcome.Refused kind None) = Unit {0}
-  ClientReplies f t (outcome.Refused kind (Some reply)) = ⊥
-
+  -- what its bytes can show, and what stands behind them
   pub record IsClientTurn (f : ClientFrame C) (t : Turn) : Type 0 where
-    pub code : UnlessRefused t.outcome (is_code t.delivered.error_code ≡ false)
-    pub version : UnlessRefused t.outcome (FitsNoted f.looks f.noted t.delivered.version)
-    pub acts : ClientActs f t
-    pub reply : ClientReplies f t t.outcome
+    pub shown : ShowsClient (client_shown f) t
+    pub held : HoldsClient c f t
 
   -- the frame of one call: a turn seals at most one text and opens at most one blob, each the last of the context
   abbrev pub client_frame : ClientView C → ClientView C → ClientFrame C

@@ -10,6 +10,7 @@ pub mod Credentials
 pub mod ErrorRequest
 pub mod Exchange
 pub mod Heeded
+pub mod Held
 pub mod Noted
 pub mod PackageName
 pub mod Peers
@@ -21,6 +22,7 @@ pub mod ServerAsks
 pub mod ServerCause
 pub mod ServerStep
 pub mod ServerTurn
+pub mod Shown
 pub mod Stops
 pub mod Table
 pub mod Turn

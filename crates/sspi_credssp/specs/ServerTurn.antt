@@ -1,5 +1,5 @@
 -- A server's turn (MS-CSSP 3.1.5.2).
-use Rattle.std.specs.Prelude.{◌≡◌, ◌≢◌, ℕ, ◌+◌, ◌-◌, List, [], length, Option, None, Some, IsSome, Result, Ok, Err, Bool, true, false, nat_lt}
+use Rattle.std.specs.Prelude.{◌≡◌, ℕ, ◌+◌, ◌-◌, List, [], Option, None, Some, IsSome, Result, Ok, Err, Bool, true, false, nat_lt}
 use Rattle.sspi_types.specs.declared.credential_use.CredentialUse.TheVariants.{Inbound}
 use Rattle.sspi_types.specs.declared.error.Error.{Error}
 use Rattle.sspi_types.specs.declared.error_kind.ErrorKind.{ErrorKind}
@@ -21,36 +21,18 @@ use Rattle.sspi_credssp.specs.Begun.{Begun}
 use Rattle.sspi_credssp.specs.Context.{ContextSetting, ForServer}
 use Rattle.sspi_credssp.specs.Counts.{sealed_in, unsealed_in, IsUnusedIn, SameBut, cleared, SealsIn, OpensIn}
 use Rattle.sspi_credssp.specs.Exchange.{OpensIdentity}
+use Rattle.sspi_credssp.specs.Held.{HoldsServer, Proven}
 use Rattle.sspi_credssp.specs.ErrorRequest.{error_request, version_back}
 use Rattle.sspi_credssp.specs.PublicKey.{prescribed}
 use Rattle.sspi_credssp.specs.Requests.{IsLong, nonce_of}
 use Rattle.sspi_credssp.specs.Server.{ServerView}
+use Rattle.sspi_credssp.specs.Shown.{server_shown, ShowsServer, HasNonce}
 use Rattle.sspi_credssp.specs.Noted.{differs, is_old, noted_with}
 use Rattle.sspi_credssp.specs.Turn.{UnlessRefused, AtNoted, ServerFrame}
 use Rattle.sspi_credssp.specs.declared.turn.End.TheVariants.{Server}
 use Rattle.sspi_credssp.specs.declared.turn.Outcome.{Outcome}
 use Rattle.sspi_credssp.specs.declared.turn.Outcome.TheVariants as outcome
 use Rattle.sspi_credssp.specs.declared.turn.Turn.{Turn}
-
--- the authentication has ended
-abbrev pub IsOver : Option SecurityStatus → Type 0
-IsOver None = ⊥
-IsOver (Some statuses.Ok) = Unit {0}
-IsOver (Some statuses.CompleteNeeded) = Unit {0}
-IsOver (Some other) = ⊥
-
--- the client's proof may be opened
-abbrev pub MayCheck : CredSspState → Option SecurityStatus → Type 0
-MayCheck NegoToken status = IsOver status
-MayCheck PubKeyInfo status = Unit {0}
-MayCheck AuthInfo status = ⊥
-MayCheck Final status = ⊥
-
--- a version below 5 needs no nonce, and any other needs one of 32 bytes
-abbrev pub HasNonce : Bool → Option (List ℕ) → Type 0
-HasNonce true sent_nonce = Unit {0}
-HasNonce false None = ⊥
-HasNonce false (Some sent_nonce) = length sent_nonce ≡ 32
 
 -- the state after a turn: a reply with a proof is answered by the credentials, one at the end of the authentication by
 -- the client's proof
@@ -82,63 +64,10 @@ OnceNegotiated AuthInfo Q = Q
 OnceNegotiated Final Q = Q
 
 module _ {C : Type 0} (c : Meaning ContextSetting C) where
-  -- the client's proof was the right one, and from version 5 on it was made with a nonce
-  pub record Proven (context : Option C) (opened : ℕ) (public_key : List ℕ) (d : TsRequest) (noted : ℕ) : Type 0 where
-    pub opens : OpensIn c context opened d.pub_key_auth (prescribed Client noted (nonce_of d.client_nonce) public_key)
-    pub nonce : HasNonce (nat_lt noted 5) d.client_nonce
-
-  -- When each act may be set, also in a turn that is refused. The credentials are opened only once the client's proof was
-  -- answered, and the server proves nothing before it was the right one.
-  pub record ServerActs (f : ServerFrame C) (t : Turn) : Type 0 where
-    pub negotiated : t.acts.negotiated ≡ true → f.state ≡ NegoToken
-    pub answered : IsSome t.acts.status → t.acts.negotiated ≡ true
-    pub checked : t.acts.checked ≡ true → MayCheck f.state t.acts.status × IsLong t.delivered.pub_key_auth
-        × AtNoted f.noted (λ noted. HasNonce (nat_lt noted 5) t.delivered.client_nonce)
-    pub proved : t.acts.proved ≡ true → (t.acts.checked ≡ true) × AtNoted f.noted (Proven f.context f.opened f.public_key t.delivered)
-    pub opened : t.acts.opened ≡ true → (f.state ≡ AuthInfo) × IsLong t.delivered.auth_info
-    pub sealed : t.acts.sealed ≡ false
-
-  -- the request goes back with the next token
-  pub record TokenAnswer (f : ServerFrame C) (t : Turn) (r : TsRequest) : Type 0 where
-    pub reply : r ≡ record t.delivered { version = f.version; nego_tokens = Some t.output }
-
-  -- the request goes back with the server's proof
-  pub record ProofAnswer (f : ServerFrame C) (t : Turn) (r : TsRequest) : Type 0 where
-    pub checked : t.acts.checked ≡ true
-    pub proved : t.acts.proved ≡ true
-    pub reply : r ≡ record t.delivered { version = f.version; nego_tokens = None; pub_key_auth = r.pub_key_auth }
-    pub proof : AtNoted f.noted (λ noted.
-        SealsIn c f.context f.made (prescribed Server noted (nonce_of t.delivered.client_nonce) f.public_key) r.pub_key_auth)
-
-  -- the authentication has ended: where the client's proof came already it is answered, else it is asked for by a token
-  abbrev pub OverAnswer : ServerFrame C → Turn → Option (List ℕ) → TsRequest → Type 0
-  OverAnswer f t None r = TokenAnswer f t r × (t.output ≢ []) × (t.acts.proved ≡ false)
-  OverAnswer f t (Some blob) r = ProofAnswer f t r
-
-  abbrev pub NegoAnswer : ServerFrame C → Turn → Option SecurityStatus → TsRequest → Type 0
-  NegoAnswer f t (Some statuses.ContinueNeeded) r = TokenAnswer f t r × (t.acts.proved ≡ false)
-  NegoAnswer f t (Some statuses.CompleteNeeded) r = OverAnswer f t t.delivered.pub_key_auth r
-  NegoAnswer f t (Some statuses.Ok) r = OverAnswer f t t.delivered.pub_key_auth r
-  NegoAnswer f t other r = ⊥
-
-  abbrev pub StateAnswer : ServerFrame C → Turn → CredSspState → TsRequest → Type 0
-  StateAnswer f t NegoToken r = NegoAnswer f t t.acts.status r
-  StateAnswer f t PubKeyInfo r = ProofAnswer f t r
-  StateAnswer f t AuthInfo r = ⊥
-  StateAnswer f t Final r = ⊥
-
-  abbrev pub ServerReplies : ServerFrame C → Turn → Outcome → Type 0
-  ServerReplies f t (outcome.Reply r) = StateAnswer f t f.state r
-  ServerReplies f t (outcome.Final r) = ⊥
-  ServerReplies f t outcome.Finished = (f.state ≡ AuthInfo) × (t.acts.opened ≡ true)
-  ServerReplies f t (outcome.Refused kind None) = ⊥
-  ServerReplies f t (outcome.Refused kind (Some r)) =
-      r ≡ error_request f.state (version_back f.context f.noted t.delivered.version f.version) kind t.delivered
-
+  -- what its bytes can show, and what stands behind them
   pub record IsServerTurn (f : ServerFrame C) (t : Turn) : Type 0 where
-    pub version : UnlessRefused t.outcome (AtNoted f.noted (λ noted. t.delivered.version ≡ noted))
-    pub acts : ServerActs f t
-    pub reply : ServerReplies f t t.outcome
+    pub shown : ShowsServer (server_shown f) t
+    pub held : HoldsServer c f t
 
   -- one context of two, but for its counts; or none was, and this holds of the other
   abbrev pub UnlessMade : Option C → Option C → (C → Type 0) → Type 0
@@ -232,7 +161,7 @@ module _ {C : Type 0} (c : Meaning ContextSetting C) where
       pub checked : new.acts.checked ≡ true → IsLong d.pub_key_auth
           × AtNoted old.noted (λ noted. HasNonce (nat_lt noted 5) d.client_nonce)
       pub proved : new.acts.proved ≡ true → (new.acts.checked ≡ true) ×
-          AtNoted old.noted (Proven new.context (unsealed_in c new.context - 1) old.public_key d)
+          AtNoted old.noted (Proven c new.context (unsealed_in c new.context - 1) old.public_key d)
       pub sealed_count : sealed_in c new.context ≡ sealed_in c old.context + count_of new.acts.proved
       pub unsealed_count : unsealed_in c new.context ≡ unsealed_in c old.context + count_of new.acts.checked
       pub bare : SameBut c old.context new.context

@@ -6,7 +6,7 @@ ghost use Rattle.sspi_credssp.specs.Context.{either};
 ghost use Rattle.sspi_credssp.specs.Exchange.{BlobStops, Exchanges, Opens, OpensIdentity};
 ghost use Rattle.sspi_credssp.specs.Requests.{nonce_of};
 ghost use Rattle.sspi_credssp.specs.ServerCause.{ProofCause, OpenedCause, lacks_nonce};
-ghost use Rattle.sspi_credssp.specs.ServerTurn.{HasNonce};
+ghost use Rattle.sspi_credssp.specs.Shown.{HasNonce};
 
 use crate::acts::Acts;
 use crate::context::SspiContext;

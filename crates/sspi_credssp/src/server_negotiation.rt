@@ -9,7 +9,8 @@ ghost use Rattle.sspi_credssp.specs.Context.{either};
 ghost use Rattle.sspi_credssp.specs.Counts.{SameBut, IsUnusedIn};
 ghost use Rattle.sspi_credssp.specs.Proxy.{IsAsked, HasAsked, IsLater, AreFound};
 ghost use Rattle.sspi_credssp.specs.ServerCause.{IdentifyCause, LookUpRefused};
-ghost use Rattle.sspi_credssp.specs.ServerTurn.{IsOver, answered_by};
+ghost use Rattle.sspi_credssp.specs.ServerTurn.{answered_by};
+ghost use Rattle.sspi_credssp.specs.Shown.{IsOver};
 ghost use Rattle.sspi_credssp.specs.ServerStep.{IsIdentified, server_requirements, server_args, server_setting};
 
 use crate::context::SspiContext;

@@ -18,12 +18,13 @@ use Rattle.sspi_credssp.specs.declared.turn.Turn.{Turn}
 use Rattle.sspi_credssp.specs.Begun.{Begun, IfContext, OnContext}
 use Rattle.sspi_credssp.specs.Client.{ClientView, IsFreshClient}
 use Rattle.sspi_credssp.specs.ClientStep.{Asked, Walked, stepped, resumed, still_asked, recounted, OnStep, StepsTo, DoneStep, refused_answer}
-use Rattle.sspi_credssp.specs.ClientTurn.{ClientTurn, NegoReply, SameClient, client_frame, client_turn}
+use Rattle.sspi_credssp.specs.ClientTurn.{ClientTurn, SameClient, client_frame, client_turn}
 use Rattle.sspi_credssp.specs.Context.{ContextSetting}
 use Rattle.sspi_credssp.specs.Proxy.{ProxyMeaning}
 use Rattle.sspi_credssp.specs.Server.{ServerView, IsFreshServer}
 use Rattle.sspi_credssp.specs.ServerStep as accept
-use Rattle.sspi_credssp.specs.ServerTurn.{UnlessMade, IsNew, ServerTurn, StateAnswer, NegoAnswer, SameServer, server_frame, server_turn}
+use Rattle.sspi_credssp.specs.ServerTurn.{UnlessMade, IsNew, ServerTurn, SameServer, server_frame, server_turn}
+use Rattle.sspi_credssp.specs.Shown.{ShowsNego, ShowsNegoBack, ShowsStateBack, client_shown, server_shown}
 use Rattle.sspi_delegate.specs.declared.answer.Delegation.{Delegation}
 use Rattle.sspi_delegate.specs.declared.answer.DelegateError.{DelegateError}
 use Rattle.sspi_delegate.specs.declared.answer.DelegateError.TheVariants as errors
@@ -80,7 +81,7 @@ module _ {C : Type 0} (c : Meaning ContextSetting C) where
 
     client_replied : (old mid : ClientView C) (kdc kdc2 : D) (d reply : TsRequest) (asked : List Asked) (negotiated : Bool) (status : Option SecurityStatus) →
         SameClient c first old → k.replies kdc asked kdc2 → (IsSome status → negotiated ≡ true) →
-        NegoReply c (client_frame c old mid) (client_turn c d (outcome.Reply reply) mid) status reply → DoneStep c status old d 0 asked mid →
+        ShowsNego (client_shown (client_frame c old mid)) (client_turn c d (outcome.Reply reply) mid) status reply → DoneStep c status old d 0 asked mid →
         ClientMovedBy c k first negotiated status (outcome.Reply reply) d.nego_tokens mid.output (client_stage old kdc) (client_stage mid kdc2)
     client_replied old mid kdc kdc2 d reply asked negotiated None same replied answered h step = absurd h
     client_replied old mid kdc kdc2 d reply asked true (Some status) same replied answered h step =
@@ -93,7 +94,7 @@ module _ {C : Type 0} (c : Meaning ContextSetting C) where
         ClientMovedBy c k first negotiated status (outcome.Final reply) d.nego_tokens mid.output (client_stage old kdc) (client_stage mid kdc2)
     client_ended old mid kdc kdc2 d reply asked false status is turn replied unasked = client_rested old mid kdc kdc2 d (outcome.Final reply) asked turn replied unasked is
     client_ended old mid kdc kdc2 d reply asked true status is turn replied unasked =
-        let nego = turn.turn.acts.negotiated is in let state = turn.turn.reply.state in absurd (cc (nego, state))
+        let nego = turn.turn.shown.acts.negotiated is in let state = turn.turn.shown.reply.state in absurd (cc (nego, state))
 
     client_stopped : (old mid : ClientView C) (kdc kdc2 : D) (d : TsRequest) (error : Error) (asked : List Asked) (negotiated : Bool) (status : Option SecurityStatus) →
         mid.acts.negotiated ≡ negotiated → SameClient c first old → ClientTurn c old d (outcome.Refused error.error_type None) mid →
@@ -110,8 +111,8 @@ module _ {C : Type 0} (c : Meaning ContextSetting C) where
     client_moved : (old mid : ClientView C) (kdc kdc2 : D) (d : TsRequest) (came : Outcome) → SameClient c first old → ClientMakes c k old kdc d came mid kdc2 →
         ClientMovedBy c k first mid.acts.negotiated mid.acts.status came d.nego_tokens mid.output (client_stage old kdc) (client_stage mid kdc2)
     client_moved old mid kdc kdc2 d (outcome.Reply reply) same makes =
-        client_replied old mid kdc kdc2 d reply makes.1.asked mid.acts.negotiated mid.acts.status same makes.1.replied makes.0.turn.acts.answered
-        makes.0.turn.reply makes.1.step
+        client_replied old mid kdc kdc2 d reply makes.1.asked mid.acts.negotiated mid.acts.status same makes.1.replied makes.0.turn.shown.acts.answered
+        makes.0.turn.shown.reply makes.1.step
     client_moved old mid kdc kdc2 d (outcome.Final reply) same makes =
         client_ended old mid kdc kdc2 d reply makes.1.asked mid.acts.negotiated mid.acts.status refl makes.0 makes.1.replied makes.1.unasked
     client_moved old mid kdc kdc2 d outcome.Finished same makes = absurd makes
@@ -235,21 +236,21 @@ module _ {C : Type 0} (c : Meaning ContextSetting C) where
 
       server_replied : (old mid : ServerView C P) (d reply : TsRequest) (negotiated : Bool) (status : Option SecurityStatus) → mid.acts.negotiated ≡ negotiated →
           SameServer c first old → p.told first.proxy ≡ p.told old.proxy → accept.MakesAlone c p old mid → ServerTurn c old d (outcome.Reply reply) mid →
-          StateAnswer c (server_frame c old mid) (server_turn c d (outcome.Reply reply) mid) old.state reply → mid.acts.status ≡ status →
+          ShowsStateBack (server_shown (server_frame c old mid)) (server_turn c d (outcome.Reply reply) mid) old.state reply → mid.acts.status ≡ status →
           accept.DoneStep c p status old d mid →
           ServerMovedBy c p first negotiated status (outcome.Reply reply) d.nego_tokens mid.output (server_stage old) (server_stage mid)
       server_replied old mid d reply false status is same entries alone turn h came step = server_rested old mid d (outcome.Reply reply) same entries alone turn is
       server_replied old mid d reply true (Some status) is same entries alone turn h came step =
           server_stepped old mid d (accept.known_at c p status) (Ok (record { status = status; output = mid.output })) same entries step
       server_replied old mid d reply true None is same entries alone turn h came step =
-          absurd (subst (λ (s : Option SecurityStatus). NegoAnswer c (server_frame c old mid) (server_turn c d (outcome.Reply reply) mid) s reply) came
-          (subst (λ (s : CredSspState). StateAnswer c (server_frame c old mid) (server_turn c d (outcome.Reply reply) mid) s reply) (turn.turn.acts.negotiated is) h))
+          absurd (subst (λ (s : Option SecurityStatus). ShowsNegoBack (server_shown (server_frame c old mid)) (server_turn c d (outcome.Reply reply) mid) s reply) came
+          (subst (λ (s : CredSspState). ShowsStateBack (server_shown (server_frame c old mid)) (server_turn c d (outcome.Reply reply) mid) s reply) (turn.turn.shown.acts.negotiated is) h))
 
       server_finished : (old mid : ServerView C P) (d : TsRequest) (negotiated : Bool) (status : Option SecurityStatus) → mid.acts.negotiated ≡ negotiated →
           SameServer c first old → p.told first.proxy ≡ p.told old.proxy → accept.MakesAlone c p old mid → ServerTurn c old d outcome.Finished mid →
           ServerMovedBy c p first negotiated status outcome.Finished d.nego_tokens mid.output (server_stage old) (server_stage mid)
       server_finished old mid d false status is same entries alone turn = server_rested old mid d outcome.Finished same entries alone turn is
-      server_finished old mid d true status is same entries alone turn = let nego = turn.turn.acts.negotiated is in let state = turn.turn.reply.0 in absurd (cc (nego, state))
+      server_finished old mid d true status is same entries alone turn = let nego = turn.turn.shown.acts.negotiated is in let state = turn.turn.shown.reply.0 in absurd (cc (nego, state))
 
       server_stopped : (old mid : ServerView C P) (d : TsRequest) (error : Error) (reply : Option TsRequest) (negotiated : Bool) (status : Option SecurityStatus) →
           mid.acts.negotiated ≡ negotiated → SameServer c first old → p.told first.proxy ≡ p.told old.proxy → accept.MakesAlone c p old mid → ServerTurn c old d (outcome.Refused error.error_type reply) mid →
@@ -269,7 +270,7 @@ module _ {C : Type 0} (c : Meaning ContextSetting C) where
           accept.MakesAlone c p old mid → ServerMakes c p old d came mid →
           ServerMovedBy c p first mid.acts.negotiated mid.acts.status came d.nego_tokens mid.output (server_stage old) (server_stage mid)
       server_moved old mid d (outcome.Reply reply) same entries alone makes =
-          server_replied old mid d reply mid.acts.negotiated mid.acts.status refl same entries alone makes.0 makes.0.turn.reply refl makes.1
+          server_replied old mid d reply mid.acts.negotiated mid.acts.status refl same entries alone makes.0 makes.0.turn.shown.reply refl makes.1
       server_moved old mid d (outcome.Final reply) same entries alone makes = absurd makes
       server_moved old mid d outcome.Finished same entries alone makes = server_finished old mid d mid.acts.negotiated mid.acts.status refl same entries alone makes.0
       server_moved old mid d (outcome.Refused kind reply) same entries alone makes =

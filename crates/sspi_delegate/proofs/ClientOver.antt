@@ -8,11 +8,13 @@ use Rattle.sspi_types.specs.declared.security_status.SecurityStatus.{SecuritySta
 use Rattle.sspi_types.specs.declared.security_status.SecurityStatus.TheVariants as statuses
 use Rattle.sspi_credssp.specs.declared.public_key.EndpointType.TheVariants.{Client, Server}
 use Rattle.sspi_types.specs.declared.error.Error.{Error}
-use Rattle.sspi_credssp.specs.ClientTurn.{IsClientTurn, ClientActs, ClientReplies, NegoReply, TokenReply, ProofReply, FinalReply}
+use Rattle.sspi_credssp.specs.ClientTurn.{IsClientTurn}
 use Rattle.sspi_credssp.specs.Credentials.{IfText, delegated_text}
 use Rattle.sspi_credssp.specs.Context.{ContextSetting}
 use Rattle.sspi_credssp.specs.Counts.{SameBut, SealsIn, OpensIn, silent, cleared}
+use Rattle.sspi_credssp.specs.Held.{HoldsNego, HoldsReply}
 use Rattle.sspi_credssp.specs.PublicKey.{prescribed}
+use Rattle.sspi_credssp.specs.Shown.{client_shown, ShowsClientActs, ShowsNego, ShowsReply}
 use Rattle.sspi_credssp.specs.Turn.{ClientFrame, UnlessRefused, FitsNoted, AtNoted}
 use Rattle.sspi_credssp.specs.declared.turn.Outcome.{Outcome}
 use Rattle.sspi_credssp.specs.declared.turn.Outcome.TheVariants as outcome
@@ -62,55 +64,39 @@ module _ {C : Type 0} (c : Meaning ContextSetting C) (law : IsContext c) where
       weaker_at None P Q weaker h = h
       weaker_at (Some version) P Q weaker h = weaker version h
 
-  acts_over : (f g : ClientFrame C) (t : Turn) → SameFrame c f g t → ClientActs c f t → ClientActs c g t
+  -- ---- what recorded bytes can show
+
+  acts_over : (f g : ClientFrame C) (t : Turn) → SameFrame c f g t → ShowsClientActs (client_shown f) t → ShowsClientActs (client_shown g) t
   acts_over f g t same acts = record {
     negotiated = λ was. same.state ∙ acts.negotiated was;
     answered = acts.answered;
     proved = λ was. ((acts.proved was).0, rw (same.proved was).0 (acts.proved was).1);
     checked = λ was. (same.state ∙ (acts.checked was).0, (acts.checked was).1);
-    sealed = λ was. let s = acts.sealed was in let k = same.checked s.0 in (
-      s.0,
-      at_noted f.noted g.noted _ _ k.0 (λ version h.
-          rw (k.1, same.nonce, same.public_key) (opens_still f.context g.context f.opened t.delivered.pub_key_auth (prescribed Server version f.nonce f.public_key) k.2 h)) s.1,
-    );
+    sealed = acts.sealed;
     opened = acts.opened;
   }
 
-  token_over : (f g : ClientFrame C) (t : Turn) (reply : TsRequest) → SameFrame c f g t → TokenReply c f t reply → TokenReply c g t reply
-  token_over f g t reply same h = record { state = same.state ∙ h.state; reply = rw same.version h.reply }
-
-  proof_over : (f g : ClientFrame C) (t : Turn) (reply : TsRequest) → SameFrame c f g t → ProofReply c f t reply → ProofReply c g t reply
-  proof_over f g t reply same h = let k = same.proved h.proved in record {
+  nego_over : (f g : ClientFrame C) (t : Turn) (answered : Option SecurityStatus) (reply : TsRequest) → SameFrame c f g t →
+      ShowsNego (client_shown f) t answered reply → ShowsNego (client_shown g) t answered reply
+  nego_over f g t None reply same h = h
+  nego_over f g t (Some statuses.Ok) reply same h = record {
     state = same.state ∙ h.state;
     proved = h.proved;
-    reply = rw (same.version, same.nonce) h.reply;
-    proof = at_noted f.noted g.noted _ _ k.0 (λ version seals.
-        rw (k.1, same.nonce, same.public_key) (seals_still f.context g.context f.made (prescribed Client version f.nonce f.public_key) reply.pub_key_auth k.2 seals)) h.proof;
+    version = h.version ∙ sym same.version;
+    nonce = h.nonce;
+    reply = h.reply;
   }
+  nego_over f g t (Some other) reply same h = record { state = same.state ∙ h.state; version = h.version ∙ sym same.version; reply = h.reply }
 
-  text_over : (text : Result (List ℕ) Error) (P Q : List ℕ → Type 0) → ((x : List ℕ) → P x → Q x) → IfText text P → IfText text Q
-  text_over (Ok x) P Q weaker h = weaker x h
-  text_over (Err error) P Q weaker h = h
-
-  final_over : (f g : ClientFrame C) (t : Turn) (reply : TsRequest) → SameFrame c f g t → FinalReply c f t reply → FinalReply c g t reply
-  final_over f g t reply same h = let k = same.checked h.checked in record {
+  replies_over : (f g : ClientFrame C) (t : Turn) (out : Outcome) → SameFrame c f g t → ShowsReply (client_shown f) t out → ShowsReply (client_shown g) t out
+  replies_over f g t (outcome.Reply reply) same h = nego_over f g t t.acts.status reply same h
+  replies_over f g t (outcome.Final reply) same h = record {
     state = same.state ∙ h.state;
     checked = h.checked;
     sealed = h.sealed;
-    reply = rw same.version h.reply;
-    credentials = rw (same.credentials, same.delegation, same.sealed h.sealed)
-        (text_over (delegated_text f.credentials f.delegation) _ _ (λ text seals. seals_still f.context g.context f.made text reply.auth_info k.2 seals) h.credentials);
+    version = h.version ∙ sym same.version;
+    reply = h.reply;
   }
-
-  nego_over : (f g : ClientFrame C) (t : Turn) (answered : Option SecurityStatus) (reply : TsRequest) → SameFrame c f g t →
-      NegoReply c f t answered reply → NegoReply c g t answered reply
-  nego_over f g t None reply same h = h
-  nego_over f g t (Some statuses.Ok) reply same h = proof_over f g t reply same h
-  nego_over f g t (Some other) reply same h = token_over f g t reply same h
-
-  replies_over : (f g : ClientFrame C) (t : Turn) (out : Outcome) → SameFrame c f g t → ClientReplies c f t out → ClientReplies c g t out
-  replies_over f g t (outcome.Reply reply) same h = nego_over f g t t.acts.status reply same h
-  replies_over f g t (outcome.Final reply) same h = final_over f g t reply same h
   replies_over f g t outcome.Finished same h = h
   replies_over f g t (outcome.Refused kind None) same h = h
   replies_over f g t (outcome.Refused kind (Some reply)) same h = h
@@ -123,10 +109,44 @@ module _ {C : Type 0} (c : Meaning ContextSetting C) (law : IsContext c) where
   fits_over looks noted noted2 version outcome.Finished same h = rw same h
   fits_over looks noted noted2 version (outcome.Refused kind reply) same h = h
 
+  -- ---- what stands behind them
+
+  proof_over : (f g : ClientFrame C) (t : Turn) (answered : Option SecurityStatus) (reply : TsRequest) → SameFrame c f g t →
+      ShowsNego (client_shown f) t answered reply → HoldsNego c f answered reply → HoldsNego c g answered reply
+  proof_over f g t None reply same shows h = tt
+  proof_over f g t (Some statuses.Ok) reply same shows h = let k = same.proved shows.proved in record {
+    nonce = rw same.nonce h.nonce;
+    proof = at_noted f.noted g.noted _ _ k.0 (λ version seals.
+        rw (k.1, same.nonce, same.public_key) (seals_still f.context g.context f.made (prescribed Client version f.nonce f.public_key) reply.pub_key_auth k.2 seals)) h.proof;
+  }
+  proof_over f g t (Some other) reply same shows h = tt
+
+  text_over : (text : Result (List ℕ) Error) (P Q : List ℕ → Type 0) → ((x : List ℕ) → P x → Q x) → IfText text P → IfText text Q
+  text_over (Ok x) P Q weaker h = weaker x h
+  text_over (Err error) P Q weaker h = h
+
+  holds_over : (f g : ClientFrame C) (t : Turn) (out : Outcome) → SameFrame c f g t → ShowsReply (client_shown f) t out →
+      HoldsReply c f t.acts.status out → HoldsReply c g t.acts.status out
+  holds_over f g t (outcome.Reply reply) same shows h = proof_over f g t t.acts.status reply same shows h
+  holds_over f g t (outcome.Final reply) same shows h = let k = same.checked shows.checked in
+      rw (same.credentials, same.delegation, same.sealed shows.sealed)
+      (text_over (delegated_text f.credentials f.delegation) _ _ (λ text seals. seals_still f.context g.context f.made text reply.auth_info k.2 seals) h)
+  holds_over f g t outcome.Finished same shows h = tt
+  holds_over f g t (outcome.Refused kind reply) same shows h = tt
+
   pub client_over : (f g : ClientFrame C) (t : Turn) → SameFrame c f g t → IsClientTurn c f t → IsClientTurn c g t
-  client_over f g t same turn = record {
-    code = turn.code;
-    version = rw same.looks (fits_over f.looks f.noted g.noted t.delivered.version t.outcome same.noted turn.version);
-    acts = acts_over f g t same turn.acts;
-    reply = replies_over f g t t.outcome same turn.reply;
+  client_over f g t same turn = let shown = turn.shown in record {
+    shown = record {
+      code = shown.code;
+      version = rw same.looks (fits_over f.looks f.noted g.noted t.delivered.version t.outcome same.noted shown.version);
+      acts = acts_over f g t same shown.acts;
+      reply = replies_over f g t t.outcome same shown.reply;
+    };
+    held = record {
+      sealed = λ was. let k = same.checked (shown.acts.sealed was) in
+          at_noted f.noted g.noted _ _ k.0 (λ version h.
+              rw (k.1, same.nonce, same.public_key) (opens_still f.context g.context f.opened t.delivered.pub_key_auth (prescribed Server version f.nonce f.public_key) k.2 h))
+          (turn.held.sealed was);
+      reply = holds_over f g t t.outcome same shown.reply turn.held.reply;
+    };
   }

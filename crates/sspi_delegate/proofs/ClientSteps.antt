@@ -9,7 +9,7 @@ use Rattle.sspi_credssp.specs.declared.state.CredSspState.{CredSspState}
 use Rattle.sspi_credssp.specs.declared.state.CredSspState.TheVariants.{NegoToken, PubKeyInfo, AuthInfo, Final}
 use Rattle.sspi_credssp.specs.Acts.{sealed_by, unsealed_by}
 use Rattle.sspi_credssp.specs.Client.{ClientView, IsFreshClient}
-use Rattle.sspi_credssp.specs.ClientTurn.{ClientActs, NegoReply, ClientTurn, IsUnderway, SameClient, StartsUnused, client_frame, client_turn, noted_next, state_after, OnceNegotiated}
+use Rattle.sspi_credssp.specs.ClientTurn.{ClientTurn, IsUnderway, SameClient, StartsUnused, client_frame, client_turn, noted_next, state_after, OnceNegotiated}
 use Rattle.sspi_names.specs.declared.credentials.CredentialsBuffers.{CredentialsBuffers}
 use Rattle.sspi_mech.specs.declared.step.Answer.{Answer}
 use Rattle.sspi_mech.specs.declared.step.Answer.TheVariants.{Done}
@@ -32,6 +32,7 @@ use Rattle.sspi_delegate.proofs.EndSteps.{or_false, or_not, is_false, IsQuiet, A
 use Rattle.sspi_credssp.specs.declared.turn.Outcome.{Outcome}
 use Rattle.sspi_credssp.specs.declared.turn.Outcome.TheVariants as outcome
 use Rattle.sspi_credssp.specs.declared.turn.Turn.{Turn}
+use Rattle.sspi_credssp.specs.Shown.{ShowsClientActs, ShowsNego, client_shown}
 
 -- ---- tests
 
@@ -70,7 +71,7 @@ module _ {C : Type 0} (c : Meaning ContextSetting C) where
   -- each turn past the first has noted a version
   pub noted_by_two : (e : ClientEnd C) (t u : Turn) (past : List Turn) → EachClientTurn c e (t ∷ u ∷ past) → AllGoOn (t ∷ u ∷ past) →
       IsSome (client_noted e.least (t ∷ u ∷ past))
-  noted_by_two e t u past each going = went_noted (client_noted e.least (t ∷ u ∷ past)) t.delivered.version t.outcome going.0 each.0.version
+  noted_by_two e t u past each going = went_noted (client_noted e.least (t ∷ u ∷ past)) t.delivered.version t.outcome going.0 each.0.shown.version
 
   noted_more : (old : ClientView C) (t : Turn) (past : List Turn) → HasBegun c old.context past → old.noted ≡ client_noted old.least past →
       EachClientTurn c (client_end old) past → AllGoOn past → noted_next c old t.delivered ≡ client_noted old.least (t ∷ past)
@@ -87,13 +88,13 @@ module _ {C : Type 0} (c : Meaning ContextSetting C) where
 
 module _ {C : Type 0} (c : Meaning ContextSetting C) where
   -- in the authentication nothing is checked or sealed
-  quiet_acts : (f : ClientFrame C) (t : Turn) → ClientActs c f t → f.state ≡ NegoToken → t.acts.proved ≡ false → IsQuiet t.acts
+  quiet_acts : (f : ClientFrame C) (t : Turn) → ShowsClientActs (client_shown f) t → f.state ≡ NegoToken → t.acts.proved ≡ false → IsQuiet t.acts
   quiet_acts f t acts nego unproved =
       let unchecked : t.acts.checked ≡ false = is_false t.acts.checked (λ was. let s = (acts.checked was).0 in absurd (cc (s, nego))) in
       record {
         proved = unproved;
         checked = unchecked;
-        sealed = is_false t.acts.sealed (λ was. let s = (acts.sealed was).0 in absurd (cc (s, unchecked)));
+        sealed = is_false t.acts.sealed (λ was. let s = acts.sealed was in absurd (cc (s, unchecked)));
         opened = acts.opened;
       }
 
@@ -111,7 +112,7 @@ module _ {C : Type 0} (c : Meaning ContextSetting C) where
   all_quiet e (t ∷ past) each went unproved unended =
       let p = or_false (is_replied t.outcome && t.acts.proved) (any_proved past) unproved in
       let q = or_false (is_ended t.outcome) (any_ended past) unended in (
-        quiet_acts (client_frame_at e past t) t each.0.acts (nego_state past p.1 q.1) (reply_unproved t.outcome t.acts.proved went.0 q.0 p.0),
+        quiet_acts (client_frame_at e past t) t each.0.shown.acts (nego_state past p.1 q.1) (reply_unproved t.outcome t.acts.proved went.0 q.0 p.0),
         all_quiet e past each.1 went.1 p.1 q.1,
       )
 
@@ -190,13 +191,13 @@ module _ {C : Type 0} (c : Meaning ContextSetting C) where
       noted_more c old t past follows.begun follows.noted follows.ran.each follows.going ∙ sym (ap (λ (n : ℕ). client_noted n (t ∷ past)) same)
 
   -- a turn that proves seals nothing else, and one that seals the credentials proves nothing
-  proved_alone : (f : ClientFrame C) (t : Turn) → ClientActs c f t → t.acts.proved ≡ true → t.acts.sealed ≡ false
+  proved_alone : (f : ClientFrame C) (t : Turn) → ShowsClientActs (client_shown f) t → t.acts.proved ≡ true → t.acts.sealed ≡ false
   proved_alone f t acts was = is_false t.acts.sealed (λ sealed.
-      let auth = (acts.checked (acts.sealed sealed).0).0 in
+      let auth = (acts.checked (acts.sealed sealed)).0 in
       let answered : IsSome t.acts.status = rw (acts.proved was).0 refl in
       let nego = acts.negotiated (acts.answered answered) in absurd (cc (auth, nego)))
 
-  sealed_alone : (f : ClientFrame C) (t : Turn) → ClientActs c f t → t.acts.sealed ≡ true → t.acts.proved ≡ false
+  sealed_alone : (f : ClientFrame C) (t : Turn) → ShowsClientActs (client_shown f) t → t.acts.sealed ≡ true → t.acts.proved ≡ false
   sealed_alone f t acts was = is_false t.acts.proved (λ proved. let s = proved_alone f t acts proved in absurd (cc (s, was)))
 
   pub client_turned : (law : IsContext c) (first old new : ClientView C) (past : List Turn) (d : TsRequest) (out : Outcome) →
@@ -223,15 +224,15 @@ module _ {C : Type 0} (c : Meaning ContextSetting C) where
             noted = unless_map out _ _ (λ h. sym (h ∙ noted)) turn.moves.noted_going;
             proved = λ was. (
               sym (turn.moves.noted_proved was ∙ noted),
-              made_by_proof new.acts (made_in past) (sealed_in c new.context) made was (proved_alone (client_frame c old new) t turn.turn.acts was),
+              made_by_proof new.acts (made_in past) (sealed_in c new.context) made was (proved_alone (client_frame c old new) t turn.turn.shown.acts was),
               same_but c new.context,
             );
             checked = λ was. (
               sym (turn.moves.noted_checked was ∙ noted),
-              opened_by_check new.acts (opened_in past) (unsealed_in c new.context) opened was turn.turn.acts.opened,
+              opened_by_check new.acts (opened_in past) (unsealed_in c new.context) opened was turn.turn.shown.acts.opened,
               same_but c new.context,
             );
-            sealed = λ was. made_by_seal new.acts (made_in past) (sealed_in c new.context) made was (sealed_alone (client_frame c old new) t turn.turn.acts was);
+            sealed = λ was. made_by_seal new.acts (made_in past) (sealed_in c new.context) made was (sealed_alone (client_frame c old new) t turn.turn.shown.acts was);
           }) turn.turn,
           each_over law (client_end old) (client_end new) past (same_end old new turn.moves.same)
               (touched_by (client_end old) old.state past (SameBut c old.context new.context) follows.state follows.ran.each follows.going turn.moves.bare)
@@ -241,13 +242,13 @@ module _ {C : Type 0} (c : Meaning ContextSetting C) where
       }
 
   -- the state after one more turn that went on
-  pub reply_state : (f : ClientFrame C) (t : Turn) (status : Option SecurityStatus) (reply : TsRequest) → NegoReply c f t status reply → f.state ≡ NegoToken
+  pub reply_state : (f : ClientFrame C) (t : Turn) (status : Option SecurityStatus) (reply : TsRequest) → ShowsNego (client_shown f) t status reply → f.state ≡ NegoToken
   reply_state f t None reply h = absurd h
   reply_state f t (Some statuses.Ok) reply h = h.state
   reply_state f t (Some other) reply h = h.state
 
   replied_state : (f : ClientFrame C) (t : Turn) (past : List Turn) (reply : TsRequest) → f.state ≡ client_state past → t.outcome ≡ outcome.Reply reply →
-      NegoReply c f t t.acts.status reply → state_after f.state (outcome.Reply reply) t.acts.proved ≡ client_state (t ∷ past)
+      ShowsNego (client_shown f) t t.acts.status reply → state_after f.state (outcome.Reply reply) t.acts.proved ≡ client_state (t ∷ past)
   replied_state f t past reply is out h =
       let nego = reply_state f t t.acts.status reply h in
       let s = state_nego (any_ended past) (any_proved past) (sym is ∙ nego) in
@@ -270,7 +271,7 @@ module _ {C : Type 0} (c : Meaning ContextSetting C) where
   idle_context law start handle token log step (Some m) h = walked_idle law start handle token 0 log (Done step) step m refl h
 
   idle_in : (law : IsContext c) (start : ClientView C) (d : TsRequest) (log : List Asked) (status : Option SecurityStatus) (now : ClientView C) (f : ClientFrame C) (t : Turn) (reply : TsRequest) →
-      NegoReply c f t status reply → DoneStep c status start d 0 log now → is_waiting_in c now.context ≡ false
+      ShowsNego (client_shown f) t status reply → DoneStep c status start d 0 log now → is_waiting_in c now.context ≡ false
   idle_in law start d log None now f t reply h step = absurd h
   idle_in law start d log (Some status) now f t reply h step = idle_context law start now.handle d.nego_tokens log (record { status = status; output = now.output }) now.context step
 
@@ -287,10 +288,10 @@ module _ {C : Type 0} (c : Meaning ContextSetting C) where
   client_replied law replies first old new past d reply follows turn steps = record {
     ran = client_turned law first old new past d (outcome.Reply reply) follows turn;
     state = turn.moves.state
-        ∙ replied_state (client_frame c old new) (client_turn c d (outcome.Reply reply) new) past reply follows.state refl turn.turn.reply;
+        ∙ replied_state (client_frame c old new) (client_turn c d (outcome.Reply reply) new) past reply follows.state refl turn.turn.shown.reply;
     noted = turn.moves.noted_going ∙ noted_of first old new (client_turn c d (outcome.Reply reply) new) past follows turn.moves.same.least;
     begun = turn.moves.begun;
-    idle = idle_in law old d steps.asked new.acts.status new (client_frame c old new) (client_turn c d (outcome.Reply reply) new) reply turn.turn.reply steps.step;
+    idle = idle_in law old d steps.asked new.acts.status new (client_frame c old new) (client_turn c d (outcome.Reply reply) new) reply turn.turn.shown.reply steps.step;
     going = (tt, follows.going);
   }
 
@@ -308,7 +309,7 @@ module _ {C : Type 0} (c : Meaning ContextSetting C) where
     state = turn.moves.state;
     noted = turn.moves.noted_going ∙ noted_of first old new (client_turn c d (outcome.Final reply) new) past follows turn.moves.same.least;
     begun = turn.moves.begun;
-    idle = ended_idle law old.state old.context new.context turn.turn.reply.state turn.moves.bare follows.idle;
+    idle = ended_idle law old.state old.context new.context turn.turn.shown.reply.state turn.moves.bare follows.idle;
     going = (tt, follows.going);
   }
 

@@ -3,9 +3,7 @@ use Rattle.std.proofs.Common.{◌≡◌, ◌≤◌, ℕ, ◌+◌, Bool, true, fa
 use Rattle.sspi_mech.specs.Meaning.{Meaning}
 use Rattle.sspi_credssp.specs.declared.state.CredSspState.TheVariants.{NegoToken, PubKeyInfo, AuthInfo, Final}
 use Rattle.sspi_credssp.specs.Acts.{count_of}
-use Rattle.sspi_credssp.specs.ClientTurn.{ClientActs, ClientReplies}
 use Rattle.sspi_credssp.specs.Context.{ContextSetting}
-use Rattle.sspi_credssp.specs.ServerTurn.{ServerReplies}
 use Rattle.sspi_credssp.specs.Turn.{ClientFrame, ServerFrame}
 use Rattle.sspi_delegate.specs.declared.answer.Delegation.{Delegation}
 use Rattle.sspi_delegate.specs.declared.answer.DelegateError.{DelegateError}
@@ -16,6 +14,7 @@ use Rattle.sspi_credssp.specs.declared.turn.End.TheVariants.{Client, Server}
 use Rattle.sspi_credssp.specs.declared.turn.Outcome.{Outcome}
 use Rattle.sspi_credssp.specs.declared.turn.Outcome.TheVariants as outcome
 use Rattle.sspi_credssp.specs.declared.turn.Turn.{Turn}
+use Rattle.sspi_credssp.specs.Shown.{ShowsAnswer, ShowsClientActs, ShowsReply, client_shown, server_shown}
 use Rattle.sspi_delegate.specs.Causes.{NewestIs, IsFinished, RunEnds}
 use Rattle.sspi_delegate.specs.ClientRun.{ClientEnd, client_frame_at, EachClientTurn}
 use Rattle.sspi_delegate.specs.EndTurns.{onto_client, onto_server, client_turns, server_turns, is_replied, is_ended, any_ended, any_proved, any_finished, OthersGoOn}
@@ -53,9 +52,9 @@ never_seals [] never = refl
 never_seals (t ∷ past) never = rw (never_seals past never.1, never.0) refl
 
 module _ {C : Type 0} (c : Meaning ContextSetting C) where
-  reply_unsealed : (f : ClientFrame C) (t : Turn) (out : Outcome) → ClientActs c f t → ClientReplies c f t out → GoesOn out → is_ended out ≡ false → t.acts.sealed ≡ false
+  reply_unsealed : (f : ClientFrame C) (t : Turn) (out : Outcome) → ShowsClientActs (client_shown f) t → ShowsReply (client_shown f) t out → GoesOn out → is_ended out ≡ false → t.acts.sealed ≡ false
   reply_unsealed f t (outcome.Reply reply) acts h went ended = is_false t.acts.sealed (λ was.
-      let auth = (acts.checked (acts.sealed was).0).0 in let nego = reply_state c f t t.acts.status reply h in absurd (cc (auth, nego)))
+      let auth = (acts.checked (acts.sealed was)).0 in let nego = reply_state c f t t.acts.status reply h in absurd (cc (auth, nego)))
   reply_unsealed f t (outcome.Final reply) acts h went ended = absurd (cc (ended))
   reply_unsealed f t outcome.Finished acts h went ended = absurd went
   reply_unsealed f t (outcome.Refused kind reply) acts h went ended = absurd went
@@ -64,16 +63,16 @@ module _ {C : Type 0} (c : Meaning ContextSetting C) where
   unsealed_before e [] each went unended = tt
   unsealed_before e (t ∷ past) each went unended =
       let s = or_false (is_ended t.outcome) (any_ended past) unended in
-      (reply_unsealed (client_frame_at e past t) t t.outcome each.0.acts each.0.reply went.0 s.0, unsealed_before e past each.1 went.1 s.1)
+      (reply_unsealed (client_frame_at e past t) t t.outcome each.0.shown.acts each.0.shown.reply went.0 s.0, unsealed_before e past each.1 went.1 s.1)
 
   pub server_never_seals : (e : ServerEnd C) (past : List Turn) → EachServerTurn c e past → NeverSeals past
   server_never_seals e [] each = tt
-  server_never_seals e (t ∷ past) each = (each.0.acts.sealed, server_never_seals e past each.1)
+  server_never_seals e (t ∷ past) each = (each.0.shown.acts.sealed, server_never_seals e past each.1)
 
   sealed_last : (e : ClientEnd C) (t : Turn) (past : List Turn) (sealed : Bool) → t.acts.sealed ≡ sealed → EachClientTurn c e (t ∷ past) → AllGoOn past →
       sealed_of past ≤ 1 → sealed_of past + count_of t.acts.sealed ≤ 1
   sealed_last e t past true was each went before =
-      let s = state_auth (any_ended past) (any_proved past) (each.0.acts.checked (each.0.acts.sealed was).0).0 in
+      let s = state_auth (any_ended past) (any_proved past) (each.0.shown.acts.checked (each.0.shown.acts.sealed was)).0 in
       let none : sealed_of past ≡ 0 = never_seals past (unsealed_before e past each.1 went s.0) in
       rw (none, was) (omega arith)
   sealed_last e t past false was each went before = rw was (omega arith)
@@ -93,7 +92,7 @@ module _ {C : Type 0} (c : Meaning ContextSetting C) where
   pub seals_after_proof : (e : ClientEnd C) (past : List Turn) → EachClientTurn c e past → SealsAfterProof c e past
   seals_after_proof e [] each = tt
   seals_after_proof e (t ∷ past) each =
-      ((λ was. let s = each.0.acts.sealed was in ((each.0.acts.checked s.0).0, s.1)), seals_after_proof e past each.1)
+      ((λ was. ((each.0.shown.acts.checked (each.0.shown.acts.sealed was)).0, each.0.held.sealed was)), seals_after_proof e past each.1)
 
   -- ---- the exchange before the credentials
 
@@ -119,7 +118,7 @@ module _ {C : Type 0} (c : Meaning ContextSetting C) where
   proved_exchange e [] each was = absurd (cc (was))
   proved_exchange e (t ∷ past) each was = elim (or_true (is_replied t.outcome && t.acts.proved) (any_proved past) was) [
     | inl here ↦ or_left (t.acts.checked && t.acts.proved) (any_exchange past)
-        (both_true t.acts.checked t.acts.proved (each.0.acts.proved (and_second (is_replied t.outcome) t.acts.proved here)).0 (and_second (is_replied t.outcome) t.acts.proved here))
+        (both_true t.acts.checked t.acts.proved (each.0.shown.acts.proved (and_second (is_replied t.outcome) t.acts.proved here)).0 (and_second (is_replied t.outcome) t.acts.proved here))
     | inr before ↦ or_right (t.acts.checked && t.acts.proved) (any_exchange past) (proved_exchange e past each.1 before)
   ]
 
@@ -131,7 +130,7 @@ module _ {C : Type 0} (c : Meaning ContextSetting C) where
   state_proved false false false h = absurd (cc (h))
 
   finished_exchanged : (e : ServerEnd C) (f : ServerFrame C) (t : Turn) (past : List Turn) (out : Outcome) → f.state ≡ server_state past → EachServerTurn c e past →
-      out ≡ outcome.Finished → ServerReplies c f t out → any_exchange past ≡ true
+      out ≡ outcome.Finished → ShowsAnswer (server_shown f) t out → any_exchange past ≡ true
   finished_exchanged e f t past (outcome.Reply reply) is each out h = absurd (cc (out))
   finished_exchanged e f t past (outcome.Final reply) is each out h = absurd (cc (out))
   finished_exchanged e f t past outcome.Finished is each out h =
@@ -147,7 +146,7 @@ module _ {C : Type 0} (c : Meaning ContextSetting C) where
   newest_exchanged : (e : ServerEnd C) (n : End) (t : Turn) (past : List Turn) → n ≡ Server → t.outcome ≡ outcome.Finished → EachServerTurn c e (onto_server n t past) →
       HasExchanged (onto_server n t past)
   newest_exchanged e Client t past is out each = absurd (cc (is))
-  newest_exchanged e Server t past is out each = finished_exchanged e (server_frame_at e past t) t past t.outcome refl each.1 out each.0.reply
+  newest_exchanged e Server t past is out each = finished_exchanged e (server_frame_at e past t) t past t.outcome refl each.1 out each.0.shown.reply
 
   pub exchanged : (e : ServerEnd C) (turns : List Turn) → NewestIs Server IsFinished turns → EachServerTurn c e (server_turns turns) → HasExchanged (server_turns turns)
   exchanged e [] newest each = absurd newest

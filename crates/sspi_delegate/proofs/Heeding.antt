@@ -214,7 +214,7 @@ module _ {C : Type 0} (c : Meaning ContextSetting C) where
         let t : Turn = server_turn c d outcome.Finished mid in
         let ran = server_turned c law first old mid past d outcome.Finished follows makes.0 in
         record {
-          refuses = λ found. absurd (first_noted mid.context mid.least t past (at_some (server_noted mid.least (t ∷ past)) _ ran.each.0.version) found);
+          refuses = λ found. absurd (first_noted mid.context mid.least t past (at_some (server_noted mid.least (t ∷ past)) _ ran.each.0.shown.version) found);
           only = λ never is. absurd is;
         }
     newest_heeds_client first old mid past d (outcome.Refused kind reply) follows makes same =

@@ -17,9 +17,10 @@ use Rattle.sspi_credssp.specs.Peers.{list_calls, lists_in}
 use Rattle.sspi_credssp.specs.Proxy.{ProxyMeaning, HasAsked}
 use Rattle.sspi_credssp.specs.Server.{ServerView, IsFreshServer}
 use Rattle.sspi_credssp.specs.ServerAsks.{look_ups_at, calls_in}
-use Rattle.sspi_credssp.specs.ServerTurn.{ServerTurn, ServerReplies, StateAnswer, NegoAnswer, OverAnswer, after_reply, after_status, server_state_after}
+use Rattle.sspi_credssp.specs.ServerTurn.{ServerTurn, after_reply, after_status, server_state_after}
 use Rattle.sspi_credssp.specs.Turn.{UnlessRefused, ServerFrame}
 use Rattle.sspi_credssp.proofs.Asked.{has_not_asked, has_asked_on, has_asked_as}
+use Rattle.sspi_credssp.specs.Shown.{ShowsAnswer, ShowsNegoBack, ShowsOver, ShowsStateBack, server_shown}
 use Rattle.sspi_delegate.specs.declared.answer.Delegation.{Delegation}
 use Rattle.sspi_delegate.specs.declared.answer.DelegateError.{DelegateError}
 use Rattle.sspi_delegate.specs.declared.carried.Carried.{Carried}
@@ -72,12 +73,12 @@ in_later_part (Some m) mode None Final later first stepped = omega arith
 
 module _ {C : Type 0} (c : Meaning ContextSetting C) where
   over_calls : (f : ServerFrame C) (t : Turn) (r : TsRequest) (m : C) (mode : ServerMode) (status : Option SecurityStatus) (field : Option (List ℕ)) →
-      after_status status ≡ PubKeyInfo → OverAnswer c f t field r → list_calls mode + 1 ≡ calls_made (Some m) mode (after_reply NegoToken t.acts.proved status)
+      after_status status ≡ PubKeyInfo → ShowsOver (server_shown f) t field r → list_calls mode + 1 ≡ calls_made (Some m) mode (after_reply NegoToken t.acts.proved status)
   over_calls f t r m mode status None over h = rw (h.2, over) refl
   over_calls f t r m mode status (Some blob) over h = rw h.proved refl
 
   nego_calls : (f : ServerFrame C) (t : Turn) (r : TsRequest) (context : Option C) (m : C) (mode : ServerMode) (status : Option SecurityStatus) →
-      NegoAnswer c f t status r →
+      ShowsNegoBack (server_shown f) t status r →
       calls_made context mode NegoToken + (lists_in context mode + look_ups_at status) ≡ calls_made (Some m) mode (after_reply NegoToken t.acts.proved status)
   nego_calls f t r context m mode None h = absurd h
   nego_calls f t r context m mode (Some statuses.Ok) h = in_first_part context mode 1 ∙ over_calls f t r m mode (Some statuses.Ok) _ refl h
@@ -93,7 +94,7 @@ module _ {C : Type 0} (c : Meaning ContextSetting C) where
   nego_calls f t r context m mode (Some statuses.NoLsaContext) h = absurd h
 
   state_calls : (f : ServerFrame C) (t : Turn) (r : TsRequest) (context : Option C) (m : C) (mode : ServerMode) (state : CredSspState) →
-      (context ≡ None → state ≡ NegoToken) → (IsSome t.acts.status → state ≡ NegoToken) → StateAnswer c f t state r →
+      (context ≡ None → state ≡ NegoToken) → (IsSome t.acts.status → state ≡ NegoToken) → ShowsStateBack (server_shown f) t state r →
       calls_made context mode state + (lists_in context mode + look_ups_at t.acts.status)
       ≡ calls_made (Some m) mode (after_reply state t.acts.proved t.acts.status)
   state_calls f t r context m mode NegoToken first stepped h = nego_calls f t r context m mode t.acts.status h
@@ -103,11 +104,11 @@ module _ {C : Type 0} (c : Meaning ContextSetting C) where
   state_calls f t r context m mode Final first stepped h = absurd h
 
   turn_calls : (f : ServerFrame C) (t : Turn) (out : Outcome) (context : Option C) (m : C) (mode : ServerMode) (state : CredSspState) → state ≡ f.state →
-      IsUnrefused out → (context ≡ None → state ≡ NegoToken) → (IsSome t.acts.status → state ≡ NegoToken) → ServerReplies c f t out →
+      IsUnrefused out → (context ≡ None → state ≡ NegoToken) → (IsSome t.acts.status → state ≡ NegoToken) → ShowsAnswer (server_shown f) t out →
       calls_made context mode state + (lists_in context mode + look_ups_at t.acts.status)
       ≡ calls_made (Some m) mode (server_state_after state out t.acts.proved t.acts.status)
   turn_calls f t (outcome.Reply r) context m mode state is un first stepped h =
-      state_calls f t r context m mode state first stepped (subst (λ s. StateAnswer c f t s r) (sym is) h)
+      state_calls f t r context m mode state first stepped (subst (λ s. ShowsStateBack (server_shown f) t s r) (sym is) h)
   turn_calls f t (outcome.Final r) context m mode state is un first stepped h = absurd h
   turn_calls f t outcome.Finished context m mode state is un first stepped h =
       let due : state ≡ AuthInfo = is ∙ h.0 in
@@ -144,12 +145,12 @@ module _ {C : Type 0} (c : Meaning ContextSetting C) where
     next_so_far first old now t un so_far made =
         let turn = turn_of old made.mid t.delivered t.outcome un made.makes in
         let begun : IsSome made.mid.context = unless_refused t.outcome _ un turn.moves.begun in
-        let stepped : IsSome made.mid.acts.status → old.state ≡ NegoToken = λ some. turn.turn.acts.negotiated (turn.turn.acts.answered some) in
+        let stepped : IsSome made.mid.acts.status → old.state ≡ NegoToken = λ some. turn.turn.shown.acts.negotiated (turn.turn.shown.acts.answered some) in
         let more = unless_refused t.outcome _ un made.asked in
         let total = has_asked_on p _ _ _ _ _ so_far.told_same so_far.asked more in
         let count = some_calls made.mid.context first.mode made.mid.state _ begun (λ m.
         ap (λ mode. calls_made old.context first.mode old.state + (lists_in old.context mode + look_ups_at made.mid.acts.status)) so_far.mode_same
-        ∙ turn_calls _ _ t.outcome old.context m first.mode old.state refl un so_far.begins stepped turn.turn.reply
+        ∙ turn_calls _ _ t.outcome old.context m first.mode old.state refl un so_far.begins stepped turn.turn.shown.reply
         ∙ ap (calls_made (Some m) first.mode) (sym turn.moves.state)) in
         subst (λ v. SoFar first v) (sym made.rest) (record {
           mode_same = turn.moves.same.mode ∙ so_far.mode_same;

@@ -5,18 +5,19 @@ use Rattle.sspi_mech.specs.Meaning.{Meaning}
 use Rattle.sspi_tsreq.specs.declared.request.TsRequest.{TsRequest}
 use Rattle.sspi_credssp.specs.Context.{ContextSetting}
 use Rattle.sspi_credssp.specs.Server.{ServerView}
-use Rattle.sspi_credssp.specs.ServerTurn.{ServerTurn, ServerReplies, server_frame, server_turn}
+use Rattle.sspi_credssp.specs.ServerTurn.{ServerTurn, server_frame, server_turn}
 use Rattle.sspi_credssp.specs.Turn.{ServerFrame}
 use Rattle.sspi_credssp.specs.declared.turn.End.TheVariants.{Server}
 use Rattle.sspi_credssp.specs.declared.turn.Outcome.TheVariants as outcome
 use Rattle.sspi_credssp.specs.declared.turn.Turn.{Turn}
+use Rattle.sspi_credssp.specs.Shown.{ShowsAnswer, server_shown}
 use Rattle.sspi_delegate.specs.Causes.{IsServerRefusal}
 use Rattle.sspi_delegate.specs.Recorded.{PushedSuch}
 use Rattle.sspi_delegate.specs.Rounds.{recorded}
 
 -- a refused turn of the server is recorded with the message that tells the client
 refusal_told : {C : Type 0} (c : Meaning ContextSetting C) (f : ServerFrame C) (t : Turn) (kind : ErrorKind) (reply : Option TsRequest) →
-    ServerReplies c f t (outcome.Refused kind reply) → IsServerRefusal kind (outcome.Refused kind reply)
+    ShowsAnswer (server_shown f) t (outcome.Refused kind reply) → IsServerRefusal kind (outcome.Refused kind reply)
 refusal_told c f t kind None h = absurd h
 refusal_told c f t kind (Some reply) h = refl
 
@@ -24,4 +25,4 @@ pub refusal_pushed : {C P : Type 0} (c : Meaning ContextSetting C) (old mid : Se
     (turns turns2 : List Turn) → ServerTurn c old d (outcome.Refused kind reply) mid →
     turns2 ≡ recorded Server d mid.acts mid.output (outcome.Refused kind reply) ∷ turns → PushedSuch Server d (IsServerRefusal kind) turns turns2
 refusal_pushed c old mid d kind reply turns turns2 turn is =
-    rw is (refl, refl, refl, refusal_told c (server_frame c old mid) (server_turn c d (outcome.Refused kind reply) mid) kind reply turn.turn.reply)
+    rw is (refl, refl, refl, refusal_told c (server_frame c old mid) (server_turn c d (outcome.Refused kind reply) mid) kind reply turn.turn.shown.reply)

@@ -64,7 +64,7 @@ module _ {C : Type 0} (c : Meaning ContextSetting C) where
       ClientCause c start d new error.error_type
   resumed_cause start d mid new log error way cause turn step =
       let nego = resumed_nego start d mid new error.error_type way cause in
-      let negotiated : new.acts.negotiated ≡ true = nego_negotiated new.acts.status new error.error_type refl turn.turn.acts.answered nego in
+      let negotiated : new.acts.negotiated ≡ true = nego_negotiated new.acts.status new error.error_type refl turn.turn.shown.acts.answered nego in
       stops_past (is_waiting_in c start.context) OutOfSequence error.error_type _ way.ready.idle
       (stops_past _ InvalidToken error.error_type _ way.ready.code
       (stops_past (is_old_in start.context start.least start.noted d.version) DowngradeDetected error.error_type _ way.ready.young

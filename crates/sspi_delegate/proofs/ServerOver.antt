@@ -1,6 +1,6 @@
 -- A server's turn stays a turn where its context is exchanged for one that is equal but for the counts, or for any other
 -- where the turn says nothing of the context.
-use Rattle.std.proofs.Common.{◌≡◌, ℕ, true, List, sym, ◌∙◌, ap, subst, refl, Option, None, Some, IsSome}
+use Rattle.std.proofs.Common.{◌≡◌, ◌⊎◌, ℕ, true, List, sym, ◌∙◌, ap, subst, refl, Option, None, Some, IsSome}
 use Rattle.sspi_mech.specs.Context.{IsContext}
 use Rattle.sspi_mech.specs.Meaning.{Meaning}
 use Rattle.sspi_tsreq.specs.declared.request.TsRequest.{TsRequest}
@@ -11,11 +11,13 @@ use Rattle.sspi_credssp.specs.declared.state.CredSspState.{CredSspState}
 use Rattle.sspi_credssp.specs.declared.state.CredSspState.TheVariants.{NegoToken, PubKeyInfo, AuthInfo, Final}
 use Rattle.sspi_credssp.specs.Context.{ContextSetting}
 use Rattle.sspi_credssp.specs.Counts.{SameBut}
-use Rattle.sspi_credssp.specs.ErrorRequest.{version_back}
+use Rattle.sspi_credssp.specs.ErrorRequest.{version_back, error_request}
 use Rattle.sspi_credssp.specs.PublicKey.{prescribed}
 use Rattle.sspi_credssp.specs.Requests.{nonce_of}
-use Rattle.sspi_credssp.specs.ServerTurn.{IsServerTurn, ServerActs, Proven, ServerReplies, StateAnswer, NegoAnswer, OverAnswer, TokenAnswer, ProofAnswer, MayCheck}
-use Rattle.sspi_credssp.specs.Turn.{ServerFrame, UnlessRefused, AtNoted}
+use Rattle.sspi_credssp.specs.ServerTurn.{IsServerTurn}
+use Rattle.sspi_credssp.specs.Held.{Proven, HoldsAnswer}
+use Rattle.sspi_credssp.specs.Shown.{server_shown, MayCheck, ShowsServerActs, ShowsTokenBack, ShowsProofBack, ShowsOver, ShowsNegoBack, ShowsStateBack, ShowsAnswer}
+use Rattle.sspi_credssp.specs.Turn.{ServerFrame, UnlessRefused, FitsNoted}
 use Rattle.sspi_delegate.proofs.ClientOver.{seals_still, opens_still, at_noted}
 use Rattle.sspi_credssp.specs.declared.turn.Outcome.{Outcome}
 use Rattle.sspi_credssp.specs.declared.turn.Outcome.TheVariants as outcome
@@ -46,84 +48,98 @@ module _ {C : Type 0} (c : Meaning ContextSetting C) (law : IsContext c) where
     nonce = h.nonce;
   }
 
-  acts_over : (f g : ServerFrame C) (t : Turn) → SameFrame c f g t → ServerActs c f t → ServerActs c g t
+  -- ---- what recorded bytes can show
+
+  acts_over : (f g : ServerFrame C) (t : Turn) → SameFrame c f g t → ShowsServerActs (server_shown f) t → ShowsServerActs (server_shown g) t
   acts_over f g t same acts = record {
     negotiated = λ was. same.state ∙ acts.negotiated was;
     answered = acts.answered;
-    checked = λ was. (
-      subst (λ (s : CredSspState). MayCheck s t.acts.status) (sym same.state) (acts.checked was).0,
-      (acts.checked was).1,
-      at_noted c law f.noted g.noted _ _ (same.checked was) (λ noted h. h) (acts.checked was).2,
-    );
-    proved = λ was. (
-      (acts.proved was).0,
-      at_noted c law f.noted g.noted _ _ (same.proved was).0 (λ noted h. proven_over f g t noted same was h) (acts.proved was).1,
-    );
+    checked = λ was. (subst (λ (s : CredSspState). MayCheck s t.acts.status) (sym same.state) (acts.checked was).0, (acts.checked was).1);
+    proved = λ was. ((acts.proved was).0, at_noted c law f.noted g.noted _ _ (same.proved was).0 (λ noted h. h) (acts.proved was).1);
     opened = λ was. (same.state ∙ (acts.opened was).0, (acts.opened was).1);
     sealed = acts.sealed;
   }
 
-  token_over : (f g : ServerFrame C) (t : Turn) (reply : TsRequest) → SameFrame c f g t → TokenAnswer c f t reply → TokenAnswer c g t reply
-  token_over f g t reply same h = record { reply = rw same.version h.reply }
+  token_over : (f g : ServerFrame C) (t : Turn) (reply : TsRequest) → SameFrame c f g t →
+      ShowsTokenBack (server_shown f) t reply → ShowsTokenBack (server_shown g) t reply
+  token_over f g t reply same h = record { unproved = h.unproved; version = h.version ∙ sym same.version; reply = h.reply }
 
-  proof_over : (f g : ServerFrame C) (t : Turn) (reply : TsRequest) → SameFrame c f g t → ProofAnswer c f t reply → ProofAnswer c g t reply
-  proof_over f g t reply same h = let k = same.proved h.proved in record {
-    checked = h.checked;
-    proved = h.proved;
-    reply = rw same.version h.reply;
-    proof = at_noted c law f.noted g.noted _ _ k.0 (λ noted seals.
-        rw (k.1, same.public_key)
-        (seals_still c law f.context g.context f.made (prescribed Server noted (nonce_of t.delivered.client_nonce) f.public_key) reply.pub_key_auth k.3 seals)) h.proof;
-  }
+  proof_over : (f g : ServerFrame C) (t : Turn) (reply : TsRequest) → SameFrame c f g t →
+      ShowsProofBack (server_shown f) t reply → ShowsProofBack (server_shown g) t reply
+  proof_over f g t reply same h = record { checked = h.checked; proved = h.proved; version = h.version ∙ sym same.version; reply = h.reply }
 
-  over_over : (f g : ServerFrame C) (t : Turn) (blob : Option (List ℕ)) (reply : TsRequest) → SameFrame c f g t → OverAnswer c f t blob reply → OverAnswer c g t blob reply
-  over_over f g t None reply same h = (token_over f g t reply same h.0, h.1, h.2)
+  over_over : (f g : ServerFrame C) (t : Turn) (blob : Option (List ℕ)) (reply : TsRequest) → SameFrame c f g t →
+      ShowsOver (server_shown f) t blob reply → ShowsOver (server_shown g) t blob reply
+  over_over f g t None reply same h = (token_over f g t reply same h.0, h.1)
   over_over f g t (Some blob) reply same h = proof_over f g t reply same h
 
   nego_over : (f g : ServerFrame C) (t : Turn) (answered : Option SecurityStatus) (reply : TsRequest) → SameFrame c f g t →
-      NegoAnswer c f t answered reply → NegoAnswer c g t answered reply
+      ShowsNegoBack (server_shown f) t answered reply → ShowsNegoBack (server_shown g) t answered reply
   nego_over f g t None reply same h = h
-  nego_over f g t (Some statuses.ContinueNeeded) reply same h = (token_over f g t reply same h.0, h.1)
+  nego_over f g t (Some statuses.ContinueNeeded) reply same h = token_over f g t reply same h
   nego_over f g t (Some statuses.CompleteNeeded) reply same h = over_over f g t t.delivered.pub_key_auth reply same h
   nego_over f g t (Some statuses.Ok) reply same h = over_over f g t t.delivered.pub_key_auth reply same h
   nego_over f g t (Some other) reply same h = h
 
   state_over : (f g : ServerFrame C) (t : Turn) (state : CredSspState) (reply : TsRequest) → SameFrame c f g t →
-      StateAnswer c f t state reply → StateAnswer c g t state reply
+      ShowsStateBack (server_shown f) t state reply → ShowsStateBack (server_shown g) t state reply
   state_over f g t NegoToken reply same h = nego_over f g t t.acts.status reply same h
   state_over f g t PubKeyInfo reply same h = proof_over f g t reply same h
   state_over f g t AuthInfo reply same h = h
   state_over f g t Final reply same h = h
+
+  replies_over : (f g : ServerFrame C) (t : Turn) (out : Outcome) → SameFrame c f g t →
+      ShowsAnswer (server_shown f) t out → ShowsAnswer (server_shown g) t out
+  replies_over f g t (outcome.Reply reply) same h =
+      subst (λ (s : CredSspState). ShowsStateBack (server_shown g) t s reply) (sym same.state) (state_over f g t f.state reply same h)
+  replies_over f g t (outcome.Final reply) same h = h
+  replies_over f g t outcome.Finished same h = (same.state ∙ h.0, h.1)
+  replies_over f g t (outcome.Refused kind None) same h = h
+  replies_over f g t (outcome.Refused kind (Some reply)) same h = record {
+    version = subst (λ (own : ℕ). (reply.version ≡ t.delivered.version) ⊎ (reply.version ≡ own)) (sym same.version) h.version;
+    reply = subst (λ (s : CredSspState). reply ≡ error_request s reply.version kind t.delivered) (sym same.state) h.reply;
+  }
+
+  fits_over : (noted noted2 : Option ℕ) (version : ℕ) (out : Outcome) → UnlessRefused out (noted2 ≡ noted) →
+      UnlessRefused out (FitsNoted true noted version) → UnlessRefused out (FitsNoted true noted2 version)
+  fits_over noted noted2 version (outcome.Reply reply) same h = rw same h
+  fits_over noted noted2 version (outcome.Final reply) same h = rw same h
+  fits_over noted noted2 version outcome.Finished same h = rw same h
+  fits_over noted noted2 version (outcome.Refused kind reply) same h = h
+
+  -- ---- what stands behind them
 
   back_over : (context : Option C) (noted noted2 : Option ℕ) (delivered own : ℕ) → (IsSome context → noted2 ≡ noted) →
       version_back context noted2 delivered own ≡ version_back context noted delivered own
   back_over None noted noted2 delivered own same = refl
   back_over (Some m) noted noted2 delivered own same = rw (same refl) refl
 
-  replies_over : (f g : ServerFrame C) (t : Turn) (out : Outcome) → SameFrame c f g t →
-      OnceRefused out ((g.context ≡ f.context) × (IsSome f.context → g.noted ≡ f.noted)) → ServerReplies c f t out → ServerReplies c g t out
-  replies_over f g t (outcome.Reply reply) same once h =
-      subst (λ (s : CredSspState). StateAnswer c g t s reply) (sym same.state) (state_over f g t f.state reply same h)
-  replies_over f g t (outcome.Final reply) same once h = h
-  replies_over f g t outcome.Finished same once h = (same.state ∙ h.0, h.1)
-  replies_over f g t (outcome.Refused kind None) same once h = h
-  replies_over f g t (outcome.Refused kind (Some reply)) same once h =
+  holds_over : (f g : ServerFrame C) (t : Turn) (out : Outcome) → SameFrame c f g t →
+      OnceRefused out ((g.context ≡ f.context) × (IsSome f.context → g.noted ≡ f.noted)) → HoldsAnswer c f t out → HoldsAnswer c g t out
+  holds_over f g t (outcome.Reply reply) same once h = λ was. let k = same.proved was in
+      at_noted c law f.noted g.noted _ _ k.0 (λ noted seals.
+          rw (k.1, same.public_key)
+          (seals_still c law f.context g.context f.made (prescribed Server noted (nonce_of t.delivered.client_nonce) f.public_key) reply.pub_key_auth k.3 seals)) (h was)
+  holds_over f g t (outcome.Final reply) same once h = tt
+  holds_over f g t outcome.Finished same once h = tt
+  holds_over f g t (outcome.Refused kind None) same once h = tt
+  holds_over f g t (outcome.Refused kind (Some reply)) same once h =
       let back : version_back g.context g.noted t.delivered.version g.version ≡ version_back f.context f.noted t.delivered.version f.version =
       ap (λ (x : Option C). version_back x g.noted t.delivered.version g.version) once.0
       ∙ ap (λ (v : ℕ). version_back f.context g.noted t.delivered.version v) same.version
       ∙ back_over f.context f.noted g.noted t.delivered.version f.version once.1 in
-      rw (same.state, back) h
-
-  fits_over : (noted noted2 : Option ℕ) (version : ℕ) (out : Outcome) → UnlessRefused out (noted2 ≡ noted) →
-      UnlessRefused out (AtNoted noted (λ n. version ≡ n)) → UnlessRefused out (AtNoted noted2 (λ n. version ≡ n))
-  fits_over noted noted2 version (outcome.Reply reply) same h = rw same h
-  fits_over noted noted2 version (outcome.Final reply) same h = rw same h
-  fits_over noted noted2 version outcome.Finished same h = rw same h
-  fits_over noted noted2 version (outcome.Refused kind reply) same h = h
+      h ∙ sym back
 
   pub server_over : (f g : ServerFrame C) (t : Turn) → SameFrame c f g t → IsServerTurn c f t → IsServerTurn c g t
-  server_over f g t same turn = record {
-    version = fits_over f.noted g.noted t.delivered.version t.outcome same.noted turn.version;
-    acts = acts_over f g t same turn.acts;
-    reply = replies_over f g t t.outcome same same.refused turn.reply;
+  server_over f g t same turn = let shown = turn.shown in record {
+    shown = record {
+      version = fits_over f.noted g.noted t.delivered.version t.outcome same.noted shown.version;
+      acts = acts_over f g t same shown.acts;
+      reply = replies_over f g t t.outcome same shown.reply;
+    };
+    held = record {
+      checked = λ was. at_noted c law f.noted g.noted _ _ (same.checked was) (λ noted h. h) (turn.held.checked was);
+      proved = λ was. at_noted c law f.noted g.noted _ _ (same.proved was).0 (λ noted h. proven_over f g t noted same was h) (turn.held.proved was);
+      reply = holds_over f g t t.outcome same same.refused turn.held.reply;
+    };
   }

@@ -12,7 +12,8 @@ use Rattle.sspi_credssp.specs.Context.{ContextSetting}
 use Rattle.sspi_credssp.specs.Counts.{sealed_in, unsealed_in, SameBut}
 use Rattle.sspi_credssp.specs.Noted.{noted_with}
 use Rattle.sspi_credssp.specs.Server.{ServerView, IsFreshServer}
-use Rattle.sspi_credssp.specs.ServerTurn.{ServerActs, ServerReplies, StateAnswer, NegoAnswer, ServerTurn, SameServer, StartsUnused, server_frame, server_turn, after_reply, IsOver, MayCheck, OnceNegotiated}
+use Rattle.sspi_credssp.specs.ServerTurn.{ServerTurn, SameServer, StartsUnused, server_frame, server_turn, after_reply, OnceNegotiated}
+use Rattle.sspi_credssp.specs.Shown.{IsOver, MayCheck, ShowsAnswer, ShowsNegoBack, ShowsServerActs, ShowsStateBack, server_shown}
 use Rattle.sspi_credssp.specs.Turn.{ServerFrame}
 use Rattle.sspi_delegate.specs.EndTurns.{made_in, opened_in, is_replied, is_finished, any_proved, any_finished}
 use Rattle.sspi_delegate.specs.Turns.{GoesOn, AllGoOn}
@@ -46,7 +47,7 @@ noted_kept least (Some noted) version some = refl
 module _ {C : Type 0} (c : Meaning ContextSetting C) where
   -- each turn that went on has noted a version
   pub noted_by_one : (e : ServerEnd C) (t : Turn) (past : List Turn) → EachServerTurn c e (t ∷ past) → AllGoOn (t ∷ past) → IsSome (server_noted e.least (t ∷ past))
-  noted_by_one e t past each going = went_noted (server_noted e.least (t ∷ past)) t.delivered.version t.outcome going.0 each.0.version
+  noted_by_one e t past each going = went_noted (server_noted e.least (t ∷ past)) t.delivered.version t.outcome going.0 each.0.shown.version
 
   noted_more : (e : ServerEnd C) (noted : Option ℕ) (t : Turn) (past : List Turn) → noted ≡ server_noted e.least past → EachServerTurn c e past → AllGoOn past →
       noted_with e.least noted t.delivered.version ≡ server_noted e.least (t ∷ past)
@@ -56,7 +57,7 @@ module _ {C : Type 0} (c : Meaning ContextSetting C) where
   -- ---- turns that came before the end of the authentication
 
   -- while tokens are exchanged nothing is checked, proved or opened
-  quiet_token : (f : ServerFrame C) (t : Turn) → ServerActs c f t → f.state ≡ NegoToken → (IsOver t.acts.status → ⊥) → t.acts.proved ≡ false → IsQuiet t.acts
+  quiet_token : (f : ServerFrame C) (t : Turn) → ShowsServerActs (server_shown f) t → f.state ≡ NegoToken → (IsOver t.acts.status → ⊥) → t.acts.proved ≡ false → IsQuiet t.acts
   quiet_token f t acts nego going unproved = record {
     proved = unproved;
     checked = is_false t.acts.checked (λ was. going (subst (λ (s : CredSspState). MayCheck s t.acts.status) nego (acts.checked was).0));
@@ -65,9 +66,9 @@ module _ {C : Type 0} (c : Meaning ContextSetting C) where
   }
 
   quiet_nego : (f : ServerFrame C) (t : Turn) (status : Option SecurityStatus) (reply : TsRequest) → t.acts.status ≡ status → is_over status ≡ false →
-      NegoAnswer c f t status reply → (IsOver t.acts.status → ⊥) × (t.acts.proved ≡ false)
+      ShowsNegoBack (server_shown f) t status reply → (IsOver t.acts.status → ⊥) × (t.acts.proved ≡ false)
   quiet_nego f t None reply is over h = absurd h
-  quiet_nego f t (Some statuses.ContinueNeeded) reply is over h = (rw is (λ x. x), h.1)
+  quiet_nego f t (Some statuses.ContinueNeeded) reply is over h = (rw is (λ x. x), h.unproved)
   quiet_nego f t (Some statuses.CompleteNeeded) reply is over h = absurd (cc (over))
   quiet_nego f t (Some statuses.Ok) reply is over h = absurd (cc (over))
   quiet_nego f t (Some statuses.CompleteAndContinue) reply is over h = absurd h
@@ -77,10 +78,10 @@ module _ {C : Type 0} (c : Meaning ContextSetting C) where
   quiet_nego f t (Some statuses.Renegotiate) reply is over h = absurd h
   quiet_nego f t (Some statuses.NoLsaContext) reply is over h = absurd h
 
-  quiet_turn : (f : ServerFrame C) (t : Turn) (out : Outcome) → ServerActs c f t → f.state ≡ NegoToken → GoesOn out → ServerReplies c f t out →
+  quiet_turn : (f : ServerFrame C) (t : Turn) (out : Outcome) → ShowsServerActs (server_shown f) t → f.state ≡ NegoToken → GoesOn out → ShowsAnswer (server_shown f) t out →
       is_replied out && is_over t.acts.status ≡ false → IsQuiet t.acts
   quiet_turn f t (outcome.Reply reply) acts nego went h over =
-      let k = quiet_nego f t t.acts.status reply refl over (subst (λ (s : CredSspState). StateAnswer c f t s reply) nego h) in
+      let k = quiet_nego f t t.acts.status reply refl over (subst (λ (s : CredSspState). ShowsStateBack (server_shown f) t s reply) nego h) in
       quiet_token f t acts nego k.0 k.1
   quiet_turn f t (outcome.Final reply) acts nego went h over = absurd h
   quiet_turn f t outcome.Finished acts nego went h over = absurd went
@@ -93,7 +94,7 @@ module _ {C : Type 0} (c : Meaning ContextSetting C) where
       let p = or_false (is_finished t.outcome) (any_finished past) unfinished in
       let q = or_false (is_replied t.outcome && t.acts.proved) (any_proved past) unproved in
       let r = or_false (is_replied t.outcome && is_over t.acts.status) (any_over past) going in (
-        quiet_turn (server_frame_at e past t) t t.outcome each.0.acts (nego_state past p.1 q.1 r.1) went.0 each.0.reply r.0,
+        quiet_turn (server_frame_at e past t) t t.outcome each.0.shown.acts (nego_state past p.1 q.1 r.1) went.0 each.0.shown.reply r.0,
         all_quiet e past each.1 went.1 p.1 q.1 r.1,
       )
 
@@ -127,11 +128,11 @@ module _ {C : Type 0} (c : Meaning ContextSetting C) where
   )
 
   -- a turn that opens the credentials checks no proof
-  checked_alone : (f : ServerFrame C) (t : Turn) → ServerActs c f t → t.acts.checked ≡ true → t.acts.opened ≡ false
+  checked_alone : (f : ServerFrame C) (t : Turn) → ShowsServerActs (server_shown f) t → t.acts.checked ≡ true → t.acts.opened ≡ false
   checked_alone f t acts was = is_false t.acts.opened (λ opened.
       subst (λ (s : CredSspState). MayCheck s t.acts.status) (acts.opened opened).0 (acts.checked was).0)
 
-  opened_alone : (f : ServerFrame C) (t : Turn) → ServerActs c f t → t.acts.opened ≡ true → t.acts.checked ≡ false
+  opened_alone : (f : ServerFrame C) (t : Turn) → ShowsServerActs (server_shown f) t → t.acts.opened ≡ true → t.acts.checked ≡ false
   opened_alone f t acts was = is_false t.acts.checked (λ checked. let s = checked_alone f t acts checked in absurd (cc (s, was)))
 
   once : (out : Outcome) (Q : Type 0) → Q → OnceRefused out Q
@@ -157,10 +158,10 @@ module _ {C : Type 0} (c : Meaning ContextSetting C) where
   nego_moves (Some statuses.Renegotiate) proved h = let k = (h refl).0 in absurd (cc (k))
   nego_moves (Some statuses.NoLsaContext) proved h = let k = (h refl).0 in absurd (cc (k))
 
-  nego_status : (f : ServerFrame C) (t : Turn) (status : Option SecurityStatus) (reply : TsRequest) → NegoAnswer c f t status reply → is_over status ≡ false →
+  nego_status : (f : ServerFrame C) (t : Turn) (status : Option SecurityStatus) (reply : TsRequest) → ShowsNegoBack (server_shown f) t status reply → is_over status ≡ false →
       (status ≡ Some statuses.ContinueNeeded) × (t.acts.proved ≡ false)
   nego_status f t None reply h over = absurd h
-  nego_status f t (Some statuses.ContinueNeeded) reply h over = (refl, h.1)
+  nego_status f t (Some statuses.ContinueNeeded) reply h over = (refl, h.unproved)
   nego_status f t (Some statuses.CompleteNeeded) reply h over = absurd (cc (over))
   nego_status f t (Some statuses.Ok) reply h over = absurd (cc (over))
   nego_status f t (Some statuses.CompleteAndContinue) reply h over = absurd h
@@ -176,7 +177,7 @@ module _ {C : Type 0} (c : Meaning ContextSetting C) where
   state_key false proved over h = refl
 
   state_moved : (f : ServerFrame C) (t : Turn) (past : List Turn) (state : CredSspState) (reply : TsRequest) → state ≡ server_state past →
-      t.outcome ≡ outcome.Reply reply → StateAnswer c f t state reply → after_reply state t.acts.proved t.acts.status ≡ server_state (t ∷ past)
+      t.outcome ≡ outcome.Reply reply → ShowsStateBack (server_shown f) t state reply → after_reply state t.acts.proved t.acts.status ≡ server_state (t ∷ past)
   state_moved f t past NegoToken reply is out h =
       let s = state_nego (any_finished past) (any_proved past) (any_over past) (sym is) in
       rw (out, s.0, s.1, s.2, or_not t.acts.proved, or_not (is_over t.acts.status))
@@ -242,9 +243,9 @@ module _ {C : Type 0} (c : Meaning ContextSetting C) where
               noted = unless_map out _ _ (λ some. sym (turn.moves.noted some ∙ noted)) turn.moves.begun;
               proved = λ was. (
                 sym (turn.moves.noted_proved was ∙ noted),
-                made_by_proof new.acts (made_in past) (sealed_in c new.context) made was turn.turn.acts.sealed,
-                opened_by_check new.acts (opened_in past) (unsealed_in c new.context) opened (turn.turn.acts.proved was).0
-                    (checked_alone (server_frame c old new) t turn.turn.acts (turn.turn.acts.proved was).0),
+                made_by_proof new.acts (made_in past) (sealed_in c new.context) made was turn.turn.shown.acts.sealed,
+                opened_by_check new.acts (opened_in past) (unsealed_in c new.context) opened (turn.turn.shown.acts.proved was).0
+                    (checked_alone (server_frame c old new) t turn.turn.shown.acts (turn.turn.shown.acts.proved was).0),
                 same_but c new.context,
               );
               checked = λ was. sym (turn.moves.noted_checked was ∙ noted);
@@ -262,7 +263,7 @@ module _ {C : Type 0} (c : Meaning ContextSetting C) where
     server_follows law first old new past d reply follows turn = record {
       ran = server_turned law first old new past d (outcome.Reply reply) follows turn;
       state = turn.moves.state
-          ∙ state_moved (server_frame c old new) (server_turn c d (outcome.Reply reply) new) past old.state reply follows.state refl turn.turn.reply;
+          ∙ state_moved (server_frame c old new) (server_turn c d (outcome.Reply reply) new) past old.state reply follows.state refl turn.turn.shown.reply;
       noted = turn.moves.noted turn.moves.begun ∙ noted_of first old new (server_turn c d (outcome.Reply reply) new) past follows turn.moves.same.least;
       going = (tt, follows.going);
     }
