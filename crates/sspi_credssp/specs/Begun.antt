@@ -12,6 +12,11 @@ abbrev pub IfContext : {C : Type 0} → Option C → (C → Type 0) → Type 0
 IfContext None P = ⊥
 IfContext (Some m) P = P m
 
+-- the same, where there may be none
+abbrev pub OnContext : {C : Type 0} → Option C → (C → Type 0) → Type 0
+OnContext None P = Unit {0}
+OnContext (Some m) P = P m
+
 -- an end that had no context before the turn, and has none after it, was refused while it made one
 abbrev pub MadeOr : {C : Type 0} → Option C → Option C → Type 0 → Type 0 → Type 0
 MadeOr (Some m) new Cause Later = Later

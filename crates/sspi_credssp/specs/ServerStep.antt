@@ -15,7 +15,7 @@ use Rattle.sspi_mech.specs.Calls.{AcceptArgs, Counts, ToComplete}
 use Rattle.sspi_mech.specs.Meaning.{Meaning}
 use Rattle.sspi_credssp.specs.declared.server_state.ServerError.{ServerError}
 use Rattle.sspi_credssp.specs.declared.server_state.ServerState.{ServerState}
-use Rattle.sspi_credssp.specs.Begun.{Begun, IfContext}
+use Rattle.sspi_credssp.specs.Begun.{Begun, IfContext, OnContext}
 use Rattle.sspi_credssp.specs.Context.{ContextSetting, ForServer}
 use Rattle.sspi_credssp.specs.Counts.{silent}
 use Rattle.sspi_credssp.specs.Proxy.{ProxyMeaning, ProxyTells, AreFound}
@@ -51,6 +51,11 @@ module _ {C : Type 0} (c : Meaning ContextSetting C) where
         identities ≢ [] → c.identifies m (map credentials.AuthIdentity identities) m2 → IsIdentified tells m m2
 
   module _ {P : Type 0} (p : ProxyMeaning P) where
+    -- a call that made a context and took no step of it has made it with what the proxy lists
+    abbrev pub MakesAlone : ServerView C P → ServerView C P → Type 0
+    MakesAlone old new = new.acts.negotiated ≡ false → old.context ≡ None →
+        OnContext new.context (Begun c old.context old.handle (server_setting p old) Inbound None new.handle)
+
     -- A step of the turn that began at `start`: how far the server then knows its peer, the step's answer, and the context.
     -- Nothing else moves the context but sealing and opening.
     pub data Accepted (start : ServerView C P) (handle : Option CredentialsBuffers) (token : Option (List ℕ)) :

@@ -88,7 +88,8 @@ impl<N, K> CredSspClient<N, K> {
     ) -> CredSspClient<N, K>
         ensures fresh { IsFreshClient result }
         ensures values { (result.public_key ≡ public_key.items) × (result.credentials ≡ credentials) × (result.delegation ≡ cred_ssp_mode)
-            × (result.version ≡ 6) × (result.least ≡ default_least) × (result.mode ≡ client_mode) × (result.target ≡ string_bytes service_principal_name) × (result.nonce ≡ client_nonce) }
+            × (result.version ≡ 6) × (result.least ≡ default_least) × (result.mode ≡ client_mode)
+            × (result.target ≡ string_bytes service_principal_name) × (result.nonce ≡ client_nonce) }
     {
         CredSspClient::new_with_version(
             alloc,
@@ -119,7 +120,8 @@ impl<N, K> CredSspClient<N, K> {
     ) -> CredSspClient<N, K>
         ensures fresh { IsFreshClient result }
         ensures values { (result.public_key ≡ public_key.items) × (result.credentials ≡ credentials) × (result.delegation ≡ cred_ssp_mode)
-            × (result.version ≡ ts_request_version) × (result.least ≡ default_least) × (result.mode ≡ client_mode) × (result.target ≡ string_bytes service_principal_name) × (result.nonce ≡ client_nonce) }
+            × (result.version ≡ ts_request_version) × (result.least ≡ default_least) × (result.mode ≡ client_mode)
+            × (result.target ≡ string_bytes service_principal_name) × (result.nonce ≡ client_nonce) }
     {
         CredSspClient {
             alloc,
@@ -209,9 +211,12 @@ impl<N: Mechanism, K: Mechanism> CredSspClient<N, K> {
         ensures step { HasStepped (either N.REQUESTS N.meaning K.meaning) self.old ts_request 0 [] result self.new }
         ensures cause { IfErr result (λ error. error.error_type ≢ ErrorKind.InsufficientMemory →
             ClientCause (either N.REQUESTS N.meaning K.meaning) self.old ts_request self.new error.error_type) }
-        ensures code { is_waiting_in (either N.REQUESTS N.meaning K.meaning) self.old.context ≡ false → is_code ts_request.error_code ≡ true →
-            IsErr result × IfErr result (λ error. error.error_type ≡ ErrorKind.InvalidToken) × (self.new ≡ record self.old { acts = no_acts; output = [] }) }
-        ensures altered { is_waiting_in (either N.REQUESTS N.meaning K.meaning) self.old.context ≡ false → is_code ts_request.error_code ≡ false →
+        ensures code { is_waiting_in (either N.REQUESTS N.meaning K.meaning) self.old.context ≡ false →
+            is_code ts_request.error_code ≡ true →
+            IsErr result × IfErr result (λ error. error.error_type ≡ ErrorKind.InvalidToken)
+            × (self.new ≡ record self.old { acts = no_acts; output = [] }) }
+        ensures altered { is_waiting_in (either N.REQUESTS N.meaning K.meaning) self.old.context ≡ false →
+            is_code ts_request.error_code ≡ false →
             is_altered_in self.old.context self.old.noted ts_request.version ≡ true →
             IsErr result × (self.new ≡ record self.old { acts = no_acts; output = [] }) }
         ensures heeded { ClientHeeds (either N.REQUESTS N.meaning K.meaning) self.old ts_request result self.new }
@@ -256,9 +261,12 @@ impl<N: Mechanism, K: Mechanism> CredSspClient<N, K> {
             (tries : ℕ) (log : List Asked) (q : NetworkRequest) →
             IsUnderway c start d self.old → StepsTo c start d tries log (answers.Ask q) self.old →
             OnErr result (self.new.acts.status ≡ None → is_waiting_in c self.new.context ≡ true →
-            IsUnderway c start d self.new × StepsTo c start d (tries + 1) (record { question = q; reply = reply.now } ∷ log) (answers.Ask q) self.new) }
-        ensures falls { let c = either N.REQUESTS N.meaning K.meaning in OnSuspended result (left_in c self.new.context < left_in c self.old.context) }
-        ensures stepped { is_waiting_in (either N.REQUESTS N.meaning K.meaning) self.old.context ≡ true → IsSome self.old.kept → self.new.acts.negotiated ≡ true }
+            IsUnderway c start d self.new
+            × StepsTo c start d (tries + 1) (record { question = q; reply = reply.now } ∷ log) (answers.Ask q) self.new) }
+        ensures falls { let c = either N.REQUESTS N.meaning K.meaning in
+            OnSuspended result (left_in c self.new.context < left_in c self.old.context) }
+        ensures stepped { is_waiting_in (either N.REQUESTS N.meaning K.meaning) self.old.context ≡ true → IsSome self.old.kept →
+            self.new.acts.negotiated ≡ true }
         ensures cause { IfErr result (λ error. error.error_type ≢ ErrorKind.InsufficientMemory →
             ResumeCause (either N.REQUESTS N.meaning K.meaning) self.old self.new error.error_type) }
         ensures plain { IfErr result (λ error. error.nstatus ≡ None) }
@@ -291,7 +299,8 @@ impl<N: Mechanism, K: Mechanism> CredSspClient<N, K> {
             ClientGoes c start d result self.new }
         ensures step { let c = either N.REQUESTS N.meaning K.meaning in (start : ClientView (SspiContext N K)) (d : TsRequest) →
             d.nego_tokens ≡ request.nego_tokens → start.target ≡ self.old.target →
-            IfContext self.old.context (Begun c start.context start.handle (ForClient start.mode) purposes.Outbound (Some start.credentials) self.old.handle) →
+            IfContext self.old.context (Begun c start.context start.handle (ForClient start.mode) purposes.Outbound
+            (Some start.credentials) self.old.handle) →
             HasStepped c start d 0 [] result self.new }
         ensures cause { IfErr result (λ error. error.error_type ≢ ErrorKind.InsufficientMemory →
             StateCause (either N.REQUESTS N.meaning K.meaning) self.old.state request self.new error.error_type) }
@@ -312,19 +321,23 @@ impl<N: Mechanism, K: Mechanism> CredSspClient<N, K> {
 
     fn begin(&mut self, version: u32) -> Result<(), Error>
         ensures frame { self.new ≡ record self.old { context = self.new.context; handle = self.new.handle; noted = self.new.noted } }
-        ensures ready { let c = either N.REQUESTS N.meaning K.meaning in OnOk result ((start : ClientView (SspiContext N K)) (d : TsRequest) →
+        ensures ready { let c = either N.REQUESTS N.meaning K.meaning in
+            OnOk result ((start : ClientView (SspiContext N K)) (d : TsRequest) →
             d.version ≡ version → self.old ≡ record start { acts = no_acts; output = [] } →
             is_waiting_in c start.context ≡ false → is_code d.error_code ≡ false → IsReady c start d self.new) }
         ensures begun { let c = either N.REQUESTS N.meaning K.meaning in OnOk result (IfContext self.new.context
-            (Begun c self.old.context self.old.handle (ForClient self.old.mode) purposes.Outbound (Some self.old.credentials) self.new.handle)) }
+            (Begun c self.old.context self.old.handle (ForClient self.old.mode) purposes.Outbound
+            (Some self.old.credentials) self.new.handle)) }
         ensures err { OnErr result (self.new ≡ self.old) }
         ensures noted { OnErr result (self.new.noted ≡ noted_in self.old.context self.old.least self.old.noted version) }
         ensures passed { OnOk result (IsSome self.new.context × (is_altered_in self.old.context self.old.noted version ≡ false)
             × (is_old_in self.old.context self.old.least self.old.noted version ≡ false)) }
-        ensures cause { let c = either N.REQUESTS N.meaning K.meaning in IfErr result (λ error. error.error_type ≢ ErrorKind.InsufficientMemory →
+        ensures cause { let c = either N.REQUESTS N.meaning K.meaning in
+            IfErr result (λ error. error.error_type ≢ ErrorKind.InsufficientMemory →
             StopsIf (is_old_in self.old.context self.old.least self.old.noted version) ErrorKind.DowngradeDetected error.error_type
             (StopsIf (is_altered_in self.old.context self.old.noted version) ErrorKind.MessageAltered error.error_type
-            (MadeOr self.old.context self.new.context (BeginCause c (ForClient self.old.mode) purposes.Outbound (Some self.old.credentials) error.error_type) ⊥))) }
+            (MadeOr self.old.context self.new.context (BeginCause c (ForClient self.old.mode) purposes.Outbound
+            (Some self.old.credentials) error.error_type) ⊥))) }
         ensures exact { IfErr result (λ error. is_old_in self.old.context self.old.least self.old.noted version ≡ true →
             error.error_type ≡ ErrorKind.DowngradeDetected) }
         ensures plain { IfErr result (λ error. error.nstatus ≡ None) }
@@ -343,13 +356,15 @@ impl<N: Mechanism, K: Mechanism> CredSspClient<N, K> {
         requires { self.old.context ≡ None }
         ensures frame { self.new ≡ record self.old { context = self.new.context; handle = self.new.handle } }
         ensures begun { let c = either N.REQUESTS N.meaning K.meaning in OnOk result (IfContext self.new.context
-            (Begun c self.old.context self.old.handle (ForClient self.old.mode) purposes.Outbound (Some self.old.credentials) self.new.handle)) }
+            (Begun c self.old.context self.old.handle (ForClient self.old.mode) purposes.Outbound
+            (Some self.old.credentials) self.new.handle)) }
         ensures made { OnOk result (IsSome self.new.context) }
         ensures unused { OnOk result (IsUnusedIn (either N.REQUESTS N.meaning K.meaning) self.new.context) }
         ensures err { OnErr result (self.new ≡ self.old) }
         ensures noted { self.old.noted ≡ None }
         ensures state { self.old.state ≡ CredSspState.NegoToken }
-        ensures cause { let c = either N.REQUESTS N.meaning K.meaning in IfErr result (λ error. error.error_type ≢ ErrorKind.InsufficientMemory →
+        ensures cause { let c = either N.REQUESTS N.meaning K.meaning in
+            IfErr result (λ error. error.error_type ≢ ErrorKind.InsufficientMemory →
             BeginCause c (ForClient self.old.mode) purposes.Outbound (Some self.old.credentials) error.error_type) }
         ensures plain { IfErr result (λ error. error.nstatus ≡ None) }
     {

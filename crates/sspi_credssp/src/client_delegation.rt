@@ -32,8 +32,10 @@ fn seal_credentials<N: Mechanism, K: Mechanism>(
     ensures blob { let c = either N.REQUESTS N.meaning K.meaning in IfOk result (λ blob. IfText (delegated_text credentials.now mode)
         (λ text. c.seals context.new ((c.counts context.new).sealed - 1) text blob)) }
     ensures acts { OnOk result (acts.new ≡ record acts.old { sealed = true }) }
-    ensures ok { let c = either N.REQUESTS N.meaning K.meaning in OnOk result (context.new ≡ c.counted context.old (one_sealed (c.counts context.old))) }
-    ensures count { let c = either N.REQUESTS N.meaning K.meaning in OnOk result (c.counts context.new ≡ one_sealed (c.counts context.old)) }
+    ensures ok { let c = either N.REQUESTS N.meaning K.meaning in
+        OnOk result (context.new ≡ c.counted context.old (one_sealed (c.counts context.old))) }
+    ensures count { let c = either N.REQUESTS N.meaning K.meaning in
+        OnOk result (c.counts context.new ≡ one_sealed (c.counts context.old)) }
     ensures err { OnErr result (context.new ≡ context.old) }
     ensures err_acts { OnErr result (acts.new ≡ acts.old) }
     ensures plain { IfErr result (λ error. error.nstatus ≡ None) }
@@ -72,7 +74,8 @@ fn deliver<N: Mechanism, K: Mechanism>(
     ensures blob { let c = either N.REQUESTS N.meaning K.meaning in IfOk result (λ blob. IfText (delegated_text credentials.now mode)
         (λ text. c.seals context.new ((c.counts context.new).sealed - 1) text blob)) }
     ensures plain { IfErr result (λ error. error.nstatus ≡ None) }
-    ensures cause { IfErr result (λ error. error.error_type ≢ ErrorKind.InsufficientMemory → OpenedCause (either N.REQUESTS N.meaning K.meaning)
+    ensures cause { IfErr result (λ error. error.error_type ≢ ErrorKind.InsufficientMemory →
+        OpenedCause (either N.REQUESTS N.meaning K.meaning)
         acts.new.checked context.new blob.now proof.now (delegated_text credentials.now mode) error.error_type) }
 {
     match opens_to(context, acts, blob, proof) {

@@ -41,7 +41,8 @@ fn initialize<N: Mechanism, K: Mechanism>(
     service_principal_name: &Text,
     token: &Option<Bytes>,
 ) -> Result<Progressing, Error>
-    ensures step { (either N.REQUESTS N.meaning K.meaning).steps context.old (client_args credentials_handle.now service_principal_name.now token.now) (answer_of result) context.new }
+    ensures step { (either N.REQUESTS N.meaning K.meaning).steps context.old
+        (client_args credentials_handle.now service_principal_name.now token.now) (answer_of result) context.new }
     ensures plain { IfErr result (λ error. error.nstatus ≡ None) }
 {
     context.initialize_security_context(&InitializeSecurityContext {
@@ -65,7 +66,8 @@ impl<N: Mechanism, K: Mechanism> CredSspClient<N, K> {
             self.old.output ≡ [] → ClientGoes c start d result self.new }
         ensures step { let c = either N.REQUESTS N.meaning K.meaning in (start : ClientView (SspiContext N K)) (d : TsRequest) →
             d.nego_tokens ≡ request.nego_tokens → start.target ≡ self.old.target →
-            IfContext self.old.context (Begun c start.context start.handle (ForClient start.mode) purposes.Outbound (Some start.credentials) self.old.handle) →
+            IfContext self.old.context (Begun c start.context start.handle (ForClient start.mode) purposes.Outbound
+            (Some start.credentials) self.old.handle) →
             HasStepped c start d 0 [] result self.new }
         ensures cause { IfErr result (λ error. error.error_type ≢ ErrorKind.InsufficientMemory →
             NegoCause (either N.REQUESTS N.meaning K.meaning) self.new.acts.status self.new error.error_type) }
@@ -105,8 +107,10 @@ impl<N: Mechanism, K: Mechanism> CredSspClient<N, K> {
             request ≡ record d { version = self.old.version } → IsReady c start d self.old → self.old.state ≡ CredSspState.NegoToken →
             self.old.output ≡ [] → StepsTo c start d tries log (answers.Ask q) self.old →
             OnErr result (self.new.acts.status ≡ None → is_waiting_in c self.new.context ≡ true →
-            IsUnderway c start d self.new × StepsTo c start d (tries + 1) (record { question = q; reply = reply.now } ∷ log) (answers.Ask q) self.new) }
-        ensures falls { let c = either N.REQUESTS N.meaning K.meaning in OnSuspended result (left_in c self.new.context < left_in c self.old.context) }
+            IsUnderway c start d self.new
+            × StepsTo c start d (tries + 1) (record { question = q; reply = reply.now } ∷ log) (answers.Ask q) self.new) }
+        ensures falls { let c = either N.REQUESTS N.meaning K.meaning in
+            OnSuspended result (left_in c self.new.context < left_in c self.old.context) }
         ensures negotiated { self.new.acts.negotiated ≡ true }
         ensures cause { IfErr result (λ error. error.error_type ≢ ErrorKind.InsufficientMemory →
             NegoCause (either N.REQUESTS N.meaning K.meaning) self.new.acts.status self.new error.error_type) }
@@ -133,15 +137,18 @@ impl<N: Mechanism, K: Mechanism> CredSspClient<N, K> {
         ensures same { SameClient (either N.REQUESTS N.meaning K.meaning) self.old self.new }
         ensures turn { let c = either N.REQUESTS N.meaning K.meaning in (start : ClientView (SspiContext N K)) (d : TsRequest) →
             request ≡ record d { version = self.old.version } → IsReady c start d self.old → self.old.state ≡ CredSspState.NegoToken →
-            self.old.output ≡ [] → OnAsk (answer_of progress) (is_waiting_in c self.old.context ≡ true) → ClientGoes c start d result self.new }
-        ensures step { let c = either N.REQUESTS N.meaning K.meaning in (start : ClientView (SspiContext N K)) (d : TsRequest) (tries : ℕ) (log : List Asked) →
+            self.old.output ≡ [] → OnAsk (answer_of progress) (is_waiting_in c self.old.context ≡ true) →
+            ClientGoes c start d result self.new }
+        ensures step { let c = either N.REQUESTS N.meaning K.meaning in
+            (start : ClientView (SspiContext N K)) (d : TsRequest) (tries : ℕ) (log : List Asked) →
             StepsTo c start d tries log (answer_of progress) self.old → HasStepped c start d tries log result self.new }
         ensures refused { OnErr result (self.new.acts.status ≡ None →
             (self.new ≡ record self.old { kept = self.new.kept }) × IsErr progress) }
         ensures kept { OnErr result (self.new.acts.status ≡ None →
             is_waiting_in (either N.REQUESTS N.meaning K.meaning) self.new.context ≡ true → self.new.kept ≡ Some request) }
         ensures negotiated { self.new.acts.negotiated ≡ true }
-        ensures falls { let c = either N.REQUESTS N.meaning K.meaning in (n : ℕ) → OnAsk (answer_of progress) (left_in c self.old.context < n) →
+        ensures falls { let c = either N.REQUESTS N.meaning K.meaning in (n : ℕ) →
+            OnAsk (answer_of progress) (left_in c self.old.context < n) →
             OnSuspended result (left_in c self.new.context < n) }
         ensures cause { IfErr result (λ error. error.error_type ≢ ErrorKind.InsufficientMemory →
             NegoCause (either N.REQUESTS N.meaning K.meaning) self.new.acts.status self.new error.error_type) }

@@ -121,7 +121,8 @@ impl<N: Mechanism, K: Mechanism> SspiContext<N, K> {
         ensures unused { let c = either N.REQUESTS N.meaning K.meaning in IsUnused (c.counts self.old) → IsUnused (c.counts self.new) }
         ensures plain { IfErr result (λ error. error.nstatus ≡ None) }
         ensures cause { IfErr result (λ error. error.error_type ≢ ErrorKind.InsufficientMemory →
-            (either N.REQUESTS N.meaning K.meaning).refuses self.old (ToAcquire credential_use (option_copied auth_data.entry)) error.error_type) }
+            (either N.REQUESTS N.meaning K.meaning).refuses self.old (ToAcquire credential_use
+            (option_copied auth_data.entry)) error.error_type) }
     {
         match self {
             SspiContext::Negotiate(negotiation) => {
@@ -286,7 +287,8 @@ impl<N: Mechanism, K: Mechanism> SspiContext<N, K> {
             IfOk result (λ text. c.opens self.new ((c.counts self.new).unsealed - 1) blob.now text.items) }
         ensures ok { let c = either N.REQUESTS N.meaning K.meaning in
             OnOk result (self.new ≡ c.counted self.old (one_unsealed (c.counts self.old))) }
-        ensures count { let c = either N.REQUESTS N.meaning K.meaning in OnOk result (c.counts self.new ≡ one_unsealed (c.counts self.old)) }
+        ensures count { let c = either N.REQUESTS N.meaning K.meaning in
+            OnOk result (c.counts self.new ≡ one_unsealed (c.counts self.old)) }
         ensures permitted { OnOk result ((either N.REQUESTS N.meaning K.meaning).permits self.old (ToUnseal blob.now)) }
         ensures err { OnErr result (self.new ≡ self.old) }
         ensures plain { IfErr result (λ error. error.nstatus ≡ None) }

@@ -33,8 +33,10 @@ pub fn opens_to<N: Mechanism, K: Mechanism>(
     proof: &[u8],
 ) -> Result<bool, Error>
     ensures acts { OnOk result (acts.new ≡ record acts.old { checked = true }) }
-    ensures ok { let c = either N.REQUESTS N.meaning K.meaning in OnOk result (context.new ≡ c.counted context.old (one_unsealed (c.counts context.old))) }
-    ensures count { let c = either N.REQUESTS N.meaning K.meaning in OnOk result (c.counts context.new ≡ one_unsealed (c.counts context.old)) }
+    ensures ok { let c = either N.REQUESTS N.meaning K.meaning in
+        OnOk result (context.new ≡ c.counted context.old (one_unsealed (c.counts context.old))) }
+    ensures count { let c = either N.REQUESTS N.meaning K.meaning in
+        OnOk result (c.counts context.new ≡ one_unsealed (c.counts context.old)) }
     ensures same { let c = either N.REQUESTS N.meaning K.meaning in IfOk result (λ same. IsTrue same →
         c.opens context.new ((c.counts context.new).unsealed - 1) blob.now proof.now) }
     ensures other { let c = either N.REQUESTS N.meaning K.meaning in IfOk result (λ same. same ≡ false →

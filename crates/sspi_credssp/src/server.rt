@@ -1,27 +1,17 @@
 ghost use Rattle.std.specs.Prelude.{◌≡◌, ◌≢◌, [], None, true, false, IsSome, IsErr, IfErr, OnOk, OnErr};
 ghost use Rattle.sspi_types.specs.declared.credential_use.CredentialUse.TheVariants as purposes;
 ghost use Rattle.sspi_credssp.specs.Acts.{no_acts};
-ghost use Rattle.sspi_credssp.specs.Begun.{Begun, IfContext, MadeOr};
+ghost use Rattle.sspi_credssp.specs.Begun.{Begun, IfContext, OnContext, MadeOr};
 ghost use Rattle.sspi_credssp.specs.Context.{either};
 ghost use Rattle.sspi_credssp.specs.Counts.{IsUnusedIn};
-    ghost use Rattle.sspi_credssp.specs.ServerAsks.{calls_in, look_ups_at};
-    ghost use Rattle.sspi_credssp.specs.ServerCause.{ServerCause, MakeCause, StateCause};
-    ghost use Rattle.sspi_credssp.specs.ServerStep.{HasAcceptedTurn, server_setting};
-    ghost use Rattle.sspi_credssp.specs.ServerTurn.{ServerGoes, IsReady, BeginRefused};
-
-    /// Takes the client's message and makes the server's next one, or reads the credentials that end the exchange.
-    ///
-    /// Where there is no context yet it is made first; a negotiation is made with the list of the proxy, which is asked for it
-    /// at no other time. At the end of the authentication the proxy is asked for the peer, once.
-    ///
-    /// Refused, in this order: `InternalError` where the proxy's list failed; with the kinds of a new context;
-    /// `DowngradeDetected` where no version of the client is noted yet and this one is below the least, which then is not
-    /// noted; `MessageAltered` where the client changes its version; in
+ghost use Rattle.sspi_credssp.specs.Noted.{default_least, differs, is_old, noted_with, VersionStops};
+ghost use Rattle.sspi_credssp.specs.Peers.{list_calls, lists_in};
+ghost use Rattle.sspi_credssp.specs.Proxy.{IsAsked, HasAsked, IsLater};
 
 use crate::acts::Acts;
 use crate::context::SspiContext;
 use crate::mode::ServerMode;
-        ensures heeded { ServerHeeds (either N.REQUESTS N.meaning K.meaning) self.old ts_request result self.new }
+use crate::peer_version::{DEFAULT_LEAST_VERSION, note_version};
 use crate::peers::list_peers;
 use crate::proxy::CredentialsProxy;
 use crate::request::at_version;
@@ -87,7 +77,8 @@ impl<N, K, C> CredSspServer<N, K, C> {
         client_mode: ServerMode,
     ) -> CredSspServer<N, K, C>
         ensures fresh { IsFreshServer result }
-        ensures values { (result.public_key ≡ public_key.items) × (result.proxy ≡ credentials) × (result.version ≡ 6) × (result.least ≡ default_least) × (result.mode ≡ client_mode) }
+        ensures values { (result.public_key ≡ public_key.items) × (result.proxy ≡ credentials) × (result.version ≡ 6)
+            × (result.least ≡ default_least) × (result.mode ≡ client_mode) }
     {
         CredSspServer::new_with_version(alloc, public_key, credentials, 6, client_mode)
     }
@@ -153,21 +144,19 @@ impl<N, K, C> CredSspServer<N, K, C> {
 impl<N: Mechanism, K: Mechanism, C: CredentialsProxy> CredSspServer<N, K, C> {
     ghost use Rattle.sspi_credssp.specs.Heeded.{ServerHeeds};
     ghost use Rattle.sspi_credssp.specs.Server.{ServerView};
-            (Begun c self.old.context self.old.handle (server_setting C.meaning self.old) purposes.Inbound None self.new.handle)) }
-        ensures passed { OnOk result (IsSome self.new.context × (differs self.old.noted version ≡ false)
-            × (is_old self.old.least self.old.noted version ≡ false)) }
-        ensures known { OnOk result (IsSome self.new.noted) }
-        ensures refused { OnErr result (BeginRefused (either N.REQUESTS N.meaning K.meaning) self.old version self.new) }
-        ensures err { OnErr result (self.new ≡ record self.old { proxy = self.new.proxy; context = self.new.context; handle = self.new.handle }) }
-        ensures altered { differs self.old.noted version ≡ true → IsErr result × (self.new ≡ self.old) }
-        ensures unmade { self.new.context ≡ None → self.new ≡ record self.old { proxy = self.new.proxy } }
-        ensures cause { let c = either N.REQUESTS N.meaning K.meaning in IfErr result (λ error. error.error_type ≢ ErrorKind.InsufficientMemory →
-            MadeOr self.old.context self.new.context (MakeCause c C.meaning self.old.mode self.old.proxy self.new.proxy error.error_type)
-            (VersionStops self.old.least self.old.noted version error.error_type ⊥)) }
-        ensures exact { IfErr result (λ error. IsSome self.new.context → is_old self.old.least self.old.noted version ≡ true →
-            error.error_type ≡ ErrorKind.DowngradeDetected) }
-        ensures proxy { IsAsked C.meaning (lists_in self.old.context self.old.mode) self.old.proxy self.new.proxy }
-        ensures asked { OnOk result (HasAsked C.meaning (lists_in self.old.context self.old.mode) self.old.proxy self.new.proxy) }
+    ghost use Rattle.sspi_credssp.specs.ServerAsks.{calls_in, look_ups_at};
+    ghost use Rattle.sspi_credssp.specs.ServerCause.{ServerCause, MakeCause, StateCause};
+    ghost use Rattle.sspi_credssp.specs.ServerStep.{HasAcceptedTurn, MakesAlone, server_setting};
+    ghost use Rattle.sspi_credssp.specs.ServerTurn.{ServerGoes, IsReady, BeginRefused};
+
+    /// Takes the client's message and makes the server's next one, or reads the credentials that end the exchange.
+    ///
+    /// Where there is no context yet it is made first; a negotiation is made with the list of the proxy, which is asked for it
+    /// at no other time. At the end of the authentication the proxy is asked for the peer, once.
+    ///
+    /// Refused, in this order: `InternalError` where the proxy's list failed; with the kinds of a new context;
+    /// `DowngradeDetected` where no version of the client is noted yet and this one is below the least, which then is not
+    /// noted; `MessageAltered` where the client changes its version; in
     /// the authentication with the kinds of the context, `LogonDenied` where the look-up of the peer failed, `NoCredentials`
     /// where it found nobody, `InvalidToken` where the authentication ended with neither a token nor a proof,
     /// `InternalError` at another status of the context; in an exchange `InvalidToken` where the proof is absent, the nonce
@@ -183,21 +172,11 @@ impl<N: Mechanism, K: Mechanism, C: CredentialsProxy> CredSspServer<N, K, C> {
         ensures plain { IfErr result (λ refusal. refusal.error.nstatus ≡ None) }
         ensures altered { differs self.old.noted ts_request.version ≡ true →
             IsErr result × (self.new ≡ record self.old { acts = no_acts; output = [] }) }
-            (Begun c self.old.context self.old.handle (server_setting C.meaning self.old) purposes.Inbound None self.new.handle)) }
-        ensures passed { OnOk result (IsSome self.new.context × (differs self.old.noted version ≡ false)
-            × (is_old self.old.least self.old.noted version ≡ false)) }
-        ensures known { OnOk result (IsSome self.new.noted) }
-        ensures refused { OnErr result (BeginRefused (either N.REQUESTS N.meaning K.meaning) self.old version self.new) }
-        ensures err { OnErr result (self.new ≡ record self.old { proxy = self.new.proxy; context = self.new.context; handle = self.new.handle }) }
-        ensures altered { differs self.old.noted version ≡ true → IsErr result × (self.new ≡ self.old) }
-        ensures unmade { self.new.context ≡ None → self.new ≡ record self.old { proxy = self.new.proxy } }
-        ensures cause { let c = either N.REQUESTS N.meaning K.meaning in IfErr result (λ error. error.error_type ≢ ErrorKind.InsufficientMemory →
-            MadeOr self.old.context self.new.context (MakeCause c C.meaning self.old.mode self.old.proxy self.new.proxy error.error_type)
-            (VersionStops self.old.least self.old.noted version error.error_type ⊥)) }
-        ensures exact { IfErr result (λ error. IsSome self.new.context → is_old self.old.least self.old.noted version ≡ true →
-            error.error_type ≡ ErrorKind.DowngradeDetected) }
-        ensures proxy { IsAsked C.meaning (lists_in self.old.context self.old.mode) self.old.proxy self.new.proxy }
-        ensures asked { OnOk result (HasAsked C.meaning (lists_in self.old.context self.old.mode) self.old.proxy self.new.proxy) }
+        ensures made { MakesAlone (either N.REQUESTS N.meaning K.meaning) C.meaning self.old self.new }
+        ensures heeded { ServerHeeds (either N.REQUESTS N.meaning K.meaning) self.old ts_request result self.new }
+        ensures unmade { self.new.context ≡ None → self.new ≡ record self.old { proxy = self.new.proxy; acts = no_acts; output = [] } }
+        ensures proxy { IsAsked C.meaning (calls_in self.old self.new.acts.status) self.old.proxy self.new.proxy }
+        ensures asked { OnOk result (HasAsked C.meaning (calls_in self.old self.new.acts.status) self.old.proxy self.new.proxy) }
     {
         self.forget_last_call();
         match self.begin(ts_request.version) {
@@ -215,18 +194,24 @@ impl<N: Mechanism, K: Mechanism, C: CredentialsProxy> CredSspServer<N, K, C> {
 
     fn begin(&mut self, version: u32) -> Result<(), Error>
         ensures frame { self.new ≡ record self.old { proxy = self.new.proxy; context = self.new.context; handle = self.new.handle; noted = self.new.noted } }
-        ensures ready { let c = either N.REQUESTS N.meaning K.meaning in OnOk result ((start : ServerView (SspiContext N K) C) (d : TsRequest) →
+        ensures ready { let c = either N.REQUESTS N.meaning K.meaning in
+            OnOk result ((start : ServerView (SspiContext N K) C) (d : TsRequest) →
             d.version ≡ version → self.old ≡ record start { acts = no_acts; output = [] } → IsReady c start d self.new) }
         ensures begun { let c = either N.REQUESTS N.meaning K.meaning in OnOk result (IfContext self.new.context
             (Begun c self.old.context self.old.handle (server_setting C.meaning self.old) purposes.Inbound None self.new.handle)) }
+        ensures made { let c = either N.REQUESTS N.meaning K.meaning in OnContext self.new.context
+            (Begun c self.old.context self.old.handle (server_setting C.meaning self.old) purposes.Inbound None self.new.handle) }
+        ensures fresh { self.old.context ≡ None → self.old.state ≡ CredSspState.NegoToken }
         ensures passed { OnOk result (IsSome self.new.context × (differs self.old.noted version ≡ false)
             × (is_old self.old.least self.old.noted version ≡ false)) }
         ensures known { OnOk result (IsSome self.new.noted) }
         ensures refused { OnErr result (BeginRefused (either N.REQUESTS N.meaning K.meaning) self.old version self.new) }
-        ensures err { OnErr result (self.new ≡ record self.old { proxy = self.new.proxy; context = self.new.context; handle = self.new.handle }) }
+        ensures err { OnErr result
+            (self.new ≡ record self.old { proxy = self.new.proxy; context = self.new.context; handle = self.new.handle }) }
         ensures altered { differs self.old.noted version ≡ true → IsErr result × (self.new ≡ self.old) }
         ensures unmade { self.new.context ≡ None → self.new ≡ record self.old { proxy = self.new.proxy } }
-        ensures cause { let c = either N.REQUESTS N.meaning K.meaning in IfErr result (λ error. error.error_type ≢ ErrorKind.InsufficientMemory →
+        ensures cause { let c = either N.REQUESTS N.meaning K.meaning in
+            IfErr result (λ error. error.error_type ≢ ErrorKind.InsufficientMemory →
             MadeOr self.old.context self.new.context (MakeCause c C.meaning self.old.mode self.old.proxy self.new.proxy error.error_type)
             (VersionStops self.old.least self.old.noted version error.error_type ⊥)) }
         ensures exact { IfErr result (λ error. IsSome self.new.context → is_old self.old.least self.old.noted version ≡ true →
@@ -255,7 +240,8 @@ impl<N: Mechanism, K: Mechanism, C: CredentialsProxy> CredSspServer<N, K, C> {
         ensures err { OnErr result (self.new ≡ record self.old { proxy = self.new.proxy }) }
         ensures noted { self.old.noted ≡ None }
         ensures state { self.old.state ≡ CredSspState.NegoToken }
-        ensures cause { let c = either N.REQUESTS N.meaning K.meaning in IfErr result (λ error. error.error_type ≢ ErrorKind.InsufficientMemory →
+        ensures cause { let c = either N.REQUESTS N.meaning K.meaning in
+            IfErr result (λ error. error.error_type ≢ ErrorKind.InsufficientMemory →
             MakeCause c C.meaning self.old.mode self.old.proxy self.new.proxy error.error_type) }
         ensures proxy { IsAsked C.meaning (list_calls self.old.mode) self.old.proxy self.new.proxy }
         ensures asked { OnOk result (HasAsked C.meaning (list_calls self.old.mode) self.old.proxy self.new.proxy) }
@@ -289,15 +275,18 @@ impl<N: Mechanism, K: Mechanism, C: CredentialsProxy> CredSspServer<N, K, C> {
             ServerGoes c start d result self.new }
         ensures step { let c = either N.REQUESTS N.meaning K.meaning in (start : ServerView (SspiContext N K) C) (d : TsRequest) →
             d.nego_tokens ≡ request.nego_tokens → IsLater C.meaning start.proxy self.old.proxy →
-            IfContext self.old.context (Begun c start.context start.handle (server_setting C.meaning start) purposes.Inbound None self.old.handle) →
+            IfContext self.old.context (Begun c start.context start.handle
+            (server_setting C.meaning start) purposes.Inbound None self.old.handle) →
             HasAcceptedTurn c C.meaning start d result self.new }
         ensures cause { let c = either N.REQUESTS N.meaning K.meaning in (start : ServerView (SspiContext N K) C) (d : TsRequest) →
             request ≡ record d { version = self.old.version } → IsLater C.meaning start.proxy self.old.proxy →
-            IfContext self.old.context (Begun c start.context start.handle (server_setting C.meaning start) purposes.Inbound None self.old.handle) →
+            IfContext self.old.context (Begun c start.context start.handle
+            (server_setting C.meaning start) purposes.Inbound None self.old.handle) →
             IfErr result (λ refusal. refusal.error.error_type ≢ ErrorKind.InsufficientMemory →
             StateCause c C.meaning self.old.state start d self.new refusal.error.error_type) }
         ensures plain { IfErr result (λ refusal. refusal.error.nstatus ≡ None) }
         ensures begun { IsSome self.new.context }
+        ensures negotiated { self.old.state ≡ CredSspState.NegoToken → self.new.acts.negotiated ≡ true }
         ensures proxy { IsAsked C.meaning (look_ups_at self.new.acts.status) self.old.proxy self.new.proxy }
         ensures asked { OnOk result (HasAsked C.meaning (look_ups_at self.new.acts.status) self.old.proxy self.new.proxy) }
     {

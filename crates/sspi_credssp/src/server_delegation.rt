@@ -49,8 +49,10 @@ fn seal_proof<N: Mechanism, K: Mechanism>(
     ensures blob { let c = either N.REQUESTS N.meaning K.meaning in IfOk result (λ blob.
         c.seals context.new ((c.counts context.new).sealed - 1) proof.now blob) }
     ensures acts { OnOk result (acts.new ≡ record acts.old { proved = true }) }
-    ensures ok { let c = either N.REQUESTS N.meaning K.meaning in OnOk result (context.new ≡ c.counted context.old (one_sealed (c.counts context.old))) }
-    ensures count { let c = either N.REQUESTS N.meaning K.meaning in OnOk result (c.counts context.new ≡ one_sealed (c.counts context.old)) }
+    ensures ok { let c = either N.REQUESTS N.meaning K.meaning in
+        OnOk result (context.new ≡ c.counted context.old (one_sealed (c.counts context.old))) }
+    ensures count { let c = either N.REQUESTS N.meaning K.meaning in
+        OnOk result (c.counts context.new ≡ one_sealed (c.counts context.old)) }
     ensures err { OnErr result (context.new ≡ context.old) }
     ensures err_acts { OnErr result (acts.new ≡ acts.old) }
     ensures plain { IfErr result (λ error. error.nstatus ≡ None) }
@@ -83,7 +85,8 @@ fn answer_proof<N: Mechanism, K: Mechanism>(
     ensures blob { let c = either N.REQUESTS N.meaning K.meaning in IfOk result (λ answer.
         c.seals context.new ((c.counts context.new).sealed - 1) proof.now answer) }
     ensures plain { IfErr result (λ error. error.nstatus ≡ None) }
-    ensures cause { IfErr result (λ error. error.error_type ≢ ErrorKind.InsufficientMemory → ProofCause (either N.REQUESTS N.meaning K.meaning)
+    ensures cause { IfErr result (λ error. error.error_type ≢ ErrorKind.InsufficientMemory →
+        ProofCause (either N.REQUESTS N.meaning K.meaning)
         acts.new.checked context.new blob.now expected.now proof.now error.error_type) }
 {
     match opens_to(context, acts, blob, expected) {
@@ -153,7 +156,8 @@ impl<N: Mechanism, K: Mechanism, C: CredentialsProxy> CredSspServer<N, K, C> {
         ensures turn { let c = either N.REQUESTS N.meaning K.meaning in (start : ServerView (SspiContext N K) C) (d : TsRequest) →
             request ≡ record d { version = self.old.version } → IsReady c start d self.old → self.old.state ≡ CredSspState.AuthInfo →
             self.old.output ≡ [] → ServerGoes c start d result self.new }
-        ensures cause { let c = either N.REQUESTS N.meaning K.meaning in IfErr result (λ refusal. refusal.error.error_type ≢ ErrorKind.InsufficientMemory →
+        ensures cause { let c = either N.REQUESTS N.meaning K.meaning in
+            IfErr result (λ refusal. refusal.error.error_type ≢ ErrorKind.InsufficientMemory →
             BlobStops request.auth_info refusal.error.error_type
             (λ blob. OpenedCause c self.new.acts.opened self.new.context blob refusal.error.error_type)) }
         ensures plain { IfErr result (λ refusal. refusal.error.nstatus ≡ None) }
@@ -174,7 +178,8 @@ impl<N: Mechanism, K: Mechanism, C: CredentialsProxy> CredSspServer<N, K, C> {
         requires acts { self.old.acts ≡ no_acts }
         requires begun { IsSome self.old.context }
         ensures opens { ServerOpens (either N.REQUESTS N.meaning K.meaning) self.old auth_info.now result self.new }
-        ensures cause { let c = either N.REQUESTS N.meaning K.meaning in IfErr result (λ error. error.error_type ≢ ErrorKind.InsufficientMemory →
+        ensures cause { let c = either N.REQUESTS N.meaning K.meaning in
+            IfErr result (λ error. error.error_type ≢ ErrorKind.InsufficientMemory →
             BlobStops auth_info.now error.error_type (λ blob. OpenedCause c self.new.acts.opened self.new.context blob error.error_type)) }
         ensures plain { IfErr result (λ error. error.nstatus ≡ None) }
         ensures begun { IsSome self.new.context }

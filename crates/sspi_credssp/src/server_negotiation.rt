@@ -56,7 +56,8 @@ fn accept<N: Mechanism, K: Mechanism>(
     credentials_handle: &Option<CredentialsBuffers>,
     token: &Option<Bytes>,
 ) -> Result<Step, Error>
-    ensures step { (either N.REQUESTS N.meaning K.meaning).accepts context.old (server_args credentials_handle.now token.now) result context.new }
+    ensures step { (either N.REQUESTS N.meaning K.meaning).accepts context.old
+        (server_args credentials_handle.now token.now) result context.new }
     ensures plain { IfErr result (λ error. error.nstatus ≡ None) }
 {
     context.accept_security_context(&AcceptSecurityContext {
@@ -133,13 +134,15 @@ fn identify<N: Mechanism, K: Mechanism, C: CredentialsProxy>(
     context: &mut SspiContext<N, K>,
     proxy: &mut C,
 ) -> Result<(), Error>
-    ensures identified { OnOk result (IsIdentified (either N.REQUESTS N.meaning K.meaning) (C.meaning.told proxy.old) context.old context.new) }
+    ensures identified { OnOk result (IsIdentified (either N.REQUESTS N.meaning K.meaning)
+        (C.meaning.told proxy.old) context.old context.new) }
     ensures counts { let c = either N.REQUESTS N.meaning K.meaning in c.counts context.new ≡ c.counts context.old }
     ensures err { OnErr result (context.new ≡ context.old) }
     ensures proxy { IsAsked C.meaning 1 proxy.old proxy.new }
     ensures asked { OnOk result (HasAsked C.meaning 1 proxy.old proxy.new) }
     ensures plain { IfErr result (λ error. error.nstatus ≡ None) }
-    ensures cause { IfErr result (λ error. error.error_type ≢ ErrorKind.InsufficientMemory → IdentifyCause (either N.REQUESTS N.meaning K.meaning)
+    ensures cause { IfErr result (λ error. error.error_type ≢ ErrorKind.InsufficientMemory →
+        IdentifyCause (either N.REQUESTS N.meaning K.meaning)
         context.old (C.meaning.told proxy.old) (C.meaning.faults proxy.old) (C.meaning.faults proxy.new) error.error_type) }
 {
     let names = match context.query_context_names() {
@@ -176,15 +179,18 @@ impl<N: Mechanism, K: Mechanism, C: CredentialsProxy> CredSspServer<N, K, C> {
             self.old.output ≡ [] → ServerGoes c start d result self.new }
         ensures step { let c = either N.REQUESTS N.meaning K.meaning in (start : ServerView (SspiContext N K) C) (d : TsRequest) →
             d.nego_tokens ≡ request.nego_tokens → IsLater C.meaning start.proxy self.old.proxy →
-            IfContext self.old.context (Begun c start.context start.handle (server_setting C.meaning start) purposes.Inbound None self.old.handle) →
+            IfContext self.old.context (Begun c start.context start.handle
+            (server_setting C.meaning start) purposes.Inbound None self.old.handle) →
             HasAcceptedTurn c C.meaning start d result self.new }
         ensures cause { let c = either N.REQUESTS N.meaning K.meaning in (start : ServerView (SspiContext N K) C) (d : TsRequest) →
             request ≡ record d { version = self.old.version } → IsLater C.meaning start.proxy self.old.proxy →
-            IfContext self.old.context (Begun c start.context start.handle (server_setting C.meaning start) purposes.Inbound None self.old.handle) →
+            IfContext self.old.context (Begun c start.context start.handle
+            (server_setting C.meaning start) purposes.Inbound None self.old.handle) →
             IfErr result (λ refusal. refusal.error.error_type ≢ ErrorKind.InsufficientMemory →
             NegoCause c C.meaning self.new.acts.status start d self.new refusal.error.error_type) }
         ensures plain { IfErr result (λ refusal. refusal.error.nstatus ≡ None) }
         ensures begun { IsSome self.new.context }
+        ensures negotiated { self.new.acts.negotiated ≡ true }
         ensures proxy { IsAsked C.meaning (look_ups_at self.new.acts.status) self.old.proxy self.new.proxy }
         ensures asked { OnOk result (HasAsked C.meaning (look_ups_at self.new.acts.status) self.old.proxy self.new.proxy) }
     {
@@ -203,17 +209,20 @@ impl<N: Mechanism, K: Mechanism, C: CredentialsProxy> CredSspServer<N, K, C> {
             self.old.output ≡ [] → Answered c start d result self.new }
         ensures step { let c = either N.REQUESTS N.meaning K.meaning in (start : ServerView (SspiContext N K) C) (d : TsRequest) →
             d.nego_tokens ≡ request.now.nego_tokens → IsLater C.meaning start.proxy self.old.proxy →
-            IfContext self.old.context (Begun c start.context start.handle (server_setting C.meaning start) purposes.Inbound None self.old.handle) →
+            IfContext self.old.context (Begun c start.context start.handle
+            (server_setting C.meaning start) purposes.Inbound None self.old.handle) →
             HasAccepted c C.meaning start d result self.new }
         ensures state { OnErr result (self.new.state ≡ self.old.state) }
         ensures version { self.new.version ≡ self.old.version }
         ensures cause { let c = either N.REQUESTS N.meaning K.meaning in (start : ServerView (SspiContext N K) C) (d : TsRequest) →
             request.now ≡ record d { version = self.old.version } → IsLater C.meaning start.proxy self.old.proxy →
-            IfContext self.old.context (Begun c start.context start.handle (server_setting C.meaning start) purposes.Inbound None self.old.handle) →
+            IfContext self.old.context (Begun c start.context start.handle
+            (server_setting C.meaning start) purposes.Inbound None self.old.handle) →
             IfErr result (λ error. error.error_type ≢ ErrorKind.InsufficientMemory →
             NegoCause c C.meaning self.new.acts.status start d self.new error.error_type) }
         ensures plain { IfErr result (λ error. error.nstatus ≡ None) }
         ensures begun { IsSome self.new.context }
+        ensures negotiated { self.new.acts.negotiated ≡ true }
         ensures proxy { IsAsked C.meaning (look_ups_at self.new.acts.status) self.old.proxy self.new.proxy }
         ensures asked { OnOk result (HasAsked C.meaning (look_ups_at self.new.acts.status) self.old.proxy self.new.proxy) }
     {
@@ -253,6 +262,7 @@ impl<N: Mechanism, K: Mechanism, C: CredentialsProxy> CredSspServer<N, K, C> {
             NegoCause c C.meaning (Some status) start d self.new error.error_type) }
         ensures plain { IfErr result (λ error. error.nstatus ≡ None) }
         ensures begun { IsSome self.new.context }
+        ensures negotiated { self.new.acts.negotiated ≡ true }
         ensures proxy { IsAsked C.meaning (look_ups_at self.new.acts.status) self.old.proxy self.new.proxy }
         ensures asked { OnOk result (HasAsked C.meaning (look_ups_at self.new.acts.status) self.old.proxy self.new.proxy) }
     {
@@ -287,7 +297,8 @@ impl<N: Mechanism, K: Mechanism, C: CredentialsProxy> CredSspServer<N, K, C> {
         ensures turn { let c = either N.REQUESTS N.meaning K.meaning in (start : ServerView (SspiContext N K) C) (d : TsRequest) →
             request.now ≡ record d { version = self.old.version } → IsReady c start d self.old → self.old.state ≡ CredSspState.NegoToken →
             IsOver self.old.acts.status → Answered c start d result self.new }
-        ensures step { let c = either N.REQUESTS N.meaning K.meaning in (start : ServerView (SspiContext N K) C) (token : Option (List ℕ)) (answer : Result Step Error) →
+        ensures step { let c = either N.REQUESTS N.meaning K.meaning in
+            (start : ServerView (SspiContext N K) C) (token : Option (List ℕ)) (answer : Result Step Error) →
             IsLater C.meaning start.proxy self.old.proxy →
             IfContext self.old.context (Accepted c C.meaning start self.old.handle token Unknown answer) →
             CompletedStep c C.meaning start self.old.handle token answer result self.new.context }
@@ -297,7 +308,8 @@ impl<N: Mechanism, K: Mechanism, C: CredentialsProxy> CredSspServer<N, K, C> {
         ensures state { OnErr result (self.new.state ≡ self.old.state) }
         ensures version { self.new.version ≡ self.old.version }
         ensures status { self.new.acts.status ≡ self.old.acts.status }
-        ensures cause { let c = either N.REQUESTS N.meaning K.meaning in (start : ServerView (SspiContext N K) C) (d : TsRequest) (status : SecurityStatus) →
+        ensures cause { let c = either N.REQUESTS N.meaning K.meaning in
+            (start : ServerView (SspiContext N K) C) (d : TsRequest) (status : SecurityStatus) →
             request.now ≡ record d { version = self.old.version } → IsLater C.meaning start.proxy self.old.proxy →
             HasCome c C.meaning Unknown status start d self.old →
             IfErr result (λ error. error.error_type ≢ ErrorKind.InsufficientMemory →

@@ -17,7 +17,7 @@ use Rattle.sspi_credssp.specs.Proxy.{ProxyMeaning, IsAsked, HasAsked}
 use Rattle.sspi_credssp.specs.Server.{ServerView}
 use Rattle.sspi_credssp.specs.ServerAsks.{calls_in}
 use Rattle.sspi_credssp.specs.ServerCause.{ServerCause}
-use Rattle.sspi_credssp.specs.ServerStep.{DoneStep, HasAccepted}
+use Rattle.sspi_credssp.specs.ServerStep.{DoneStep, HasAccepted, MakesAlone}
 use Rattle.sspi_credssp.specs.ServerTurn.{ServerTurn, HoldsIdentity, server_turn}
 use Rattle.sspi_delegate.specs.declared.answer.Delegation.{Delegation}
 use Rattle.sspi_delegate.specs.declared.answer.DelegateError.{DelegateError}
@@ -103,6 +103,7 @@ module _ {C : Type 0} (c : Meaning ContextSetting C) where
       pub heeds : ServerMeetsOld c old d new → error.error_type ≡ kinds.DowngradeDetected
       pub status : error.nstatus ≡ None
       pub step : HasAccepted c p {T = ServerState} old d (Err error) new
+      pub made : MakesAlone c p old new
 
     -- the server took d and came to this, by a step of its context where it authenticates; a refusal has its cause, and the
     -- end the identity whose credentials were opened

@@ -4,6 +4,7 @@
 //!   `specs/Client.antt` and `specs/Server.antt` have a definition for each row of their tables, `specs/Follows.antt` says what
 //!   comes of a plan, and `specs/Negotiate.antt` what a negotiation means. For now Kerberos counts as disabled (`new.rt`).
 //! - `negotiation_laws`: a negotiation is a context; packages never grow, the list stays, and MICs protect it.
+//! - `laws`: a package list says the same whether its names are read at once or one after the other.
 //! - `PackageListConfig`: which packages a list of names allows; `is_ip_text`: whether a peer is named by an IP address, which
 //!   Kerberos has no name for; `ProtocolConfig`, `NegotiateConfig`: what an end is made of; `NegotiatedProtocol`: the mechanism
 //!   in hand; `FALLBACK_ERROR_KINDS`: the refusals of Kerberos after which a client tries NTLM.

@@ -33,6 +33,6 @@ returns-in-Err-clause-server_history g c first history =
     server_stopped (either g.N.Mechanism.REQUESTS g.N.Mechanism.meaning g.K.Mechanism.meaning) g.C.CredentialsProxy.meaning
     first c.args.server.now c.process.new.self c.record_server-in-Err.new.server c.args.request
     c.in-Err.field-0.error c.in-Err.field-0.ts_request c.args.transcript.now.turns c.record_server-in-Err.new.transcript.turns history
-    c.in-Err.ensures.turn (record { cause = c.in-Err.ensures.cause; heeds = λ met. (c.in-Err.ensures.heeded.refuses met).0; status = c.in-Err.ensures.plain; step = c.in-Err.ensures.step })
+    c.in-Err.ensures.turn (record { cause = c.in-Err.ensures.cause; heeds = λ met. (c.in-Err.ensures.heeded.refuses met).0; status = c.in-Err.ensures.plain; step = c.in-Err.ensures.step; made = c.in-Err.ensures.made })
     c.in-Err.ensures.proxy
     c.record_server-in-Err.ensures.rest (rw (← c.in-Ok.ensures.turns, ← c.in-Ok-clone.ensures) c.record_server-in-Err.ensures.turn)

@@ -1,6 +1,8 @@
 use Rattle.std.proofs.Common.{◌≡◌, [], None, Err, true, false, refl, sym, ap, ◌∙◌, subst, rules}
+use Rattle.std.proofs.lemmas.Bool.{true≢false}
 use Rattle.sspi_types.specs.declared.credential_use.CredentialUse.TheVariants.{Inbound}
-use Rattle.sspi_credssp.specs.Begun.{Begun, IfContext, MadeOr}
+use Rattle.sspi_credssp.specs.declared.state.CredSspState.TheVariants.{NegoToken}
+use Rattle.sspi_credssp.specs.Begun.{Begun, IfContext, OnContext, MadeOr}
 use Rattle.sspi_credssp.specs.Context.{either}
 use Rattle.sspi_credssp.specs.Noted.{VersionStops, is_old}
 use Rattle.sspi_credssp.specs.Acts.{no_acts}
@@ -39,6 +41,19 @@ returns-in-Ok-clause-cause g c =
     server_cause_past it p c.args.self.now c.take-in-Ok.new.self c.args.ts_request _ _
     (search rules) (search rules) c.take-in-Ok.ensures.begun (search rules)
     (c.take-in-Ok.ensures.cause c.args.self.now c.args.ts_request (search rules) since begun)
+
+pub returns-in-Ok-clause-made : goal.returns-in-Ok-clause-made
+returns-in-Ok-clause-made g c = λ idle none.
+    let none_before : c.forget_last_call.new.self.context ≡ None = rw c.forget_last_call.ensures none in
+    let nego : c.begin.new.self.state ≡ NegoToken = ap (λ v. v.state) c.in-Ok.ensures.frame ∙ c.in-Ok.ensures.fresh none_before in
+    absurd (true≢false (sym (c.take-in-Ok.ensures.negotiated nego) ∙ idle))
+
+pub returns-in-Err-clause-made : goal.returns-in-Err-clause-made
+returns-in-Err-clause-made g c = λ idle none.
+    let it = either g.N.Mechanism.REQUESTS g.N.Mechanism.meaning g.K.Mechanism.meaning in
+    let p = g.C.CredentialsProxy.meaning in
+    subst (λ v. OnContext c.begin.new.self.context (Begun it v.context v.handle (server_setting p v) Inbound None c.begin.new.self.handle))
+    c.forget_last_call.ensures c.in-Err.ensures.made
 
 pub returns-in-Ok-clause-proxy : goal.returns-in-Ok-clause-proxy
 returns-in-Ok-clause-proxy g c =
