@@ -13,7 +13,7 @@ use Rattle.sspi_credssp.specs.declared.state.CredSspState.{CredSspState}
 use Rattle.sspi_credssp.specs.declared.state.CredSspState.TheVariants.{NegoToken}
 use Rattle.sspi_credssp.specs.declared.turn.Outcome.TheVariants as outcome
 use Rattle.sspi_credssp.specs.Acts.{no_acts, sealed_by, unsealed_by}
-use Rattle.sspi_credssp.specs.Begun.{Begun, IfContext}
+use Rattle.sspi_credssp.specs.Begun.{Begun, IfContext, OnContext}
 use Rattle.sspi_credssp.specs.Context.{ContextSetting, ForServer}
 use Rattle.sspi_credssp.specs.Counts.{IsUnusedIn, sealed_in, unsealed_in}
 use Rattle.sspi_credssp.specs.ErrorRequest.{error_request, version_back}
@@ -21,12 +21,16 @@ use Rattle.sspi_credssp.specs.Noted.{noted_with}
 use Rattle.sspi_credssp.specs.Proxy.{ProxyMeaning}
 use Rattle.sspi_credssp.specs.Server.{ServerView}
 use Rattle.sspi_credssp.specs.ServerStep.{OnStep}
-use Rattle.sspi_credssp.specs.ServerTurn.{BeginRefused, ServerTurn, UnlessMade, IsNew, is_made}
+use Rattle.sspi_credssp.specs.ServerTurn.{BeginRefused, ServerTurn, UnlessMade, IsNew, is_made, IsUnstepped}
 use Rattle.sspi_credssp.proofs.ServerReady.{not_yet}
 
 pub whatever : {T : Type 0} (r : Result T Error) (Q : Type 0) → Q → OnOk r Q
 whatever (Ok x) Q h = h
 whatever (Err e) Q h = tt
+
+pub there_or_not : {C : Type 0} (o : Option C) (Q : C → Type 0) → IfContext o Q → OnContext o Q
+there_or_not None Q h = tt
+there_or_not (Some m) Q h = h
 
 more_by_none : (n m : ℕ) (acts : Acts) → acts ≡ no_acts → n ≡ m → (n ≡ m + sealed_by acts) × (n ≡ m + unsealed_by acts)
 more_by_none n m acts idle same = (rw (idle, same) (omega arith), rw (idle, same) (omega arith))
@@ -35,6 +39,12 @@ module _ {C : Type 0} (c : Meaning ContextSetting C) where
   unmade_before : (o : Option C) (Q : C → Type 0) → IfContext o Q → UnlessMade c None o Q
   unmade_before None Q h = tt
   unmade_before (Some m) Q h = h
+
+  unless_map : (o o2 : Option C) (Q R : C → Type 0) → ((m : C) → Q m → R m) → UnlessMade c o o2 Q → UnlessMade c o o2 R
+  unless_map None None Q R more h = tt
+  unless_map None (Some m) Q R more h = more m h
+  unless_map (Some m) None Q R more h = h
+  unless_map (Some m) (Some m2) Q R more h = h
 
   back_again : (o : Option C) (noted : Option ℕ) (version own : ℕ) → noted ≡ None → version_back o noted version own ≡ version
   back_again None noted version own none = refl
@@ -69,6 +79,14 @@ module _ {C : Type 0} (c : Meaning ContextSetting C) where
           unsealed = λ su. fresh.1 ∙ rw none refl;
           bare = not_yet old.state _ state;
         }
+
+    -- what a server says of its last call is nothing of its context
+    new_still : (old new : ServerView C P) (acts : Acts) (output : List ℕ) (m : C) → IsNew c (record old { acts = acts; output = output }) new m → IsNew c old new m
+    new_still old new acts output m (is_made told begun) = is_made told begun
+
+    unstepped_still : (old new : ServerView C P) (acts : Acts) (output : List ℕ) → IsUnstepped c (record old { acts = acts; output = output }) new →
+        IsUnstepped c old new
+    unstepped_still old new acts output h = unless_map old.context new.context _ _ (new_still old new acts output) h
 
     -- the turn that such a call is
     pub begin_halted : (old new : ServerView C P) (d : TsRequest) (error : Error) (refusal : ServerError) (state : CredSspState) →
@@ -122,7 +140,7 @@ module _ {C : Type 0} (c : Meaning ContextSetting C) where
             sealed = λ su. (more_by_none _ _ new.acts idle (refused.sealed su)).0;
             unsealed = λ su. (more_by_none _ _ new.acts idle (refused.unsealed su)).1;
             bare = refused.bare;
-            unstepped = λ none. refused.unstepped;
+            unstepped = λ none. unstepped_still old new no_acts [] refused.unstepped;
             unanswered = λ none. ap (λ (v : ServerView C P). v.output) is;
           };
         })

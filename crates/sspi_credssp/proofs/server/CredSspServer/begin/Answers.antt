@@ -1,9 +1,9 @@
 use Rattle.std.proofs.Common.{◌≡◌, None, sym, subst, rules}
 use Rattle.sspi_types.specs.declared.credential_use.CredentialUse.TheVariants.{Inbound}
-use Rattle.sspi_credssp.specs.Begun.{Begun, IfContext}
+use Rattle.sspi_credssp.specs.Begun.{Begun, IfContext, OnContext}
 use Rattle.sspi_credssp.specs.Context.{either}
 use Rattle.sspi_credssp.specs.ServerStep.{server_setting}
-use Rattle.sspi_credssp.proofs.ServerBeginning.{new_refused, whatever}
+use Rattle.sspi_credssp.proofs.ServerBeginning.{new_refused, there_or_not, whatever}
 use Rattle.sspi_credssp.proofs.server.CredSspServer.begin.Goals as goal
 
 pub returns-in-Err-clause-cause : goal.returns-in-Err-clause-cause
@@ -18,6 +18,15 @@ returns-in-Ok-clause-begun g c =
     let now = c.args.self.now in
     whatever c.note_version-in-Ok.result _
     (subst (λ v. IfContext v.context (Begun it now.context now.handle (server_setting g.C.CredentialsProxy.meaning now) Inbound None v.handle)) (sym c.self-in-None.view_is) c.in-Ok.ensures.begun)
+
+pub returns-in-Ok-clause-made : goal.returns-in-Ok-clause-made
+returns-in-Ok-clause-made g c =
+    let it = either g.N.Mechanism.REQUESTS g.N.Mechanism.meaning g.K.Mechanism.meaning in
+    let now = c.args.self.now in
+    let setting = server_setting g.C.CredentialsProxy.meaning now in
+    let made = c.make_context.new.self in
+    subst (λ v. OnContext v.context (Begun it now.context now.handle setting Inbound None v.handle)) (sym c.self-in-None.view_is)
+    (there_or_not made.context (Begun it now.context now.handle setting Inbound None made.handle) c.in-Ok.ensures.begun)
 
 pub returns-in-Ok-clause-refused : goal.returns-in-Ok-clause-refused
 returns-in-Ok-clause-refused g c =
