@@ -17,7 +17,7 @@ use Rattle.sspi_credssp.specs.Peers.{list_calls, lists_in}
 use Rattle.sspi_credssp.specs.Proxy.{ProxyMeaning, HasAsked}
 use Rattle.sspi_credssp.specs.Server.{ServerView, IsFreshServer}
 use Rattle.sspi_credssp.specs.ServerAsks.{look_ups_at, calls_in}
-use Rattle.sspi_credssp.specs.ServerTurn.{ServerTurn, after_reply, after_status, server_state_after}
+use Rattle.sspi_credssp.specs.ServerTurn.{ServerTurn, after_reply, after_status, server_state_after, server_frame, server_turn}
 use Rattle.sspi_credssp.specs.Turn.{UnlessRefused, ServerFrame}
 use Rattle.sspi_credssp.proofs.Asked.{has_not_asked, has_asked_on, has_asked_as}
 use Rattle.sspi_credssp.specs.Shown.{ShowsAnswer, ShowsNegoBack, ShowsOver, ShowsStateBack, server_shown}
@@ -74,7 +74,7 @@ in_later_part (Some m) mode None Final later first stepped = omega arith
 module _ {C : Type 0} (c : Meaning ContextSetting C) where
   over_calls : (f : ServerFrame C) (t : Turn) (r : TsRequest) (m : C) (mode : ServerMode) (status : Option SecurityStatus) (field : Option (List ℕ)) →
       after_status status ≡ PubKeyInfo → ShowsOver (server_shown f) t field r → list_calls mode + 1 ≡ calls_made (Some m) mode (after_reply NegoToken t.acts.proved status)
-  over_calls f t r m mode status None over h = rw (h.2, over) refl
+  over_calls f t r m mode status None over h = rw (h.0.unproved, over) refl
   over_calls f t r m mode status (Some blob) over h = rw h.proved refl
 
   nego_calls : (f : ServerFrame C) (t : Turn) (r : TsRequest) (context : Option C) (m : C) (mode : ServerMode) (status : Option SecurityStatus) →
@@ -83,7 +83,7 @@ module _ {C : Type 0} (c : Meaning ContextSetting C) where
   nego_calls f t r context m mode None h = absurd h
   nego_calls f t r context m mode (Some statuses.Ok) h = in_first_part context mode 1 ∙ over_calls f t r m mode (Some statuses.Ok) _ refl h
   nego_calls f t r context m mode (Some statuses.ContinueNeeded) h =
-      in_first_part context mode 0 ∙ (rw h.1 (let e : list_calls mode + 0 ≡ list_calls mode = omega arith in e))
+      in_first_part context mode 0 ∙ (rw h.unproved (let e : list_calls mode + 0 ≡ list_calls mode = omega arith in e))
   nego_calls f t r context m mode (Some statuses.CompleteNeeded) h =
       in_first_part context mode 1 ∙ over_calls f t r m mode (Some statuses.CompleteNeeded) _ refl h
   nego_calls f t r context m mode (Some statuses.CompleteAndContinue) h = absurd h
@@ -150,7 +150,7 @@ module _ {C : Type 0} (c : Meaning ContextSetting C) where
         let total = has_asked_on p _ _ _ _ _ so_far.told_same so_far.asked more in
         let count = some_calls made.mid.context first.mode made.mid.state _ begun (λ m.
         ap (λ mode. calls_made old.context first.mode old.state + (lists_in old.context mode + look_ups_at made.mid.acts.status)) so_far.mode_same
-        ∙ turn_calls _ _ t.outcome old.context m first.mode old.state refl un so_far.begins stepped turn.turn.shown.reply
+        ∙ turn_calls (server_frame c old made.mid) (server_turn c t.delivered t.outcome made.mid) t.outcome old.context m first.mode old.state refl un so_far.begins stepped turn.turn.shown.reply
         ∙ ap (calls_made (Some m) first.mode) (sym turn.moves.state)) in
         subst (λ v. SoFar first v) (sym made.rest) (record {
           mode_same = turn.moves.same.mode ∙ so_far.mode_same;
