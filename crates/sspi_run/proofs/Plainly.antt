@@ -6,16 +6,27 @@ use Rattle.sspi_credssp.specs.Table.{TableView, table_meaning}
 use Rattle.sspi_delegate.specs.Edits.{MemoryLinkView}
 use Rattle.sspi_delegate.specs.declared.carried.Carried.{Carried}
 use Rattle.sspi_completeness.specs.Matching.{IsPlainClient, IsPlainServer, HasChallenge, AreMatching, IsUndisturbed, unedited, NoneFailed, none_told}
+use Rattle.sspi_scenario.specs.declared.scenario.Mode.{Mode}
+use Rattle.sspi_scenario.specs.declared.scenario.Mode.TheVariants.{Ntlm}
 use Rattle.sspi_scenario.specs.declared.scenario.Scenario.{Scenario}
 use Rattle.sspi_scenario.specs.Held.{HoldsValues}
-use Rattle.sspi_run.specs.Ends.{NtlmContext, credentials_by, IsClientOf, IsServerOf, link_in}
+use Rattle.sspi_run.specs.Ends.{NtlmContext, credentials_by, client_mode_by, server_mode_by, IsClientOf, IsServerOf, link_in}
 use Rattle.sspi_run.specs.Outcome.{user_identity, IsPlain}
+
+plain_client : (s : Scenario) (client : ClientView NtlmContext) → IsClientOf s client → s.mode ≡ Ntlm → IsPlainClient client.mode
+plain_client s client named plain = subst IsPlainClient (sym (named.mode ∙ ap (λ (mode : Mode). client_mode_by mode s) plain)) tt
+
+pub plain_server : (s : Scenario) (server : ServerView NtlmContext TableView) → IsServerOf s server → s.mode ≡ Ntlm → IsPlainServer server.mode
+plain_server s server named plain = subst IsPlainServer (sym (named.mode ∙ ap (λ (mode : Mode). server_mode_by mode s) plain)) tt
+
+challenged : (s : Scenario) (server : ServerView NtlmContext TableView) → IsServerOf s server → HoldsValues s → s.mode ≡ Ntlm → HasChallenge server.mode
+challenged s server named held plain = subst HasChallenge (sym (named.mode ∙ ap (λ (mode : Mode). server_mode_by mode s) plain)) held.challenge_length
 
 abbrev pub plain_match : (s : Scenario) (client : ClientView NtlmContext) (server : ServerView NtlmContext TableView) → IsClientOf s client → IsServerOf s server →
     HoldsValues s → IsPlain s → AreMatching table_meaning client server
 plain_match s client server client_named server_named held plain = record {
-  client_plain = subst IsPlainClient (sym client_named.mode) tt;
-  server_plain = subst IsPlainServer (sym server_named.mode) tt;
+  client_plain = plain_client s client client_named plain.mode;
+  server_plain = plain_server s server server_named plain.mode;
   key_same = server_named.public_key ∙ plain.key_same ∙ sym client_named.public_key;
   key_short = omega (arith, ap length client_named.public_key, plain.key_short);
   versions = rw (client_named.version, server_named.version) plain.versions;
@@ -31,7 +42,7 @@ plain_match s client server client_named server_named held plain = record {
   client_version = omega (arith, client_named.version, held.client_bits);
   server_version = omega (arith, server_named.version, held.server_bits);
   nonce = ap length client_named.nonce ∙ held.nonce_length;
-  challenge = subst HasChallenge (sym server_named.mode) held.challenge_length;
+  challenge = challenged s server server_named held plain.mode;
 }
 
 pub plain_link : (s : Scenario) (link : MemoryLinkView) (new : List Carried) (now : ℕ) → link ≡ link_in s → IsPlain s →

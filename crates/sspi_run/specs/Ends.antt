@@ -4,14 +4,24 @@ use Rattle.sspi_names.specs.declared.credentials.Credentials.{Credentials}
 use Rattle.sspi_names.specs.declared.credentials.Credentials.TheVariants.{AuthIdentity, Keytab}
 use Rattle.sspi_names.specs.declared.username.Username.{Username}
 use Rattle.sspi_mech.specs.NtlmStage.{NtlmState}
+use Rattle.sspi_mech.specs.declared.config.NtlmConfig.{NtlmConfig}
+use Rattle.sspi_negotiate.specs.declared.negotiate_config.NegotiateConfig.{NegotiateConfig}
+use Rattle.sspi_negotiate.specs.declared.protocol_config.ProtocolConfig.{ProtocolConfig}
+use Rattle.sspi_negotiate.specs.declared.protocol_config.ProtocolConfig.TheVariants as protocol
 use Rattle.sspi_credssp.specs.declared.context.SspiContext.{SspiContext}
+use Rattle.sspi_credssp.specs.declared.mode.ClientMode.{ClientMode}
 use Rattle.sspi_credssp.specs.declared.mode.ClientMode.TheVariants as client
+use Rattle.sspi_credssp.specs.declared.mode.ServerMode.{ServerMode}
 use Rattle.sspi_credssp.specs.declared.mode.ServerMode.TheVariants as server
 use Rattle.sspi_credssp.specs.Client.{ClientView, IsFreshClient}
 use Rattle.sspi_credssp.specs.Server.{ServerView, IsFreshServer}
 use Rattle.sspi_credssp.specs.Table.{TableView}
 use Rattle.sspi_delegate.specs.Edits.{MemoryLinkView}
 use Rattle.sspi_run.specs.declared.ends.Ends.{Ends}
+use Rattle.sspi_scenario.specs.declared.scenario.Mode.{Mode}
+use Rattle.sspi_scenario.specs.declared.scenario.Mode.TheVariants as mode
+use Rattle.sspi_scenario.specs.declared.scenario.Package.{Package}
+use Rattle.sspi_scenario.specs.declared.scenario.Package.TheVariants as packages
 use Rattle.sspi_scenario.specs.declared.scenario.Scenario.{Scenario}
 
 -- a context of either end: both of its mechanisms are NTLM
@@ -26,6 +36,43 @@ credentials_by (Some keytab) user password = Keytab (record { username = user; k
 abbrev pub credentials_in : Scenario → Credentials
 credentials_in scenario = credentials_by scenario.keytab scenario.user scenario.password
 
+-- the mechanism that an end of a negotiation begins with
+abbrev pub first_config : Package → NtlmConfig → ProtocolConfig
+first_config packages.Ntlm ntlm = protocol.Ntlm ntlm
+
+-- the configuration of an end that begins with this mechanism and may use these packages; no realm has a KDC
+abbrev pub negotiate_config_in : Scenario → ProtocolConfig → Option (List ℕ) → NegotiateConfig
+negotiate_config_in scenario first list = record {
+  protocol_config = first;
+  package_list = list;
+  client_computer_name = scenario.computer;
+  kdcs = [];
+}
+
+-- the client's NTLM knows its computer, and the server's has the challenge
+abbrev pub client_ntlm : Scenario → NtlmConfig
+client_ntlm scenario = record { client_computer_name = Some scenario.computer; challenge = replicate 8 0 }
+
+abbrev pub server_ntlm : Scenario → NtlmConfig
+server_ntlm scenario = record { client_computer_name = None; challenge = scenario.challenge }
+
+-- how each end authenticates: by NTLM alone, or by a negotiation
+abbrev pub client_mode_by : Mode → Scenario → ClientMode
+client_mode_by mode.Ntlm scenario = client.Ntlm (client_ntlm scenario)
+client_mode_by mode.Negotiate scenario =
+    client.Negotiate (negotiate_config_in scenario (first_config scenario.client_protocol (client_ntlm scenario)) scenario.client_packages)
+
+abbrev pub client_mode_in : Scenario → ClientMode
+client_mode_in scenario = client_mode_by scenario.mode scenario
+
+abbrev pub server_mode_by : Mode → Scenario → ServerMode
+server_mode_by mode.Ntlm scenario = server.Ntlm (server_ntlm scenario)
+server_mode_by mode.Negotiate scenario =
+    server.Negotiate (negotiate_config_in scenario (first_config scenario.server_protocol (server_ntlm scenario)) scenario.server_packages)
+
+abbrev pub server_mode_in : Scenario → ServerMode
+server_mode_in scenario = server_mode_by scenario.mode scenario
+
 -- the client has what the scenario names
 pub record IsClientOf (scenario : Scenario) (a : ClientView NtlmContext) : Type 0 where
   pub public_key : a.public_key ≡ scenario.key
@@ -33,7 +80,7 @@ pub record IsClientOf (scenario : Scenario) (a : ClientView NtlmContext) : Type 
   pub delegation : a.delegation ≡ scenario.delegation
   pub version : a.version ≡ scenario.client_version
   pub least : a.least ≡ scenario.client_least
-  pub mode : a.mode ≡ client.Ntlm (record { client_computer_name = Some scenario.computer; challenge = replicate 8 0 })
+  pub mode : a.mode ≡ client_mode_in scenario
   pub target : a.target ≡ scenario.target
   pub nonce : a.nonce ≡ scenario.nonce
 
@@ -43,7 +90,7 @@ pub record IsServerOf (scenario : Scenario) (a : ServerView NtlmContext TableVie
   pub proxy : a.proxy ≡ record { entries = scenario.account; failing = scenario.proxy_fail; calls = 0; faults = 0 }
   pub version : a.version ≡ scenario.server_version
   pub least : a.least ≡ scenario.server_least
-  pub mode : a.mode ≡ server.Ntlm (record { client_computer_name = None; challenge = scenario.challenge })
+  pub mode : a.mode ≡ server_mode_in scenario
 
 -- the link has the scenario's edits, and carried nothing yet
 abbrev pub link_in : Scenario → MemoryLinkView

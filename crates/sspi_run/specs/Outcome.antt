@@ -26,10 +26,10 @@ pub record IsPlain (scenario : Scenario) : Type 0 where
   pub entry : HasEntry scenario.account (user_identity scenario)
   pub short : IsShort (user_identity scenario)
 
--- Ok takes three messages of the client. A plain scenario comes to Ok where the client may make as many, and else is cut
--- short; but for want of memory.
+-- Ok of plain NTLM takes three messages of the client. A plain scenario comes to Ok where the client may make as many, and
+-- else is cut short; but for want of memory.
 pub record IsOutcome (r : Record) : Type 0 where
-  pub three : IfOk (answer_in r.outcome) (λ delegation. 3 ≤ delegation.turns)
+  pub three : r.scenario.mode ≡ Ntlm → IfOk (answer_in r.outcome) (λ delegation. 3 ≤ delegation.turns)
   pub comes : IsPlain r.scenario → 3 ≤ r.scenario.turns →
       ComesToOk (delegated_as r.scenario.delegation (user_identity r.scenario)) (answer_in r.outcome)
   pub short : IsPlain r.scenario → r.scenario.turns < 3 → IsCutShort (answer_in r.outcome)

@@ -3,9 +3,10 @@ ghost use Rattle.sspi_credssp.specs.Client.{IsFreshClient};
 ghost use Rattle.sspi_credssp.specs.Server.{IsFreshServer};
 ghost use Rattle.sspi_run.specs.Ends.{credentials_in, IsClientOf, IsServerOf, link_in, AreEndsOf};
 
-use sspi_credssp::{ClientMode, CredSspClient, CredSspServer, ServerMode, TableProxy};
+use crate::modes::{client_mode, server_mode};
+use sspi_credssp::{CredSspClient, CredSspServer, TableProxy};
 use sspi_delegate::{Edit, MemoryLink};
-use sspi_mech::{Ntlm, NtlmConfig};
+use sspi_mech::Ntlm;
 use sspi_names::{AuthIdentity, Credentials, KeytabIdentity};
 use sspi_scenario::Scenario;
 use sspi_types::Secret;
@@ -43,7 +44,7 @@ fn client_of(alloc: Global, scenario: &Scenario) -> Result<Client, AllocError>
 {
     let key = scenario.key.clone(alloc)?.into_inner();
     let credentials = credentials_of(alloc, scenario)?;
-    let mode = ClientMode::Ntlm(NtlmConfig::new(scenario.computer.clone(alloc)?));
+    let mode = client_mode(alloc, scenario)?;
     let target = scenario.target.clone(alloc)?.into_inner();
     Ok(CredSspClient::new_with_version(
         alloc,
@@ -84,10 +85,7 @@ fn server_of(alloc: Global, scenario: &Scenario) -> Result<Server, AllocError>
     let key = scenario.server_key.clone(alloc)?.into_inner();
     let accounts = copy_accounts(alloc, scenario.account.as_slice())?;
     let failing = Vec::from_slice(alloc, scenario.proxy_fail.as_slice())?;
-    let mode = ServerMode::Ntlm(NtlmConfig {
-        client_computer_name: None,
-        challenge: scenario.challenge,
-    });
+    let mode = server_mode(alloc, scenario)?;
     Ok(CredSspServer::new_with_version(
         alloc,
         key,

@@ -7,6 +7,7 @@
 
 mod ends;
 mod exchange;
+mod modes;
 mod record;
 mod run;
 mod said;

@@ -2,6 +2,7 @@
 
 mod edges;
 mod faults;
+mod negotiation;
 mod rows;
 
 use crate::run::run;

@@ -1,4 +1,4 @@
-use Rattle.std.proofs.Common.{◌≡◌, List, [], Some, refl, sym, subst}
+use Rattle.std.proofs.Common.{◌≡◌, List, [], Some, refl, subst}
 use Rattle.sspi_delegate.specs.Delegates.{calls_of_kdc}
 use Rattle.sspi_delegate.specs.Edits.{MemoryLinkView, FollowsEdits}
 use Rattle.sspi_delegate.specs.declared.edit.Edit.{Edit}
@@ -10,13 +10,13 @@ use Rattle.sspi_mech.specs.NtlmLaws.{ntlm_laws}
 use Rattle.sspi_credssp.proofs.ContextLaws.{lawful}
 use Rattle.sspi_tsreq.specs.declared.mode.CredSspMode.{CredSspMode}
 use Rattle.sspi_credssp.specs.Table.{table_meaning}
-use Rattle.sspi_completeness.specs.Matching.{IsPlainServer, delegated_as, ComesToOk}
+use Rattle.sspi_completeness.specs.Matching.{delegated_as, ComesToOk}
 use Rattle.sspi_completeness.proofs.ThreeTurns.{ok_three}
 use Rattle.sspi_completeness.proofs.PlainSettled.{comes_to_ok, cut_short, settled_plainly}
 use Rattle.sspi_completeness.proofs.Settling.{calm_by, Settled}
 use Rattle.sspi_run.specs.Exchange.{ntlm, around}
 use Rattle.sspi_run.specs.Outcome.{user_identity, IsPlain}
-use Rattle.sspi_run.proofs.Plainly.{plain_match, plain_link, plain_proxy}
+use Rattle.sspi_run.proofs.Plainly.{plain_match, plain_server, plain_link, plain_proxy}
 use Rattle.sspi_run.proofs.exchange.meet.Goals as goal
 
 some_edits : (edits edits2 : List Edit) → Some edits ≡ Some edits2 → edits ≡ edits2
@@ -69,8 +69,8 @@ returns-clause-outcome c ends held =
     (calm_by _ _ _ (plain_proxy s server made.server.proxy.faults ends.server_named plain) stays.the_proxy_tells_what_it_told.calm)
     delegates.the_identity_is_what_was_opened_last in
     record {
-      three = ok_three ntlm_meaning table_meaning _ _ _ _ _ _ _ _ _
-          delegates.accounts.turns_and_log_show_the_answer (subst IsPlainServer (sym ends.server_named.mode) tt) fresh.server_is delegates.the_turns_are_a_run.server_ran.others
+      three = λ plain. ok_three ntlm_meaning table_meaning _ _ _ _ _ _ _ _ _
+          delegates.accounts.turns_and_log_show_the_answer (plain_server s server ends.server_named plain) fresh.server_is delegates.the_turns_are_a_run.server_ran.others
           delegates.both_proofs_came_before_ok server_history;
       comes = λ plain enough. subst (λ (mode : CredSspMode). ComesToOk (delegated_as mode (user_identity s)) answer) ends.client_named.delegation
           (comes_to_ok s.turns (delegated_as client.delegation (user_identity s)) answer enough (settles plain));
