@@ -1,10 +1,9 @@
 -- The causes of a server's refusals, put together from those of the calls inside.
-use Rattle.std.proofs.Common.{◌≡◌, ◌≢◌, ℕ, List, Option, None, Some, IsSome, Result, Ok, Err, IfErr, OnOk, false, sym, subst}
+use Rattle.std.proofs.Common.{◌≡◌, ◌≢◌, ℕ, List, Option, None, Some, IsSome, Result, Ok, Err, IfErr, false, subst}
 use Rattle.sspi_types.specs.declared.credential_use.CredentialUse.TheVariants.{Inbound}
 use Rattle.sspi_types.specs.declared.error.Error.{Error}
 use Rattle.sspi_types.specs.declared.error_kind.ErrorKind.{ErrorKind}
 use Rattle.sspi_types.specs.declared.error_kind.ErrorKind.TheVariants.{InsufficientMemory, MessageAltered, DowngradeDetected}
-use Rattle.sspi_names.specs.declared.credentials.CredentialsBuffers.{CredentialsBuffers}
 use Rattle.sspi_types.specs.declared.security_status.SecurityStatus.{SecurityStatus}
 use Rattle.sspi_types.specs.declared.security_status.SecurityStatus.TheVariants as statuses
 use Rattle.sspi_names.specs.declared.identity.AuthIdentity.{AuthIdentity}
@@ -12,7 +11,7 @@ use Rattle.sspi_tsreq.specs.declared.request.TsRequest.{TsRequest}
 use Rattle.sspi_mech.specs.Meaning.{Meaning}
 use Rattle.sspi_credssp.specs.declared.server_state.ServerError.{ServerError}
 use Rattle.sspi_credssp.specs.declared.state.CredSspState.{CredSspState}
-use Rattle.sspi_credssp.specs.Begun.{BeginCause, IfContext, MadeOr}
+use Rattle.sspi_credssp.specs.Begun.{BeginCause, MadeOr}
 use Rattle.sspi_credssp.specs.Context.{ContextSetting, ForServer}
 use Rattle.sspi_credssp.specs.Server.{ServerView}
 use Rattle.sspi_credssp.specs.ServerCause.{ServerCause, StateCause, NegoCause, AfterCause, OverCause, known}
@@ -20,12 +19,6 @@ use Rattle.sspi_credssp.specs.ServerStep.{Completed, HasCome}
 use Rattle.sspi_credssp.specs.ServerTurn.{IsOver}
 use Rattle.sspi_credssp.specs.Noted.{differs, is_old, VersionStops}
 use Rattle.sspi_credssp.proofs.Causes.{stops_map, made_map, made_later}
-
--- noting a version leaves the context and the credentials that it acquired
-pub begun_noted : {T C P : Type 0} (r : Result T Error) (mid new : ServerView C P) (noted : Option ℕ) (Q : Option CredentialsBuffers → C → Type 0) →
-    OnOk r (new ≡ record mid { noted = noted }) → IfContext mid.context (Q mid.handle) → OnOk r (IfContext new.context (Q new.handle))
-begun_noted {C = C} {P = P} (Ok x) mid new noted Q e h = subst (λ (v : ServerView C P). IfContext v.context (Q v.handle)) (sym e) h
-begun_noted (Err e) mid new noted Q same h = tt
 
 module _ {C : Type 0} (c : Meaning ContextSetting C) where
   -- a turn that was refused as it began

@@ -1,5 +1,5 @@
 -- A server refuses for the age of its client's version exactly where it meets one, but where its context refuses so.
-use Rattle.std.proofs.Common.{◌≡◌, ◌≢◌, ℕ, List, [], Option, None, Some, IsSome, Result, Ok, Err, IfErr, IsErrAnd, Bool, true, false, refl, sym, subst}
+use Rattle.std.proofs.Common.{◌≡◌, ◌≢◌, ℕ, List, Option, None, Some, IsSome, Result, Ok, Err, IfErr, IsErrAnd, Bool, true, false, refl, sym, subst}
 use Rattle.sspi_types.specs.declared.error.Error.{Error}
 use Rattle.sspi_types.specs.declared.error_kind.ErrorKind.{ErrorKind}
 use Rattle.sspi_types.specs.declared.error_kind.ErrorKind.TheVariants.{DowngradeDetected, InvalidToken, MessageAltered, InsufficientMemory}
@@ -12,7 +12,6 @@ use Rattle.sspi_names.specs.Name.{Name}
 use Rattle.sspi_tsreq.specs.declared.request.TsRequest.{TsRequest}
 use Rattle.sspi_mech.specs.declared.step.Step.{Step}
 use Rattle.sspi_mech.specs.Meaning.{Meaning}
-use Rattle.sspi_credssp.specs.declared.public_key.EndpointType.TheVariants.{Client, Server}
 use Rattle.sspi_credssp.specs.declared.server_state.ServerError.{ServerError}
 use Rattle.sspi_credssp.specs.declared.server_state.ServerState.{ServerState}
 use Rattle.sspi_credssp.specs.declared.state.CredSspState.{CredSspState}
@@ -21,13 +20,11 @@ use Rattle.sspi_credssp.specs.Begun.{BeginCause, unmade, unacquired, IfContext, 
 use Rattle.sspi_credssp.specs.Context.{ContextSetting, ForServer}
 use Rattle.sspi_credssp.specs.Credentials.{delegated_identity}
 use Rattle.sspi_credssp.specs.Heeded.{NeverRefuses, ServerMeetsOld}
-use Rattle.sspi_credssp.specs.Noted.{differs, is_old, VersionStops}
-use Rattle.sspi_credssp.specs.PublicKey.{prescribed}
-use Rattle.sspi_credssp.specs.Requests.{nonce_of}
+use Rattle.sspi_credssp.specs.Noted.{differs, is_old}
 use Rattle.sspi_credssp.specs.Server.{ServerView}
-use Rattle.sspi_credssp.specs.ServerCause.{ServerCause, StateCause, NegoCause, OverCause, unknown, incomplete, known, AfterCause, ExchangeCause, BlobCause, ProofCause, AnswerCause, altered, unsealed, OpenedCause, UnreadCause, unread, IdentifyCause, nameless, looked, unset, LookUpRefused, failed, nobody, lacks_nonce}
+use Rattle.sspi_credssp.specs.ServerCause.{ServerCause, StateCause, NegoCause, OverCause, unknown, incomplete, known, AfterCause, ExchangeCause, BlobCause, ProofCause, AnswerCause, altered, unsealed, OpenedCause, UnreadCause, unread, IdentifyCause, nameless, looked, unset, LookUpRefused, failed, nobody}
 use Rattle.sspi_credssp.specs.ServerStep.{server_args, Knowing, Unknown, Identified, Accepted, accepted, identified, completed, recounted, OnStep, RefusedAt, HasAccepted, HasAcceptedTurn, refused_step}
-use Rattle.sspi_credssp.proofs.ClientHeeding.{IsOther, each_other, not_here, here, made_never, blob_never}
+use Rattle.sspi_credssp.proofs.ClientHeeding.{IsOther, each_other, not_here, here, blob_never}
 use Rattle.sspi_credssp.proofs.CredentialRefusals.{refused_so, so_read}
 
 look_up_never : (told : Option (List AuthIdentity)) (name : Name) (before now : ℕ) → LookUpRefused told name before now DowngradeDetected → ⊥

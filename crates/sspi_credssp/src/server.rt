@@ -4,7 +4,7 @@ ghost use Rattle.sspi_credssp.specs.Acts.{no_acts};
 ghost use Rattle.sspi_credssp.specs.Begun.{Begun, BeginCause, IfContext, MadeOr};
 ghost use Rattle.sspi_credssp.specs.Context.{either, ForServer};
 ghost use Rattle.sspi_credssp.specs.Counts.{IsUnusedIn};
-ghost use Rattle.sspi_credssp.specs.Noted.{default_least, differs, is_old, noted_with, VersionStops};
+ghost use Rattle.sspi_credssp.specs.Noted.{default_least, differs, is_old, VersionStops};
 
 use crate::acts::Acts;
 use crate::context::SspiContext;

@@ -1,5 +1,5 @@
 -- Why a turn was refused that asked a KDC.
-use Rattle.std.proofs.Common.{◌≡◌, ◌≢◌, ℕ, ◌==◌, Bool, true, false, not, List, Option, None, Some, IsSome, Err, sym, ◌∙◌, subst, refl, arith, eq-eqb}
+use Rattle.std.proofs.Common.{◌≡◌, ◌≢◌, ℕ, Bool, true, false, not, List, Option, None, Some, IsSome, Err, sym, ◌∙◌, subst, refl, arith}
 use Rattle.std.proofs.lemmas.Bool.{true≢false}
 use Rattle.sspi_types.specs.declared.error.Error.{Error}
 use Rattle.sspi_types.specs.declared.error_kind.ErrorKind.{ErrorKind}
@@ -19,7 +19,6 @@ use Rattle.sspi_credssp.specs.Context.{ContextSetting}
 use Rattle.sspi_credssp.specs.Counts.{is_waiting_in}
 use Rattle.sspi_credssp.specs.Noted.{is_altered_in, is_old_in}
 use Rattle.sspi_credssp.specs.Stops.{StopsIf}
-use Rattle.sspi_credssp.specs.Turn.{FitsNoted}
 use Rattle.sspi_delegate.specs.Refusals.{ClientRefuses, ProxyStays}
 use Rattle.sspi_credssp.specs.declared.turn.Outcome.TheVariants as outcome
 

@@ -1,9 +1,8 @@
-use Rattle.std.proofs.Common.{◌≡◌, [], None, Err, true, false, refl, sym, ap, ◌∙◌, subst, rules}
+use Rattle.std.proofs.Common.{◌≡◌, None, Err, true, false, refl, sym, subst, rules}
 use Rattle.sspi_types.specs.declared.credential_use.CredentialUse.TheVariants.{Inbound}
 use Rattle.sspi_credssp.specs.Begun.{Begun, BeginCause, IfContext, MadeOr}
 use Rattle.sspi_credssp.specs.Context.{either, ForServer}
 use Rattle.sspi_credssp.specs.Noted.{VersionStops, is_old}
-use Rattle.sspi_credssp.specs.Acts.{no_acts}
 use Rattle.sspi_credssp.specs.ServerTurn.{BeginRefused}
 use Rattle.sspi_credssp.proofs.ServerBeginning.{begin_halted, no_step}
 use Rattle.sspi_credssp.proofs.ServerHeeding.{server_only}
