@@ -5,12 +5,8 @@ ghost use Rattle.sspi_delegate.specs.Messages.{Encodes, Sends, SendTold};
 
 use crate::answer::DelegateError;
 use crate::link::{Link, LinkError};
-<<<<<<< HEAD
 use sspi_ber::{MAX_CONTENT, VecSink, WireKind};
-=======
-use sspi_ber::{VecSink, WireKind};
 use sspi_credssp::End;
->>>>>>> 044c7f386a36baaf31c311f90c2917102884abf8
 use sspi_tsreq::TsRequest;
 use sspi_types::Bytes;
 use std::alloc::Global;
