@@ -1,5 +1,6 @@
 mod Alternating
 mod Asking
+pub mod Chained
 mod ClientOver
 mod ClientSteps
 mod EndSteps
@@ -13,6 +14,7 @@ mod LogSteps
 mod Newest
 mod Reading
 mod Recording
+mod Refused
 mod Refusing
 mod ServerOver
 mod ServerSteps
