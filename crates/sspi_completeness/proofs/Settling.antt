@@ -204,11 +204,11 @@ module _ {C D P : Type 0} (c : Meaning ContextSetting C) (k : KdcCalls D) (p : P
 
     server_entries : (t : Turn) (past : List Turn) (log : List Carried) → FollowsEdits [] log → Given base start (t ∷ past) log now →
         (log2 : List Carried) × LoggedButLast base (t ∷ past) log2 × FollowsEdits [] log2
-    server_entries t past [] follows (carried entries unread) = absurd entries
-    server_entries t past (e ∷ log) follows (carried entries unread) = (log, (entries.1, entries.2), follows.1)
-    server_entries t past log follows (too_long entries unfit) = (log, entries, follows)
-    server_entries t past log follows (link_failed entries fit rose) = (log, entries, follows)
-    server_entries t past log follows (no_memory entries) = (log, entries, follows)
+    server_entries t past [] follows (carried entries unread still) = absurd entries
+    server_entries t past (e ∷ log) follows (carried entries unread still) = (log, (entries.1, entries.2), follows.1)
+    server_entries t past log follows (too_long entries unfit still) = (log, entries, follows)
+    server_entries t past log follows (link_failed entries fit counted) = (log, entries, follows)
+    server_entries t past log follows (no_memory entries still) = (log, entries, follows)
 
     settle_server : (error : Error) (turns : List Turn) (log : List Carried) → Alternates turns → Cause base start limit (errors.Server error) turns log now → FollowsEdits [] log →
         ClientHistory c k a kdc_first (client_turns turns) x kdc → ServerHistory c p b (server_turns turns) y → ⊥

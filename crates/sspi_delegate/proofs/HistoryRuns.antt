@@ -1,11 +1,9 @@
--- What the history of a fresh end tells of its run, its refusal and what it gave.
+-- What the history of a fresh end tells of its run, and of what it gave.
 use Rattle.std.proofs.Common.{ℕ, sym, refl, subst, arith, List, [], ◌∷◌, Option, None, Some, Result, Ok, Err, IfOk}
-use Rattle.sspi_types.specs.declared.error.Error.{Error}
 use Rattle.sspi_mech.specs.Context.{IsContext}
 use Rattle.sspi_mech.specs.Meaning.{Meaning}
 use Rattle.sspi_tsreq.specs.declared.request.TsRequest.{TsRequest}
 use Rattle.sspi_credssp.specs.Client.{ClientView, IsFreshClient}
-use Rattle.sspi_credssp.specs.ClientStep.{Asked}
 use Rattle.sspi_credssp.specs.ClientTurn.{ClientTurn, client_turn}
 use Rattle.sspi_credssp.specs.Context.{ContextSetting}
 use Rattle.sspi_credssp.specs.Proxy.{ProxyMeaning}
@@ -18,8 +16,8 @@ use Rattle.sspi_delegate.specs.Asking.{KdcCalls}
 use Rattle.sspi_delegate.specs.ClientRun.{ClientRan, ClientFollows}
 use Rattle.sspi_delegate.specs.EndTurns.{OthersGoOn}
 use Rattle.sspi_delegate.specs.Turns.{GoesOn, AllGoOn}
-use Rattle.sspi_delegate.specs.History.{ClientMakes, ClientHistory, ClientStopped, ClientLeft, between, waiting, ClientStops, ClientPast, ServerMakes, ServerHistory, ServerStopped, ServerPast}
-use Rattle.sspi_delegate.specs.Refusals.{any_replies, ClientRefuses, ClientRefused, ServerRefused, RefusedBy, ProxyStays}
+use Rattle.sspi_delegate.specs.History.{ClientMakes, ClientHistory, ClientLeft, between, waiting, ClientStops, ClientPast, ServerMakes, ServerHistory, ServerPast}
+use Rattle.sspi_delegate.specs.Refusals.{ProxyStays}
 use Rattle.sspi_delegate.specs.ServerRun.{ServerRan, ServerFollows, server_end, GivesNewest}
 use Rattle.sspi_delegate.proofs.ClientSteps.{client_fresh, client_turned, client_replied, client_ended, client_underway, client_emptied}
 use Rattle.sspi_delegate.proofs.Histories.{client_stopped_history, server_past_history}
@@ -101,29 +99,6 @@ module _ {C : Type 0} (c : Meaning ContextSetting C) (law : IsContext c) where
     client_past_ran first now kdc kdc2 turns (Ok delegation) fresh others h = history_ran first now kdc kdc2 turns fresh others h
     client_past_ran first now kdc kdc2 turns (Err error) fresh others h = stops_ran first now kdc kdc2 turns error fresh others h
 
-    -- a refusal is one whatever the KDC replied
-    refused_anyhow : (replies : List Asked → Type 0) (old mid : ClientView C) (d : TsRequest) (error : Error) → ClientRefuses c replies old d error mid →
-        ClientRefuses c any_replies old d error mid
-    refused_anyhow replies old mid d error h = record {
-      cause = h.cause;
-      heeds = h.heeds;
-      status = h.status;
-      steps = record { asked = h.steps.asked; replied = tt; step = h.steps.step; unasked = h.steps.unasked };
-    }
-
-    client_refused : (first now : ClientView C) (kdc kdc2 : D) (turns : List Turn) (error : Error) → IsFreshClient first → OthersGoOn turns →
-        ClientStopped c k first kdc error turns now kdc2 → ClientRefused c first error now turns
-    client_refused first now kdc kdc2 turns error fresh others s = record {
-      old = s.old;
-      new = s.mid;
-      d = s.d;
-      past = s.past;
-      newest = s.newest;
-      follows = history_follows first s.old kdc s.kdc1 s.past fresh (subst (λ (l : List Turn). OthersGoOn l) s.newest others) s.before;
-      refuses = refused_anyhow (λ asked. k.replies s.kdc1 asked kdc2) s.old s.mid s.d error s.refuses;
-      rest = s.rest;
-    }
-
   -- ---- the server
 
   module _ {P : Type 0} (p : ProxyMeaning P) where
@@ -179,7 +154,7 @@ module _ {C : Type 0} (c : Meaning ContextSetting C) (law : IsContext c) where
     server_past_gives first now turns (Ok delegation) h = h.1
     server_past_gives first now turns (Err error) h = tt
 
-    history_proxy : (first now : ServerView C P) (turns : List Turn) → ServerHistory c p first turns now →
+    pub history_proxy : (first now : ServerView C P) (turns : List Turn) → ServerHistory c p first turns now →
         ProxyStays p first.proxy now.proxy
     history_proxy first now [] h = subst (λ (v : ServerView C P). ProxyStays p first.proxy v.proxy) (sym h)
         (record { told_same = refl; counted = omega arith; calm = λ none. refl })
@@ -187,40 +162,3 @@ module _ {C : Type 0} (c : Meaning ContextSetting C) (law : IsContext c) where
         let made = h.2 in
         subst (λ (v : ServerView C P). ProxyStays p first.proxy v.proxy) (sym made.rest)
         (proxy_on p first.proxy h.0.proxy made.mid.proxy (history_proxy first h.0 past h.1) (proxy_asked p _ _ _ made.proxy))
-
-    server_refused : (first now : ServerView C P) (turns : List Turn) (error : Error) → IsFreshServer first → OthersGoOn turns →
-        ServerStopped c p first error turns now → ServerRefused c p first error now turns
-    server_refused first now turns error fresh others s =
-        let stays = history_proxy first s.old s.past s.before in
-        record {
-          old = s.old;
-          new = s.mid;
-          d = s.d;
-          reply = s.reply;
-          past = s.past;
-          newest = s.newest;
-          follows = server_history_follows first s.old s.past fresh (subst (λ (l : List Turn). OthersGoOn l) s.newest others) s.before;
-          told_before = stays.told_same;
-          faults_before = stays.counted;
-          cause = s.refuses.cause;
-          status = s.refuses.status;
-          step = s.refuses.step;
-          rest = s.rest;
-        }
-
-    -- ---- the refusal that is answered
-
-    pub past_refused : {D : Type 0} (k : KdcCalls D) (client client2 : ClientView C) (kdc kdc2 : D) (server server2 : ServerView C P) (clients servers : List Turn)
-        (result : Result Delegation DelegateError) → IsFreshClient client → IsFreshServer server → OthersGoOn clients → OthersGoOn servers →
-        ClientPast c k client kdc result clients client2 kdc2 → ServerPast c p server result servers server2 →
-        RefusedBy c p client client2 server server2 result clients servers
-    past_refused k client client2 kdc kdc2 server server2 clients servers (Ok delegation) fresh fresh2 others others2 h h2 = tt
-    past_refused k client client2 kdc kdc2 server server2 clients servers (Err (errors.Client error)) fresh fresh2 others others2 h h2 =
-        client_refused k client client2 kdc kdc2 clients error fresh others h
-    past_refused k client client2 kdc kdc2 server server2 clients servers (Err (errors.Server error)) fresh fresh2 others others2 h h2 =
-        server_refused server server2 servers error fresh2 others2 h2
-    past_refused k client client2 kdc kdc2 server server2 clients servers (Err (errors.Read to kind)) fresh fresh2 others others2 h h2 = tt
-    past_refused k client client2 kdc kdc2 server server2 clients servers (Err (errors.Write from)) fresh fresh2 others others2 h h2 = tt
-    past_refused k client client2 kdc kdc2 server server2 clients servers (Err errors.LinkFault) fresh fresh2 others others2 h h2 = tt
-    past_refused k client client2 kdc kdc2 server server2 clients servers (Err errors.TurnsSpent) fresh fresh2 others others2 h h2 = tt
-    past_refused k client client2 kdc kdc2 server server2 clients servers (Err errors.InsufficientMemory) fresh fresh2 others others2 h h2 = tt

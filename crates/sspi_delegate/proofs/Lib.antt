@@ -1,5 +1,6 @@
 mod Alternating
 mod Asking
+pub mod Chained
 mod ClientOver
 mod ClientSteps
 mod EndSteps
@@ -14,6 +15,7 @@ mod Newest
 mod ProxyCalls
 mod Reading
 mod Recording
+mod Refused
 mod Refusing
 mod ServerOver
 mod ServerSteps

@@ -1,8 +1,9 @@
 -- One more turn, and what it makes of the log of an exchange.
-use Rattle.std.proofs.Common.{◌≡◌, ℕ, ◌≤◌, ◌<◌, inl, inr, List, [], ◌∷◌, length, sym, ◌∙◌, ap, subst, refl, arith, None, Some, IsSome, Ok, slice_get}
+use Rattle.std.proofs.Common.{◌≡◌, ℕ, ◌≤◌, ◌<◌, ◌⊎◌, inl, inr, List, [], ◌∷◌, length, sym, ◌∙◌, ap, subst, refl, None, Some, IsSome, Ok, slice_get}
 use Rattle.sspi_types.specs.declared.error.Error.{Error}
 use Rattle.sspi_types.specs.declared.error_kind.ErrorKind.{ErrorKind}
 use Rattle.sspi_types.specs.declared.error_kind.ErrorKind.TheVariants as kinds
+use Rattle.sspi_ber.specs.Outside.{Counts}
 use Rattle.sspi_tsreq.specs.declared.request.TsRequest.{TsRequest}
 use Rattle.sspi_delegate.specs.declared.answer.DelegateError.{DelegateError}
 use Rattle.sspi_delegate.specs.declared.answer.DelegateError.TheVariants as errors
@@ -109,7 +110,7 @@ module _ (base : List Carried) (start : ℕ) where
     order = in_order end d GoesOn old (t ∷ past) log now next w pushed;
     going = (pushed.3, (asked_by d old past log now pushed.0 w).going);
     entries = but_last end d GoesOn old (t ∷ past) log now w pushed;
-    faults = w.faults;
+    calm = w.calm;
   }
 
   newest_such : (end : End) (d : TsRequest) (P : Outcome → Type 0) (old new : List Turn) →
@@ -123,53 +124,61 @@ module _ (base : List Carried) (start : ℕ) where
     order = in_order Server d IsFinished old new log now next w pushed;
     newest = newest_such Server d IsFinished old new pushed;
     entries = but_last Server d IsFinished old new log now w pushed;
-    faults = w.faults;
+    calm = w.calm;
   }
 
   pub lost : (limit : ℕ) (d : TsRequest) (old new : List Turn) (log : List Carried) (now : ℕ) →
       Asked base start old log now d → new ≡ old → Stopped base start limit errors.InsufficientMemory new log now
   lost limit d old new log now w same =
       let v = asked_by d old new log now same w in
-      record { order = v.order; faults = v.faults; cause = (going_may_lack new v.going, inl v.entries) }
+      record { order = v.order; cause = (going_may_lack new v.going, inl v.entries, inl v.calm) }
 
   pub client_refused : (limit : ℕ) (error : Error) (answer : DelegateError) (d : TsRequest) (old new : List Turn) (log : List Carried) (now : ℕ) →
       next_end old ≡ Client → Asked base start old log now d → PushedSuch Client d (IsClientRefusal error.error_type) old new →
       IsAnswerTo error.error_type (errors.Client error) answer → Stopped base start limit answer new log now
   client_refused limit error answer d old new log now next w pushed (inl memory) = rw memory.1 (record {
     order = in_order Client d (IsClientRefusal error.error_type) old new log now next w pushed;
-    faults = w.faults;
     cause = (
       client_lacks error.error_type new memory.0 (newest_such Client d (IsClientRefusal error.error_type) old new pushed),
       inr (but_last Client d (IsClientRefusal error.error_type) old new log now w pushed),
+      inl w.calm,
     );
   })
   client_refused limit error answer d old new log now next w pushed (inr refusal) = rw refusal.1 (record {
     order = in_order Client d (IsClientRefusal error.error_type) old new log now next w pushed;
-    faults = w.faults;
     cause = (
       refusal.0,
       newest_such Client d (IsClientRefusal error.error_type) old new pushed,
       but_last Client d (IsClientRefusal error.error_type) old new log now w pushed,
+      w.calm,
     );
   })
 
   pub given_log : (turns : List Turn) (log : List Carried) (now : ℕ) → Given base start turns log now → HasLog base turns log
-  given_log turns log now (carried entries unread) = inl entries
-  given_log turns log now (too_long entries long) = inr entries
-  given_log turns log now (link_failed entries fit rose) = inr entries
-  given_log turns log now (no_memory entries) = inr entries
+  given_log turns log now (carried entries unread calm) = inl entries
+  given_log turns log now (too_long entries long calm) = inr entries
+  given_log turns log now (link_failed entries fit counted) = inr entries
+  given_log turns log now (no_memory entries calm) = inr entries
+
+  given_counted : (turns : List Turn) (log : List Carried) (now : ℕ) → Given base start turns log now → (now ≡ start) ⊎ Counts start now
+  given_counted turns log now (carried entries unread calm) = inl calm
+  given_counted turns log now (too_long entries long calm) = inl calm
+  given_counted turns log now (link_failed entries fit counted) = inr counted
+  given_counted turns log now (no_memory entries calm) = inl calm
 
   pub server_refused : (limit : ℕ) (error : Error) (answer : DelegateError) (d : TsRequest) (old new : List Turn) (log log2 : List Carried) (now now2 : ℕ) →
       next_end old ≡ Server → Asked base start old log now d → PushedSuch Server d (IsServerRefusal error.error_type) old new →
-      IsAnswerTo error.error_type (errors.Server error) answer → Given base start new log2 now2 → now ≤ now2 → Stopped base start limit answer new log2 now2
-  server_refused limit error answer d old new log log2 now now2 next w pushed (inl memory) sent later = rw memory.1 (record {
+      IsAnswerTo error.error_type (errors.Server error) answer → Given base start new log2 now2 → Stopped base start limit answer new log2 now2
+  server_refused limit error answer d old new log log2 now now2 next w pushed (inl memory) sent = rw memory.1 (record {
     order = in_order Server d (IsServerRefusal error.error_type) old new log now next w pushed;
-    faults = omega (arith, w.faults);
-    cause = (server_lacks error.error_type new memory.0 (newest_such Server d (IsServerRefusal error.error_type) old new pushed), given_log new log2 now2 sent);
+    cause = (
+      server_lacks error.error_type new memory.0 (newest_such Server d (IsServerRefusal error.error_type) old new pushed),
+      given_log new log2 now2 sent,
+      given_counted new log2 now2 sent,
+    );
   })
-  server_refused limit error answer d old new log log2 now now2 next w pushed (inr refusal) sent later = rw refusal.1 (record {
+  server_refused limit error answer d old new log log2 now now2 next w pushed (inr refusal) sent = rw refusal.1 (record {
     order = in_order Server d (IsServerRefusal error.error_type) old new log now next w pushed;
-    faults = omega (arith, w.faults);
     cause = (refusal.0, newest_such Server d (IsServerRefusal error.error_type) old new pushed, sent);
   })
 
@@ -185,7 +194,7 @@ pub record IsAtTurn (base : List Carried) (start : ℕ) (turns : List Turn) (log
 
 pub at_first : (base : List Carried) (start : ℕ) (turns : List Turn) → turns ≡ [] → IsAtTurn base start turns base start 0
 at_first base start turns empty = rw empty (record {
-  between = record { order = tt; going = tt; entries = refl; unread = tt; faults = omega arith };
+  between = record { order = tt; going = tt; entries = refl; unread = tt; calm = refl };
   next = refl;
   made = refl;
 })
@@ -199,13 +208,12 @@ pub spent : (base : List Carried) (start : ℕ) (turns : List Turn) (log : List 
     turn ≡ limit → Stopped base start limit errors.TurnsSpent turns log now
 spent base start turns log now turn limit at all = record {
   order = at.between.order;
-  faults = at.between.faults;
-  cause = (at.between.going, at.next, at.made ∙ all, at.between.entries, at.between.unread);
+  cause = (at.between.going, at.next, at.made ∙ all, at.between.entries, at.between.unread, at.between.calm);
 }
 
 -- the request that was read of the newest delivery
 pub read_asked : (base : List Carried) (start : ℕ) (turns : List Turn) (log log2 : List Carried) (now now2 : ℕ) (text : List ℕ) (request : TsRequest) (newest : Turn) →
-    Some newest ≡ slice_get turns 0 → Between base start turns log now → (IsUnread log → Takes log log2 (Ok text)) → now ≤ now2 → IsRead text request →
+    Some newest ≡ slice_get turns 0 → Between base start turns log now → (IsUnread log → Takes log log2 (Ok text)) → now2 ≡ now → IsRead text request →
     Asked base start turns log2 now2 request
 read_asked base start [] log log2 now now2 text request newest there between takes later read = absurd (cc (there))
 read_asked base start (t ∷ past) log log2 now now2 text request newest there between takes later read =
@@ -214,17 +222,16 @@ read_asked base start (t ∷ past) log log2 now now2 text request newest there b
       going = between.going;
       entries = fed_logged base t past log log2 took.0 between.entries;
       delivered = head_delivered t past log2 text request took.1 read;
-      faults = omega (arith, between.faults, later);
+      calm = later ∙ between.calm;
     }
 
 -- no memory for the request that was read of the newest delivery
 pub read_lacks : (base : List Carried) (start limit : ℕ) (turns : List Turn) (log log2 : List Carried) (now now2 : ℕ) (text : List ℕ) (newest : Turn) →
-    Some newest ≡ slice_get turns 0 → Between base start turns log now → (IsUnread log → Takes log log2 (Ok text)) → now ≤ now2 →
+    Some newest ≡ slice_get turns 0 → Between base start turns log now → (IsUnread log → Takes log log2 (Ok text)) → now2 ≡ now →
     Stopped base start limit errors.InsufficientMemory turns log2 now2
 read_lacks base start limit [] log log2 now now2 text newest there between takes later = absurd (cc (there))
 read_lacks base start limit (t ∷ past) log log2 now now2 text newest there between takes later =
     let took = takes between.unread in record {
       order = between.order;
-      faults = omega (arith, between.faults, later);
-      cause = (going_may_lack (t ∷ past) between.going, inl (fed_logged base t past log log2 took.0 between.entries));
+      cause = (going_may_lack (t ∷ past) between.going, inl (fed_logged base t past log log2 took.0 between.entries), inl (later ∙ between.calm));
     }

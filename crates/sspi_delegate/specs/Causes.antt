@@ -1,9 +1,9 @@
 -- What the turns and the log of an exchange show of its answer.
-use Rattle.std.specs.Prelude.{◌≡◌, ◌≢◌, ℕ, ◌+◌, ◌<◌, ◌≤◌, ◌⊎◌, Bool, true, false, List, [], ◌∷◌, Option, None, Some, IsSome, Result, Ok, Err}
+use Rattle.std.specs.Prelude.{◌≡◌, ◌≢◌, ℕ, ◌+◌, ◌<◌, ◌⊎◌, Bool, true, false, List, [], ◌∷◌, Option, None, Some, IsSome, Result, Ok, Err}
 use Rattle.sspi_types.specs.declared.error_kind.ErrorKind.{ErrorKind}
 use Rattle.sspi_types.specs.declared.error_kind.ErrorKind.TheVariants as kinds
 use Rattle.sspi_names.specs.declared.identity.AuthIdentity.{AuthIdentity}
-use Rattle.sspi_ber.specs.Outside.{Rose}
+use Rattle.sspi_ber.specs.Outside.{Counts}
 use Rattle.sspi_tsreq.specs.declared.request.TsRequest.{TsRequest}
 use Rattle.sspi_tsreq.specs.Spelling.{fits}
 use Rattle.sspi_delegate.specs.declared.answer.Delegation.{Delegation}
@@ -88,7 +88,8 @@ HasMessage (t ∷ past) = IsSome (message_of t.outcome)
 abbrev pub TurnLeft : ℕ → List Turn → Type 0
 TurnLeft limit turns = next_end turns ≡ Client → turns_of Client turns < limit
 
--- base: the log before the exchange; start: the link's count of faults then
+-- base: the log before the exchange; start: the link's count of faults then. A failure of the link counts one fault, and nothing
+-- else counts any.
 module _ (base : List Carried) (start : ℕ) where
   -- between two turns: all went on, each has its entry, and the newest delivery is still to be read
   pub record Between (turns : List Turn) (log : List Carried) (now : ℕ) : Type 0 where
@@ -96,7 +97,7 @@ module _ (base : List Carried) (start : ℕ) where
     pub going : AllGoOn turns
     pub entries : Logged base turns log
     pub unread : UnreadFor turns log
-    pub faults : start ≤ now
+    pub calm : now ≡ start
 
   -- the same, once the next request was read
   pub record Asked (turns : List Turn) (log : List Carried) (now : ℕ) (request : TsRequest) : Type 0 where
@@ -104,50 +105,53 @@ module _ (base : List Carried) (start : ℕ) where
     pub going : AllGoOn turns
     pub entries : Logged base turns log
     pub delivered : IsDelivered turns log request
-    pub faults : start ≤ now
+    pub calm : now ≡ start
 
   -- a turn was made whose message is still to be carried
   pub record Turned (turns : List Turn) (log : List Carried) (now : ℕ) : Type 0 where
     pub order : Alternates turns
     pub going : AllGoOn turns
     pub entries : LoggedButLast base turns log
-    pub faults : start ≤ now
+    pub calm : now ≡ start
 
   -- the server has the credentials
   pub record Finishes (turns : List Turn) (log : List Carried) (now : ℕ) : Type 0 where
     pub order : Alternates turns
     pub newest : NewestIs Server IsFinished turns
     pub entries : LoggedButLast base turns log
-    pub faults : start ≤ now
+    pub calm : now ≡ start
 
   -- What came of giving the newest turn's message to the link: an entry, whose delivery was not asked for, or none, since it
   -- does not fit, since the link failed, or for want of memory.
   pub data Given (turns : List Turn) (log : List Carried) (now : ℕ) : Type 0 where
-    carried : Logged base turns log → UnreadFor turns log → Given turns log now
-    too_long : LoggedButLast base turns log → NewestFits turns false → Given turns log now
-    link_failed : LoggedButLast base turns log → NewestFits turns true → Rose start now → Given turns log now
-    no_memory : LoggedButLast base turns log → Given turns log now
+    carried : Logged base turns log → UnreadFor turns log → now ≡ start → Given turns log now
+    too_long : LoggedButLast base turns log → NewestFits turns false → now ≡ start → Given turns log now
+    link_failed : LoggedButLast base turns log → NewestFits turns true → Counts start now → Given turns log now
+    no_memory : LoggedButLast base turns log → now ≡ start → Given turns log now
 
   -- what an error shows; limit: how many turns the client may make
   abbrev pub Cause : ℕ → DelegateError → List Turn → List Carried → ℕ → Type 0
   Cause limit (errors.Client error) turns log now =
-      (error.error_type ≢ kinds.InsufficientMemory) × NewestIs Client (IsClientRefusal error.error_type) turns × LoggedButLast base turns log
+      (error.error_type ≢ kinds.InsufficientMemory) × NewestIs Client (IsClientRefusal error.error_type) turns
+      × LoggedButLast base turns log × (now ≡ start)
   Cause limit (errors.Server error) turns log now =
       (error.error_type ≢ kinds.InsufficientMemory) × NewestIs Server (IsServerRefusal error.error_type) turns × Given turns log now
   Cause limit (errors.Read end kind) turns log now =
-      AllGoOn turns × (next_end turns ≡ end) × TurnLeft limit turns × Logged base turns log × IsUnreadable turns log kind × HeadWithin log
+      AllGoOn turns × (next_end turns ≡ end) × TurnLeft limit turns × Logged base turns log × IsUnreadable turns log kind
+      × HeadWithin log × (now ≡ start)
   Cause limit (errors.Write end) turns log now =
-      AllGoOn turns × (next_end turns ≡ other end) × LoggedButLast base turns log × NewestFits turns false
+      AllGoOn turns × (next_end turns ≡ other end) × LoggedButLast base turns log × NewestFits turns false × (now ≡ start)
   Cause limit errors.LinkFault turns log now =
-      AllGoOn turns × Rose start now
+      AllGoOn turns × Counts start now
       × ((Logged base turns log × OpenFor turns log × TurnLeft limit turns) ⊎ (LoggedButLast base turns log × NewestFits turns true))
   Cause limit errors.TurnsSpent turns log now =
-      AllGoOn turns × (next_end turns ≡ Client) × (turns_of Client turns ≡ limit) × Logged base turns log × UnreadFor turns log
-  Cause limit errors.InsufficientMemory turns log now = MayLack turns × HasLog base turns log
+      AllGoOn turns × (next_end turns ≡ Client) × (turns_of Client turns ≡ limit) × Logged base turns log
+      × UnreadFor turns log × (now ≡ start)
+  -- the link may have failed to carry the message of a server that was refused for want of memory
+  Cause limit errors.InsufficientMemory turns log now = MayLack turns × HasLog base turns log × ((now ≡ start) ⊎ Counts start now)
 
   pub record Stopped (limit : ℕ) (error : DelegateError) (turns : List Turn) (log : List Carried) (now : ℕ) : Type 0 where
     pub order : Alternates turns
-    pub faults : start ≤ now
     pub cause : Cause limit error turns log now
 
   -- what half a round comes to

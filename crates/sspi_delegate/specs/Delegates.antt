@@ -16,6 +16,7 @@ use Rattle.sspi_delegate.specs.declared.edit.Edit.{Edit}
 use Rattle.sspi_credssp.specs.declared.turn.Turn.{Turn}
 use Rattle.sspi_delegate.specs.Asking.{KdcCalls, kdc_calls}
 use Rattle.sspi_delegate.specs.Causes.{RunEnds}
+use Rattle.sspi_delegate.specs.Chain.{client_stage, ClientChained, server_stage, ServerChain}
 use Rattle.sspi_delegate.specs.ClientRun.{client_end}
 use Rattle.sspi_delegate.specs.EndTurns.{client_turns, server_turns}
 use Rattle.sspi_delegate.specs.Exactly.{Exactly}
@@ -100,7 +101,11 @@ module _ {C P L D : Type 0} (c : Meaning ContextSetting C) (around : Around P L 
     -- the list where a negotiation was made with it, and the look-up of the peer
     pub no_call_of_the_proxy_before_ok_was_to_fail : OnOk result
         (HasAsked around.proxy (list_calls old.server.mode + 1) old.server.proxy new.server.proxy)
-    pub a_refusal_has_its_cause : RefusedBy c around.proxy old.client new.client old.server new.server result
-        (client_turns new.turns) (server_turns new.turns)
+    -- so what an end offered, chose, signed and verified in a turn is what its context did in that step
+    pub the_client_has_the_context_of_its_chain : ClientChained c (calls_of_kdc around) old.client old.kdc result (client_turns new.turns)
+        (client_stage new.client new.kdc)
+    pub the_server_has_the_context_of_its_chain : ServerChain c around.proxy old.server (server_turns new.turns) (server_stage new.server)
+    pub a_refusal_has_its_cause : RefusedBy c around.proxy (calls_of_kdc around) old.client old.kdc new.client new.kdc
+        old.server new.server result (client_turns new.turns) (server_turns new.turns)
     pub accounts : Accounts old limit result new
     pub stays : Stays around old limit result new

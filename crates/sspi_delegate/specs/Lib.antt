@@ -1,5 +1,6 @@
 pub mod Asking
 pub mod Causes
+pub mod Chain
 pub mod ClientRun
 pub mod Delegates
 pub mod Deliveries

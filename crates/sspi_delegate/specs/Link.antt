@@ -5,14 +5,14 @@ use Rattle.sspi_delegate.specs.declared.edit.Edit.{Edit}
 use Rattle.sspi_delegate.specs.declared.link.LinkError.{LinkError}
 use Rattle.sspi_delegate.specs.declared.link.LinkError.TheVariants.{Failed, InsufficientMemory}
 use Rattle.sspi_delegate.specs.Edits.{edited, sent_texts, FollowsEdits}
-use Rattle.sspi_ber.specs.Outside.{Rose, Counts}
+use Rattle.sspi_ber.specs.Outside.{Counts}
 use Rattle.sspi_delegate.specs.Log.{Grows}
 
--- the count of faults never falls, and a call fails only where it rose
+-- a failure counts one fault, and no other answer counts any
 abbrev pub LinkCause : {X : Type 0} → ℕ → ℕ → Result X LinkError → Type 0
-LinkCause before now (Ok x) = before ≤ now
-LinkCause before now (Err Failed) = (before ≤ now) × Rose before now
-LinkCause before now (Err InsufficientMemory) = before ≤ now
+LinkCause before now (Ok x) = now ≡ before
+LinkCause before now (Err Failed) = Counts before now
+LinkCause before now (Err InsufficientMemory) = now ≡ before
 
 -- what `piece` does to the log: a refusal leaves it
 abbrev pub PieceGives : List Carried → List Carried → Result ℕ LinkError → List ℕ → Type 0

@@ -1,8 +1,8 @@
 -- How the message of a turn is sent.
-use Rattle.std.specs.Prelude.{◌≡◌, ℕ, ◌≤◌, ◌⊎◌, true, false, List, [], ◌∷◌, reverse, Option, None, Some, Result, Ok, Err}
+use Rattle.std.specs.Prelude.{◌≡◌, ℕ, ◌⊎◌, true, false, List, [], ◌∷◌, reverse, Option, None, Some, Result, Ok, Err}
 use Rattle.sspi_ber.specs.declared.wire_kind.WireKind.{WireKind}
 use Rattle.sspi_ber.specs.declared.wire_kind.WireKind.TheVariants as wire
-use Rattle.sspi_ber.specs.Outside.{Rose, Counts}
+use Rattle.sspi_ber.specs.Outside.{Counts}
 use Rattle.sspi_tsreq.specs.declared.request.TsRequest.{TsRequest}
 use Rattle.sspi_tsreq.specs.Spelling.{fits, spelled}
 use Rattle.sspi_delegate.specs.declared.answer.DelegateError.{DelegateError}
@@ -27,10 +27,10 @@ Encodes message (Err wire.WriteFault) = ⊥
 -- what sending a message does to the log and to the count of faults
 abbrev pub Sends : End → TsRequest → List Carried → List Carried → ℕ → ℕ → Result (Unit {0}) DelegateError → Type 0
 Sends from message old new before now (Ok done) =
-    (fits message ≡ true) × (new ≡ begun from (spelled message) ∷ old) × (before ≤ now)
-Sends from message old new before now (Err (Write end)) = (end ≡ from) × (fits message ≡ false) × (new ≡ old) × (before ≤ now)
-Sends from message old new before now (Err LinkFault) = (fits message ≡ true) × (new ≡ old) × (before ≤ now) × Rose before now
-Sends from message old new before now (Err InsufficientMemory) = (new ≡ old) × (before ≤ now)
+    (fits message ≡ true) × (new ≡ begun from (spelled message) ∷ old) × (now ≡ before)
+Sends from message old new before now (Err (Write end)) = (end ≡ from) × (fits message ≡ false) × (new ≡ old) × (now ≡ before)
+Sends from message old new before now (Err LinkFault) = (fits message ≡ true) × (new ≡ old) × Counts before now
+Sends from message old new before now (Err InsufficientMemory) = (new ≡ old) × (now ≡ before)
 Sends from message old new before now (Err (Client error)) = ⊥
 Sends from message old new before now (Err (Server error)) = ⊥
 Sends from message old new before now (Err (Read end kind)) = ⊥

@@ -238,9 +238,8 @@ fn give<L: Link>(alloc: Global, link: &mut L, transcript: &Transcript) -> Result
     ensures err { IfErr result (λ error. (base : List Carried) (start limit : ℕ) →
         Turned base start transcript.now.turns (L.log link.old) (L.faults link.old) →
         Stopped base start limit error transcript.now.turns (L.log link.new) (L.faults link.new)) }
-    ensures given { (base : List Carried) (start : ℕ) → start ≤ L.faults link.old → HasMessage transcript.now.turns →
+    ensures given { (base : List Carried) (start : ℕ) → L.faults link.old ≡ start → HasMessage transcript.now.turns →
         LoggedButLast base transcript.now.turns (L.log link.old) → Given base start transcript.now.turns (L.log link.new) (L.faults link.new) }
-    ensures faults { L.faults link.old ≤ L.faults link.new }
     ensures link { IfErr result IsNoRefusal }
     ensures same { OnErr result (L.log link.new ≡ L.log link.old) }
     ensures told { StaysTold (L.edits link.old) (L.edits link.new) (L.log link.old) (L.log link.new) }

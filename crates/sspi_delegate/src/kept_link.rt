@@ -10,7 +10,7 @@ use std::marker::Model;
 
 /// What moves bytes for a `KeptLink`, and tells nothing of them.
 ///
-/// The count of faults never falls, and a call answers `Failed` only where it rose in that call, or stands at its last value.
+/// A call that answers `Failed` counts one fault, up to the last value of the count, and no other answer counts any.
 pub trait Carrier: Drop {
     ghost use Rattle.std.specs.Prelude.{ℕ, ◌≤◌, length, IfOk};
     ghost use Rattle.sspi_delegate.specs.Link.{LinkCause};
@@ -27,8 +27,7 @@ pub trait Carrier: Drop {
         ensures cause { LinkCause (faults self.old) (faults self.new) result };
 }
 
-/// A link over a carrier, which keeps the log. Memory for the log is taken before the carrier is asked, and a call that is
-/// refused leaves the log.
+/// A link over a carrier, which keeps the log. A call that is refused leaves the log.
 #[derive(Drop)]
 pub struct KeptLink<R: Carrier> {
     alloc: Global,

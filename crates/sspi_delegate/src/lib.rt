@@ -2,7 +2,8 @@
 //!
 //! - `delegate`: one exchange between a client and a server. `specs/Headline.antt` has what holds of each, whatever the link
 //!   delivers; `specs/Run.antt` how turns and log belong together; `specs/Causes.antt` and `specs/Exactly.antt` when each
-//!   answer comes, `specs/Refusals.antt` why an end refused; `specs/History.antt` the calls that made the turns.
+//!   answer comes, `specs/Refusals.antt` why an end refused; `specs/History.antt` the calls that made the turns;
+//!   `specs/Chain.antt` the steps of an end's context, turn by turn.
 //! - `Transcript`: the turns of an exchange, each with what it was given, what the end did, and how it ended.
 //! - `Link`: carries the messages and keeps a log of what was sent and what was delivered. `MemoryLink` delivers what was
 //!   sent, but for the edits that it was given; `KeptLink` keeps the log over any `Carrier`. `specs/Log.antt` has the log,
@@ -31,6 +32,3 @@ pub use memory_link::MemoryLink;
 pub use messages::DELIVERY_LIMIT;
 pub use sspi_credssp::{End, Outcome, Turn};
 pub use transcript::Transcript;
-
-#[cfg(test)]
-mod tests;

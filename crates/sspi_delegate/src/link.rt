@@ -4,7 +4,7 @@ use std::alloc::{AllocError, AllocFailed};
 /// Why a call on a link was refused.
 #[derive(Clone, Copy, Debug, PartialEq, Eq)]
 pub enum LinkError {
-    /// The link failed, and its count of faults rose.
+    /// The link failed, and counted one fault.
     Failed,
     /// There was no memory for the message or its entry.
     InsufficientMemory,
@@ -34,8 +34,9 @@ impl<T: Drop> From<AllocFailed<T>> for LinkError {
 
 /// What carries the messages of an exchange, and keeps a log of them.
 ///
-/// The count of faults never falls, and a call answers `Failed` only where it rose in that call, or stands at its last value.
-/// A link that tells its edits delivers what they give, and fails exactly where they say so.
+/// A call that answers `Failed` counts one fault, up to the last value of the count, and no other answer counts any: so the count
+/// shows a caller that tries a failed call again. A link that tells its edits delivers what they give, and fails exactly where
+/// they say so.
 pub trait Link: Drop {
     ghost use Rattle.std.specs.Prelude.{◌≡◌, [], ◌∷◌, ℕ, List, Option, OnOk, OnErr};
     ghost use Rattle.sspi_delegate.specs.declared.carried.Carried.{Carried};

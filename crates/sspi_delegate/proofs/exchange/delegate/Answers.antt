@@ -2,11 +2,13 @@ use Rattle.sspi_credssp.proofs.ContextLaws.{lawful}
 use Rattle.sspi_credssp.specs.Context.{either}
 use Rattle.sspi_delegate.specs.Asking.{kdc_calls}
 use Rattle.sspi_delegate.proofs.Alternating.{clients_others, servers_others}
+use Rattle.sspi_delegate.proofs.Chained.{client_past_chained, server_past_chained}
 use Rattle.sspi_delegate.proofs.Exactness.{exactly}
 use Rattle.sspi_delegate.proofs.Headline.{run_log, run_order, sealed_once, seals_after_proof, server_never_seals, exchanged_ok}
 use Rattle.sspi_delegate.proofs.Heeding.{client_past_heeds, server_past_heeds}
-use Rattle.sspi_delegate.proofs.HistoryRuns.{client_past_ran, server_past_ran, server_past_gives, past_refused}
+use Rattle.sspi_delegate.proofs.HistoryRuns.{client_past_ran, server_past_ran, server_past_gives}
 use Rattle.sspi_delegate.proofs.ProxyCalls.{ok_asked}
+use Rattle.sspi_delegate.proofs.Refused.{past_refused}
 use Rattle.sspi_delegate.proofs.exchange.delegate.Goals as goal
 
 pub returns-clause-stays : goal.returns-clause-stays
@@ -54,6 +56,10 @@ returns-clause-delegates g c fresh =
       both_proofs_came_before_ok = exchanged_ok m _ _ _ _ _ _ _ cause _ server.each;
       no_call_of_the_proxy_before_ok_was_to_fail =
           ok_asked m g.C.CredentialsProxy.meaning _ _ _ result turns _ _ _ _ fresh.server_is cause (servers_others turns order) server_past;
+      the_client_has_the_context_of_its_chain = client_past_chained m k _ law fresh.client_is _ _ _ _ result (clients_others turns order) client_past;
+      the_server_has_the_context_of_its_chain =
+          server_past_chained m g.C.CredentialsProxy.meaning _ law fresh.server_is _ _ result
+          (servers_others turns order) server_past;
       a_refusal_has_its_cause =
           past_refused m law g.C.CredentialsProxy.meaning k _ _ _ _ _ _ _ _ result
           fresh.client_is fresh.server_is (clients_others turns order) (servers_others turns order) client_past server_past;

@@ -30,8 +30,7 @@ returns-in-Refused-clause-half g c base start limit next w =
     let v = c.in-Ok.ensures.ok base start w in
     server_refused base start limit c.in-Refused.error c.server_error.result c.in-Ok.request _ _ _ _ _ _
     next v c.in-Refused.ensures.turn c.server_error.ensures
-    (c.give-given.ensures.given base start v.faults (refusal_has_message c.in-Ok.request c.in-Refused.error.error_type _ _ c.in-Refused.ensures.turn) (but_last base start Server c.in-Ok.request (IsServerRefusal c.in-Refused.error.error_type) _ _ _ _ v c.in-Refused.ensures.turn))
-    c.give-given.ensures.faults
+    (c.give-given.ensures.given base start v.calm (refusal_has_message c.in-Ok.request c.in-Refused.error.error_type _ _ c.in-Refused.ensures.turn) (but_last base start Server c.in-Ok.request (IsServerRefusal c.in-Refused.error.error_type) _ _ _ _ v c.in-Refused.ensures.turn))
 
 pub returns-in-Lost-clause-half : goal.returns-in-Lost-clause-half
 returns-in-Lost-clause-half g c base start limit next w =

@@ -10,7 +10,7 @@ invariant-loop-room g l = record {
   head : IsUnread (g.L.Link.log l.fn.link) → IsSoFar (g.L.Link.log l.fn.link) (g.L.Link.log l.link) l.text;
   short : length l.text ≤ DELIVERY_LIMIT;
   room : length l.room ≡ PIECE_LENGTH;
-  faults : g.L.Link.faults l.fn.link ≤ g.L.Link.faults l.link;
+  calm : g.L.Link.faults l.link ≡ g.L.Link.faults l.fn.link;
   told : StaysTold (g.L.Link.edits l.fn.link) (g.L.Link.edits l.link) (g.L.Link.log l.fn.link) (g.L.Link.log l.link);
   still : IsStill (g.L.Link.edits l.fn.link) (g.L.Link.faults l.fn.link) (g.L.Link.faults l.link);
 }

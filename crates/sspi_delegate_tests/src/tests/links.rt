@@ -1,6 +1,6 @@
 //! What the edits of a link give, row by row, and a link over a carrier.
 
-use crate::{Carried, Carrier, Edit, EditKind, End, KeptLink, Link, LinkError, MemoryLink};
+use sspi_delegate::{Carried, Carrier, Edit, EditKind, End, KeptLink, Link, LinkError, MemoryLink};
 use sspi_types::Bytes;
 use std::alloc::{AllocError, Global};
 use std::test::Fail;

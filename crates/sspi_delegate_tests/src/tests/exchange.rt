@@ -1,11 +1,11 @@
 //! Whole exchanges between two ends of plain NTLM. What they send was computed apart.
 
 use crate::tests::links::{Kind, echoing, edit};
-use crate::{
-    Carried, DelegateError, Delegation, End, KeptLink, Link, MemoryLink, Transcript, delegate,
-};
 use sspi_ber::WireKind;
 use sspi_credssp::{ClientMode, CredSspClient, CredSspServer, ServerMode, TableProxy};
+use sspi_delegate::{
+    Carried, DelegateError, Delegation, End, KeptLink, Link, MemoryLink, Transcript, delegate,
+};
 use sspi_mech::{FailingKdc, Ntlm, NtlmConfig};
 use sspi_names::{AuthIdentity, Credentials, Username};
 use sspi_tsreq::CredSspMode;

@@ -1,0 +1,138 @@
+-- The contexts of an end's turns, as a chain: each negotiating turn is one step of the context that the turns before have left, on
+-- the token that was delivered in that turn, and nothing else moves a context but sealing and opening. A chain speaks of the end as it was
+-- made, of its turns, of what its KDC replied and its proxy told, and of no state of the end in between.
+use Rattle.std.specs.Prelude.{◌≡◌, ℕ, List, [], ◌∷◌, Option, None, Some, IsSome, Result, Ok, Err, Bool, true, false}
+use Rattle.sspi_types.specs.declared.error.Error.{Error}
+use Rattle.sspi_types.specs.declared.security_status.SecurityStatus.{SecurityStatus}
+use Rattle.sspi_mech.specs.Meaning.{Meaning}
+use Rattle.sspi_mech.specs.declared.step.Answer.{Answer}
+use Rattle.sspi_mech.specs.declared.step.Answer.TheVariants.{Done, Ask, Refused}
+use Rattle.sspi_mech.specs.declared.step.Step.{Step}
+use Rattle.sspi_names.specs.declared.credentials.CredentialsBuffers.{CredentialsBuffers}
+use Rattle.sspi_names.specs.declared.network.NetworkRequest.{NetworkRequest}
+use Rattle.sspi_credssp.specs.declared.turn.Outcome.{Outcome}
+use Rattle.sspi_credssp.specs.declared.turn.Outcome.TheVariants as outcome
+use Rattle.sspi_credssp.specs.declared.turn.Turn.{Turn}
+use Rattle.sspi_credssp.specs.Begun.{IfContext}
+use Rattle.sspi_credssp.specs.Client.{ClientView}
+use Rattle.sspi_credssp.specs.ClientStep.{Asked, Walked}
+use Rattle.sspi_credssp.specs.Context.{ContextSetting}
+use Rattle.sspi_credssp.specs.Counts.{sealed_in, unsealed_in, SameBut}
+use Rattle.sspi_credssp.specs.Proxy.{ProxyMeaning}
+use Rattle.sspi_credssp.specs.Server.{ServerView}
+use Rattle.sspi_credssp.specs.ServerStep.{Knowing, Unknown, Accepted, RefusedAt, known_at}
+use Rattle.sspi_credssp.specs.ServerTurn.{IsUnstepped}
+use Rattle.sspi_delegate.specs.declared.answer.Delegation.{Delegation}
+use Rattle.sspi_delegate.specs.declared.answer.DelegateError.{DelegateError}
+use Rattle.sspi_delegate.specs.declared.answer.DelegateError.TheVariants as errors
+use Rattle.sspi_delegate.specs.Asking.{KdcCalls}
+use Rattle.sspi_delegate.specs.EndTurns.{made_in, opened_in}
+use Rattle.sspi_delegate.specs.Turns.{AllGoOn}
+
+-- what a client has between two of its turns: its context, the credentials that it acquired, and its KDC
+pub record ClientStage (C D : Type 0) : Type 0 where
+  pub context : Option C
+  pub handle : Option CredentialsBuffers
+  pub kdc : D
+
+abbrev pub client_stage : {C D : Type 0} → ClientView C → D → ClientStage C D
+client_stage client kdc = record { context = client.context; handle = client.handle; kdc = kdc }
+
+-- what a server has between two of its turns
+pub record ServerStage (C : Type 0) : Type 0 where
+  pub context : Option C
+  pub handle : Option CredentialsBuffers
+
+abbrev pub server_stage : {C P : Type 0} → ServerView C P → ServerStage C
+server_stage server = record { context = server.context; handle = server.handle }
+
+-- `first` is the client as it was made
+module _ {C D : Type 0} (c : Meaning ContextSetting C) (k : KdcCalls D) (first : ClientView C) where
+  abbrev pub client_at : ClientStage C D → ClientView C
+  client_at stage = record first { context = stage.context; handle = stage.handle }
+
+  -- One step of the context that is there, or of the one that is made first: it took this token and came to this answer. Each of
+  -- its questions went to the KDC, one after another, and it went on with the reply.
+  pub record ClientStepped (stage : ClientStage C D) (token : Option (List ℕ)) (answer : Answer) (next : ClientStage C D) : Type 0 where
+    pub asked : List Asked
+    pub replied : k.replies stage.kdc asked next.kdc
+    pub walked : IfContext next.context (Walked c (client_at stage) next.handle token 0 asked answer)
+
+  -- no step: the context may have sealed and opened, and no KDC was asked
+  pub record ClientRested (stage next : ClientStage C D) : Type 0 where
+    pub context : SameBut c stage.context next.context
+    pub handle : IsSome stage.context → next.handle ≡ stage.handle
+    pub unasked : k.replies stage.kdc [] next.kdc
+
+  -- By whether the turn negotiated, and to which status: this status and the turn's output are the answer of the step, also where
+  -- the turn was refused after it. Without a status the step itself was refused, and with the kind of the turn.
+  abbrev pub ClientMovedBy : Bool → Option SecurityStatus → Outcome → Option (List ℕ) → List ℕ → ClientStage C D → ClientStage C D → Type 0
+  ClientMovedBy false status came token output stage next = ClientRested stage next
+  ClientMovedBy true (Some status) came token output stage next =
+      ClientStepped stage token (Done (record { status = status; output = output })) next
+  ClientMovedBy true None (outcome.Refused kind reply) token output stage next =
+      (error : Error) × (error.error_type ≡ kind) × ClientStepped stage token (Refused error) next
+  ClientMovedBy true None came token output stage next = ⊥
+
+  -- one turn after those before it; the context has sealed and opened as often as the turns say
+  pub record ClientLink (past : List Turn) (t : Turn) (stage next : ClientStage C D) : Type 0 where
+    pub moved : ClientMovedBy t.acts.negotiated t.acts.status t.outcome t.delivered.nego_tokens t.output stage next
+    pub sealed : sealed_in c next.context ≡ made_in (t ∷ past)
+    pub opened : unsealed_in c next.context ≡ opened_in (t ∷ past)
+
+  -- the stage that these turns lead to, the newest first, from a client as it was made and a KDC that was `kdc`
+  abbrev pub ClientChain : D → List Turn → ClientStage C D → Type 0
+  ClientChain kdc [] stage = stage ≡ client_stage first kdc
+  ClientChain kdc (t ∷ past) next = (stage : ClientStage C D) × ClientChain kdc past stage × ClientLink past t stage next
+
+  -- Where there was no memory: the stage of all turns, or in one further turn, which has no record, a step that waits for a reply
+  -- of the KDC.
+  pub data ClientChainLeft (kdc : D) (turns : List Turn) (now : ClientStage C D) : Type 0 where
+    at_rest : ClientChain kdc turns now → ClientChainLeft kdc turns now
+    waiting : (stage : ClientStage C D) (token : Option (List ℕ)) (question : NetworkRequest) (asked : D) → AllGoOn turns →
+        ClientChain kdc turns stage → ClientStepped stage token (Ask question) (record now { kdc = asked }) → k.lost asked now.kdc →
+        ClientChainLeft kdc turns now
+
+  -- the stage of an exchange's client, by the answer
+  abbrev pub ClientChained : D → Result Delegation DelegateError → List Turn → ClientStage C D → Type 0
+  ClientChained kdc (Ok delegation) turns now = ClientChain kdc turns now
+  ClientChained kdc (Err errors.InsufficientMemory) turns now = ClientChainLeft kdc turns now
+  ClientChained kdc (Err error) turns now = ClientChain kdc turns now
+
+-- `first` is the server as it was made, whose proxy tells the entries among which peers are looked up
+module _ {C P : Type 0} (c : Meaning ContextSetting C) (p : ProxyMeaning P) (first : ServerView C P) where
+  abbrev pub server_at : ServerStage C → ServerView C P
+  server_at stage = record first { context = stage.context; handle = stage.handle }
+
+  -- One step of the context that is there, or of the one that is made first: it took this token and came to this answer, and after
+  -- it the server came to know so much of its peer.
+  abbrev pub ServerStepped : Knowing → ServerStage C → Option (List ℕ) → Result Step Error → ServerStage C → Type 0
+  ServerStepped known stage token answer next = IfContext next.context (Accepted c p (server_at stage) next.handle token known answer)
+
+  -- no step: the context may have sealed and opened, or was but made, in a turn that was refused before its step
+  pub record ServerRested (stage next : ServerStage C) : Type 0 where
+    pub context : IsUnstepped c (server_at stage) (server_at next)
+    pub handle : IsSome stage.context → next.handle ≡ stage.handle
+
+  -- As on a client. A turn that was not refused at the end of the authentication came to know its peer, and completed the context;
+  -- one that was refused then may have come less far.
+  abbrev pub ServerMovedBy : Bool → Option SecurityStatus → Outcome → Option (List ℕ) → List ℕ → ServerStage C → ServerStage C → Type 0
+  ServerMovedBy false status came token output stage next = ServerRested stage next
+  ServerMovedBy true (Some status) (outcome.Refused kind reply) token output stage next = IfContext next.context
+      (RefusedAt c p (Some status) (server_at stage) next.handle token (Ok (record { status = status; output = output })))
+  ServerMovedBy true (Some status) came token output stage next =
+      ServerStepped (known_at c p status) stage token (Ok (record { status = status; output = output })) next
+  ServerMovedBy true None (outcome.Refused kind reply) token output stage next =
+      (error : Error) × (error.error_type ≡ kind) × ServerStepped Unknown stage token (Err error) next
+  ServerMovedBy true None came token output stage next = ⊥
+
+  -- one turn after those before it; the context has sealed and opened as often as the turns say
+  pub record ServerLink (past : List Turn) (t : Turn) (stage next : ServerStage C) : Type 0 where
+    pub moved : ServerMovedBy t.acts.negotiated t.acts.status t.outcome t.delivered.nego_tokens t.output stage next
+    pub sealed : sealed_in c next.context ≡ made_in (t ∷ past)
+    pub opened : unsealed_in c next.context ≡ opened_in (t ∷ past)
+
+  -- the stage that these turns lead to, the newest first, from a server as it was made
+  abbrev pub ServerChain : List Turn → ServerStage C → Type 0
+  ServerChain [] stage = stage ≡ server_stage first
+  ServerChain (t ∷ past) next = (stage : ServerStage C) × ServerChain past stage × ServerLink past t stage next

@@ -1,0 +1,7 @@
+//! Tests of the exchange and of its links, by the calls that every caller has.
+//!
+//! The exchange stands in `sspi_delegate`, which is then proved once: a crate with tests is proved with them and without.
+#![tactic(auto)]
+
+#[cfg(test)]
+mod tests;
