@@ -2,12 +2,11 @@
 use Rattle.std.proofs.Common.{◌≡◌, ◌≢◌, ℕ, ◌==◌, ◌^◌, ◌-◌, List, [], length, Bool, true, false, Option, None, Some, Result, Ok, Err, inl, inr, ◌⊎◌, nat_lt, refl, subst, filter, take, if◌then◌else◌}
 use Rattle.std.specs.List.{list_any}
 use Rattle.std.specs.Result.{result_err}
-use Rattle.std.specs.Str.{bytes_eq, is_utf8}
+use Rattle.std.specs.Str.{is_utf8}
 use Rattle.sspi_types.specs.declared.credential_use.CredentialUse.{CredentialUse}
 use Rattle.sspi_types.specs.declared.credential_use.CredentialUse.TheVariants as purposes
-use Rattle.sspi_types.specs.declared.error.Error.{Error}
 use Rattle.sspi_types.specs.declared.error_kind.ErrorKind.{ErrorKind}
-use Rattle.sspi_types.specs.declared.error_kind.ErrorKind.TheVariants.{DowngradeDetected, InsufficientMemory, OutOfSequence, NoCredentials, InvalidToken, MessageAltered, ContextExpired}
+use Rattle.sspi_types.specs.declared.error_kind.ErrorKind.TheVariants.{DowngradeDetected, InsufficientMemory, NoCredentials, InvalidToken, MessageAltered, ContextExpired}
 use Rattle.sspi_names.specs.Name.{Name, inner_of}
 use Rattle.sspi_names.specs.declared.credentials.Credentials.{Credentials}
 use Rattle.sspi_names.specs.declared.credentials.Credentials.TheVariants as credentials
@@ -17,17 +16,16 @@ use Rattle.sspi_mech.specs.declared.ntlm.login.Login.{Login}
 use Rattle.sspi_mech.specs.declared.ntlm.stage.Claim.{Claim}
 use Rattle.sspi_mech.specs.declared.ntlm.stage.Stage.{Stage}
 use Rattle.sspi_mech.specs.declared.ntlm.stage.Stage.TheVariants.{Unused, NegotiateSent, AuthenticateSent, ChallengeSent, Claimed}
-use Rattle.sspi_mech.specs.declared.step.Answer.TheVariants.{Refused}
 use Rattle.sspi_mech.specs.Calls.{Call, ToAcquire, ToName, ToIdentify, ToComplete, ToSeal, ToUnseal, ToSign, ToVerify, ToDescribe, ToShowKey}
 use Rattle.sspi_mech.specs.Meaning.{Meaning}
 use Rattle.sspi_mech.specs.Ntlm.{ntlm_meaning, ntlm_refusal, absence}
 use Rattle.sspi_mech.specs.NtlmAcquire.{acquired}
 use Rattle.sspi_mech.specs.NtlmClaims.{claim_in, claim_under, claim_of}
-use Rattle.sspi_mech.specs.NtlmIdentities.{key_by, claimed_key, key_at, with_key, identified}
+use Rattle.sspi_mech.specs.NtlmIdentities.{key_by, key_at, with_key, identified}
 use Rattle.sspi_mech.specs.NtlmIdentities as ntlm
 use Rattle.sspi_mech.specs.NtlmMessages.{Authenticated, read_challenge, is_negotiate}
 use Rattle.sspi_mech.specs.NtlmStage.{NtlmState, peer_direction, name_at}
-use Rattle.sspi_mech.specs.NtlmSteps.{Outcome, Goes, Stops, Steps, login_by, login_of, authenticates, authenticates_as, challenges, claims, client_step, server_step}
+use Rattle.sspi_mech.specs.NtlmSteps.{Outcome, Goes, Stops, login_by, login_of, authenticates, authenticates_as, challenges, claims, client_step, server_step}
 use Rattle.sspi_mech.specs.declared.protection.Direction.{Direction}
 use Rattle.sspi_mech.specs.Protection.{unless_spent, making_refusal, unseal_refusal, verify_refusal}
 use Rattle.sspi_mech.specs.Settings.{Setting}

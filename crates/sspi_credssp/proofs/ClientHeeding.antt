@@ -18,7 +18,7 @@ use Rattle.sspi_credssp.specs.declared.state.CredSspState.{CredSspState}
 use Rattle.sspi_credssp.specs.declared.state.CredSspState.TheVariants.{NegoToken, PubKeyInfo, AuthInfo, Final}
 use Rattle.sspi_credssp.specs.Begun.{BeginCause, unmade, unacquired, IfContext, MadeOr}
 use Rattle.sspi_credssp.specs.Client.{ClientView}
-use Rattle.sspi_credssp.specs.ClientCause.{ClientCause, StateCause, NegoCause, ProveCause, DeliverCause, BlobOpens, OpenedCause, CheckedCause, altered, unsealed, SealsCause}
+use Rattle.sspi_credssp.specs.ClientCause.{ClientCause, StateCause, NegoCause, ProveCause, BlobOpens, OpenedCause, CheckedCause, altered, unsealed, SealsCause}
 use Rattle.sspi_credssp.specs.ClientStep.{client_args, Asked, Walked, stepped, resumed, still_asked, recounted, OnStep, HasStepped, refused_answer}
 use Rattle.sspi_credssp.specs.Context.{ContextSetting, ForClient}
 use Rattle.sspi_credssp.specs.Counts.{is_waiting_in}
@@ -153,6 +153,17 @@ module _ {C : Type 0} (c : Meaning ContextSetting C) (never : NeverRefuses c Dow
             (state_never old.state d new unanswered)
             (not_here (is_altered_in old.context old.noted d.version) MessageAltered DowngradeDetected _ (λ e. absurd (cc (e))) later).1) code.1;
       }
+
+  -- a resumed step refuses with that kind only where its context does
+  pub resumed_never : (start : ClientView C) (d : TsRequest) (tries : ℕ) (log : List Asked) (r : Result Progress Error) (new : ClientView C) →
+      IfErr r (λ error. error.error_type ≢ InsufficientMemory → NegoCause c new.acts.status new error.error_type) → HasStepped c start d tries log r new →
+      IsErrAnd r (λ error. error.error_type ≡ DowngradeDetected) → ⊥
+  resumed_never start d tries log (Ok progress) new cause step is = is
+  resumed_never start d tries log (Err error) new cause step is =
+      let unanswered : new.acts.status ≡ None → new.acts.negotiated ≡ true → ⊥ = λ none was.
+      stepped_other new.acts.status new.acts.negotiated start new.handle d.nego_tokens tries log new.output error new.context none was step is in
+      nego_never new.acts.status new unanswered
+      (subst (λ (k : ErrorKind). NegoCause c new.acts.status new k) is (cause (λ memory. absurd (cc (is, memory)))))
 
   pub client_only : (old : ClientView C) (d : TsRequest) (tries : ℕ) (log : List Asked) (r : Result Progress Error) (new : ClientView C) →
       IfErr r (λ error. error.error_type ≢ InsufficientMemory → ClientCause c old d new error.error_type) → HasStepped c old d tries log r new →

@@ -14,7 +14,7 @@ use Rattle.sspi_names.specs.Refusals.{bad_name}
 use Rattle.sspi_names.specs.declared.identity.KeytabIdentity.{KeytabIdentity}
 use Rattle.sspi_tsreq.specs.declared.mode.CredSspMode.{CredSspMode}
 use Rattle.sspi_tsreq.specs.Creds.{malformed, creds_of, creds_text}
-use Rattle.sspi_credssp.proofs.CredentialRefusals.{IfRefused, OfEach, refused_so, so_creds, so_text_of}
+use Rattle.sspi_credssp.proofs.CredentialRefusals.{OfEach, refused_so, so_creds, so_text_of}
 use Rattle.sspi_credssp.specs.Credentials.{delegated_text, delegated_identity, identity_in, named_or_refused}
 
 -- no refusal has an NTSTATUS code

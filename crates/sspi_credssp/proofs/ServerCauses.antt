@@ -3,7 +3,6 @@ use Rattle.std.proofs.Common.{◌≡◌, ◌≢◌, ℕ, List, Option, None, Som
 use Rattle.sspi_types.specs.declared.error.Error.{Error}
 use Rattle.sspi_types.specs.declared.error_kind.ErrorKind.{ErrorKind}
 use Rattle.sspi_types.specs.declared.error_kind.ErrorKind.TheVariants.{InsufficientMemory, MessageAltered, DowngradeDetected}
-use Rattle.sspi_names.specs.declared.credentials.CredentialsBuffers.{CredentialsBuffers}
 use Rattle.sspi_types.specs.declared.security_status.SecurityStatus.{SecurityStatus}
 use Rattle.sspi_types.specs.declared.security_status.SecurityStatus.TheVariants as statuses
 use Rattle.sspi_names.specs.declared.identity.AuthIdentity.{AuthIdentity}
@@ -21,12 +20,6 @@ use Rattle.sspi_credssp.specs.ServerStep.{Completed, HasCome}
 use Rattle.sspi_credssp.specs.ServerTurn.{IsOver}
 use Rattle.sspi_credssp.specs.Noted.{differs, is_old, VersionStops}
 use Rattle.sspi_credssp.proofs.Causes.{stops_map, made_map, made_later}
-
--- noting a version leaves the context and the credentials that it acquired
-pub begun_noted : {T C P : Type 0} (r : Result T Error) (mid new : ServerView C P) (noted : Option ℕ) (Q : Option CredentialsBuffers → C → Type 0) →
-    OnOk r (new ≡ record mid { noted = noted }) → IfContext mid.context (Q mid.handle) → OnOk r (IfContext new.context (Q new.handle))
-begun_noted {C = C} {P = P} (Ok x) mid new noted Q e h = subst (λ (v : ServerView C P). IfContext v.context (Q v.handle)) (sym e) h
-begun_noted (Err e) mid new noted Q same h = tt
 
 module _ {C : Type 0} (c : Meaning ContextSetting C) where
   -- a turn that was refused as it began

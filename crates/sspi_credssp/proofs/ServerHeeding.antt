@@ -1,5 +1,5 @@
 -- A server refuses for the age of its client's version exactly where it meets one, but where its context refuses so.
-use Rattle.std.proofs.Common.{◌≡◌, ◌≢◌, ℕ, List, [], Option, None, Some, IsSome, Result, Ok, Err, IfErr, IsErrAnd, Bool, true, false, refl, sym, subst}
+use Rattle.std.proofs.Common.{◌≡◌, ◌≢◌, ℕ, List, Option, None, Some, IsSome, Result, Ok, Err, IfErr, IsErrAnd, Bool, true, false, refl, sym, subst}
 use Rattle.sspi_types.specs.declared.error.Error.{Error}
 use Rattle.sspi_types.specs.declared.error_kind.ErrorKind.{ErrorKind}
 use Rattle.sspi_types.specs.declared.error_kind.ErrorKind.TheVariants.{DowngradeDetected, InvalidToken, MessageAltered, InsufficientMemory}
@@ -30,7 +30,7 @@ use Rattle.sspi_credssp.specs.Requests.{nonce_of}
 use Rattle.sspi_credssp.specs.Server.{ServerView}
 use Rattle.sspi_credssp.specs.ServerCause.{ServerCause, MakeCause, unlisted, unbegun, ListRefused, StateCause, NegoCause, OverCause, unknown, incomplete, known, AfterCause, ExchangeCause, BlobCause, ProofCause, AnswerCause, altered, unsealed, OpenedCause, UnreadCause, unread, IdentifyCause, nameless, looked, unset, LookUpRefused, failed, nobody, lacks_nonce}
 use Rattle.sspi_credssp.specs.ServerStep.{server_args, Knowing, Unknown, Identified, Accepted, accepted, identified, completed, recounted, OnStep, RefusedAt, HasAccepted, HasAcceptedTurn, refused_step}
-use Rattle.sspi_credssp.proofs.ClientHeeding.{IsOther, each_other, not_here, here, made_never, blob_never}
+use Rattle.sspi_credssp.proofs.ClientHeeding.{IsOther, each_other, not_here, here, blob_never}
 use Rattle.sspi_credssp.proofs.CredentialRefusals.{refused_so, so_read}
 
 look_up_never : (tells : ProxyTells) (name : Name) (before now : ℕ) → LookUpRefused tells name before now DowngradeDetected → ⊥

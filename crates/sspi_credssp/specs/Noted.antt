@@ -1,6 +1,6 @@
 -- The version that an end notes of its peer: the first that it looks at, unless that is too old. Both ends look at a version
 -- in the same way. A client looks at that of each request but its first, which it makes itself; a server once it has a context.
-use Rattle.std.specs.Prelude.{◌≡◌, ℕ, ◌==◌, Option, None, Some, Bool, true, false, not, nat_lt, if◌then◌else◌}
+use Rattle.std.specs.Prelude.{ℕ, ◌==◌, Option, None, Some, Bool, false, not, nat_lt, if◌then◌else◌}
 use Rattle.sspi_types.specs.declared.error_kind.ErrorKind.{ErrorKind}
 use Rattle.sspi_types.specs.declared.error_kind.ErrorKind.TheVariants.{DowngradeDetected, MessageAltered}
 use Rattle.sspi_credssp.specs.Stops.{StopsIf}

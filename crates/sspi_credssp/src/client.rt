@@ -6,7 +6,7 @@ ghost use Rattle.sspi_credssp.specs.Acts.{no_acts};
 ghost use Rattle.sspi_credssp.specs.Client.{ClientView};
 ghost use Rattle.sspi_credssp.specs.Context.{either, ForClient};
 ghost use Rattle.sspi_credssp.specs.Counts.{IsUnusedIn, is_waiting_in, left_in};
-ghost use Rattle.sspi_credssp.specs.Noted.{default_least, is_altered_in, is_old_in, noted_in, VersionStops};
+ghost use Rattle.sspi_credssp.specs.Noted.{default_least, is_altered_in, is_old_in, noted_in};
 ghost use Rattle.sspi_credssp.specs.Requests.{is_code};
 ghost use Rattle.sspi_credssp.specs.Stops.{StopsIf};
 
@@ -269,6 +269,9 @@ impl<N: Mechanism, K: Mechanism> CredSspClient<N, K> {
             self.new.acts.negotiated ≡ true }
         ensures cause { IfErr result (λ error. error.error_type ≢ ErrorKind.InsufficientMemory →
             ResumeCause (either N.REQUESTS N.meaning K.meaning) self.old self.new error.error_type) }
+        ensures heeded { let c = either N.REQUESTS N.meaning K.meaning in (start : ClientView (SspiContext N K)) (d : TsRequest)
+            (tries : ℕ) (log : List Asked) (q : NetworkRequest) →
+            IsUnderway c start d self.old → StepsTo c start d tries log (answers.Ask q) self.old → ClientHeeds c start d result self.new }
         ensures plain { IfErr result (λ error. error.nstatus ≡ None) }
         ensures idle { is_waiting_in (either N.REQUESTS N.meaning K.meaning) self.old.context ≡ false →
             IsErr result × (self.new ≡ record self.old { acts = no_acts; output = [] }) }

@@ -1,6 +1,6 @@
 // The version that an end notes of its peer. Both ends look at a version here, and nowhere else.
 ghost use Rattle.std.specs.Prelude.{◌≡◌, None, Some, false, OnOk, OnErr, IfErr};
-ghost use Rattle.sspi_credssp.specs.Noted.{default_least, differs, is_old, noted_with, VersionStops};
+ghost use Rattle.sspi_credssp.specs.Noted.{differs, is_old, noted_with, VersionStops};
 
 use sspi_types::{Error, ErrorKind, Reason};
 

@@ -23,7 +23,7 @@ use Rattle.sspi_credssp.specs.Counts.{sealed_in, unsealed_in, SameBut, silent, i
 use Rattle.sspi_credssp.specs.Noted.{noted_in, noted_with}
 use Rattle.sspi_credssp.specs.Turn.{ClientFrame, UnlessRefused, FitsNoted}
 use Rattle.sspi_delegate.specs.ClientRun.{client_state, client_noted, has_turn, ClientEnd, client_end, client_frame_at, EachClientTurn, ClientRan, HasBegun, ClientFollows}
-use Rattle.sspi_delegate.specs.EndTurns.{made_in, opened_in, is_replied, is_ended, any_proved, any_ended, OthersGoOn}
+use Rattle.sspi_delegate.specs.EndTurns.{made_in, opened_in, is_replied, is_ended, any_proved, any_ended}
 use Rattle.sspi_delegate.specs.Turns.{GoesOn, AllGoOn}
 use Rattle.sspi_delegate.specs.Refusals.{StepsSo}
 use Rattle.sspi_delegate.proofs.Alternating.{others_go}

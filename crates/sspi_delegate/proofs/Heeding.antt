@@ -2,8 +2,6 @@
 use Rattle.std.proofs.Common.{◌≡◌, ℕ, ◌<◌, List, [], ◌∷◌, Bool, true, false, Option, None, Some, IsSome, Result, Ok, Err, refl, sym, ◌∙◌, ap, subst, nat_lt, if◌then◌else◌}
 use Rattle.std.proofs.lemmas.Bool.{ltb-true, lt-ltb, true≢false}
 use Rattle.sspi_types.specs.declared.error.Error.{Error}
-use Rattle.sspi_types.specs.declared.error_kind.ErrorKind.{ErrorKind}
-use Rattle.sspi_types.specs.declared.error_kind.ErrorKind.TheVariants.{DowngradeDetected}
 use Rattle.sspi_mech.specs.Context.{IsContext}
 use Rattle.sspi_mech.specs.Meaning.{Meaning}
 use Rattle.sspi_names.specs.declared.identity.AuthIdentity.{AuthIdentity}
@@ -15,12 +13,11 @@ use Rattle.sspi_credssp.specs.declared.turn.Turn.{Turn}
 use Rattle.sspi_credssp.specs.Client.{ClientView, IsFreshClient}
 use Rattle.sspi_credssp.specs.ClientTurn.{client_turn}
 use Rattle.sspi_credssp.specs.Context.{ContextSetting}
-use Rattle.sspi_credssp.specs.Heeded.{ClientMeetsOld, ServerMeetsOld}
 use Rattle.sspi_credssp.specs.Noted.{is_old, is_old_in, noted_with}
 use Rattle.sspi_credssp.specs.Proxy.{ProxyMeaning}
 use Rattle.sspi_credssp.specs.Server.{ServerView, IsFreshServer}
 use Rattle.sspi_credssp.specs.ServerTurn.{server_turn}
-use Rattle.sspi_credssp.specs.Turn.{AtNoted, UnlessRefused}
+use Rattle.sspi_credssp.specs.Turn.{AtNoted}
 use Rattle.sspi_credssp.proofs.ClientHeeding.{client_met}
 use Rattle.sspi_credssp.proofs.ServerHeeding.{server_met}
 use Rattle.sspi_delegate.specs.declared.answer.Delegation.{Delegation}
@@ -33,7 +30,7 @@ use Rattle.sspi_delegate.specs.Heeded.{is_first, is_second, IsDowngrade, FindsOl
 use Rattle.sspi_delegate.specs.History.{ClientMakes, ClientHistory, ClientLeft, between, waiting, ClientStops, ClientPast, ServerMakes, ServerHistory, ServerPast}
 use Rattle.sspi_delegate.specs.ServerRun.{server_noted, ServerEnd, server_end, EachServerTurn, ServerFollows}
 use Rattle.sspi_delegate.specs.Turns.{GoesOn, AllGoOn}
-use Rattle.sspi_delegate.proofs.ClientSteps.{client_underway, noted_by_two, went_noted}
+use Rattle.sspi_delegate.proofs.ClientSteps.{client_underway, noted_by_two}
 use Rattle.sspi_delegate.proofs.Histories.{client_stopped_history, server_past_history}
 use Rattle.sspi_delegate.proofs.HistoryRuns.{client_turn_of, client_went, history_follows, server_turn_of, server_went, server_history_follows}
 use Rattle.sspi_delegate.proofs.ServerSteps.{noted_by_one, server_turned}

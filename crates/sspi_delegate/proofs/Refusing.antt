@@ -19,7 +19,6 @@ use Rattle.sspi_credssp.specs.Counts.{is_waiting_in}
 use Rattle.sspi_credssp.specs.Noted.{is_altered_in, is_old_in}
 use Rattle.sspi_credssp.specs.Proxy.{ProxyMeaning, ProxyTells, IsAsked}
 use Rattle.sspi_credssp.specs.Stops.{StopsIf}
-use Rattle.sspi_credssp.specs.Turn.{FitsNoted}
 use Rattle.sspi_delegate.specs.Refusals.{ClientRefuses, ProxyStays}
 use Rattle.sspi_credssp.specs.declared.turn.Outcome.TheVariants as outcome
 

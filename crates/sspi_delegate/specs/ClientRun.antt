@@ -1,6 +1,6 @@
 -- The turns of a client, one after another (MS-CSSP 3.1.5.1). The client's state and the version that it noted are those
 -- that its turns say.
-use Rattle.std.specs.Prelude.{◌≡◌, ℕ, List, [], ◌∷◌, Option, None, Some, IsSome, Bool, true, false, if◌then◌else◌}
+use Rattle.std.specs.Prelude.{◌≡◌, ℕ, List, [], ◌∷◌, Option, None, IsSome, Bool, true, false, if◌then◌else◌}
 use Rattle.sspi_mech.specs.Meaning.{Meaning}
 use Rattle.sspi_names.specs.declared.credentials.Credentials.{Credentials}
 use Rattle.sspi_tsreq.specs.declared.mode.CredSspMode.{CredSspMode}

@@ -50,16 +50,16 @@ fn of_a_client(rt: HostRuntime) {
 }
 
 /// A client that takes servers from this version on takes one of it, and refuses the one before.
-fn takes_from<E: ClientEnd>(rt: &impl Abort, alloc: Global, least: u32) {
+fn takes_from<E: ClientEnd>(rt: &impl Abort, alloc: Global, before: u32, least: u32) {
     let mut client = begun(rt, plain_client::<E>(rt, alloc).taking(least));
-    finds_old(rt, alloc, &mut client, least - 1);
+    finds_old(rt, alloc, &mut client, before);
     let _ = replies(rt, &mut client, second(rt, alloc, least));
 }
 
 fn takes_from_each<E: ClientEnd>(rt: &impl Abort, alloc: Global) {
-    takes_from::<E>(rt, alloc, 7);
-    takes_from::<E>(rt, alloc, 6);
-    takes_from::<E>(rt, alloc, 1);
+    takes_from::<E>(rt, alloc, 6, 7);
+    takes_from::<E>(rt, alloc, 5, 6);
+    takes_from::<E>(rt, alloc, 0, 1);
     let mut client = begun(rt, plain_client::<E>(rt, alloc).taking(0));
     let _ = replies(rt, &mut client, second(rt, alloc, 0));
 }
