@@ -4,7 +4,7 @@ ghost use Rattle.sspi_credssp.specs.Acts.{no_acts};
 ghost use Rattle.sspi_credssp.specs.Begun.{Begun, IfContext, OnContext, MadeOr};
 ghost use Rattle.sspi_credssp.specs.Context.{either};
 ghost use Rattle.sspi_credssp.specs.Counts.{IsUnusedIn};
-ghost use Rattle.sspi_credssp.specs.Noted.{default_least, differs, is_old, noted_with, VersionStops};
+ghost use Rattle.sspi_credssp.specs.Noted.{default_least, differs, is_old, VersionStops};
 ghost use Rattle.sspi_credssp.specs.Peers.{list_calls, lists_in};
 ghost use Rattle.sspi_credssp.specs.Proxy.{IsAsked, HasAsked, IsLater};
 
