@@ -13,13 +13,13 @@ use Rattle.sspi_scenario.specs.Held.{HoldsValues}
 use Rattle.sspi_run.specs.Ends.{NtlmContext, credentials_by, client_mode_by, server_mode_by, IsClientOf, IsServerOf, link_in}
 use Rattle.sspi_run.specs.Outcome.{user_identity, IsPlain}
 
-plain_client : (s : Scenario) (client : ClientView NtlmContext) → IsClientOf s client → s.mode ≡ Ntlm → IsPlainClient client.mode
+pub plain_client : (s : Scenario) (client : ClientView NtlmContext) → IsClientOf s client → s.mode ≡ Ntlm → IsPlainClient client.mode
 plain_client s client named plain = subst IsPlainClient (sym (named.mode ∙ ap (λ (mode : Mode). client_mode_by mode s) plain)) tt
 
 pub plain_server : (s : Scenario) (server : ServerView NtlmContext TableView) → IsServerOf s server → s.mode ≡ Ntlm → IsPlainServer server.mode
 plain_server s server named plain = subst IsPlainServer (sym (named.mode ∙ ap (λ (mode : Mode). server_mode_by mode s) plain)) tt
 
-challenged : (s : Scenario) (server : ServerView NtlmContext TableView) → IsServerOf s server → HoldsValues s → s.mode ≡ Ntlm → HasChallenge server.mode
+pub challenged : (s : Scenario) (server : ServerView NtlmContext TableView) → IsServerOf s server → HoldsValues s → s.mode ≡ Ntlm → HasChallenge server.mode
 challenged s server named held plain = subst HasChallenge (sym (named.mode ∙ ap (λ (mode : Mode). server_mode_by mode s) plain)) held.challenge_length
 
 abbrev pub plain_match : (s : Scenario) (client : ClientView NtlmContext) (server : ServerView NtlmContext TableView) → IsClientOf s client → IsServerOf s server →

@@ -43,10 +43,10 @@ pub fn server_mode(alloc: Global, scenario: &Scenario) -> Result<ServerMode, All
 }
 
 /// What an end of a negotiation begins with.
-fn first_config(package: Package, ntlm: NtlmConfig) -> ProtocolConfig
-    ensures { result ≡ first_config package ntlm }
+fn first_config(protocol: Package, ntlm: NtlmConfig) -> ProtocolConfig
+    ensures { result ≡ first_config protocol ntlm }
 {
-    match package {
+    match protocol {
         Package::Ntlm => ProtocolConfig::Ntlm(ntlm),
     }
 }
