@@ -1,0 +1,8 @@
+//! Tests of the two ends of a negotiation over plain NTLM, and of what they are made of, by the calls that every caller has.
+//!
+//! What an end keeps over a step, refused or not, is seen by what it does next. The ends stand in `sspi_negotiate`, which is
+//! then proved once: a crate with tests is proved with them and without.
+#![tactic(auto)]
+
+#[cfg(test)]
+mod tests;

@@ -1,0 +1,14 @@
+mod addresses;
+mod client;
+mod configurations;
+mod contexts;
+mod credentials;
+mod ends;
+mod exchange;
+mod guests;
+mod packages;
+mod server;
+mod statuses;
+mod suspension;
+mod tokens;
+mod told;
