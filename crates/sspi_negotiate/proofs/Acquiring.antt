@@ -16,9 +16,11 @@ use Rattle.sspi_negotiate.specs.Rule.{TakenBy}
 use Rattle.sspi_negotiate.specs.Values.{Negotiation, values_of}
 
 moved : {M : Type 0} (asked : Option Credentials) (m2 : M) (s mid : Negotiation M) → mid ≡ record s { mech = mid.mech } →
-    record mid { kept = option_map credentials_buffers_of asked; mech = m2 } ≡ record s { kept = option_map credentials_buffers_of asked; mech = m2 }
+    record mid { kept = option_map credentials_buffers_of asked; mech = m2 }
+    ≡ record s { kept = option_map credentials_buffers_of asked; mech = m2 }
 moved {M = M} asked m2 s mid rest =
-    let change : Negotiation M → Negotiation M = λ x. record x { kept = option_map credentials_buffers_of asked; mech = m2 } in ap change rest
+    let change : Negotiation M → Negotiation M = λ x. record x { kept = option_map credentials_buffers_of asked; mech = m2 } in
+    ap change rest
 
 module _ {N K : Type 0} (n : Meaning Setting N) (k : Meaning Setting K) where
   pub acquired_in_hand : (s mid s2 : Negotiation (NegotiatedProtocol N K)) (use_ : CredentialUse) (asked : Option Credentials)

@@ -17,7 +17,8 @@ use Rattle.sspi_negotiate.specs.declared.branch.Branch.TheVariants.{Idle, Openin
 use Rattle.sspi_negotiate.specs.declared.branch.Opening.{Opening as FirstStep}
 use Rattle.sspi_negotiate.specs.declared.protocol.NegotiatedProtocol.{NegotiatedProtocol}
 use Rattle.sspi_negotiate.specs.declared.protocol.NegotiatedProtocol.TheVariants as hands
-use Rattle.sspi_negotiate.specs.Client.{begun, steps_again, falls_back, falls, stepped, resumes_opening, resumes_answering, resumed_at, spnego_resumed}
+use Rattle.sspi_negotiate.specs.Client.{begun, steps_again, falls_back, falls, stepped}
+use Rattle.sspi_negotiate.specs.Client.{resumes_opening, resumes_answering, resumed_at, spnego_resumed}
 use Rattle.sspi_negotiate.specs.Fallback.{is_fallback}
 use Rattle.sspi_negotiate.specs.Follows.{Follows, Went}
 use Rattle.sspi_negotiate.specs.Hand.{hand, hand_of, asks_left, in_place_of_kerberos, is_kerberos_hand}
@@ -41,25 +42,31 @@ module _ {N K : Type 0} (r q : ℕ) (n : Meaning Setting N) (k : Meaning Setting
   enough (hands.Kerberos m) m2 is h = omega (arith, h)
   enough (hands.Ntlm m) m2 is h = absurd (false≢true is)
 
-  again_step : (computer : List ℕ) (v : Values) (first : FirstStep) (m m3 m4 m2 : NegotiatedProtocol N K) (a : StepArgs) (x : Answer) (e : NetworkRequest) (w v2 : Values) →
+  again_step : (computer : List ℕ) (v : Values) (first : FirstStep) (m m3 m4 m2 : NegotiatedProtocol N K) (a : StepArgs) (x : Answer)
+      (e : NetworkRequest) (w v2 : Values) →
       is_kerberos_hand (hand_of m) ≡ true → (hand n k).made (in_place_of_kerberos computer) m3 → (hand n k).steps m3 a x m4 →
-      Went x (λ step. Follows (hand n k) (begun v step) m4 (Ask e) v2 m2) (λ kind. Follows (hand n k) (Stops v kind) m4 (Ask e) v2 m2) (Ask e) w v2 m4 m2 → Falls m2 m
+      Went x (λ step. Follows (hand n k) (begun v step) m4 (Ask e) v2 m2) (λ kind. Follows (hand n k) (Stops v kind) m4 (Ask e) v2 m2)
+      (Ask e) w v2 m4 m2 → Falls m2 m
   again_step computer v first m m3 m4 m2 a (Done step) e w v2 is made h went =
       absurd (ends IsQuiet (hand n k) (begun v step) m4 m2 (Ask e) v2 (quiet_begun v step) went)
   again_step computer v first m m3 m4 m2 a (Ask e3) e w v2 is made h went =
       enough m m2 is (subst (λ y. asks_left r n k y < r) (sym went.2) (left_again r q n k ln lk computer m3 m4 a e3 made h))
   again_step computer v first m m3 m4 m2 a (Refused error) e w v2 is made h went = absurd went.1.0
 
-  fallen : (b : Bool) (w v : Values) (first : FirstStep) (kind : ErrorKind) (m m1 m2 : NegotiatedProtocol N K) (e : NetworkRequest) (v2 : Values) →
-      (b ≡ true → is_kerberos_hand (hand_of m) ≡ true) → Follows (hand n k) (cond b (falls_back v first) (Stops w kind)) m1 (Ask e) v2 m2 → Falls m2 m
+  fallen : (b : Bool) (w v : Values) (first : FirstStep) (kind : ErrorKind) (m m1 m2 : NegotiatedProtocol N K) (e : NetworkRequest)
+      (v2 : Values) →
+      (b ≡ true → is_kerberos_hand (hand_of m) ≡ true) →
+      Follows (hand n k) (cond b (falls_back v first) (Stops w kind)) m1 (Ask e) v2 m2 → Falls m2 m
   unfolding falls_back steps_again
   fallen true w v first kind m m1 m2 e v2 is f =
       again_step v.computer _ first m f.0 f.2.0 m2 _ f.2.1 e _ v2 (is refl) f.1 f.2.2 f.2.3
   fallen false w v first kind m m1 m2 e v2 is f = absurd f.0
 
-  opening_step : (first : FirstStep) (w v : Values) (reply : Reply) (m m1 m2 : NegotiatedProtocol N K) (x : Answer) (e : NetworkRequest) (v2 : Values) →
+  opening_step : (first : FirstStep) (w v : Values) (reply : Reply) (m m1 m2 : NegotiatedProtocol N K) (x : Answer) (e : NetworkRequest)
+      (v2 : Values) →
       v.hand ≡ hand_of m → (hand n k).resumes m reply x m1 →
-      Went x (λ step. Follows (hand n k) (begun v step) m1 (Ask e) v2 m2) (λ kind. Follows (hand n k) (falls w v first kind) m1 (Ask e) v2 m2) (Ask e) w v2 m1 m2 → Falls m2 m
+      Went x (λ step. Follows (hand n k) (begun v step) m1 (Ask e) v2 m2)
+      (λ kind. Follows (hand n k) (falls w v first kind) m1 (Ask e) v2 m2) (Ask e) w v2 m1 m2 → Falls m2 m
   unfolding Falls
   opening_step first w v reply m m1 m2 (Done step) e v2 same h went =
       absurd (ends IsQuiet (hand n k) (begun v step) m1 m2 (Ask e) v2 (quiet_begun v step) went)
@@ -69,9 +76,11 @@ module _ {N K : Type 0} (r q : ℕ) (n : Meaning Setting N) (k : Meaning Setting
       fallen (is_fallback error.error_type && is_kerberos_hand v.hand && v.packages.ntlm) w v first error.error_type m m1 m2 e v2
       (λ yes. ap is_kerberos_hand (sym same) ∙ third (is_fallback error.error_type) (is_kerberos_hand v.hand) v.packages.ntlm yes) went.1
 
-  answering_step : (token : NegTokenTarg) (w v : Values) (reply : Reply) (m m1 m2 : NegotiatedProtocol N K) (x : Answer) (e : NetworkRequest) (v2 : Values) →
+  answering_step : (token : NegTokenTarg) (w v : Values) (reply : Reply) (m m1 m2 : NegotiatedProtocol N K) (x : Answer)
+      (e : NetworkRequest) (v2 : Values) →
       (hand n k).resumes m reply x m1 →
-      Went x (λ step. Follows (hand n k) (stepped token v step) m1 (Ask e) v2 m2) (λ kind. Follows (hand n k) (Stops w kind) m1 (Ask e) v2 m2) (Ask e) w v2 m1 m2 → Falls m2 m
+      Went x (λ step. Follows (hand n k) (stepped token v step) m1 (Ask e) v2 m2)
+      (λ kind. Follows (hand n k) (Stops w kind) m1 (Ask e) v2 m2) (Ask e) w v2 m1 m2 → Falls m2 m
   unfolding Falls
   answering_step token w v reply m m1 m2 (Done step) e v2 h went =
       absurd (ends IsQuiet (hand n k) (stepped token v step) m1 m2 (Ask e) v2 (quiet_stepped token v step) went)
@@ -79,7 +88,8 @@ module _ {N K : Type 0} (r q : ℕ) (n : Meaning Setting N) (k : Meaning Setting
       subst (λ y. asks_left r n k y < asks_left r n k m) (sym went.2) (left_falls r q n k ln lk m m1 reply e3 h)
   answering_step token w v reply m m1 m2 (Refused error) e v2 h went = absurd went.1.0
 
-  resumed_falls_at : (branch : Branch) (v : Values) (reply : Reply) (m m2 : NegotiatedProtocol N K) (e : NetworkRequest) (v2 : Values) → v.hand ≡ hand_of m →
+  resumed_falls_at : (branch : Branch) (v : Values) (reply : Reply) (m m2 : NegotiatedProtocol N K) (e : NetworkRequest) (v2 : Values) →
+      v.hand ≡ hand_of m →
       Follows (hand n k) (resumed_at branch v reply) m (Ask e) v2 m2 → Falls m2 m
   unfolding resumes_opening resumes_answering
   resumed_falls_at Idle v reply m m2 e v2 same f = absurd f.0

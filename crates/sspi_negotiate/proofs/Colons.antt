@@ -1,5 +1,6 @@
 -- Groups between colons: how a text's parts follow from those of its pieces, and why at most one reading of an address holds.
-use Rattle.std.proofs.Common.{◌≡◌, ◌≢◌, ℕ, ◌+◌, ◌<◌, Bool, true, false, List, [], ◌∷◌, ◌++◌, length, refl, sym, ◌∙◌, ap, All, inl, inr, Option, Some, None, arith, eqb, get_or, drop, lit<}
+use Rattle.std.proofs.Common.{◌≡◌, ◌≢◌, ℕ, ◌+◌, ◌<◌, Bool, true, false, List, [], ◌∷◌, ◌++◌, length, refl}
+use Rattle.std.proofs.Common.{sym, ◌∙◌, ap, All, inl, inr, Option, Some, None, arith, eqb, get_or, drop, lit<}
 use Rattle.std.specs.List.{slice_split, onto_first}
 use Rattle.std.specs.Char.{IsAsciiHexdigit}
 use Rattle.std.specs.Str.Pattern.{RFindsChar, SplitsAroundMatch}
@@ -20,7 +21,8 @@ All-last P (part ∷ front) last each = All-last P front last (All-tail P part (
 
 pub All-front : (P : List ℕ → Type 0) (front rest : List (List ℕ)) → All P (front ++ rest) → All P front
 All-front P [] rest each = All-nil P
-All-front P (part ∷ front) rest each = All-cons P part front (All-head P part (front ++ rest) each) (All-front P front rest (All-tail P part (front ++ rest) each))
+All-front P (part ∷ front) rest each = All-cons P part front (All-head P part (front ++ rest) each)
+    (All-front P front rest (All-tail P part (front ++ rest) each))
 
 pub All-rest : (P : List ℕ → Type 0) (front rest : List (List ℕ)) → All P (front ++ rest) → All P rest
 All-rest P [] rest each = each
@@ -31,13 +33,16 @@ onto_first-append x [] more some = absurd (omega arith)
 onto_first-append x (part ∷ parts) more some = refl
 
 -- a list that is cut at an element between two lists
-slice_split-append : (p : ℕ → Bool) (xs : List ℕ) (y : ℕ) (ys : List ℕ) → p y ≡ true → slice_split p (xs ++ y ∷ ys) ≡ slice_split p xs ++ slice_split p ys
+slice_split-append : (p : ℕ → Bool) (xs : List ℕ) (y : ℕ) (ys : List ℕ) → p y ≡ true →
+    slice_split p (xs ++ y ∷ ys) ≡ slice_split p xs ++ slice_split p ys
 slice_split-append p [] y ys e = slice_split-cons_yes p y ys e
 slice_split-append p (x ∷ xs) y ys e =
     (elim (p x) as (λ b. p x ≡ b → slice_split p (x ∷ (xs ++ y ∷ ys)) ≡ slice_split p (x ∷ xs) ++ slice_split p ys) [
-      | true ↦ λ at. slice_split-cons_yes p x (xs ++ y ∷ ys) at ∙ ap (λ parts. [] ∷ parts) (slice_split-append p xs y ys e) ∙ ap (λ parts. parts ++ slice_split p ys) (sym (slice_split-cons_yes p x xs at))
+      | true ↦ λ at. slice_split-cons_yes p x (xs ++ y ∷ ys) at ∙ ap (λ parts. [] ∷ parts) (slice_split-append p xs y ys e) ∙
+          ap (λ parts. parts ++ slice_split p ys) (sym (slice_split-cons_yes p x xs at))
       | false ↦ λ at. slice_split-cons_no p x (xs ++ y ∷ ys) at ∙ ap (onto_first x) (slice_split-append p xs y ys e)
-          ∙ onto_first-append x (slice_split p xs) (slice_split p ys) (slice_split_some p xs) ∙ ap (λ parts. parts ++ slice_split p ys) (sym (slice_split-cons_no p x xs at))
+          ∙ onto_first-append x (slice_split p xs) (slice_split p ys) (slice_split_some p xs) ∙
+          ap (λ parts. parts ++ slice_split p ys) (sym (slice_split-cons_no p x xs at))
     ]) refl
 
 pub groups_of-append : (front last : List ℕ) → groups_of (front ++ 58 ∷ last) ≡ groups_of front ++ groups_of last
@@ -45,17 +50,20 @@ groups_of-append front last = slice_split-append (λ byte. eqb byte 58) front 58
 
 -- a text without a colon is one part
 pub groups_of_one : (text : List ℕ) → ((k : ℕ) → k < length text → get_or text k 0 ≢ 58) → groups_of text ≡ text ∷ []
-groups_of_one text lacks = slice_split_none (λ byte. eqb byte 58) text (All-from_get_or (λ byte. eqb byte 58 ≡ false) text 0 (λ k h. ne_eqb (get_or text k 0) 58 (lacks k h)))
+groups_of_one text lacks = slice_split_none (λ byte. eqb byte 58) text
+    (All-from_get_or (λ byte. eqb byte 58 ≡ false) text 0 (λ k h. ne_eqb (get_or text k 0) 58 (lacks k h)))
 
 -- what `rsplit_once` cuts at a colon
-pub rsplit_parts : (s front last : List ℕ) → SplitsAroundMatch (RFindsChar 58) s front last → (s ≡ front ++ 58 ∷ last) × (groups_of s ≡ groups_of front ++ last ∷ [])
+pub rsplit_parts : (s front last : List ℕ) → SplitsAroundMatch (RFindsChar 58) s front last →
+    (s ≡ front ++ 58 ∷ last) × (groups_of s ≡ groups_of front ++ last ∷ [])
 rsplit_parts s front last cut =
     let i = cut.0 in
     let j = cut.1 in
     let found : RFindsChar 58 s (Some (i, j)) = cut.2 in
     let at : drop i s ≡ 58 ∷ drop j s = drop_at_char 58 s i j found.1 (lit< tt) in
     let whole : s ≡ front ++ 58 ∷ last = rw (cut.3, cut.4, ← at) (sym (take-append-drop i s)) in
-    let lacks : (k : ℕ) → k < length last → get_or last k 0 ≢ 58 = rw cut.4 (λ k h. NoCharPasses-char 58 (drop j s) k found.0 (lit< tt) h) in
+    let lacks : (k : ℕ) → k < length last → get_or last k 0 ≢ 58 =
+    rw cut.4 (λ k h. NoCharPasses-char 58 (drop j s) k found.0 (lit< tt) h) in
     (whole, ap groups_of whole ∙ groups_of-append front last ∙ ap (λ parts. groups_of front ++ parts) (groups_of_one last lacks))
 
 -- a text without a dot is no IPv4 address, and so a group is none
@@ -89,25 +97,36 @@ Counts-same P Q to from None counts = λ n q. counts n (from n q)
 Counts-same P Q to from (Some count) counts = (to count counts.0, λ n q. counts.1 n (from n q))
 
 -- the three ways to an IPv4 address at the end
-pub ends_alone : (text : List ℕ) → groups_of text ≡ text ∷ [] → (r : Option ℕ) → Counts r (λ count. IsIpv4 text × (count ≡ 2)) → Counts r (EndsInIpv4 text)
+pub ends_alone : (text : List ℕ) → groups_of text ≡ text ∷ [] → (r : Option ℕ) → Counts r (λ count. IsIpv4 text × (count ≡ 2)) →
+    Counts r (EndsInIpv4 text)
 ends_alone text one =
     Counts-same (λ count. IsIpv4 text × (count ≡ 2)) (EndsInIpv4 text)
     (λ n is. record { front = []; last = text; parts = one; each = All-nil IsGroup; address = is.0; counted = is.1 })
     (λ n ends. let same = same_from_push [] ends.front text ends.last (sym one ∙ ends.parts) in
     (rw same.1 ends.address, rw (← same.0) at ends.counted))
 
-pub ends_after : (text front last : List ℕ) → groups_of text ≡ groups_of front ++ last ∷ [] → IsIpv4 last → (r : Option ℕ) → Counts r (λ count. (n : ℕ) × IsGroups front n × (count ≡ n + 2)) → Counts r (EndsInIpv4 text)
+pub ends_after : (text front last : List ℕ) → groups_of text ≡ groups_of front ++ last ∷ [] → IsIpv4 last →
+    (r : Option ℕ) → Counts r (λ count. (n : ℕ) × IsGroups front n × (count ≡ n + 2)) → Counts r (EndsInIpv4 text)
 ends_after text front last parts address =
     Counts-same (λ count. (n : ℕ) × IsGroups front n × (count ≡ n + 2)) (EndsInIpv4 text)
-    (λ count is. record { front = groups_of front; last = last; parts = parts; each = is.1.each; address = address; counted = rw (← is.1.counted) is.2 })
+    (λ count is. record {
+      front = groups_of front;
+      last = last;
+      parts = parts;
+      each = is.1.each;
+      address = address;
+      counted = rw (← is.1.counted) is.2;
+    })
     (λ count ends. let same = same_from_push (groups_of front) ends.front last ends.last (sym parts ∙ ends.parts) in
     (length (groups_of front), record { each = rw same.0 ends.each; counted = refl }, rw same.0 ends.counted))
 
-pub ends_not : (text front last : List ℕ) → groups_of text ≡ groups_of front ++ last ∷ [] → (IsIpv4 last → ⊥) → (n : ℕ) → EndsInIpv4 text n → ⊥
+pub ends_not : (text front last : List ℕ) → groups_of text ≡ groups_of front ++ last ∷ [] → (IsIpv4 last → ⊥) →
+    (n : ℕ) → EndsInIpv4 text n → ⊥
 ends_not text front last parts address n ends =
     address (rw (same_from_push (groups_of front) ends.front last ends.last (sym parts ∙ ends.parts)).1 ends.address)
 
-pub tail_of_head : (text : List ℕ) (count : ℕ) → IsHead text count × ((n : ℕ) → IsHead text n → n ≡ count) → IsTail text count × ((n : ℕ) → IsTail text n → n ≡ count)
+pub tail_of_head : (text : List ℕ) (count : ℕ) → IsHead text count × ((n : ℕ) → IsHead text n → n ≡ count) →
+    IsTail text count × ((n : ℕ) → IsTail text n → n ≡ count)
 tail_of_head text count head = (inl head.0, λ n. only n)
   where
     only : (n : ℕ) → IsTail text n → n ≡ count

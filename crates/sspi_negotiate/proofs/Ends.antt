@@ -54,7 +54,8 @@ module _ (R : Answer → Values → Type 0) where
   at_question stops on (answered t m1 h) = on t m1 h
   at_question {r = r} {v = v} {v2 = v2} stops on (refused error bad answer same) = at_end r (Refused error) v v2 answer same (stops error)
 
-  pub ends : {M : Type 0} (c : Meaning Origin M) (p : Plan) (m m2 : M) (r : Answer) (v2 : Values) → AllEnds p → Follows c p m r v2 m2 → R r v2
+  pub ends : {M : Type 0} (c : Meaning Origin M) (p : Plan) (m m2 : M) (r : Answer) (v2 : Values) → AllEnds p → Follows c p m r v2 m2 →
+      R r v2
   ends c (Goes v step) m m2 r v2 all f = at_end r (Done step) v v2 f.0 f.1 all
   ends c (Stops v kind) m m2 r v2 all f = at_stop r kind v v2 f.0 f.1 all
   ends c (Takes origin p) m m2 r v2 all f = ends c p f.0 m2 r v2 all f.2

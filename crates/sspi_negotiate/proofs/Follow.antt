@@ -28,7 +28,8 @@ unless_both P Q (Ask request) h k = (h, k)
 unless_both P Q (Refused error) h k = λ other. (h other, k other)
 
 module _ {M : Type 0} {c : Meaning Origin M} {m m2 : M} {v2 : Values} where
-  pub took : {r : Answer} {origin : Origin} {p : Plan} (m1 : M) → c.made origin m1 → Meets c p m1 r v2 m2 → Meets c (Takes origin p) m r v2 m2
+  pub took : {r : Answer} {origin : Origin} {p : Plan} (m1 : M) → c.made origin m1 → Meets c p m1 r v2 m2 →
+      Meets c (Takes origin p) m r v2 m2
   took {r = r} m1 h p = record { as_planned = unless_map r (λ q. (m1, h, q)) p.as_planned }
 
   pub paired : {r : Answer} {go : Bool → Plan} → Meets c (go (c.pairs m)) m r v2 m2 → Meets c (Pairs go) m r v2 m2
@@ -42,18 +43,24 @@ module _ {M : Type 0} {c : Meaning Origin M} {m m2 : M} {v2 : Values} where
       c.accepts m args (Err error) m2 → v2 ≡ v → Meets c (Accepts args v go) m (Refused error) v2 m2
   not_accepted error h same = record { as_planned = λ _. refused error h refl same }
 
-  pub named : {r : Answer} {v : Values} {go : Name → Plan} (name : Name) → c.names m ≡ Some name → Meets c (go name) m r v2 m2 → Meets c (Names v go) m r v2 m2
+  pub named : {r : Answer} {v : Values} {go : Name → Plan} (name : Name) → c.names m ≡ Some name → Meets c (go name) m r v2 m2 →
+      Meets c (Names v go) m r v2 m2
   named {r = r} name h p = record { as_planned = unless_map r (λ q. answered name m (h, refl, q)) p.as_planned }
 
-  pub not_named : {v : Values} {go : Name → Plan} (error : Error) → (error.error_type ≢ InsufficientMemory → c.refuses m ToName error.error_type) →
+  pub not_named : {v : Values} {go : Name → Plan} (error : Error) →
+      (error.error_type ≢ InsufficientMemory → c.refuses m ToName error.error_type) →
       v2 ≡ v → m2 ≡ m → Meets c (Names v go) m (Refused error) v2 m2
   not_named error h same still = record { as_planned = λ other. refused error (h other, still) refl same }
 
-  pub signed : {r : Answer} {v : Values} {text : List ℕ} {go : List ℕ → Plan} (m1 : M) (mic : List ℕ) → c.signs m1 (c.counts m).signed text mic →
-      m1 ≡ c.counted m (one_signed (c.counts m)) → c.permits m (ToSign text) → Meets c (go mic) m1 r v2 m2 → Meets c (Signs text v go) m r v2 m2
-  signed {r = r} m1 mic h counted permitted p = record { as_planned = unless_map r (λ q. answered mic m1 (h, counted, permitted, q)) p.as_planned }
+  pub signed : {r : Answer} {v : Values} {text : List ℕ} {go : List ℕ → Plan} (m1 : M) (mic : List ℕ) →
+      c.signs m1 (c.counts m).signed text mic →
+      m1 ≡ c.counted m (one_signed (c.counts m)) → c.permits m (ToSign text) → Meets c (go mic) m1 r v2 m2 →
+      Meets c (Signs text v go) m r v2 m2
+  signed {r = r} m1 mic h counted permitted p =
+      record { as_planned = unless_map r (λ q. answered mic m1 (h, counted, permitted, q)) p.as_planned }
 
-  pub not_signed : {v : Values} {text : List ℕ} {go : List ℕ → Plan} (error : Error) → (error.error_type ≢ InsufficientMemory → c.refuses m (ToSign text) error.error_type) →
+  pub not_signed : {v : Values} {text : List ℕ} {go : List ℕ → Plan} (error : Error) →
+      (error.error_type ≢ InsufficientMemory → c.refuses m (ToSign text) error.error_type) →
       v2 ≡ v → m2 ≡ m → Meets c (Signs text v go) m (Refused error) v2 m2
   not_signed error h same still = record { as_planned = λ other. refused error (h other, still) refl same }
 

@@ -36,7 +36,8 @@ module _ {N K : Type 0} (r q : ℕ) (n : Meaning Setting N) (k : Meaning Setting
   left_falls (hands.Kerberos m) (hands.Kerberos m2) b e h = omega (arith, lk.resume_asks m m2 b e h)
 
   -- an NTLM that was just made, and asked once
-  pub left_again : (computer : List ℕ) (m m2 : NegotiatedProtocol N K) (a : StepArgs) (e : NetworkRequest) → (hand n k).made (in_place_of_kerberos computer) m →
+  pub left_again : (computer : List ℕ) (m m2 : NegotiatedProtocol N K) (a : StepArgs) (e : NetworkRequest) →
+      (hand n k).made (in_place_of_kerberos computer) m →
       (hand n k).steps m a (Ask e) m2 → asks_left r n k m2 < r
   left_again computer (hands.Ntlm m) (hands.Ntlm m2) a e made h = omega (arith, ln.made_left _ m made, ln.step_asks m m2 a e h)
   left_again computer (hands.Ntlm m) (hands.Kerberos m2) a e made h = absurd h

@@ -1,5 +1,6 @@
 -- A list of package names says the same whether its last word counts or its names are applied in turn.
-use Rattle.std.proofs.Common.{◌≡◌, ℕ, Bool, true, false, not, ◌&&◌, List, [], ◌∷◌, ◌++◌, Option, Some, refl, sym, ◌∙◌, ap, cond, codes, append_assoc, unwrap_or}
+use Rattle.std.proofs.Common.{◌≡◌, ℕ, Bool, true, false, not, ◌&&◌, List, [], ◌∷◌, ◌++◌, Option}
+use Rattle.std.proofs.Common.{Some, refl, sym, ◌∙◌, ap, cond, codes, append_assoc, unwrap_or}
 use Rattle.std.specs.Prelude.{◌||◌}
 use Rattle.std.specs.List.{list_all}
 use Rattle.std.proofs.lemmas.List.{append-nil}
@@ -15,7 +16,8 @@ allowed names = record { ntlm = allows names (codes "ntlm"); kerberos = allows n
 record Disallows (names : List (List ℕ)) (expected : List ℕ) : Type 0 where
   so : list_all is_marked names ≡ true → unwrap_or (last_word names expected) false ≡ false
 
-all_push : (names : List (List ℕ)) (name : List ℕ) → list_all is_marked (names ++ name ∷ []) ≡ (list_all is_marked names && (is_marked name && true))
+all_push : (names : List (List ℕ)) (name : List ℕ) →
+    list_all is_marked (names ++ name ∷ []) ≡ (list_all is_marked names && (is_marked name && true))
 all_push names name = list_all-append is_marked names (name ∷ [])
 
 both_true : (a m : Bool) → (a && (m && true)) ≡ true → (a ≡ true) × (m ≡ true)
@@ -31,7 +33,8 @@ disallows_push names name expected before = record {
       ∙ by_name (is_name_of expected name) (is_marked name) (last_word names expected) parts.1 (before.so parts.0);
 }
   where
-    by_name : (is m : Bool) (word : Option Bool) → m ≡ true → unwrap_or word false ≡ false → unwrap_or (cond is (Some (not m)) word) false ≡ false
+    by_name : (is m : Bool) (word : Option Bool) → m ≡ true → unwrap_or word false ≡ false →
+        unwrap_or (cond is (Some (not m)) word) false ≡ false
     by_name true m word marked rest = ap not marked
     by_name false m word marked rest = rest
 
@@ -49,7 +52,8 @@ chosen_step true false = refl
 chosen_step false m = refl
 
 package_step : (names : List (List ℕ)) (name expected : List ℕ) → Disallows names expected
-    → cond (is_name_of expected name) (not (is_marked name)) (cond (not (list_all is_marked names) || is_marked name) (allows names expected) false) ≡ allows (names ++ name ∷ []) expected
+    → cond (is_name_of expected name) (not (is_marked name))
+    (cond (not (list_all is_marked names) || is_marked name) (allows names expected) false) ≡ allows (names ++ name ∷ []) expected
 package_step names name expected before =
     word_step (is_name_of expected name) (list_all is_marked names) (is_marked name) (last_word names expected) before.so
     ∙ sym (λ i. unwrap_or (last_word-push names name expected i) (all_push names name i))
@@ -65,17 +69,21 @@ state_step : (names : List (List ℕ)) (name : List ℕ) → Disallows names (co
     → applied name (cond (not (list_all is_marked names) || is_marked name) (allowed names) neither) ≡ allowed (names ++ name ∷ [])
 state_step names name no_ntlm no_kerberos =
     let kept = not (list_all is_marked names) || is_marked name in
-    let first = ap (cond (is_name_of (codes "ntlm") name) (not (is_marked name))) (field_of kept (λ p. p.ntlm) (allowed names) neither) ∙ package_step names name (codes "ntlm") no_ntlm in
-    let second = ap (cond (is_name_of (codes "kerberos") name) (not (is_marked name))) (field_of kept (λ p. p.kerberos) (allowed names) neither) ∙ package_step names name (codes "kerberos") no_kerberos in
+    let first = ap (cond (is_name_of (codes "ntlm") name) (not (is_marked name))) (field_of kept (λ p. p.ntlm) (allowed names) neither) ∙
+    package_step names name (codes "ntlm") no_ntlm in
+    let second = ap (cond (is_name_of (codes "kerberos") name) (not (is_marked name)))
+    (field_of kept (λ p. p.kerberos) (allowed names) neither) ∙ package_step names name (codes "kerberos") no_kerberos in
     λ i. record { ntlm = first i; kerberos = second i }
 
-turns : (seen rest : List (List ℕ)) → Disallows seen (codes "ntlm") → Disallows seen (codes "kerberos") → in_turn (not (list_all is_marked seen)) (allowed seen) rest ≡ allowed (seen ++ rest)
+turns : (seen rest : List (List ℕ)) → Disallows seen (codes "ntlm") → Disallows seen (codes "kerberos") →
+    in_turn (not (list_all is_marked seen)) (allowed seen) rest ≡ allowed (seen ++ rest)
 turns seen [] no_ntlm no_kerberos = ap allowed (sym (append-nil seen))
 turns seen (name ∷ rest) no_ntlm no_kerberos =
     let chosen : (not (list_all is_marked seen) || not (is_marked name)) ≡ not (list_all is_marked (seen ++ name ∷ [])) =
     chosen_step (list_all is_marked seen) (is_marked name) ∙ ap not (sym (all_push seen name)) in
     (λ i. in_turn (chosen i) (state_step seen name no_ntlm no_kerberos i) rest)
-    ∙ turns (seen ++ name ∷ []) rest (disallows_push seen name (codes "ntlm") no_ntlm) (disallows_push seen name (codes "kerberos") no_kerberos)
+    ∙ turns (seen ++ name ∷ []) rest (disallows_push seen name (codes "ntlm") no_ntlm)
+    (disallows_push seen name (codes "kerberos") no_kerberos)
     ∙ ap allowed (append_assoc seen (name ∷ []) rest)
 
 pub in_turn_is : (list : List ℕ) → packages_of (Some list) ≡ in_turn false (record { ntlm = true; kerberos = true }) (names_of list)

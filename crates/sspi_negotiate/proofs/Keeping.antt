@@ -38,7 +38,8 @@ kept_from v0 = record {
 }
 
 pub client_keeps : (ip : Bool) (v : Values) (args : StepArgs) → AllEnds (KeptFrom v) (spnego_client ip v args)
-client_keeps ip v args = client_ends (KeptFrom v) (Keeps v) (HasList v → ⊥) (kept_from v) ip v args (λ h has. has.begun h) (λ error. same v) (λ h. same v)
+client_keeps ip v args = client_ends (KeptFrom v) (Keeps v) (HasList v → ⊥) (kept_from v) ip v args (λ h has. has.begun h)
+    (λ error. same v) (λ h. same v)
 
 pub resumed_keeps : (v : Values) (reply : Reply) → AllEnds (KeptFrom v) (spnego_resumed v reply)
 resumed_keeps v reply = resumed_ends (KeptFrom v) (Keeps v) (HasList v → ⊥) (kept_from v) v reply

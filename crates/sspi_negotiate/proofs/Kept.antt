@@ -23,14 +23,17 @@ pub record IsKept (R : Answer → Values → Type 0) (Good : Values → Type 0) 
   pub opening : (v : Values) (first : FirstStep) (q : NetworkRequest) → Good v → R (Ask q) (record v { branch = Opening first })
   pub answering : (v : Values) (token : NegTokenTarg) (q : NetworkRequest) → Good v → R (Ask q) (record v { branch = Answering token })
   pub opening_stop : (v : Values) (first : FirstStep) (error : Error) → Good v → R (Refused error) (record v { branch = Opening first })
-  pub answering_stop : (v : Values) (token : NegTokenTarg) (error : Error) → Good v → R (Refused error) (record v { branch = Answering token })
+  pub answering_stop : (v : Values) (token : NegTokenTarg) (error : Error) → Good v →
+      R (Refused error) (record v { branch = Answering token })
   pub state : (v : Values) (state : NegotiateState) → Good v → Good (record v { state = state })
   pub need : (v : Values) (need : Bool) → Good v → Good (record v { need = need })
   pub kept : (v : Values) (kept : Option CredentialsBuffers) → Good v → Good (record v { kept = kept })
   pub list : (v : Values) (list : List (List ℕ)) → AtFirst → Good v → Good (record v { list = list })
-  pub to_ntlm : (v : Values) → v.packages.ntlm ≡ true → Good v → Good (record v { hand = protocols.Ntlm; packages = record v.packages { kerberos = false } })
+  pub to_ntlm : (v : Values) → v.packages.ntlm ≡ true → Good v →
+      Good (record v { hand = protocols.Ntlm; packages = record v.packages { kerberos = false } })
   pub pick_ntlm : (v : Values) → v.packages.ntlm ≡ true → Good v → Good (record v { hand = protocols.Ntlm })
-  pub to_kerberos : (v : Values) → v.packages.kerberos ≡ true → Good v → Good (record v { hand = protocols.Kerberos; packages = record v.packages { ntlm = false } })
+  pub to_kerberos : (v : Values) → v.packages.kerberos ≡ true → Good v →
+      Good (record v { hand = protocols.Kerberos; packages = record v.packages { ntlm = false } })
   pub rule_kerberos : (v : Values) → v.packages.kerberos ≡ true → Good v → Good (record v { hand = protocols.Kerberos })
 
 pub and_last : (a b : Bool) → a && b ≡ true → b ≡ true

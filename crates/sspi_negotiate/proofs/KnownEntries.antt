@@ -1,5 +1,6 @@
 -- The entries of a name, one entry after the other.
-use Rattle.std.proofs.Common.{◌≡◌, ◌<◌, ◌+◌, ◌++◌, ℕ, List, [], ◌∷◌, length, take, get_or, cond, Bool, true, false, refl, sym, ◌∙◌, ap, append-nil}
+use Rattle.std.proofs.Common.{◌≡◌, ◌<◌, ◌+◌, ◌++◌, ℕ, List, [], ◌∷◌, length, take, get_or}
+use Rattle.std.proofs.Common.{cond, Bool, true, false, refl, sym, ◌∙◌, ap, append-nil}
 use Rattle.std.proofs.lemmas.List.Elements.{filter_more}
 use Rattle.sspi_names.specs.declared.identity.AuthIdentity.{AuthIdentity}
 use Rattle.sspi_names.specs.Name.{Name}
@@ -25,13 +26,15 @@ named_at entries name i d which lt item is =
     ∙ ap (λ b. named name (take i entries) ++ cond b (d ∷ []) []) is
 
 -- an entry of that name is copied, and another is not
-pub named_taken : (entries : List AuthIdentity) (name : Name) (i : ℕ) (d : AuthIdentity) (before after : List AuthIdentity) → i < length entries →
+pub named_taken : (entries : List AuthIdentity) (name : Name) (i : ℕ) (d : AuthIdentity) (before after : List AuthIdentity) →
+    i < length entries →
     d ≡ get_or entries i d → is_named name d ≡ true → after ≡ before ++ (d ∷ []) → before ≡ named name (take i entries) →
     after ≡ named name (take (i + 1) entries)
 named_taken entries name i d before after lt item is pushed held =
     pushed ∙ ap (λ xs. xs ++ (d ∷ [])) held ∙ sym (named_at entries name i d true lt item is)
 
-pub named_left : (entries : List AuthIdentity) (name : Name) (i : ℕ) (d : AuthIdentity) (before after : List AuthIdentity) → i < length entries →
+pub named_left : (entries : List AuthIdentity) (name : Name) (i : ℕ) (d : AuthIdentity) (before after : List AuthIdentity) →
+    i < length entries →
     d ≡ get_or entries i d → is_named name d ≡ false → after ≡ before → before ≡ named name (take i entries) →
     after ≡ named name (take (i + 1) entries)
 named_left entries name i d before after lt item is same held =

@@ -22,13 +22,17 @@ use Rattle.sspi_negotiate.specs.Target.{IsNamedByIp}
 use Rattle.sspi_negotiate.specs.Values.{Negotiation, values_of}
 use Rattle.sspi_negotiate.proofs.Asks.{resumed_falls}
 
-pub accept_moves : {N K : Type 0} (n : Meaning Setting N) (k : Meaning Setting K) (s : Negotiation (NegotiatedProtocol N K)) (args : AcceptArgs)
-    (result : Result Step Error) (s2 : Negotiation (NegotiatedProtocol N K)) → Does n k (spnego_server (values_of s) args) s (told result) s2 →
-    OnErr result (Stays (values_of s) (values_of s2)) → StaysUnused n k s s2 → Moves n k (spnego_server (values_of s) args) s (told result) s2
+pub accept_moves : {N K : Type 0} (n : Meaning Setting N) (k : Meaning Setting K) (s : Negotiation (NegotiatedProtocol N K))
+    (args : AcceptArgs)
+    (result : Result Step Error) (s2 : Negotiation (NegotiatedProtocol N K)) →
+    Does n k (spnego_server (values_of s) args) s (told result) s2 →
+    OnErr result (Stays (values_of s) (values_of s2)) → StaysUnused n k s s2 →
+    Moves n k (spnego_server (values_of s) args) s (told result) s2
 accept_moves n k s args (Ok step) s2 follows stays unused = record { follows = follows; stays = tt; unused = unused }
 accept_moves n k s args (Err error) s2 follows stays unused = record { follows = follows; stays = stays; unused = unused }
 
-pub client_moves : {N K : Type 0} (n : Meaning Setting N) (k : Meaning Setting K) (s : Negotiation (NegotiatedProtocol N K)) (args : StepArgs)
+pub client_moves : {N K : Type 0} (n : Meaning Setting N) (k : Meaning Setting K) (s : Negotiation (NegotiatedProtocol N K))
+    (args : StepArgs)
     (result : Result Progressing Error) (s2 : Negotiation (NegotiatedProtocol N K)) (ip : Bool) → (IsTrue ip ↔ IsNamedByIp args.target) →
     Does n k (spnego_client ip (values_of s) args) s (answer_of result) s2 →
     OnErr result (Stays (values_of s) (values_of s2)) → StaysUnused n k s s2 → ClientMoves n k s args (answer_of result) s2
@@ -40,16 +44,21 @@ client_moves n k s args (Err error) s2 ip is follows stays unused =
     record { ip = ip; ip_is = is; moves = record { follows = follows; stays = stays; unused = unused } }
 
 pub resume_moves : {N K : Type 0} (n : Meaning Setting N) (k : Meaning Setting K) (s : Negotiation (NegotiatedProtocol N K)) (reply : Reply)
-    (result : Result Progressing Error) (s2 : Negotiation (NegotiatedProtocol N K)) → Does n k (spnego_resumed (values_of s) reply) s (answer_of result) s2 →
-    OnErr result (Stays (values_of s) (values_of s2)) → StaysUnused n k s s2 → Moves n k (spnego_resumed (values_of s) reply) s (answer_of result) s2
+    (result : Result Progressing Error) (s2 : Negotiation (NegotiatedProtocol N K)) →
+    Does n k (spnego_resumed (values_of s) reply) s (answer_of result) s2 →
+    OnErr result (Stays (values_of s) (values_of s2)) → StaysUnused n k s s2 →
+    Moves n k (spnego_resumed (values_of s) reply) s (answer_of result) s2
 resume_moves n k s reply (Ok (progress.Done step)) s2 follows stays unused = record { follows = follows; stays = tt; unused = unused }
-resume_moves n k s reply (Ok (progress.Suspended request)) s2 follows stays unused = record { follows = follows; stays = tt; unused = unused }
+resume_moves n k s reply (Ok (progress.Suspended request)) s2 follows stays unused =
+    record { follows = follows; stays = tt; unused = unused }
 resume_moves n k s reply (Err error) s2 follows stays unused = record { follows = follows; stays = stays; unused = unused }
 
 -- a further question to a KDC is one fewer to come
 pub resume_falls : {N K : Type 0} (r q : ℕ) (n : Meaning Setting N) (k : Meaning Setting K) → IsMechanism r n → IsMechanism q k →
-    (s : Negotiation (NegotiatedProtocol N K)) (reply : Reply) (result : Result Progressing Error) (s2 : Negotiation (NegotiatedProtocol N K)) →
-    Does n k (spnego_resumed (values_of s) reply) s (answer_of result) s2 → OnAsk (answer_of result) (asks_left r n k s2.mech < asks_left r n k s.mech)
+    (s : Negotiation (NegotiatedProtocol N K)) (reply : Reply) (result : Result Progressing Error)
+    (s2 : Negotiation (NegotiatedProtocol N K)) →
+    Does n k (spnego_resumed (values_of s) reply) s (answer_of result) s2 →
+    OnAsk (answer_of result) (asks_left r n k s2.mech < asks_left r n k s.mech)
 resume_falls r q n k ln lk s reply (Ok (progress.Done step)) s2 follows = tt
 resume_falls r q n k ln lk s reply (Ok (progress.Suspended request)) s2 follows =
     resumed_falls r q n k ln lk (values_of s) reply s.mech s2.mech request (values_of s2) refl follows.as_planned

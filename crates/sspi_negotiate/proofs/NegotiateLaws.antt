@@ -22,14 +22,16 @@ use Rattle.sspi_negotiate.proofs.Ends.{ends}
 use Rattle.sspi_negotiate.proofs.HandLaws.{hand_lawful}
 use Rattle.sspi_negotiate.proofs.Tidy.{IsTidy, client_tidy, resumed_tidy}
 
-first_fresh : {M : Type 0} (c : Meaning Origin M) → IsContext c → (o : Result Origin ErrorKind) (m : M) → IsFirst c o m → c.counts m ≡ no_counts
+first_fresh : {M : Type 0} (c : Meaning Origin M) → IsContext c → (o : Result Origin ErrorKind) (m : M) → IsFirst c o m →
+    c.counts m ≡ no_counts
 first_fresh c laws (Ok origin) m made = laws.made_fresh origin m made
 first_fresh c laws (Err kind) m made = absurd made
 
 fresh_unused : (counts : Counts) → counts ≡ no_counts → IsUnused counts
 fresh_unused counts none = subst IsUnused (sym none) (record { sealed = refl; unsealed = refl })
 
-taken_unused : {M : Type 0} (c : Meaning Origin M) → IsContext c → (url : Option (List ℕ)) (kdcs : List KdcEntry) (computer : List ℕ) (m m2 : M) →
+taken_unused : {M : Type 0} (c : Meaning Origin M) → IsContext c →
+    (url : Option (List ℕ)) (kdcs : List KdcEntry) (computer : List ℕ) (m m2 : M) →
     IsUnused (c.counts m) → TakenBy c url kdcs computer m m2 → IsUnused (c.counts m2)
 taken_unused c laws None kdcs computer m m2 unused same = subst (λ x. IsUnused (c.counts x)) (sym same) unused
 taken_unused c laws (Some url) kdcs computer m m2 unused made = fresh_unused _ (laws.made_fresh _ m2 made)
@@ -37,7 +39,8 @@ taken_unused c laws (Some url) kdcs computer m m2 unused made = fresh_unused _ (
 module _ {N K : Type 0} (r q : ℕ) (n : Meaning Setting N) (k : Meaning Setting K) (ln : IsMechanism r n) (lk : IsMechanism q k) where
   made_fresh_by : (s : NegotiateSetting) (m : Negotiation (NegotiatedProtocol N K)) → MadeOf n k s m → (hand n k).counts m.mech ≡ no_counts
   made_fresh_by (ForClient config) m made = first_fresh (hand n k) (hand_lawful r q n k ln lk) (first_in_hand Client config) m.mech made.0
-  made_fresh_by (ForServer config known) m made = first_fresh (hand n k) (hand_lawful r q n k ln lk) (first_in_hand Server config) m.mech made.0
+  made_fresh_by (ForServer config known) m made = first_fresh (hand n k) (hand_lawful r q n k ln lk)
+      (first_in_hand Server config) m.mech made.0
 
   left_counted_by : (m : NegotiatedProtocol N K) (i : Counts) → asks_left r n k ((hand n k).counted m i) ≡ asks_left r n k m
   left_counted_by (hands.Ntlm m) i = ln.left_counted m i

@@ -1,11 +1,14 @@
 -- Texts that are cut at a byte, and what a chain over the parts finds.
-use Rattle.std.proofs.Common.{◌≡◌, ℕ, ◌+◌, ◌*◌, ◌-◌, ◌<◌, ◌≤◌, Bool, true, false, List, [], ◌∷◌, length, refl, IsTrue, MatchBool, All, fold, arith}
+use Rattle.std.proofs.Common.{◌≡◌, ℕ, ◌+◌, ◌*◌, ◌-◌, ◌<◌, ◌≤◌, Bool, true, false, List}
+use Rattle.std.proofs.Common.{[], ◌∷◌, length, refl, IsTrue, MatchBool, All, fold, arith}
 use Rattle.std.specs.List.{AllWithin, HoldsAt}
 use Rattle.std.specs.Char.{IsAsciiDigit}
 use Rattle.sspi_negotiate.specs.IpText.{IsOctet}
 
 -- the answer of `all`
-pub all_decides : (P : List ℕ → Type 0) (xs : List (List ℕ)) (r : Bool) → MatchBool r (AllWithin P xs 0 (length xs)) ((k : ℕ) × (k < length xs) × HoldsAt (λ x. ¬ P x) xs k) → (IsTrue r → All P xs) × (All P xs → IsTrue r)
+pub all_decides : (P : List ℕ → Type 0) (xs : List (List ℕ)) (r : Bool) →
+    MatchBool r (AllWithin P xs 0 (length xs)) ((k : ℕ) × (k < length xs) × HoldsAt (λ x. ¬ P x) xs k) →
+    (IsTrue r → All P xs) × (All P xs → IsTrue r)
 all_decides P xs true within = (λ _. λ k d h. within k d (omega arith) h, λ _. refl)
 all_decides P xs false fails = (λ e. cc, λ all. absurd (fails.2 [] (all fails.0 [] fails.1)))
 

@@ -1,5 +1,6 @@
 -- Parts of a step, each with what comes after it.
-use Rattle.std.proofs.Common.{◌≡◌, ◌≢◌, ◌==◌, ℕ, length, cond, false, List, Option, None, Some, Result, Ok, Err, OnOk, OnErr, IfErr, refl, sym, ◌∙◌, subst}
+use Rattle.std.proofs.Common.{◌≡◌, ◌≢◌, ◌==◌, ℕ, length, cond, false, List, Option, None, Some}
+use Rattle.std.proofs.Common.{Result, Ok, Err, OnOk, OnErr, IfErr, refl, sym, ◌∙◌, subst}
 use Rattle.sspi_types.specs.declared.error.Error.{Error}
 use Rattle.sspi_types.specs.declared.error_kind.ErrorKind.TheVariants.{InsufficientMemory, NoCredentials}
 use Rattle.sspi_names.specs.Name.{Name}
@@ -23,7 +24,8 @@ use Rattle.sspi_negotiate.proofs.Follow.{unless_map, took, named, not_named}
 
 module _ {N K : Type 0} {n : Meaning Setting N} {k : Meaning Setting K} where
   -- a part that was done, and what follows at the values that it leaves
-  pub passed : {T : Type 0} {p : Plan → Plan} {v : Values} {old mid : Negotiation (NegotiatedProtocol N K)} {x : T} {r : Answer} {v2 : Values}
+  pub passed : {T : Type 0} {p : Plan → Plan} {v : Values} {old mid : Negotiation (NegotiatedProtocol N K)} {x : T} {r : Answer}
+      {v2 : Values}
       {m2 : NegotiatedProtocol N K} → Passes n k p v old (Ok x) mid → (rest : Values → Plan) →
       Meets (hand n k) (rest (values_of mid)) mid.mech r v2 m2 → Meets (hand n k) (p (rest v)) old.mech r v2 m2
   passed {v = v} {mid = mid} {r = r} {v2 = v2} {m2 = m2} h rest after =
@@ -31,7 +33,8 @@ module _ {N K : Type 0} {n : Meaning Setting N} {k : Meaning Setting K} where
 
   -- a part that was refused
   pub stopped : {T : Type 0} {p : Plan → Plan} {v : Values} {old new : Negotiation (NegotiatedProtocol N K)} {error : Error} →
-      Passes {T = T} n k p v old (Err error) new → (rest : Plan) → Meets (hand n k) (p rest) old.mech (Refused error) (values_of new) new.mech
+      Passes {T = T} n k p v old (Err error) new →
+      (rest : Plan) → Meets (hand n k) (p rest) old.mech (Refused error) (values_of new) new.mech
   stopped h rest = h.onward rest
 
   -- want of memory may come at any place
@@ -44,7 +47,8 @@ module _ {N K : Type 0} {n : Meaning Setting N} {k : Meaning Setting K} where
   ntlm_taken {new = new} computer made same = record { onward = (same, λ rest r v2 m2 after. took new.mech made after) }
 
   -- one part after the other
-  pub passed_past : {S T : Type 0} (p : Plan → Plan) (q : Values → Plan → Plan) {v : Values} {old mid new : Negotiation (NegotiatedProtocol N K)} {x : S}
+  pub passed_past : {S T : Type 0} (p : Plan → Plan)
+      (q : Values → Plan → Plan) {v : Values} {old mid new : Negotiation (NegotiatedProtocol N K)} {x : S}
       (result : Result T Error) → Passes n k p v old (Ok x) mid → Passes n k (q (values_of mid)) (values_of mid) mid result new →
       Passes n k (λ rest. p (q v rest)) v old result new
   passed_past p q {v = v} {mid = mid} (Ok y) h g =
@@ -55,7 +59,8 @@ module _ {N K : Type 0} {n : Meaning Setting N} {k : Meaning Setting K} where
       Passes {T = S} n k p v old (Err error) new → Passes {T = T} n k (λ rest. p (q rest)) v old (Err error) new
   stopped_part p q h = record { onward = λ rest. h.onward (q rest) }
 
-  pub among_part : {T : Type 0} {v : Values} {old new : Negotiation (NegotiatedProtocol N K)} {result : Result T Error} (found given : List Credentials) →
+  pub among_part : {T : Type 0} {v : Values} {old new : Negotiation (NegotiatedProtocol N K)} {result : Result T Error}
+      (found given : List Credentials) →
       given ≡ found → (length given == 0) ≡ false → Passes n k (Identifies given v) v old result new →
       Passes n k (λ rest. identifies_among found v rest) v old result new
   among_part {v = v} {old = old} {new = new} {result = result} found given same some h =
@@ -67,7 +72,15 @@ module _ {N K : Type 0} {n : Meaning Setting N} {k : Meaning Setting K} where
       IfErr result (λ error. error.error_type ≢ InsufficientMemory → (hand n k).refuses old.mech (ToIdentify found) error.error_type) →
       Passes n k (Identifies found (values_of old)) (values_of old) old result new
   identified_part found old new (Ok u) same h still cause =
-      record { onward = (same, λ rest r v2 m2 after. record { as_planned = unless_map r (λ q. answered tt new.mech (h, q)) after.as_planned }) }
+      record {
+        onward = (
+          same,
+          λ rest r v2 m2 after. record {
+            as_planned = unless_map r (λ q. answered tt new.mech (h, q))
+                after.as_planned;
+          },
+        );
+      }
   identified_part found old new (Err error) same h still cause =
       record { onward = λ rest. record { as_planned = λ other. refused error (cause other, still) refl same } }
 
@@ -89,8 +102,10 @@ module _ {N K : Type 0} {n : Meaning Setting N} {k : Meaning Setting K} where
   verified_part mic text old new (Err error) same h counted permitted still cause =
       record { onward = λ rest. record { as_planned = λ other. refused error (cause, still) refl same } }
 
-  pub named_part : {T : Type 0} {v : Values} {part : Name → Plan → Plan} {old new : Negotiation (NegotiatedProtocol N K)} (result : Result T Error) (name : Name) →
-      (hand n k).names old.mech ≡ Some name → Passes n k (part name) v old result new → Passes n k (λ rest. Names (values_of old) (λ x. part x rest)) v old result new
+  pub named_part : {T : Type 0} {v : Values} {part : Name → Plan → Plan} {old new : Negotiation (NegotiatedProtocol N K)}
+      (result : Result T Error) (name : Name) →
+      (hand n k).names old.mech ≡ Some name → Passes n k (part name) v old result new →
+      Passes n k (λ rest. Names (values_of old) (λ x. part x rest)) v old result new
   named_part (Ok x) name h p = record { onward = (p.onward.0, λ rest r v2 m2 after. named name h (p.onward.1 rest r v2 m2 after)) }
   named_part (Err error) name h p = record { onward = λ rest. named name h (p.onward rest) }
 
@@ -100,7 +115,8 @@ module _ {N K : Type 0} {n : Meaning Setting N} {k : Meaning Setting K} where
   not_named_part old error cause = record { onward = λ rest. not_named error cause refl refl }
 
 -- the protocol rule
-pub ruled_met : {M : Type 0} {c : Meaning Origin M} {r : Answer} {v2 : Values} {m m1 m2 : M} {rest : Plan} (url : Option (List ℕ)) (kdcs : List KdcEntry) (computer : List ℕ) →
+pub ruled_met : {M : Type 0} {c : Meaning Origin M} {r : Answer} {v2 : Values} {m m1 m2 : M} {rest : Plan} (url : Option (List ℕ))
+    (kdcs : List KdcEntry) (computer : List ℕ) →
     TakenBy c url kdcs computer m m1 → Meets c rest m1 r v2 m2 → Meets c (by_rule url kdcs computer rest) m r v2 m2
 ruled_met {c = c} {r = r} {v2 = v2} {m2 = m2} {rest = rest} None kdcs computer same after = subst (λ x. Meets c rest x r v2 m2) same after
 ruled_met {m1 = m1} (Some url) kdcs computer made after = took m1 made after

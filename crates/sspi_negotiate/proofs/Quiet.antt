@@ -29,10 +29,12 @@ quiet_verified : (complete : Bool) (v : Values) (token : List ℕ) → AllEnds I
 quiet_verified true v token = tt
 quiet_verified false v token = answers_signed_ends IsQuiet _ states.Ok _ v token (λ error. tt) (λ step. tt)
 
-quiet_settles : (need : Bool) (mic : Option (List ℕ)) (complete : Bool) (v : Values) (token : List ℕ) → AllEnds IsQuiet (settles need mic complete v token)
+quiet_settles : (need : Bool) (mic : Option (List ℕ)) (complete : Bool) (v : Values) (token : List ℕ) →
+    AllEnds IsQuiet (settles need mic complete v token)
 quiet_settles false mic true v token = tt
 quiet_settles false mic false v token = completes_ends IsQuiet v token None (λ error. tt) (λ state step. tt)
-quiet_settles true (Some mic) complete v token = verifies_ends IsQuiet mic (spelled_list v.list) v _ (λ error. tt) (quiet_verified complete v token)
+quiet_settles true (Some mic) complete v token = verifies_ends IsQuiet mic (spelled_list v.list) v _ (λ error. tt)
+    (quiet_verified complete v token)
 quiet_settles true None complete v token = answers_signed_ends IsQuiet _ states.VerifyMic _ v token (λ error. tt) (λ step. tt)
 
 pub quiet_stepped : (token : NegTokenTarg) (v : Values) (step : Step) → AllEnds IsQuiet (stepped token v step)

@@ -15,7 +15,8 @@ use Rattle.sspi_negotiate.specs.declared.protocol.Protocol.TheVariants as protoc
 use Rattle.sspi_negotiate.specs.declared.state.NegotiateState.{NegotiateState}
 use Rattle.sspi_negotiate.specs.Known.{named}
 use Rattle.sspi_negotiate.specs.Plan.{Plan, Goes, Stops, Takes, Names, Identifies, Signs, Verifies}
-use Rattle.sspi_negotiate.specs.Rows.{written, writes, in_ntlm, signs_text, signs, verifies_text, verifies, identifies_among, identifies, checks, completes, answers_signed, carries_on}
+use Rattle.sspi_negotiate.specs.Rows.{written, writes, in_ntlm, signs_text, signs, verifies_text, verifies}
+use Rattle.sspi_negotiate.specs.Rows.{identifies_among, identifies, checks, completes, answers_signed, carries_on}
 use Rattle.sspi_negotiate.specs.Values.{Values}
 use Rattle.sspi_negotiate.proofs.Ends.{AtRefusal, AllEnds, either_ends}
 
@@ -23,11 +24,13 @@ module _ (R : Answer → Values → Type 0) where
   abbrev pub AtDone : Values → Type 0
   AtDone v = (step : Step) → R (Done step) v
 
-  pub written_ends : (o : Option (List ℕ)) (v v2 : Values) (status : SecurityStatus) → AtRefusal R v → AtDone v2 → AllEnds R (written o v v2 status)
+  pub written_ends : (o : Option (List ℕ)) (v v2 : Values) (status : SecurityStatus) → AtRefusal R v → AtDone v2 →
+      AllEnds R (written o v v2 status)
   written_ends None v v2 status stops done = stops
   written_ends (Some text) v v2 status stops done = done _
 
-  pub writes_ends : (token : NegTokenTarg) (v v2 : Values) (status : SecurityStatus) → AtRefusal R v → AtDone v2 → AllEnds R (writes token v v2 status)
+  pub writes_ends : (token : NegTokenTarg) (v v2 : Values) (status : SecurityStatus) → AtRefusal R v → AtDone v2 →
+      AllEnds R (writes token v v2 status)
   unfolding writes
   writes_ends token v v2 status stops done = written_ends (spelled_targ token) v v2 status stops done
 
@@ -35,11 +38,13 @@ module _ (R : Answer → Values → Type 0) where
   in_ntlm_ends protocols.Ntlm computer rest h = h
   in_ntlm_ends protocols.Kerberos computer rest h = h
 
-  signs_text_ends : (o : Option (List ℕ)) (v : Values) (rest : List ℕ → Plan) → AtRefusal R v → ((mic : List ℕ) → AllEnds R (rest mic)) → AllEnds R (signs_text o v rest)
+  signs_text_ends : (o : Option (List ℕ)) (v : Values) (rest : List ℕ → Plan) → AtRefusal R v →
+      ((mic : List ℕ) → AllEnds R (rest mic)) → AllEnds R (signs_text o v rest)
   signs_text_ends None v rest stops h = stops
   signs_text_ends (Some text) v rest stops h = (stops, h)
 
-  pub verifies_ends : (mic : List ℕ) (o : Option (List ℕ)) (v : Values) (rest : Plan) → AtRefusal R v → AllEnds R rest → AllEnds R (verifies_text mic o v rest)
+  pub verifies_ends : (mic : List ℕ) (o : Option (List ℕ)) (v : Values) (rest : Plan) → AtRefusal R v → AllEnds R rest →
+      AllEnds R (verifies_text mic o v rest)
   verifies_ends mic None v rest stops h = stops
   verifies_ends mic (Some text) v rest stops h = (stops, h)
 
@@ -50,17 +55,20 @@ module _ (R : Answer → Values → Type 0) where
         (stops, verifies_ends mic (spelled_list v.list) v rest stops h),
   )
 
-  pub completes_ends : (v : Values) (token : List ℕ) (mic : Option (List ℕ)) → AtRefusal R v → ((state : NegotiateState) → AtDone (record v { state = state })) →
+  pub completes_ends : (v : Values) (token : List ℕ) (mic : Option (List ℕ)) → AtRefusal R v →
+      ((state : NegotiateState) → AtDone (record v { state = state })) →
       AllEnds R (completes v token mic)
   unfolding completes
   completes_ends v token mic stops done = writes_ends _ v _ _ stops (done _)
 
-  pub answers_signed_ends : (result : NegResult) (state : NegotiateState) (status : SecurityStatus) (v : Values) (token : List ℕ) → AtRefusal R v →
+  pub answers_signed_ends : (result : NegResult) (state : NegotiateState) (status : SecurityStatus) (v : Values) (token : List ℕ) →
+      AtRefusal R v →
       AtDone (record v { state = state }) → AllEnds R (answers_signed result state status v token)
   unfolding answers_signed
   answers_signed_ends result state status v token stops done =
       signs_text_ends (spelled_list v.list) v _ stops (λ mic. writes_ends _ v _ status stops done)
 
-  pub carries_on_ends : (v : Values) (token : List ℕ) (status : SecurityStatus) → AtRefusal R v → AtDone v → AllEnds R (carries_on v token status)
+  pub carries_on_ends : (v : Values) (token : List ℕ) (status : SecurityStatus) → AtRefusal R v → AtDone v →
+      AllEnds R (carries_on v token status)
   unfolding carries_on
   carries_on_ends v token status stops done = writes_ends _ v v status stops done

@@ -21,7 +21,9 @@ use Rattle.sspi_negotiate.specs.declared.state.Role.TheVariants.{Client, Server}
 use Rattle.sspi_negotiate.specs.Hand.{is_kerberos_hand}
 use Rattle.sspi_negotiate.specs.Pick.{place_of, found_or, picked_or, pick}
 use Rattle.sspi_negotiate.specs.Rows.{is_over, is_complete, is_guest_text, completes}
-use Rattle.sspi_negotiate.specs.Server.{drops, waits_for_token, goes_on, awaits_mic, ends_at_once, opens, needs_mic, first_token, placed, takes_pick, picks, reads_list, at_initial, without_mic, settles, accepted, at_progress, last_mic, at_verify_mic, server_at, spnego_server}
+use Rattle.sspi_negotiate.specs.Server.{drops, waits_for_token, goes_on, awaits_mic, ends_at_once, opens, needs_mic}
+use Rattle.sspi_negotiate.specs.Server.{first_token, placed, takes_pick, picks, reads_list, at_initial, without_mic}
+use Rattle.sspi_negotiate.specs.Server.{settles, accepted, at_progress, last_mic, at_verify_mic, server_at, spnego_server}
 use Rattle.sspi_negotiate.specs.Values.{Values}
 use Rattle.sspi_negotiate.proofs.Ends.{AtRefusal, AllEnds, either_ends}
 use Rattle.sspi_negotiate.proofs.Kept.{IsKept}
@@ -37,7 +39,8 @@ abbrev IsUsable : PackageListConfig → Option Picked → Type 0
 IsUsable packages None = Unit {0}
 IsUsable packages (Some p) = OnNtlm p.choice (packages.ntlm ≡ true)
 
-found_usable : (packages : PackageListConfig) (choice : Choice) (o : Option ℕ) (other : Option Picked) → OnNtlm choice (packages.ntlm ≡ true) → IsUsable packages other →
+found_usable : (packages : PackageListConfig) (choice : Choice) (o : Option ℕ) (other : Option Picked) →
+    OnNtlm choice (packages.ntlm ≡ true) → IsUsable packages other →
     IsUsable packages (found_or choice o other)
 found_usable packages choice None other h k = k
 found_usable packages choice (Some index) other h k = h
@@ -57,7 +60,8 @@ module _ (R : Answer → Values → Type 0) (Good : Values → Type 0) (AtFirst 
   stops_at : (v : Values) → Good v → AtRefusal R v
   stops_at v g error = keep.stop v error g
 
-  moved : (v : Values) (need : Bool) (state : NegotiateState) (step : Step) → Good v → R (Done step) (record v { need = need; state = state })
+  moved : (v : Values) (need : Bool) (state : NegotiateState) (step : Step) → Good v →
+      R (Done step) (record v { need = need; state = state })
   moved v need state step g = keep.done _ step (keep.state _ state (keep.need v need g))
 
   drops_ends : (p : Picked) (v : Values) → Good v → AllEnds R (drops p v)
@@ -84,7 +88,8 @@ module _ (R : Answer → Values → Type 0) (Good : Values → Type 0) (AtFirst 
   opens_ends p v step need g = either_ends R (is_over step.status) _ _
       (either_ends R need _ _ (awaits_ends p v step g) (at_once_ends p v step g)) (goes_on_ends p v need step g)
 
-  first_token_ends : (token : Option (List ℕ)) (p : Picked) (v : Values) (args : AcceptArgs) → Good v → AllEnds R (first_token token p v args)
+  first_token_ends : (token : Option (List ℕ)) (p : Picked) (v : Values) (args : AcceptArgs) → Good v →
+      AllEnds R (first_token token p v args)
   unfolding first_token
   first_token_ends None p v args g = λ pairs. waits_ends p v (needs_mic v args pairs) g
   first_token_ends (Some token) p v args g = (stops_at v g, λ step pairs. opens_ends p v step (needs_mic v args pairs) g)
@@ -93,19 +98,22 @@ module _ (R : Answer → Values → Type 0) (Good : Values → Type 0) (AtFirst 
   unfolding placed
   placed_ends token p v args g = either_ends R (p.index == 0) _ _ (first_token_ends token p v args g) (drops_ends p v g)
 
-  takes_ends : (choice : Choice) (token : Option (List ℕ)) (p : Picked) (v : Values) (args : AcceptArgs) → OnNtlm choice (v.packages.ntlm ≡ true) → Good v →
+  takes_ends : (choice : Choice) (token : Option (List ℕ)) (p : Picked) (v : Values) (args : AcceptArgs) →
+      OnNtlm choice (v.packages.ntlm ≡ true) → Good v →
       AllEnds R (takes_pick choice token p v args)
   takes_ends choices.MsKerberos token p v args h g = placed_ends token p v args g
   takes_ends choices.Kerberos token p v args h g = placed_ends token p v args g
   takes_ends choices.Ntlm token p v args h g = in_ntlm_ends R v.hand v.computer _ (placed_ends token p _ args (keep.pick_ntlm v h g))
 
-  picks_ends : (o : Option Picked) (list : List (List ℕ)) (token : Option (List ℕ)) (v : Values) (args : AcceptArgs) → IsUsable v.packages o → AtFirst → Good v →
+  picks_ends : (o : Option Picked) (list : List (List ℕ)) (token : Option (List ℕ)) (v : Values) (args : AcceptArgs) →
+      IsUsable v.packages o → AtFirst → Good v →
       AllEnds R (picks o list token v args)
   unfolding picks
   picks_ends None list token v args h first g = stops_at v g
   picks_ends (Some p) list token v args h first g = takes_ends p.choice token p _ args h (keep.list v list first g)
 
-  reads_ends : (o : Option (List (List ℕ))) (token : Option (List ℕ)) (v : Values) (args : AcceptArgs) → AtFirst → Good v → AllEnds R (reads_list o token v args)
+  reads_ends : (o : Option (List (List ℕ))) (token : Option (List ℕ)) (v : Values) (args : AcceptArgs) → AtFirst → Good v →
+      AllEnds R (reads_list o token v args)
   unfolding reads_list
   reads_ends None token v args first g = stops_at v g
   reads_ends (Some list) token v args first g =
@@ -120,12 +128,16 @@ module _ (R : Answer → Values → Type 0) (Good : Values → Type 0) (AtFirst 
 
   without_ends : (complete : Bool) (v : Values) (token : List ℕ) → Good v → AllEnds R (without_mic complete v token)
   unfolding without_mic
-  without_ends true v token g =
-      (stops_at v g, λ name. either_ends R (is_guest_text (inner_of name)) _ _ (completed_ends _ token (keep.need v false g)) (stops_at v g))
+  without_ends true v token g = (
+    stops_at v g,
+    λ name. either_ends R (is_guest_text (inner_of name)) _ _ (completed_ends _ token (keep.need v false g))
+        (stops_at v g),
+  )
   without_ends false v token g =
       answers_signed_ends R _ states.VerifyMic _ v token (stops_at v g) (λ step. keep.done _ step (keep.state v states.VerifyMic g))
 
-  settles_ends : (need : Bool) (mic : Option (List ℕ)) (complete : Bool) (v : Values) (token : List ℕ) → Good v → AllEnds R (settles need mic complete v token)
+  settles_ends : (need : Bool) (mic : Option (List ℕ)) (complete : Bool) (v : Values) (token : List ℕ) → Good v →
+      AllEnds R (settles need mic complete v token)
   settles_ends false mic complete v token g = completed_ends v token g
   settles_ends true (Some mic) complete v token g = checks_ends R mic v _ (stops_at v g)
       (answers_signed_ends R _ states.Ok _ v token (stops_at v g) (λ step. keep.done _ step (keep.state v states.Ok g)))
@@ -148,7 +160,8 @@ module _ (R : Answer → Values → Type 0) (Good : Values → Type 0) (AtFirst 
   at_verify_mic_ends None v g = stops_at v g
   at_verify_mic_ends (Some token) v g = last_mic_ends token.mech_list_mic v g
 
-  server_at_ends : (role : Role) (state : NegotiateState) (v : Values) (args : AcceptArgs) → (state ≡ states.Initial → AtFirst) → Good v → AllEnds R (server_at role state v args)
+  server_at_ends : (role : Role) (state : NegotiateState) (v : Values) (args : AcceptArgs) →
+      (state ≡ states.Initial → AtFirst) → Good v → AllEnds R (server_at role state v args)
   server_at_ends Client state v args first g = stops_at v g
   server_at_ends Server states.Initial v args first g = at_initial_ends (init_of args.input) v args (first refl) g
   server_at_ends Server states.InProgress v args first g = at_progress_ends (targ_of args.input) v args g

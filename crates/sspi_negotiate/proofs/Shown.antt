@@ -68,7 +68,8 @@ module _ (list : List (List ℕ)) where
   IsDone (Ask request) = ⊥
   IsDone (Refused error) = ⊥
 
-  at_went : {M : Type 0} {go : Step → Type 0} {fall : ErrorKind → Type 0} (Goal : Type 0) (x : Answer) (step : Step) (v v2 : Values) (m1 m2 : M) →
+  at_went : {M : Type 0} {go : Step → Type 0} {fall : ErrorKind → Type 0} (Goal : Type 0) (x : Answer) (step : Step) (v v2 : Values)
+      (m1 m2 : M) →
       ((s : Step) → go s → Goal) → ((kind : ErrorKind) → fall kind → Goal) → Went x go fall (Done step) v v2 m1 m2 → Goal
   unfolding IsDone
   at_went Goal (Done s) step v v2 m1 m2 on fallen w = on s w
@@ -81,7 +82,8 @@ module _ (list : List (List ℕ)) where
   at_asked Goal on (answered t m1 h) = on t m1 h
   at_asked Goal on (refused error bad answer same) = absurd (subst IsDone answer tt)
 
-  ending : {M : Type 0} (c : Meaning Origin M) (p : Plan) (m m2 : M) (step : Step) (v2 : Values) → EndsHere p → Follows c p m (Done step) v2 m2 → m2 ≡ m
+  ending : {M : Type 0} (c : Meaning Origin M) (p : Plan) (m m2 : M) (step : Step) (v2 : Values) → EndsHere p →
+      Follows c p m (Done step) v2 m2 → m2 ≡ m
   ending c (Goes v made) m m2 step v2 ends f = f.2
   ending c (Stops v kind) m m2 step v2 ends f = absurd f.0
   ending c (Takes origin p) m m2 step v2 ends f = absurd ends
@@ -94,7 +96,8 @@ module _ (list : List (List ℕ)) where
   ending c (Signs text v go) m m2 step v2 ends f = absurd ends
   ending c (Verifies mic text v p) m m2 step v2 ends f = absurd ends
 
-  closing : {M : Type 0} (c : Meaning Origin M) (p : Plan) (m m2 : M) (step : Step) (v2 : Values) → Closes p → Follows c p m (Done step) v2 m2 → Leaves c m m2
+  closing : {M : Type 0} (c : Meaning Origin M) (p : Plan) (m m2 : M) (step : Step) (v2 : Values) → Closes p →
+      Follows c p m (Done step) v2 m2 → Leaves c m m2
   closing c (Goes v made) m m2 step v2 closes f = as_it_was f.2
   closing c (Stops v kind) m m2 step v2 closes f = absurd f.0
   closing c (Takes origin p) m m2 step v2 closes f = absurd closes
@@ -108,16 +111,19 @@ module _ (list : List (List ℕ)) where
       at_asked _ (λ mic m1 g. having_signed (ending c (go mic) m1 m2 step v2 (closes mic) g.3 ∙ g.1)) f
   closing c (Verifies mic text v p) m m2 step v2 closes f = absurd closes
 
-  pub shown : {M : Type 0} (c : Meaning Origin M) (p : Plan) (seen : Type 0) (m m2 : M) (step : Step) (v2 : Values) → Shown seen p → (seen → IsVerified c list m2) →
+  pub shown : {M : Type 0} (c : Meaning Origin M) (p : Plan) (seen : Type 0) (m m2 : M) (step : Step) (v2 : Values) → Shown seen p →
+      (seen → IsVerified c list m2) →
       Follows c p m (Done step) v2 m2 → v2.state ≡ states.Ok → v2.need ≡ true → (v2.list ≡ list) × IsVerified c list m2
   shown c (Goes v made) seen m m2 step v2 all done f over need =
       let h = all (ap (λ x. x.state) (sym f.1) ∙ over) (ap (λ x. x.need) (sym f.1) ∙ need) in (ap (λ x. x.list) f.1 ∙ h.0, done h.1)
   shown c (Stops v kind) seen m m2 step v2 all done f over need = absurd f.0
   shown c (Takes origin p) seen m m2 step v2 all done f over need = shown c p seen f.0 m2 step v2 all done f.2 over need
   shown c (Steps args v go fall) seen m m2 step v2 all done f over need = at_went _ f.1 step v v2 f.0 m2
-      (λ s g. shown c (go s) seen f.0 m2 step v2 (all.0 s) done g over need) (λ kind g. shown c (fall kind) seen f.0 m2 step v2 (all.1 kind) done g over need) f.3
+      (λ s g. shown c (go s) seen f.0 m2 step v2 (all.0 s) done g over need)
+      (λ kind g. shown c (fall kind) seen f.0 m2 step v2 (all.1 kind) done g over need) f.3
   shown c (Resumes reply v go fall) seen m m2 step v2 all done f over need = at_went _ f.1 step v v2 f.0 m2
-      (λ s g. shown c (go s) seen f.0 m2 step v2 (all.0 s) done g over need) (λ kind g. shown c (fall kind) seen f.0 m2 step v2 (all.1 kind) done g over need) f.3
+      (λ s g. shown c (go s) seen f.0 m2 step v2 (all.0 s) done g over need)
+      (λ kind g. shown c (fall kind) seen f.0 m2 step v2 (all.1 kind) done g over need) f.3
   shown c (Accepts args v go) seen m m2 step v2 all done f over need =
       at_asked _ (λ s m1 g. shown c (go s) seen m1 m2 step v2 (all s) done g.1 over need) f
   shown c (Pairs go) seen m m2 step v2 all done f over need = shown c (go (c.pairs m)) seen m m2 step v2 (all (c.pairs m)) done f over need
@@ -129,5 +135,15 @@ module _ (list : List (List ℕ)) where
       at_asked _ (λ mic m1 g. shown c (go mic) seen m1 m2 step v2 (all mic) done g.3 over need) f
   shown c (Verifies mic text v p) seen m m2 step v2 all done f over need =
       at_asked _ (λ u m1 g. shown c p (Unit {0}) m1 m2 step v2 all.1
-      (λ x. record { before = m; after = m1; mic = mic; text = text; spelled = all.0; permitted = g.2; verified = g.0; counted = g.1; last = closing c p m1 m2 step v2 all.2 g.3 })
+      (λ x. record {
+        before = m;
+        after = m1;
+        mic = mic;
+        text = text;
+        spelled = all.0;
+        permitted = g.2;
+        verified = g.0;
+        counted = g.1;
+        last = closing c p m1 m2 step v2 all.2 g.3;
+      })
       g.3 over need) f

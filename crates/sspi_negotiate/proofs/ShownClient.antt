@@ -27,7 +27,11 @@ use Rattle.sspi_negotiate.specs.declared.protocol.Protocol.{Protocol}
 use Rattle.sspi_negotiate.specs.declared.protocol.Protocol.TheVariants as protocols
 use Rattle.sspi_negotiate.specs.declared.state.NegotiateState.{NegotiateState}
 use Rattle.sspi_negotiate.specs.declared.state.NegotiateState.TheVariants as states
-use Rattle.sspi_negotiate.specs.Client.{begun, has_begun, offers, steps_again, falls_back, falls, first_step, first_step_of, at_initial, verified, unprotected, settles, is_ok, stepped, answers, in_kerberos, chooses_kerberos, chooses_ntlm, chooses, chosen, at_progress, last_mic, confirmed, at_verify_mic, client_at, ruled, keeps, passwords_of, converts, with_handle, by_target, is_closed, spnego_client, resumes_opening, resumes_answering, resumed_at, spnego_resumed, is_guest}
+use Rattle.sspi_negotiate.specs.Client.{begun, has_begun, offers, steps_again, falls_back, falls, first_step, first_step_of, at_initial}
+use Rattle.sspi_negotiate.specs.Client.{verified, unprotected, settles, is_ok, stepped, answers, in_kerberos, chooses_kerberos}
+use Rattle.sspi_negotiate.specs.Client.{chooses_ntlm, chooses, chosen, at_progress, last_mic, confirmed, at_verify_mic, client_at}
+use Rattle.sspi_negotiate.specs.Client.{ruled, keeps, passwords_of, converts, with_handle, by_target, is_closed, spnego_client}
+use Rattle.sspi_negotiate.specs.Client.{resumes_opening, resumes_answering, resumed_at, spnego_resumed, is_guest}
 use Rattle.sspi_negotiate.specs.Fallback.{is_fallback}
 use Rattle.sspi_negotiate.specs.Hand.{is_kerberos_hand, is_ntlm_hand}
 use Rattle.sspi_negotiate.specs.Pick.{offered}
@@ -36,7 +40,9 @@ use Rattle.sspi_negotiate.specs.Rule.{url_for, rule_url, by_rule, ruled_values}
 use Rattle.sspi_negotiate.specs.Values.{Values}
 use Rattle.std.proofs.lemmas.Bool.{false≢true}
 use Rattle.sspi_negotiate.proofs.Shown.{AtOver, Closes, Shown}
-use Rattle.sspi_negotiate.proofs.ShownRows.{initial_is_before, progress_is_before, verify_is_before, either_shown, written_shown, in_ntlm_shown, verifies_shown, completes_shown, answers_signed_shown, carries_on_shown, answers_signed_closes}
+use Rattle.sspi_negotiate.proofs.ShownRows.{initial_is_before, progress_is_before, verify_is_before, either_shown}
+use Rattle.sspi_negotiate.proofs.ShownRows.{written_shown, in_ntlm_shown, verifies_shown, completes_shown}
+use Rattle.sspi_negotiate.proofs.ShownRows.{answers_signed_shown, carries_on_shown, answers_signed_closes}
 
 module _ (list : List (List ℕ)) where
   no_need : {P : Type 0} (v : Values) → v.need ≡ false → v.need ≡ true → P
@@ -76,14 +82,19 @@ module _ (list : List (List ℕ)) where
       Shown list ⊥ (settles need mic complete v token)
   settles_shown false mic complete v token off is = unprotected_shown complete v token off
   settles_shown true (Some mic) complete v token on is =
-      verifies_shown list ⊥ mic (spelled_list v.list) v _ (ap spelled_list (sym is)) (verified_shown complete v token is) (verified_closes complete v token)
-  settles_shown true None complete v token on is = answers_signed_shown list ⊥ _ states.VerifyMic _ v token (λ over need. absurd (verify_is_before over))
+      verifies_shown list ⊥ mic (spelled_list v.list) v _ (ap spelled_list (sym is)) (verified_shown complete v token is)
+      (verified_closes complete v token)
+  settles_shown true None complete v token on is = answers_signed_shown list ⊥ _ states.VerifyMic _ v token
+      (λ over need. absurd (verify_is_before over))
 
-  stepped_shown : (token : NegTokenTarg) (v : Values) (step : Step) → v.list ≡ list → v.state ≢ states.Ok → Shown list ⊥ (stepped token v step)
+  stepped_shown : (token : NegTokenTarg) (v : Values) (step : Step) → v.list ≡ list → v.state ≢ states.Ok →
+      Shown list ⊥ (stepped token v step)
   stepped_shown token v step is before = either_shown list ⊥ (is_ok step.status) _ _
-      (settles_shown v.need token.mech_list_mic (is_complete token.neg_result) v step.output refl is) (carries_on_shown list ⊥ v step.output step.status before)
+      (settles_shown v.need token.mech_list_mic (is_complete token.neg_result) v step.output refl is)
+      (carries_on_shown list ⊥ v step.output step.status before)
 
-  answers_shown : (token : NegTokenTarg) (v : Values) (args : StepArgs) → v.list ≡ list → v.state ≢ states.Ok → Shown list ⊥ (answers token v args)
+  answers_shown : (token : NegTokenTarg) (v : Values) (args : StepArgs) → v.list ≡ list → v.state ≢ states.Ok →
+      Shown list ⊥ (answers token v args)
   unfolding answers
   answers_shown token v args is before = (λ step. stepped_shown token v step is before, λ kind. tt)
 
@@ -92,37 +103,47 @@ module _ (list : List (List ℕ)) where
   in_kerberos_shown protocols.Kerberos token v args is before = answers_shown token v args is before
   in_kerberos_shown protocols.Ntlm token v args is before = answers_shown token _ args is before
 
-  chooses_kerberos_shown : (token : NegTokenTarg) (v : Values) (args : StepArgs) → v.list ≡ list → v.state ≢ states.Ok → Shown list ⊥ (chooses_kerberos token v args)
+  chooses_kerberos_shown : (token : NegTokenTarg) (v : Values) (args : StepArgs) → v.list ≡ list → v.state ≢ states.Ok →
+      Shown list ⊥ (chooses_kerberos token v args)
   unfolding chooses_kerberos
-  chooses_kerberos_shown token v args is before = either_shown list ⊥ v.packages.kerberos _ _ (in_kerberos_shown v.hand token _ args is before) tt
+  chooses_kerberos_shown token v args is before = either_shown list ⊥ v.packages.kerberos _ _
+      (in_kerberos_shown v.hand token _ args is before) tt
 
-  chooses_ntlm_shown : (token : NegTokenTarg) (v : Values) (args : StepArgs) → v.list ≡ list → v.state ≢ states.Ok → Shown list ⊥ (chooses_ntlm token v args)
+  chooses_ntlm_shown : (token : NegTokenTarg) (v : Values) (args : StepArgs) → v.list ≡ list → v.state ≢ states.Ok →
+      Shown list ⊥ (chooses_ntlm token v args)
   unfolding chooses_ntlm
-  chooses_ntlm_shown token v args is before = either_shown list ⊥ v.packages.ntlm _ _ (in_ntlm_shown list ⊥ v.hand v.computer _ (answers_shown token _ args is before)) tt
+  chooses_ntlm_shown token v args is before = either_shown list ⊥ v.packages.ntlm _ _
+      (in_ntlm_shown list ⊥ v.hand v.computer _ (answers_shown token _ args is before)) tt
 
-  chosen_shown : (choice : Option MechKind) (token : NegTokenTarg) (v : Values) (args : StepArgs) → v.list ≡ list → v.state ≢ states.Ok → Shown list ⊥ (chosen choice token v args)
+  chosen_shown : (choice : Option MechKind) (token : NegTokenTarg) (v : Values) (args : StepArgs) → v.list ≡ list → v.state ≢ states.Ok →
+      Shown list ⊥ (chosen choice token v args)
   chosen_shown None token v args is before = answers_shown token v args is before
   chosen_shown (Some kinds.MsKerberos) token v args is before = chooses_kerberos_shown token v args is before
   chosen_shown (Some kinds.Kerberos) token v args is before = chooses_kerberos_shown token v args is before
   chosen_shown (Some kinds.Ntlm) token v args is before = chooses_ntlm_shown token v args is before
   chosen_shown (Some kinds.Other) token v args is before = tt
 
-  at_progress_shown : (o : Option NegTokenTarg) (v : Values) (args : StepArgs) → v.list ≡ list → v.state ≢ states.Ok → Shown list ⊥ (at_progress o v args)
+  at_progress_shown : (o : Option NegTokenTarg) (v : Values) (args : StepArgs) → v.list ≡ list → v.state ≢ states.Ok →
+      Shown list ⊥ (at_progress o v args)
   at_progress_shown None v args is before = tt
   at_progress_shown (Some token) v args is before = chosen_shown (option_map kind_of token.supported_mech) token v args is before
 
   last_mic_shown : (mic : Option (List ℕ)) (v : Values) → v.list ≡ list → v.state ≢ states.Ok → Shown list ⊥ (last_mic mic v)
   last_mic_shown None v is before = λ over need. absurd (before over)
-  last_mic_shown (Some mic) v is before = verifies_shown list ⊥ mic (spelled_list v.list) v _ (ap spelled_list (sym is)) (λ over need. (is, tt)) tt
+  last_mic_shown (Some mic) v is before = verifies_shown list ⊥ mic (spelled_list v.list) v _ (ap spelled_list (sym is))
+      (λ over need. (is, tt)) tt
 
   at_verify_mic_shown : (o : Option NegTokenTarg) (v : Values) → v.list ≡ list → v.state ≢ states.Ok → Shown list ⊥ (at_verify_mic o v)
   at_verify_mic_shown None v is before = tt
-  at_verify_mic_shown (Some token) v is before = either_shown list ⊥ (is_complete token.neg_result) _ _ (last_mic_shown token.mech_list_mic v is before) tt
+  at_verify_mic_shown (Some token) v is before = either_shown list ⊥ (is_complete token.neg_result) _ _
+      (last_mic_shown token.mech_list_mic v is before) tt
 
-  client_at_shown : (state : NegotiateState) (v : Values) (args : StepArgs) → v.state ≡ state → v.list ≡ list → Shown list ⊥ (client_at state v args)
+  client_at_shown : (state : NegotiateState) (v : Values) (args : StepArgs) → v.state ≡ state → v.list ≡ list →
+      Shown list ⊥ (client_at state v args)
   unfolding client_at
   client_at_shown states.Initial v args at is = at_initial_shown v args
-  client_at_shown states.InProgress v args at is = at_progress_shown (targ_of args.input) v args is (λ over. progress_is_before (sym at ∙ over))
+  client_at_shown states.InProgress v args at is = at_progress_shown (targ_of args.input) v args is
+      (λ over. progress_is_before (sym at ∙ over))
   client_at_shown states.VerifyMic v args at is = at_verify_mic_shown (targ_of args.input) v is (λ over. verify_is_before (sym at ∙ over))
   client_at_shown states.Ok v args at is = tt
 
@@ -145,7 +166,8 @@ module _ (list : List (List ℕ)) where
 
 pub client_shown : (ip : Bool) (v : Values) (args : StepArgs) → Shown v.list ⊥ (spnego_client ip v args)
 client_shown ip v args = either_shown v.list ⊥ (is_closed v.role v.state v.branch) _ _ tt
-    (either_shown v.list ⊥ (ip && v.packages.ntlm) _ _ (in_ntlm_shown v.list ⊥ v.hand v.computer _ (with_handle_shown v.list _ args refl)) (with_handle_shown v.list v args refl))
+    (either_shown v.list ⊥ (ip && v.packages.ntlm) _ _ (in_ntlm_shown v.list ⊥ v.hand v.computer _ (with_handle_shown v.list _ args refl))
+    (with_handle_shown v.list v args refl))
 
 -- a step that waits began before the end
 resumed_at_shown : (branch : Branch) (v : Values) (reply : Reply) → v.state ≢ states.Ok → Shown v.list ⊥ (resumed_at branch v reply)

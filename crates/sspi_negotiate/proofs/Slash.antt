@@ -10,7 +10,8 @@ use Rattle.sspi_names.proofs.Places.{last_at}
 use Rattle.sspi_negotiate.specs.Target.{is_slash, host_of}
 
 pub last_slash_found : (t : List ℕ) (r : Option ℕ)
-    → MatchOption r (RFindsChar 47 t None) (λ i. (j : ℕ) × RFindsChar 47 t (Some (i, j)) × (i ≤ j) × IsCharBoundary t i × IsCharBoundary t j)
+    → MatchOption r (RFindsChar 47 t None)
+    (λ i. (j : ℕ) × RFindsChar 47 t (Some (i, j)) × (i ≤ j) × IsCharBoundary t i × IsCharBoundary t j)
     → MatchOption r (list_any is_slash t ≡ false) (λ k. IsLast 47 t k)
 last_slash_found t r h = found_last 47 t r (omega arith) h
 

@@ -38,7 +38,8 @@ plain_read None error h = ap (λ e. e.nstatus) h
 plain_read (Some x) error h = ap (λ e. e.nstatus) h
 
 module _ {M : Type 0} {c : Meaning Origin M} {m : M} where
-  pub unread : {v : Values} {T : Type 0} (o : Option T) (plan : Option T → Plan) (error : Error) → plan None ≡ Stops v InvalidToken → ReadsAs o (Err error) →
+  pub unread : {v : Values} {T : Type 0} (o : Option T) (plan : Option T → Plan) (error : Error) → plan None ≡ Stops v InvalidToken →
+      ReadsAs o (Err error) →
       Meets c (plan o) m (Refused error) v m
   unread {v = v} None plan error stops h =
       subst (λ p. Meets c p m (Refused error) v m) (sym stops) (record { as_planned = λ other. (ap (λ e. e.error_type) h, refl, refl) })
@@ -49,26 +50,30 @@ module _ {M : Type 0} {c : Meaning Origin M} {m : M} where
   read None plan x h after = absurd h
   read {r = r} {v2 = v2} {m2 = m2} (Some y) plan x h after = subst (λ z. Meets c (plan (Some z)) m r v2 m2) h after
 
-  pub unspelled : {v : Values} (o : Option (List ℕ)) (plan : Option (List ℕ) → Plan) (error : Error) → plan None ≡ Stops v InternalError → IsSpelled o (Err error) →
+  pub unspelled : {v : Values} (o : Option (List ℕ)) (plan : Option (List ℕ) → Plan) (error : Error) → plan None ≡ Stops v InternalError →
+      IsSpelled o (Err error) →
       Meets c (plan o) m (Refused error) v m
   unspelled {v = v} None plan error stops h =
       subst (λ p. Meets c p m (Refused error) v m) (sym stops) (record { as_planned = λ other. (h, refl, refl) })
   unspelled (Some x) plan error stops h = record { as_planned = λ other. absurd (other h) }
 
-  pub spelled : {r : Answer} {v2 : Values} {m2 : M} (o : Option (List ℕ)) (plan : Option (List ℕ) → Plan) (x : List ℕ) → IsSpelled o (Ok x) →
+  pub spelled : {r : Answer} {v2 : Values} {m2 : M} (o : Option (List ℕ)) (plan : Option (List ℕ) → Plan) (x : List ℕ) →
+      IsSpelled o (Ok x) →
       Meets c (plan (Some x)) m r v2 m2 → Meets c (plan o) m r v2 m2
   spelled None plan x h after = absurd h
   spelled {r = r} {v2 = v2} {m2 = m2} (Some y) plan x h after = subst (λ z. Meets c (plan (Some z)) m r v2 m2) h after
 
 -- credentials that are converted
 module _ {M : Type 0} {c : Meaning Origin M} {m : M} where
-  pub unconverted : {v : Values} (o : Option AuthIdentity) (plan : Option AuthIdentity → Plan) (error : Error) → plan None ≡ Stops v InvalidParameter →
+  pub unconverted : {v : Values} (o : Option AuthIdentity) (plan : Option AuthIdentity → Plan) (error : Error) →
+      plan None ≡ Stops v InvalidParameter →
       IsIdentified (Err error) o → Meets c (plan o) m (Refused error) v m
   unconverted {v = v} o plan error stops (inl h) = subst (λ p. Meets c p m (Refused error) v m) (sym (ap plan h.1 ∙ stops))
       (record { as_planned = λ other. (ap (λ e. e.error_type) h.0, refl, refl) })
   unconverted o plan error stops (inr h) = record { as_planned = λ other. absurd (other (ap (λ e. e.error_type) h)) }
 
-  pub converted : {r : Answer} {v2 : Values} {m2 : M} (o : Option AuthIdentity) (plan : Option AuthIdentity → Plan) (identity : AuthIdentity) →
+  pub converted : {r : Answer} {v2 : Values} {m2 : M} (o : Option AuthIdentity) (plan : Option AuthIdentity → Plan)
+      (identity : AuthIdentity) →
       IsIdentified (Ok identity) o → Meets c (plan (Some identity)) m r v2 m2 → Meets c (plan o) m r v2 m2
   converted {r = r} {v2 = v2} {m2 = m2} o plan identity h after = subst (λ x. Meets c (plan x) m r v2 m2) (sym h) after
 
@@ -77,7 +82,8 @@ plain_conversion o error (inl h) = ap (λ e. e.nstatus) h.0
 plain_conversion o error (inr h) = ap (λ e. e.nstatus) h
 
 module _ {N K : Type 0} {n : Meaning Setting N} {k : Meaning Setting K} where
-  pub unspelled_part : {T : Type 0} (o : Option (List ℕ)) (part : Option (List ℕ) → Plan → Plan) (old : Negotiation (NegotiatedProtocol N K)) (error : Error) →
+  pub unspelled_part : {T : Type 0} (o : Option (List ℕ)) (part : Option (List ℕ) → Plan → Plan)
+      (old : Negotiation (NegotiatedProtocol N K)) (error : Error) →
       ((rest : Plan) → part None rest ≡ Stops (values_of old) InternalError) → IsSpelled o (Err error) →
       Passes {T = T} n k (part o) (values_of old) old (Err error) old
   unspelled_part o part old error stops h = record { onward = λ rest. unspelled o (λ p. part p rest) error (stops rest) h }
@@ -86,7 +92,8 @@ module _ {N K : Type 0} {n : Meaning Setting N} {k : Meaning Setting K} where
       (o : Option (List ℕ)) (part : Option (List ℕ) → Plan → Plan) (x : List ℕ) → IsSpelled o (Ok x) →
       Passes n k (part (Some x)) v old result new → Passes n k (part o) v old result new
   spelled_part None part x h after = absurd h
-  spelled_part {v = v} {result = result} {old = old} {new = new} (Some y) part x h after = subst (λ z. Passes n k (part (Some z)) v old result new) h after
+  spelled_part {v = v} {result = result} {old = old} {new = new} (Some y) part x h after = subst
+      (λ z. Passes n k (part (Some z)) v old result new) h after
 
 -- want of memory is no kind after which NTLM takes the place of Kerberos
 pub fallback_is_other : (kind : ErrorKind) → is_fallback kind ≡ true → kind ≢ InsufficientMemory

@@ -53,7 +53,8 @@ module _ {N K : Type 0} (n : Meaning Setting N) (k : Meaning Setting K) where
   abbrev pub RefusedBy : Bool → Negotiation (NegotiatedProtocol N K) → CredentialUse → Option Credentials → ErrorKind → Type 0
   RefusedBy true s use_ asked kind = kind ≡ NoCredentials
   RefusedBy false s use_ asked kind = (mech : NegotiatedProtocol N K)
-      × TakenBy (hand n k) (acquired_url s.role (values_of s) asked) s.kdcs s.computer s.mech mech × (hand n k).refuses mech (ToAcquire use_ asked) kind
+      × TakenBy (hand n k) (acquired_url s.role (values_of s) asked) s.kdcs s.computer s.mech mech ×
+      (hand n k).refuses mech (ToAcquire use_ asked) kind
 
   abbrev pub RefusesToAcquire : Negotiation (NegotiatedProtocol N K) → CredentialUse → Option Credentials → ErrorKind → Type 0
   RefusesToAcquire s use_ asked kind = RefusedBy (is_outbound use_ && lacks (hand_of s.mech) asked) s use_ asked kind

@@ -34,7 +34,8 @@ use Rattle.sspi_negotiate.specs.Hand.{InPlaceOfNtlm, in_place_of_kerberos, is_ke
 use Rattle.sspi_negotiate.specs.Pick.{offered}
 use Rattle.sspi_negotiate.specs.Plan.{Plan, Goes, Stops, Takes, Steps, Resumes}
 use Rattle.sspi_negotiate.specs.Rule.{rule_url, by_rule, ruled_values}
-use Rattle.sspi_negotiate.specs.Rows.{client_wants_mic, is_complete, is_guest_text, or_empty, written, in_ntlm, verifies, completes, completes_signed, hands_mic, carries_on}
+use Rattle.sspi_negotiate.specs.Rows.{client_wants_mic, is_complete, is_guest_text, or_empty, written}
+use Rattle.sspi_negotiate.specs.Rows.{in_ntlm, verifies, completes, completes_signed, hands_mic, carries_on}
 use Rattle.sspi_negotiate.specs.Values.{Values, is_waiting}
 
 -- ---- the credentials of a step
@@ -92,7 +93,8 @@ steps_again v first =
 
 unfoldable pub falls_back : Values → FirstStep → Plan
 falls_back v first =
-    Takes (in_place_of_kerberos v.computer) (steps_again (record v { hand = protocols.Ntlm; packages = record v.packages { kerberos = false } }) first)
+    Takes (in_place_of_kerberos v.computer)
+    (steps_again (record v { hand = protocols.Ntlm; packages = record v.packages { kerberos = false } }) first)
 
 -- the first step was refused: Kerberos gives way to NTLM after some kinds, where that may be used
 abbrev pub falls : Values → Values → FirstStep → ErrorKind → Plan
@@ -141,7 +143,8 @@ stepped token v step =
 -- the mechanism in hand takes the server's token, or nothing
 unfoldable pub answers : NegTokenTarg → Values → StepArgs → Plan
 answers token v args =
-    Steps (record (step_of v args) { input = or_empty token.response_token }) (record v { branch = Answering token }) (stepped token v) (λ kind. Stops v kind)
+    Steps (record (step_of v args) { input = or_empty token.response_token }) (record v { branch = Answering token })
+    (stepped token v) (λ kind. Stops v kind)
 
 -- a choice of Kerberos: a new one is taken where NTLM was in hand, and then MICs are needed
 abbrev pub in_kerberos : Protocol → NegTokenTarg → Values → StepArgs → Plan
@@ -151,14 +154,20 @@ in_kerberos protocols.Ntlm token v args =
 
 unfoldable pub chooses_kerberos : NegTokenTarg → Values → StepArgs → Plan
 chooses_kerberos token v args =
-    if v.packages.kerberos then in_kerberos v.hand token (record v { packages = record v.packages { ntlm = false } }) args else Stops v InvalidToken
+    if v.packages.kerberos
+    then in_kerberos v.hand token (record v { packages = record v.packages { ntlm = false } }) args
+    else Stops v InvalidToken
 
 -- a choice of NTLM: MICs are needed but for a guest
 unfoldable pub chooses_ntlm : NegTokenTarg → Values → StepArgs → Plan
 chooses_ntlm token v args =
     if v.packages.ntlm
     then in_ntlm v.hand v.computer
-    (answers token (record v { hand = protocols.Ntlm; packages = record v.packages { kerberos = false }; need = not (is_guest args.handle) }) args)
+    (answers token (record v {
+      hand = protocols.Ntlm;
+      packages = record v.packages { kerberos = false };
+      need = not (is_guest args.handle);
+    }) args)
     else Stops v InvalidToken
 
 abbrev pub chooses : MechKind → NegTokenTarg → Values → StepArgs → Plan
@@ -223,7 +232,8 @@ with_handle v args = converts (passwords_of args.handle) v args
 abbrev pub by_target : Bool → Values → StepArgs → Plan
 by_target ip v args =
     if ip && v.packages.ntlm
-    then in_ntlm v.hand v.computer (with_handle (record v { hand = protocols.Ntlm; packages = record v.packages { kerberos = false } }) args)
+    then in_ntlm v.hand v.computer
+    (with_handle (record v { hand = protocols.Ntlm; packages = record v.packages { kerberos = false } }) args)
     else with_handle v args
 
 -- whether no step can be begun
@@ -242,7 +252,8 @@ spnego_client ip v args = if is_closed v.role v.state v.branch then Stops v OutO
 
 -- refused, the step still waits
 unfoldable pub resumes_opening : FirstStep → Values → Reply → Plan
-resumes_opening first v reply = Resumes reply (record v { branch = Opening first }) (begun v) (falls (record v { branch = Opening first }) v first)
+resumes_opening first v reply =
+    Resumes reply (record v { branch = Opening first }) (begun v) (falls (record v { branch = Opening first }) v first)
 
 unfoldable pub resumes_answering : NegTokenTarg → Values → Reply → Plan
 resumes_answering token v reply =

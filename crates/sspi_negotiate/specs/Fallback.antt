@@ -1,6 +1,7 @@
 use Rattle.std.specs.Prelude.{Bool, true, false}
 use Rattle.sspi_types.specs.declared.error_kind.ErrorKind.{ErrorKind}
-use Rattle.sspi_types.specs.declared.error_kind.ErrorKind.TheVariants.{TimeSkew, NoAuthenticatingAuthority, CertificateUnknown, UnknownCredentials}
+use Rattle.sspi_types.specs.declared.error_kind.ErrorKind.TheVariants.{TimeSkew, NoAuthenticatingAuthority}
+use Rattle.sspi_types.specs.declared.error_kind.ErrorKind.TheVariants.{CertificateUnknown, UnknownCredentials}
 
 -- the kinds of a Kerberos refusal after which a client goes on with NTLM
 unfoldable pub is_fallback : ErrorKind → Bool

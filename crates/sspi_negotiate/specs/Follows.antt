@@ -44,7 +44,8 @@ module _ {M : Type 0} (c : Meaning Origin M) where
   Follows (Resumes reply v go fall) m r v2 m2 = (m1 : M) × (x : Answer) × c.resumes m reply x m1
       × Went x (λ step. Follows (go step) m1 r v2 m2) (λ kind. Follows (fall kind) m1 r v2 m2) r v v2 m1 m2
   Follows (Accepts args v go) m r v2 m2 =
-      Asked (λ step m1. c.accepts m args (Ok step) m1 × Follows (go step) m1 r v2 m2) (λ error m1. c.accepts m args (Err error) m1) r v v2 m2
+      Asked (λ step m1. c.accepts m args (Ok step) m1 × Follows (go step) m1 r v2 m2)
+      (λ error m1. c.accepts m args (Err error) m1) r v v2 m2
   Follows (Pairs go) m r v2 m2 = Follows (go (c.pairs m)) m r v2 m2
   Follows (Names v go) m r v2 m2 =
       Asked (λ name m1. (c.names m ≡ Some name) × (m1 ≡ m) × Follows (go name) m1 r v2 m2) (RefusedTo c ToName m) r v v2 m2

@@ -19,14 +19,16 @@ use Rattle.sspi_negotiate.specs.Target.{IsNamedByIp}
 use Rattle.sspi_negotiate.specs.Values.{Negotiation, values_of, is_waiting}
 
 -- A step by a plan. The plan says nothing of want of memory, and the other two hold of that too.
-pub record Moves {N K : Type 0} (n : Meaning Setting N) (k : Meaning Setting K) (p : Plan) (s : Negotiation (NegotiatedProtocol N K)) (r : Answer)
+pub record Moves {N K : Type 0} (n : Meaning Setting N) (k : Meaning Setting K) (p : Plan) (s : Negotiation (NegotiatedProtocol N K))
+    (r : Answer)
     (s2 : Negotiation (NegotiatedProtocol N K)) : Type 0 where
   pub follows : Does n k p s r s2
   pub stays : OnRefused r (Stays (values_of s) (values_of s2))
   pub unused : StaysUnused n k s s2
 
 -- a client's step, whose plan depends on whether the target is named by its IP address
-pub record ClientMoves {N K : Type 0} (n : Meaning Setting N) (k : Meaning Setting K) (s : Negotiation (NegotiatedProtocol N K)) (args : StepArgs) (r : Answer)
+pub record ClientMoves {N K : Type 0} (n : Meaning Setting N) (k : Meaning Setting K) (s : Negotiation (NegotiatedProtocol N K))
+    (args : StepArgs) (r : Answer)
     (s2 : Negotiation (NegotiatedProtocol N K)) : Type 0 where
   pub ip : Bool
   pub ip_is : IsTrue ip ↔ IsNamedByIp args.target

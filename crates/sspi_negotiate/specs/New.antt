@@ -37,7 +37,8 @@ without_ntlm Client config true = Ok (InPlaceOfNtlm None config.kdcs config.clie
 without_ntlm Server config true = Err InternalError
 
 abbrev pub first_by : Role → NegotiateConfig → ProtocolConfig → PackageListConfig → Result Origin ErrorKind
-first_by role config (configs.Ntlm ntlm) packages = if packages.ntlm then Ok (Configured (configs.Ntlm ntlm)) else without_ntlm role config packages.kerberos
+first_by role config (configs.Ntlm ntlm) packages =
+    if packages.ntlm then Ok (Configured (configs.Ntlm ntlm)) else without_ntlm role config packages.kerberos
 
 -- the mechanism that is in hand at first, or the kind of the refusal
 abbrev pub first_in_hand : Role → NegotiateConfig → Result Origin ErrorKind

@@ -1,4 +1,5 @@
-use Rattle.std.specs.Prelude.{ℕ, Bool, true, false, not, ◌||◌, List, [], ◌∷◌, Option, Some, None, unwrap_or, ◌==◌, reverse, map, codes, if◌then◌else◌}
+use Rattle.std.specs.Prelude.{ℕ, Bool, true, false, not, ◌||◌, List, [], ◌∷◌, Option, Some}
+use Rattle.std.specs.Prelude.{None, unwrap_or, ◌==◌, reverse, map, codes, if◌then◌else◌}
 use Rattle.std.specs.List.{slice_split, find, list_all}
 use Rattle.std.specs.Char.{to_ascii_lowercase}
 use Rattle.std.specs.Option.{option_map}
@@ -50,4 +51,5 @@ applied name packages = record {
 abbrev pub in_turn : Bool → PackageListConfig → List (List ℕ) → PackageListConfig
 in_turn chosen packages [] = packages
 in_turn chosen packages (name ∷ names) =
-    in_turn (chosen || not (is_marked name)) (applied name (if chosen || is_marked name then packages else record { ntlm = false; kerberos = false })) names
+    in_turn (chosen || not (is_marked name))
+    (applied name (if chosen || is_marked name then packages else record { ntlm = false; kerberos = false })) names

@@ -1,5 +1,6 @@
 -- What the client's rows and the server's rows have in common.
-use Rattle.std.specs.Prelude.{ℕ, List, [], ◌∷◌, ◌||◌, ◌==◌, length, map, codes, unwrap_or, Option, None, Some, Bool, true, false, if◌then◌else◌}
+use Rattle.std.specs.Prelude.{ℕ, List, [], ◌∷◌, ◌||◌, ◌==◌, length, map, codes, unwrap_or}
+use Rattle.std.specs.Prelude.{Option, None, Some, Bool, true, false, if◌then◌else◌}
 use Rattle.std.specs.Int.RustNames.{bit_and}
 use Rattle.sspi_types.specs.declared.client_request_flags.ClientRequestFlags.{ClientRequestFlags}
 use Rattle.sspi_types.specs.declared.error_kind.ErrorKind.TheVariants.{InternalError, NoCredentials}

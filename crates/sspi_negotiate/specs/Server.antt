@@ -20,34 +20,38 @@ use Rattle.sspi_negotiate.specs.declared.state.Role.TheVariants.{Client, Server}
 use Rattle.sspi_negotiate.specs.Hand.{is_ntlm_hand}
 use Rattle.sspi_negotiate.specs.Pick.{pick, oid_of}
 use Rattle.sspi_negotiate.specs.Plan.{Plan, Goes, Stops, Accepts, Pairs, Names}
-use Rattle.sspi_negotiate.specs.Rows.{server_wants_mic, is_over, is_complete, is_guest_text, targ, or_empty, writes, in_ntlm, checks, completes, completes_signed, hands_mic, carries_on}
+use Rattle.sspi_negotiate.specs.Rows.{server_wants_mic, is_over, is_complete, is_guest_text, targ, or_empty}
+use Rattle.sspi_negotiate.specs.Rows.{writes, in_ntlm, checks, completes, completes_signed, hands_mic, carries_on}
 use Rattle.sspi_negotiate.specs.Values.{Values}
 
 -- ---- Initial
 
+-- the pick is told with this token, and the negotiation goes on
+abbrev pub goes_on_with : Picked → Option (List ℕ) → Bool → NegotiateState → Values → Plan
+goes_on_with p token need state v =
+    writes (targ AcceptIncomplete (Some (oid_of p.choice)) token None) v (record v { need = need; state = state }) statuses.ContinueNeeded
+
 -- the pick is not the mechanism that the client likes best: its token is dropped, and the list is to be protected
 unfoldable pub drops : Picked → Values → Plan
-drops p v = writes (targ AcceptIncomplete (Some (oid_of p.choice)) None None) v (record v { need = true; state = states.InProgress }) statuses.ContinueNeeded
+drops p v = goes_on_with p None true states.InProgress v
 
 -- the pick is that mechanism, and the client sent no token for it
 unfoldable pub waits_for_token : Picked → Values → Bool → Plan
-waits_for_token p v need =
-    writes (targ AcceptIncomplete (Some (oid_of p.choice)) None None) v (record v { need = need; state = states.InProgress }) statuses.ContinueNeeded
+waits_for_token p v need = goes_on_with p None need states.InProgress v
 
 -- the mechanism took the token, and goes on
 unfoldable pub goes_on : Picked → Values → Bool → Step → Plan
-goes_on p v need step =
-    writes (targ AcceptIncomplete (Some (oid_of p.choice)) (Some step.output) None) v (record v { need = need; state = states.InProgress }) statuses.ContinueNeeded
+goes_on p v need step = goes_on_with p (Some step.output) need states.InProgress v
 
 -- the mechanism is over with this token, and MICs are to come
 unfoldable pub awaits_mic : Picked → Values → Step → Plan
-awaits_mic p v step =
-    writes (targ AcceptIncomplete (Some (oid_of p.choice)) (Some step.output) None) v (record v { need = true; state = states.VerifyMic }) statuses.ContinueNeeded
+awaits_mic p v step = goes_on_with p (Some step.output) true states.VerifyMic v
 
 -- the mechanism is over with this token, and so is the negotiation
 unfoldable pub ends_at_once : Picked → Values → Step → Plan
 ends_at_once p v step =
-    writes (targ AcceptComplete (Some (oid_of p.choice)) (Some step.output) None) v (record v { need = false; state = states.Ok }) statuses.Ok
+    writes (targ AcceptComplete (Some (oid_of p.choice)) (Some step.output) None) v
+    (record v { need = false; state = states.Ok }) statuses.Ok
 
 abbrev pub opens : Picked → Values → Step → Bool → Plan
 opens p v step need = if is_over step.status then (if need then awaits_mic p v step else ends_at_once p v step) else goes_on p v need step
@@ -58,7 +62,8 @@ needs_mic v args pairs = is_ntlm_hand v.hand || pairs || server_wants_mic args.r
 
 unfoldable pub first_token : Option (List ℕ) → Picked → Values → AcceptArgs → Plan
 first_token None p v args = Pairs (λ pairs. waits_for_token p v (needs_mic v args pairs))
-first_token (Some token) p v args = Accepts (record args { input = token }) v (λ step. Pairs (λ pairs. opens p v step (needs_mic v args pairs)))
+first_token (Some token) p v args =
+    Accepts (record args { input = token }) v (λ step. Pairs (λ pairs. opens p v step (needs_mic v args pairs)))
 
 unfoldable pub placed : Option (List ℕ) → Picked → Values → AcceptArgs → Plan
 placed token p v args = if p.index == 0 then first_token token p v args else drops p v

@@ -84,7 +84,8 @@ impl<N: Mechanism, K: Mechanism> Negotiate<N, K> {
 
     /// Takes Kerberos in the place of NTLM on a client, where a KDC serves the domain of a name with a password.
     fn rule_for(&mut self, auth_data: Option<&Credentials>) -> Result<(), Error>
-        ensures taken { OnOk result (TakenBy (hand N.meaning K.meaning) (acquired_url self.old.role (values_of self.old) (option_copied auth_data.entry))
+        ensures taken { OnOk result (TakenBy (hand N.meaning K.meaning)
+            (acquired_url self.old.role (values_of self.old) (option_copied auth_data.entry))
             self.old.kdcs self.old.computer self.old.mech self.new.mech) }
         ensures rest { self.new ≡ record self.old { mech = self.new.mech } }
         ensures unused { StaysUnused N.meaning K.meaning self.old self.new }
@@ -107,7 +108,8 @@ impl<N: Mechanism, K: Mechanism> Negotiate<N, K> {
         auth_data: Option<&Credentials>,
         kept: Option<CredentialsBuffers>,
     ) -> Result<Option<CredentialsBuffers>, Error>
-        ensures acquired { IfOk result (λ buffers. (hand N.meaning K.meaning).acquires self.old.mech credential_use (option_copied auth_data.entry) buffers self.new.mech) }
+        ensures acquired { IfOk result (λ buffers.
+            (hand N.meaning K.meaning).acquires self.old.mech credential_use (option_copied auth_data.entry) buffers self.new.mech) }
         ensures kept { OnOk result (self.new ≡ record self.old { kept = kept; mech = self.new.mech }) }
         ensures err { OnErr result (self.new ≡ self.old) }
         ensures unused { StaysUnused N.meaning K.meaning self.old self.new }

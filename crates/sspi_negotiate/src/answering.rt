@@ -8,7 +8,9 @@ ghost use Rattle.sspi_tokens.specs.Reading.{targ_of};
 ghost use Rattle.sspi_negotiate.specs.declared.protocol.Protocol.TheVariants as protocols;
 ghost use Rattle.sspi_negotiate.specs.declared.state.NegotiateState.TheVariants as states;
 ghost use Rattle.sspi_types.specs.declared.security_status.SecurityStatus.TheVariants as statuses;
-ghost use Rattle.sspi_negotiate.specs.Client.{at_progress, chosen, chooses_kerberos, chooses_ntlm, in_kerberos, answers, stepped, settles, unprotected, verified, at_verify_mic, confirmed, last_mic, is_guest, handle_for, step_of, resumes_answering, spnego_resumed};
+ghost use Rattle.sspi_negotiate.specs.Client.{at_progress, chosen, chooses_kerberos, chooses_ntlm, in_kerberos, answers};
+ghost use Rattle.sspi_negotiate.specs.Client.{stepped, settles, unprotected, verified, at_verify_mic, confirmed};
+ghost use Rattle.sspi_negotiate.specs.Client.{last_mic, is_guest, handle_for, step_of, resumes_answering, spnego_resumed};
 ghost use Rattle.sspi_negotiate.specs.Does.{Does, Passes, Stays, StaysUnused, told};
 ghost use Rattle.sspi_negotiate.specs.Hand.{InPlaceOfNtlm, hand, hand_of};
 ghost use Rattle.sspi_negotiate.specs.Negotiate.{negotiate};
@@ -75,7 +77,8 @@ impl<N: Mechanism, K: Mechanism> Negotiate<N, K> {
         &mut self,
         args: &InitializeSecurityContext<'_>,
     ) -> Result<Progressing, Error>
-        ensures step { Does N.meaning K.meaning (at_progress (targ_of args.now.input.now) (values_of self.old) (step_args args.now)) self.old (answer_of result) self.new }
+        ensures step { Does N.meaning K.meaning (at_progress (targ_of args.now.input.now) (values_of self.old) (step_args args.now))
+            self.old (answer_of result) self.new }
         ensures stays { OnErr result (Stays (values_of self.old) (values_of self.new)) }
         ensures unused { StaysUnused N.meaning K.meaning self.old self.new }
         ensures plain { IfErr result (λ error. error.nstatus ≡ None) }
@@ -91,7 +94,9 @@ impl<N: Mechanism, K: Mechanism> Negotiate<N, K> {
         token: NegTokenTarg,
         args: &InitializeSecurityContext<'_>,
     ) -> Result<Progressing, Error>
-        ensures step { Does N.meaning K.meaning (chosen (option_map kind_of token.supported_mech) token (values_of self.old) (step_args args.now)) self.old (answer_of result) self.new }
+        ensures step { Does N.meaning K.meaning
+            (chosen (option_map kind_of token.supported_mech) token (values_of self.old) (step_args args.now))
+            self.old (answer_of result) self.new }
         ensures stays { OnErr result (Stays (values_of self.old) (values_of self.new)) }
         ensures unused { StaysUnused N.meaning K.meaning self.old self.new }
         ensures plain { IfErr result (λ error. error.nstatus ≡ None) }
@@ -111,7 +116,8 @@ impl<N: Mechanism, K: Mechanism> Negotiate<N, K> {
         token: NegTokenTarg,
         args: &InitializeSecurityContext<'_>,
     ) -> Result<Progressing, Error>
-        ensures step { Does N.meaning K.meaning (chooses_kerberos token (values_of self.old) (step_args args.now)) self.old (answer_of result) self.new }
+        ensures step { Does N.meaning K.meaning (chooses_kerberos token (values_of self.old) (step_args args.now))
+            self.old (answer_of result) self.new }
         ensures stays { OnErr result (Stays (values_of self.old) (values_of self.new)) }
         ensures unused { StaysUnused N.meaning K.meaning self.old self.new }
         ensures plain { IfErr result (λ error. error.nstatus ≡ None) }
@@ -129,7 +135,8 @@ impl<N: Mechanism, K: Mechanism> Negotiate<N, K> {
         token: NegTokenTarg,
         args: &InitializeSecurityContext<'_>,
     ) -> Result<Progressing, Error>
-        ensures step { Does N.meaning K.meaning (in_kerberos (hand_of self.old.mech) token (values_of self.old) (step_args args.now)) self.old (answer_of result) self.new }
+        ensures step { Does N.meaning K.meaning (in_kerberos (hand_of self.old.mech) token (values_of self.old) (step_args args.now))
+            self.old (answer_of result) self.new }
         ensures stays { OnErr result (Stays (values_of self.old) (values_of self.new)) }
         ensures unused { StaysUnused N.meaning K.meaning self.old self.new }
         ensures plain { IfErr result (λ error. error.nstatus ≡ None) }
@@ -145,7 +152,8 @@ impl<N: Mechanism, K: Mechanism> Negotiate<N, K> {
         token: NegTokenTarg,
         args: &InitializeSecurityContext<'_>,
     ) -> Result<Progressing, Error>
-        ensures step { Does N.meaning K.meaning (in_kerberos protocols.Ntlm token (values_of self.old) (step_args args.now)) self.old (answer_of result) self.new }
+        ensures step { Does N.meaning K.meaning (in_kerberos protocols.Ntlm token (values_of self.old) (step_args args.now))
+            self.old (answer_of result) self.new }
         ensures stays { OnErr result (Stays (values_of self.old) (values_of self.new)) }
         ensures unused { StaysUnused N.meaning K.meaning self.old self.new }
         ensures plain { IfErr result (λ error. error.nstatus ≡ None) }
@@ -166,7 +174,8 @@ impl<N: Mechanism, K: Mechanism> Negotiate<N, K> {
         token: NegTokenTarg,
         args: &InitializeSecurityContext<'_>,
     ) -> Result<Progressing, Error>
-        ensures step { Does N.meaning K.meaning (chooses_ntlm token (values_of self.old) (step_args args.now)) self.old (answer_of result) self.new }
+        ensures step { Does N.meaning K.meaning (chooses_ntlm token (values_of self.old) (step_args args.now))
+            self.old (answer_of result) self.new }
         ensures stays { OnErr result (Stays (values_of self.old) (values_of self.new)) }
         ensures unused { StaysUnused N.meaning K.meaning self.old self.new }
         ensures plain { IfErr result (λ error. error.nstatus ≡ None) }
@@ -185,7 +194,13 @@ impl<N: Mechanism, K: Mechanism> Negotiate<N, K> {
         args: &InitializeSecurityContext<'_>,
         guest: bool,
     ) -> Result<Progressing, Error>
-        ensures step { Does N.meaning K.meaning (in_ntlm (hand_of self.old.mech) self.old.computer (answers token (record (values_of self.old) { hand = protocols.Ntlm; packages = record self.old.packages { kerberos = false }; need = not guest }) (step_args args.now))) self.old (answer_of result) self.new }
+        ensures step { Does N.meaning K.meaning
+            (in_ntlm (hand_of self.old.mech) self.old.computer (answers token (record (values_of self.old) {
+              hand = protocols.Ntlm;
+              packages = record self.old.packages { kerberos = false };
+              need = not guest;
+            }) (step_args args.now)))
+            self.old (answer_of result) self.new }
         ensures stays { OnErr result (Stays (values_of self.old) (values_of self.new)) }
         ensures unused { StaysUnused N.meaning K.meaning self.old self.new }
         ensures plain { IfErr result (λ error. error.nstatus ≡ None) }
@@ -202,7 +217,12 @@ impl<N: Mechanism, K: Mechanism> Negotiate<N, K> {
         args: &InitializeSecurityContext<'_>,
         guest: bool,
     ) -> Result<Progressing, Error>
-        ensures step { Does N.meaning K.meaning (answers token (record (values_of self.old) { packages = record self.old.packages { kerberos = false }; need = not guest }) (step_args args.now)) self.old (answer_of result) self.new }
+        ensures step { Does N.meaning K.meaning
+            (answers token (record (values_of self.old) {
+              packages = record self.old.packages { kerberos = false };
+              need = not guest;
+            }) (step_args args.now))
+            self.old (answer_of result) self.new }
         ensures stays { OnErr result (Stays (values_of self.old) (values_of self.new)) }
         ensures unused { StaysUnused N.meaning K.meaning self.old self.new }
         ensures plain { IfErr result (λ error. error.nstatus ≡ None) }
@@ -218,7 +238,8 @@ impl<N: Mechanism, K: Mechanism> Negotiate<N, K> {
         token: NegTokenTarg,
         args: &InitializeSecurityContext<'_>,
     ) -> Result<Progressing, Error>
-        ensures step { Does N.meaning K.meaning (answers token (values_of self.old) (step_args args.now)) self.old (answer_of result) self.new }
+        ensures step { Does N.meaning K.meaning (answers token (values_of self.old) (step_args args.now))
+            self.old (answer_of result) self.new }
         ensures stays { OnErr result (Stays (values_of self.old) (values_of self.new)) }
         ensures unused { StaysUnused N.meaning K.meaning self.old self.new }
         ensures plain { IfErr result (λ error. error.nstatus ≡ None) }
@@ -273,7 +294,8 @@ impl<N: Mechanism, K: Mechanism> Negotiate<N, K> {
     }
 
     fn verify_and_end(&mut self, mic: &Bytes, complete: bool, token: Bytes) -> Result<Step, Error>
-        ensures step { Does N.meaning K.meaning (verifies mic.now (values_of self.old) (verified complete (values_of self.old) token)) self.old (told result) self.new }
+        ensures step { Does N.meaning K.meaning (verifies mic.now (values_of self.old) (verified complete (values_of self.old) token))
+            self.old (told result) self.new }
         ensures stays { OnErr result (Stays (values_of self.old) (values_of self.new)) }
         ensures unused { StaysUnused N.meaning K.meaning self.old self.new }
         ensures plain { IfErr result (λ error. error.nstatus ≡ None) }
@@ -301,7 +323,8 @@ impl<N: Mechanism, K: Mechanism> Negotiate<N, K> {
         &mut self,
         args: &InitializeSecurityContext<'_>,
     ) -> Result<Progressing, Error>
-        ensures step { Does N.meaning K.meaning (at_verify_mic (targ_of args.now.input.now) (values_of self.old)) self.old (answer_of result) self.new }
+        ensures step { Does N.meaning K.meaning (at_verify_mic (targ_of args.now.input.now) (values_of self.old))
+            self.old (answer_of result) self.new }
         ensures stays { OnErr result (Stays (values_of self.old) (values_of self.new)) }
         ensures unused { StaysUnused N.meaning K.meaning self.old self.new }
         ensures plain { IfErr result (λ error. error.nstatus ≡ None) }
@@ -341,7 +364,10 @@ impl<N: Mechanism, K: Mechanism> Negotiate<N, K> {
     }
 
     fn verify_last(&mut self, mic: &Bytes) -> Result<Step, Error>
-        ensures step { Does N.meaning K.meaning (verifies mic.now (values_of self.old) (Goes (record (values_of self.old) { state = states.Ok }) (record { status = statuses.Ok; output = [] }))) self.old (told result) self.new }
+        ensures step { Does N.meaning K.meaning
+            (verifies mic.now (values_of self.old)
+            (Goes (record (values_of self.old) { state = states.Ok }) (record { status = statuses.Ok; output = [] })))
+            self.old (told result) self.new }
         ensures stays { OnErr result (Stays (values_of self.old) (values_of self.new)) }
         ensures unused { StaysUnused N.meaning K.meaning self.old self.new }
         ensures plain { IfErr result (λ error. error.nstatus ≡ None) }
@@ -379,7 +405,8 @@ impl<N: Mechanism, K: Mechanism> Negotiate<N, K> {
 
     #[tactic(auto, unfolding(crate::specs::Client::resumes_answering))]
     fn resume_answering(&mut self, token: NegTokenTarg, reply: &Reply) -> Result<Progressing, Error>
-        ensures step { Does N.meaning K.meaning (resumes_answering token (values_of self.old) reply.now) self.old (answer_of result) self.new }
+        ensures step { Does N.meaning K.meaning (resumes_answering token (values_of self.old) reply.now)
+            self.old (answer_of result) self.new }
         ensures stays { OnErr result (Stays (values_of self.old) (values_of self.new)) }
         ensures unused { StaysUnused N.meaning K.meaning self.old self.new }
         ensures plain { IfErr result (λ error. error.nstatus ≡ None) }

@@ -42,11 +42,13 @@ impl<N: Mechanism, K: Mechanism> Negotiate<N, K> {
     /// as `custom_set_auth_identities`. The kept credentials stay.
     pub fn custom_set_auth_identity(&mut self, identity: Credentials) -> Result<(), Error>
         ensures identified { OnOk result ((negotiate N.REQUESTS N.meaning K.meaning).identifies self.old (identity ∷ []) self.new) }
-        ensures count { (negotiate N.REQUESTS N.meaning K.meaning).counts self.new ≡ (negotiate N.REQUESTS N.meaning K.meaning).counts self.old }
+        ensures count { let c = negotiate N.REQUESTS N.meaning K.meaning in c.counts self.new ≡ c.counts self.old }
         ensures err { OnErr result (self.new ≡ self.old) }
         ensures plain { IfErr result (λ error. error.nstatus ≡ None) }
-        ensures keytab { is_refused_identity (hand_of self.old.mech) identity ≡ true → IfErr result (λ error. error.error_type ≡ ErrorKind.IncompleteCredentials) × IsErr result }
-        ensures cause { is_refused_identity (hand_of self.old.mech) identity ≡ false → IfErr result (λ error. error.error_type ≢ ErrorKind.InsufficientMemory →
+        ensures keytab { is_refused_identity (hand_of self.old.mech) identity ≡ true →
+            IfErr result (λ error. error.error_type ≡ ErrorKind.IncompleteCredentials) × IsErr result }
+        ensures cause { is_refused_identity (hand_of self.old.mech) identity ≡ false →
+            IfErr result (λ error. error.error_type ≢ ErrorKind.InsufficientMemory →
             (negotiate N.REQUESTS N.meaning K.meaning).refuses self.old (ToIdentify (identity ∷ [])) error.error_type) }
     {
         if is_refused_identity(self.protocol.protocol(), &identity) {
@@ -61,7 +63,7 @@ impl<N: Mechanism, K: Mechanism> Negotiate<N, K> {
     /// credentials stay.
     pub fn custom_set_auth_identities(&mut self, identities: Vec<Credentials>) -> Result<(), Error>
         ensures identified { OnOk result ((negotiate N.REQUESTS N.meaning K.meaning).identifies self.old identities.items self.new) }
-        ensures count { (negotiate N.REQUESTS N.meaning K.meaning).counts self.new ≡ (negotiate N.REQUESTS N.meaning K.meaning).counts self.old }
+        ensures count { let c = negotiate N.REQUESTS N.meaning K.meaning in c.counts self.new ≡ c.counts self.old }
         ensures err { OnErr result (self.new ≡ self.old) }
         ensures plain { IfErr result (λ error. error.nstatus ≡ None) }
         ensures cause { IfErr result (λ error. error.error_type ≢ ErrorKind.InsufficientMemory →
@@ -90,8 +92,10 @@ impl<N: Mechanism, K: Mechanism> Negotiate<N, K> {
             IfOk result (λ blob. c.seals self.new (c.counts self.old).sealed text.now blob.items) }
         ensures last { let c = negotiate N.REQUESTS N.meaning K.meaning in
             IfOk result (λ blob. c.seals self.new ((c.counts self.new).sealed - 1) text.now blob.items) }
-        ensures ok { let c = negotiate N.REQUESTS N.meaning K.meaning in OnOk result (self.new ≡ c.counted self.old (one_sealed (c.counts self.old))) }
-        ensures count { let c = negotiate N.REQUESTS N.meaning K.meaning in OnOk result (c.counts self.new ≡ one_sealed (c.counts self.old)) }
+        ensures ok { let c = negotiate N.REQUESTS N.meaning K.meaning in
+            OnOk result (self.new ≡ c.counted self.old (one_sealed (c.counts self.old))) }
+        ensures count { let c = negotiate N.REQUESTS N.meaning K.meaning in
+            OnOk result (c.counts self.new ≡ one_sealed (c.counts self.old)) }
         ensures permitted { OnOk result ((negotiate N.REQUESTS N.meaning K.meaning).permits self.old (ToSeal text.now)) }
         ensures err { OnErr result (self.new ≡ self.old) }
         ensures plain { IfErr result (λ error. error.nstatus ≡ None) }
@@ -110,8 +114,10 @@ impl<N: Mechanism, K: Mechanism> Negotiate<N, K> {
             IfOk result (λ text. c.opens self.new (c.counts self.old).unsealed blob.now text.items) }
         ensures last { let c = negotiate N.REQUESTS N.meaning K.meaning in
             IfOk result (λ text. c.opens self.new ((c.counts self.new).unsealed - 1) blob.now text.items) }
-        ensures ok { let c = negotiate N.REQUESTS N.meaning K.meaning in OnOk result (self.new ≡ c.counted self.old (one_unsealed (c.counts self.old))) }
-        ensures count { let c = negotiate N.REQUESTS N.meaning K.meaning in OnOk result (c.counts self.new ≡ one_unsealed (c.counts self.old)) }
+        ensures ok { let c = negotiate N.REQUESTS N.meaning K.meaning in
+            OnOk result (self.new ≡ c.counted self.old (one_unsealed (c.counts self.old))) }
+        ensures count { let c = negotiate N.REQUESTS N.meaning K.meaning in
+            OnOk result (c.counts self.new ≡ one_unsealed (c.counts self.old)) }
         ensures permitted { OnOk result ((negotiate N.REQUESTS N.meaning K.meaning).permits self.old (ToUnseal blob.now)) }
         ensures err { OnErr result (self.new ≡ self.old) }
         ensures plain { IfErr result (λ error. error.nstatus ≡ None) }

@@ -1,10 +1,12 @@
 // The calls of the mechanism in hand.
-ghost use Rattle.std.specs.Prelude.{ℕ, List, Option, ◌≡◌, ◌≢◌, ◌<◌, IsTrue, IfOk, IfErr, OnOk, OnErr, Some, None, option_copied, filter, take};
+ghost use Rattle.std.specs.Prelude.{ℕ, List, Option, ◌≡◌, ◌≢◌, ◌<◌, IsTrue, IfOk, IfErr};
+ghost use Rattle.std.specs.Prelude.{OnOk, OnErr, Some, None, option_copied, filter, take};
 ghost use Rattle.sspi_types.specs.Memory.{memory_error};
 ghost use Rattle.sspi_names.specs.declared.kdc_table.KdcEntry.{KdcEntry};
 ghost use Rattle.sspi_mech.specs.Answers.{IfRefused, OnRefused, OnAsk};
 ghost use Rattle.sspi_mech.specs.Calls.{step_args, accept_args, no_counts, one_sealed, one_unsealed, one_signed, one_verified};
-ghost use Rattle.sspi_mech.specs.Calls.{ToAcquire, ToName, ToIdentify, ToComplete, ToSeal, ToUnseal, ToSign, ToVerify, ToDescribe, ToShowKey};
+ghost use Rattle.sspi_mech.specs.Calls.{ToAcquire, ToName, ToIdentify, ToComplete, ToSeal};
+ghost use Rattle.sspi_mech.specs.Calls.{ToUnseal, ToSign, ToVerify, ToDescribe, ToShowKey};
 ghost use Rattle.sspi_mech.specs.Context.{IsUnused};
 ghost use Rattle.sspi_negotiate.specs.declared.protocol.Protocol.TheVariants as protocols;
 ghost use Rattle.sspi_negotiate.specs.Hand.{InPlaceOfNtlm, in_place_of_kerberos, hand, hand_of, has_password, asks_left};
@@ -180,7 +182,8 @@ impl<N: Mechanism, K: Mechanism> NegotiatedProtocol<N, K> {
     }
 
     pub(crate) fn seal(&mut self, text: &[u8]) -> Result<Vec<u8>, Error>
-        ensures blob { let c = hand N.meaning K.meaning in IfOk result (λ blob. c.seals self.new (c.counts self.old).sealed text.now blob.items) }
+        ensures blob { let c = hand N.meaning K.meaning in
+            IfOk result (λ blob. c.seals self.new (c.counts self.old).sealed text.now blob.items) }
         ensures ok { let c = hand N.meaning K.meaning in OnOk result (self.new ≡ c.counted self.old (one_sealed (c.counts self.old))) }
         ensures count { let c = hand N.meaning K.meaning in OnOk result (c.counts self.new ≡ one_sealed (c.counts self.old)) }
         ensures permitted { OnOk result ((hand N.meaning K.meaning).permits self.old (ToSeal text.now)) }
@@ -196,7 +199,8 @@ impl<N: Mechanism, K: Mechanism> NegotiatedProtocol<N, K> {
     }
 
     pub(crate) fn unseal(&mut self, blob: &[u8]) -> Result<Vec<u8>, Error>
-        ensures text { let c = hand N.meaning K.meaning in IfOk result (λ text. c.opens self.new (c.counts self.old).unsealed blob.now text.items) }
+        ensures text { let c = hand N.meaning K.meaning in
+            IfOk result (λ text. c.opens self.new (c.counts self.old).unsealed blob.now text.items) }
         ensures ok { let c = hand N.meaning K.meaning in OnOk result (self.new ≡ c.counted self.old (one_unsealed (c.counts self.old))) }
         ensures count { let c = hand N.meaning K.meaning in OnOk result (c.counts self.new ≡ one_unsealed (c.counts self.old)) }
         ensures permitted { OnOk result ((hand N.meaning K.meaning).permits self.old (ToUnseal blob.now)) }
@@ -214,7 +218,8 @@ impl<N: Mechanism, K: Mechanism> NegotiatedProtocol<N, K> {
     /// The MIC of a text for the peer, as the next of its MICs (MakeSignature). `OutOfSequence` before there is a key,
     /// `ContextExpired` once all numbers of MICs are used.
     pub fn generate_mic_token(&mut self, text: &[u8]) -> Result<Vec<u8>, Error>
-        ensures mic { let c = hand N.meaning K.meaning in IfOk result (λ mic. c.signs self.new (c.counts self.old).signed text.now mic.items) }
+        ensures mic { let c = hand N.meaning K.meaning in
+            IfOk result (λ mic. c.signs self.new (c.counts self.old).signed text.now mic.items) }
         ensures ok { let c = hand N.meaning K.meaning in OnOk result (self.new ≡ c.counted self.old (one_signed (c.counts self.old))) }
         ensures count { let c = hand N.meaning K.meaning in OnOk result (c.counts self.new ≡ one_signed (c.counts self.old)) }
         ensures named { hand_of self.new ≡ hand_of self.old }
@@ -233,7 +238,8 @@ impl<N: Mechanism, K: Mechanism> NegotiatedProtocol<N, K> {
     /// Whether `token` is the MIC that the peer made of `text` as the next of its MICs (VerifySignature): `Ok`, or
     /// `MessageAltered`, also where it has another length. `OutOfSequence` and `ContextExpired` as `generate_mic_token`.
     pub fn verify_mic_token(&mut self, token: &[u8], text: &[u8]) -> Result<(), Error>
-        ensures mic { let c = hand N.meaning K.meaning in OnOk result (c.verifies self.new (c.counts self.old).verified token.now text.now) }
+        ensures mic { let c = hand N.meaning K.meaning in
+            OnOk result (c.verifies self.new (c.counts self.old).verified token.now text.now) }
         ensures ok { let c = hand N.meaning K.meaning in OnOk result (self.new ≡ c.counted self.old (one_verified (c.counts self.old))) }
         ensures count { let c = hand N.meaning K.meaning in OnOk result (c.counts self.new ≡ one_verified (c.counts self.old)) }
         ensures named { hand_of self.new ≡ hand_of self.old }

@@ -38,8 +38,6 @@ mod settling;
 mod spelled;
 pub mod state;
 mod target;
-#[cfg(test)]
-mod tests;
 
 pub use fallback::FALLBACK_ERROR_KINDS;
 pub use ip_text::is_ip_text;

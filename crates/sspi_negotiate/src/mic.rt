@@ -4,7 +4,8 @@ ghost use Rattle.sspi_mech.specs.Calls.{one_signed, one_verified, ToSign, ToVeri
 ghost use Rattle.sspi_negotiate.specs.Hand.{hand, hand_of};
 ghost use Rattle.sspi_names.specs.declared.credentials.Credentials.TheVariants as credentials;
 ghost use Rattle.sspi_negotiate.specs.Does.{Does, Passes, Stays, StaysUnused, told};
-ghost use Rattle.sspi_negotiate.specs.Rows.{identifies_among, identifies, verifies, verifies_text, checks, signs_text, writes, targ, if_some, answers_signed, completes_signed, hands_mic};
+ghost use Rattle.sspi_negotiate.specs.Rows.{identifies_among, identifies, verifies, verifies_text, checks, signs_text};
+ghost use Rattle.sspi_negotiate.specs.Rows.{writes, targ, if_some, answers_signed, completes_signed, hands_mic};
 ghost use Rattle.sspi_negotiate.specs.Known.{named};
 ghost use Rattle.sspi_negotiate.specs.Plan.{Names, Identifies, Verifies, Signs};
 ghost use Rattle.sspi_negotiate.specs.Values.{values_of};
@@ -25,15 +26,17 @@ fn verify_with<N: Mechanism, K: Mechanism>(
     mic: &Bytes,
     text: &Bytes,
 ) -> Result<(), Error>
-    ensures mic { let c = hand N.meaning K.meaning in OnOk result (c.verifies protocol.new (c.counts protocol.old).verified mic.now text.now) }
-    ensures ok { let c = hand N.meaning K.meaning in OnOk result (protocol.new ≡ c.counted protocol.old (one_verified (c.counts protocol.old))) }
+    ensures mic { let c = hand N.meaning K.meaning in
+        OnOk result (c.verifies protocol.new (c.counts protocol.old).verified mic.now text.now) }
+    ensures ok { let c = hand N.meaning K.meaning in
+        OnOk result (protocol.new ≡ c.counted protocol.old (one_verified (c.counts protocol.old))) }
     ensures count { let c = hand N.meaning K.meaning in OnOk result (c.counts protocol.new ≡ one_verified (c.counts protocol.old)) }
     ensures named { hand_of protocol.new ≡ hand_of protocol.old }
     ensures permitted { OnOk result ((hand N.meaning K.meaning).permits protocol.old (ToVerify mic.now text.now)) }
     ensures err { OnErr result (protocol.new ≡ protocol.old) }
     ensures plain { IfErr result (λ error. error.nstatus ≡ None) }
     ensures cause { IfErr result (λ error.
-            (hand N.meaning K.meaning).refuses protocol.old (ToVerify mic.now text.now) error.error_type) }
+        (hand N.meaning K.meaning).refuses protocol.old (ToVerify mic.now text.now) error.error_type) }
 {
     protocol.verify_mic_token(mic.as_slice(), text.as_slice())
 }
@@ -42,8 +45,10 @@ fn sign_with<N: Mechanism, K: Mechanism>(
     protocol: &mut NegotiatedProtocol<N, K>,
     text: &Bytes,
 ) -> Result<Bytes, Error>
-    ensures mic { let c = hand N.meaning K.meaning in IfOk result (λ mic. c.signs protocol.new (c.counts protocol.old).signed text.now mic) }
-    ensures ok { let c = hand N.meaning K.meaning in OnOk result (protocol.new ≡ c.counted protocol.old (one_signed (c.counts protocol.old))) }
+    ensures mic { let c = hand N.meaning K.meaning in
+        IfOk result (λ mic. c.signs protocol.new (c.counts protocol.old).signed text.now mic) }
+    ensures ok { let c = hand N.meaning K.meaning in
+        OnOk result (protocol.new ≡ c.counted protocol.old (one_signed (c.counts protocol.old))) }
     ensures count { let c = hand N.meaning K.meaning in OnOk result (c.counts protocol.new ≡ one_signed (c.counts protocol.old)) }
     ensures named { hand_of protocol.new ≡ hand_of protocol.old }
     ensures permitted { OnOk result ((hand N.meaning K.meaning).permits protocol.old (ToSign text.now)) }
@@ -86,7 +91,8 @@ impl<N: Mechanism, K: Mechanism> Negotiate<N, K> {
 
     fn identify_as(&mut self, name: &Username) -> Result<(), Error>
         ensures step { Passes N.meaning K.meaning
-            (λ rest. identifies_among (map credentials.AuthIdentity (named name.now self.old.known)) (values_of self.old) rest) (values_of self.old) self.old result self.new }
+            (λ rest. identifies_among (map credentials.AuthIdentity (named name.now self.old.known)) (values_of self.old) rest)
+            (values_of self.old) self.old result self.new }
         ensures stays { Stays (values_of self.old) (values_of self.new) }
         ensures unused { StaysUnused N.meaning K.meaning self.old self.new }
         ensures plain { IfErr result (λ error. error.nstatus ≡ None) }
@@ -100,7 +106,8 @@ impl<N: Mechanism, K: Mechanism> Negotiate<N, K> {
     }
 
     fn identify_by(&mut self, found: Vec<Credentials>) -> Result<(), Error>
-        ensures step { Passes N.meaning K.meaning (Identifies found.items (values_of self.old)) (values_of self.old) self.old result self.new }
+        ensures step { Passes N.meaning K.meaning (Identifies found.items (values_of self.old))
+            (values_of self.old) self.old result self.new }
         ensures stays { Stays (values_of self.old) (values_of self.new) }
         ensures unused { StaysUnused N.meaning K.meaning self.old self.new }
         ensures plain { IfErr result (λ error. error.nstatus ≡ None) }
@@ -122,7 +129,8 @@ impl<N: Mechanism, K: Mechanism> Negotiate<N, K> {
     }
 
     fn verify_over(&mut self, mic: &Bytes, text: &Bytes) -> Result<(), Error>
-        ensures step { Passes N.meaning K.meaning (Verifies mic.now text.now (values_of self.old)) (values_of self.old) self.old result self.new }
+        ensures step { Passes N.meaning K.meaning (Verifies mic.now text.now (values_of self.old))
+            (values_of self.old) self.old result self.new }
         ensures stays { Stays (values_of self.old) (values_of self.new) }
         ensures unused { StaysUnused N.meaning K.meaning self.old self.new }
         ensures plain { IfErr result (λ error. error.nstatus ≡ None) }

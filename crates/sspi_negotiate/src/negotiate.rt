@@ -136,7 +136,8 @@ impl<N: Mechanism, K: Mechanism> Negotiate<N, K> {
         status: SecurityStatus,
     ) -> Result<Step, Error>
         ensures step { Does N.meaning K.meaning
-            (writes token.now (values_of self.old) (record (values_of self.old) { need = need; state = state }) status) self.old (told result) self.new }
+            (writes token.now (values_of self.old) (record (values_of self.old) { need = need; state = state }) status)
+            self.old (told result) self.new }
         ensures stays { OnErr result (Stays (values_of self.old) (values_of self.new)) }
         ensures unused { StaysUnused N.meaning K.meaning self.old self.new }
         ensures plain { IfErr result (λ error. error.nstatus ≡ None) }
@@ -176,7 +177,8 @@ impl<N: Mechanism, K: Mechanism> Negotiate<N, K> {
     /// The negotiation is over, and nothing is left to be sent.
     pub(crate) fn end(&mut self) -> Result<Step, Error>
         ensures step { Does N.meaning K.meaning
-            (Goes (record (values_of self.old) { state = states.Ok }) (record { status = statuses.Ok; output = [] })) self.old (told result) self.new }
+            (Goes (record (values_of self.old) { state = states.Ok }) (record { status = statuses.Ok; output = [] }))
+            self.old (told result) self.new }
         ensures stays { OnErr result (Stays (values_of self.old) (values_of self.new)) }
         ensures unused { StaysUnused N.meaning K.meaning self.old self.new }
         ensures plain { IfErr result (λ error. error.nstatus ≡ None) }

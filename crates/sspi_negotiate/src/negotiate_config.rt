@@ -26,7 +26,12 @@ impl NegotiateConfig {
         client_computer_name: Text,
         kdcs: KdcTable,
     ) -> NegotiateConfig
-        ensures { result ≡ record { protocol_config = protocol_config; package_list = package_list; client_computer_name = client_computer_name; kdcs = kdcs } }
+        ensures { result ≡ record {
+          protocol_config = protocol_config;
+          package_list = package_list;
+          client_computer_name = client_computer_name;
+          kdcs = kdcs;
+        } }
     {
         NegotiateConfig {
             protocol_config,
@@ -42,7 +47,12 @@ impl NegotiateConfig {
         client_computer_name: Text,
         kdcs: KdcTable,
     ) -> NegotiateConfig
-        ensures { result ≡ record { protocol_config = protocol_config; package_list = None; client_computer_name = client_computer_name; kdcs = kdcs } }
+        ensures { result ≡ record {
+          protocol_config = protocol_config;
+          package_list = None;
+          client_computer_name = client_computer_name;
+          kdcs = kdcs;
+        } }
     {
         NegotiateConfig::new(protocol_config, None, client_computer_name, kdcs)
     }

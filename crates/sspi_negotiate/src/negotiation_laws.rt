@@ -31,9 +31,11 @@ pub fn steps_keep<N: Mechanism, K: Mechanism>()
     ensures client { (old new : Negotiation (NegotiatedProtocol N K)) (args : StepArgs) (answer : Answer) →
         (negotiate N.REQUESTS N.meaning K.meaning).steps old args answer new → UnlessMemory answer (Keeps (values_of old) (values_of new)) }
     ensures resumed { (old new : Negotiation (NegotiatedProtocol N K)) (reply : Reply) (answer : Answer) →
-        (negotiate N.REQUESTS N.meaning K.meaning).resumes old reply answer new → UnlessMemory answer (Keeps (values_of old) (values_of new)) }
+        (negotiate N.REQUESTS N.meaning K.meaning).resumes old reply answer new →
+        UnlessMemory answer (Keeps (values_of old) (values_of new)) }
     ensures server { (old new : Negotiation (NegotiatedProtocol N K)) (args : AcceptArgs) (result : Result Step Error) →
-        (negotiate N.REQUESTS N.meaning K.meaning).accepts old args result new → UnlessMemory (told result) (Keeps (values_of old) (values_of new)) }
+        (negotiate N.REQUESTS N.meaning K.meaning).accepts old args result new →
+        UnlessMemory (told result) (Keeps (values_of old) (values_of new)) }
 {}
 
 /// An end that needs MICs comes to its end only where, in that very step, the mechanism that is left in hand verified the

@@ -3,7 +3,8 @@ ghost use Rattle.std.specs.Prelude.{◌≡◌, ◌≢◌, None, IfOk, IfErr, OnE
 ghost use Rattle.sspi_mech.specs.Calls.{no_counts};
 ghost use Rattle.sspi_negotiate.specs.declared.state.Role.TheVariants as roles;
 ghost use Rattle.sspi_negotiate.specs.Hand.{hand};
-ghost use Rattle.sspi_negotiate.specs.New.{ForClient, ForServer, without_kerberos, packages_in, without_ntlm, first_by, first_in_hand, IsFirst, IsUnmade, Begins, MadeOf, UnmadeOf};
+ghost use Rattle.sspi_negotiate.specs.New.{ForClient, ForServer, without_kerberos, packages_in, without_ntlm};
+ghost use Rattle.sspi_negotiate.specs.New.{first_by, first_in_hand, IsFirst, IsUnmade, Begins, MadeOf, UnmadeOf};
 
 use crate::branch::Branch;
 use crate::negotiate::Negotiate;
@@ -67,7 +68,8 @@ fn make_first<N: Mechanism, K: Mechanism>(
     config: &NegotiateConfig,
     packages: PackageListConfig,
 ) -> Result<NegotiatedProtocol<N, K>, Error>
-    ensures made { IfOk result (λ it. IsFirst (hand N.meaning K.meaning) (first_by role config.now config.now.protocol_config packages) it) }
+    ensures made { IfOk result (λ it.
+        IsFirst (hand N.meaning K.meaning) (first_by role config.now config.now.protocol_config packages) it) }
     ensures fresh { IfOk result (λ it. (hand N.meaning K.meaning).counts it ≡ no_counts) }
     ensures plain { IfErr result (λ error. error.nstatus ≡ None) }
     ensures cause { IfErr result (λ error. error.error_type ≢ ErrorKind.InsufficientMemory →
@@ -93,7 +95,8 @@ fn begin<N: Mechanism, K: Mechanism>(
     ensures made { IfOk result (λ it. Begins N.meaning K.meaning role config.now known.items it) }
     ensures fresh { IfOk result (λ it. (hand N.meaning K.meaning).counts it.mech ≡ no_counts) }
     ensures plain { IfErr result (λ error. error.nstatus ≡ None) }
-    ensures cause { IfErr result (λ error. error.error_type ≢ ErrorKind.InsufficientMemory → IsUnmade (first_in_hand role config.now) error.error_type) }
+    ensures cause { IfErr result (λ error. error.error_type ≢ ErrorKind.InsufficientMemory →
+        IsUnmade (first_in_hand role config.now) error.error_type) }
 {
     let packages = packages_in(config);
     let protocol = match make_first(alloc, role, config, packages) {
@@ -127,7 +130,8 @@ impl<N: Mechanism, K: Mechanism> Negotiate<N, K> {
         ensures made { IfOk result (λ it. MadeOf N.meaning K.meaning (ForClient config.now) it) }
         ensures fresh { IfOk result (λ it. (hand N.meaning K.meaning).counts it.mech ≡ no_counts) }
         ensures plain { IfErr result (λ error. error.nstatus ≡ None) }
-        ensures cause { IfErr result (λ error. error.error_type ≢ ErrorKind.InsufficientMemory → UnmadeOf (ForClient config.now) error.error_type) }
+        ensures cause { IfErr result (λ error. error.error_type ≢ ErrorKind.InsufficientMemory →
+            UnmadeOf (ForClient config.now) error.error_type) }
     {
         begin(alloc, Role::Client, config, Vec::new(alloc))
     }

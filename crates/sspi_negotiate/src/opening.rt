@@ -3,7 +3,8 @@ ghost use Rattle.std.specs.Prelude.{◌≡◌, ◌≢◌, ◌&&◌, None, Some, 
 ghost use Rattle.sspi_mech.specs.Answers.{answer_of, IfRefused};
 ghost use Rattle.sspi_mech.specs.Calls.{step_args};
 ghost use Rattle.sspi_mech.specs.Context.{IsUnused};
-ghost use Rattle.sspi_negotiate.specs.Client.{at_initial, first_step, begun, offers, falls, falls_back, steps_again, handle_for, passwords, resumes_opening};
+ghost use Rattle.sspi_negotiate.specs.Client.{at_initial, first_step, begun, offers, falls, falls_back};
+ghost use Rattle.sspi_negotiate.specs.Client.{steps_again, handle_for, passwords, resumes_opening};
 ghost use Rattle.sspi_negotiate.specs.Does.{Does, Stays, StaysUnused, UnlessMemory, told};
 ghost use Rattle.sspi_negotiate.specs.Hand.{hand, hand_of, is_kerberos_hand};
 ghost use Rattle.sspi_negotiate.specs.Fallback.{is_fallback};
@@ -40,7 +41,8 @@ pub(crate) fn step_with<N: Mechanism, K: Mechanism>(
     args: &InitializeSecurityContext<'_>,
 ) -> Answer
     ensures step { (hand N.meaning K.meaning).steps protocol.old
-        (record (step_args args.now) { handle = handle_for (hand_of protocol.old) kept.now (option_copied args.now.credentials_handle) }) result protocol.new }
+        (record (step_args args.now) { handle = handle_for (hand_of protocol.old) kept.now (option_copied args.now.credentials_handle) })
+        result protocol.new }
     ensures unused { IsUnused ((hand N.meaning K.meaning).counts protocol.old) → IsUnused ((hand N.meaning K.meaning).counts protocol.new) }
     ensures named { hand_of protocol.new ≡ hand_of protocol.old }
     ensures plain { IfRefused result (λ error. error.nstatus ≡ None) }
@@ -91,7 +93,8 @@ impl<N: Mechanism, K: Mechanism> Negotiate<N, K> {
         &mut self,
         args: &InitializeSecurityContext<'_>,
     ) -> Result<Progressing, Error>
-        ensures step { Does N.meaning K.meaning (at_initial (values_of self.old) (step_args args.now)) self.old (answer_of result) self.new }
+        ensures step { Does N.meaning K.meaning (at_initial (values_of self.old) (step_args args.now))
+            self.old (answer_of result) self.new }
         ensures stays { OnErr result (Stays (values_of self.old) (values_of self.new)) }
         ensures unused { StaysUnused N.meaning K.meaning self.old self.new }
         ensures plain { IfErr result (λ error. error.nstatus ≡ None) }
@@ -107,7 +110,8 @@ impl<N: Mechanism, K: Mechanism> Negotiate<N, K> {
         first: Opening,
         args: &InitializeSecurityContext<'_>,
     ) -> Result<Progressing, Error>
-        ensures step { Does N.meaning K.meaning (first_step first (values_of self.old) (step_args args.now)) self.old (answer_of result) self.new }
+        ensures step { Does N.meaning K.meaning (first_step first (values_of self.old) (step_args args.now))
+            self.old (answer_of result) self.new }
         ensures stays { OnErr result (Stays (values_of self.old) (values_of self.new)) }
         ensures unused { StaysUnused N.meaning K.meaning self.old self.new }
         ensures plain { IfErr result (λ error. error.nstatus ≡ None) }
@@ -169,7 +173,8 @@ impl<N: Mechanism, K: Mechanism> Negotiate<N, K> {
 
     #[tactic(auto, using(crate::proofs::Tokens::fallback_is_other))]
     fn fall(&mut self, error: Error, first: Opening) -> Result<Progressing, Error>
-        ensures step { Does N.meaning K.meaning (falls (values_of self.old) (values_of self.old) first error.error_type) self.old (answer_of result) self.new }
+        ensures step { Does N.meaning K.meaning (falls (values_of self.old) (values_of self.old) first error.error_type)
+            self.old (answer_of result) self.new }
         ensures stays { OnErr result (Stays (values_of self.old) (values_of self.new)) }
         ensures unused { StaysUnused N.meaning K.meaning self.old self.new }
         ensures other { UnlessMemory (answer_of result) (error.error_type ≢ ErrorKind.InsufficientMemory) }
@@ -184,7 +189,9 @@ impl<N: Mechanism, K: Mechanism> Negotiate<N, K> {
 
     #[tactic(auto, using(crate::proofs::Tokens::fallback_is_other))]
     fn fall_waiting(&mut self, error: Error, first: Opening) -> Result<Progressing, Error>
-        ensures step { Does N.meaning K.meaning (falls (record (values_of self.old) { branch = branches.Opening first }) (values_of self.old) first error.error_type) self.old (answer_of result) self.new }
+        ensures step { Does N.meaning K.meaning
+            (falls (record (values_of self.old) { branch = branches.Opening first }) (values_of self.old) first error.error_type)
+            self.old (answer_of result) self.new }
         ensures stays { OnErr result (Stays (values_of self.old) (values_of self.new)) }
         ensures unused { StaysUnused N.meaning K.meaning self.old self.new }
         ensures other { UnlessMemory (answer_of result) (error.error_type ≢ ErrorKind.InsufficientMemory) }
@@ -244,7 +251,8 @@ impl<N: Mechanism, K: Mechanism> Negotiate<N, K> {
         first: Opening,
         reply: &Reply,
     ) -> Result<Progressing, Error>
-        ensures step { Does N.meaning K.meaning (resumes_opening first (values_of self.old) reply.now) self.old (answer_of result) self.new }
+        ensures step { Does N.meaning K.meaning (resumes_opening first (values_of self.old) reply.now)
+            self.old (answer_of result) self.new }
         ensures stays { OnErr result (Stays (values_of self.old) (values_of self.new)) }
         ensures unused { StaysUnused N.meaning K.meaning self.old self.new }
         ensures plain { IfErr result (λ error. error.nstatus ≡ None) }

@@ -36,7 +36,8 @@ impl<N: Mechanism, K: Mechanism> Negotiate<N, K> {
 
     /// Takes Kerberos in the place of NTLM, where a KDC serves the name's domain.
     pub(crate) fn take_by_rule(&mut self, name: &Username) -> Result<(), Error>
-        ensures taken { OnOk result (TakenBy (hand N.meaning K.meaning) (rule_url (values_of self.old) name.now) self.old.kdcs self.old.computer self.old.mech self.new.mech) }
+        ensures taken { OnOk result (TakenBy (hand N.meaning K.meaning)
+            (rule_url (values_of self.old) name.now) self.old.kdcs self.old.computer self.old.mech self.new.mech) }
         ensures named { OnOk result (values_of self.new ≡ ruled_values (rule_url (values_of self.old) name.now) (values_of self.old)) }
         ensures rest { self.new ≡ record self.old { mech = self.new.mech } }
         ensures unused { StaysUnused N.meaning K.meaning self.old self.new }
@@ -50,7 +51,8 @@ impl<N: Mechanism, K: Mechanism> Negotiate<N, K> {
     }
 
     fn take_kerberos(&mut self) -> Result<(), Error>
-        ensures taken { (url : List ℕ) → OnOk result (TakenBy (hand N.meaning K.meaning) (Some url) self.old.kdcs self.old.computer self.old.mech self.new.mech) }
+        ensures taken { (url : List ℕ) →
+            OnOk result (TakenBy (hand N.meaning K.meaning) (Some url) self.old.kdcs self.old.computer self.old.mech self.new.mech) }
         ensures named { OnOk result (hand_of self.new.mech ≡ protocols.Kerberos) }
         ensures rest { self.new ≡ record self.old { mech = self.new.mech } }
         ensures unused { StaysUnused N.meaning K.meaning self.old self.new }

@@ -10,7 +10,8 @@ ghost use Rattle.sspi_negotiate.specs.Negotiate.{negotiate};
 ghost use Rattle.sspi_negotiate.specs.Pick.{pick, oid_of};
 ghost use Rattle.sspi_negotiate.specs.Plan.{Accepts, Pairs};
 ghost use Rattle.sspi_negotiate.specs.Rows.{targ, or_empty, in_ntlm};
-ghost use Rattle.sspi_negotiate.specs.Server.{drops, waits_for_token, goes_on, awaits_mic, ends_at_once, opens, needs_mic, first_token, placed, takes_pick, picks, reads_list, at_initial, spnego_server};
+ghost use Rattle.sspi_negotiate.specs.Server.{drops, goes_on_with, waits_for_token, goes_on, awaits_mic, ends_at_once, opens, needs_mic};
+ghost use Rattle.sspi_negotiate.specs.Server.{first_token, placed, takes_pick, picks, reads_list, at_initial, spnego_server};
 ghost use Rattle.sspi_negotiate.specs.Values.{values_of};
 
 use crate::negotiate::Negotiate;
@@ -30,7 +31,8 @@ pub(crate) fn accept_with<N: Mechanism, K: Mechanism>(
     args: &AcceptSecurityContext<'_>,
     token: &Option<Bytes>,
 ) -> Result<Step, Error>
-    ensures step { (hand N.meaning K.meaning).accepts protocol.old (record (accept_args args.now) { input = or_empty token.now }) result protocol.new }
+    ensures step { (hand N.meaning K.meaning).accepts protocol.old
+        (record (accept_args args.now) { input = or_empty token.now }) result protocol.new }
     ensures unused { IsUnused ((hand N.meaning K.meaning).counts protocol.old) → IsUnused ((hand N.meaning K.meaning).counts protocol.new) }
     ensures named { hand_of protocol.new ≡ hand_of protocol.old }
     ensures plain { IfErr result (λ error. error.nstatus ≡ None) }
@@ -82,7 +84,8 @@ impl<N: Mechanism, K: Mechanism> Negotiate<N, K> {
     }
 
     fn accept_at(&mut self, args: &AcceptSecurityContext<'_>) -> Result<Step, Error>
-        ensures step { Does N.meaning K.meaning (spnego_server (values_of self.old) (accept_args args.now)) self.old (told result) self.new }
+        ensures step { Does N.meaning K.meaning (spnego_server (values_of self.old) (accept_args args.now))
+            self.old (told result) self.new }
         ensures stays { OnErr result (Stays (values_of self.old) (values_of self.new)) }
         ensures unused { StaysUnused N.meaning K.meaning self.old self.new }
         ensures plain { IfErr result (λ error. error.nstatus ≡ None) }
@@ -99,7 +102,8 @@ impl<N: Mechanism, K: Mechanism> Negotiate<N, K> {
     }
 
     fn read_init(&mut self, args: &AcceptSecurityContext<'_>) -> Result<Step, Error>
-        ensures step { Does N.meaning K.meaning (at_initial (init_of args.now.input.now) (values_of self.old) (accept_args args.now)) self.old (told result) self.new }
+        ensures step { Does N.meaning K.meaning (at_initial (init_of args.now.input.now) (values_of self.old) (accept_args args.now))
+            self.old (told result) self.new }
         ensures stays { OnErr result (Stays (values_of self.old) (values_of self.new)) }
         ensures unused { StaysUnused N.meaning K.meaning self.old self.new }
         ensures plain { IfErr result (λ error. error.nstatus ≡ None) }
@@ -117,7 +121,8 @@ impl<N: Mechanism, K: Mechanism> Negotiate<N, K> {
         token: Option<Bytes>,
         args: &AcceptSecurityContext<'_>,
     ) -> Result<Step, Error>
-        ensures step { Does N.meaning K.meaning (reads_list list token (values_of self.old) (accept_args args.now)) self.old (told result) self.new }
+        ensures step { Does N.meaning K.meaning (reads_list list token (values_of self.old) (accept_args args.now))
+            self.old (told result) self.new }
         ensures stays { OnErr result (Stays (values_of self.old) (values_of self.new)) }
         ensures unused { StaysUnused N.meaning K.meaning self.old self.new }
         ensures plain { IfErr result (λ error. error.nstatus ≡ None) }
@@ -139,7 +144,8 @@ impl<N: Mechanism, K: Mechanism> Negotiate<N, K> {
         token: Option<Bytes>,
         args: &AcceptSecurityContext<'_>,
     ) -> Result<Step, Error>
-        ensures step { Does N.meaning K.meaning (picks picked list token (values_of self.old) (accept_args args.now)) self.old (told result) self.new }
+        ensures step { Does N.meaning K.meaning (picks picked list token (values_of self.old) (accept_args args.now))
+            self.old (told result) self.new }
         ensures stays { OnErr result (Stays (values_of self.old) (values_of self.new)) }
         ensures unused { StaysUnused N.meaning K.meaning self.old self.new }
         ensures plain { IfErr result (λ error. error.nstatus ≡ None) }
@@ -159,7 +165,8 @@ impl<N: Mechanism, K: Mechanism> Negotiate<N, K> {
         token: Option<Bytes>,
         args: &AcceptSecurityContext<'_>,
     ) -> Result<Step, Error>
-        ensures step { Does N.meaning K.meaning (takes_pick picked.choice token picked (values_of self.old) (accept_args args.now)) self.old (told result) self.new }
+        ensures step { Does N.meaning K.meaning (takes_pick picked.choice token picked (values_of self.old) (accept_args args.now))
+            self.old (told result) self.new }
         ensures stays { OnErr result (Stays (values_of self.old) (values_of self.new)) }
         ensures unused { StaysUnused N.meaning K.meaning self.old self.new }
         ensures plain { IfErr result (λ error. error.nstatus ≡ None) }
@@ -178,7 +185,8 @@ impl<N: Mechanism, K: Mechanism> Negotiate<N, K> {
         args: &AcceptSecurityContext<'_>,
     ) -> Result<Step, Error>
         ensures step { Does N.meaning K.meaning (in_ntlm (hand_of self.old.mech) self.old.computer
-            (placed token picked (record (values_of self.old) { hand = protocols.Ntlm }) (accept_args args.now))) self.old (told result) self.new }
+            (placed token picked (record (values_of self.old) { hand = protocols.Ntlm }) (accept_args args.now)))
+            self.old (told result) self.new }
         ensures stays { OnErr result (Stays (values_of self.old) (values_of self.new)) }
         ensures unused { StaysUnused N.meaning K.meaning self.old self.new }
         ensures plain { IfErr result (λ error. error.nstatus ≡ None) }
@@ -196,7 +204,8 @@ impl<N: Mechanism, K: Mechanism> Negotiate<N, K> {
         token: Option<Bytes>,
         args: &AcceptSecurityContext<'_>,
     ) -> Result<Step, Error>
-        ensures step { Does N.meaning K.meaning (placed token picked (values_of self.old) (accept_args args.now)) self.old (told result) self.new }
+        ensures step { Does N.meaning K.meaning (placed token picked (values_of self.old) (accept_args args.now))
+            self.old (told result) self.new }
         ensures stays { OnErr result (Stays (values_of self.old) (values_of self.new)) }
         ensures unused { StaysUnused N.meaning K.meaning self.old self.new }
         ensures plain { IfErr result (λ error. error.nstatus ≡ None) }
@@ -208,6 +217,25 @@ impl<N: Mechanism, K: Mechanism> Negotiate<N, K> {
         }
     }
 
+    /// Tells the pick with this token, and the negotiation goes on.
+    fn go_on_with(
+        &mut self,
+        picked: Picked,
+        token: Option<Bytes>,
+        need: bool,
+        state: NegotiateState,
+    ) -> Result<Step, Error>
+        ensures step { Does N.meaning K.meaning (goes_on_with picked token need state (values_of self.old))
+            self.old (told result) self.new }
+        ensures stays { OnErr result (Stays (values_of self.old) (values_of self.new)) }
+        ensures unused { StaysUnused N.meaning K.meaning self.old self.new }
+        ensures plain { IfErr result (λ error. error.nstatus ≡ None) }
+    {
+        let incomplete = NegResult::AcceptIncomplete;
+        let token = picked_targ(self.alloc, incomplete, picked.choice, token)?;
+        self.write(&token, need, state, SecurityStatus::ContinueNeeded)
+    }
+
     #[tactic(auto, unfolding(crate::specs::Server::drops))]
     fn drop_token(&mut self, picked: Picked) -> Result<Step, Error>
         ensures step { Does N.meaning K.meaning (drops picked (values_of self.old)) self.old (told result) self.new }
@@ -215,9 +243,7 @@ impl<N: Mechanism, K: Mechanism> Negotiate<N, K> {
         ensures unused { StaysUnused N.meaning K.meaning self.old self.new }
         ensures plain { IfErr result (λ error. error.nstatus ≡ None) }
     {
-        let token = picked_targ(self.alloc, NegResult::AcceptIncomplete, picked.choice, None)?;
-        let (need, state) = (true, NegotiateState::InProgress);
-        self.write(&token, need, state, SecurityStatus::ContinueNeeded)
+        self.go_on_with(picked, None, true, NegotiateState::InProgress)
     }
 
     #[tactic(auto, unfolding(crate::specs::Server::first_token))]
@@ -227,7 +253,8 @@ impl<N: Mechanism, K: Mechanism> Negotiate<N, K> {
         token: Option<Bytes>,
         args: &AcceptSecurityContext<'_>,
     ) -> Result<Step, Error>
-        ensures step { Does N.meaning K.meaning (first_token token picked (values_of self.old) (accept_args args.now)) self.old (told result) self.new }
+        ensures step { Does N.meaning K.meaning (first_token token picked (values_of self.old) (accept_args args.now))
+            self.old (told result) self.new }
         ensures stays { OnErr result (Stays (values_of self.old) (values_of self.new)) }
         ensures unused { StaysUnused N.meaning K.meaning self.old self.new }
         ensures plain { IfErr result (λ error. error.nstatus ≡ None) }
@@ -259,13 +286,7 @@ impl<N: Mechanism, K: Mechanism> Negotiate<N, K> {
         ensures plain { IfErr result (λ error. error.nstatus ≡ None) }
     {
         let need = self.needs_mic(args);
-        let token = picked_targ(self.alloc, NegResult::AcceptIncomplete, picked.choice, None)?;
-        self.write(
-            &token,
-            need,
-            NegotiateState::InProgress,
-            SecurityStatus::ContinueNeeded,
-        )
+        self.go_on_with(picked, None, need, NegotiateState::InProgress)
     }
 
     fn accept_first(
@@ -275,7 +296,8 @@ impl<N: Mechanism, K: Mechanism> Negotiate<N, K> {
         args: &AcceptSecurityContext<'_>,
     ) -> Result<Step, Error>
         ensures step { let v = values_of self.old in Does N.meaning K.meaning
-            (Accepts (record (accept_args args.now) { input = or_empty token }) v (λ step. Pairs (λ pairs. opens picked v step (needs_mic v (accept_args args.now) pairs))))
+            (Accepts (record (accept_args args.now) { input = or_empty token }) v
+            (λ step. Pairs (λ pairs. opens picked v step (needs_mic v (accept_args args.now) pairs))))
             self.old (told result) self.new }
         ensures stays { OnErr result (Stays (values_of self.old) (values_of self.new)) }
         ensures unused { StaysUnused N.meaning K.meaning self.old self.new }
@@ -327,19 +349,7 @@ impl<N: Mechanism, K: Mechanism> Negotiate<N, K> {
         ensures unused { StaysUnused N.meaning K.meaning self.old self.new }
         ensures plain { IfErr result (λ error. error.nstatus ≡ None) }
     {
-        let output = Some(step.output);
-        let token = picked_targ(
-            self.alloc,
-            NegResult::AcceptIncomplete,
-            picked.choice,
-            output,
-        )?;
-        self.write(
-            &token,
-            need,
-            NegotiateState::InProgress,
-            SecurityStatus::ContinueNeeded,
-        )
+        self.go_on_with(picked, Some(step.output), need, NegotiateState::InProgress)
     }
 
     #[tactic(auto, unfolding(crate::specs::Server::awaits_mic))]
@@ -349,19 +359,7 @@ impl<N: Mechanism, K: Mechanism> Negotiate<N, K> {
         ensures unused { StaysUnused N.meaning K.meaning self.old self.new }
         ensures plain { IfErr result (λ error. error.nstatus ≡ None) }
     {
-        let output = Some(step.output);
-        let token = picked_targ(
-            self.alloc,
-            NegResult::AcceptIncomplete,
-            picked.choice,
-            output,
-        )?;
-        self.write(
-            &token,
-            true,
-            NegotiateState::VerifyMic,
-            SecurityStatus::ContinueNeeded,
-        )
+        self.go_on_with(picked, Some(step.output), true, NegotiateState::VerifyMic)
     }
 
     #[tactic(auto, unfolding(crate::specs::Server::ends_at_once))]

@@ -21,7 +21,8 @@ use sspi_types::{Bytes, Error, Reason};
 
 impl<N: Mechanism, K: Mechanism> Negotiate<N, K> {
     pub(crate) fn read_response(&mut self, args: &AcceptSecurityContext<'_>) -> Result<Step, Error>
-        ensures step { Does N.meaning K.meaning (at_progress (targ_of args.now.input.now) (values_of self.old) (accept_args args.now)) self.old (told result) self.new }
+        ensures step { Does N.meaning K.meaning (at_progress (targ_of args.now.input.now) (values_of self.old) (accept_args args.now))
+            self.old (told result) self.new }
         ensures stays { OnErr result (Stays (values_of self.old) (values_of self.new)) }
         ensures unused { StaysUnused N.meaning K.meaning self.old self.new }
         ensures plain { IfErr result (λ error. error.nstatus ≡ None) }
@@ -37,7 +38,10 @@ impl<N: Mechanism, K: Mechanism> Negotiate<N, K> {
         token: NegTokenTarg,
         args: &AcceptSecurityContext<'_>,
     ) -> Result<Step, Error>
-        ensures step { Does N.meaning K.meaning (Accepts (record (accept_args args.now) { input = or_empty token.response_token }) (values_of self.old) (λ step. accepted token (values_of self.old) step)) self.old (told result) self.new }
+        ensures step { Does N.meaning K.meaning
+            (Accepts (record (accept_args args.now) { input = or_empty token.response_token }) (values_of self.old)
+            (λ step. accepted token (values_of self.old) step))
+            self.old (told result) self.new }
         ensures stays { OnErr result (Stays (values_of self.old) (values_of self.new)) }
         ensures unused { StaysUnused N.meaning K.meaning self.old self.new }
         ensures plain { IfErr result (λ error. error.nstatus ≡ None) }
@@ -85,7 +89,8 @@ impl<N: Mechanism, K: Mechanism> Negotiate<N, K> {
     }
 
     fn check_and_sign(&mut self, mic: &Bytes, token: Bytes) -> Result<Step, Error>
-        ensures step { Does N.meaning K.meaning (checks mic.now (values_of self.old) (completes_signed (values_of self.old) token)) self.old (told result) self.new }
+        ensures step { Does N.meaning K.meaning (checks mic.now (values_of self.old) (completes_signed (values_of self.old) token))
+            self.old (told result) self.new }
         ensures stays { OnErr result (Stays (values_of self.old) (values_of self.new)) }
         ensures unused { StaysUnused N.meaning K.meaning self.old self.new }
         ensures plain { IfErr result (λ error. error.nstatus ≡ None) }
@@ -111,7 +116,8 @@ impl<N: Mechanism, K: Mechanism> Negotiate<N, K> {
     }
 
     fn excuse(&mut self, token: Bytes) -> Result<Step, Error>
-        ensures step { Does N.meaning K.meaning (Names (values_of self.old) (λ name. excuses (values_of self.old) token name)) self.old (told result) self.new }
+        ensures step { Does N.meaning K.meaning (Names (values_of self.old) (λ name. excuses (values_of self.old) token name))
+            self.old (told result) self.new }
         ensures stays { OnErr result (Stays (values_of self.old) (values_of self.new)) }
         ensures unused { StaysUnused N.meaning K.meaning self.old self.new }
         ensures plain { IfErr result (λ error. error.nstatus ≡ None) }
@@ -137,7 +143,8 @@ impl<N: Mechanism, K: Mechanism> Negotiate<N, K> {
     }
 
     pub(crate) fn read_last(&mut self, args: &AcceptSecurityContext<'_>) -> Result<Step, Error>
-        ensures step { Does N.meaning K.meaning (at_verify_mic (targ_of args.now.input.now) (values_of self.old)) self.old (told result) self.new }
+        ensures step { Does N.meaning K.meaning (at_verify_mic (targ_of args.now.input.now) (values_of self.old))
+            self.old (told result) self.new }
         ensures stays { OnErr result (Stays (values_of self.old) (values_of self.new)) }
         ensures unused { StaysUnused N.meaning K.meaning self.old self.new }
         ensures plain { IfErr result (λ error. error.nstatus ≡ None) }
@@ -161,7 +168,10 @@ impl<N: Mechanism, K: Mechanism> Negotiate<N, K> {
     }
 
     fn check_last(&mut self, mic: &Bytes) -> Result<Step, Error>
-        ensures step { Does N.meaning K.meaning (checks mic.now (values_of self.old) (Goes (record (values_of self.old) { state = states.Ok }) (record { status = statuses.Ok; output = [] }))) self.old (told result) self.new }
+        ensures step { Does N.meaning K.meaning
+            (checks mic.now (values_of self.old)
+            (Goes (record (values_of self.old) { state = states.Ok }) (record { status = statuses.Ok; output = [] })))
+            self.old (told result) self.new }
         ensures stays { OnErr result (Stays (values_of self.old) (values_of self.new)) }
         ensures unused { StaysUnused N.meaning K.meaning self.old self.new }
         ensures plain { IfErr result (λ error. error.nstatus ≡ None) }

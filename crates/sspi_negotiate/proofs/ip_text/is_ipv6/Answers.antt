@@ -11,4 +11,5 @@ returns-in-None c =
 pub returns-in-Some : goal.returns-in-Some
 returns-in-Some c =
     let parts = split_text_parts (58 ∷ 58 ∷ []) c.args.s.now (Some (c.in-Some.head, c.in-Some.tail)) c.in-Some.ensures.cases in
-    cut_address c.args.s.now c.in-Some.head.now c.in-Some.tail.now parts c.head_groups.result c.tail_groups-in-Some.result c.head_groups.ensures c.tail_groups-in-Some.ensures c.leaves_room.result c.leaves_room.ensures
+    cut_address c.args.s.now c.in-Some.head.now c.in-Some.tail.now parts c.head_groups.result c.tail_groups-in-Some.result
+    c.head_groups.ensures c.tail_groups-in-Some.ensures c.leaves_room.result c.leaves_room.ensures

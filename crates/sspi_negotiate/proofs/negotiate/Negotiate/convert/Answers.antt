@@ -8,7 +8,8 @@ use Rattle.sspi_negotiate.proofs.negotiate.Negotiate.convert.Goals as goal
 
 pub returns-in-Err-clause-step : goal.returns-in-Err-clause-step
 unfolding keeps
-returns-in-Err-clause-step g c = unconverted (identity_of c.args.buffers.now) (λ o. keeps o (values_of c.args.self.now) (step_args c.args.args.now)) c.in-Err.error refl (search rules)
+returns-in-Err-clause-step g c = unconverted (identity_of c.args.buffers.now)
+    (λ o. keeps o (values_of c.args.self.now) (step_args c.args.args.now)) c.in-Err.error refl (search rules)
 
 pub returns-in-Err-clause-plain : goal.returns-in-Err-clause-plain
 unfolding keeps
@@ -16,4 +17,5 @@ returns-in-Err-clause-plain g c = plain_conversion (identity_of c.args.buffers.n
 
 pub returns-in-Ok-clause-step : goal.returns-in-Ok-clause-step
 unfolding keeps
-returns-in-Ok-clause-step g c = converted (identity_of c.args.buffers.now) (λ o. keeps o (values_of c.args.self.now) (step_args c.args.args.now)) c.in-Ok.identity (search rules) (search rules)
+returns-in-Ok-clause-step g c = converted (identity_of c.args.buffers.now)
+    (λ o. keeps o (values_of c.args.self.now) (step_args c.args.args.now)) c.in-Ok.identity (search rules) (search rules)

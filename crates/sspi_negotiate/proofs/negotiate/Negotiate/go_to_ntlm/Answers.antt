@@ -8,4 +8,6 @@ pub returns-in-Err-clause-step : goal.returns-in-Err-clause-step
 returns-in-Err-clause-step g c = stopped c.in-Err.ensures.step _
 
 pub returns-in-Ok-clause-step : goal.returns-in-Ok-clause-step
-returns-in-Ok-clause-step g c = passed c.in-Ok.ensures.step (λ v. answers c.args.token (record v { packages = record v.packages { kerberos = false }; need = not c.args.guest }) (step_args c.args.args.now)) c.answer_in_ntlm.ensures.step
+returns-in-Ok-clause-step g c = passed c.in-Ok.ensures.step
+    (λ v. answers c.args.token (record v { packages = record v.packages { kerberos = false }; need = not c.args.guest })
+    (step_args c.args.args.now)) c.answer_in_ntlm.ensures.step

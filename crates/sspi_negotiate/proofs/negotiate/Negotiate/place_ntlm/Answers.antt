@@ -7,4 +7,5 @@ pub returns-in-Err-clause-step : goal.returns-in-Err-clause-step
 returns-in-Err-clause-step g c = stopped c.in-Err.ensures.step _
 
 pub returns-in-Ok-clause-step : goal.returns-in-Ok-clause-step
-returns-in-Ok-clause-step g c = passed c.in-Ok.ensures.step (λ v. placed c.args.token c.args.picked v (accept_args c.args.args.now)) c.place.ensures.step
+returns-in-Ok-clause-step g c = passed c.in-Ok.ensures.step (λ v. placed c.args.token c.args.picked v (accept_args c.args.args.now))
+    c.place.ensures.step

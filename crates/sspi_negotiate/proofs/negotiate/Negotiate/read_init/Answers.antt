@@ -7,10 +7,12 @@ use Rattle.sspi_negotiate.specs.Values.{values_of}
 use Rattle.sspi_negotiate.proofs.negotiate.Negotiate.read_init.Goals as goal
 
 pub returns-in-Err-clause-step : goal.returns-in-Err-clause-step
-returns-in-Err-clause-step g c = unread (init_of c.args.args.now.input.now) (λ o. at_initial o (values_of c.args.self.now) (accept_args c.args.args.now)) _ refl c.in-Err.ensures
+returns-in-Err-clause-step g c = unread (init_of c.args.args.now.input.now)
+    (λ o. at_initial o (values_of c.args.self.now) (accept_args c.args.args.now)) _ refl c.in-Err.ensures
 
 pub returns-in-Err-clause-plain : goal.returns-in-Err-clause-plain
 returns-in-Err-clause-plain g c = plain_read (init_of c.args.args.now.input.now) _ c.in-Err.ensures
 
 pub returns-in-Ok-clause-step : goal.returns-in-Ok-clause-step
-returns-in-Ok-clause-step g c = read (init_of c.args.args.now.input.now) (λ o. at_initial o (values_of c.args.self.now) (accept_args c.args.args.now)) _ c.in-Ok.ensures c.read_list.ensures.step
+returns-in-Ok-clause-step g c = read (init_of c.args.args.now.input.now)
+    (λ o. at_initial o (values_of c.args.self.now) (accept_args c.args.args.now)) _ c.in-Ok.ensures c.read_list.ensures.step

@@ -6,5 +6,6 @@ use Rattle.std.proofs.Common.{subst}
 
 pub returns-in-Some-clause-taken : goal.returns-in-Some-clause-taken
 returns-in-Some-clause-taken g c = subst (λ url. OnOk c.take_kerberos.result
-    (TakenBy (hand g.N.Mechanism.meaning g.K.Mechanism.meaning) url c.args.self.now.kdcs c.args.self.now.computer c.args.self.now.mech c.take_kerberos.new.self.mech))
+    (TakenBy (hand g.N.Mechanism.meaning g.K.Mechanism.meaning) url c.args.self.now.kdcs c.args.self.now.computer c.args.self.now.mech
+    c.take_kerberos.new.self.mech))
     c.in-Some.ensures (c.take_kerberos.ensures.taken c.in-Some.field-0.now)

@@ -9,4 +9,5 @@ pub returns-in-Err-clause-step : goal.returns-in-Err-clause-step
 returns-in-Err-clause-step g c = stopped c.in-Err.ensures.step _
 
 pub returns-in-Ok-clause-step : goal.returns-in-Ok-clause-step
-returns-in-Ok-clause-step g c = passed c.in-Ok.ensures.step (λ v. Goes (record v { state = states.Ok }) (record { status = statuses.Ok; output = [] })) c.end.ensures.step
+returns-in-Ok-clause-step g c = passed c.in-Ok.ensures.step
+    (λ v. Goes (record v { state = states.Ok }) (record { status = statuses.Ok; output = [] })) c.end.ensures.step
