@@ -3,7 +3,15 @@ ghost use Rattle.sspi_ber.specs.Forms.{is_integer_size};
 ghost use Rattle.sspi_ber.specs.Identifier.{contextual_identifier};
 ghost use Rattle.sspi_ber.specs.Outside.{Reads, ReadCause, LeavesRest};
 ghost use Rattle.sspi_ber.specs.Pieces.{
-    byte_at, is_octet_count, limited_at, length_at, sized_length_at, header_at, sized_header_at, number_at, integer_at
+  byte_at,
+  is_octet_count,
+  limited_at,
+  length_at,
+  sized_length_at,
+  header_at,
+  sized_header_at,
+  number_at,
+  integer_at,
 };
 
 use crate::identifier::{INTEGER, OCTET_STRING, Pc, SEQUENCE, contextual_identifier};

@@ -38,7 +38,15 @@ fn write_short_length<W: Sink>(sink: &mut W, len: usize) -> Result<(), WireKind>
     } else if len < 0x1_0000 {
         write_all(sink, &[0x82, (len / 0x100) as u8, (len % 0x100) as u8])
     } else {
-        write_all(sink, &[0x83, (len / 0x1_0000) as u8, (len / 0x100 % 0x100) as u8, (len % 0x100) as u8])
+        write_all(
+            sink,
+            &[
+                0x83,
+                (len / 0x1_0000) as u8,
+                (len / 0x100 % 0x100) as u8,
+                (len % 0x100) as u8,
+            ],
+        )
     }
 }
 
@@ -56,7 +64,16 @@ pub fn write_header<W: Sink>(sink: &mut W, tag: u8, len: usize) -> Result<(), Wi
     } else if len < 0x1_0000 {
         write_all(sink, &[tag, 0x82, (len / 0x100) as u8, (len % 0x100) as u8])
     } else {
-        write_all(sink, &[tag, 0x83, (len / 0x1_0000) as u8, (len / 0x100 % 0x100) as u8, (len % 0x100) as u8])
+        write_all(
+            sink,
+            &[
+                tag,
+                0x83,
+                (len / 0x1_0000) as u8,
+                (len / 0x100 % 0x100) as u8,
+                (len % 0x100) as u8,
+            ],
+        )
     }
 }
 

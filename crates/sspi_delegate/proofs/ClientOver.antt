@@ -145,7 +145,7 @@ module _ {C : Type 0} (c : Meaning ContextSetting C) (law : IsContext c) where
     held = record {
       sealed = λ was. let k = same.checked (shown.acts.sealed was) in
           at_noted f.noted g.noted _ _ k.0 (λ version h.
-              rw (k.1, same.nonce, same.public_key) (opens_still f.context g.context f.opened t.delivered.pub_key_auth (prescribed Server version f.nonce f.public_key) k.2 h))
+          rw (k.1, same.nonce, same.public_key) (opens_still f.context g.context f.opened t.delivered.pub_key_auth (prescribed Server version f.nonce f.public_key) k.2 h))
           (turn.held.sealed was);
       reply = holds_over f g t t.outcome same shown.reply turn.held.reply;
     };

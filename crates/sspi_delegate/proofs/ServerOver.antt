@@ -118,8 +118,8 @@ module _ {C : Type 0} (c : Meaning ContextSetting C) (law : IsContext c) where
       OnceRefused out ((g.context ≡ f.context) × (IsSome f.context → g.noted ≡ f.noted)) → HoldsAnswer c f t out → HoldsAnswer c g t out
   holds_over f g t (outcome.Reply reply) same once h = λ was. let k = same.proved was in
       at_noted c law f.noted g.noted _ _ k.0 (λ noted seals.
-          rw (k.1, same.public_key)
-          (seals_still c law f.context g.context f.made (prescribed Server noted (nonce_of t.delivered.client_nonce) f.public_key) reply.pub_key_auth k.3 seals)) (h was)
+      rw (k.1, same.public_key)
+      (seals_still c law f.context g.context f.made (prescribed Server noted (nonce_of t.delivered.client_nonce) f.public_key) reply.pub_key_auth k.3 seals)) (h was)
   holds_over f g t (outcome.Final reply) same once h = tt
   holds_over f g t outcome.Finished same once h = tt
   holds_over f g t (outcome.Refused kind None) same once h = tt

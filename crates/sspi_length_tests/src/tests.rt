@@ -1,8 +1,6 @@
 use sspi_ber::VecSink;
 use sspi_tokens::{NegTokenInit, NegTokenTarg};
-use sspi_tsreq::{
-    CredSspMode, TsRequest, read_ts_credentials_from_slice, write_ts_credentials,
-};
+use sspi_tsreq::{CredSspMode, TsRequest, read_ts_credentials_from_slice, write_ts_credentials};
 use std::alloc::Global;
 use std::process::Abort;
 

@@ -65,10 +65,5 @@ fn negotiate_config(
         Some(packages) => Some(packages.clone(alloc)?),
         None => None,
     };
-    Ok(NegotiateConfig::new(
-        first,
-        packages,
-        computer,
-        KdcTable::new(alloc),
-    ))
+    Ok(NegotiateConfig::new(first, packages, computer, KdcTable::new(alloc)))
 }

@@ -32,7 +32,12 @@ fn sizes_of_elements(rt: HostRuntime) {
             None => assert!(rt; false, "{line}"),
             Some((len, sizes)) => match sizes.split_once(' ') {
                 None => assert!(rt; false, "{line}"),
-                Some((size, nested)) => has_sizes(&rt, number(len), expected(size), expected(nested)),
+                Some((size, nested)) => has_sizes(
+                    &rt,
+                    number(len),
+                    expected(size),
+                    expected(nested),
+                ),
             },
         }
     }

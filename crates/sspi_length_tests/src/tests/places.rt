@@ -5,9 +5,13 @@ use std::process::Abort;
 /// The tags round some octets, from the innermost outwards, each with the bytes that stand before what is inside: the token of a
 /// request, and its credentials; the password of TSCredentials; the token in a NegTokenInit, and in a NegTokenTarg.
 const TOKEN: &str = "04\na0\n30\n30\na1\n30 a003020106";
+
 const CREDENTIALS: &str = "04\na2\n30 a003020106";
+
 const PASSWORD: &str = "04\na2\n30 a0020400a1020400\n04\na1\n30 a003020101";
+
 const OFFER: &str = "04\na2\n30\na0\n60 06062b0601050502";
+
 const ANSWER: &str = "04\na2\n30\na1";
 
 /// Where the shortest form changes, and at the limit: a length, and the octets behind the first in a form that holds it.
@@ -110,12 +114,19 @@ fn header(alloc: Global, line: &str, size: usize, form: usize) -> Option<Vec<u8>
     let (tag, before) = level(line);
     let mut text = hex::decode(alloc, tag).ok()?;
     push_length(&mut text, size, form).ok()?;
-    text.extend_from_slice(&hex::decode(alloc, before).ok()?).ok()?;
+    text.extend_from_slice(&hex::decode(alloc, before).ok()?)
+        .ok()?;
     Some(text)
 }
 
 /// What stands before so many octets inside all tags: the length at one place in this form, and all others in their shortest.
-fn headers(alloc: Global, levels: &str, octets: usize, place: usize, form: usize) -> Option<Vec<u8>> {
+fn headers(
+    alloc: Global,
+    levels: &str,
+    octets: usize,
+    place: usize,
+    form: usize,
+) -> Option<Vec<u8>> {
     let mut text = Vec::new(alloc);
     for (at, line) in levels.lines().enumerate() {
         let before = text.len().saturating_add(level(line).1.len() / 2);
@@ -128,9 +139,16 @@ fn headers(alloc: Global, levels: &str, octets: usize, place: usize, form: usize
     Some(text)
 }
 
-fn nested(alloc: Global, levels: &str, octets: usize, place: usize, form: usize) -> Option<Vec<u8>> {
+fn nested(
+    alloc: Global,
+    levels: &str,
+    octets: usize,
+    place: usize,
+    form: usize,
+) -> Option<Vec<u8>> {
     let mut text = headers(alloc, levels, octets, place, form)?;
-    text.extend_from_slice(&vec![in alloc; 0x61u8; octets].ok()?).ok()?;
+    text.extend_from_slice(&vec![in alloc; 0x61u8; octets].ok()?)
+        .ok()?;
     Some(text)
 }
 
@@ -164,7 +182,11 @@ fn try_places(rt: &impl Abort, alloc: Global, kind: Kind, levels: &str) {
         for line in LENGTHS.lines() {
             match line.split_once(' ') {
                 Some((len, form)) => {
-                    let case = Case { kind, levels, place };
+                    let case = Case {
+                        kind,
+                        levels,
+                        place,
+                    };
                     try_place(rt, alloc, &case, number(len), number(form));
                 }
                 None => unmade(rt),

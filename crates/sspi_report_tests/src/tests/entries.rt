@@ -79,6 +79,12 @@ fn entries(rt: HostRuntime) -> Result<(), Fail> {
 #[test]
 fn want_of_memory_has_no_report(rt: HostRuntime) -> Result<(), Fail> {
     let parts = (End::Client, FIRST, FIRST);
-    shows(&rt, rt.alloc(), parts, DelegateError::InsufficientMemory, "")?;
+    shows(
+        &rt,
+        rt.alloc(),
+        parts,
+        DelegateError::InsufficientMemory,
+        "",
+    )?;
     Ok(())
 }

@@ -150,7 +150,14 @@ fn with_letters(alloc: Global, front: &str, letters: usize) -> Result<String, Fa
 fn long_names(rt: HostRuntime) -> Result<(), Fail> {
     let (alloc, front) = (rt.alloc(), "mode ntlm\npassword pw\nkey 010203\nuser ");
     let long = with_letters(alloc, front, 65500)?;
-    reports(&rt, alloc, long.as_str(), (0, 6), "\n> 308300", " password=pw\n")?;
+    reports(
+        &rt,
+        alloc,
+        long.as_str(),
+        (0, 6),
+        "\n> 308300",
+        " password=pw\n",
+    )?;
     let longer = with_letters(alloc, front, 65536)?;
     reports(
         &rt,
@@ -166,11 +173,28 @@ fn long_names(rt: HostRuntime) -> Result<(), Fail> {
 /// not.
 #[test]
 fn long_passwords(rt: HostRuntime) -> Result<(), Fail> {
-    let (alloc, front) = (rt.alloc(), "mode ntlm\nuser DOM\\ann\nkey 010203\npassword ");
+    let (alloc, front) = (
+        rt.alloc(),
+        "mode ntlm\nuser DOM\\ann\nkey 010203\npassword ",
+    );
     let longest = with_letters(alloc, front, 524227)?;
-    reports(&rt, alloc, longest.as_str(), (0, 6), "\n> 3083100000a003020106a283", "aaa\n")?;
+    reports(
+        &rt,
+        alloc,
+        longest.as_str(),
+        (0, 6),
+        "\n> 3083100000a003020106a283",
+        "aaa\n",
+    )?;
     let past = with_letters(alloc, front, 524228)?;
-    reports(&rt, alloc, past.as_str(), (1, 5), NEGOTIATE, "\nwrite client\n")?;
+    reports(
+        &rt,
+        alloc,
+        past.as_str(),
+        (1, 5),
+        NEGOTIATE,
+        "\nwrite client\n",
+    )?;
     let none = with_letters(alloc, front, 524264)?;
     reports(
         &rt,
@@ -218,7 +242,8 @@ fn old_versions(rt: HostRuntime) -> Result<(), Fail> {
 /// understand each other.
 #[test]
 fn old_versions_that_are_taken(rt: HostRuntime) -> Result<(), Fail> {
-    let before_5 = "mode ntlm\nuser DOM\\ann\npassword pw\nkey ffff00\nclient-version 4\nserver-version 4\n\
+    let before_5 =
+        "mode ntlm\nuser DOM\\ann\npassword pw\nkey ffff00\nclient-version 4\nserver-version 4\n\
         client-least 4\nserver-least 4\n";
     reports(&rt, rt.alloc(), before_5, (0, 6), "000001\n> ", DELEGATED)?;
     let mut mixed = String::from_str(

@@ -3,7 +3,8 @@ use sspi_tsreq::CredSspMode;
 use std::process::Abort;
 use std::test::Fail;
 
-const EVERY_KEY: &[u8] = b"# every key\n\nmode negotiate\nuser DOM\\ann lee\npassword  p w\nkey 01aF\nserver-key \n\
+const EVERY_KEY: &[u8] =
+    b"# every key\n\nmode negotiate\nuser DOM\\ann lee\npassword  p w\nkey 01aF\nserver-key \n\
       client-version 4294967295\nserver-version 0\n\
       nonce 000102030405060708090a0b0c0d0e0f101112131415161718191A1B1C1D1E1F\n\
       challenge 0102030405060708\ncomputer\ntarget a b\ndelegation less\nkeytab 05\n\
