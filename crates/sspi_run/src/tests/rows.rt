@@ -145,7 +145,8 @@ fn with_letters(alloc: Global, front: &str, letters: usize) -> Result<String, Fa
     Ok(scenario)
 }
 
-/// A name of 65536 bytes is too long for the mechanism; one of 65500 is not, and its message needs a length of two octets.
+/// A name of 65536 bytes is too long for the mechanism; one of 65500 is not. The message with that name has a content of 65654
+/// bytes, and its token stands in one of 65556, each with a length of three octets.
 #[test]
 fn long_names(rt: HostRuntime) -> Result<(), Fail> {
     let (alloc, front) = (rt.alloc(), "mode ntlm\npassword pw\nkey 010203\nuser ");
@@ -155,7 +156,7 @@ fn long_names(rt: HostRuntime) -> Result<(), Fail> {
         alloc,
         long.as_str(),
         (0, 6),
-        "\n> 308300",
+        "\n> 3083010076a003020106a183010014",
         " password=pw\n",
     )?;
     let longer = with_letters(alloc, front, 65536)?;
