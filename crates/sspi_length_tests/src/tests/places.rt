@@ -80,9 +80,9 @@ fn inside(levels: &str, place: usize, octets: usize) -> usize {
         if at >= place {
             return size;
         }
-        size = size.saturating_add(2 + shortest(size));
+        size = size.saturating_add(shortest(size).saturating_add(2));
     }
-    size.saturating_sub(2 + shortest(size))
+    size.saturating_sub(shortest(size).saturating_add(2))
 }
 
 /// How many octets make this length at this place.
