@@ -20,15 +20,20 @@ fn ann(alloc: Global) -> Result<AuthIdentity, Error> {
     Ok(AuthIdentity { username, password })
 }
 
-/// Both ends see the key of one TLS channel; the nonce is the client's own.
-fn client_of(alloc: Global, key: Vec<u8>) -> Result<Client, Error> {
+/// Both ends see the key of one TLS channel.
+fn key(alloc: Global) -> Result<Vec<u8>, Error> {
+    Ok(vec![in alloc; 1, 2, 3]?)
+}
+
+/// The nonce is the client's own.
+fn client_of(alloc: Global) -> Result<Client, Error> {
     let ann = Credentials::AuthIdentity(ann(alloc)?);
     let mode = ClientMode::Ntlm(NtlmConfig::new(Text::from_text(alloc, "CLIENT")?));
     let target = String::from_str(alloc, "TERMSRV/host")?;
     let nonce = [7; 32];
     Ok(CredSspClient::new(
         alloc,
-        key,
+        key(alloc)?,
         ann,
         CredSspMode::WithCredentials,
         mode,
@@ -37,33 +42,41 @@ fn client_of(alloc: Global, key: Vec<u8>) -> Result<Client, Error> {
     ))
 }
 
-fn server_of(alloc: Global, key: Vec<u8>) -> Result<Server, Error> {
+fn server_of(alloc: Global) -> Result<Server, Error> {
     let mut known = Vec::new(alloc);
     known.push(ann(alloc)?)?;
     let proxy = TableProxy::new(alloc, known, Vec::new(alloc));
     let mode = ServerMode::Ntlm(NtlmConfig::new(Text::from_text(alloc, "HOST")?));
-    Ok(CredSspServer::new(alloc, key, proxy, mode))
+    Ok(CredSspServer::new(alloc, key(alloc)?, proxy, mode))
 }
 
-fn carried(alloc: Global) -> Result<Result<Delegation, DelegateError>, Error> {
-    let mut client = client_of(alloc, vec![in alloc; 1, 2, 3]?)?;
-    let mut server = server_of(alloc, vec![in alloc; 1, 2, 3]?)?;
+fn carried(
+    alloc: Global,
+    client: &mut Client,
+    server: &mut Server,
+) -> Result<Delegation, DelegateError> {
     let mut link = MemoryLink::new(alloc, Vec::new(alloc));
     let mut transcript = Transcript::new(alloc);
     let mut kdc = FailingKdc::new();
-    Ok(delegate(
+    delegate(
         alloc,
-        &mut client,
-        &mut server,
+        client,
+        server,
         &mut link,
         &mut kdc,
         5,
         &mut transcript,
-    ))
+    )
+}
+
+fn delegated(alloc: Global) -> Result<Result<Delegation, DelegateError>, Error> {
+    let mut client = client_of(alloc)?;
+    let mut server = server_of(alloc)?;
+    Ok(carried(alloc, &mut client, &mut server))
 }
 
 fn main(rt: HostRuntime) -> io::Result<()> {
-    match carried(rt.alloc()) {
+    match delegated(rt.alloc()) {
         Ok(Ok(delegation)) => {
             let name = delegation.credentials.username.inner();
             println!(rt; "{} in {} messages of the client", name, delegation.turns)
