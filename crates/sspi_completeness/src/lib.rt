@@ -7,6 +7,3 @@ pub mod laws;
 pub mod plain;
 
 pub use plain::delegate_plainly;
-
-#[cfg(test)]
-mod tests;

@@ -1,5 +1,3 @@
-//! Ends that are made to match do, and their exchange ends well where there is memory.
-
 ghost use Rattle.std.specs.Prelude.{◌≡◌, ◌≤◌, ◌<◌, [], ◌∷◌, length, IfOk, nat_lt};
 ghost use Rattle.sspi_names.specs.declared.credentials.Credentials.TheVariants as credentials;
 ghost use Rattle.sspi_names.specs.Identity.{IsIdentity};
@@ -7,7 +5,7 @@ ghost use Rattle.sspi_credssp.specs.Client.{IsFreshClient};
 ghost use Rattle.sspi_credssp.specs.Server.{IsFreshServer};
 ghost use Rattle.sspi_completeness.specs.Matching.{IsPlainClient, IsPlainServer, HasChallenge, IsShort, key_limit, delegated_as, ComesToOk, IsCutShort};
 
-use crate::delegate_plainly;
+use sspi_completeness::delegate_plainly;
 use sspi_credssp::{ClientMode, CredSspClient, CredSspServer, ServerMode, TableProxy};
 use sspi_delegate::{DelegateError, Delegation, MemoryLink, Transcript};
 use sspi_mech::{FailingKdc, Ntlm, NtlmConfig};

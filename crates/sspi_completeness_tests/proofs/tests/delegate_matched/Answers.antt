@@ -11,7 +11,7 @@ use Rattle.sspi_credssp.specs.Table.{TableView, table_meaning}
 use Rattle.sspi_delegate.specs.declared.edit.Edit.{Edit}
 use Rattle.sspi_delegate.specs.Edits.{MemoryLinkView}
 use Rattle.sspi_completeness.specs.Matching.{IsPlainClient, IsPlainServer, HasChallenge, AreMatching, unedited, none_told, IsShort, key_limit, delegated_as, ComesToOk}
-use Rattle.sspi_completeness.proofs.tests.delegate_matched.Goals as goal
+use Rattle.sspi_completeness_tests.proofs.tests.delegate_matched.Goals as goal
 
 alone : (i : AuthIdentity) → entry_of (i ∷ []) i.username ≡ Some i
 unfolding entry_of
