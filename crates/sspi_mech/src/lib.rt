@@ -21,7 +21,7 @@ mod protection;
 pub mod step;
 
 pub use args::{AcceptSecurityContext, InitializeSecurityContext};
-pub use config::{MechConfig, NtlmConfig};
+pub use config::{KerberosConfig, KerberosServerConfig, MechConfig, NtlmConfig};
 pub use kdc::{FailingKdc, Kdc, KdcError};
 pub use mechanism::{Mechanism, mechanism_is_context};
 pub use ntlm::Ntlm;
