@@ -5,6 +5,7 @@ pub mod Context
 pub mod Laws
 pub mod Life
 pub mod Meaning
+pub mod Named
 pub mod Ntlm
 pub mod NtlmAcquire
 pub mod NtlmClaims

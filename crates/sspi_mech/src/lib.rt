@@ -16,6 +16,7 @@ pub mod config;
 pub mod kdc;
 pub mod laws;
 pub mod mechanism;
+mod named;
 pub mod ntlm;
 mod protection;
 pub mod step;
