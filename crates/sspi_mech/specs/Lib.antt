@@ -2,6 +2,14 @@ pub mod Answers
 pub mod Asking
 pub mod Calls
 pub mod Context
+pub mod Kerberos
+pub mod KerberosLaws
+pub mod KerberosLogon
+pub mod KerberosMessages
+pub mod KerberosPeers
+pub mod KerberosReplies
+pub mod KerberosStage
+pub mod KerberosSteps
 pub mod Laws
 pub mod Life
 pub mod Meaning
