@@ -23,6 +23,7 @@ pub mod NtlmMessages
 pub mod NtlmPeers
 pub mod NtlmStage
 pub mod NtlmSteps
+pub mod PlainKdc
 pub mod Protection
 pub mod Refusals
 pub mod Settings

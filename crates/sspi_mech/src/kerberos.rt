@@ -8,7 +8,7 @@ ghost use Rattle.sspi_mech.specs.Refusals.{Gives};
 mod arrival;
 pub mod laws;
 mod logon;
-mod messages;
+pub(crate) mod messages;
 mod realms;
 mod replies;
 mod stage;

@@ -7,7 +7,8 @@
 //!   `specs/Ntlm.antt` says exactly what each of its calls answers, and `ntlm::laws` what follows for two ends.
 //! - `Kerberos`: plain Kerberos, made for this port, with the roles of RFC 4120 and of user-to-user authentication, and SHA-256.
 //!   `specs/Kerberos.antt` says exactly what each of its calls answers, and `kerberos::laws` what follows for two ends.
-//! - `Kdc`: where a client's requests go; `FailingKdc` answers none.
+//! - `Kdc`: where a client's requests go. `PlainKdc` gives keys to its users, as `specs/PlainKdc.antt` says; `FailingKdc`
+//!   answers none.
 //!
 //! A refusal leaves an object as it was and has no NTSTATUS code. Want of memory may come at any time, every other kind
 //! only where `refuses` says so. Nothing is claimed of the secrecy of either.
@@ -21,6 +22,7 @@ pub mod laws;
 pub mod mechanism;
 mod named;
 pub mod ntlm;
+pub mod plain_kdc;
 mod protection;
 pub mod step;
 
@@ -30,4 +32,5 @@ pub use kdc::{FailingKdc, Kdc, KdcError};
 pub use kerberos::Kerberos;
 pub use mechanism::{Mechanism, mechanism_is_context};
 pub use ntlm::Ntlm;
+pub use plain_kdc::{PlainKdc, Scripted};
 pub use step::{Answer, Progressing, Reply, Step};
