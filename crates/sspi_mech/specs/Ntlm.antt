@@ -1,5 +1,5 @@
 -- What plain NTLM means.
-use Rattle.std.specs.Prelude.{◌≡◌, false, Option, None, Some, is_some, Result, Ok, Err}
+use Rattle.std.specs.Prelude.{◌≡◌, ℕ, List, replicate, false, Option, None, Some, is_some, Result, Ok, Err}
 use Rattle.std.specs.Result.{result_err}
 use Rattle.sspi_types.specs.declared.context.ContextSizes.{ContextSizes}
 use Rattle.sspi_types.specs.declared.credential_use.CredentialUse.{CredentialUse}
@@ -22,14 +22,20 @@ use Rattle.sspi_mech.specs.NtlmIdentities.{identified}
 use Rattle.sspi_mech.specs.NtlmStage.{NtlmState, own_direction, peer_direction, name_at}
 use Rattle.sspi_mech.specs.NtlmSteps.{Steps, client_step, server_step}
 use Rattle.sspi_mech.specs.Protection.{SealsBy, OpensBy, SignsBy, VerifiesBy, making_refusal, unseal_refusal, verify_refusal, counts_of, recounted, no_protection}
-use Rattle.sspi_mech.specs.Settings.{Setting, OfNtlm}
+use Rattle.sspi_mech.specs.Settings.{Setting, OfNtlm, OfKerberos, OfKerberosServer}
 
--- a made object: the challenge is that of the configuration
+-- an object that has made no step, with this challenge
+abbrev pub ntlm_with : List ℕ → NtlmState
+ntlm_with challenge = record { challenge = challenge; stage = Unused; protection = no_protection }
+
+-- a made object: the challenge is that of its configuration, and zeros where that is one of Kerberos
 abbrev pub ntlm_of : NtlmConfig → NtlmState
-ntlm_of config = record { challenge = config.challenge; stage = Unused; protection = no_protection }
+ntlm_of config = ntlm_with config.challenge
 
 abbrev pub NtlmMade : Setting → NtlmState → Type 0
 NtlmMade (OfNtlm config) m = m ≡ ntlm_of config
+NtlmMade (OfKerberos config) m = m ≡ ntlm_with (replicate 8 0)
+NtlmMade (OfKerberosServer config server) m = m ≡ ntlm_with (replicate 8 0)
 
 -- the credentials serve, and the object stays as it is
 abbrev pub NtlmAcquires : NtlmState → CredentialUse → Option Credentials → Option CredentialsBuffers → NtlmState → Type 0

@@ -22,7 +22,7 @@ use Rattle.sspi_mech.specs.NtlmStage.{NtlmState, own_direction}
 use Rattle.sspi_mech.specs.NtlmSteps.{Outcome, Goes, Stops, Steps, login_of, authenticates_as, authenticates, client_step, challenges, claims, server_step}
 use Rattle.sspi_mech.specs.Protection.{counts_of}
 use Rattle.sspi_mech.specs.Tags.{long_blob}
-use Rattle.sspi_mech.specs.Settings.{Setting, OfNtlm}
+use Rattle.sspi_mech.specs.Settings.{Setting, OfNtlm, OfKerberos, OfKerberosServer}
 
 -- an outcome keeps the counts of the object that it is of
 abbrev pub Keeps : NtlmState → Outcome → Type 0
@@ -79,6 +79,8 @@ with_key_counts m m2 (Err kind) is = cc
 
 made_fresh : (s : Setting) (m : NtlmState) → NtlmMade s m → counts_of m.protection ≡ record { sealed = 0; unsealed = 0; signed = 0; verified = 0 }
 made_fresh (OfNtlm config) m made = ap (λ (x : NtlmState). counts_of x.protection) made
+made_fresh (OfKerberos config) m made = ap (λ (x : NtlmState). counts_of x.protection) made
+made_fresh (OfKerberosServer config server) m made = ap (λ (x : NtlmState). counts_of x.protection) made
 
 pub ntlm_laws : IsMechanism 0 ntlm_meaning
 ntlm_laws = record {

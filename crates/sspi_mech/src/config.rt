@@ -1,5 +1,6 @@
 ghost use Rattle.std.specs.Prelude.{◌≡◌, Some, IfOk, replicate};
 
+use sspi_names::KdcTable;
 use sspi_types::Text;
 use std::alloc::{AllocError, Global};
 
@@ -8,6 +9,10 @@ use std::alloc::{AllocError, Global};
 pub enum MechConfig<'a> {
     /// Of this configuration of NTLM.
     Ntlm(&'a NtlmConfig),
+    /// Of this configuration of Kerberos, without a ticket.
+    Kerberos(&'a KerberosConfig),
+    /// Of this configuration of Kerberos and of its server.
+    KerberosServer(&'a KerberosConfig, &'a KerberosServerConfig),
 }
 
 /// The configuration of NTLM.
@@ -41,6 +46,52 @@ impl NtlmConfig {
         Ok(NtlmConfig {
             client_computer_name,
             challenge: self.challenge,
+        })
+    }
+}
+
+/// The configuration of Kerberos.
+#[derive(Drop, PartialEq, Eq)]
+pub struct KerberosConfig {
+    /// The URL of the KDC that a client asks, whatever its realm.
+    pub kdc_url: Option<Text>,
+    /// The KDCs of the realms, for a client without `kdc_url`.
+    pub kdcs: KdcTable,
+    /// The name of the client's machine, which plain Kerberos does not look at.
+    pub client_computer_name: Text,
+}
+
+impl KerberosConfig {
+    /// A copy in memory of its own, equal to this configuration.
+    pub fn clone(&self, alloc: Global) -> Result<KerberosConfig, AllocError>
+        ensures { IfOk result (λ copy. copy ≡ self.now) }
+    {
+        let kdc_url = match &self.kdc_url {
+            None => None,
+            Some(url) => Some(url.clone(alloc)?),
+        };
+        Ok(KerberosConfig {
+            kdc_url,
+            kdcs: self.kdcs.clone(alloc)?,
+            client_computer_name: self.client_computer_name.clone(alloc)?,
+        })
+    }
+}
+
+/// What a server of Kerberos has beside its configuration.
+#[derive(Drop, PartialEq, Eq)]
+pub struct KerberosServerConfig {
+    /// The ticket that it sends to a client that asks for user-to-user authentication.
+    pub ticket: Option<[u8; 32]>,
+}
+
+impl KerberosServerConfig {
+    /// A copy, equal to this configuration. It takes no memory.
+    pub fn clone(&self, _alloc: Global) -> Result<KerberosServerConfig, AllocError>
+        ensures { IfOk result (λ copy. copy ≡ self.now) }
+    {
+        Ok(KerberosServerConfig {
+            ticket: self.ticket,
         })
     }
 }

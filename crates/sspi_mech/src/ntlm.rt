@@ -31,8 +31,8 @@ use std::marker::Model;
 /// Plain NTLM: three messages, a challenge, and a proof and a key over the password.
 ///
 /// A client sends its first message, takes the challenge, and sends its name with the proof. A server sends the challenge
-/// of its configuration, takes the name and the proof, and has a key once `set_identities` found whose proof it is;
-/// that may be called again.
+/// of its configuration (zeros where it is made of one of Kerberos), takes the name and the proof, and has a key once
+/// `set_identities` found whose proof it is; that may be called again.
 ///
 /// Refusals, of which the first that holds is answered:
 /// - OutOfSequence: a step of the other role or after the end; `resume`; what needs the key or the name before it is
@@ -188,10 +188,13 @@ impl Mechanism for Ntlm {
     ghost laws = { ntlm_laws };
 
     fn make(alloc: Global, config: &MechConfig<'_>) -> Result<Self, Error> {
-        let MechConfig::Ntlm(config) = config;
+        let challenge = match config {
+            MechConfig::Ntlm(config) => config.challenge,
+            MechConfig::Kerberos(_) | MechConfig::KerberosServer(_, _) => [0; 8],
+        };
         Ok(Ntlm {
             alloc,
-            challenge: config.challenge,
+            challenge,
             stage: Stage::Unused,
             protection: Protection::new(),
         })
