@@ -5,7 +5,7 @@ use Rattle.sspi_names.specs.declared.credentials.Credentials.{Credentials}
 use Rattle.sspi_names.specs.declared.credentials.Credentials.TheVariants.{AuthIdentity, Keytab}
 use Rattle.sspi_names.specs.declared.kdc_table.KdcEntry.{KdcEntry}
 use Rattle.sspi_mech.specs.Meaning.{Meaning}
-use Rattle.sspi_mech.specs.Settings.{Setting, OfNtlm}
+use Rattle.sspi_mech.specs.Settings.{Setting, OfNtlm, OfKerberos, OfKerberosServer}
 use Rattle.sspi_mech.specs.Sum.{sum, taking, seen}
 use Rattle.sspi_negotiate.specs.declared.protocol.NegotiatedProtocol.{NegotiatedProtocol}
 use Rattle.sspi_negotiate.specs.declared.protocol.NegotiatedProtocol.TheVariants as hands
@@ -24,12 +24,14 @@ pub data Origin : Type 0 where
 abbrev pub in_place_of_kerberos : List ℕ → Origin
 in_place_of_kerberos computer = Configured (configs.Ntlm (record { client_computer_name = Some computer; challenge = replicate 8 0 }))
 
--- As long as `MechConfig` has no configuration of Kerberos, a Kerberos is made of one of NTLM, and so without URL and KDCs.
+-- a Kerberos that takes the place of an NTLM
 abbrev pub kerberos_setting : Option (List ℕ) → List KdcEntry → List ℕ → Setting
-kerberos_setting url kdcs computer = OfNtlm (record { client_computer_name = Some computer; challenge = replicate 8 0 })
+kerberos_setting url kdcs computer = OfKerberos (record { kdc_url = url; kdcs = kdcs; client_computer_name = computer })
 
 abbrev pub configured : Origin → Setting ⊎ Setting
 configured (Configured (configs.Ntlm config)) = inl (OfNtlm config)
+configured (Configured (configs.Kerberos config)) = inr (OfKerberos config)
+configured (Configured (configs.KerberosServer config server)) = inr (OfKerberosServer config server)
 configured (InPlaceOfNtlm url kdcs computer) = inr (kerberos_setting url kdcs computer)
 
 abbrev pub as_sum : {N K : Type 0} → NegotiatedProtocol N K → N ⊎ K

@@ -14,7 +14,7 @@ use Rattle.sspi_negotiate.specs.declared.protocol_config.ProtocolConfig.TheVaria
 use Rattle.sspi_negotiate.specs.declared.state.NegotiateState.TheVariants.{Initial}
 use Rattle.sspi_negotiate.specs.declared.state.Role.{Role}
 use Rattle.sspi_negotiate.specs.declared.state.Role.TheVariants.{Client, Server}
-use Rattle.sspi_negotiate.specs.Hand.{Origin, Configured, InPlaceOfNtlm, hand}
+use Rattle.sspi_negotiate.specs.Hand.{Origin, Configured, InPlaceOfNtlm, in_place_of_kerberos, hand}
 use Rattle.sspi_negotiate.specs.PackageList.{packages_of}
 use Rattle.sspi_negotiate.specs.Values.{Negotiation}
 
@@ -23,12 +23,8 @@ pub data NegotiateSetting : Type 0 where
   ForClient : NegotiateConfig → NegotiateSetting
   ForServer : NegotiateConfig → List AuthIdentity → NegotiateSetting
 
--- until there is a mechanism of Kerberos, it counts as disabled, whatever the list of packages says
-abbrev pub without_kerberos : PackageListConfig → PackageListConfig
-without_kerberos packages = record packages { kerberos = false }
-
 abbrev pub packages_in : NegotiateConfig → PackageListConfig
-packages_in config = without_kerberos (packages_of config.package_list)
+packages_in config = packages_of config.package_list
 
 -- An NTLM that may not be used gives way to Kerberos on a client; on a server that is an error.
 abbrev pub without_ntlm : Role → NegotiateConfig → Bool → Result Origin ErrorKind
@@ -36,9 +32,18 @@ without_ntlm role config false = Err NoCredentials
 without_ntlm Client config true = Ok (InPlaceOfNtlm None config.kdcs config.client_computer_name)
 without_ntlm Server config true = Err InternalError
 
+-- a Kerberos that may not be used gives way to NTLM
+abbrev pub without_kerberos : NegotiateConfig → Bool → Result Origin ErrorKind
+without_kerberos config false = Err NoCredentials
+without_kerberos config true = Ok (in_place_of_kerberos config.client_computer_name)
+
 abbrev pub first_by : Role → NegotiateConfig → ProtocolConfig → PackageListConfig → Result Origin ErrorKind
 first_by role config (configs.Ntlm ntlm) packages =
     if packages.ntlm then Ok (Configured (configs.Ntlm ntlm)) else without_ntlm role config packages.kerberos
+first_by role config (configs.Kerberos kerberos) packages =
+    if packages.kerberos then Ok (Configured (configs.Kerberos kerberos)) else without_kerberos config packages.ntlm
+first_by role config (configs.KerberosServer kerberos server) packages =
+    if packages.kerberos then Ok (Configured (configs.KerberosServer kerberos server)) else without_kerberos config packages.ntlm
 
 -- the mechanism that is in hand at first, or the kind of the refusal
 abbrev pub first_in_hand : Role → NegotiateConfig → Result Origin ErrorKind

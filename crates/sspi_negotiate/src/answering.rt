@@ -158,7 +158,12 @@ impl<N: Mechanism, K: Mechanism> Negotiate<N, K> {
         ensures unused { StaysUnused N.meaning K.meaning self.old self.new }
         ensures plain { IfErr result (λ error. error.nstatus ≡ None) }
     {
-        match NegotiatedProtocol::new_kerberos(self.alloc, &self.client_computer_name) {
+        match NegotiatedProtocol::new_kerberos(
+            self.alloc,
+            None,
+            &self.kdcs,
+            &self.client_computer_name,
+        ) {
             Err(error) => Err(error),
             Ok(protocol) => {
                 self.protocol = protocol;

@@ -1,8 +1,7 @@
 // The calls of the mechanism in hand.
-ghost use Rattle.std.specs.Prelude.{ℕ, List, Option, ◌≡◌, ◌≢◌, ◌<◌, IsTrue, IfOk, IfErr};
+ghost use Rattle.std.specs.Prelude.{◌≡◌, ◌≢◌, ◌<◌, IsTrue, IfOk, IfErr};
 ghost use Rattle.std.specs.Prelude.{OnOk, OnErr, Some, None, option_copied, filter, take};
 ghost use Rattle.sspi_types.specs.Memory.{memory_error};
-ghost use Rattle.sspi_names.specs.declared.kdc_table.KdcEntry.{KdcEntry};
 ghost use Rattle.sspi_mech.specs.Answers.{IfRefused, OnRefused, OnAsk};
 ghost use Rattle.sspi_mech.specs.Calls.{step_args, accept_args, no_counts, one_sealed, one_unsealed, one_signed, one_verified};
 ghost use Rattle.sspi_mech.specs.Calls.{ToAcquire, ToName, ToIdentify, ToComplete, ToSeal};
@@ -13,14 +12,14 @@ ghost use Rattle.sspi_negotiate.specs.Hand.{InPlaceOfNtlm, in_place_of_kerberos,
 
 use crate::protocol::NegotiatedProtocol;
 use sspi_mech::{
-    AcceptSecurityContext, Answer, InitializeSecurityContext, MechConfig, Mechanism, NtlmConfig,
-    Reply, Step,
+    AcceptSecurityContext, Answer, InitializeSecurityContext, KerberosConfig, MechConfig,
+    Mechanism, NtlmConfig, Reply, Step,
 };
-use sspi_names::{Credentials, CredentialsBuffers, Username};
+use sspi_names::{Credentials, CredentialsBuffers, KdcTable, Username};
 use sspi_types::{
     ContextSizes, CredentialUse, Error, ErrorKind, PackageInfo, SecurityStatus, SessionKeys, Text,
 };
-use std::alloc::Global;
+use std::alloc::{AllocError, Global};
 
 fn with_passwords(identities: Vec<Credentials>) -> Vec<Credentials>
     ensures { result.items ≡ filter has_password identities.items }
@@ -38,6 +37,29 @@ fn first_of(identities: Vec<Credentials>) -> Vec<Credentials>
     identities
 }
 
+fn kerberos_config(
+    alloc: Global,
+    kdc_url: Option<&str>,
+    kdcs: &KdcTable,
+    client_computer_name: &Text,
+) -> Result<KerberosConfig, AllocError>
+    ensures { IfOk result (λ config. config ≡ record {
+      kdc_url = option_copied kdc_url.entry;
+      kdcs = kdcs.now;
+      client_computer_name = client_computer_name.now;
+    }) }
+{
+    let kdc_url = match kdc_url {
+        None => None,
+        Some(url) => Some(Text::from_text(alloc, url)?),
+    };
+    Ok(KerberosConfig {
+        kdc_url,
+        kdcs: kdcs.clone(alloc)?,
+        client_computer_name: client_computer_name.clone(alloc)?,
+    })
+}
+
 impl<N: Mechanism, K: Mechanism> NegotiatedProtocol<N, K> {
     /// An NTLM that takes the place of a Kerberos.
     pub(crate) fn new_ntlm(alloc: Global, client_computer_name: &Text) -> Result<Self, Error>
@@ -53,17 +75,21 @@ impl<N: Mechanism, K: Mechanism> NegotiatedProtocol<N, K> {
         }
     }
 
-    /// A Kerberos that takes the place of an NTLM. As long as `MechConfig` has no configuration of Kerberos it is made of one
-    /// of NTLM, without URL and KDCs.
-    pub(crate) fn new_kerberos(alloc: Global, client_computer_name: &Text) -> Result<Self, Error>
-        ensures made { (url : Option (List ℕ)) (kdcs : List KdcEntry) → IfOk result (λ it. (hand N.meaning K.meaning).made
-            (InPlaceOfNtlm url kdcs client_computer_name.now) it) }
+    /// A Kerberos that takes the place of an NTLM.
+    pub(crate) fn new_kerberos(
+        alloc: Global,
+        kdc_url: Option<&str>,
+        kdcs: &KdcTable,
+        client_computer_name: &Text,
+    ) -> Result<Self, Error>
+        ensures made { IfOk result (λ it. (hand N.meaning K.meaning).made
+            (InPlaceOfNtlm (option_copied kdc_url.entry) kdcs.now client_computer_name.now) it) }
         ensures fresh { IfOk result (λ it. (hand N.meaning K.meaning).counts it ≡ no_counts) }
         ensures named { IfOk result (λ it. hand_of it ≡ protocols.Kerberos) }
         ensures err { IfErr result (λ error. error ≡ memory_error) }
     {
-        let config = NtlmConfig::new(client_computer_name.clone(alloc)?);
-        match K::make(alloc, &MechConfig::Ntlm(&config)) {
+        let config = kerberos_config(alloc, kdc_url, kdcs, client_computer_name)?;
+        match K::make(alloc, &MechConfig::Kerberos(&config)) {
             Ok(kerberos) => Ok(NegotiatedProtocol::Kerberos(kerberos)),
             Err(error) => Err(error),
         }

@@ -3,7 +3,7 @@ ghost use Rattle.std.specs.Prelude.{◌≡◌, ◌≢◌, None, IfOk, IfErr, OnE
 ghost use Rattle.sspi_mech.specs.Calls.{no_counts};
 ghost use Rattle.sspi_negotiate.specs.declared.state.Role.TheVariants as roles;
 ghost use Rattle.sspi_negotiate.specs.Hand.{hand};
-ghost use Rattle.sspi_negotiate.specs.New.{ForClient, ForServer, without_kerberos, packages_in, without_ntlm};
+ghost use Rattle.sspi_negotiate.specs.New.{ForClient, ForServer, packages_in, without_ntlm, without_kerberos};
 ghost use Rattle.sspi_negotiate.specs.New.{first_by, first_in_hand, IsFirst, IsUnmade, Begins, MadeOf, UnmadeOf};
 
 use crate::branch::Branch;
@@ -19,16 +19,6 @@ use sspi_tokens::MechTypeList;
 use sspi_types::{DataRepresentation, Error, ErrorKind, Reason, Text};
 use std::alloc::Global;
 
-/// Until there is a mechanism of Kerberos, it counts as disabled, whatever the list of packages says.
-fn without_kerberos(packages: PackageListConfig) -> PackageListConfig
-    ensures { result ≡ without_kerberos packages }
-{
-    PackageListConfig {
-        ntlm: packages.ntlm,
-        kerberos: false,
-    }
-}
-
 fn packages_in(config: &NegotiateConfig) -> PackageListConfig
     ensures { result ≡ packages_in config.now }
 {
@@ -36,7 +26,7 @@ fn packages_in(config: &NegotiateConfig) -> PackageListConfig
         None => None,
         Some(list) => Some(list.as_str()),
     };
-    without_kerberos(PackageListConfig::parse(list))
+    PackageListConfig::parse(list)
 }
 
 /// What takes the place of an NTLM that may not be used.
@@ -56,8 +46,34 @@ fn make_without_ntlm<N: Mechanism, K: Mechanism>(
         return Err(Error::new(ErrorKind::NoCredentials, Reason::NoPackage));
     }
     match role {
-        Role::Client => NegotiatedProtocol::new_kerberos(alloc, &config.client_computer_name),
+        Role::Client => {
+            NegotiatedProtocol::new_kerberos(
+                alloc,
+                None,
+                &config.kdcs,
+                &config.client_computer_name,
+            )
+        }
         Role::Server => Err(Error::new(ErrorKind::InternalError, Reason::Disabled)),
+    }
+}
+
+/// What takes the place of a Kerberos that may not be used.
+fn make_without_kerberos<N: Mechanism, K: Mechanism>(
+    alloc: Global,
+    config: &NegotiateConfig,
+    ntlm: bool,
+) -> Result<NegotiatedProtocol<N, K>, Error>
+    ensures made { IfOk result (λ it. IsFirst (hand N.meaning K.meaning) (without_kerberos config.now ntlm) it) }
+    ensures fresh { IfOk result (λ it. (hand N.meaning K.meaning).counts it ≡ no_counts) }
+    ensures plain { IfErr result (λ error. error.nstatus ≡ None) }
+    ensures cause { IfErr result (λ error. error.error_type ≢ ErrorKind.InsufficientMemory →
+        IsUnmade (without_kerberos config.now ntlm) error.error_type) }
+{
+    if ntlm {
+        NegotiatedProtocol::new_ntlm(alloc, &config.client_computer_name)
+    } else {
+        Err(Error::new(ErrorKind::NoCredentials, Reason::NoPackage))
     }
 }
 
@@ -81,6 +97,20 @@ fn make_first<N: Mechanism, K: Mechanism>(
                 config.protocol_config.new_instance(alloc)
             } else {
                 make_without_ntlm(alloc, role, config, packages.kerberos)
+            }
+        }
+        ProtocolConfig::Kerberos(_) => {
+            if packages.kerberos {
+                config.protocol_config.new_instance(alloc)
+            } else {
+                make_without_kerberos(alloc, config, packages.ntlm)
+            }
+        }
+        ProtocolConfig::KerberosServer(_, _) => {
+            if packages.kerberos {
+                config.protocol_config.new_instance(alloc)
+            } else {
+                make_without_kerberos(alloc, config, packages.ntlm)
             }
         }
     }
@@ -125,7 +155,9 @@ fn begin<N: Mechanism, K: Mechanism>(
 impl<N: Mechanism, K: Mechanism> Negotiate<N, K> {
     /// The client of a negotiation.
     ///
-    /// Until there is a mechanism of Kerberos it counts as disabled. `NoCredentials` exactly where no package is enabled.
+    /// It begins with the mechanism of its configuration where the list of packages enables that, else with the other one. An
+    /// NTLM in that place is of the configuration's computer name; a Kerberos is of that and of its KDCs, without a URL of its
+    /// own. `NoCredentials` exactly where no package is enabled.
     pub fn new_client(alloc: Global, config: &NegotiateConfig) -> Result<Self, Error>
         ensures made { IfOk result (λ it. MadeOf N.meaning K.meaning (ForClient config.now) it) }
         ensures fresh { IfOk result (λ it. (hand N.meaning K.meaning).counts it.mech ≡ no_counts) }
@@ -138,7 +170,8 @@ impl<N: Mechanism, K: Mechanism> Negotiate<N, K> {
 
     /// The server of a negotiation, which knows these identities of its peers.
     ///
-    /// As `new_client`; `InternalError` where it is configured with NTLM, which is disabled, and Kerberos is enabled.
+    /// As `new_client`, but no Kerberos takes the place of an NTLM: `InternalError` where it is configured with NTLM, which is
+    /// disabled, and Kerberos is enabled.
     pub fn new_server(
         alloc: Global,
         config: &NegotiateConfig,

@@ -4,7 +4,7 @@ ghost use Rattle.sspi_mech.specs.Calls.{no_counts};
 ghost use Rattle.sspi_negotiate.specs.Hand.{Configured, hand};
 
 use crate::protocol::NegotiatedProtocol;
-use sspi_mech::{MechConfig, Mechanism, NtlmConfig};
+use sspi_mech::{KerberosConfig, KerberosServerConfig, MechConfig, Mechanism, NtlmConfig};
 use sspi_types::Error;
 use std::alloc::{AllocError, Global};
 
@@ -12,6 +12,10 @@ use std::alloc::{AllocError, Global};
 #[derive(Drop, PartialEq, Eq)]
 pub enum ProtocolConfig {
     Ntlm(NtlmConfig),
+    /// A Kerberos without a ticket.
+    Kerberos(KerberosConfig),
+    /// A Kerberos that may authenticate user to user.
+    KerberosServer(KerberosConfig, KerberosServerConfig),
 }
 
 impl ProtocolConfig {
@@ -29,6 +33,18 @@ impl ProtocolConfig {
                 Ok(ntlm) => Ok(NegotiatedProtocol::Ntlm(ntlm)),
                 Err(error) => Err(error),
             },
+            ProtocolConfig::Kerberos(config) => {
+                match K::make(alloc, &MechConfig::Kerberos(config)) {
+                    Ok(kerberos) => Ok(NegotiatedProtocol::Kerberos(kerberos)),
+                    Err(error) => Err(error),
+                }
+            }
+            ProtocolConfig::KerberosServer(config, server) => {
+                match K::make(alloc, &MechConfig::KerberosServer(config, server)) {
+                    Ok(kerberos) => Ok(NegotiatedProtocol::Kerberos(kerberos)),
+                    Err(error) => Err(error),
+                }
+            }
         }
     }
 
@@ -38,6 +54,11 @@ impl ProtocolConfig {
     {
         match self {
             ProtocolConfig::Ntlm(config) => Ok(ProtocolConfig::Ntlm(config.clone(alloc)?)),
+            ProtocolConfig::Kerberos(config) => Ok(ProtocolConfig::Kerberos(config.clone(alloc)?)),
+            ProtocolConfig::KerberosServer(config, server) => Ok(ProtocolConfig::KerberosServer(
+                config.clone(alloc)?,
+                server.clone(alloc)?,
+            )),
         }
     }
 }

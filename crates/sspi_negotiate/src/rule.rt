@@ -1,10 +1,9 @@
-ghost use Rattle.std.specs.Prelude.{◌≡◌, ◌≢◌, ℕ, List, None, Some, IfErr, OnOk, option_copied};
+ghost use Rattle.std.specs.Prelude.{◌≡◌, ◌≢◌, None, IfErr, OnOk, option_copied};
 ghost use Rattle.sspi_types.specs.declared.error_kind.ErrorKind.TheVariants as kinds;
 ghost use Rattle.sspi_names.specs.Name.{domain_of};
 ghost use Rattle.sspi_negotiate.specs.Does.{StaysUnused};
 ghost use Rattle.sspi_negotiate.specs.Rule.{url_for, rule_url, ruled_values, TakenBy};
-ghost use Rattle.sspi_negotiate.specs.declared.protocol.Protocol.TheVariants as protocols;
-ghost use Rattle.sspi_negotiate.specs.Hand.{hand, hand_of};
+ghost use Rattle.sspi_negotiate.specs.Hand.{hand};
 ghost use Rattle.sspi_negotiate.specs.Values.{values_of};
 
 use crate::negotiate::Negotiate;
@@ -46,24 +45,19 @@ impl<N: Mechanism, K: Mechanism> Negotiate<N, K> {
     {
         match self.rule_url(name) {
             None => Ok(()),
-            Some(_) => self.take_kerberos(),
-        }
-    }
-
-    fn take_kerberos(&mut self) -> Result<(), Error>
-        ensures taken { (url : List ℕ) →
-            OnOk result (TakenBy (hand N.meaning K.meaning) (Some url) self.old.kdcs self.old.computer self.old.mech self.new.mech) }
-        ensures named { OnOk result (hand_of self.new.mech ≡ protocols.Kerberos) }
-        ensures rest { self.new ≡ record self.old { mech = self.new.mech } }
-        ensures unused { StaysUnused N.meaning K.meaning self.old self.new }
-        ensures plain { IfErr result (λ error. error.nstatus ≡ None) }
-        ensures err { IfErr result (λ error. error.error_type ≡ kinds.InsufficientMemory) }
-    {
-        match NegotiatedProtocol::new_kerberos(self.alloc, &self.client_computer_name) {
-            Err(error) => Err(error),
-            Ok(protocol) => {
-                self.protocol = protocol;
-                Ok(())
+            Some(url) => {
+                match NegotiatedProtocol::new_kerberos(
+                    self.alloc,
+                    Some(url),
+                    &self.kdcs,
+                    &self.client_computer_name,
+                ) {
+                    Err(error) => Err(error),
+                    Ok(protocol) => {
+                        self.protocol = protocol;
+                        Ok(())
+                    }
+                }
             }
         }
     }

@@ -41,7 +41,7 @@ fn offers_for(rt: &impl Test, target: &str) {
     needs(rt, &client, false);
 }
 
-/// What comes in is not looked at, and an address, which only NTLM serves, changes nothing where Kerberos is disabled.
+/// What comes in is not looked at, and an address, which is for NTLM alone, changes nothing where Kerberos may not be used.
 #[test]
 fn the_targets_of_an_offer(rt: HostRuntime) {
     let targets = [

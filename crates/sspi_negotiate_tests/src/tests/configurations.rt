@@ -1,5 +1,5 @@
-use crate::tests::ends::{Test, config, given, holds};
-use sspi_mech::Ntlm;
+use crate::tests::ends::{Test, config, given, holds, kerberos, no_kdc};
+use sspi_mech::{KerberosServerConfig, Ntlm};
 use sspi_negotiate::{NegotiateConfig, NegotiatedProtocol, ProtocolConfig};
 
 fn is_same(config: &NegotiateConfig, other: &NegotiateConfig) -> bool {
@@ -33,8 +33,19 @@ fn configurations(rt: HostRuntime) {
     lacks_list(&rt, &config);
 }
 
+#[test]
+fn configurations_of_kerberos(rt: HostRuntime) {
+    let config = kerberos(&rt, Some("ntlm"));
+    is_copied(&rt, &config);
+    lacks_list(&rt, &config);
+}
+
 fn is_ntlm(made: &NegotiatedProtocol<Ntlm, Ntlm>) -> bool {
     made.is_ntlm() && !made.is_kerberos() && made.protocol_name() == "NTLM"
+}
+
+fn is_kerberos(made: &NegotiatedProtocol<Ntlm, Ntlm>) -> bool {
+    made.is_kerberos() && !made.is_ntlm() && made.protocol_name() == "Kerberos"
 }
 
 fn makes_ntlm(rt: &impl Test, config: &ProtocolConfig) {
@@ -42,7 +53,20 @@ fn makes_ntlm(rt: &impl Test, config: &ProtocolConfig) {
     holds(rt, is_ntlm(&made), "another mechanism");
 }
 
+fn makes_kerberos(rt: &impl Test, config: &ProtocolConfig) {
+    let copy = given(rt, config.clone(rt.alloc()));
+    holds(rt, copy == *config, "another copy");
+    let made = given(rt, copy.new_instance(rt.alloc()));
+    holds(rt, is_kerberos(&made), "another mechanism");
+}
+
 #[test]
 fn instances(rt: HostRuntime) {
     makes_ntlm(&rt, &config(&rt, None).protocol_config);
+    makes_kerberos(&rt, &kerberos(&rt, None).protocol_config);
+    let ticket = KerberosServerConfig {
+        ticket: Some([7; 32]),
+    };
+    let server = ProtocolConfig::KerberosServer(no_kdc(&rt), ticket);
+    makes_kerberos(&rt, &server);
 }

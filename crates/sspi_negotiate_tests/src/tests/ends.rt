@@ -1,9 +1,9 @@
-//! The two ends for the other tests, of a negotiation over plain NTLM with a challenge of zeros.
+//! The two ends for the other tests, and what they are made of; their challenge is zeros.
 
 use bitflags::Flags;
 use sspi_mech::{
-    AcceptSecurityContext, InitializeSecurityContext, Mechanism, Ntlm, NtlmConfig, Progressing,
-    Reply, Step,
+    AcceptSecurityContext, InitializeSecurityContext, KerberosConfig, Mechanism, Ntlm, NtlmConfig,
+    Progressing, Reply, Step,
 };
 use sspi_names::{
     AuthIdentity, AuthIdentityBuffers, ContextNames, Credentials, CredentialsBuffers, KdcTable,
@@ -100,7 +100,7 @@ fn stepped(answer: Result<Progressing, Error>) -> Result<Step, Error> {
     }
 }
 
-impl<N: Mechanism> End for Negotiate<N, Ntlm> {
+impl<N: Mechanism, K: Mechanism> End for Negotiate<N, K> {
     fn client(alloc: Global, config: &NegotiateConfig) -> Result<Self, Error> {
         Negotiate::new_client(alloc, config)
     }
@@ -187,14 +187,42 @@ pub fn text(rt: &impl Test, text: &str) -> Text {
     given(rt, Text::from_text(rt.alloc(), text))
 }
 
-pub fn config(rt: &impl Test, packages: Option<&str>) -> NegotiateConfig {
+/// A configuration that begins with this mechanism, may use these packages and knows no KDC.
+fn beginning_with(
+    rt: &impl Test,
+    protocol: ProtocolConfig,
+    packages: Option<&str>,
+) -> NegotiateConfig {
     let list = match packages {
         None => None,
         Some(packages) => Some(text(rt, packages)),
     };
+    NegotiateConfig::new(
+        protocol,
+        list,
+        text(rt, "CLIENT"),
+        KdcTable::new(rt.alloc()),
+    )
+}
+
+/// A configuration that begins with NTLM.
+pub fn config(rt: &impl Test, packages: Option<&str>) -> NegotiateConfig {
     let protocol = ProtocolConfig::Ntlm(NtlmConfig::new(text(rt, "CLIENT")));
-    let kdcs = KdcTable::new(rt.alloc());
-    NegotiateConfig::new(protocol, list, text(rt, "CLIENT"), kdcs)
+    beginning_with(rt, protocol, packages)
+}
+
+/// A Kerberos that knows no KDC.
+pub fn no_kdc(rt: &impl Test) -> KerberosConfig {
+    KerberosConfig {
+        kdc_url: None,
+        kdcs: KdcTable::new(rt.alloc()),
+        client_computer_name: text(rt, "CLIENT"),
+    }
+}
+
+/// A configuration that begins with Kerberos.
+pub fn kerberos(rt: &impl Test, packages: Option<&str>) -> NegotiateConfig {
+    beginning_with(rt, ProtocolConfig::Kerberos(no_kdc(rt)), packages)
 }
 
 pub fn identity(rt: &impl Test, name: &str, password: &str) -> AuthIdentity {
@@ -214,14 +242,26 @@ pub fn identities(rt: &impl Test, lines: &str) -> Vec<AuthIdentity> {
     identities
 }
 
+/// A client that may use NTLM alone.
 pub fn client<E: End>(rt: &impl Test) -> E {
-    given(rt, E::client(rt.alloc(), &config(rt, None)))
+    given(rt, E::client(rt.alloc(), &config(rt, Some("ntlm"))))
 }
 
-/// A server that knows these identities.
+/// A server that may use NTLM alone and knows these identities.
 pub fn server<E: End>(rt: &impl Test, known: &str) -> E {
     let known = identities(rt, known);
-    given(rt, E::server(rt.alloc(), &config(rt, None), known))
+    given(rt, E::server(rt.alloc(), &config(rt, Some("ntlm")), known))
+}
+
+/// A client that begins with Kerberos and may use these packages.
+pub fn kerberos_client<E: End>(rt: &impl Test, packages: Option<&str>) -> E {
+    given(rt, E::client(rt.alloc(), &kerberos(rt, packages)))
+}
+
+/// A server that begins with Kerberos, may use these packages and knows `DOM\\ann`.
+pub fn kerberos_server<E: End>(rt: &impl Test, packages: Option<&str>) -> E {
+    let known = identities(rt, "DOM\\ann pw");
+    given(rt, E::server(rt.alloc(), &kerberos(rt, packages), known))
 }
 
 /// A client and a server over plain NTLM.
@@ -313,22 +353,70 @@ pub fn initializes(
     initializes_with(rt, client, Some(handle), none, input, wanted);
 }
 
-/// The server steps on this token to what is wanted.
-pub fn accepts(rt: &impl Test, server: &mut impl End, input: &str, wanted: Wanted) {
+/// The server steps with these flags on this token to what is wanted.
+pub fn accepts_with(
+    rt: &impl Test,
+    server: &mut impl End,
+    flags: ServerRequestFlags,
+    input: &str,
+    wanted: Wanted,
+) {
     let token = bytes(rt, input);
     let answer = server.accept(&AcceptSecurityContext {
         credentials_handle: None,
-        context_requirements: ServerRequestFlags::from_bits_retain(0),
+        context_requirements: flags,
         target_data_representation: DataRepresentation::Native,
         input: &token,
     });
     comes(rt, &answer, wanted, input);
 }
 
+/// The same without flags.
+pub fn accepts(rt: &impl Test, server: &mut impl End, input: &str, wanted: Wanted) {
+    let none = ServerRequestFlags::from_bits_retain(0);
+    accepts_with(rt, server, none, input, wanted);
+}
+
 /// NTLM is in hand, and MICs are needed, or not.
 pub fn needs(rt: &impl Test, end: &impl End, need: bool) {
     holds(rt, end.is_ntlm(), "another mechanism in hand");
     holds(rt, end.needs_mic() == need, "another need");
+}
+
+/// Kerberos is in hand, and MICs are needed, or not.
+pub fn has_kerberos(rt: &impl Test, end: &impl End, need: bool) {
+    holds(rt, !end.is_ntlm(), "NTLM in hand");
+    holds(rt, end.needs_mic() == need, "another need");
+}
+
+/// The client makes its first step with these flags on what came before any token.
+pub fn begins(
+    rt: &impl Test,
+    client: &mut impl End,
+    flags: ClientRequestFlags,
+    input: &[u8],
+    wanted: Wanted,
+) {
+    let answer = client.initialize(&call(None, flags, None, input));
+    holds(rt, came(rt, &answer, wanted), "at the first step");
+}
+
+/// The step that was suspended goes on with this reply.
+pub fn resumes(rt: &impl Test, client: &mut impl End, told: &[u8], wanted: Wanted) {
+    let reply = Reply::Answered(given(rt, Bytes::from_slice(rt.alloc(), told)));
+    holds(rt, came(rt, &client.resumes(&reply), wanted), "at a reply");
+}
+
+/// The same where no reply came.
+pub fn resumes_without(rt: &impl Test, client: &mut impl End, wanted: Wanted) {
+    let answer = client.resumes(&Reply::Failed);
+    holds(rt, came(rt, &answer, wanted), "at a failure");
+}
+
+/// How many questions are left, and whether one waits.
+pub fn is_left(rt: &impl Test, client: &impl End, waits: bool, left: u64) {
+    holds(rt, client.waits() == waits, "another state");
+    holds(rt, client.questions_left() == left, "another count");
 }
 
 /// The refusal that a word tells.

@@ -66,12 +66,12 @@ const THREE: &str = "
 a024 3022 0609 2a864882f712010202 0609 2a864886f712010202 060a 2b06010401823702020a
 a204 0402 4e31";
 
-const THREE_SIGNED: &str = "
+pub const THREE_SIGNED: &str = "
 a14a 3048 a003 0a0101
 a22d 042b 4e33 0700 444f4d5c616e6e 34ddc90ba7ffb071634b466e4d8ecefc8e57189f71f0576ac2bb6e173cf15e3f
 a312 0410 324946d0b68097f769d88cb8c99a58ff";
 
-const THREE_COMPLETE: &str = "a11b 3019 a003 0a0100 a312 0410 c8cdb644425291178894df95ebfdd786";
+pub const THREE_COMPLETE: &str = "a11b 3019 a003 0a0100 a312 0410 c8cdb644425291178894df95ebfdd786";
 
 /// Where NTLM is not what the client likes best, its message is dropped, although it is one of NTLM here, and all of the list is
 /// kept, since the MICs are over it.

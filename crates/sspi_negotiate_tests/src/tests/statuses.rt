@@ -1,8 +1,8 @@
 //! The rows that plain NTLM does not come to: `Told` has the status that its token tells, and a MIC that is the list itself.
 
 use crate::tests::ends::{
-    End, OUT_OF_SEQUENCE, Test, Wanted, accepts, ann, call, came, client, client_refuses, holds,
-    initializes, initializes_with, needs, server, server_refuses,
+    self, End, OUT_OF_SEQUENCE, Test, Wanted, accepts, ann, client, client_refuses, initializes,
+    initializes_with, needs, server, server_refuses,
 };
 use crate::tests::told::Told;
 use bitflags::Flags;
@@ -47,8 +47,7 @@ const DENIED: Wanted = Wanted::Refused(ErrorKind::LogonDenied, Reason::Mechanism
 /// A new client takes what comes in before any token so.
 fn begins(rt: &impl Test, client: &mut impl End, input: &[u8], wanted: Wanted) {
     let none = ClientRequestFlags::from_bits_retain(0);
-    let answer = client.initialize(&call(None, none, None, input));
-    holds(rt, came(rt, &answer, wanted), "at the first step");
+    ends::begins(rt, client, none, input, wanted);
 }
 
 /// Only a mechanism that goes on or is over may offer itself; after a refusal the client may still begin.

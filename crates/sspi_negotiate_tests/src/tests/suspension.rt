@@ -1,13 +1,13 @@
 //! Steps that ask a KDC: `Told` asks where it is told to, and what the KDC replies tells how it goes on.
 
 use crate::tests::ends::{
-    ASKED, End, OUT_OF_SEQUENCE, Test, Wanted, accepts, ann, call, came, client, given, holds,
-    initializes, needs,
+    ASKED, End, OUT_OF_SEQUENCE, Test, Wanted, accepts, ann, begins, client, initializes, is_left,
+    needs, resumes, resumes_without,
 };
 use crate::tests::told::Told;
-use sspi_mech::{Ntlm, Reply};
+use sspi_mech::Ntlm;
 use sspi_negotiate::Negotiate;
-use sspi_types::{Bytes, ClientRequestFlags, ErrorKind, Reason};
+use sspi_types::{ClientRequestFlags, ErrorKind, Reason};
 
 const OFFER: &str =
     "6022 0606 2b0601050502 a018 3016 a00e 300c 060a 2b06010401823702020a a204 0402 6162";
@@ -23,29 +23,11 @@ const GOING: &str = "a10d 300b a003 0a0101 a204 0402 6162";
 const GOING_SIGNED: &str =
     "a11f 301d a003 0a0101 a204 0402 6162 a310 040e 300c 060a 2b06010401823702020a";
 
-/// How many questions are left, and whether one waits.
-fn is_left(rt: &impl Test, client: &impl End, waits: bool, left: u64) {
-    holds(rt, client.waits() == waits, "another state");
-    holds(rt, client.questions_left() == left, "another count");
-}
-
-fn resumes(rt: &impl Test, client: &mut impl End, told: &[u8], wanted: Wanted) {
-    let reply = Reply::Answered(given(rt, Bytes::from_slice(rt.alloc(), told)));
-    holds(rt, came(rt, &client.resumes(&reply), wanted), "at a reply");
-}
+const SIGNED: ClientRequestFlags = ClientRequestFlags::USE_SESSION_KEY;
 
 fn fails(rt: &impl Test, client: &mut impl End) {
     let failed = Wanted::Refused(ErrorKind::NoAuthenticatingAuthority, Reason::Kdc);
-    holds(
-        rt,
-        came(rt, &client.resumes(&Reply::Failed), failed),
-        "at a failure",
-    );
-}
-
-fn begins(rt: &impl Test, client: &mut impl End, input: &[u8], wanted: Wanted) {
-    let answer = client.initialize(&call(None, ClientRequestFlags::USE_SESSION_KEY, None, input));
-    holds(rt, came(rt, &answer, wanted), "at the first step");
+    resumes_without(rt, client, failed);
 }
 
 /// While a question waits there is no other step. A refusal leaves it waiting, since NTLM, which is in hand, has nothing to fall
@@ -54,9 +36,9 @@ fn begins(rt: &impl Test, client: &mut impl End, input: &[u8], wanted: Wanted) {
 fn a_first_step(rt: HostRuntime) {
     let mut client: Negotiate<Told<3>, Ntlm> = client(&rt);
     is_left(&rt, &client, false, 3);
-    begins(&rt, &mut client, b"?", ASKED);
+    begins(&rt, &mut client, SIGNED, b"?", ASKED);
     is_left(&rt, &client, true, 2);
-    begins(&rt, &mut client, b"1ab", OUT_OF_SEQUENCE);
+    begins(&rt, &mut client, SIGNED, b"1ab", OUT_OF_SEQUENCE);
     accepts(&rt, &mut client, OFFER, OUT_OF_SEQUENCE);
     fails(&rt, &mut client);
     is_left(&rt, &client, true, 2);
@@ -74,7 +56,7 @@ fn a_first_step(rt: HostRuntime) {
 #[test]
 fn a_first_step_that_ends(rt: HostRuntime) {
     let mut client: Negotiate<Told<1>, Ntlm> = client(&rt);
-    begins(&rt, &mut client, b"?", ASKED);
+    begins(&rt, &mut client, SIGNED, b"?", ASKED);
     resumes(&rt, &mut client, b"1ab", Wanted::Going(OFFER));
     is_left(&rt, &client, false, 0);
     needs(&rt, &client, true);
@@ -86,7 +68,7 @@ fn a_first_step_that_ends(rt: HostRuntime) {
 fn a_later_step(rt: HostRuntime) {
     let ann = ann(&rt);
     let mut client: Negotiate<Told<3>, Ntlm> = client(&rt);
-    begins(&rt, &mut client, b"1ab", Wanted::Going(OFFER));
+    begins(&rt, &mut client, SIGNED, b"1ab", Wanted::Going(OFFER));
     initializes(&rt, &mut client, &ann, PICK_QUESTION, ASKED);
     initializes(&rt, &mut client, &ann, PICK_QUESTION, OUT_OF_SEQUENCE);
     fails(&rt, &mut client);
@@ -101,7 +83,7 @@ fn a_later_step(rt: HostRuntime) {
 fn a_last_step(rt: HostRuntime) {
     let ann = ann(&rt);
     let mut client: Negotiate<Told<1>, Ntlm> = client(&rt);
-    begins(&rt, &mut client, b"1ab", Wanted::Going(OFFER));
+    begins(&rt, &mut client, SIGNED, b"1ab", Wanted::Going(OFFER));
     initializes(&rt, &mut client, &ann, COMPLETE_PICK_SIGNED, ASKED);
     resumes(&rt, &mut client, b"0ab", Wanted::Over(""));
     is_left(&rt, &client, false, 0);

@@ -16,7 +16,7 @@ use sspi_types::{
 };
 use std::alloc::Global;
 
-/// A mechanism that does as its token tells: the first byte is the status, and what follows is its own token. It protects nothing:
+/// A mechanism that does as its token tells: the first byte is the status or a refusal, and what follows is its own token. It protects nothing:
 /// a blob is sixteen zeros and the text, and the MIC of a text is the text, so that a token shows what was signed. Told to, a
 /// client asks a KDC, `TIMES` times at most; the reply then tells what follows.
 #[derive(Drop)]
@@ -63,6 +63,16 @@ fn status_of(word: u8) -> Option<SecurityStatus> {
     }
 }
 
+fn refusal_of(word: u8) -> ErrorKind {
+    match word {
+        b'T' => ErrorKind::TimeSkew,
+        b'A' => ErrorKind::NoAuthenticatingAuthority,
+        b'C' => ErrorKind::CertificateUnknown,
+        b'U' => ErrorKind::UnknownCredentials,
+        _ => ErrorKind::LogonDenied,
+    }
+}
+
 /// The step that a token tells; it goes on where it tells nothing.
 fn step_of(alloc: Global, told: &[u8]) -> Result<Step, Error>
     ensures plain { IfErr result (λ error. error.nstatus ≡ None) }
@@ -74,7 +84,7 @@ fn step_of(alloc: Global, told: &[u8]) -> Result<Step, Error>
         });
     };
     let Some(status) = status_of(*word) else {
-        return Err(refusal(ErrorKind::LogonDenied, Reason::Mechanism));
+        return Err(refusal(refusal_of(*word), Reason::Mechanism));
     };
     let output = Bytes::from_slice(alloc, output)?;
     Ok(Step { status, output })
