@@ -4,6 +4,7 @@ mod Seen
 pub mod Walk
 pub mod Wording
 pub mod EditWords
+pub mod Scripting
 pub mod Parting
 pub mod Numerals
 pub mod Hexes

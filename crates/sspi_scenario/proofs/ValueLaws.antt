@@ -23,12 +23,14 @@ use Rattle.sspi_scenario.specs.Accounts.{account_of}
 use Rattle.sspi_scenario.specs.Faults.{Line, Told, judged, numbered, line_told, lines_from, keys_of, told_by, told_in}
 use Rattle.sspi_scenario.specs.Held.{HoldsValues}
 use Rattle.sspi_scenario.specs.Hex.{hex_of, hex_of_size}
+use Rattle.sspi_scenario.specs.Kdcs.{kdc_of}
 use Rattle.sspi_scenario.specs.Keys.{key_named, has_required}
 use Rattle.sspi_scenario.specs.Lines.{is_skipped, lines_of, before_space, after_space}
 use Rattle.sspi_scenario.specs.Optional.{◌>>=◌}
 use Rattle.sspi_scenario.specs.Reading.{text_limit}
 use Rattle.sspi_scenario.specs.Numbers.{is_decimal, number_of}
 use Rattle.sspi_scenario.specs.Scenario.{defaults, values_of, finished, completed, scenario_of, is_readable}
+use Rattle.sspi_scenario.specs.Scripts.{scripted_of}
 use Rattle.sspi_scenario.specs.Table.{row}
 use Rattle.sspi_scenario.specs.Words.{mode_of, package_of, delegation_of, accounts_of}
 use Rattle.sspi_scenario.proofs.ScenarioLaws.{told-whole}
@@ -92,6 +94,7 @@ row-keeps key.User text change utf8 e = keeps-by _ (parse_name text) change e (�
   server_bits = h.server_bits;
   nonce_length = h.nonce_length;
   challenge_length = h.challenge_length;
+  ticket_length = h.ticket_length;
 })
 row-keeps key.Password text change utf8 e = same-keeps _ change e (λ v h. record {
   name = h.name;
@@ -100,6 +103,7 @@ row-keeps key.Password text change utf8 e = same-keeps _ change e (λ v h. recor
   server_bits = h.server_bits;
   nonce_length = h.nonce_length;
   challenge_length = h.challenge_length;
+  ticket_length = h.ticket_length;
 })
 row-keeps key.Key text change utf8 e = keeps-by _ (hex_of text) change e (λ x is v h. h)
 row-keeps key.ServerKey text change utf8 e = keeps-by _ (hex_of text) change e (λ x is v h. h)
@@ -110,6 +114,7 @@ row-keeps key.ClientVersion text change utf8 e = keeps-by _ (number_of text) cha
   server_bits = h.server_bits;
   nonce_length = h.nonce_length;
   challenge_length = h.challenge_length;
+  ticket_length = h.ticket_length;
 })
 row-keeps key.ServerVersion text change utf8 e = keeps-by _ (number_of text) change e (λ x is v h. record {
   name = h.name;
@@ -118,6 +123,7 @@ row-keeps key.ServerVersion text change utf8 e = keeps-by _ (number_of text) cha
   server_bits = number-bits text x is;
   nonce_length = h.nonce_length;
   challenge_length = h.challenge_length;
+  ticket_length = h.ticket_length;
 })
 row-keeps key.Nonce text change utf8 e = keeps-by _ (hex_of_size 32 text) change e (λ x is v h. record {
   name = h.name;
@@ -126,6 +132,7 @@ row-keeps key.Nonce text change utf8 e = keeps-by _ (hex_of_size 32 text) change
   server_bits = h.server_bits;
   nonce_length = hex-length 32 text x is;
   challenge_length = h.challenge_length;
+  ticket_length = h.ticket_length;
 })
 row-keeps key.Challenge text change utf8 e = keeps-by _ (hex_of_size 8 text) change e (λ x is v h. record {
   name = h.name;
@@ -134,6 +141,7 @@ row-keeps key.Challenge text change utf8 e = keeps-by _ (hex_of_size 8 text) cha
   server_bits = h.server_bits;
   nonce_length = h.nonce_length;
   challenge_length = hex-length 8 text x is;
+  ticket_length = h.ticket_length;
 })
 row-keeps key.Computer text change utf8 e = same-keeps _ change e (λ v h. h)
 row-keeps key.Target text change utf8 e = same-keeps _ change e (λ v h. h)
@@ -143,6 +151,19 @@ row-keeps key.ClientProtocol text change utf8 e = keeps-by _ (package_of text) c
 row-keeps key.ServerProtocol text change utf8 e = keeps-by _ (package_of text) change e (λ x is v h. h)
 row-keeps key.ClientPackages text change utf8 e = same-keeps _ change e (λ v h. h)
 row-keeps key.ServerPackages text change utf8 e = same-keeps _ change e (λ v h. h)
+row-keeps key.ClientUrl text change utf8 e = same-keeps _ change e (λ v h. h)
+row-keeps key.Kdc text change utf8 e = keeps-by _ (kdc_of text) change e (λ x is v h. h)
+row-keeps key.KdcUser text change utf8 e = same-keeps _ change e (λ v h. h)
+row-keeps key.KdcAnswer text change utf8 e = keeps-by _ (scripted_of text) change e (λ x is v h. h)
+row-keeps key.Ticket text change utf8 e = keeps-by _ (hex_of_size 32 text) change e (λ x is v h. record {
+  name = h.name;
+  password_text = h.password_text;
+  client_bits = h.client_bits;
+  server_bits = h.server_bits;
+  nonce_length = h.nonce_length;
+  challenge_length = h.challenge_length;
+  ticket_length = hex-length 32 text x is;
+})
 row-keeps key.Account text change utf8 e = keeps-by _ (account_of text) change e (λ x is v h. h)
 row-keeps key.Accounts text change utf8 e = keeps-by _ (accounts_of text) change e (λ x is v h. h)
 row-keeps key.ProxyFail text change utf8 e = keeps-by _ (number_of text) change e (λ x is v h. h)
@@ -197,6 +218,7 @@ defaults-hold = record {
   server_bits = lit< tt;
   nonce_length = refl;
   challenge_length = refl;
+  ticket_length = tt;
 }
 
 completed-is : (b : Bool) (made scenario : Scenario) → (if b then Some made else None) ≡ Some scenario → made ≡ scenario

@@ -26,13 +26,17 @@ module _ (word : List ℕ) where
   unfolding mode_of
   no_mode n m = rw (differs word _ n, differs word _ m) refl
 
-  pub is_package : word ≡ codes "ntlm" → Some packages.Ntlm ≡ package_of word
+  pub is_ntlm_package : word ≡ codes "ntlm" → Some packages.Ntlm ≡ package_of word
   unfolding package_of
-  is_package e = rw e refl
+  is_ntlm_package e = rw e refl
 
-  pub no_package : (word ≡ codes "ntlm" → ⊥) → None ≡ package_of word
+  pub is_kerberos_package : word ≡ codes "kerberos" → Some packages.Kerberos ≡ package_of word
   unfolding package_of
-  no_package n = rw (differs word _ n) refl
+  is_kerberos_package e = rw e refl
+
+  pub no_package : (word ≡ codes "ntlm" → ⊥) → (word ≡ codes "kerberos" → ⊥) → None ≡ package_of word
+  unfolding package_of
+  no_package n m = rw (differs word _ n, differs word _ m) refl
 
   pub is_with : word ≡ codes "with" → Some WithCredentials ≡ delegation_of word
   unfolding delegation_of

@@ -7,6 +7,8 @@ pub mod Words
 pub mod Edits
 pub mod Keys
 pub mod Accounts
+pub mod Kdcs
+pub mod Scripts
 pub mod Table
 pub mod Faults
 pub mod Reads

@@ -1,5 +1,5 @@
 -- What the parsers of the parts of a text promise.
-use Rattle.std.specs.Prelude.{◌≡◌, ℕ, List, [], ◌∷◌, Option, Some, None, Result, Ok, Err, if◌then◌else◌}
+use Rattle.std.specs.Prelude.{◌≡◌, ℕ, List, [], ◌∷◌, ◌++◌, Option, Some, None, Result, Ok, Err, if◌then◌else◌}
 use Rattle.std.specs.Borrow.{Bor}
 use Rattle.std.specs.Str.{bytes_eq}
 use Rattle.sspi_scenario.specs.declared.key.Key.{Key}
@@ -20,6 +20,12 @@ abbrev pub Puts : Values → Values → Result (Unit {0}) LineError → Option (
 Puts old new (Ok done) change = option_map (λ c. c old) change ≡ Some new
 Puts old new (Err Fault) change = change ≡ None
 Puts old new (Err InsufficientMemory) change = Unit {0}
+
+-- one more element, exactly the one that there is; a fault exactly where there is none
+abbrev pub Adds : {T : Type 0} → List T → List T → Result (Unit {0}) LineError → Option T → Type 0
+Adds old new (Ok done) found = option_map (λ x. old ++ x ∷ []) found ≡ Some new
+Adds old new (Err Fault) found = found ≡ None
+Adds old new (Err InsufficientMemory) found = Unit {0}
 
 -- the first key of some with names that has this one
 abbrev pub first_named : List ℕ → List (Key × Bor (List ℕ)) → Option Key

@@ -9,7 +9,9 @@ use Rattle.sspi_scenario.specs.declared.values.Values.{Values}
 use Rattle.sspi_scenario.specs.Accounts.{account_of}
 use Rattle.sspi_scenario.specs.Edits.{edit_of}
 use Rattle.sspi_scenario.specs.Hex.{hex_of, hex_of_size}
+use Rattle.sspi_scenario.specs.Kdcs.{kdc_of}
 use Rattle.sspi_scenario.specs.Numbers.{number_of}
+use Rattle.sspi_scenario.specs.Scripts.{scripted_of}
 use Rattle.sspi_scenario.specs.Words.{mode_of, package_of, delegation_of, accounts_of}
 
 -- value: what a value makes of the values of the lines before, or none where it is against the key's grammar
@@ -51,6 +53,11 @@ row key.ClientProtocol = once (codes "client-protocol") (tells package_of (λ x 
 row key.ServerProtocol = once (codes "server-protocol") (tells package_of (λ x s. record s { server_protocol = x }))
 row key.ClientPackages = once (codes "client-packages") (tells text_of (λ x s. record s { client_packages = Some x }))
 row key.ServerPackages = once (codes "server-packages") (tells text_of (λ x s. record s { server_packages = Some x }))
+row key.ClientUrl = once (codes "client-url") (tells text_of (λ x s. record s { client_url = Some x }))
+row key.Kdc = again (codes "kdc") (tells kdc_of (λ x s. record s { kdc = s.kdc ++ x ∷ [] }))
+row key.KdcUser = again (codes "kdc-user") (tells text_of (λ x s. record s { kdc_user = s.kdc_user ++ x ∷ [] }))
+row key.KdcAnswer = again (codes "kdc-answer") (tells scripted_of (λ x s. record s { kdc_answer = s.kdc_answer ++ x ∷ [] }))
+row key.Ticket = once (codes "ticket") (tells (hex_of_size 32) (λ x s. record s { ticket = Some x }))
 row key.Account = again (codes "account") (tells account_of (λ x s. record s { account = s.account ++ x ∷ [] }))
 row key.Accounts = once (codes "accounts") (λ text. option_map (λ x values. record values { accounts = x }) (accounts_of text))
 row key.ProxyFail = again (codes "proxy-fail") (tells number_of (λ x s. record s { proxy_fail = s.proxy_fail ++ x ∷ [] }))
@@ -64,4 +71,5 @@ abbrev pub all_keys : List Key
 all_keys =
     key.Mode ∷ key.User ∷ key.Password ∷ key.Key ∷ key.ServerKey ∷ key.ClientVersion ∷ key.ServerVersion ∷ key.Nonce ∷ key.Challenge ∷
     key.Computer ∷ key.Target ∷ key.Delegation ∷ key.Keytab ∷ key.ClientProtocol ∷ key.ServerProtocol ∷ key.ClientPackages ∷
-    key.ServerPackages ∷ key.Account ∷ key.Accounts ∷ key.ProxyFail ∷ key.Turns ∷ key.Edit ∷ key.ClientLeast ∷ key.ServerLeast ∷ []
+    key.ServerPackages ∷ key.ClientUrl ∷ key.Kdc ∷ key.KdcUser ∷ key.KdcAnswer ∷ key.Ticket ∷ key.Account ∷ key.Accounts ∷ key.ProxyFail ∷ key.Turns ∷ key.Edit ∷
+    key.ClientLeast ∷ key.ServerLeast ∷ []

@@ -17,7 +17,10 @@ mode_of word =
     else None
 
 unfoldable pub package_of : List ℕ → Option Package
-package_of word = if bytes_eq word (codes "ntlm") then Some packages.Ntlm else None
+package_of word =
+    if bytes_eq word (codes "ntlm") then Some packages.Ntlm
+    else if bytes_eq word (codes "kerberos") then Some packages.Kerberos
+    else None
 
 unfoldable pub delegation_of : List ℕ → Option CredSspMode
 delegation_of word =

@@ -25,7 +25,7 @@ pub fn byte(text: &str) -> Option<u8>
 }
 
 /// The 32 bytes that 64 hex digits spell.
-pub fn nonce(text: &str) -> Option<[u8; 32]>
+pub fn bytes_32(text: &str) -> Option<[u8; 32]>
     ensures { result ≡ hex_of_size 32 text.now }
 {
     let mut bytes = [0; 32];
@@ -36,7 +36,7 @@ pub fn nonce(text: &str) -> Option<[u8; 32]>
 }
 
 /// The eight bytes that 16 hex digits spell.
-pub fn challenge(text: &str) -> Option<[u8; 8]>
+pub fn bytes_8(text: &str) -> Option<[u8; 8]>
     ensures { result ≡ hex_of_size 8 text.now }
 {
     let mut bytes = [0; 8];

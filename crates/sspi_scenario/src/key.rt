@@ -24,6 +24,11 @@ pub enum Key {
     ServerProtocol,
     ClientPackages,
     ServerPackages,
+    ClientUrl,
+    Kdc,
+    KdcUser,
+    KdcAnswer,
+    Ticket,
     Account,
     Accounts,
     ProxyFail,
@@ -33,7 +38,7 @@ pub enum Key {
     ServerLeast,
 }
 
-const NAMES: [(Key, &str); 24] = [
+const NAMES: [(Key, &str); 29] = [
     (Key::Mode, "mode"),
     (Key::User, "user"),
     (Key::Password, "password"),
@@ -51,6 +56,11 @@ const NAMES: [(Key, &str); 24] = [
     (Key::ServerProtocol, "server-protocol"),
     (Key::ClientPackages, "client-packages"),
     (Key::ServerPackages, "server-packages"),
+    (Key::ClientUrl, "client-url"),
+    (Key::Kdc, "kdc"),
+    (Key::KdcUser, "kdc-user"),
+    (Key::KdcAnswer, "kdc-answer"),
+    (Key::Ticket, "ticket"),
     (Key::Account, "account"),
     (Key::Accounts, "accounts"),
     (Key::ProxyFail, "proxy-fail"),
@@ -90,7 +100,10 @@ impl Key {
     fn repeats(self) -> bool
         ensures { result ≡ (row self).repeats }
     {
-        matches!(self, Key::Account | Key::ProxyFail | Key::Edit)
+        matches!(
+            self,
+            Key::Kdc | Key::KdcUser | Key::KdcAnswer | Key::Account | Key::ProxyFail | Key::Edit
+        )
     }
 }
 

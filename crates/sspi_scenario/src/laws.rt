@@ -34,7 +34,8 @@ pub fn lines_of_a_scenario_stand_together()
 {}
 
 /// The values of a scenario are as their types say, also where a default stands: its user is a name, its password a text, the
-/// versions have 32 bits, the nonce 32 bytes and the challenge 8.
+/// versions have 32 bits, the nonce and a ticket
+/// 32 bytes and the challenge 8.
 pub fn values_are_as_their_types_say()
     ensures { (text : List ℕ) (scenario : Scenario) → scenario_of text ≡ Ok scenario → HoldsValues scenario }
 {}

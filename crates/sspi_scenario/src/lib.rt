@@ -21,6 +21,7 @@ mod number;
 pub mod reading;
 pub mod rows;
 pub mod scenario;
+mod script;
 mod values;
 mod words;
 

@@ -10,7 +10,8 @@ use crate::lines::first_line;
 use crate::reading::TEXT_LIMIT;
 use crate::rows::Rows;
 use sspi_delegate::Edit;
-use sspi_names::{AuthIdentity, Username};
+use sspi_mech::Scripted;
+use sspi_names::{AuthIdentity, KdcTable, Username};
 use sspi_tsreq::CredSspMode;
 use sspi_types::{Bytes, Text};
 use std::alloc::{AllocError, Global};
@@ -28,6 +29,7 @@ pub enum Mode {
 #[derive(Clone, Copy, Debug, PartialEq, Eq)]
 pub enum Package {
     Ntlm,
+    Kerberos,
 }
 
 /// What a scenario text tells: each field has the value of its key, or the key's default.
@@ -58,6 +60,16 @@ pub struct Scenario {
     /// no list, all of them.
     pub client_packages: Option<Text>,
     pub server_packages: Option<Text>,
+    /// The URL that the client's Kerberos asks; where there is none, that of its realm in the table.
+    pub client_url: Option<Text>,
+    /// Which KDC serves which realm.
+    pub kdc: KdcTable,
+    /// The names that the KDC knows.
+    pub kdc_user: Rows<Text>,
+    /// How the KDC answers its first calls; all later ones as usual.
+    pub kdc_answer: Rows<Scripted>,
+    /// The ticket of the server's Kerberos, by which it authenticates user to user.
+    pub ticket: Option<[u8; 32]>,
     /// The table of the server's proxy.
     pub account: Rows<AuthIdentity>,
     /// The numbers of the proxy's calls that fail, from 0.

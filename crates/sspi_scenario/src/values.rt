@@ -1,7 +1,8 @@
 ghost use Rattle.std.specs.Prelude.{◌≡◌, Some, IfOk, if◌then◌else◌};
 ghost use Rattle.sspi_names.specs.Name.{parse_name};
 ghost use Rattle.sspi_scenario.specs.Accounts.{account_of};
-ghost use Rattle.sspi_scenario.specs.Reads.{Reads, Puts};
+ghost use Rattle.sspi_scenario.specs.Kdcs.{kdc_of};
+ghost use Rattle.sspi_scenario.specs.Reads.{Reads, Puts, Adds};
 ghost use Rattle.sspi_scenario.specs.Scenario.{defaults, finished, proxy_table, own_identity};
 ghost use Rattle.sspi_scenario.specs.Table.{row};
 
@@ -13,8 +14,9 @@ use crate::lines::parted;
 use crate::number::number;
 use crate::rows::Rows;
 use crate::scenario::{Mode, Package, Scenario};
+use crate::script::kdc_answer;
 use crate::words::{self, Accounts};
-use sspi_names::{AuthIdentity, Username, UsernameError};
+use sspi_names::{AuthIdentity, KdcTable, Username, UsernameError};
 use sspi_tsreq::CredSspMode;
 use sspi_types::{Bytes, Secret, Text};
 use std::alloc::{AllocError, Global};
@@ -51,6 +53,11 @@ impl Values {
             server_protocol: Package::Ntlm,
             client_packages: None,
             server_packages: None,
+            client_url: None,
+            kdc: KdcTable::new(alloc),
+            kdc_user: Rows::new(alloc),
+            kdc_answer: Rows::new(alloc),
+            ticket: None,
             account: Rows::new(alloc),
             proxy_fail: Rows::new(alloc),
             turns: 5,
@@ -77,8 +84,8 @@ impl Values {
             Key::ServerKey => told.server_key = hexadecimal::bytes(alloc, value)?,
             Key::ClientVersion => told.client_version = found(number(value))?,
             Key::ServerVersion => told.server_version = found(number(value))?,
-            Key::Nonce => told.nonce = found(hexadecimal::nonce(value))?,
-            Key::Challenge => told.challenge = found(hexadecimal::challenge(value))?,
+            Key::Nonce => told.nonce = found(hexadecimal::bytes_32(value))?,
+            Key::Challenge => told.challenge = found(hexadecimal::bytes_8(value))?,
             Key::Computer => told.computer = text(alloc, value)?,
             Key::Target => told.target = text(alloc, value)?,
             Key::Delegation => told.delegation = found(words::delegation_named(value))?,
@@ -87,6 +94,11 @@ impl Values {
             Key::ServerProtocol => told.server_protocol = found(words::package_named(value))?,
             Key::ClientPackages => told.client_packages = Some(text(alloc, value)?),
             Key::ServerPackages => told.server_packages = Some(text(alloc, value)?),
+            Key::ClientUrl => told.client_url = Some(text(alloc, value)?),
+            Key::Kdc => add_kdc(&mut told.kdc, value)?,
+            Key::KdcUser => told.kdc_user.push(text(alloc, value)?)?,
+            Key::KdcAnswer => told.kdc_answer.push(found(kdc_answer(value))?)?,
+            Key::Ticket => told.ticket = Some(found(hexadecimal::bytes_32(value))?),
             Key::Account => told.account.push(account(alloc, value)?)?,
             Key::Accounts => self.accounts = found(words::accounts_named(value))?,
             Key::ProxyFail => told.proxy_fail.push(u64::from(found(number(value))?))?,
@@ -181,6 +193,20 @@ fn text(alloc: Global, value: &str) -> Result<Text, LineError>
 {
     match Text::from_text(alloc, value) {
         Ok(copy) => Ok(copy),
+        Err(_) => Err(LineError::InsufficientMemory),
+    }
+}
+
+/// Adds an entry to the table: a realm, a space and the URL of its KDC.
+#[tactic(auto, unfolding(crate::specs::Kdcs::kdc_of))]
+fn add_kdc(kdcs: &mut KdcTable, value: &str) -> Result<(), LineError>
+    ensures { Adds kdcs.old kdcs.new result (kdc_of value.now) }
+{
+    let Some((realm, url)) = parted(value) else {
+        return Err(LineError::Fault);
+    };
+    match kdcs.push(realm, url) {
+        Ok(()) => Ok(()),
         Err(_) => Err(LineError::InsufficientMemory),
     }
 }

@@ -4,7 +4,7 @@ use std::process::Abort;
 use std::test::Fail;
 
 /// Texts, each with the number of its first faulty line.
-const FAULTS: [(&str, usize); 41] = [
+const FAULTS: [(&str, usize); 52] = [
     ("", 0),
     ("mode ntlm\nuser a\npassword p\n", 0),
     ("mode negotiate\nuser a\npassword p\n", 0),
@@ -16,7 +16,18 @@ const FAULTS: [(&str, usize); 41] = [
     ("# a comment\n\nMode ntlm", 3),
     (" mode ntlm", 1),
     ("mode ntlm\r\n", 1),
-    ("kdc EXAMPLE.COM tcp://k", 1),
+    ("kdc EXAMPLE.COM", 1),
+    ("kdc EXAMPLE.COM tcp://k\nkdc EXAMPLE.COM tcp://k\nkdc", 3),
+    ("kdc-answer", 1),
+    ("kdc-answer Usual", 1),
+    ("kdc-answer usual\nkdc-answer fail ", 2),
+    ("kdc-answer code", 1),
+    ("kdc-answer code 255\nkdc-answer code 256", 2),
+    ("kdc-answer code 00", 1),
+    ("kdc-answer codes 1", 1),
+    ("kdc-user\nkdc-user\nclient-url\nclient-url", 4),
+    ("ticket 00", 1),
+    ("kdc-users a", 1),
     ("user a\\b@c", 1),
     ("key 010", 1),
     ("key 0g", 1),
@@ -31,7 +42,7 @@ const FAULTS: [(&str, usize); 41] = [
     ("nonce 00", 1),
     ("challenge 00000000000000", 1),
     ("delegation  with", 1),
-    ("client-protocol kerberos", 1),
+    ("client-protocol Kerberos", 1),
     ("server-protocol NTLM", 1),
     ("client-protocol ntlm\nserver-protocol", 2),
     ("client-packages a\nserver-packages \nclient-packages a", 3),

@@ -1,3 +1,4 @@
+use sspi_mech::Scripted;
 use sspi_scenario::{Mode, Package, Scenario};
 use sspi_tsreq::CredSspMode;
 use std::process::Abort;
@@ -8,7 +9,10 @@ const EVERY_KEY: &[u8] =
       client-version 4294967295\nserver-version 0\n\
       nonce 000102030405060708090a0b0c0d0e0f101112131415161718191A1B1C1D1E1F\n\
       challenge 0102030405060708\ncomputer\ntarget a b\ndelegation less\nkeytab 05\n\
-      client-protocol ntlm\nserver-protocol ntlm\nclient-packages !kerberos,ntlm\nserver-packages\n\
+      client-protocol kerberos\nserver-protocol ntlm\nclient-packages !kerberos,ntlm\nserver-packages\n\
+      client-url tcp://k a\nkdc EXAMPLE.COM tcp://k\nkdc  \nkdc-user ann@EXAMPLE.COM\nkdc-user\n\
+      kdc-answer usual\nkdc-answer code 255\nkdc-answer fail\n\
+      ticket 202122232425262728292a2b2c2d2e2f303132333435363738393A3B3C3D3E3F\n\
       account DOM\\bob two words\naccount \\x \nproxy-fail 2\nproxy-fail 0\nturns 3\n\
       edit 0 drop\nedit 1 cut 7\nedit 1 set 3 fF\nedit 2 add \nedit 3 give 0102\nedit 4 again 1\nedit 5 fail\n\
       client-least 0\nserver-least 4294967295";
@@ -31,10 +35,24 @@ fn ends_are_told(told: &Scenario) -> bool {
 }
 
 fn packages_are_told(told: &Scenario) -> bool {
-    told.client_protocol == Package::Ntlm
+    told.client_protocol == Package::Kerberos
         && told.server_protocol == Package::Ntlm
         && matches!(&told.client_packages, Some(list) if list.as_str() == "!kerberos,ntlm")
         && matches!(&told.server_packages, Some(list) if list.is_empty())
+}
+
+fn kdcs_are_told(told: &Scenario) -> bool {
+    matches!(&told.client_url, Some(url) if url.as_str() == "tcp://k a")
+        && told.kdc.find("example.com") == Some("tcp://k")
+        && told.kdc.find("x").is_none()
+        && told.kdc_answer.as_slice()
+            == [Scripted::Usual, Scripted::Code(255), Scripted::Fail].as_slice()
+        && matches!(told.ticket, Some(ticket) if ticket[0] == 32 && ticket[31] == 63)
+}
+
+fn users_are_told(told: &Scenario) -> bool {
+    let users = told.kdc_user.as_slice();
+    users.len() == 2 && users[0].as_str() == "ann@EXAMPLE.COM" && users[1].is_empty()
 }
 
 fn lists_are_told(told: &Scenario) -> bool {
@@ -55,6 +73,8 @@ fn lists_are_told(told: &Scenario) -> bool {
 fn check_told(rt: &impl Abort, told: &Scenario) {
     assert!(rt; ends_are_told(told));
     assert!(rt; packages_are_told(told));
+    assert!(rt; kdcs_are_told(told));
+    assert!(rt; users_are_told(told));
     assert!(rt; lists_are_told(told));
 }
 
@@ -84,6 +104,14 @@ fn packages_are_the_default(given: &Scenario) -> bool {
         && given.server_packages.is_none()
 }
 
+fn kdcs_are_the_default(given: &Scenario) -> bool {
+    given.client_url.is_none()
+        && given.kdc.find("EXAMPLE.COM").is_none()
+        && given.kdc_user.as_slice().is_empty()
+        && given.kdc_answer.as_slice().is_empty()
+        && given.ticket.is_none()
+}
+
 fn lists_are_the_default(given: &Scenario) -> bool {
     let accounts = given.account.as_slice();
     accounts.len() == 1
@@ -100,6 +128,7 @@ fn lists_are_the_default(given: &Scenario) -> bool {
 fn check_defaults(rt: &impl Abort, given: &Scenario) {
     assert!(rt; ends_are_the_default(given));
     assert!(rt; packages_are_the_default(given));
+    assert!(rt; kdcs_are_the_default(given));
     assert!(rt; lists_are_the_default(given));
 }
 

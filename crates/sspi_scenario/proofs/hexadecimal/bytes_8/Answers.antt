@@ -1,7 +1,7 @@
 use Rattle.hex.specs.Hex.{decode_sized}
 use Rattle.sspi_scenario.specs.Hex.{hex_of_size}
 use Rattle.sspi_scenario.proofs.Hexes.{sized-ok, sized-err}
-use Rattle.sspi_scenario.proofs.hexadecimal.challenge.Goals as goal
+use Rattle.sspi_scenario.proofs.hexadecimal.bytes_8.Goals as goal
 
 pub returns-in-Ok : goal.returns-in-Ok
 unfolding hex_of_size
