@@ -10,19 +10,19 @@ use Rattle.sspi_scenario.specs.declared.scenario.Mode.{Mode}
 use Rattle.sspi_scenario.specs.declared.scenario.Mode.TheVariants.{Ntlm}
 use Rattle.sspi_scenario.specs.declared.scenario.Scenario.{Scenario}
 use Rattle.sspi_scenario.specs.Held.{HoldsValues}
-use Rattle.sspi_run.specs.Ends.{NtlmContext, credentials_by, client_mode_by, server_mode_by, IsClientOf, IsServerOf, link_in}
+use Rattle.sspi_run.specs.Ends.{PlainContext, credentials_by, client_mode_by, server_mode_by, IsClientOf, IsServerOf, link_in}
 use Rattle.sspi_run.specs.Outcome.{user_identity, IsPlain}
 
-pub plain_client : (s : Scenario) (client : ClientView NtlmContext) → IsClientOf s client → s.mode ≡ Ntlm → IsPlainClient client.mode
+pub plain_client : (s : Scenario) (client : ClientView PlainContext) → IsClientOf s client → s.mode ≡ Ntlm → IsPlainClient client.mode
 plain_client s client named plain = subst IsPlainClient (sym (named.mode ∙ ap (λ (mode : Mode). client_mode_by mode s) plain)) tt
 
-pub plain_server : (s : Scenario) (server : ServerView NtlmContext TableView) → IsServerOf s server → s.mode ≡ Ntlm → IsPlainServer server.mode
+pub plain_server : (s : Scenario) (server : ServerView PlainContext TableView) → IsServerOf s server → s.mode ≡ Ntlm → IsPlainServer server.mode
 plain_server s server named plain = subst IsPlainServer (sym (named.mode ∙ ap (λ (mode : Mode). server_mode_by mode s) plain)) tt
 
-pub challenged : (s : Scenario) (server : ServerView NtlmContext TableView) → IsServerOf s server → HoldsValues s → s.mode ≡ Ntlm → HasChallenge server.mode
+pub challenged : (s : Scenario) (server : ServerView PlainContext TableView) → IsServerOf s server → HoldsValues s → s.mode ≡ Ntlm → HasChallenge server.mode
 challenged s server named held plain = subst HasChallenge (sym (named.mode ∙ ap (λ (mode : Mode). server_mode_by mode s) plain)) held.challenge_length
 
-abbrev pub plain_match : (s : Scenario) (client : ClientView NtlmContext) (server : ServerView NtlmContext TableView) → IsClientOf s client → IsServerOf s server →
+abbrev pub plain_match : (s : Scenario) (client : ClientView PlainContext) (server : ServerView PlainContext TableView) → IsClientOf s client → IsServerOf s server →
     HoldsValues s → IsPlain s → AreMatching table_meaning client server
 plain_match s client server client_named server_named held plain = record {
   client_plain = plain_client s client client_named plain.mode;
@@ -50,7 +50,7 @@ pub plain_link : (s : Scenario) (link : MemoryLinkView) (new : List Carried) (no
 plain_link s link new now is plain =
     unedited (ap (λ (l : MemoryLinkView). Some l.edits) is ∙ ap Some plain.no_edit) (ap (λ (l : MemoryLinkView). l.log) is)
 
-pub plain_proxy : (s : Scenario) (server : ServerView NtlmContext TableView) (now : ℕ) → IsServerOf s server → IsPlain s →
+pub plain_proxy : (s : Scenario) (server : ServerView PlainContext TableView) (now : ℕ) → IsServerOf s server → IsPlain s →
     NoneFailed (Some server.proxy.failing) server.proxy.faults now
 plain_proxy s server now named plain =
     let none : server.proxy.faults ≡ 0 = ap (λ (p : TableView). p.faults) named.proxy in

@@ -2,9 +2,10 @@
 use Rattle.std.specs.Prelude.{◌≡◌, ℕ, List, [], Option, Some, Result}
 use Rattle.sspi_names.specs.declared.network.NetworkRequest.{NetworkRequest}
 use Rattle.sspi_mech.specs.Meaning.{Meaning}
+use Rattle.sspi_mech.specs.Kerberos.{kerberos_meaning}
 use Rattle.sspi_mech.specs.Ntlm.{ntlm_meaning}
+use Rattle.sspi_mech.specs.PlainKdc.{PlainKdcState, told_by}
 use Rattle.sspi_mech.specs.declared.step.Reply.{Reply}
-use Rattle.sspi_mech.specs.declared.step.Reply.TheVariants.{Failed}
 use Rattle.sspi_credssp.specs.Client.{ClientView}
 use Rattle.sspi_credssp.specs.Context.{ContextSetting, either}
 use Rattle.sspi_credssp.specs.Server.{ServerView}
@@ -16,26 +17,28 @@ use Rattle.sspi_delegate.specs.declared.edit.Edit.{Edit}
 use Rattle.sspi_delegate.specs.Delegates.{Around, around_by, parties, Delegates}
 use Rattle.sspi_delegate.specs.Edits.{MemoryLinkView, FollowsEdits}
 use Rattle.sspi_delegate.specs.Headline.{IsFresh}
-use Rattle.sspi_run.specs.Ends.{NtlmContext, IsClientOf, IsServerOf, link_in}
+use Rattle.sspi_run.specs.Ends.{PlainContext, IsClientOf, IsServerOf, link_in, kdc_in}
 use Rattle.sspi_run.specs.declared.record.Record.{Record}
 use Rattle.sspi_run.specs.declared.record.RunOutcome.{RunOutcome}
 use Rattle.sspi_run.specs.declared.record.RunOutcome.TheVariants.{Delegated}
 
 -- what the context of either end means
-abbrev pub ntlm : Meaning ContextSetting NtlmContext
-ntlm = either 0 ntlm_meaning ntlm_meaning
+abbrev pub plain_meaning : Meaning ContextSetting PlainContext
+plain_meaning = either 0 ntlm_meaning kerberos_meaning
 
 -- what `delegate` answered
 abbrev pub answer_in : RunOutcome → Result Delegation DelegateError
 answer_in (Delegated answer) = answer
 
--- a KDC that cannot be asked tells that each call fails
-abbrev pub told_failures : ℕ → Option (ℕ → NetworkRequest → Reply)
-told_failures kdc = Some (λ call request. Failed)
+-- the KDC tells its reply to each call
+abbrev pub told_replies : PlainKdcState → Option (ℕ → NetworkRequest → Reply)
+told_replies kdc = Some (told_by kdc.users kdc.script)
 
--- each of its calls is counted, and each fails
-abbrev pub kdc_count : ℕ → ℕ
-kdc_count kdc = kdc
+abbrev pub kdc_asked : PlainKdcState → ℕ
+kdc_asked kdc = kdc.asked
+
+abbrev pub kdc_faults : PlainKdcState → ℕ
+kdc_faults kdc = kdc.faults
 
 abbrev pub link_log : MemoryLinkView → List Carried
 link_log link = link.log
@@ -46,15 +49,15 @@ told_edits link = Some link.edits
 abbrev pub link_faults : MemoryLinkView → ℕ
 link_faults link = link.faults
 
-abbrev pub around : Around TableView MemoryLinkView ℕ
-around = around_by table_meaning link_log told_edits link_faults told_failures kdc_count kdc_count
+abbrev pub around : Around TableView MemoryLinkView PlainKdcState
+around = around_by table_meaning link_log told_edits link_faults told_replies kdc_asked kdc_faults
 
--- The ends that the scenario names met over the link that it names: all that `delegate` promises holds from these ends as
--- they were made, and from an empty log and transcript, to what the record keeps.
+-- The ends that the scenario names met over the link that it names, and the client asked the KDC that it names: all that
+-- `delegate` promises holds from these as they were made, and from an empty log and transcript, to what the record keeps.
 pub record IsExchange (r : Record) : Type 0 where
   -- the ends as they were made
-  pub client : ClientView NtlmContext
-  pub server : ServerView NtlmContext TableView
+  pub client : ClientView PlainContext
+  pub server : ServerView PlainContext TableView
   pub fresh : IsFresh client server []
   pub client_named : IsClientOf r.scenario client
   pub server_named : IsServerOf r.scenario server
@@ -62,5 +65,5 @@ pub record IsExchange (r : Record) : Type 0 where
   pub edits : r.link.edits ≡ r.scenario.edit
   pub follows : FollowsEdits r.scenario.edit r.link.log
   -- all that `delegate` promises of these ends
-  pub delegates : Delegates ntlm around (parties client server (link_in r.scenario) 0 []) r.scenario.turns (answer_in r.outcome)
+  pub delegates : Delegates plain_meaning around (parties client server (link_in r.scenario) (kdc_in r.scenario) []) r.scenario.turns (answer_in r.outcome)
       (parties r.client r.server r.link r.kdc r.transcript.turns)

@@ -1,32 +1,33 @@
 ghost use Rattle.std.specs.Prelude.{◌≡◌, IfOk};
 ghost use Rattle.sspi_credssp.specs.Client.{IsFreshClient};
 ghost use Rattle.sspi_credssp.specs.Server.{IsFreshServer};
-ghost use Rattle.sspi_run.specs.Ends.{credentials_in, IsClientOf, IsServerOf, link_in, AreEndsOf};
+ghost use Rattle.sspi_run.specs.Ends.{credentials_in, IsClientOf, IsServerOf, link_in, kdc_in, AreEndsOf};
 
 use crate::modes::{client_mode, server_mode};
 use sspi_credssp::{CredSspClient, CredSspServer, TableProxy};
 use sspi_delegate::{Edit, MemoryLink};
-use sspi_mech::Ntlm;
+use sspi_mech::{Kerberos, Ntlm, PlainKdc};
 use sspi_names::{AuthIdentity, Credentials, KeytabIdentity};
 use sspi_scenario::Scenario;
-use sspi_types::Secret;
+use sspi_types::{Secret, Text};
 use std::alloc::{AllocError, Global};
 
-/// The client of a scenario. Both mechanisms of its context are NTLM.
-pub type Client = CredSspClient<Ntlm, Ntlm>;
+/// The client of a scenario.
+pub type Client = CredSspClient<Ntlm, Kerberos>;
 
 /// The server of a scenario. Its proxy looks its peers up in the table of the scenario.
-pub type Server = CredSspServer<Ntlm, Ntlm, TableProxy>;
+pub type Server = CredSspServer<Ntlm, Kerberos, TableProxy>;
 
-/// Both ends of a scenario, and the link between them.
+/// Both ends of a scenario, the link between them, and the KDC that the client asks.
 #[derive(Drop)]
 pub struct Ends {
     pub client: Client,
     pub server: Server,
     pub link: MemoryLink,
+    pub kdc: PlainKdc,
 }
 
-/// The ends and the link that the scenario names.
+/// The ends, the link and the KDC that the scenario names.
 pub fn ends_of(alloc: Global, scenario: &Scenario) -> Result<Ends, AllocError>
     ensures { IfOk result (AreEndsOf scenario.now) }
 {
@@ -34,6 +35,7 @@ pub fn ends_of(alloc: Global, scenario: &Scenario) -> Result<Ends, AllocError>
         client: client_of(alloc, scenario)?,
         server: server_of(alloc, scenario)?,
         link: link_of(alloc, scenario)?,
+        kdc: kdc_of(alloc, scenario)?,
     })
 }
 
@@ -120,6 +122,25 @@ fn copy_edits(alloc: Global, edits: &[Edit]) -> Result<Vec<Edit>, AllocError>
     let mut copies = Vec::new(alloc);
     for edit in edits {
         copies.push(edit.clone(alloc)?)?;
+    }
+    Ok(copies)
+}
+
+/// The KDC that the scenario names, which was not asked yet.
+fn kdc_of(alloc: Global, scenario: &Scenario) -> Result<PlainKdc, AllocError>
+    ensures { IfOk result (λ kdc. kdc ≡ kdc_in scenario.now) }
+{
+    let users = copy_texts(alloc, scenario.kdc_user.as_slice())?;
+    let script = Vec::from_slice(alloc, scenario.kdc_answer.as_slice())?;
+    Ok(PlainKdc::new(alloc, users, script))
+}
+
+fn copy_texts(alloc: Global, texts: &[Text]) -> Result<Vec<Text>, AllocError>
+    ensures { IfOk result (λ copies. copies.items ≡ texts.now) }
+{
+    let mut copies = Vec::new(alloc);
+    for text in texts {
+        copies.push(text.clone(alloc)?)?;
     }
     Ok(copies)
 }

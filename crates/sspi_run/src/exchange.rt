@@ -7,11 +7,10 @@ ghost use Rattle.sspi_scenario.specs.Held.{HoldsValues};
 use crate::ends::{Ends, ends_of};
 use crate::record::{Record, RunOutcome};
 use sspi_delegate::{Transcript, delegate};
-use sspi_mech::FailingKdc;
 use sspi_scenario::Scenario;
 use std::alloc::{AllocError, Global};
 
-/// The exchange of the two ends that the scenario names, over the link that it names.
+/// The exchange of the two ends that the scenario names, over the link and with the KDC that it names.
 pub fn exchange(alloc: Global, scenario: Scenario) -> Result<Record, AllocError>
     ensures scenario { IfOk result (λ kept. kept.scenario ≡ scenario) }
     ensures exchange { IfOk result IsExchange }
@@ -33,8 +32,8 @@ fn meet(alloc: Global, scenario: Scenario, ends: Ends) -> Record
         mut client,
         mut server,
         mut link,
+        mut kdc,
     } = ends;
-    let mut kdc = FailingKdc::new();
     let mut transcript = Transcript::new(alloc);
     let answer = delegate(
         alloc,

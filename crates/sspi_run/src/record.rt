@@ -1,6 +1,6 @@
 use crate::ends::{Client, Server};
 use sspi_delegate::{DelegateError, Delegation, MemoryLink, Transcript};
-use sspi_mech::FailingKdc;
+use sspi_mech::PlainKdc;
 use sspi_scenario::Scenario;
 
 /// What a run came to.
@@ -19,7 +19,7 @@ pub struct Record {
     pub client: Client,
     pub server: Server,
     pub link: MemoryLink,
-    pub kdc: FailingKdc,
+    pub kdc: PlainKdc,
     pub transcript: Transcript,
     pub outcome: RunOutcome,
 }

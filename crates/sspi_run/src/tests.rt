@@ -4,6 +4,7 @@
 
 mod edges;
 mod faults;
+mod kerberos;
 mod negotiation;
 mod rows;
 
@@ -77,9 +78,7 @@ pub fn stretched(
     (front, piece, times, more): (&str, &str, usize, &str),
 ) -> Result<String, AllocError> {
     let mut text = String::from_str(alloc, front)?;
-    for _ in 0..times {
-        text.push_str(piece)?;
-    }
+    text.push_str(&piece.repeat(alloc, times)?)?;
     text.push_str(more)?;
     Ok(text)
 }

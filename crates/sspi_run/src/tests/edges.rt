@@ -99,13 +99,7 @@ const ACCOUNTS: [Case; 2] = [
         "",
         DELEGATED,
     ),
-    (
-        "account ann@DOM pw\n",
-        1,
-        5,
-        "",
-        "\nserver NoCredentials\n",
-    ),
+    ("account ann@DOM pw\n", 1, 5, "", "\nserver NoCredentials\n"),
 ];
 
 #[test]
@@ -137,13 +131,7 @@ const NAMES_AND_PASSWORDS: [Case; 6] = [
         "",
         "\nok 3 user=ann@ password= \n",
     ),
-    (
-        "user @\npassword #",
-        0,
-        6,
-        "",
-        "\nok 3 user=@ password=#\n",
-    ),
+    ("user @\npassword #", 0, 6, "", "\nok 3 user=@ password=#\n"),
     (
         "user DOM\\\npassword p w",
         0,
@@ -187,19 +175,25 @@ fn reads_more_behind(
     }
 }
 
-/// Of a delivery 1048581 bytes are read, which is the longest message: of three bytes behind one none is read.
 #[test]
 fn a_delivery_with_more_behind(rt: HostRuntime) {
-    let alloc = rt.alloc();
+    let (alloc, delivered) = (rt.alloc(), "\n! 3011a003020106a10a30083006a00404024e31");
     let front = "mode ntlm\nuser DOM\\ann\npassword pw\nkey 010203\nedit 0 add ";
-    let delivered = "\n! 3011a003020106a10a30083006a00404024e31";
     reads_more_behind(
         &rt,
         alloc,
         stretched(alloc, (front, "00", 65536, "\n")),
         stretched(alloc, (delivered, "00", 65536, "\n< 3019")),
     );
-    let front = "mode ntlm\nuser DOM\\ann\nkey 010203\nedit 4 add 070707\npassword ";
+}
+
+/// Of a delivery 1048581 bytes are read, which is the longest message: of three bytes behind one none is read.
+#[test]
+fn a_delivery_past_the_limit(rt: HostRuntime) {
+    let (alloc, front) = (
+        rt.alloc(),
+        "mode ntlm\nuser DOM\\ann\nkey 010203\nedit 4 add 070707\npassword ",
+    );
     reports(
         &rt,
         alloc,

@@ -9,20 +9,8 @@ const TURNS_AND_CREDENTIALS: [Case; 6] = [
         DELEGATED,
     ),
     ("turns 0\n", 1, 1, "", "turns\n"),
-    (
-        "turns 2\n",
-        1,
-        5,
-        "\n< 305da003020106a3320430",
-        "\nturns\n",
-    ),
-    (
-        "turns 3\n",
-        0,
-        6,
-        "\n> 3066a003020106a23b0439",
-        DELEGATED,
-    ),
+    ("turns 2\n", 1, 5, "\n< 305da003020106a3320430", "\nturns\n"),
+    ("turns 3\n", 0, 6, "\n> 3066a003020106a23b0439", DELEGATED),
     (
         "delegation less\n",
         0,
@@ -146,21 +134,9 @@ const OLD_VERSIONS: [Case; 4] = [
 
 /// An end compares the first version that it hears with its least one, and each later version with the first.
 const LEAST_VERSIONS: [Case; 5] = [
-    (
-        "client-least 7\n",
-        1,
-        3,
-        "",
-        "\nclient DowngradeDetected\n",
-    ),
+    ("client-least 7\n", 1, 3, "", "\nclient DowngradeDetected\n"),
     ("client-least 6\n", 0, 6, "", DELEGATED),
-    (
-        "server-least 6\nclient-least 0\n",
-        0,
-        6,
-        "",
-        DELEGATED,
-    ),
+    ("server-least 6\nclient-least 0\n", 0, 6, "", DELEGATED),
     (
         "edit 0 set 6 04\nedit 2 set 7 04\n",
         1,
@@ -201,12 +177,7 @@ fn long_names(rt: HostRuntime) {
         &rt,
         alloc,
         stretched(alloc, (front, "a", 65500, "")),
-        (
-            0,
-            6,
-            "\n> 3083010076a003020106a183010014",
-            " password=pw\n",
-        ),
+        (0, 6, "\n> 3083010076a003020106a183010014", " password=pw\n"),
     );
     reports(
         &rt,
@@ -221,30 +192,32 @@ fn long_names(rt: HostRuntime) {
     );
 }
 
-/// With 524227 letters the last message has the longest content, with one more it does not fit, and with 524264 the credentials do
-/// not.
+const BEFORE_THE_PASSWORD: &str = "mode ntlm\nuser DOM\\ann\nkey 010203\npassword ";
+
+/// With 524227 letters the last message has the longest content.
 #[test]
-fn long_passwords(rt: HostRuntime) {
-    let (alloc, front) = (
-        rt.alloc(),
-        "mode ntlm\nuser DOM\\ann\nkey 010203\npassword ",
-    );
+fn the_longest_password(rt: HostRuntime) {
     reports(
         &rt,
-        alloc,
-        stretched(alloc, (front, "a", 524227, "")),
+        rt.alloc(),
+        stretched(rt.alloc(), (BEFORE_THE_PASSWORD, "a", 524227, "")),
         (0, 6, "\n> 3083100000a003020106a283", "aaa\n"),
     );
+}
+
+/// With one letter more that message does not fit, and with 524264 the credentials do not.
+#[test]
+fn longer_passwords(rt: HostRuntime) {
     reports(
         &rt,
-        alloc,
-        stretched(alloc, (front, "a", 524228, "")),
+        rt.alloc(),
+        stretched(rt.alloc(), (BEFORE_THE_PASSWORD, "a", 524228, "")),
         (1, 5, "", "\nwrite client\n"),
     );
     reports(
         &rt,
-        alloc,
-        stretched(alloc, (front, "a", 524264, "")),
+        rt.alloc(),
+        stretched(rt.alloc(), (BEFORE_THE_PASSWORD, "a", 524264, "")),
         (1, 5, "", "\nclient InternalError\n"),
     );
 }
@@ -266,8 +239,7 @@ fn old_versions_that_are_taken(rt: HostRuntime) {
             DELEGATED,
         ),
     );
-    let front =
-        "mode ntlm\nuser DOM\\ann\npassword pw\nclient-version 4\nserver-least 4\nkey ";
+    let front = "mode ntlm\nuser DOM\\ann\npassword pw\nclient-version 4\nserver-least 4\nkey ";
     reports(
         &rt,
         alloc,

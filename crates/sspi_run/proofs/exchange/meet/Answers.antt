@@ -5,6 +5,8 @@ use Rattle.sspi_delegate.specs.declared.edit.Edit.{Edit}
 use Rattle.sspi_delegate.specs.Headline.{IsFresh}
 use Rattle.sspi_delegate.specs.Link.{StaysTold}
 use Rattle.sspi_delegate.proofs.Histories.{server_past_history}
+use Rattle.sspi_mech.specs.Kerberos.{kerberos_meaning}
+use Rattle.sspi_mech.specs.KerberosLaws.{kerberos_laws}
 use Rattle.sspi_mech.specs.Ntlm.{ntlm_meaning}
 use Rattle.sspi_mech.specs.NtlmLaws.{ntlm_laws}
 use Rattle.sspi_credssp.proofs.ContextLaws.{lawful}
@@ -14,7 +16,7 @@ use Rattle.sspi_completeness.specs.Matching.{delegated_as, ComesToOk}
 use Rattle.sspi_completeness.proofs.ThreeTurns.{ok_three}
 use Rattle.sspi_completeness.proofs.PlainSettled.{comes_to_ok, cut_short, settled_plainly}
 use Rattle.sspi_completeness.proofs.Settling.{calm_by, Settled}
-use Rattle.sspi_run.specs.Exchange.{ntlm, around}
+use Rattle.sspi_run.specs.Exchange.{plain_meaning, around}
 use Rattle.sspi_run.specs.Outcome.{user_identity, IsPlain}
 use Rattle.sspi_run.proofs.Plainly.{plain_match, plain_server, plain_link, plain_proxy}
 use Rattle.sspi_run.proofs.exchange.meet.Goals as goal
@@ -42,7 +44,7 @@ returns-clause-exchange c ends =
       server_named = ends.server_named;
       edits = same;
       follows = subst (λ (these : List Edit). FollowsEdits these made.link.log) same (told.follows tt);
-      delegates = rw (ends.link, c.new-kdc.ensures, c.new-transcript.ensures) at (ensures.delegates fresh);
+      delegates = rw (ends.link, ends.kdc, c.new-transcript.ensures) at (ensures.delegates fresh);
     }
 
 pub returns-clause-outcome : goal.returns-clause-outcome
@@ -58,10 +60,10 @@ returns-clause-outcome c ends held =
     record { client_is = ends.client_fresh; server_is = ends.server_fresh; empty = empty } in
     let delegates = ensures.delegates fresh in
     let stays = ensures.stays in
-    let server_history = server_past_history ntlm table_meaning server made.server _ answer delegates.accounts.server_turns_are_its_calls in
-    let laws = lawful 0 0 ntlm_meaning ntlm_meaning ntlm_laws ntlm_laws in
+    let server_history = server_past_history plain_meaning table_meaning server made.server _ answer delegates.accounts.server_turns_are_its_calls in
+    let laws = lawful 0 2 ntlm_meaning kerberos_meaning ntlm_laws kerberos_laws in
     let settles : (plain : IsPlain s) → Settled 3 s.turns (delegated_as client.delegation (user_identity s)) answer =
-    λ plain. settled_plainly ntlm_meaning laws (calls_of_kdc around) table_meaning client server ends.client_fresh ends.server_fresh
+    λ plain. settled_plainly kerberos_meaning laws (calls_of_kdc around) table_meaning client server ends.client_fresh ends.server_fresh
     (plain_match s client server ends.client_named ends.server_named held plain) _ _ _ _ _ s.turns made.client made.server _ _ _ _ _
     (plain_link s c.args.ends.link made.link.log made.link.faults ends.link plain)
     delegates.accounts.turns_and_log_show_the_answer stays.the_link_tells_what_it_told stays.the_link_fails_where_its_edits_say_so
@@ -69,7 +71,7 @@ returns-clause-outcome c ends held =
     (calm_by _ _ _ (plain_proxy s server made.server.proxy.faults ends.server_named plain) stays.the_proxy_tells_what_it_told.calm)
     delegates.the_identity_is_what_was_opened_last in
     record {
-      three = λ plain. ok_three ntlm_meaning table_meaning _ _ _ _ _ _ _ _ _
+      three = λ plain. ok_three kerberos_meaning table_meaning _ _ _ _ _ _ _ _ _
           delegates.accounts.turns_and_log_show_the_answer (plain_server s server ends.server_named plain) fresh.server_is delegates.the_turns_are_a_run.server_ran.others
           delegates.both_proofs_came_before_ok server_history;
       comes = λ plain enough. subst (λ (mode : CredSspMode). ComesToOk (delegated_as mode (user_identity s)) answer) ends.client_named.delegation
