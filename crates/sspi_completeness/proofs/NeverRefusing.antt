@@ -23,7 +23,8 @@ use Rattle.sspi_mech.specs.NtlmAcquire.{acquired}
 use Rattle.sspi_mech.specs.NtlmClaims.{claim_in, claim_under, claim_of}
 use Rattle.sspi_mech.specs.NtlmIdentities.{key_by, key_at, with_key, identified}
 use Rattle.sspi_mech.specs.NtlmIdentities as ntlm
-use Rattle.sspi_mech.specs.NtlmMessages.{Authenticated, read_challenge, is_negotiate}
+use Rattle.sspi_mech.specs.Named.{Named}
+use Rattle.sspi_mech.specs.NtlmMessages.{read_challenge, is_negotiate}
 use Rattle.sspi_mech.specs.NtlmStage.{NtlmState, peer_direction, name_at}
 use Rattle.sspi_mech.specs.NtlmSteps.{Outcome, Goes, Stops, login_by, login_of, authenticates, authenticates_as, challenges, claims, client_step, server_step}
 use Rattle.sspi_mech.specs.declared.protection.Direction.{Direction}
@@ -156,7 +157,7 @@ stops_challenges : (m : NtlmState) (b : Bool) → StopsOther (challenges m b)
 stops_challenges m false = λ e. absurd (cc (e))
 stops_challenges m true = tt
 
-other_under : (read : Authenticated) (name : Option Name) → IfOther (claim_under read name)
+other_under : (read : Named) (name : Option Name) → IfOther (claim_under read name)
 other_under read None = λ e. absurd (cc (e))
 other_under read (Some name) = tt
 
@@ -164,7 +165,7 @@ other_utf8 : (b : Bool) (r : Result Claim ErrorKind) → IfOther r → IfOther (
 other_utf8 true r h = h
 other_utf8 false r h = λ e. absurd (cc (e))
 
-other_claim : (read : Option Authenticated) → IfOther (claim_in read)
+other_claim : (read : Option Named) → IfOther (claim_in read)
 other_claim None = λ e. absurd (cc (e))
 other_claim (Some read) = other_utf8 (is_utf8 read.name) _ (other_under read _)
 

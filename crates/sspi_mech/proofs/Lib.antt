@@ -1,4 +1,6 @@
 pub mod ContextLaws
+pub mod KerberosMessages
+pub mod KerberosProtected
 pub mod Lives
 pub mod Messages
 pub mod Opened

@@ -2,9 +2,18 @@ pub mod Answers
 pub mod Asking
 pub mod Calls
 pub mod Context
+pub mod Kerberos
+pub mod KerberosLaws
+pub mod KerberosLogon
+pub mod KerberosMessages
+pub mod KerberosPeers
+pub mod KerberosReplies
+pub mod KerberosStage
+pub mod KerberosSteps
 pub mod Laws
 pub mod Life
 pub mod Meaning
+pub mod Named
 pub mod Ntlm
 pub mod NtlmAcquire
 pub mod NtlmClaims
@@ -14,6 +23,7 @@ pub mod NtlmMessages
 pub mod NtlmPeers
 pub mod NtlmStage
 pub mod NtlmSteps
+pub mod PlainKdc
 pub mod Protection
 pub mod Refusals
 pub mod Settings

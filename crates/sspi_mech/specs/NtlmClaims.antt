@@ -5,14 +5,15 @@ use Rattle.sspi_types.specs.declared.error_kind.ErrorKind.{ErrorKind}
 use Rattle.sspi_types.specs.declared.error_kind.ErrorKind.TheVariants.{InvalidToken, UnknownCredentials}
 use Rattle.sspi_names.specs.Name.{Name, parse_name}
 use Rattle.sspi_mech.specs.declared.ntlm.stage.Claim.{Claim}
-use Rattle.sspi_mech.specs.NtlmMessages.{Authenticated, read_authenticate}
+use Rattle.sspi_mech.specs.Named.{Named}
+use Rattle.sspi_mech.specs.NtlmMessages.{read_authenticate}
 
-abbrev pub claim_under : Authenticated → Option Name → Result Claim ErrorKind
+abbrev pub claim_under : Named → Option Name → Result Claim ErrorKind
 claim_under read None = Err UnknownCredentials
-claim_under read (Some name) = Ok (record { name = name; text = read.name; proof = read.proof })
+claim_under read (Some name) = Ok (record { name = name; text = read.name; proof = read.body })
 
 -- the name is UTF-8, and does not mix the forms of a name
-abbrev pub claim_in : Option Authenticated → Result Claim ErrorKind
+abbrev pub claim_in : Option Named → Result Claim ErrorKind
 claim_in None = Err InvalidToken
 claim_in (Some read) = if is_utf8 read.name then claim_under read (parse_name read.name) else Err InvalidToken
 

@@ -2,6 +2,7 @@ ghost use Rattle.std.specs.Prelude.{◌≡◌};
 ghost use Rattle.sspi_mech.specs.Asking.{counted_on, AskCause, IsTold};
 
 use sspi_names::NetworkRequest;
+use std::alloc::AllocError;
 use std::marker::Model;
 
 /// Why a KDC gave no reply.
@@ -11,6 +12,18 @@ pub enum KdcError {
     Failed,
     /// There was no memory for the request or the reply.
     InsufficientMemory,
+}
+
+/// Want of memory is `InsufficientMemory`.
+impl From<AllocError> for KdcError {
+    ghost use Rattle.std.specs.Prelude.{◌≡◌};
+    ghost use Rattle.sspi_mech.specs.declared.kdc.KdcError.TheVariants.{InsufficientMemory};
+
+    ghost from_gives = { λ _ error. error ≡ InsufficientMemory };
+
+    fn from(_error: AllocError) -> KdcError {
+        KdcError::InsufficientMemory
+    }
 }
 
 /// A key distribution center, as its clients reach it.

@@ -1,10 +1,10 @@
-ghost use Rattle.std.specs.Prelude.{◌≡◌, None, Some, IfErr, find, option_copied, if◌then◌else◌};
+ghost use Rattle.std.specs.Prelude.{◌≡◌, None, IfErr, find, option_copied};
 ghost use Rattle.std.specs.List.{list_any};
-ghost use Rattle.std.specs.Str.{is_utf8};
 ghost use Rattle.sspi_mech.specs.NtlmClaims.{claim_of};
 ghost use Rattle.sspi_mech.specs.NtlmIdentities.{has_password, proves, claimed_key, key_at};
 ghost use Rattle.sspi_mech.specs.Refusals.{Gives};
 
+use crate::named::text_in;
 use crate::ntlm::messages::{key_of, proof_of, read_authenticate};
 use crate::ntlm::stage::{Claim, Stage};
 use sspi_names::{Credentials, Username};
@@ -29,16 +29,6 @@ pub fn claim_of(alloc: Global, message: &[u8]) -> Result<Claim, Error>
         text,
         proof: *proof,
     })
-}
-
-/// The text that the bytes are, if they are UTF-8.
-fn text_in(bytes: &[u8]) -> Option<&str>
-    ensures { option_copied result ≡ (if is_utf8 bytes.now then Some bytes.now else None) }
-{
-    match str::from_utf8(bytes) {
-        Ok(text) => Some(text),
-        Err(_) => None,
-    }
 }
 
 impl Stage {

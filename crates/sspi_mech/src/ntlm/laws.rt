@@ -41,7 +41,7 @@ pub fn permitted_is_not_refused()
 pub fn written_is_read()
     ensures challenge { (challenge : List ℕ) → length challenge ≡ 8 → read_challenge (challenge_message challenge) ≡ Some challenge }
     ensures authenticate { (name proof : List ℕ) → length name < 2 ^ 16 → length proof ≡ 32 →
-        read_authenticate (authenticate_message name proof) ≡ Some (record { name = name; proof = proof }) }
+        read_authenticate (authenticate_message name proof) ≡ Some (record { name = name; body = proof }) }
 {}
 
 /// The password that made a claim's proof is found to be the one.

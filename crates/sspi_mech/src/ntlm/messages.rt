@@ -2,6 +2,7 @@ ghost use Rattle.std.specs.Prelude.{◌≡◌, ◌<◌, ◌^◌, ◌++◌, lengt
 ghost use Rattle.sspi_mech.specs.NtlmMessages.{proof_of, key_of, challenge_message, authenticate_message, is_negotiate, read_challenge, read_authenticate};
 ghost use Rattle.sha2.specs.Sha256.{sha256};
 
+use crate::named::{named_message, read_named};
 use sha2::{Digest, Sha256};
 use std::alloc::{AllocError, Global};
 
@@ -13,8 +14,6 @@ const CHALLENGE_LETTERS: &[u8; 2] = b"N2";
 const AUTHENTICATE_LETTERS: &[u8; 2] = b"N3";
 
 const CHALLENGE_LENGTH: usize = 8;
-
-const PROOF_LENGTH: usize = 32;
 
 /// The hash of four texts, joined in this order.
 fn hash(label: &[u8], challenge: &[u8], name: &[u8], password: &[u8]) -> [u8; 32]
@@ -63,16 +62,7 @@ pub fn authenticate_message(
     requires { length name.now < 2 ^ 16 }
     ensures { IfOk result (λ message. message.items ≡ authenticate_message name.now proof.now) }
 {
-    let length = [(name.len() % 256) as u8, (name.len() / 256) as u8];
-    let mut message = Vec::with_capacity(
-        alloc,
-        AUTHENTICATE_LETTERS.len() + length.len() + name.len() + PROOF_LENGTH,
-    )?;
-    message.extend_from_slice(AUTHENTICATE_LETTERS)?;
-    message.extend_from_slice(&length)?;
-    message.extend_from_slice(name.as_bytes())?;
-    message.extend_from_slice(proof)?;
-    Ok(message)
+    named_message(alloc, AUTHENTICATE_LETTERS, name, proof)
 }
 
 /// Whether this is the message with which a client begins.
@@ -91,16 +81,7 @@ pub fn read_challenge(message: &[u8]) -> Option<&[u8; 8]>
 
 /// The name and the proof of a client's last message.
 pub fn read_authenticate(message: &[u8]) -> Option<(&[u8], &[u8; 32])>
-    ensures { option_map (λ read. record { name = read.0.now; proof = read.1.now }) result ≡ read_authenticate message.now }
+    ensures { option_map (λ read. record { name = read.0.now; body = read.1.now }) result ≡ read_authenticate message.now }
 {
-    let body = message.strip_prefix(AUTHENTICATE_LETTERS)?;
-    let [low, high, rest @ ..] = body else {
-        return None;
-    };
-    let length = usize::from(*low) + 256 * usize::from(*high);
-    if rest.len() != length + PROOF_LENGTH {
-        return None;
-    }
-    let (name, proof) = rest.split_at(length);
-    Some((name, proof.as_array()?))
+    read_named(AUTHENTICATE_LETTERS, message)
 }

@@ -1,6 +1,6 @@
 use Rattle.std.proofs.Common.{sym, ap, ◌∙◌, Some}
 use Rattle.sspi_mech.proofs.Text.{is_text, no_text}
-use Rattle.sspi_mech.proofs.ntlm.claim.text_in.Goals as goal
+use Rattle.sspi_mech.proofs.named.text_in.Goals as goal
 
 pub returns-in-Ok : goal.returns-in-Ok
 returns-in-Ok c = ap Some c.in-Ok.ensures.cases.0 ∙ sym (is_text _ c.in-Ok.ensures.cases.1)

@@ -1,0 +1,137 @@
+ghost use Rattle.std.specs.Prelude.{◌≡◌, ◌≤◌, None, IfErr, IfOk, length, option_copied};
+ghost use Rattle.sspi_names.specs.Name.{inner_of};
+ghost use Rattle.sspi_mech.specs.KerberosLogon.{acquired, name_in, short_name, logon_of, protocol_of, request_at};
+ghost use Rattle.sspi_mech.specs.Refusals.{Gives};
+
+use crate::kerberos::realms::Realms;
+use sspi_names::{Credentials, CredentialsBuffers, NetworkProtocol, NetworkRequest, Username};
+use sspi_types::{Bytes, CredentialUse, Error, ErrorKind, Reason, Text};
+use std::alloc::Global;
+use std::marker::Model;
+
+/// The most bytes that the name in a message has.
+const LONGEST_NAME: usize = 65535;
+
+/// The name of a client, which is short enough for a message.
+#[derive(Drop)]
+pub struct ClientName {
+    name: Username,
+}
+
+impl Model for ClientName {
+    ghost use Rattle.std.specs.Prelude.{◌≤◌, length};
+    ghost use Rattle.sspi_names.specs.Name.{Name, inner_of};
+
+    ghost Value = { Name };
+
+    ghost view = { λ client. client.name };
+
+    ghost invariant = { λ client. length (inner_of client.name) ≤ 65535 };
+}
+
+impl ClientName {
+    /// This name; none where it is too long.
+    fn new(name: Username) -> Option<ClientName>
+        ensures { result ≡ short_name name }
+    {
+        if name.inner().len() > LONGEST_NAME {
+            return None;
+        }
+        Some(ClientName { name })
+    }
+
+    pub fn username(&self) -> &Username
+        ensures name { result.now ≡ self.now }
+        ensures short { length (inner_of self.now) ≤ 65535 }
+    {
+        &self.name
+    }
+}
+
+/// A client and its KDC.
+#[derive(Drop)]
+pub struct Logon {
+    /// The name of the client.
+    pub name: ClientName,
+    /// Where its KDC is asked.
+    pub url: Text,
+}
+
+/// The buffers of the credentials, or none where none are given.
+pub fn buffers_of(
+    alloc: Global,
+    credential_use: CredentialUse,
+    auth_data: Option<&Credentials>,
+) -> Result<Option<CredentialsBuffers>, Error>
+    ensures answer { Gives result (acquired credential_use (option_copied auth_data.entry)) }
+    ensures plain { IfErr result (λ error. error.nstatus ≡ None) }
+{
+    match auth_data {
+        Some(credentials) => Ok(Some(credentials.to_buffers(alloc)?)),
+        None => match credential_use {
+            CredentialUse::Outbound => Err(Error::new(
+                ErrorKind::NoCredentials,
+                Reason::NoAuthData,
+            )),
+            CredentialUse::Inbound | CredentialUse::Both | CredentialUse::Default => Ok(None),
+        },
+    }
+}
+
+/// The name in a client's credentials.
+fn name_in(alloc: Global, handle: Option<&CredentialsBuffers>) -> Result<Username, Error>
+    ensures answer { Gives result (name_in (option_copied handle.entry)) }
+    ensures plain { IfErr result (λ error. error.nstatus ≡ None) }
+{
+    let buffers = match handle {
+        None => return Err(Error::new(ErrorKind::NoCredentials, Reason::NoAuthData)),
+        Some(CredentialsBuffers::Keytab(identity)) => return Ok(identity.username.clone(alloc)?),
+        Some(CredentialsBuffers::AuthIdentity(buffers)) => buffers,
+    };
+    let user = buffers.user.to_string(alloc)?;
+    let domain = buffers.domain.to_string(alloc)?;
+    Ok(Username::new(alloc, user.as_str(), Some(domain.as_str()))?)
+}
+
+/// Who a client is by its credentials, and where its KDC is.
+pub fn logon_of(
+    alloc: Global,
+    realms: &Realms,
+    handle: Option<&CredentialsBuffers>,
+) -> Result<Logon, Error>
+    ensures answer { Gives result (logon_of realms.now (option_copied handle.entry)) }
+    ensures plain { IfErr result (λ error. error.nstatus ≡ None) }
+{
+    let name = name_in(alloc, handle)?;
+    let url = realms.kdc_of(alloc, &name)?;
+    match ClientName::new(name) {
+        Some(name) => Ok(Logon { name, url }),
+        None => Err(Error::new(ErrorKind::InternalError, Reason::TooLong)),
+    }
+}
+
+fn protocol_of(url: &str) -> NetworkProtocol
+    ensures { result ≡ protocol_of url.now }
+{
+    let url = url.as_bytes();
+    if url.starts_with(b"udp://") {
+        NetworkProtocol::Udp
+    } else if url.starts_with(b"http://") {
+        NetworkProtocol::Http
+    } else if url.starts_with(b"https://") {
+        NetworkProtocol::Https
+    } else {
+        NetworkProtocol::Tcp
+    }
+}
+
+/// The request that sends these bytes to the KDC at this URL.
+pub fn request_at(url: Text, payload: Vec<u8>) -> NetworkRequest
+    ensures { result ≡ request_at url payload.items }
+{
+    NetworkRequest {
+        protocol: protocol_of(url.as_str()),
+        url,
+        payload: Bytes::from_vec(payload),
+    }
+}

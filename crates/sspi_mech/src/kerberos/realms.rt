@@ -1,0 +1,38 @@
+ghost use Rattle.std.specs.Prelude.{◌≡◌, None, IfErr, option_copied};
+ghost use Rattle.sspi_mech.specs.KerberosLogon.{url_by, kdc_of};
+ghost use Rattle.sspi_mech.specs.Refusals.{Gives};
+
+use sspi_names::{KdcTable, Username};
+use sspi_types::{Error, ErrorKind, Reason, Text};
+use std::alloc::Global;
+
+/// Which KDC a client asks.
+#[derive(Drop)]
+pub struct Realms {
+    /// The one URL, whatever the realm.
+    pub kdc_url: Option<Text>,
+    /// Else the KDC of each realm.
+    pub kdcs: KdcTable,
+}
+
+impl Realms {
+    fn url(&self, name: &Username) -> Option<&str>
+        ensures { option_copied result ≡ url_by self.now.kdc_url self.now.kdcs name.now }
+    {
+        match &self.kdc_url {
+            Some(url) => Some(url.as_str()),
+            None => self.kdcs.find(name.domain_name()?),
+        }
+    }
+
+    /// The URL of the KDC of this name; NoAuthenticatingAuthority where there is none.
+    pub fn kdc_of(&self, alloc: Global, name: &Username) -> Result<Text, Error>
+        ensures answer { Gives result (kdc_of self.now name.now) }
+        ensures plain { IfErr result (λ error. error.nstatus ≡ None) }
+    {
+        match self.url(name) {
+            Some(url) => Ok(Text::from_text(alloc, url)?),
+            None => Err(Error::new(ErrorKind::NoAuthenticatingAuthority, Reason::Kdc)),
+        }
+    }
+}
