@@ -9,6 +9,7 @@ mod fallback;
 mod guests;
 mod kerberos;
 mod packages;
+mod plain_kerberos;
 mod rules;
 mod server;
 mod statuses;

@@ -125,14 +125,19 @@ fn before_a_failed_look_up(rt: HostRuntime) {
 #[test]
 fn without_a_package(rt: HostRuntime) {
     let alloc = rt.alloc();
-    let mut client = negotiating_client(&rt, alloc, Some("!ntlm"));
+    let mut client = negotiating_client(&rt, alloc, Some("!ntlm,!kerberos"));
     let said = client.process(TsRequest::default());
     holds(
         &rt,
         matches!(said, Err(error) if error.error_type == ErrorKind::NoCredentials),
         "another refusal",
     );
-    let mut server = negotiating_server(&rt, alloc, known(&rt, alloc, &[]), Some("!ntlm"));
+    let mut server = negotiating_server(
+        &rt,
+        alloc,
+        known(&rt, alloc, &[]),
+        Some("!ntlm,!kerberos"),
+    );
     let (kind, reason) = (ErrorKind::NoCredentials, Reason::NoPackage);
     let early = with_token(&rt, alloc, b"N1");
     let _ = hands_back(&rt, &mut server, early, kind, reason, IDLE);
