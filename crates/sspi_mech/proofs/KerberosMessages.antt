@@ -18,7 +18,8 @@ block_is_read body long = rw long
 pub arrives : (name : Name) (key : List ℕ) → IsName name → length (inner_of name) < 2 ^ 16 → length key ≡ 32 →
     arrival_of (ap_request (inner_of name) key) ≡ Ok (record { name = name; key = key })
 arrives name key is short long =
-    rw (named_is_read (inner_of name) key short long, is_utf8-from_IsUtf8 (inner_of name) (inner_of-IsUtf8 name is), inner_back name is) refl
+    let utf8 = is_utf8-from_IsUtf8 (inner_of name) (inner_of-IsUtf8 name is) in
+    rw (named_is_read (inner_of name) key short long, utf8, inner_back name is) refl
 
 pub length-reply_proof : (key : List ℕ) → length (reply_proof key) ≡ 32
 unfolding reply_proof

@@ -13,13 +13,15 @@ use Rattle.sspi_mech.proofs.Opened as opened
 pub opened_is_body : (m : KerberosState) (n : ℕ) (blob text : List ℕ) → kerberos_meaning.opens m n blob text → text ≡ drop 16 blob
 opened_is_body m n blob text opens = opened.opened_is_body m.protection.key (peer_direction m.stage) n blob text opens
 
-pub sealed_opens : (m p : KerberosState) (n : ℕ) (text blob : List ℕ) → IsPeer m p → kerberos_meaning.seals m n text blob → kerberos_meaning.opens p n blob text
+pub sealed_opens : (m p : KerberosState) (n : ℕ) (text blob : List ℕ) →
+    IsPeer m p → kerberos_meaning.seals m n text blob → kerberos_meaning.opens p n blob text
 sealed_opens m p n text blob peer sealed =
     opened.sealed_opens p.protection.key (peer_direction p.stage) n text blob
     (subst (λ (d : Direction). SealsBy p.protection.key d n text blob) peer.direction
     (subst (λ (k : Option (List ℕ)). SealsBy k (own_direction m.stage) n text blob) peer.key sealed))
 
-pub signed_verifies : (m p : KerberosState) (n : ℕ) (text mic : List ℕ) → IsPeer m p → kerberos_meaning.signs m n text mic → kerberos_meaning.verifies p n mic text
+pub signed_verifies : (m p : KerberosState) (n : ℕ) (text mic : List ℕ) →
+    IsPeer m p → kerberos_meaning.signs m n text mic → kerberos_meaning.verifies p n mic text
 signed_verifies m p n text mic peer signed =
     opened.signed_verifies p.protection.key (peer_direction p.stage) n text mic
     (subst (λ (d : Direction). SignsBy p.protection.key d n text mic) peer.direction
@@ -27,15 +29,18 @@ signed_verifies m p n text mic peer signed =
 
 -- what opens at the number that is next is not refused, but at the last number
 pub opened_is_taken : (m : KerberosState) (blob text : List ℕ) →
-    kerberos_meaning.opens m m.protection.unsealed blob text → m.protection.unsealed < 2 ^ 64 - 1 → kerberos_meaning.permits m (ToUnseal blob)
+    kerberos_meaning.opens m m.protection.unsealed blob text → m.protection.unsealed < 2 ^ 64 - 1 →
+    kerberos_meaning.permits m (ToUnseal blob)
 opened_is_taken m blob text opens below =
     opened.opened_is_taken m.protection.key (peer_direction m.stage) m.protection.unsealed blob text opens below
 
 pub verified_is_taken : (m : KerberosState) (mic text : List ℕ) →
-    kerberos_meaning.verifies m m.protection.verified mic text → m.protection.verified < 2 ^ 64 - 1 → kerberos_meaning.permits m (ToVerify mic text)
+    kerberos_meaning.verifies m m.protection.verified mic text → m.protection.verified < 2 ^ 64 - 1 →
+    kerberos_meaning.permits m (ToVerify mic text)
 verified_is_taken m mic text verified below =
     opened.verified_is_taken m.protection.key (peer_direction m.stage) m.protection.verified mic text verified below
 
 -- a call that is permitted is refused with no kind, and a refused one with one kind
-pub one_refusal : (m : KerberosState) (call : Call) (kind : ErrorKind) → kerberos_meaning.permits m call → kerberos_meaning.refuses m call kind → ⊥
+pub one_refusal : (m : KerberosState) (call : Call) (kind : ErrorKind) →
+    kerberos_meaning.permits m call → kerberos_meaning.refuses m call kind → ⊥
 one_refusal m call kind permitted refused = let never : None ≡ Some kind = sym permitted ∙ refused in cc

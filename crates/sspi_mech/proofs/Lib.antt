@@ -1,4 +1,5 @@
 pub mod ContextLaws
+pub mod KdcServes
 pub mod KerberosMessages
 pub mod KerberosProtected
 pub mod Lives

@@ -69,7 +69,8 @@ pairs_keeps : (m : KerberosState) (key : Result (List ℕ) ErrorKind) → Keeps 
 pairs_keeps m (Ok key) = (omega arith, refl, refl)
 pairs_keeps m (Err kind) = tt
 
-asks_again_keeps : (m : KerberosState) (name : Name) (key : List ℕ) (url : Result (List ℕ) ErrorKind) → Keeps 1 m (asks_again m name key url)
+asks_again_keeps : (m : KerberosState) (name : Name) (key : List ℕ) (url : Result (List ℕ) ErrorKind) →
+    Keeps 1 m (asks_again m name key url)
 asks_again_keeps m name key (Ok url) = (omega arith, refl, refl)
 asks_again_keeps m name key (Err kind) = tt
 

@@ -1,17 +1,21 @@
 //! What holds of plain Kerberos by its definitions alone: each is proved once, and holds of every object.
-ghost use Rattle.std.specs.Prelude.{◌≡◌, ℕ, ◌-◌, ◌<◌, ◌^◌, Bool, List, [], Some, Ok, Err, drop, length, replicate, false, true};
+ghost use Rattle.std.specs.Prelude.{◌≡◌, ℕ, ◌-◌, ◌<◌, ◌^◌, List, None, Some, Ok, Err, ◌++◌, drop, length, false, true};
+ghost use Rattle.std.specs.List.{slice_get};
 ghost use Rattle.sspi_types.specs.declared.error_kind.ErrorKind.{ErrorKind};
 ghost use Rattle.sspi_types.specs.declared.security_status.SecurityStatus.TheVariants as status;
 ghost use Rattle.sspi_names.specs.Name.{Name, IsName, inner_of};
 ghost use Rattle.sspi_mech.specs.declared.kerberos.stage.Stage.TheVariants as stages;
+ghost use Rattle.sspi_mech.specs.declared.plain_kdc.Scripted.{Scripted};
 ghost use Rattle.sspi_mech.specs.declared.step.Reply.TheVariants.{Answered};
 ghost use Rattle.sspi_mech.specs.Calls.{Call, ToUnseal, ToVerify};
 ghost use Rattle.sspi_mech.specs.Kerberos.{kerberos_meaning};
-ghost use Rattle.sspi_mech.specs.KerberosMessages.{ticket_request, ticket_reply, ap_request, ap_reply, read_ticket, as_reply, tgs_reply, kdc_error};
+ghost use Rattle.sspi_mech.specs.KerberosLogon.{request_at};
+ghost use Rattle.sspi_mech.specs.KerberosMessages.{ticket_request, ticket_reply, ap_request, ap_reply, read_ticket, as_request, as_reply, tgs_request, tgs_reply, kdc_error};
 ghost use Rattle.sspi_mech.specs.KerberosPeers.{IsPeer};
 ghost use Rattle.sspi_mech.specs.KerberosReplies.{kind_of_code, first_key_in, session_key_in};
 ghost use Rattle.sspi_mech.specs.KerberosStage.{KerberosState};
 ghost use Rattle.sspi_mech.specs.KerberosSteps.{Goes, keyed_with, server_step, shown_to};
+ghost use Rattle.sspi_mech.specs.PlainKdc.{first_key, session_key, knows, told_by};
 
 /// Of a blob that opens, the text is all that stands behind the tag, which has 16 bytes.
 pub fn opened_is_body()
@@ -23,7 +27,8 @@ pub fn sealed_opens()
     ensures opens { (m p : KerberosState) (n : ℕ) (text blob : List ℕ) →
         IsPeer m p → kerberos_meaning.seals m n text blob → kerberos_meaning.opens p n blob text }
     ensures taken { (p : KerberosState) (blob text : List ℕ) →
-        kerberos_meaning.opens p p.protection.unsealed blob text → p.protection.unsealed < 2 ^ 64 - 1 → kerberos_meaning.permits p (ToUnseal blob) }
+        kerberos_meaning.opens p p.protection.unsealed blob text → p.protection.unsealed < 2 ^ 64 - 1 →
+        kerberos_meaning.permits p (ToUnseal blob) }
 {}
 
 /// The MIC that one end makes, the other finds right, and does not refuse where it is the next, unless the count is spent.
@@ -37,7 +42,8 @@ pub fn signed_verifies()
 
 /// A call that may answer `Ok` is refused with no kind but want of memory.
 pub fn permitted_is_not_refused()
-    ensures { (m : KerberosState) (call : Call) (kind : ErrorKind) → kerberos_meaning.permits m call → kerberos_meaning.refuses m call kind → ⊥ }
+    ensures { (m : KerberosState) (call : Call) (kind : ErrorKind) →
+        kerberos_meaning.permits m call → kerberos_meaning.refuses m call kind → ⊥ }
 {}
 
 /// A server takes what a client sends, and knows its name and its key by that: the question for the ticket where there is one,
@@ -67,4 +73,15 @@ pub fn replies_are_read()
     ensures first { (key : List ℕ) → length key ≡ 32 → first_key_in (Answered (as_reply key)) ≡ Ok key }
     ensures session { (key : List ℕ) → length key ≡ 32 → session_key_in (Answered (tgs_reply key)) ≡ Ok key }
     ensures refused { (code : ℕ) → first_key_in (Answered (kdc_error code)) ≡ Err (kind_of_code code) }
+{}
+
+/// A plain KDC gives a client the keys that it asks for: the first where it knows the name, and a session key for that and any
+/// ticket. Its script is at its end there.
+pub fn kdc_serves()
+    ensures first { (users : List (List ℕ)) (script : List Scripted) (call : ℕ) (url name : List ℕ) →
+        slice_get script call ≡ None → knows users name ≡ true →
+        first_key_in (told_by users script call (request_at url (as_request name))) ≡ Ok (first_key name) }
+    ensures session { (users : List (List ℕ)) (script : List Scripted) (call : ℕ) (url key ticket : List ℕ) →
+        slice_get script call ≡ None → length key ≡ 32 → length ticket ≡ 32 →
+        session_key_in (told_by users script call (request_at url (tgs_request key ticket))) ≡ Ok (session_key (key ++ ticket)) }
 {}

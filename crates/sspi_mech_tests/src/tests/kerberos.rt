@@ -161,13 +161,15 @@ const SESSION_KEY: [u8; 32] = [
     0x8f, 0xd0, 0x2b, 0x7d, 0x07, 0x43, 0x7d, 0x4d, 0x2c, 0x31, 0x71, 0x89, 0xcd, 0xba, 0x63, 0xa5,
 ];
 
-/// The tag of `text` as the first blob of the client and of the server, and the MICs.
-const CLIENT_TAG: [u8; 16] = [
+/// `text` as the first blob of the client and of the server, and the MICs.
+const CLIENT_BLOB: [u8; 20] = [
     0x45, 0xc8, 0x2b, 0x12, 0x27, 0xb6, 0xd1, 0x87, 0xf0, 0xd8, 0xfe, 0x83, 0x0c, 0xb6, 0x55, 0x52,
+    0x74, 0x65, 0x78, 0x74,
 ];
 
-const SERVER_TAG: [u8; 16] = [
+const SERVER_BLOB: [u8; 20] = [
     0xe7, 0xcb, 0x1c, 0xb0, 0x50, 0x06, 0x63, 0x9b, 0x8b, 0x18, 0x38, 0x8d, 0x8f, 0x89, 0x62, 0x07,
+    0x74, 0x65, 0x78, 0x74,
 ];
 
 const CLIENT_MIC: [u8; 16] = [
@@ -198,9 +200,9 @@ fn is_complete(rt: &impl Abort, end: &mut Kerberos) {
     holds(rt, end.complete() == Ok(SecurityStatus::Ok), "not complete");
 }
 
-fn seals(end: &mut Kerberos, tag: &[u8; 16]) -> bool {
+fn seals(end: &mut Kerberos, blob: &[u8; 20]) -> bool {
     match end.seal(b"text") {
-        Ok(blob) => blob.strip_prefix(tag.as_slice()) == Some(b"text".as_slice()),
+        Ok(sealed) => sealed.as_slice() == blob.as_slice(),
         Err(_) => false,
     }
 }
@@ -212,7 +214,7 @@ fn signs(end: &mut Kerberos, mic: &[u8; 16]) -> bool {
     }
 }
 
-fn opens(end: &mut Kerberos, blob: &[u8]) -> bool {
+fn opens(end: &mut Kerberos, blob: &[u8; 20]) -> bool {
     match end.unseal(blob) {
         Ok(text) => text.as_slice() == b"text".as_slice(),
         Err(_) => false,
@@ -223,14 +225,11 @@ fn carries(
     rt: &impl Abort,
     from: &mut Kerberos,
     to: &mut Kerberos,
-    tag: &[u8; 16],
+    blob: &[u8; 20],
     mic: &[u8; 16],
 ) {
-    let mut blob = [0; 20];
-    blob[..16].copy_from_slice(tag);
-    blob[16..].copy_from_slice(b"text");
-    holds(rt, seals(from, tag), "another blob");
-    holds(rt, opens(to, &blob), "not opened");
+    holds(rt, seals(from, blob), "another blob");
+    holds(rt, opens(to, blob), "not opened");
     holds(rt, signs(from, mic), "another MIC");
     holds(rt, to.verify(mic, b"text") == Ok(()), "not verified");
 }
@@ -238,8 +237,8 @@ fn carries(
 fn are_keyed(rt: &impl Abort, client: &mut Kerberos, server: &mut Kerberos) {
     is_complete(rt, client);
     is_complete(rt, server);
-    carries(rt, client, server, &CLIENT_TAG, &CLIENT_MIC);
-    carries(rt, server, client, &SERVER_TAG, &SERVER_MIC);
+    carries(rt, client, server, &CLIENT_BLOB, &CLIENT_MIC);
+    carries(rt, server, client, &SERVER_BLOB, &SERVER_MIC);
 }
 
 fn takes_identities(rt: &impl Abort, server: &mut Kerberos, identities: &[Credentials]) {
