@@ -17,3 +17,8 @@ pub mod Faults
 pub mod Fronts
 pub mod Tails
 pub mod Ranges
+pub mod Numbers
+pub mod Steps
+pub mod Walks
+pub mod Ends
+pub mod Feeding

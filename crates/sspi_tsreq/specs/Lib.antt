@@ -16,3 +16,6 @@ pub mod Header
 pub mod Status
 pub mod Equality
 pub mod SameRequest
+pub mod Places
+pub mod Walks
+pub mod Feeding

@@ -8,6 +8,9 @@
 //! `write_ts_credentials` and `read_ts_credentials` do the same for the credentials that are delegated (`specs/CredsGrammar.antt`,
 //! `specs/Creds.antt`, `creds_laws.rt`), and `EarlyUserAuthResult` is the server's four bytes.
 //!
+//! `TsReader` (`reader.rt`) reads the same from pieces, as a stream gives them: `walk.rt` goes byte by byte, over the places of
+//! `place.rt`, and `specs/Feeding.antt` says which bytes a reader stands for.
+//!
 //! `request.rt` has the message with its calls, `reading.rt` and `writing.rt` what stands behind them, one function for each
 //! field and for what follows it. Reading takes no memory; `parts.rt` copies what was found whole. `specs/Reading.antt` has the same chain on lists, and `specs/Spelling.antt` the spelling.
 #![tactic(auto)]
@@ -19,15 +22,20 @@ mod creds_writing;
 pub mod early;
 pub mod early_laws;
 pub mod laws;
+mod length;
 pub mod mode;
 mod parts;
+mod place;
+mod reader;
 mod reading;
 pub mod request;
 mod sizes;
+mod walk;
 mod writing;
 
 pub use creds_reading::{read_ts_credentials, read_ts_credentials_from_slice};
 pub use creds_writing::write_ts_credentials;
 pub use early::{EARLY_USER_AUTH_RESULT_PDU_SIZE, EarlyUserAuthResult};
 pub use mode::CredSspMode;
+pub use reader::TsReader;
 pub use request::TsRequest;

@@ -1,5 +1,7 @@
+ghost use Rattle.std.specs.Prelude.{◌≤◌};
+
 use sspi_ber::{VecSink, WireKind};
-use sspi_tsreq::TsRequest;
+use sspi_tsreq::{TsReader, TsRequest};
 use sspi_types::Bytes;
 use std::alloc::{AllocError, Global};
 use std::process::Abort;
@@ -8,6 +10,7 @@ mod creds;
 mod early;
 mod faults;
 mod limits;
+mod pieces;
 mod requests;
 mod streams;
 mod tails;
@@ -33,15 +36,67 @@ const ERROR_CODE: &[u8] = &[
     0xc9, 0x57, 0xa3, 0x15, 0x12, 0xeb, 0x32,
 ];
 
-fn reads(rt: &impl Abort, alloc: Global, bytes: &[u8], request: &TsRequest) {
-    match TsRequest::from_buffer(alloc, bytes) {
+/// What a reader answers that is fed with the bytes, `size` of them at a time.
+fn fed(alloc: Global, bytes: &[u8], size: usize) -> Result<TsRequest, WireKind> {
+    let mut reader = TsReader::new(alloc);
+    let mut rest = bytes;
+    for _ in 0..bytes.len() {
+        if rest.is_empty() {
+            break;
+        }
+        let (piece, behind) = rest.split_at(size.min(rest.len()));
+        reader.feed(piece)?;
+        rest = behind;
+    }
+    reader.finish()
+}
+
+/// What a reader answers that is fed with the bytes in two pieces.
+fn fed_cut(alloc: Global, bytes: &[u8], at: usize) -> Result<TsRequest, WireKind> {
+    let (front, behind) = bytes.split_at(at.min(bytes.len()));
+    let mut reader = TsReader::new(alloc);
+    reader.feed(front)?;
+    reader.feed(behind)?;
+    reader.finish()
+}
+
+/// Longer texts are not cut at each place, and come in larger pieces.
+const LONGEST_CUT: usize = 200;
+
+/// The smallest pieces of a text of this length.
+fn least_size(len: usize) -> usize
+    ensures { result ≤ 1000 }
+{
+    if len > LONGEST_CUT { 1000 } else { 1 }
+}
+
+fn is_request(rt: &impl Abort, answer: Result<TsRequest, WireKind>, request: &TsRequest) {
+    match answer {
         Ok(read) => assert!(rt; read == *request),
         Err(kind) => assert_eq!(rt; Some(kind), None),
     }
 }
 
+/// The bytes begin with the request, whole or in whatever pieces.
+fn reads(rt: &impl Abort, alloc: Global, bytes: &[u8], request: &TsRequest) {
+    is_request(rt, TsRequest::from_buffer(alloc, bytes), request);
+    for size in 0..7 {
+        is_request(rt, fed(alloc, bytes, least_size(bytes.len()) + size), request);
+    }
+    for at in 0..bytes.len().min(LONGEST_CUT) {
+        is_request(rt, fed_cut(alloc, bytes, at), request);
+    }
+}
+
+/// The bytes have this fault, whole or in whatever pieces.
 fn refuses(rt: &impl Abort, alloc: Global, bytes: &[u8], kind: WireKind) {
     assert_eq!(rt; TsRequest::from_buffer(alloc, bytes).err(), Some(kind));
+    for size in 0..7 {
+        assert_eq!(rt; fed(alloc, bytes, least_size(bytes.len()) + size).err(), Some(kind));
+    }
+    for at in 0..bytes.len().min(LONGEST_CUT) {
+        assert_eq!(rt; fed_cut(alloc, bytes, at).err(), Some(kind));
+    }
 }
 
 fn writes(rt: &impl Abort, alloc: Global, request: &TsRequest, bytes: &[u8]) {

@@ -1,0 +1,15 @@
+use Rattle.std.proofs.Common.{ℕ, ◌-◌, ap, ◌∙◌, sym, arith}
+use Rattle.sspi_tsreq.specs.Places.{answered, code_from, code_then}
+use Rattle.sspi_tsreq.specs.Walks.{filled}
+use Rattle.sspi_tsreq.proofs.Walks.{code_more, code_end}
+use Rattle.sspi_tsreq.proofs.walk.Walk.code_byte.Goals as goal
+
+pub returns-then-more-gt0-clause-goes : goal.returns-then-more-gt0-clause-goes
+returns-then-more-gt0-clause-goes c =
+    λ base text. ap answered (code_more (filled base c.args.self.now) c.args.more c.args.value c.args.byte text c.if-more-gt0.true
+    ∙ ap (λ (low : ℕ). code_from (c.args.more - 1) low (filled base c.args.self.now) text) (sym c.push_low-low.ensures))
+
+pub returns-else-more-gt0-clause-goes : goal.returns-else-more-gt0-clause-goes
+returns-else-more-gt0-clause-goes c =
+    λ base text. ap answered (code_end (filled base c.args.self.now) c.args.more c.args.value c.args.byte text c.if-more-gt0.false
+    ∙ ap (λ (low : ℕ). code_then (filled base c.args.self.now) (low, text)) (sym c.push_low-low.ensures))

@@ -1,0 +1,402 @@
+//! A request that is read from pieces, as a stream gives them.
+
+ghost use Rattle.std.specs.Prelude.{◌≡◌, ◌≤◌, ℕ, List, [], ◌∷◌, ◌++◌, length, take, drop, None, Some, Ok, Err, IfOk, IfErr, IsOk, MatchBool, OnOk, OnErr};
+ghost use Rattle.sspi_ber.specs.Outside.{NeedsNoMemory};
+ghost use Rattle.sspi_tsreq.specs.declared.request.TsRequest.{TsRequest};
+ghost use Rattle.sspi_tsreq.specs.Answer.{IsAnswer};
+ghost use Rattle.sspi_tsreq.specs.Feeding.{EndsAs, IsOuter, IsPast, IsPastReading, lengthened, numbered, stage_of, Stands, StandsAt, StandsInside, WentOn};
+ghost use Rattle.sspi_tsreq.specs.Grammar.{IsRequest};
+ghost use Rattle.sspi_tsreq.specs.Places.{answered, from_tag, nonce_from, octets_of, rest_at, text_from, text_of, with_text};
+ghost use Rattle.sspi_tsreq.specs.Walks.{filled, from_field, from_inner, slot, IsHere, IsInText, IsQuiet, IsWithout, Opened};
+
+use crate::length::next_length;
+use crate::place::{Element, Field, Inner, LengthPart, LengthStep, Place, Stage, Text};
+use crate::request::TsRequest;
+use crate::walk::{Slot, Walk, after_text};
+use sspi_ber::WireKind;
+use sspi_types::Bytes;
+use std::alloc::{AllocError, Global};
+
+/// A reader of one request, which is fed with pieces of any size and keeps the fields that it read, not the bytes. It is told
+/// nothing of how long the request is, and keeps no more than came.
+#[derive(Drop)]
+pub struct TsReader {
+    alloc: Global,
+    stage: Stage,
+    nonce: [u8; 32],
+    request: TsRequest,
+}
+
+/// What one byte makes of the outer header.
+fn outer_step(stage: Stage, byte: u8) -> Stage
+    requires { IsOuter stage }
+    ensures stands { (nonce bytes : List ℕ) (r : TsRequest) → StandsAt nonce stage r bytes → StandsAt nonce result r (bytes ++ byte ∷ []) }
+    ensures past { IsPast stage → IsPast result }
+{
+    match stage {
+        Stage::OuterTag => {
+            if byte == 0x30 {
+                Stage::OuterLength(LengthPart::First)
+            } else {
+                Stage::Refused
+            }
+        }
+        Stage::OuterLength(part) => outer_stage(next_length(part, byte)),
+        Stage::Content(_, _) => stage,
+        Stage::Refused => Stage::Refused,
+    }
+}
+
+fn outer_stage(step: LengthStep) -> Stage
+    ensures { result ≡ stage_of step }
+{
+    match step {
+        LengthStep::Part(part) => Stage::OuterLength(part),
+        LengthStep::Known(len) => {
+            Stage::Content(len, Place::AtTag(Element::Required(Inner::Version)))
+        }
+        LengthStep::Bad => Stage::Refused,
+    }
+}
+
+fn is_outer(stage: Stage) -> bool
+    ensures { MatchBool result (IsOuter stage) (IsOuter stage → ⊥) }
+{
+    match stage {
+        Stage::OuterTag => true,
+        Stage::OuterLength(_) => true,
+        Stage::Content(_, _) => false,
+        Stage::Refused => true,
+    }
+}
+
+/// The outer header, as far as the piece has it, and how many of its bytes were read.
+fn read_outer(stage: Stage, piece: &[u8]) -> (Stage, usize)
+    ensures stands { (nonce bytes : List ℕ) (r : TsRequest) → StandsAt nonce stage r bytes → StandsAt nonce result.0 r (bytes ++ take result.1 piece.now) }
+    ensures within { result.1 ≤ length piece.now }
+    ensures whole { IsOuter result.0 → result.1 ≡ length piece.now }
+    ensures past { IsPast stage → IsPast result.0 }
+{
+    let mut stage = stage;
+    let mut taken = 0;
+    while taken < piece.len() {
+        if !is_outer(stage) {
+            return (stage, taken);
+        }
+        stage = outer_step(stage, piece[taken]);
+        taken += 1;
+    }
+    (stage, taken)
+}
+
+/// A copy of what stands in the piece.
+fn copied(alloc: Global, octets: Slot<'_>) -> Result<Option<Bytes>, AllocError>
+    ensures ok { IfOk result (λ copy. copy ≡ slot octets.entry None) }
+    ensures memory { IfErr result (λ _. IsHere octets.entry) }
+{
+    match octets {
+        Slot::Kept => Ok(None),
+        Slot::Absent => Ok(None),
+        Slot::Here(octets) => Ok(Some(Bytes::from_slice(alloc, octets)?)),
+    }
+}
+
+fn settle(field: &mut Option<Bytes>, octets: Slot<'_>, copy: Option<Bytes>)
+    requires { copy ≡ slot octets None }
+    ensures { field.new ≡ slot octets.entry field.old }
+{
+    match octets {
+        Slot::Kept => {}
+        Slot::Absent => *field = None,
+        Slot::Here(_) => *field = copy,
+    }
+}
+
+/// The bytes behind those that the field has; where memory is wanting the field stays as it was.
+fn lengthen(alloc: Global, field: &mut Option<Bytes>, octets: &[u8]) -> Result<(), AllocError>
+    ensures ok { OnOk result (field.new ≡ Some (octets_of field.old ++ octets.now)) }
+    ensures err { OnErr result (field.new ≡ field.old) }
+{
+    match field {
+        Some(bytes) => bytes.push_slice(octets),
+        None => {
+            *field = Some(Bytes::from_slice(alloc, octets)?);
+            Ok(())
+        }
+    }
+}
+
+/// The bytes of the piece that belong to the field in which the reader stands, and the place behind them.
+fn first_octets<'a>(place: Place, body: &'a [u8]) -> (&'a [u8], Place)
+    ensures front { result.0.now ≡ take (length result.0.now) body.now }
+    ensures within { length result.0.now ≤ length body.now }
+    ensures goes { (nonce more : List ℕ) (r : TsRequest) → rest_at nonce place r (result.0.now ++ more) ≡ rest_at nonce result.1 (lengthened place r result.0.now) more }
+    ensures text { IsInText result.1 → drop (length result.0.now) body.now ≡ [] }
+    ensures quiet { (Opened place → ⊥) → Opened result.1 → ⊥ }
+{
+    let none = body.split_at(0).0;
+    match place {
+        Place::InText(text, more) => octets_of_field(text, more, body),
+        Place::AtTag(_) => (none, place),
+        Place::InLength(_, _) => (none, place),
+        Place::InVersion(_, _) => (none, place),
+        Place::InCode(_, _) => (none, place),
+        Place::InNonce(_) => (none, place),
+        Place::Whole => (none, place),
+        Place::Faulty => (none, place),
+    }
+}
+
+fn octets_of_field<'a>(text: Text, more: u32, body: &'a [u8]) -> (&'a [u8], Place)
+    ensures front { result.0.now ≡ take (length result.0.now) body.now }
+    ensures within { length result.0.now ≤ length body.now }
+    ensures goes { (nonce rest : List ℕ) (r : TsRequest) → text_from text more r (result.0.now ++ rest) ≡ rest_at nonce result.1 (with_text text r (text_of text r ++ result.0.now)) rest }
+    ensures text { IsInText result.1 → drop (length result.0.now) body.now ≡ [] }
+{
+    if body.len() <= more as usize {
+        let left = more - body.len() as u32;
+        (body, Place::InText(text, left))
+    } else {
+        let octets = body.split_at(more as usize + 1).0;
+        (octets, Place::AtTag(Element::Optional(after_text(text))))
+    }
+}
+
+/// The request without the fields from this one on.
+fn without(field: Field, request: TsRequest) -> TsRequest
+    ensures { answered (from_field field request []) ≡ Ok result }
+{
+    let mut request = request;
+    match field {
+        Field::Nego => {
+            request.nego_tokens = None;
+            request.auth_info = None;
+            request.pub_key_auth = None;
+            request.error_code = None;
+            request.client_nonce = None;
+        }
+        Field::Auth => {
+            request.auth_info = None;
+            request.pub_key_auth = None;
+            request.error_code = None;
+            request.client_nonce = None;
+        }
+        Field::Key => {
+            request.pub_key_auth = None;
+            request.error_code = None;
+            request.client_nonce = None;
+        }
+        Field::Code => {
+            request.error_code = None;
+            request.client_nonce = None;
+        }
+        Field::Nonce => request.client_nonce = None,
+    }
+    request
+}
+
+/// What a content is that ends where this element may stand.
+fn tag_ended(element: Element, request: TsRequest) -> Result<TsRequest, WireKind>
+    ensures ends { EndsAs (answered (from_tag element request [])) result }
+    ensures memory { NeedsNoMemory result }
+{
+    match element {
+        Element::Optional(field) => Ok(without(field, request)),
+        Element::Required(inner) => missing(inner),
+    }
+}
+
+fn missing(inner: Inner) -> Result<TsRequest, WireKind>
+    ensures ends { (request : TsRequest) → EndsAs (answered (from_inner inner request [])) result }
+    ensures memory { NeedsNoMemory result }
+{
+    let _ = inner;
+    Err(WireKind::UnexpectedEof)
+}
+
+/// What is wrong with a nonce that ends here.
+fn nonce_fault(have: u32) -> WireKind
+    ensures ends { (nonce : List ℕ) (r : TsRequest) → EndsAs (answered (nonce_from nonce have r [])) (Err result) }
+    ensures memory { NeedsNoMemory {X = TsRequest} (Err result) }
+{
+    if have >= 32 {
+        WireKind::InvalidData
+    } else {
+        WireKind::UnexpectedEof
+    }
+}
+
+/// What a content is that ends here.
+fn ended(place: Place, request: TsRequest) -> Result<TsRequest, WireKind>
+    ensures ends { (nonce : List ℕ) → EndsAs (answered (rest_at nonce place request [])) result }
+    ensures memory { NeedsNoMemory result }
+{
+    match place {
+        Place::AtTag(element) => tag_ended(element, request),
+        Place::InLength(_, _) => Err(WireKind::UnexpectedEof),
+        Place::InVersion(_, _) => Err(WireKind::UnexpectedEof),
+        Place::InCode(_, _) => Err(WireKind::UnexpectedEof),
+        Place::InText(_, _) => Err(WireKind::UnexpectedEof),
+        Place::InNonce(have) => Err(nonce_fault(have)),
+        Place::Whole => Ok(request),
+        Place::Faulty => Err(WireKind::InvalidData),
+    }
+}
+
+impl TsReader {
+    /// A reader that was fed nothing. Takes no memory.
+    pub fn new(alloc: Global) -> TsReader
+        ensures { Stands result [] }
+    {
+        TsReader {
+            alloc,
+            stage: Stage::OuterTag,
+            nonce: [0; 32],
+            request: TsRequest::bare(0),
+        }
+    }
+
+    /// Reads on, with `piece` behind what was fed before. `InsufficientMemory` is the only refusal; it leaves the reader as it
+    /// was, so the same piece may be fed again. Memory is taken for the octets of fields alone: none while no byte was 0x04,
+    /// the identifier octet of an OCTET STRING, and none once the message is whole or its header is none. What stands behind
+    /// the request is dropped. Faults are told by `finish`.
+    pub fn feed(&mut self, piece: &[u8]) -> Result<(), WireKind>
+        ensures ok { (bytes : List ℕ) → Stands self.old bytes → OnOk result (Stands self.new (bytes ++ piece.now)) }
+        ensures err { OnErr result (self.new ≡ self.old) }
+        ensures kind { IfErr result (λ kind. kind ≡ WireKind.InsufficientMemory) }
+        ensures free { (bytes : List ℕ) → Stands self.old bytes → IsWithout 0x04 (bytes ++ piece.now) → IsOk result }
+        ensures past { (bytes : List ℕ) → Stands self.old bytes → IsPastReading bytes → IsOk result }
+    {
+        let (stage, taken) = read_outer(self.stage, piece);
+        match stage {
+            Stage::Content(left, place) => self.feed_content(left, place, &piece[taken..]),
+            Stage::OuterTag => self.stay(stage),
+            Stage::OuterLength(_) => self.stay(stage),
+            Stage::Refused => self.stay(stage),
+        }
+    }
+
+    /// What `from_buffer` answers on all that was fed: the request that it begins with, or its first fault. A fault of the
+    /// content is told only where the content is whole, and else `UnexpectedEof`. Takes no memory.
+    pub fn finish(self) -> Result<TsRequest, WireKind>
+        ensures answer { (bytes : List ℕ) → Stands self bytes → IsAnswer bytes result }
+        ensures only { (bytes : List ℕ) → Stands self bytes → (r : TsRequest) (count : ℕ) → IsRequest bytes r count → result ≡ Ok r }
+        ensures memory { NeedsNoMemory result }
+    {
+        match self.stage {
+            Stage::Content(left, place) => {
+                if left > 0 {
+                    return Err(WireKind::UnexpectedEof);
+                }
+                ended(place, self.request)
+            }
+            Stage::OuterTag => Err(WireKind::UnexpectedEof),
+            Stage::OuterLength(_) => Err(WireKind::UnexpectedEof),
+            Stage::Refused => Err(WireKind::UnexpectedEof),
+        }
+    }
+
+    /// The header is not whole, or is none.
+    fn stay(&mut self, stage: Stage) -> Result<(), WireKind>
+        ensures stage { self.new ≡ record self.old { stage = stage } }
+        ensures ok { IsOk result }
+    {
+        self.stage = stage;
+        Ok(())
+    }
+
+    /// As many bytes of the content as are still to come.
+    fn feed_content(&mut self, left: u32, place: Place, behind: &[u8]) -> Result<(), WireKind>
+        ensures ok { (bytes : List ℕ) → StandsInside self.old.nonce left place self.old.request bytes → OnOk result (Stands self.new (bytes ++ behind.now)) }
+        ensures err { OnErr result (self.new ≡ self.old) }
+        ensures kind { IfErr result (λ kind. kind ≡ WireKind.InsufficientMemory) }
+        ensures free { (Opened place → ⊥) → IsWithout 0x04 behind.now → IsOk result }
+        ensures past { left ≡ 0 → IsOk result }
+    {
+        let len = behind.len().min(left as usize);
+        if len == 0 {
+            self.stage = Stage::Content(left, place);
+            return Ok(());
+        }
+        self.read_content(left - len as u32, place, &behind[..len])?;
+        Ok(())
+    }
+
+    /// These bytes of the content, behind which `left` are to come.
+    fn read_content(&mut self, left: u32, place: Place, body: &[u8]) -> Result<(), AllocError>
+        ensures ok { OnOk result (WentOn self.old.nonce place self.old.request body.now left self.new) }
+        ensures err { OnErr result (self.new ≡ self.old) }
+        ensures free { (Opened place → ⊥) → IsWithout 0x04 body.now → IsOk result }
+    {
+        let (octets, behind) = first_octets(place, body);
+        let mut walk = self.walk(behind);
+        walk.advance(&body[octets.len()..]);
+        let nego_tokens = copied(self.alloc, walk.nego_tokens)?;
+        let auth_info = copied(self.alloc, walk.auth_info)?;
+        let pub_key_auth = copied(self.alloc, walk.pub_key_auth)?;
+        self.lengthen_field(place, octets)?;
+        settle(&mut self.request.nego_tokens, walk.nego_tokens, nego_tokens);
+        settle(&mut self.request.auth_info, walk.auth_info, auth_info);
+        settle(
+            &mut self.request.pub_key_auth,
+            walk.pub_key_auth,
+            pub_key_auth,
+        );
+        self.settle_rest(left, &walk);
+        Ok(())
+    }
+
+    /// A walk that begins here.
+    fn walk<'a>(&self, place: Place) -> Walk<'a>
+        ensures place { result.place ≡ place }
+        ensures nonce { result.nonce ≡ self.now.nonce }
+        ensures fields { (base : TsRequest) → filled base result ≡ numbered self.now.request base }
+        ensures quiet { (Opened place → ⊥) → IsQuiet result }
+    {
+        Walk {
+            place,
+            nonce: self.nonce,
+            version: self.request.version,
+            nego_tokens: Slot::Kept,
+            auth_info: Slot::Kept,
+            pub_key_auth: Slot::Kept,
+            error_code: self.request.error_code,
+            client_nonce: self.request.client_nonce,
+        }
+    }
+
+    fn lengthen_field(&mut self, place: Place, octets: &[u8]) -> Result<(), AllocError>
+        ensures ok { OnOk result (self.new ≡ record self.old { request = lengthened place self.old.request octets.now }) }
+        ensures err { OnErr result (self.new ≡ self.old) }
+        ensures memory { IfErr result (λ _. Opened place) }
+    {
+        match place {
+            Place::InText(Text::NegoTokens, _) => {
+                lengthen(self.alloc, &mut self.request.nego_tokens, octets)
+            }
+            Place::InText(Text::AuthInfo, _) => {
+                lengthen(self.alloc, &mut self.request.auth_info, octets)
+            }
+            Place::InText(Text::PubKeyAuth, _) => {
+                lengthen(self.alloc, &mut self.request.pub_key_auth, octets)
+            }
+            Place::AtTag(_) => Ok(()),
+            Place::InLength(_, _) => Ok(()),
+            Place::InVersion(_, _) => Ok(()),
+            Place::InCode(_, _) => Ok(()),
+            Place::InNonce(_) => Ok(()),
+            Place::Whole => Ok(()),
+            Place::Faulty => Ok(()),
+        }
+    }
+
+    fn settle_rest(&mut self, left: u32, walk: &Walk<'_>)
+        ensures { self.new ≡ record self.old { stage = Stage.Content left walk.now.place; nonce = walk.now.nonce; request = record self.old.request { version = walk.now.version; error_code = walk.now.error_code; client_nonce = walk.now.client_nonce } } }
+    {
+        self.stage = Stage::Content(left, walk.place);
+        self.nonce = walk.nonce;
+        self.request.version = walk.version;
+        self.request.error_code = walk.error_code;
+        self.request.client_nonce = walk.client_nonce;
+    }
+}
