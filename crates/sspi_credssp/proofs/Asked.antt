@@ -1,8 +1,10 @@
 -- What a call of a proxy is among the calls of a turn.
-use Rattle.std.proofs.Common.{◌≡◌, ◌∙◌, ◌+◌, ◌-◌, ◌<◌, ◌≤◌, ◌⊎◌, inl, inr, ℕ, zero, suc, add-zero, add-suc, List, [], Option, None, Some, Result, Ok, Err, OnOk, true, false, refl, sym, ap, subst, arith}
+use Rattle.std.proofs.Common.{◌≡◌, ◌∙◌, ◌+◌, ◌-◌, ◌<◌, ◌≤◌, ◌⊎◌, inl, inr, ℕ, zero, suc, add-zero, add-suc, List, [], Option, None}
+use Rattle.std.proofs.Common.{Some, Result, Ok, Err, OnOk, true, false, refl, sym, ap, subst, arith}
 use Rattle.sspi_credssp.specs.declared.proxy.ProxyError.{ProxyError}
 use Rattle.sspi_credssp.specs.declared.proxy.ProxyError.TheVariants.{NotFound, Failed, InsufficientMemory}
-use Rattle.sspi_credssp.specs.Proxy.{ProxyMeaning, ProxyTells, HasAnswered, HasAsked, IsLater, IsAsked, FailsAfter, TellsFailure, FailsAsTold, LookUpCause, counted_on, counted_after}
+use Rattle.sspi_credssp.specs.Proxy.{ProxyMeaning, ProxyTells, HasAnswered, HasAsked, IsLater, IsAsked, FailsAfter, TellsFailure}
+use Rattle.sspi_credssp.specs.Proxy.{FailsAsTold, LookUpCause, counted_on, counted_after}
 use Rattle.sspi_credssp.proofs.Proxies.{calm_look_up}
 
 rises : {X : Type 0} (before now : ℕ) (r : Result X ProxyError) → LookUpCause before now r → before ≤ now
@@ -48,7 +50,8 @@ module _ {P : Type 0} (p : ProxyMeaning P) where
     calm = λ calm. ap p.faults same;
   }
 
-  pub asked_on : (limit more : ℕ) (before mid now : P) → IsAsked p limit before mid → IsAsked p more mid now → IsAsked p (limit + more) before now
+  pub asked_on : (limit more : ℕ) (before mid now : P) → IsAsked p limit before mid → IsAsked p more mid now →
+      IsAsked p (limit + more) before now
   asked_on limit more before mid now first then = record {
     told_same = then.told_same ∙ first.told_same;
     counted = omega (arith, first.counted, then.counted);
@@ -67,10 +70,12 @@ module _ {P : Type 0} (p : ProxyMeaning P) where
   }
 
   -- exactly so many, none of which was told to fail
-  pub has_asked_once : {X : Type 0} (before : P) (r : Result X ProxyError) (now : P) → HasAnswered p before r now → OnOk r (HasAsked p 1 before now)
+  pub has_asked_once : {X : Type 0} (before : P) (r : Result X ProxyError) (now : P) → HasAnswered p before r now →
+      OnOk r (HasAsked p 1 before now)
   has_asked_once before (Ok x) now h = record {
     counted = h.counted;
-    unfailing = λ i first fails. told_failure _ _ _ _ x h.fails (subst (λ n. FailsAfter p n before) (let e : i ≡ 0 = omega (arith, first) in e) fails);
+    unfailing = λ i first fails. told_failure _ _ _ _ x h.fails
+        (subst (λ n. FailsAfter p n before) (let e : i ≡ 0 = omega (arith, first) in e) fails);
   }
   has_asked_once before (Err e) now h = tt
 
@@ -99,7 +104,8 @@ module _ {P : Type 0} (p : ProxyMeaning P) where
         (subst (λ x. TellsFailure (p.told before).failing (counted_after j x)) (sym first.counted)
         (subst (λ x. TellsFailure (p.told before).failing x) (counted_on_after n j (p.calls before)) fails))
 
-  pub turn_asked : {T E : Type 0} (before mid now : P) (n more : ℕ) (r : Result T E) → p.told mid ≡ p.told before → HasAsked p n before mid →
+  pub turn_asked : {T E : Type 0} (before mid now : P) (n more : ℕ) (r : Result T E) → p.told mid ≡ p.told before →
+      HasAsked p n before mid →
       OnOk r (HasAsked p more mid now) → OnOk r (HasAsked p (n + more) before now)
   turn_asked before mid now n more (Ok x) same first then = has_asked_on n more before mid now same first then
   turn_asked before mid now n more (Err e) same first then = tt
@@ -107,6 +113,7 @@ module _ {P : Type 0} (p : ProxyMeaning P) where
   pub asked_as : (n m : ℕ) (before now : P) → n ≡ m → IsAsked p n before now → IsAsked p m before now
   asked_as n m before now same h = subst (λ i. IsAsked p i before now) same h
 
-  pub on_ok_asked_as : {T E : Type 0} (n m : ℕ) (before now : P) (r : Result T E) → n ≡ m → OnOk r (HasAsked p n before now) → OnOk r (HasAsked p m before now)
+  pub on_ok_asked_as : {T E : Type 0} (n m : ℕ) (before now : P) (r : Result T E) → n ≡ m → OnOk r (HasAsked p n before now) →
+      OnOk r (HasAsked p m before now)
   on_ok_asked_as n m before now (Ok x) same h = has_asked_as n m before now same h
   on_ok_asked_as n m before now (Err e) same h = tt

@@ -21,11 +21,13 @@ use Rattle.sspi_credssp.specs.PublicKey.{prescribed}
 use Rattle.sspi_credssp.specs.Requests.{is_code}
 use Rattle.sspi_credssp.specs.Stops.{StopsIf}
 
-pub stops_map : (b : Bool) (here kind : ErrorKind) (Later Later2 : Type 0) → (Later → Later2) → StopsIf b here kind Later → StopsIf b here kind Later2
+pub stops_map : (b : Bool) (here kind : ErrorKind) (Later Later2 : Type 0) → (Later → Later2) → StopsIf b here kind Later →
+    StopsIf b here kind Later2
 stops_map true here kind Later Later2 f h = h
 stops_map false here kind Later Later2 f h = f h
 
-pub made_map : {C : Type 0} (old new : Option C) (Cause Later Later2 : Type 0) → (Later → Later2) → MadeOr old new Cause Later → MadeOr old new Cause Later2
+pub made_map : {C : Type 0} (old new : Option C) (Cause Later Later2 : Type 0) → (Later → Later2) → MadeOr old new Cause Later →
+    MadeOr old new Cause Later2
 made_map (Some m) new Cause Later Later2 f h = f h
 made_map None (Some m) Cause Later Later2 f h = f h
 made_map None None Cause Later Later2 f h = h
@@ -38,7 +40,8 @@ made_later None None Cause Later some h = cc
 module _ {C : Type 0} (c : Meaning ContextSetting C) where
   pub deliver_cause : (field : Option (List ℕ)) (blob : List ℕ) (new : ClientView C) (noted : ℕ) (m : C) (kind : ErrorKind) →
       IsSealedBlob field blob → new.noted ≡ Some noted → new.context ≡ Some m →
-      OpenedCause c new.acts.checked m blob (prescribed Server noted new.nonce new.public_key) (delegated_text new.credentials new.delegation) kind →
+      OpenedCause c new.acts.checked m blob (prescribed Server noted new.nonce new.public_key)
+      (delegated_text new.credentials new.delegation) kind →
       DeliverCause c field new kind
   deliver_cause None blob new noted m kind long n x h = absurd long
   deliver_cause (Some held) blob new noted m kind long n x h = rw long.passes (rw long.same (rw (n, x) h))
@@ -52,7 +55,8 @@ module _ {C : Type 0} (c : Meaning ContextSetting C) where
   state_cause_same Final d v new kind h = h
 
   -- a turn that was refused past the version check
-  pub client_cause_past : {T : Type 0} (old new : ClientView C) (d request : TsRequest) (state : CredSspState) (v : ℕ) (r : Result T Error) →
+  pub client_cause_past : {T : Type 0} (old new : ClientView C) (d request : TsRequest) (state : CredSspState) (v : ℕ)
+      (r : Result T Error) →
       is_waiting_in c old.context ≡ false → is_code d.error_code ≡ false →
       is_old_in old.context old.least old.noted d.version ≡ false → is_altered_in old.context old.noted d.version ≡ false →
       IsSome new.context → state ≡ old.state → request ≡ record d { version = v } →
@@ -75,4 +79,5 @@ module _ {C : Type 0} (c : Meaning ContextSetting C) where
   client_cause_begun old new d kind idle code h =
       rw (idle, code)
       (stops_map (is_old_in old.context old.least old.noted d.version) DowngradeDetected kind _ _
-      (stops_map (is_altered_in old.context old.noted d.version) MessageAltered kind _ _ (made_map old.context new.context _ _ _ (λ none. absurd none))) h)
+      (stops_map (is_altered_in old.context old.noted d.version) MessageAltered kind _ _
+      (made_map old.context new.context _ _ _ (λ none. absurd none))) h)

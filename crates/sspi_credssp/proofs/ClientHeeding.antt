@@ -2,7 +2,8 @@
 use Rattle.std.proofs.Common.{◌≡◌, ◌≢◌, ℕ, List, Option, None, Some, Result, Ok, Err, IfErr, IsErrAnd, Bool, true, false, refl, sym, subst}
 use Rattle.sspi_types.specs.declared.error.Error.{Error}
 use Rattle.sspi_types.specs.declared.error_kind.ErrorKind.{ErrorKind}
-use Rattle.sspi_types.specs.declared.error_kind.ErrorKind.TheVariants.{DowngradeDetected, OutOfSequence, InvalidToken, MessageAltered, InsufficientMemory}
+use Rattle.sspi_types.specs.declared.error_kind.ErrorKind.TheVariants.{DowngradeDetected, OutOfSequence, InvalidToken, MessageAltered}
+use Rattle.sspi_types.specs.declared.error_kind.ErrorKind.TheVariants.{InsufficientMemory}
 use Rattle.sspi_types.specs.declared.credential_use.CredentialUse.TheVariants.{Outbound}
 use Rattle.sspi_types.specs.declared.security_status.SecurityStatus.{SecurityStatus}
 use Rattle.sspi_types.specs.declared.security_status.SecurityStatus.TheVariants as statuses
@@ -18,8 +19,10 @@ use Rattle.sspi_credssp.specs.declared.state.CredSspState.{CredSspState}
 use Rattle.sspi_credssp.specs.declared.state.CredSspState.TheVariants.{NegoToken, PubKeyInfo, AuthInfo, Final}
 use Rattle.sspi_credssp.specs.Begun.{BeginCause, unmade, unacquired, IfContext, MadeOr}
 use Rattle.sspi_credssp.specs.Client.{ClientView}
-use Rattle.sspi_credssp.specs.ClientCause.{ClientCause, StateCause, NegoCause, ProveCause, BlobOpens, OpenedCause, CheckedCause, altered, unsealed, SealsCause}
-use Rattle.sspi_credssp.specs.ClientStep.{client_args, Asked, Walked, stepped, resumed, still_asked, recounted, OnStep, HasStepped, refused_answer}
+use Rattle.sspi_credssp.specs.ClientCause.{ClientCause, StateCause, NegoCause, ProveCause, BlobOpens, OpenedCause, CheckedCause}
+use Rattle.sspi_credssp.specs.ClientCause.{altered, unsealed, SealsCause}
+use Rattle.sspi_credssp.specs.ClientStep.{client_args, Asked, Walked, stepped, resumed, still_asked, recounted, OnStep, HasStepped}
+use Rattle.sspi_credssp.specs.ClientStep.{refused_answer}
 use Rattle.sspi_credssp.specs.Context.{ContextSetting, ForClient}
 use Rattle.sspi_credssp.specs.Counts.{is_waiting_in}
 use Rattle.sspi_credssp.specs.Credentials.{delegated_text}
@@ -62,7 +65,8 @@ made_never (Some m) new Cause Later refute never h = never h
 made_never None (Some m) Cause Later refute never h = never h
 made_never None None Cause Later refute never h = refute h
 
-pub blob_never : (field : Option (List ℕ)) (kind : ErrorKind) (Later : List ℕ → Type 0) → kind ≢ InvalidToken → ((blob : List ℕ) → Later blob → ⊥) →
+pub blob_never : (field : Option (List ℕ)) (kind : ErrorKind) (Later : List ℕ → Type 0) → kind ≢ InvalidToken →
+    ((blob : List ℕ) → Later blob → ⊥) →
     BlobStops field kind Later → ⊥
 blob_never None kind Later other never h = other h
 blob_never (Some blob) kind Later other never h = never blob (not_here _ InvalidToken kind (Later blob) other h).1
@@ -76,14 +80,17 @@ module _ {C : Type 0} (c : Meaning ContextSetting C) (never : NeverRefuses c Dow
   walked_other : (start : ClientView C) (handle : Option CredentialsBuffers) (token : Option (List ℕ)) (tries : ℕ) (log : List Asked)
       (answer : Answer) (error : Error) (m : C) → answer ≡ Refused error → Walked c start handle token tries log answer m → IsOther error
   walked_other start handle token tries log answer error m is (stepped m0 m1 a begun step) =
-      never.steps m0 m (client_args handle start.target token) error (subst (λ (x : Answer). c.steps m0 (client_args handle start.target token) x m) is step)
+      never.steps m0 m (client_args handle start.target token) error
+      (subst (λ (x : Answer). c.steps m0 (client_args handle start.target token) x m) is step)
   walked_other start handle token tries log answer error m is (resumed m1 m2 tried before q reply a walked step) =
       never.resumes m1 m reply error (subst (λ (x : Answer). c.resumes m1 reply x m) is step)
-  walked_other start handle token tries log answer error m is (still_asked m1 m2 tried before q reply refusal walked step waits) = absurd (cc (is))
+  walked_other start handle token tries log answer error m is (still_asked m1 m2 tried before q reply refusal walked step waits) =
+      absurd (cc (is))
   walked_other start handle token tries log answer error m is (recounted m1 m2 n tried before a walked counted quiet) =
       walked_other start handle token tried log answer error m1 is walked
 
-  stepped_other : (status : Option SecurityStatus) (negotiated : Bool) (start : ClientView C) (handle : Option CredentialsBuffers) (token : Option (List ℕ))
+  stepped_other : (status : Option SecurityStatus) (negotiated : Bool) (start : ClientView C) (handle : Option CredentialsBuffers)
+      (token : Option (List ℕ))
       (tries : ℕ) (log : List Asked) (output : List ℕ) (error : Error) (context : Option C) → status ≡ None → negotiated ≡ true →
       OnStep c negotiated (IfContext context (Walked c start handle token tries log (refused_answer status output error))) → IsOther error
   stepped_other status negotiated start handle token tries log output error None none was h = absurd (rw was at h)
@@ -113,7 +120,8 @@ module _ {C : Type 0} (c : Meaning ContextSetting C) (never : NeverRefuses c Dow
   opened_never false m blob proof text other h = never.calls m _ h
   opened_never true m blob proof text other h = checked_never m blob proof text other h
 
-  opens_never : (noted : Option ℕ) (context : Option C) (blob : List ℕ) (new : ClientView C) → BlobOpens c noted context blob new DowngradeDetected → ⊥
+  opens_never : (noted : Option ℕ) (context : Option C) (blob : List ℕ) (new : ClientView C) →
+      BlobOpens c noted context blob new DowngradeDetected → ⊥
   opens_never None context blob new h = h
   opens_never (Some v) None blob new h = h
   opens_never (Some v) (Some m) blob new h =
@@ -142,7 +150,8 @@ module _ {C : Type 0} (c : Meaning ContextSetting C) (never : NeverRefuses c Dow
       let why : ClientCause c old d new DowngradeDetected =
       subst (λ (k : ErrorKind). ClientCause c old d new k) is (cause (λ memory. absurd (cc (is, memory)))) in
       let unanswered : new.acts.status ≡ None → new.acts.negotiated ≡ true → ⊥ = λ none was.
-      stepped_other new.acts.status new.acts.negotiated old new.handle d.nego_tokens tries log new.output error new.context none was step is in
+      stepped_other new.acts.status new.acts.negotiated old new.handle d.nego_tokens tries log new.output error new.context none was step
+      is in
       let idle = not_here (is_waiting_in c old.context) OutOfSequence DowngradeDetected _ (λ e. absurd (cc (e))) why in
       let code = not_here (is_code d.error_code) InvalidToken DowngradeDetected _ (λ e. absurd (cc (e))) idle.1 in
       record {
@@ -151,22 +160,27 @@ module _ {C : Type 0} (c : Meaning ContextSetting C) (never : NeverRefuses c Dow
         old = here (is_old_in old.context old.least old.noted d.version) DowngradeDetected _ (λ later.
             made_never old.context new.context _ _ (begin_never (ForClient old.mode) (Some old.credentials))
             (state_never old.state d new unanswered)
-            (not_here (is_altered_in old.context old.noted d.version) MessageAltered DowngradeDetected _ (λ e. absurd (cc (e))) later).1) code.1;
+            (not_here (is_altered_in old.context old.noted d.version) MessageAltered DowngradeDetected _ (λ e. absurd (cc (e))) later).1)
+            code.1;
       }
 
   -- a resumed step refuses with that kind only where its context does
-  pub resumed_never : (start : ClientView C) (d : TsRequest) (tries : ℕ) (log : List Asked) (r : Result Progress Error) (new : ClientView C) →
-      IfErr r (λ error. error.error_type ≢ InsufficientMemory → NegoCause c new.acts.status new error.error_type) → HasStepped c start d tries log r new →
+  pub resumed_never : (start : ClientView C) (d : TsRequest) (tries : ℕ) (log : List Asked) (r : Result Progress Error)
+      (new : ClientView C) →
+      IfErr r (λ error. error.error_type ≢ InsufficientMemory → NegoCause c new.acts.status new error.error_type) →
+      HasStepped c start d tries log r new →
       IsErrAnd r (λ error. error.error_type ≡ DowngradeDetected) → ⊥
   resumed_never start d tries log (Ok progress) new cause step is = is
   resumed_never start d tries log (Err error) new cause step is =
       let unanswered : new.acts.status ≡ None → new.acts.negotiated ≡ true → ⊥ = λ none was.
-      stepped_other new.acts.status new.acts.negotiated start new.handle d.nego_tokens tries log new.output error new.context none was step is in
+      stepped_other new.acts.status new.acts.negotiated start new.handle d.nego_tokens tries log new.output error new.context none was
+      step is in
       nego_never new.acts.status new unanswered
       (subst (λ (k : ErrorKind). NegoCause c new.acts.status new k) is (cause (λ memory. absurd (cc (is, memory)))))
 
   pub client_only : (old : ClientView C) (d : TsRequest) (tries : ℕ) (log : List Asked) (r : Result Progress Error) (new : ClientView C) →
-      IfErr r (λ error. error.error_type ≢ InsufficientMemory → ClientCause c old d new error.error_type) → HasStepped c old d tries log r new →
+      IfErr r (λ error. error.error_type ≢ InsufficientMemory → ClientCause c old d new error.error_type) →
+      HasStepped c old d tries log r new →
       IsErrAnd r (λ error. error.error_type ≡ DowngradeDetected) → ClientMeetsOld c old d
   client_only old d tries log (Ok progress) new cause step is = absurd is
   client_only old d tries log (Err error) new cause step is = client_met old d tries log error new cause step is

@@ -57,5 +57,6 @@ knowing_lawful c laws = record {
 pub lawful : {N K : Type 0} (requests asks : ℕ) (n : Meaning Setting N) (k : Meaning Setting K) →
     IsMechanism requests n → IsMechanism asks k → IsContext (either requests n k)
 lawful requests asks n k of_n of_k = seen_lawful made_of as_sum of_sum there again _ (sum_lawful _ _
-    (sum_lawful _ _ (taking_lawful (filter has_password) n (contextual requests n of_n)) (taking_lawful (take 1) k (contextual asks k of_k)))
+    (sum_lawful _ _ (taking_lawful (filter has_password) n (contextual requests n of_n))
+    (taking_lawful (take 1) k (contextual asks k of_k)))
     (knowing_lawful _ (negotiate_lawful requests asks n k of_n of_k)))

@@ -14,7 +14,9 @@ use Rattle.sspi_names.specs.declared.identity.AuthIdentity.{AuthIdentity}
 use Rattle.sspi_names.specs.declared.identity.AuthIdentityBuffers.{AuthIdentityBuffers}
 use Rattle.sspi_names.specs.Credentials.{credentials_buffers_of}
 use Rattle.sspi_tsreq.specs.declared.mode.CredSspMode.{CredSspMode}
-use Rattle.sspi_tsreq.specs.Creds.{Fields, Passwords, fields_at, passwords_at, malformed, unknown_type, smart_card, keytab_refused, too_long, ◌and_then◌, spelled_or_malformed, password_type, text_or_refused, texts_of, creds_in, creds_of, creds_text, buffers_text, spelled_if_fits}
+use Rattle.sspi_tsreq.specs.Creds.{Fields, Passwords, fields_at, passwords_at, malformed, unknown_type, smart_card, keytab_refused}
+use Rattle.sspi_tsreq.specs.Creds.{too_long, ◌and_then◌, spelled_or_malformed, password_type, text_or_refused, texts_of, creds_in}
+use Rattle.sspi_tsreq.specs.Creds.{creds_of, creds_text, buffers_text, spelled_if_fits}
 use Rattle.sspi_credssp.specs.Credentials.{delegated_text, delegated_identity, identity_in, named_or_refused}
 
 abbrev pub IfRefused : (Error → Type 0) → {A : Type 0} → Result A Error → Type 0
@@ -36,7 +38,8 @@ pub record OfEach (Q : Error → Type 0) : Type 0 where
   pub of_memory : Q memory_error
 
 module _ (Q : Error → Type 0) (q : OfEach Q) where
-  so_then : {A B : Type 0} (r : Result A Error) (next : A → Result B Error) → IfRefused Q r → ((x : A) → IfRefused Q (next x)) → IfRefused Q (r and_then next)
+  so_then : {A B : Type 0} (r : Result A Error) (next : A → Result B Error) → IfRefused Q r → ((x : A) → IfRefused Q (next x)) →
+      IfRefused Q (r and_then next)
   so_then (Ok x) next h n = n x
   so_then (Err error) next h n = h
 
@@ -44,7 +47,8 @@ module _ (Q : Error → Type 0) (q : OfEach Q) where
   so_if true x y h k = h
   so_if false x y h k = k
 
-  so_by_cases : {X F B : Type 0} (f : Result X F → Result B Error) → ((x : X) → IfRefused Q (f (Ok x))) → ((e : F) → IfRefused Q (f (Err e))) →
+  so_by_cases : {X F B : Type 0} (f : Result X F → Result B Error) → ((x : X) → IfRefused Q (f (Ok x))) →
+      ((e : F) → IfRefused Q (f (Err e))) →
       (r : Result X F) → IfRefused Q (f r)
   so_by_cases f h k (Ok x) = h x
   so_by_cases f h k (Err e) = k e

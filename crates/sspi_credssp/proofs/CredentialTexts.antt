@@ -78,5 +78,6 @@ text_unwritten credentials mode buffers error same (inr w) memory = absurd (memo
 
 pub unwritten_plain : (mode : CredSspMode) (buffers : CredentialsBuffers) (error : Error) →
     (creds_text buffers mode ≡ Err error) ⊎ (error ≡ memory_error) → error.nstatus ≡ None
-unwritten_plain mode buffers error (inl w) = refused_so IsPlain (creds_text buffers mode) error (so_text_of IsPlain each_plain buffers mode) w
+unwritten_plain mode buffers error (inl w) = refused_so IsPlain (creds_text buffers mode) error
+    (so_text_of IsPlain each_plain buffers mode) w
 unwritten_plain mode buffers error (inr w) = ap (λ (x : Error). x.nstatus) w

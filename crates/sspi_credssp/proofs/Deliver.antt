@@ -15,13 +15,16 @@ module _ {S C : Type 0} (c : Meaning S C) (laws : IsContext c) where
 
   pub bare_after : (m m2 : C) (n : Counts) → m2 ≡ c.counted m n → silent n ≡ silent (c.counts m) → cleared c m2 ≡ cleared c m
   bare_after m m2 n e quiet =
-      rw e (laws.counted_counted m n (silent (c.counts (c.counted m n))) ∙ ap (λ k. c.counted m (silent k)) (laws.counts_counted m n) ∙ ap (c.counted m) quiet)
+      rw e (laws.counted_counted m n (silent (c.counts (c.counted m n))) ∙ ap (λ k. c.counted m (silent k)) (laws.counts_counted m n) ∙ ap
+      (c.counted m) quiet)
 
-  pub opens_still : (m m2 : C) (n : Counts) (i : ℕ) (blob text : List ℕ) → m2 ≡ c.counted m n → c.opens m i blob text → c.opens m2 i blob text
+  pub opens_still : (m m2 : C) (n : Counts) (i : ℕ) (blob text : List ℕ) → m2 ≡ c.counted m n → c.opens m i blob text →
+      c.opens m2 i blob text
   opens_still m m2 n i blob text e o =
       laws.opens_counted m2 (c.counts m) i blob text (subst (λ x. c.opens x i blob text) (sym (counted_back m m2 n e)) o)
 
-  pub seals_still : (m m2 : C) (n : Counts) (i : ℕ) (text blob : List ℕ) → m2 ≡ c.counted m n → c.seals m i text blob → c.seals m2 i text blob
+  pub seals_still : (m m2 : C) (n : Counts) (i : ℕ) (text blob : List ℕ) → m2 ≡ c.counted m n → c.seals m i text blob →
+      c.seals m2 i text blob
   seals_still m m2 n i text blob e o =
       laws.seals_counted m2 (c.counts m) i text blob (subst (λ x. c.seals x i text blob) (sym (counted_back m m2 n e)) o)
 

@@ -1,5 +1,6 @@
 -- The walk of a carry over a little-endian number, and that it adds one or takes one away.
-use Rattle.std.proofs.Common.{◌≡◌, ℕ, zero, suc, ◌+◌, ◌-◌, ◌*◌, ◌/◌, ◌%◌, ◌^◌, ◌<◌, ◌≤◌, ◌≢◌, inl, inr, false, add-one, lit<, cond, eqb, List, [], ◌∷◌, ◌++◌, length, take, drop, get_or, All, refl, sym, ◌∙◌, ap, arith}
+use Rattle.std.proofs.Common.{◌≡◌, ℕ, zero, suc, ◌+◌, ◌-◌, ◌*◌, ◌/◌, ◌%◌, ◌^◌, ◌<◌, ◌≤◌, ◌≢◌, inl, inr, false, add-one, lit<, cond}
+use Rattle.std.proofs.Common.{eqb, List, [], ◌∷◌, ◌++◌, length, take, drop, get_or, All, refl, sym, ◌∙◌, ap, arith}
 use Rattle.std.proofs.lemmas.Bool.Decides.{eqb_tells}
 use Rattle.std.proofs.lemmas.List.Elements.{All-head, All-tail}
 use Rattle.std.proofs.Math.Dec.{eqb-suc-zero}
@@ -62,8 +63,10 @@ carried-adds (b ∷ bs) h =
     let v = little_endian bs in
     let in_range : b < 256 = h.0 in
     elim (eqb_tells b 255) [
-      | inl w ↦ rw w.0 (ap (λ xs. 0 ∷ xs) (carried-adds bs h.1) ∙ sym (digits (length bs) 0 (v + 1) (b + 256 * v + 1) (lit< tt) (let e : b ≡ 255 = w.1 in omega arith)))
-      | inr w ↦ rw w.0 (ap (λ xs. (b + 1) ∷ xs) (sym (bytes_of-little_endian bs h.1)) ∙ sym (digits (length bs) (b + 1) v (b + 256 * v + 1) (let d : b ≢ 255 = w.1 in omega arith) (omega arith)))
+      | inl w ↦ rw w.0 (ap (λ xs. 0 ∷ xs) (carried-adds bs h.1) ∙ sym
+          (digits (length bs) 0 (v + 1) (b + 256 * v + 1) (lit< tt) (let e : b ≡ 255 = w.1 in omega arith)))
+      | inr w ↦ rw w.0 (ap (λ xs. (b + 1) ∷ xs) (sym (bytes_of-little_endian bs h.1)) ∙ sym
+          (digits (length bs) (b + 1) v (b + 256 * v + 1) (let d : b ≢ 255 = w.1 in omega arith) (omega arith)))
     ]
 
 pub power_positive : (k : ℕ) → 1 ≤ 256 ^ k
@@ -78,8 +81,11 @@ borrowed-takes (b ∷ bs) h =
     let q : 1 ≤ p = power_positive (length bs) in
     let in_range : b < 256 = h.0 in
     elim (eqb_tells b 0) [
-      | inl w ↦ rw (w.0, power_suc (length bs)) (ap (λ xs. 255 ∷ xs) (borrowed-takes bs h.1) ∙ sym (digits (length bs) 255 (v + (p - 1)) (b + 256 * v + (256 * p - 1)) (lit< tt) (let e : b ≡ 0 = w.1 in omega arith)))
-      | inr w ↦ rw (w.0, power_suc (length bs)) (ap (λ xs. (b - 1) ∷ xs) (sym (bytes_of-little_endian bs h.1) ∙ sym (bytes_of-wrap (length bs) v)) ∙ sym (digits (length bs) (b - 1) (v + p) (b + 256 * v + (256 * p - 1)) (omega arith) (let d : b ≢ 0 = w.1 in omega arith)))
+      | inl w ↦ rw (w.0, power_suc (length bs)) (ap (λ xs. 255 ∷ xs) (borrowed-takes bs h.1) ∙ sym
+          (digits (length bs) 255 (v + (p - 1)) (b + 256 * v + (256 * p - 1)) (lit< tt) (let e : b ≡ 0 = w.1 in omega arith)))
+      | inr w ↦ rw (w.0, power_suc (length bs)) (ap (λ xs. (b - 1) ∷ xs)
+          (sym (bytes_of-little_endian bs h.1) ∙ sym (bytes_of-wrap (length bs) v)) ∙ sym
+          (digits (length bs) (b - 1) (v + p) (b + 256 * v + (256 * p - 1)) (omega arith) (let d : b ≢ 0 = w.1 in omega arith)))
     ]
 
 pub AreBytes-each : (bs : List ℕ) → ((k : ℕ) → get_or bs k 0 < 256) → AreBytes bs
@@ -124,14 +130,16 @@ decremented-incremented bs h =
     rw (sym (carried-incremented bs h)) (sym (borrowed-decremented (carried bs) (carried-bytes bs h)) ∙ borrowed-carried bs h)
 
 -- where a walk stops it has written one more byte, and what it leaves stays
-pub carried_stops : (i : ℕ) (bs : List ℕ) → i < length bs → get_or bs i 0 ≢ 255 → take i bs ++ carried (drop i bs) ≡ set bs i (get_or bs i 0 + 1)
+pub carried_stops : (i : ℕ) (bs : List ℕ) → i < length bs → get_or bs i 0 ≢ 255 →
+    take i bs ++ carried (drop i bs) ≡ set bs i (get_or bs i 0 + 1)
 carried_stops i [] h n = absurd (omega arith)
 carried_stops zero (b ∷ bs) h n = rw eqb-no refl where
   eqb-no : eqb b 255 ≡ false
   eqb-no = elim (eqb_tells b 255) [ inl w ↦ absurd (n w.1) | inr w ↦ w.0 ]
 carried_stops (suc i) (b ∷ bs) h n = ap (λ xs. b ∷ xs) (carried_stops i bs (omega arith) n)
 
-pub borrowed_stops : (i : ℕ) (bs : List ℕ) → i < length bs → get_or bs i 0 ≢ 0 → take i bs ++ borrowed (drop i bs) ≡ set bs i (get_or bs i 0 - 1)
+pub borrowed_stops : (i : ℕ) (bs : List ℕ) → i < length bs → get_or bs i 0 ≢ 0 →
+    take i bs ++ borrowed (drop i bs) ≡ set bs i (get_or bs i 0 - 1)
 borrowed_stops i [] h n = absurd (omega arith)
 borrowed_stops zero (b ∷ bs) h n = rw eqb-no refl where
   eqb-no : eqb b 0 ≡ false

@@ -1,5 +1,6 @@
 -- The entries of a name, one entry after the other.
-use Rattle.std.proofs.Common.{◌≡◌, ◌<◌, ◌+◌, ◌++◌, ℕ, List, [], ◌∷◌, length, take, get_or, cond, Bool, true, false, refl, sym, ◌∙◌, ap, append-nil, Option, None, Some, Result, Ok, Err}
+use Rattle.std.proofs.Common.{◌≡◌, ◌<◌, ◌+◌, ◌++◌, ℕ, List, [], ◌∷◌, length, take, get_or, cond, Bool, true, false, refl, sym, ◌∙◌, ap}
+use Rattle.std.proofs.Common.{append-nil, Option, None, Some, Result, Ok, Err}
 use Rattle.std.proofs.lemmas.List.Elements.{filter_more}
 use Rattle.sspi_names.specs.declared.identity.AuthIdentity.{AuthIdentity}
 use Rattle.sspi_names.specs.Name.{Name}
@@ -27,20 +28,23 @@ candidates_at entries name i d named lt item is =
     ∙ ap (λ b. candidates_of (take i entries) name ++ cond b (d ∷ []) []) is
 
 -- an entry of that name is copied, and another is not
-pub candidates_taken : (entries : List AuthIdentity) (name : Name) (i : ℕ) (d : AuthIdentity) (before after : List AuthIdentity) → i < length entries →
+pub candidates_taken : (entries : List AuthIdentity) (name : Name) (i : ℕ) (d : AuthIdentity) (before after : List AuthIdentity) →
+    i < length entries →
     d ≡ get_or entries i d → is_named name d ≡ true → after ≡ before ++ (d ∷ []) → before ≡ candidates_of (take i entries) name →
     after ≡ candidates_of (take (i + 1) entries) name
 candidates_taken entries name i d before after lt item is pushed held =
     pushed ∙ ap (λ xs. xs ++ (d ∷ [])) held ∙ sym (candidates_at entries name i d true lt item is)
 
-pub candidates_left : (entries : List AuthIdentity) (name : Name) (i : ℕ) (d : AuthIdentity) (before after : List AuthIdentity) → i < length entries →
+pub candidates_left : (entries : List AuthIdentity) (name : Name) (i : ℕ) (d : AuthIdentity) (before after : List AuthIdentity) →
+    i < length entries →
     d ≡ get_or entries i d → is_named name d ≡ false → after ≡ before → before ≡ candidates_of (take i entries) name →
     after ≡ candidates_of (take (i + 1) entries) name
 candidates_left entries name i d before after lt item is same held =
     same ∙ held ∙ sym (candidates_at entries name i d false lt item is ∙ append-nil _)
 
 -- where no failing call is told, none fails
-pub calm_look_up : {X : Type 0} (failing : Option (List ℕ)) (call before now : ℕ) (answer : Result X ProxyError) → FailsAsTold failing call before now answer → failing ≡ Some [] → now ≡ before
+pub calm_look_up : {X : Type 0} (failing : Option (List ℕ)) (call before now : ℕ) (answer : Result X ProxyError) →
+    FailsAsTold failing call before now answer → failing ≡ Some [] → now ≡ before
 calm_look_up None call before now answer told none = absurd cc
 calm_look_up (Some numbers) call before now (Ok x) told none = told.1
 calm_look_up (Some numbers) call before now (Err NotFound) told none = told.1

@@ -1,5 +1,6 @@
 -- A server's call that is refused while it makes its context or looks at its client's version.
-use Rattle.std.proofs.Common.{inl, ◌≡◌, ◌+◌, ℕ, List, [], Option, None, Some, IsSome, Result, Ok, Err, OnOk, OnErr, Bool, true, false, refl, sym, ◌∙◌, ap, subst, arith}
+use Rattle.std.proofs.Common.{inl, ◌≡◌, ◌+◌, ℕ, List, [], Option, None, Some, IsSome, Result, Ok, Err, OnOk, OnErr, Bool, true, false}
+use Rattle.std.proofs.Common.{refl, sym, ◌∙◌, ap, subst, arith}
 use Rattle.sspi_types.specs.declared.credential_use.CredentialUse.TheVariants.{Inbound}
 use Rattle.sspi_types.specs.declared.error.Error.{Error}
 use Rattle.sspi_names.specs.declared.identity.AuthIdentity.{AuthIdentity}
@@ -54,7 +55,8 @@ module _ {C : Type 0} (c : Meaning ContextSetting C) where
 
   module _ {P : Type 0} where
     as_new : (told : Option (List AuthIdentity)) (old new : ServerView C P) (o : Option C) →
-        IfContext o (λ m. Begun c old.context old.handle (ForServer old.mode told) Inbound None new.handle m) → IfContext o (IsNew c old new)
+        IfContext o (λ m. Begun c old.context old.handle (ForServer old.mode told) Inbound None new.handle m) →
+        IfContext o (IsNew c old new)
     as_new told old new None h = h
     as_new told old new (Some m) h = is_made told h
 
@@ -79,17 +81,26 @@ module _ {C : Type 0} (c : Meaning ContextSetting C) where
         }
 
     -- what a server says of its last call is nothing of its context
-    new_still : (old new : ServerView C P) (acts : Acts) (output : List ℕ) (m : C) → IsNew c (record old { acts = acts; output = output }) new m → IsNew c old new m
+    new_still : (old new : ServerView C P) (acts : Acts) (output : List ℕ) (m : C) →
+        IsNew c (record old { acts = acts; output = output }) new m → IsNew c old new m
     new_still old new acts output m (is_made told begun) = is_made told begun
 
-    unstepped_still : (old new : ServerView C P) (acts : Acts) (output : List ℕ) → IsUnstepped c (record old { acts = acts; output = output }) new →
+    unstepped_still : (old new : ServerView C P) (acts : Acts) (output : List ℕ) →
+        IsUnstepped c (record old { acts = acts; output = output }) new →
         IsUnstepped c old new
     unstepped_still old new acts output h = unless_map old.context new.context _ _ (new_still old new acts output) h
 
     -- the turn that such a call is
     pub begin_halted : (old new : ServerView C P) (d : TsRequest) (error : Error) (refusal : ServerError) (state : CredSspState) →
         BeginRefused c (record old { acts = no_acts; output = [] }) d.version new →
-        new ≡ record old { proxy = new.proxy; context = new.context; handle = new.handle; noted = new.noted; acts = no_acts; output = [] } → state ≡ old.state →
+        new ≡ record old {
+          proxy = new.proxy;
+          context = new.context;
+          handle = new.handle;
+          noted = new.noted;
+          acts = no_acts;
+          output = [];
+        } → state ≡ old.state →
         refusal ≡ record { ts_request = Some (error_request state d.version error.error_type d); error = error } →
         ServerTurn c old d (outcome.Refused refusal.error.error_type refusal.ts_request) new
     begin_halted old new d error refusal state refused is stays given =

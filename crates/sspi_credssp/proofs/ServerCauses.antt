@@ -15,7 +15,8 @@ use Rattle.sspi_credssp.specs.Begun.{IfContext, MadeOr}
 use Rattle.sspi_credssp.specs.Context.{ContextSetting}
 use Rattle.sspi_credssp.specs.Proxy.{ProxyMeaning, ProxyTells, IsLater, AreFound}
 use Rattle.sspi_credssp.specs.Server.{ServerView}
-use Rattle.sspi_credssp.specs.ServerCause.{ServerCause, MakeCause, StateCause, NegoCause, AfterCause, OverCause, known, IdentifyCause, nameless, looked, unset, LookUpRefused, failed, nobody}
+use Rattle.sspi_credssp.specs.ServerCause.{ServerCause, MakeCause, StateCause, NegoCause, AfterCause, OverCause, known, IdentifyCause}
+use Rattle.sspi_credssp.specs.ServerCause.{nameless, looked, unset, LookUpRefused, failed, nobody}
 use Rattle.sspi_credssp.specs.ServerStep.{Completed, HasCome}
 use Rattle.sspi_credssp.specs.Shown.{IsOver}
 use Rattle.sspi_credssp.specs.Noted.{differs, is_old, VersionStops}
@@ -63,7 +64,8 @@ module _ {C : Type 0} (c : Meaning ContextSetting C) where
     over_causes s old d new (Err e) over h = λ memory. over_cause s old d new e.error_type over (h memory)
 
     -- once the context has come to its end
-    pub known_causes : {T : Type 0} (s : SecurityStatus) (old : ServerView C P) (d request : TsRequest) (v : ℕ) (new : ServerView C P) (r : Result T Error) →
+    pub known_causes : {T : Type 0} (s : SecurityStatus) (old : ServerView C P) (d request : TsRequest) (v : ℕ) (new : ServerView C P)
+        (r : Result T Error) →
         request ≡ record d { version = v } → HasCome c p Completed s old d new →
         IfErr r (λ e. e.error_type ≢ InsufficientMemory → AfterCause c request.pub_key_auth request.client_nonce new e.error_type) →
         IfErr r (λ e. e.error_type ≢ InsufficientMemory → OverCause c p s old d new e.error_type)
@@ -81,6 +83,7 @@ module _ {C : Type 0} (c : Meaning ContextSetting C) where
     pub identified_since : (m : C) (before mid : P) (now : ℕ) (kind : ErrorKind) → IsLater p before mid →
         IdentifyCause c m (p.told mid) (p.faults mid) now kind → IdentifyCause c m (p.told before) (p.faults before) now kind
     identified_since m before mid now kind later (nameless refused) = nameless refused
-    identified_since m before mid now kind later (looked name named refused) = looked name named (looked_since name before mid now kind later refused)
+    identified_since m before mid now kind later (looked name named refused) =
+        looked name named (looked_since name before mid now kind later refused)
     identified_since m before mid now kind later (unset name identities named found some refused) =
         unset name identities named (subst (λ (t : ProxyTells). AreFound t name identities) later.told_same found) some refused

@@ -1,5 +1,6 @@
 -- A server refuses for the age of its client's version exactly where it meets one, but where its context refuses so.
-use Rattle.std.proofs.Common.{◌≡◌, ◌≢◌, ℕ, List, Option, None, Some, IsSome, Result, Ok, Err, IfErr, IsErrAnd, Bool, true, false, refl, sym, subst}
+use Rattle.std.proofs.Common.{◌≡◌, ◌≢◌, ℕ, List, Option, None, Some, IsSome, Result, Ok, Err, IfErr, IsErrAnd, Bool, true, false, refl}
+use Rattle.std.proofs.Common.{sym, subst}
 use Rattle.sspi_types.specs.declared.error.Error.{Error}
 use Rattle.sspi_types.specs.declared.error_kind.ErrorKind.{ErrorKind}
 use Rattle.sspi_types.specs.declared.error_kind.ErrorKind.TheVariants.{DowngradeDetected, InvalidToken, MessageAltered, InsufficientMemory}
@@ -28,8 +29,12 @@ use Rattle.sspi_credssp.specs.Proxy.{ProxyMeaning, ProxyTells}
 use Rattle.sspi_credssp.specs.PublicKey.{prescribed}
 use Rattle.sspi_credssp.specs.Requests.{nonce_of}
 use Rattle.sspi_credssp.specs.Server.{ServerView}
-use Rattle.sspi_credssp.specs.ServerCause.{ServerCause, MakeCause, unlisted, unbegun, ListRefused, StateCause, NegoCause, OverCause, unknown, incomplete, known, AfterCause, ExchangeCause, BlobCause, ProofCause, AnswerCause, altered, unsealed, OpenedCause, UnreadCause, unread, IdentifyCause, nameless, looked, unset, LookUpRefused, failed, nobody, lacks_nonce}
-use Rattle.sspi_credssp.specs.ServerStep.{server_args, Knowing, Unknown, Identified, Accepted, accepted, identified, completed, recounted, OnStep, RefusedAt, HasAccepted, HasAcceptedTurn, refused_step}
+use Rattle.sspi_credssp.specs.ServerCause.{ServerCause, MakeCause, unlisted, unbegun, ListRefused, StateCause, NegoCause, OverCause}
+use Rattle.sspi_credssp.specs.ServerCause.{unknown, incomplete, known, AfterCause, ExchangeCause, BlobCause, ProofCause, AnswerCause}
+use Rattle.sspi_credssp.specs.ServerCause.{altered, unsealed, OpenedCause, UnreadCause, unread, IdentifyCause, nameless, looked, unset}
+use Rattle.sspi_credssp.specs.ServerCause.{LookUpRefused, failed, nobody, lacks_nonce}
+use Rattle.sspi_credssp.specs.ServerStep.{server_args, Knowing, Unknown, Identified, Accepted, accepted, identified, completed}
+use Rattle.sspi_credssp.specs.ServerStep.{recounted, OnStep, RefusedAt, HasAccepted, HasAcceptedTurn, refused_step}
 use Rattle.sspi_credssp.proofs.ClientHeeding.{IsOther, each_other, not_here, here, blob_never}
 use Rattle.sspi_credssp.proofs.CredentialRefusals.{refused_so, so_read}
 
@@ -41,7 +46,8 @@ list_never : (mode : ServerMode) (before now : ℕ) → ListRefused mode before 
 list_never (modes.Negotiate config) before now h = let kind = h.1 in absurd (cc (kind))
 list_never (modes.Ntlm config) before now h = h
 
-begun_by : {C : Type 0} (old new : Option C) (Cause Later : Type 0) → (Cause → ⊥) → (IsSome old → IsSome new) → MadeOr old new Cause Later → IsSome new × Later
+begun_by : {C : Type 0} (old new : Option C) (Cause Later : Type 0) → (Cause → ⊥) → (IsSome old → IsSome new) →
+    MadeOr old new Cause Later → IsSome new × Later
 begun_by (Some m) new Cause Later refute keeps h = (keeps refl, h)
 begun_by None (Some m) Cause Later refute keeps h = (refl, h)
 begun_by None None Cause Later refute keeps h = absurd (refute h)
@@ -83,9 +89,11 @@ module _ {C : Type 0} (c : Meaning ContextSetting C) (never : NeverRefuses c Dow
     make_never mode before now (unbegun h) = begin_never _ h
 
     accepted_other : (start : ServerView C P) (handle : Option CredentialsBuffers) (token : Option (List ℕ)) (knowing : Knowing)
-        (answer : Result Step Error) (error : Error) (m : C) → answer ≡ Err error → Accepted c p start handle token knowing answer m → IsOther error
+        (answer : Result Step Error) (error : Error) (m : C) → answer ≡ Err error → Accepted c p start handle token knowing answer m →
+        IsOther error
     accepted_other start handle token knowing answer error m is (accepted m0 m1 a begun step) =
-        never.accepts m0 m (server_args handle token) error (subst (λ (x : Result Step Error). c.accepts m0 (server_args handle token) x m) is step)
+        never.accepts m0 m (server_args handle token) error (subst
+        (λ (x : Result Step Error). c.accepts m0 (server_args handle token) x m) is step)
     accepted_other start handle token knowing answer error m is (identified m1 m2 a before found) =
         accepted_other start handle token Unknown answer error m1 is before
     accepted_other start handle token knowing answer error m is (completed m1 a before permitted) =
@@ -95,7 +103,8 @@ module _ {C : Type 0} (c : Meaning ContextSetting C) (never : NeverRefuses c Dow
 
     stepped_other : (status : Option SecurityStatus) (negotiated : Bool) (start : ServerView C P) (handle : Option CredentialsBuffers)
         (token : Option (List ℕ)) (output : List ℕ) (error : Error) (context : Option C) → status ≡ None → negotiated ≡ true →
-        OnStep c p negotiated (IfContext context (RefusedAt c p status start handle token (refused_step status output error))) → IsOther error
+        OnStep c p negotiated (IfContext context (RefusedAt c p status start handle token (refused_step status output error))) →
+        IsOther error
     stepped_other status negotiated start handle token output error None none was h = absurd (rw was at h)
     stepped_other status negotiated start handle token output error (Some m) none was h =
         accepted_other start handle token Unknown (Err error) error m refl (rw (was, none) at h)
@@ -145,8 +154,10 @@ module _ {C : Type 0} (c : Meaning ContextSetting C) (never : NeverRefuses c Dow
     state_never Final old d new refute h = absurd (cc (h))
 
     -- a refusal of that kind shows where the server stopped
-    pub server_met : (T : Type 0) (old : ServerView C P) (d : TsRequest) (error : Error) (new : ServerView C P) → (IsSome old.context → IsSome new.context) →
-        (error.error_type ≢ InsufficientMemory → ServerCause c p old d new error.error_type) → HasAccepted c p {T = T} old d (Err error) new →
+    pub server_met : (T : Type 0) (old : ServerView C P) (d : TsRequest) (error : Error) (new : ServerView C P) →
+        (IsSome old.context → IsSome new.context) →
+        (error.error_type ≢ InsufficientMemory → ServerCause c p old d new error.error_type) →
+        HasAccepted c p {T = T} old d (Err error) new →
         error.error_type ≡ DowngradeDetected → ServerMeetsOld c old d new
     server_met T old d error new keeps cause step is =
         let why : ServerCause c p old d new DowngradeDetected =
@@ -161,7 +172,8 @@ module _ {C : Type 0} (c : Meaning ContextSetting C) (never : NeverRefuses c Dow
               (not_here (differs old.noted d.version) MessageAltered DowngradeDetected _ (λ e. absurd (cc (e))) later).1) begun.1;
         }
 
-    pub server_only : (old : ServerView C P) (d : TsRequest) (r : Result ServerState ServerError) (new : ServerView C P) → (IsSome old.context → IsSome new.context) →
+    pub server_only : (old : ServerView C P) (d : TsRequest) (r : Result ServerState ServerError) (new : ServerView C P) →
+        (IsSome old.context → IsSome new.context) →
         IfErr r (λ refusal. refusal.error.error_type ≢ InsufficientMemory → ServerCause c p old d new refusal.error.error_type) →
         HasAcceptedTurn c p old d r new →
         IsErrAnd r (λ refusal. refusal.error.error_type ≡ DowngradeDetected) → ServerMeetsOld c old d new

@@ -1,5 +1,6 @@
 -- What opening the credentials did to the server, of what it did to its context.
-use Rattle.std.proofs.Common.{◌≡◌, ◌≢◌, ℕ, List, Option, None, Some, Result, Ok, Err, IfOk, IfErr, OnOk, Bool, true, refl, sym, ◌∙◌, ap, subst, ◌+◌}
+use Rattle.std.proofs.Common.{◌≡◌, ◌≢◌, ℕ, List, Option, None, Some, Result, Ok, Err, IfOk, IfErr, OnOk, Bool, true, refl, sym, ◌∙◌}
+use Rattle.std.proofs.Common.{ap, subst, ◌+◌}
 use Rattle.sspi_types.specs.declared.error.Error.{Error}
 use Rattle.sspi_types.specs.declared.error_kind.ErrorKind.TheVariants.{InsufficientMemory}
 use Rattle.sspi_names.specs.declared.identity.AuthIdentity.{AuthIdentity}
@@ -24,7 +25,8 @@ module _ {C : Type 0} (c : Meaning ContextSetting C) where
   holds None blob m identity long h = absurd long
   holds (Some held) blob m identity long h = rw long.same h
 
-  pub opened_cause : (field : Option (List ℕ)) (blob : List ℕ) (m : C) (opened : Bool) (r : Result AuthIdentity Error) → IsSealedBlob field blob →
+  pub opened_cause : (field : Option (List ℕ)) (blob : List ℕ) (m : C) (opened : Bool) (r : Result AuthIdentity Error) →
+      IsSealedBlob field blob →
       IfErr r (λ e. e.error_type ≢ InsufficientMemory → OpenedCause c opened (Some m) blob e.error_type) →
       IfErr r (λ e. e.error_type ≢ InsufficientMemory → BlobStops field e.error_type (λ b. OpenedCause c opened (Some m) b e.error_type))
   opened_cause field blob m opened (Ok identity) long h = h
@@ -44,7 +46,8 @@ module _ {C P : Type 0} (c : Meaning ContextSetting C) where
     bare = subst (λ x. SameBut c x (Some m2)) (sym here) h.bare;
   }
 
-  pub opened : (old new : ServerView C P) (field : Option (List ℕ)) (blob : List ℕ) (m m2 : C) (acts : Acts) (r : Result AuthIdentity Error) →
+  pub opened : (old new : ServerView C P) (field : Option (List ℕ)) (blob : List ℕ) (m m2 : C) (acts : Acts)
+      (r : Result AuthIdentity Error) →
       IsSealedBlob field blob → old.context ≡ Some m → old.acts ≡ no_acts → new ≡ record old { context = Some m2; acts = acts } →
       Opens c m m2 no_acts acts → OnOk r (acts.opened ≡ true) → IfOk r (λ identity. OpensIdentity c m2 blob identity) →
       ServerOpens c old field r new

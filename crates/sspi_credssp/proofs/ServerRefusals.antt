@@ -24,7 +24,8 @@ same_request AuthInfo version v kind d = refl
 same_request Final version v kind d = refl
 
 module _ {C P : Type 0} (c : Meaning ContextSetting C) where
-  halted : (start new : ServerView C P) (d request : TsRequest) (state : CredSspState) (version : ℕ) (error : Error) (refusal : ServerError) →
+  halted : (start new : ServerView C P) (d request : TsRequest) (state : CredSspState) (version : ℕ) (error : Error)
+      (refusal : ServerError) →
       request ≡ record d { version = version } → version ≡ new.version → state ≡ start.state →
       refusal ≡ record { ts_request = Some (error_request state request.version error.error_type request); error = error } →
       HaltedTurn c start d error.error_type new → ServerTurn c start d (outcome.Refused refusal.error.error_type refusal.ts_request) new
@@ -38,7 +39,8 @@ module _ {C P : Type 0} (c : Meaning ContextSetting C) where
       (subst (λ r. ServerTurn c start d (outcome.Refused error.error_type (Some r)) new) (sym told) h)
 
   -- as the call hands it back
-  pub halted_as : (start new : ServerView C P) (d request : TsRequest) (state : CredSspState) (version : ℕ) (error : Error) (refusal : ServerError)
+  pub halted_as : (start new : ServerView C P) (d request : TsRequest) (state : CredSspState) (version : ℕ) (error : Error)
+      (refusal : ServerError)
       (result : Result ServerState ServerError) → result ≡ Err refusal →
       request ≡ record d { version = version } → version ≡ new.version → state ≡ start.state →
       refusal ≡ record { ts_request = Some (error_request state request.version error.error_type request); error = error } →

@@ -22,7 +22,8 @@ use Rattle.sspi_credssp.proofs.ClientReady.{ready_stepped}
 
 module _ {C : Type 0} (c : Meaning ContextSetting C) (laws : IsContext c) where
   -- `v` is the client before the call, `stepped` it once its context took the reply, and `new` it as the call leaves it
-  pub still_waits : (start : ClientView C) (d : TsRequest) (tries : ℕ) (log : List Asked) (q : NetworkRequest) (v stepped new : ClientView C)
+  pub still_waits : (start : ClientView C) (d : TsRequest) (tries : ℕ) (log : List Asked) (q : NetworkRequest)
+      (v stepped new : ClientView C)
       (m m2 : C) (reply : Reply) (request : TsRequest) (progress : Result Progressing Error) (result : Result Progress Error) →
       request ≡ record d { version = v.version } → v.state ≡ NegoToken → v.output ≡ [] → v.context ≡ Some m →
       v.acts ≡ no_acts → stepped ≡ record v { context = Some m2; acts = record v.acts { negotiated = true } } →
@@ -32,12 +33,14 @@ module _ {C : Type 0} (c : Meaning ContextSetting C) (laws : IsContext c) where
       OnErr result (new.acts.status ≡ None → is_waiting_in c new.context ≡ true →
       IsUnderway c start d new × StepsTo c start d (tries + 1) (record { question = q; reply = reply } ∷ log) (Ask q) new)
   still_waits start d tries log q v stepped new m m2 reply request progress (Ok x) _ _ _ _ _ _ _ _ _ _ _ = tt
-  still_waits start d tries log q v stepped new m m2 reply request (Ok x) (Err error) same nego output here idle at ready walked resumed refused kept =
+  still_waits start d tries log q v stepped new m m2 reply request (Ok x)
+      (Err error) same nego output here idle at ready walked resumed refused kept =
       λ none waits. absurd (false_ok (refused none).1)
     where
       false_ok : IsErr {T = Progressing} {E = Error} (Ok x) → ⊥
       false_ok h = cc
-  still_waits start d tries log q v stepped new m m2 reply request (Err e) (Err error) same nego output here idle at ready walked resumed refused kept =
+  still_waits start d tries log q v stepped new m m2 reply request (Err e)
+      (Err error) same nego output here idle at ready walked resumed refused kept =
       λ none waits.
       let moved : new ≡ record v { context = Some m2; acts = record no_acts { negotiated = true }; kept = new.kept } =
       (refused none).0 ∙ ap (λ (x : ClientView C). record x { kept = new.kept })
@@ -45,7 +48,8 @@ module _ {C : Type 0} (c : Meaning ContextSetting C) (laws : IsContext c) where
       let again : c.waits m2 ≡ true = subst (λ (x : ClientView C). is_waiting_in c x.context ≡ true) moved waits in
       let ready2 = ready_stepped c start v d m m2 (record no_acts { negotiated = true }) ready nego here
       (λ unused. laws.resume_unused m m2 reply _ unused resumed) in
-      let under : IsUnderway c start d (record v { context = Some m2; acts = record no_acts { negotiated = true }; kept = new.kept }) = record {
+      let under : IsUnderway c start d (record v { context = Some m2; acts = record no_acts { negotiated = true }; kept = new.kept }) =
+      record {
         ready = record {
           idle = ready2.idle;
           code = ready2.code;

@@ -19,10 +19,12 @@ recounted_as c laws m m2 same =
 
 pub silent_as : {S C : Type 0} (c : Meaning S C) → IsContext c → (m m2 : C) →
     cleared c m2 ≡ cleared c m → silent (c.counts m2) ≡ silent (c.counts m)
-silent_as c laws m m2 same = sym (laws.counts_counted m2 (silent (c.counts m2))) ∙ ap c.counts same ∙ laws.counts_counted m (silent (c.counts m))
+silent_as c laws m m2 same = sym (laws.counts_counted m2 (silent (c.counts m2))) ∙ ap c.counts same ∙ laws.counts_counted m
+    (silent (c.counts m))
 
 module _ {C : Type 0} (c : Meaning ContextSetting C) (laws : IsContext c) where
-  pub walked_on : (start : ClientView C) (handle : Option CredentialsBuffers) (token : Option (List ℕ)) (tries : ℕ) (log : List Asked) (answer : Answer)
+  pub walked_on : (start : ClientView C) (handle : Option CredentialsBuffers) (token : Option (List ℕ)) (tries : ℕ) (log : List Asked)
+      (answer : Answer)
       (o o2 : Option C) → SameBut c o o2 → IfContext o (Walked c start handle token tries log answer) →
       IfContext o2 (Walked c start handle token tries log answer)
   walked_on start handle token tries log answer None o2 same walked = absurd walked

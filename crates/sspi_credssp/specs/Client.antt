@@ -41,7 +41,8 @@ IsOrderly (Some m) handle noted PubKeyInfo = ⊥
 IsOrderly (Some m) handle noted AuthInfo = IsSome noted
 IsOrderly (Some m) handle noted Final = IsSome noted
 
-pub record IsClientState {C : Type 0} (context : Option C) (handle : Option CredentialsBuffers) (noted : Option ℕ) (state : CredSspState) (nonce : List ℕ) : Type 0 where
+pub record IsClientState {C : Type 0} (context : Option C) (handle : Option CredentialsBuffers) (noted : Option ℕ) (state : CredSspState)
+    (nonce : List ℕ) : Type 0 where
   pub orderly : IsOrderly context handle noted state
   pub nonce_length : length nonce ≡ 32
 

@@ -3,7 +3,8 @@ use Rattle.std.specs.Prelude.{◌≡◌, ℕ, ◌-◌, List, Option, None, Some,
 use Rattle.sspi_types.specs.declared.credential_use.CredentialUse.TheVariants.{Outbound}
 use Rattle.sspi_types.specs.declared.error.Error.{Error}
 use Rattle.sspi_types.specs.declared.error_kind.ErrorKind.{ErrorKind}
-use Rattle.sspi_types.specs.declared.error_kind.ErrorKind.TheVariants.{OutOfSequence, InvalidToken, MessageAltered, InternalError, DowngradeDetected}
+use Rattle.sspi_types.specs.declared.error_kind.ErrorKind.TheVariants.{OutOfSequence, InvalidToken, MessageAltered, InternalError}
+use Rattle.sspi_types.specs.declared.error_kind.ErrorKind.TheVariants.{DowngradeDetected}
 use Rattle.sspi_types.specs.declared.nstatus.NStatusCode.{NStatusCode}
 use Rattle.sspi_types.specs.declared.security_status.SecurityStatus.{SecurityStatus}
 use Rattle.sspi_types.specs.declared.security_status.SecurityStatus.TheVariants as statuses
@@ -48,7 +49,8 @@ module _ {C : Type 0} (c : Meaning ContextSetting C) where
   BlobOpens None context blob new kind = ⊥
   BlobOpens (Some noted) None blob new kind = ⊥
   BlobOpens (Some noted) (Some m) blob new kind =
-      OpenedCause new.acts.checked m blob (prescribed Server noted new.nonce new.public_key) (delegated_text new.credentials new.delegation) kind
+      OpenedCause new.acts.checked m blob (prescribed Server noted new.nonce new.public_key)
+      (delegated_text new.credentials new.delegation) kind
 
   -- pubKeyAuth is absent, too short, or what it opens to is refused
   abbrev pub DeliverCause : Option (List ℕ) → ClientView C → ErrorKind → Type 0

@@ -1,5 +1,6 @@
 -- A client's turn (MS-CSSP 3.1.5.1).
-use Rattle.std.specs.Prelude.{◌≡◌, ℕ, ◌+◌, ◌-◌, ◌||◌, List, [], Option, None, Some, is_some, IsSome, Result, Ok, Err, Bool, true, false, if◌then◌else◌}
+use Rattle.std.specs.Prelude.{◌≡◌, ℕ, ◌+◌, ◌-◌, ◌||◌, List, [], Option, None, Some, is_some, IsSome, Result, Ok, Err, Bool, true}
+use Rattle.std.specs.Prelude.{false, if◌then◌else◌}
 use Rattle.sspi_types.specs.declared.error.Error.{Error}
 use Rattle.sspi_types.specs.declared.security_status.SecurityStatus.{SecurityStatus}
 use Rattle.sspi_types.specs.declared.security_status.SecurityStatus.TheVariants as statuses
@@ -119,7 +120,8 @@ module _ {C : Type 0} (c : Meaning ContextSetting C) where
   pub record Proved (old : ClientView C) (blob : List ℕ) (new : ClientView C) : Type 0 where
     pub rest : new ≡ record old { context = new.context; acts = record old.acts { proved = true } }
     pub noted : IsSome old.noted
-    pub proof : AtNoted old.noted (λ noted. SealsIn c new.context (sealed_in c new.context - 1) (prescribed Client noted old.nonce old.public_key) (Some blob))
+    pub proof : AtNoted old.noted (λ noted. SealsIn c new.context (sealed_in c new.context - 1)
+        (prescribed Client noted old.nonce old.public_key) (Some blob))
     pub sealed : sealed_in c new.context ≡ sealed_in c old.context + 1
     pub unsealed : unsealed_in c new.context ≡ unsealed_in c old.context
     pub begun : IsSome new.context
@@ -134,7 +136,8 @@ module _ {C : Type 0} (c : Meaning ContextSetting C) where
     pub acts : new.acts ≡ record no_acts { checked = new.acts.checked; sealed = new.acts.sealed }
     pub checked : new.acts.checked ≡ true → IsLong field
     pub sealed : new.acts.sealed ≡ true → (new.acts.checked ≡ true) ×
-        AtNoted old.noted (λ noted. OpensIn c new.context (unsealed_in c new.context - 1) field (prescribed Server noted old.nonce old.public_key))
+        AtNoted old.noted (λ noted. OpensIn c new.context (unsealed_in c new.context - 1) field
+        (prescribed Server noted old.nonce old.public_key))
     pub sealed_count : sealed_in c new.context ≡ sealed_in c old.context + count_of new.acts.sealed
     pub unsealed_count : unsealed_in c new.context ≡ unsealed_in c old.context + count_of new.acts.checked
     pub bare : SameBut c old.context new.context

@@ -47,7 +47,8 @@ module _ {C : Type 0} (c : Meaning ContextSetting C) where
       pub old : is_old server.least server.noted d.version ≡ true
 
     -- exactly there it refuses with that kind, and then has at most a new context
-    pub record ServerHeeds (server : ServerView C P) (d : TsRequest) (result : Result ServerState ServerError) (new : ServerView C P) : Type 0 where
+    pub record ServerHeeds (server : ServerView C P) (d : TsRequest) (result : Result ServerState ServerError)
+        (new : ServerView C P) : Type 0 where
       pub refuses : ServerMeetsOld server d new →
           IsErrAnd result (λ refusal. refusal.error.error_type ≡ DowngradeDetected)
           × (new ≡ record server { proxy = new.proxy; context = new.context; handle = new.handle; acts = no_acts; output = [] })

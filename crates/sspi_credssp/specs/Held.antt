@@ -32,7 +32,8 @@ module _ {C : Type 0} (c : Meaning ContextSetting C) where
   -- the credentials are those of the client
   abbrev pub HoldsReply : ClientFrame C → Option SecurityStatus → Outcome → Type 0
   HoldsReply f status (outcome.Reply r) = HoldsNego f status r
-  HoldsReply f status (outcome.Final r) = IfText (delegated_text f.credentials f.delegation) (λ text. SealsIn c f.context f.made text r.auth_info)
+  HoldsReply f status (outcome.Final r) = IfText (delegated_text f.credentials f.delegation)
+      (λ text. SealsIn c f.context f.made text r.auth_info)
   HoldsReply f status outcome.Finished = Unit {0}
   HoldsReply f status (outcome.Refused kind reply) = Unit {0}
 
@@ -51,7 +52,8 @@ module _ {C : Type 0} (c : Meaning ContextSetting C) where
 
   -- the server's proof is made over the delivered nonce and its own key
   abbrev pub HoldsProofBack : ServerFrame C → TsRequest → TsRequest → Type 0
-  HoldsProofBack f d r = AtNoted f.noted (λ noted. SealsIn c f.context f.made (prescribed Server noted (nonce_of d.client_nonce) f.public_key) r.pub_key_auth)
+  HoldsProofBack f d r = AtNoted f.noted (λ noted. SealsIn c f.context f.made
+      (prescribed Server noted (nonce_of d.client_nonce) f.public_key) r.pub_key_auth)
 
   abbrev pub HoldsAnswer : ServerFrame C → Turn → Outcome → Type 0
   HoldsAnswer f t (outcome.Reply r) = t.acts.proved ≡ true → HoldsProofBack f t.delivered r

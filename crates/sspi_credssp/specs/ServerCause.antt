@@ -3,7 +3,8 @@ use Rattle.std.specs.Prelude.{◌≡◌, ◌≢◌, ℕ, ◌-◌, ◌≤◌, Lis
 use Rattle.sspi_types.specs.declared.credential_use.CredentialUse.TheVariants.{Inbound}
 use Rattle.sspi_types.specs.declared.error.Error.{Error}
 use Rattle.sspi_types.specs.declared.error_kind.ErrorKind.{ErrorKind}
-use Rattle.sspi_types.specs.declared.error_kind.ErrorKind.TheVariants.{InvalidToken, MessageAltered, InternalError, LogonDenied, NoCredentials, UnsupportedFunction}
+use Rattle.sspi_types.specs.declared.error_kind.ErrorKind.TheVariants.{InvalidToken, MessageAltered, InternalError, LogonDenied}
+use Rattle.sspi_types.specs.declared.error_kind.ErrorKind.TheVariants.{NoCredentials, UnsupportedFunction}
 use Rattle.sspi_types.specs.declared.security_status.SecurityStatus.{SecurityStatus}
 use Rattle.sspi_types.specs.declared.security_status.SecurityStatus.TheVariants as statuses
 use Rattle.sspi_names.specs.declared.credentials.Credentials.TheVariants as credentials
@@ -102,9 +103,11 @@ module _ {C : Type 0} (c : Meaning ContextSetting C) where
 
     -- The peer is not known; or it is, and the context refuses its own end: in neither case its proof was looked at. Or the
     -- context is at its end, and what follows is refused. Each with the step that the turn took of its context until then.
-    pub data OverCause (status : SecurityStatus) (old : ServerView C P) (d : TsRequest) (new : ServerView C P) (kind : ErrorKind) : Type 0 where
+    pub data OverCause (status : SecurityStatus) (old : ServerView C P) (d : TsRequest) (new : ServerView C P)
+        (kind : ErrorKind) : Type 0 where
       unknown : new.acts.checked ≡ false → HasCome c p Unknown status old d new →
-          IfContext new.context (λ m. IdentifyCause m (p.told old.proxy) (p.faults old.proxy) (p.faults new.proxy) kind) → OverCause status old d new kind
+          IfContext new.context (λ m. IdentifyCause m (p.told old.proxy) (p.faults old.proxy) (p.faults new.proxy) kind) →
+          OverCause status old d new kind
       incomplete : new.acts.checked ≡ false → HasCome c p Identified status old d new →
           IfContext new.context (λ m. c.refuses m ToComplete kind) → OverCause status old d new kind
       known : HasCome c p Completed status old d new → AfterCause d.pub_key_auth d.client_nonce new kind → OverCause status old d new kind

@@ -82,7 +82,8 @@ module _ {C : Type 0} (c : Meaning ContextSetting C) where
     CompletedStep start handle token answer (Err error) context = IfContext context (AcceptedSoFar start handle token answer)
 
     -- how far a refused call had come: a peer is looked up only once the step had ended the authentication
-    abbrev pub RefusedAt : Option SecurityStatus → ServerView C P → Option CredentialsBuffers → Option (List ℕ) → Result Step Error → C → Type 0
+    abbrev pub RefusedAt : Option SecurityStatus → ServerView C P → Option CredentialsBuffers → Option (List ℕ) → Result Step Error → C →
+        Type 0
     RefusedAt (Some statuses.Ok) start handle token answer m = AcceptedSoFar start handle token answer m
     RefusedAt (Some statuses.CompleteNeeded) start handle token answer m = AcceptedSoFar start handle token answer m
     RefusedAt other start handle token answer m = Accepted start handle token Unknown answer m

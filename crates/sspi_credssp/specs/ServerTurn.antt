@@ -115,7 +115,8 @@ module _ {C : Type 0} (c : Meaning ContextSetting C) where
 
     -- the context is the one that the server had, but for its counts, or a new one that has acquired credentials; or there is none
     pub data IsNew (old new : ServerView C P) (m : C) : Type 0 where
-      is_made : (told : Option (List AuthIdentity)) → Begun c old.context old.handle (ForServer old.mode told) Inbound None new.handle m → IsNew old new m
+      is_made : (told : Option (List AuthIdentity)) → Begun c old.context old.handle (ForServer old.mode told) Inbound None new.handle m →
+          IsNew old new m
 
     abbrev pub IsUnstepped : ServerView C P → ServerView C P → Type 0
     IsUnstepped old new = UnlessMade old.context new.context (IsNew old new)
@@ -170,7 +171,8 @@ module _ {C : Type 0} (c : Meaning ContextSetting C) where
       pub checked : new.acts.checked ≡ true
       pub proved : new.acts.proved ≡ true
       pub proof : AtNoted old.noted (λ noted.
-          SealsIn c new.context (sealed_in c new.context - 1) (prescribed Server noted (nonce_of d.client_nonce) old.public_key) (Some blob))
+          SealsIn c new.context (sealed_in c new.context - 1) (prescribed Server noted (nonce_of d.client_nonce) old.public_key)
+          (Some blob))
 
     abbrev pub ServerExchanges : ServerView C P → TsRequest → Result (List ℕ) Error → ServerView C P → Type 0
     ServerExchanges old d (Ok blob) new = ServerChecks old d new × ServerProves old d blob new

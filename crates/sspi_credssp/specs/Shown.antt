@@ -121,7 +121,8 @@ pub record ShowsServerActs (f : ShownFrame) (t : Turn) : Type 0 where
   pub negotiated : t.acts.negotiated ≡ true → f.state ≡ NegoToken
   pub answered : IsSome t.acts.status → t.acts.negotiated ≡ true
   pub checked : t.acts.checked ≡ true → MayCheck f.state t.acts.status × IsLong t.delivered.pub_key_auth
-  pub proved : t.acts.proved ≡ true → (t.acts.checked ≡ true) × AtNoted f.noted (λ noted. HasNonce (nat_lt noted 5) t.delivered.client_nonce)
+  pub proved : t.acts.proved ≡ true → (t.acts.checked ≡ true) ×
+      AtNoted f.noted (λ noted. HasNonce (nat_lt noted 5) t.delivered.client_nonce)
   pub opened : t.acts.opened ≡ true → (f.state ≡ AuthInfo) × IsLong t.delivered.auth_info
   pub sealed : t.acts.sealed ≡ false
 

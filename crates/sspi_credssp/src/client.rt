@@ -1,4 +1,5 @@
-ghost use Rattle.std.specs.Prelude.{◌≡◌, ◌≢◌, ◌<◌, ◌+◌, ℕ, List, [], ◌∷◌, None, Some, true, false, IsSome, IsErr, IfErr, OnOk, OnErr, string_bytes};
+ghost use Rattle.std.specs.Prelude.{◌≡◌, ◌≢◌, ◌<◌, ◌+◌, ℕ, List, [], ◌∷◌, None, Some, true, false, IsSome, IsErr, IfErr, OnOk, OnErr};
+ghost use Rattle.std.specs.Prelude.{string_bytes};
 ghost use Rattle.sspi_types.specs.declared.credential_use.CredentialUse.TheVariants as purposes;
 ghost use Rattle.sspi_names.specs.declared.network.NetworkRequest.{NetworkRequest};
 ghost use Rattle.sspi_mech.specs.declared.step.Answer.TheVariants as answers;

@@ -193,7 +193,12 @@ impl<N: Mechanism, K: Mechanism, C: CredentialsProxy> CredSspServer<N, K, C> {
     }
 
     fn begin(&mut self, version: u32) -> Result<(), Error>
-        ensures frame { self.new ≡ record self.old { proxy = self.new.proxy; context = self.new.context; handle = self.new.handle; noted = self.new.noted } }
+        ensures frame { self.new ≡ record self.old {
+          proxy = self.new.proxy;
+          context = self.new.context;
+          handle = self.new.handle;
+          noted = self.new.noted;
+        } }
         ensures ready { let c = either N.REQUESTS N.meaning K.meaning in
             OnOk result ((start : ServerView (SspiContext N K) C) (d : TsRequest) →
             d.version ≡ version → self.old ≡ record start { acts = no_acts; output = [] } → IsReady c start d self.new) }

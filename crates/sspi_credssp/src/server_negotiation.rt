@@ -1,5 +1,6 @@
 // The server's turns of the authentication (NegoToken).
-ghost use Rattle.std.specs.Prelude.{ℕ, List, Option, Result, Ok, ◌≡◌, ◌≢◌, [], map, None, Some, true, false, IsSome, IsTrue, OnOk, OnErr, IfOk, IfErr};
+ghost use Rattle.std.specs.Prelude.{ℕ, List, Option, Result, Ok, ◌≡◌, ◌≢◌, [], map, None, Some, true, false, IsSome, IsTrue, OnOk};
+ghost use Rattle.std.specs.Prelude.{OnErr, IfOk, IfErr};
 ghost use Rattle.sspi_names.specs.declared.credentials.Credentials.TheVariants as credentials;
 ghost use Rattle.sspi_mech.specs.Calls.{ToName};
 ghost use Rattle.sspi_credssp.specs.Acts.{no_acts};
@@ -347,7 +348,8 @@ impl<N: Mechanism, K: Mechanism, C: CredentialsProxy> CredSspServer<N, K, C> {
         ensures status { self.new.acts.status ≡ self.old.acts.status }
         ensures negotiated { self.new.acts.negotiated ≡ true }
         ensures cause { IfErr result (λ error. error.error_type ≢ ErrorKind.InsufficientMemory →
-            AfterCause (either N.REQUESTS N.meaning K.meaning) request.now.pub_key_auth request.now.client_nonce self.new error.error_type) }
+            AfterCause (either N.REQUESTS N.meaning K.meaning) request.now.pub_key_auth request.now.client_nonce self.new
+            error.error_type) }
         ensures plain { IfErr result (λ error. error.nstatus ≡ None) }
         ensures begun { IsSome self.new.context }
     {

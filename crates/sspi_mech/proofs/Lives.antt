@@ -19,13 +19,16 @@ module _ {S M : Type 0} (r : ℕ) (it : Meaning S M) (laws : IsMechanism r it) w
       n + questions_in answer + it.left m2 ≤ r
   after_step m m2 n a (Done s) h step = no_more (n + 0) (it.left m) (it.left m2) r (omega (arith, h)) (laws.step_left m m2 a (Done s) step)
   after_step m m2 n a (Ask q) h step = one_more n (it.left m) (it.left m2) r h (laws.step_asks m m2 a q step)
-  after_step m m2 n a (Refused e) h step = no_more (n + 0) (it.left m) (it.left m2) r (omega (arith, h)) (laws.step_left m m2 a (Refused e) step)
+  after_step m m2 n a (Refused e) h step = no_more (n + 0) (it.left m) (it.left m2) r (omega (arith, h))
+      (laws.step_left m m2 a (Refused e) step)
 
   after_resume : (m m2 : M) (n : ℕ) (b : Reply) (answer : Answer) → n + it.left m ≤ r → it.resumes m b answer m2 →
       n + questions_in answer + it.left m2 ≤ r
-  after_resume m m2 n b (Done s) h step = no_more (n + 0) (it.left m) (it.left m2) r (omega (arith, h)) (laws.resume_left m m2 b (Done s) step)
+  after_resume m m2 n b (Done s) h step = no_more (n + 0) (it.left m) (it.left m2) r (omega (arith, h))
+      (laws.resume_left m m2 b (Done s) step)
   after_resume m m2 n b (Ask q) h step = one_more n (it.left m) (it.left m2) r h (laws.resume_asks m m2 b q step)
-  after_resume m m2 n b (Refused e) h step = no_more (n + 0) (it.left m) (it.left m2) r (omega (arith, h)) (laws.resume_left m m2 b (Refused e) step)
+  after_resume m m2 n b (Refused e) h step = no_more (n + 0) (it.left m) (it.left m2) r (omega (arith, h))
+      (laws.resume_left m m2 b (Refused e) step)
 
   pub asks_at_most : (m : M) (n : ℕ) → HasLived it m n → n + it.left m ≤ r
   asks_at_most _ _ (made s m h) = let few : it.left m ≤ r = laws.made_left s m h in omega (arith, few)

@@ -1,5 +1,6 @@
 -- What is protected by a key is taken by the same key, direction and number.
-use Rattle.std.proofs.Common.{◌≡◌, ℕ, ◌-◌, ◌^◌, ◌≤◌, ◌<◌, nat_eq, List, take, drop, length, true, false, nat_lt, Option, None, Some, sym, arith}
+use Rattle.std.proofs.Common.{◌≡◌, ℕ, ◌-◌, ◌^◌, ◌≤◌, ◌<◌, nat_eq, List, take, drop, length, true, false, nat_lt, Option, None, Some}
+use Rattle.std.proofs.Common.{sym, arith}
 use Rattle.std.specs.Str.{bytes_eq}
 use Rattle.std.proofs.lemmas.Bool.{ne_eqb, le-ltb}
 use Rattle.std.proofs.lemmas.List.{take_at, drop_at}
@@ -9,19 +10,22 @@ use Rattle.sspi_mech.specs.Protection.{seal_tag, mic_of, SealsBy, OpensBy, Signs
 use Rattle.sspi_mech.specs.Tags.{length-seal_tag, long_blob}
 
 -- of what opens, the text is all that stands behind the tag
-pub opened_is_body : (key : Option (List ℕ)) (direction : Direction) (n : ℕ) (blob text : List ℕ) → OpensBy key direction n blob text → text ≡ drop 16 blob
+pub opened_is_body : (key : Option (List ℕ)) (direction : Direction) (n : ℕ) (blob text : List ℕ) → OpensBy key direction n blob text →
+    text ≡ drop 16 blob
 opened_is_body None direction n blob text opened = absurd opened
 opened_is_body (Some key) direction n blob text opened = opened.2
 
 -- what is sealed opens, and a MIC verifies, by the same key, direction and number
-pub sealed_opens : (key : Option (List ℕ)) (direction : Direction) (n : ℕ) (text blob : List ℕ) → SealsBy key direction n text blob → OpensBy key direction n blob text
+pub sealed_opens : (key : Option (List ℕ)) (direction : Direction) (n : ℕ) (text blob : List ℕ) → SealsBy key direction n text blob →
+    OpensBy key direction n blob text
 sealed_opens None direction n text blob sealed = absurd sealed
 sealed_opens (Some key) direction n text blob sealed =
     let tagged = take_at (seal_tag key direction n text) text 16 (length-seal_tag key direction n text) in
     let body = drop_at (seal_tag key direction n text) text 16 (length-seal_tag key direction n text) in
     (long_blob (Some key) direction n text blob sealed, rw sealed tagged, rw sealed (sym body))
 
-pub signed_verifies : (key : Option (List ℕ)) (direction : Direction) (n : ℕ) (text mic : List ℕ) → SignsBy key direction n text mic → VerifiesBy key direction n mic text
+pub signed_verifies : (key : Option (List ℕ)) (direction : Direction) (n : ℕ) (text mic : List ℕ) → SignsBy key direction n text mic →
+    VerifiesBy key direction n mic text
 signed_verifies None direction n text mic signed = absurd signed
 signed_verifies (Some key) direction n text mic signed = signed
 

@@ -13,13 +13,15 @@ use Rattle.sspi_mech.proofs.Opened as opened
 pub opened_is_body : (m : NtlmState) (n : ℕ) (blob text : List ℕ) → ntlm_meaning.opens m n blob text → text ≡ drop 16 blob
 opened_is_body m n blob text opens = opened.opened_is_body m.protection.key (peer_direction m.stage) n blob text opens
 
-pub sealed_opens : (m p : NtlmState) (n : ℕ) (text blob : List ℕ) → IsPeer m p → ntlm_meaning.seals m n text blob → ntlm_meaning.opens p n blob text
+pub sealed_opens : (m p : NtlmState) (n : ℕ) (text blob : List ℕ) → IsPeer m p → ntlm_meaning.seals m n text blob →
+    ntlm_meaning.opens p n blob text
 sealed_opens m p n text blob peer sealed =
     opened.sealed_opens p.protection.key (peer_direction p.stage) n text blob
     (subst (λ (d : Direction). SealsBy p.protection.key d n text blob) peer.direction
     (subst (λ (k : Option (List ℕ)). SealsBy k (own_direction m.stage) n text blob) peer.key sealed))
 
-pub signed_verifies : (m p : NtlmState) (n : ℕ) (text mic : List ℕ) → IsPeer m p → ntlm_meaning.signs m n text mic → ntlm_meaning.verifies p n mic text
+pub signed_verifies : (m p : NtlmState) (n : ℕ) (text mic : List ℕ) → IsPeer m p → ntlm_meaning.signs m n text mic →
+    ntlm_meaning.verifies p n mic text
 signed_verifies m p n text mic peer signed =
     opened.signed_verifies p.protection.key (peer_direction p.stage) n text mic
     (subst (λ (d : Direction). SignsBy p.protection.key d n text mic) peer.direction

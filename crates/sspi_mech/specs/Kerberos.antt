@@ -11,19 +11,22 @@ use Rattle.sspi_names.specs.declared.credentials.Credentials.{Credentials}
 use Rattle.sspi_names.specs.declared.credentials.CredentialsBuffers.{CredentialsBuffers}
 use Rattle.sspi_names.specs.declared.kdc_table.KdcEntry.{KdcEntry}
 use Rattle.sspi_mech.specs.declared.kerberos.stage.Stage.{Stage}
-use Rattle.sspi_mech.specs.declared.kerberos.stage.Stage.TheVariants.{Unused, PairingAsked, TicketAsked, LogonAsked, SessionAsked, SessionSent, Ended, TicketSent, Accepted}
+use Rattle.sspi_mech.specs.declared.kerberos.stage.Stage.TheVariants.{Unused, PairingAsked, TicketAsked, LogonAsked, SessionAsked}
+use Rattle.sspi_mech.specs.declared.kerberos.stage.Stage.TheVariants.{SessionSent, Ended, TicketSent, Accepted}
 use Rattle.sspi_mech.specs.declared.step.Answer.{Answer}
 use Rattle.sspi_mech.specs.declared.step.Answer.TheVariants as answers
 use Rattle.sspi_mech.specs.declared.step.Progressing.TheVariants.{Done, Suspended}
 use Rattle.sspi_mech.specs.declared.step.Reply.{Reply}
 use Rattle.sspi_mech.specs.declared.step.Step.{Step}
-use Rattle.sspi_mech.specs.Calls.{StepArgs, AcceptArgs, Call, ToAcquire, ToName, ToIdentify, ToComplete, ToSeal, ToUnseal, ToSign, ToVerify, ToDescribe, ToShowKey}
+use Rattle.sspi_mech.specs.Calls.{StepArgs, AcceptArgs, Call, ToAcquire, ToName, ToIdentify, ToComplete, ToSeal, ToUnseal, ToSign}
+use Rattle.sspi_mech.specs.Calls.{ToVerify, ToDescribe, ToShowKey}
 use Rattle.sspi_mech.specs.Meaning.{Meaning}
 use Rattle.sspi_mech.specs.KerberosLogon.{acquired}
 use Rattle.sspi_mech.specs.KerberosStage.{KerberosState, own_direction, peer_direction, name_at, waits_at, left_at, pairs_at}
 use Rattle.sspi_mech.specs.KerberosSteps.{Outcome, Moves, Steps, client_step, resumed_step, server_step}
 use Rattle.sspi_mech.specs.Ntlm.{absence}
-use Rattle.sspi_mech.specs.Protection.{SealsBy, OpensBy, SignsBy, VerifiesBy, making_refusal, unseal_refusal, verify_refusal, counts_of, recounted, no_protection}
+use Rattle.sspi_mech.specs.Protection.{SealsBy, OpensBy, SignsBy, VerifiesBy, making_refusal, unseal_refusal, verify_refusal}
+use Rattle.sspi_mech.specs.Protection.{counts_of, recounted, no_protection}
 use Rattle.sspi_mech.specs.Settings.{Setting, OfNtlm, OfKerberos, OfKerberosServer}
 
 -- an object that has made no step, with these KDCs and this ticket

@@ -11,7 +11,8 @@ use Rattle.sspi_names.specs.declared.network.NetworkRequest.{NetworkRequest}
 use Rattle.sspi_mech.specs.declared.kerberos.arrival.Arrival.{Arrival}
 use Rattle.sspi_mech.specs.declared.kerberos.logon.Logon.{Logon}
 use Rattle.sspi_mech.specs.declared.kerberos.stage.Stage.{Stage}
-use Rattle.sspi_mech.specs.declared.kerberos.stage.Stage.TheVariants.{Unused, PairingAsked, TicketAsked, LogonAsked, SessionAsked, SessionSent, Ended, TicketSent, Accepted}
+use Rattle.sspi_mech.specs.declared.kerberos.stage.Stage.TheVariants.{Unused, PairingAsked, TicketAsked, LogonAsked, SessionAsked}
+use Rattle.sspi_mech.specs.declared.kerberos.stage.Stage.TheVariants.{SessionSent, Ended, TicketSent, Accepted}
 use Rattle.sspi_mech.specs.declared.step.Answer.{Answer}
 use Rattle.sspi_mech.specs.declared.step.Answer.TheVariants.{Done, Ask, Refused}
 use Rattle.sspi_mech.specs.declared.step.Reply.{Reply}
@@ -22,7 +23,9 @@ use Rattle.sspi_mech.specs.KerberosLogon.{kdc_of, logon_of}
 use Rattle.sspi_mech.specs.KerberosMessages.{is_ticket_request, read_ticket}
 use Rattle.sspi_mech.specs.KerberosReplies.{first_key_in, session_key_in}
 use Rattle.sspi_mech.specs.KerberosStage.{KerberosState, own_direction, waits_at, left_at}
-use Rattle.sspi_mech.specs.KerberosSteps.{Outcome, Goes, Asks, Stops, Steps, wants_pairing, begins, asks_by, takes_ticket, shown_to, ends, client_step, pairs, asks_again, logs_on, sends, resumed_step, arrival_of, admits, sends_ticket, takes_first, server_step}
+use Rattle.sspi_mech.specs.KerberosSteps.{Outcome, Goes, Asks, Stops, Steps, wants_pairing, begins, asks_by, takes_ticket, shown_to}
+use Rattle.sspi_mech.specs.KerberosSteps.{ends, client_step, pairs, asks_again, logs_on, sends, resumed_step, arrival_of, admits}
+use Rattle.sspi_mech.specs.KerberosSteps.{sends_ticket, takes_first, server_step}
 use Rattle.sspi_mech.specs.Laws.{IsMechanism}
 use Rattle.sspi_mech.specs.Protection.{counts_of}
 use Rattle.sspi_mech.specs.Settings.{Setting, OfNtlm, OfKerberos, OfKerberosServer}

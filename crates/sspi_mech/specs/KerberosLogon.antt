@@ -4,7 +4,8 @@ use Rattle.std.specs.Str.{bytes_eq}
 use Rattle.sspi_types.specs.declared.credential_use.CredentialUse.{CredentialUse}
 use Rattle.sspi_types.specs.declared.credential_use.CredentialUse.TheVariants.{Inbound, Outbound, Both, Default}
 use Rattle.sspi_types.specs.declared.error_kind.ErrorKind.{ErrorKind}
-use Rattle.sspi_types.specs.declared.error_kind.ErrorKind.TheVariants.{UnknownCredentials, NoCredentials, NoAuthenticatingAuthority, InternalError}
+use Rattle.sspi_types.specs.declared.error_kind.ErrorKind.TheVariants.{UnknownCredentials, NoCredentials, NoAuthenticatingAuthority}
+use Rattle.sspi_types.specs.declared.error_kind.ErrorKind.TheVariants.{InternalError}
 use Rattle.sspi_names.specs.Credentials.{credentials_buffers_of}
 use Rattle.sspi_names.specs.Kdcs.{url_of}
 use Rattle.sspi_names.specs.Name.{Name, inner_of, new_name, domain_of}

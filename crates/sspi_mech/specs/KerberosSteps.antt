@@ -1,11 +1,13 @@
 -- The steps of plain Kerberos: for each stage, what is done with the input or with the KDC's reply, or the kind of the refusal.
-use Rattle.std.specs.Prelude.{◌≡◌, ◌≢◌, ◌==◌, ℕ, Bool, true, false, List, [], length, replicate, Option, None, Some, Result, Ok, Err, if◌then◌else◌}
+use Rattle.std.specs.Prelude.{◌≡◌, ◌≢◌, ◌==◌, ℕ, Bool, true, false, List, [], length, replicate, Option, None, Some, Result, Ok, Err}
+use Rattle.std.specs.Prelude.{if◌then◌else◌}
 use Rattle.std.specs.Int.RustNames.{bit_and}
 use Rattle.std.specs.Str.{bytes_eq, is_utf8}
 use Rattle.sspi_types.specs.declared.client_request_flags.ClientRequestFlags.{ClientRequestFlags}
 use Rattle.sspi_types.specs.declared.error.Error.{Error}
 use Rattle.sspi_types.specs.declared.error_kind.ErrorKind.{ErrorKind}
-use Rattle.sspi_types.specs.declared.error_kind.ErrorKind.TheVariants.{InvalidToken, UnknownCredentials, OutOfSequence, MutualAuthFailed, InsufficientMemory}
+use Rattle.sspi_types.specs.declared.error_kind.ErrorKind.TheVariants.{InvalidToken, UnknownCredentials, OutOfSequence}
+use Rattle.sspi_types.specs.declared.error_kind.ErrorKind.TheVariants.{MutualAuthFailed, InsufficientMemory}
 use Rattle.sspi_types.specs.declared.security_status.SecurityStatus.TheVariants as status
 use Rattle.sspi_names.specs.Name.{Name, inner_of, parse_name}
 use Rattle.sspi_names.specs.declared.credentials.CredentialsBuffers.{CredentialsBuffers}
@@ -13,13 +15,15 @@ use Rattle.sspi_names.specs.declared.network.NetworkRequest.{NetworkRequest}
 use Rattle.sspi_mech.specs.declared.kerberos.arrival.Arrival.{Arrival}
 use Rattle.sspi_mech.specs.declared.kerberos.logon.Logon.{Logon}
 use Rattle.sspi_mech.specs.declared.kerberos.stage.Stage.{Stage}
-use Rattle.sspi_mech.specs.declared.kerberos.stage.Stage.TheVariants.{Unused, PairingAsked, TicketAsked, LogonAsked, SessionAsked, SessionSent, Ended, TicketSent, Accepted}
+use Rattle.sspi_mech.specs.declared.kerberos.stage.Stage.TheVariants.{Unused, PairingAsked, TicketAsked, LogonAsked, SessionAsked}
+use Rattle.sspi_mech.specs.declared.kerberos.stage.Stage.TheVariants.{SessionSent, Ended, TicketSent, Accepted}
 use Rattle.sspi_mech.specs.declared.step.Progressing.{Progressing}
 use Rattle.sspi_mech.specs.declared.step.Progressing.TheVariants.{Done, Suspended}
 use Rattle.sspi_mech.specs.declared.step.Reply.{Reply}
 use Rattle.sspi_mech.specs.declared.step.Step.{Step}
 use Rattle.sspi_mech.specs.KerberosLogon.{kdc_of, logon_of, request_at}
-use Rattle.sspi_mech.specs.KerberosMessages.{reply_proof, ticket_request, ticket_reply, ap_request, ap_reply, is_ticket_request, read_ticket, read_ap_request, read_ap_reply, as_request, tgs_request}
+use Rattle.sspi_mech.specs.KerberosMessages.{reply_proof, ticket_request, ticket_reply, ap_request, ap_reply, is_ticket_request}
+use Rattle.sspi_mech.specs.KerberosMessages.{read_ticket, read_ap_request, read_ap_reply, as_request, tgs_request}
 use Rattle.sspi_mech.specs.KerberosReplies.{first_key_in, session_key_in}
 use Rattle.sspi_mech.specs.KerberosStage.{KerberosState}
 use Rattle.sspi_mech.specs.Named.{Named}

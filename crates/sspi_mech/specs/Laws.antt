@@ -55,6 +55,7 @@ pub record IsMechanism {S M : Type 0} (requests : ℕ) (it : Meaning S M) : Type
   pub seals_counted : (m : M) (n : Counts) (i : ℕ) (text blob : List ℕ) → it.seals (it.counted m n) i text blob → it.seals m i text blob
   pub opens_counted : (m : M) (n : Counts) (i : ℕ) (blob text : List ℕ) → it.opens (it.counted m n) i blob text → it.opens m i blob text
   pub signs_counted : (m : M) (n : Counts) (i : ℕ) (text mic : List ℕ) → it.signs (it.counted m n) i text mic → it.signs m i text mic
-  pub verifies_counted : (m : M) (n : Counts) (i : ℕ) (mic text : List ℕ) → it.verifies (it.counted m n) i mic text → it.verifies m i mic text
+  pub verifies_counted : (m : M) (n : Counts) (i : ℕ) (mic text : List ℕ) → it.verifies (it.counted m n) i mic text →
+      it.verifies m i mic text
   -- a sealed text has at least 16 bytes
   pub long_blob : (m : M) (i : ℕ) (text blob : List ℕ) → it.seals m i text blob → 16 ≤ length blob

@@ -15,13 +15,15 @@ use Rattle.sspi_mech.specs.declared.step.Answer.{Answer}
 use Rattle.sspi_mech.specs.declared.step.Answer.TheVariants.{Done, Ask, Refused}
 use Rattle.sspi_mech.specs.declared.step.Reply.{Reply}
 use Rattle.sspi_mech.specs.declared.step.Step.{Step}
-use Rattle.sspi_mech.specs.Calls.{StepArgs, AcceptArgs, Call, ToAcquire, ToName, ToIdentify, ToComplete, ToSeal, ToUnseal, ToSign, ToVerify, ToDescribe, ToShowKey}
+use Rattle.sspi_mech.specs.Calls.{StepArgs, AcceptArgs, Call, ToAcquire, ToName, ToIdentify, ToComplete, ToSeal, ToUnseal, ToSign}
+use Rattle.sspi_mech.specs.Calls.{ToVerify, ToDescribe, ToShowKey}
 use Rattle.sspi_mech.specs.Meaning.{Meaning}
 use Rattle.sspi_mech.specs.NtlmAcquire.{acquired}
 use Rattle.sspi_mech.specs.NtlmIdentities.{identified}
 use Rattle.sspi_mech.specs.NtlmStage.{NtlmState, own_direction, peer_direction, name_at}
 use Rattle.sspi_mech.specs.NtlmSteps.{Steps, client_step, server_step}
-use Rattle.sspi_mech.specs.Protection.{SealsBy, OpensBy, SignsBy, VerifiesBy, making_refusal, unseal_refusal, verify_refusal, counts_of, recounted, no_protection}
+use Rattle.sspi_mech.specs.Protection.{SealsBy, OpensBy, SignsBy, VerifiesBy, making_refusal, unseal_refusal, verify_refusal}
+use Rattle.sspi_mech.specs.Protection.{counts_of, recounted, no_protection}
 use Rattle.sspi_mech.specs.Settings.{Setting, OfNtlm, OfKerberos, OfKerberosServer}
 
 -- an object that has made no step, with this challenge

@@ -19,7 +19,8 @@ use Rattle.sspi_mech.specs.NtlmClaims.{claim_of}
 use Rattle.sspi_mech.specs.NtlmIdentities.{with_key, key_at}
 use Rattle.sspi_mech.specs.NtlmMessages.{is_negotiate, read_challenge}
 use Rattle.sspi_mech.specs.NtlmStage.{NtlmState, own_direction}
-use Rattle.sspi_mech.specs.NtlmSteps.{Outcome, Goes, Stops, Steps, login_of, authenticates_as, authenticates, client_step, challenges, claims, server_step}
+use Rattle.sspi_mech.specs.NtlmSteps.{Outcome, Goes, Stops, Steps, login_of, authenticates_as, authenticates, client_step, challenges}
+use Rattle.sspi_mech.specs.NtlmSteps.{claims, server_step}
 use Rattle.sspi_mech.specs.Protection.{counts_of}
 use Rattle.sspi_mech.specs.Tags.{long_blob}
 use Rattle.sspi_mech.specs.Settings.{Setting, OfNtlm, OfKerberos, OfKerberosServer}
@@ -29,15 +30,18 @@ abbrev pub Keeps : NtlmState → Outcome → Type 0
 Keeps m (Goes m2 s) = counts_of m2.protection ≡ counts_of m.protection
 Keeps m (Stops kind) = Unit {0}
 
-authenticates_as_keeps : (m : NtlmState) (challenge : List ℕ) (login : Result Login ErrorKind) → Keeps m (authenticates_as m challenge login)
+authenticates_as_keeps : (m : NtlmState) (challenge : List ℕ) (login : Result Login ErrorKind) →
+    Keeps m (authenticates_as m challenge login)
 authenticates_as_keeps m challenge (Ok login) = refl
 authenticates_as_keeps m challenge (Err kind) = tt
 
-authenticates_keeps : (m : NtlmState) (challenge : Option (List ℕ)) (handle : Option CredentialsBuffers) → Keeps m (authenticates m challenge handle)
+authenticates_keeps : (m : NtlmState) (challenge : Option (List ℕ)) (handle : Option CredentialsBuffers) →
+    Keeps m (authenticates m challenge handle)
 authenticates_keeps m None handle = tt
 authenticates_keeps m (Some challenge) handle = authenticates_as_keeps m challenge (login_of handle)
 
-client_keeps : (stage : Stage) (m : NtlmState) (handle : Option CredentialsBuffers) (input : List ℕ) → Keeps m (client_step stage m handle input)
+client_keeps : (stage : Stage) (m : NtlmState) (handle : Option CredentialsBuffers) (input : List ℕ) →
+    Keeps m (client_step stage m handle input)
 client_keeps Unused m handle input = refl
 client_keeps NegotiateSent m handle input = authenticates_keeps m (read_challenge input) handle
 client_keeps (AuthenticateSent name) m handle input = tt
@@ -59,7 +63,8 @@ server_keeps (AuthenticateSent name) m input = tt
 server_keeps ChallengeSent m input = claims_keeps m (claim_of input)
 server_keeps (Claimed claim) m input = tt
 
-steps_keep : (outcome : Outcome) (m m2 : NtlmState) (r : Result Step Error) → Keeps m outcome → Steps outcome m r m2 → counts_of m2.protection ≡ counts_of m.protection
+steps_keep : (outcome : Outcome) (m m2 : NtlmState) (r : Result Step Error) → Keeps m outcome → Steps outcome m r m2 →
+    counts_of m2.protection ≡ counts_of m.protection
 steps_keep outcome m m2 (Ok s) keeps stepped = subst (Keeps m) stepped keeps
 steps_keep outcome m m2 (Err e) keeps stepped = ap (λ (x : NtlmState). counts_of x.protection) stepped.1
 
@@ -73,11 +78,13 @@ resume_counts m m2 b (Done s) resumed = absurd resumed
 resume_counts m m2 b (Ask q) resumed = absurd resumed
 resume_counts m m2 b (Refused e) resumed = ap (λ (x : NtlmState). counts_of x.protection) resumed.1
 
-with_key_counts : (m m2 : NtlmState) (key : Result (List ℕ) ErrorKind) → with_key m key ≡ Ok m2 → counts_of m2.protection ≡ counts_of m.protection
+with_key_counts : (m m2 : NtlmState) (key : Result (List ℕ) ErrorKind) → with_key m key ≡ Ok m2 →
+    counts_of m2.protection ≡ counts_of m.protection
 with_key_counts m m2 (Ok key) is = cc
 with_key_counts m m2 (Err kind) is = cc
 
-made_fresh : (s : Setting) (m : NtlmState) → NtlmMade s m → counts_of m.protection ≡ record { sealed = 0; unsealed = 0; signed = 0; verified = 0 }
+made_fresh : (s : Setting) (m : NtlmState) → NtlmMade s m → counts_of m.protection ≡ record
+    { sealed = 0; unsealed = 0; signed = 0; verified = 0 }
 made_fresh (OfNtlm config) m made = ap (λ (x : NtlmState). counts_of x.protection) made
 made_fresh (OfKerberos config) m made = ap (λ (x : NtlmState). counts_of x.protection) made
 made_fresh (OfKerberosServer config server) m made = ap (λ (x : NtlmState). counts_of x.protection) made

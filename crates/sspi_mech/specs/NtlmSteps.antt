@@ -2,7 +2,8 @@
 use Rattle.std.specs.Prelude.{◌≡◌, ◌≢◌, ℕ, Bool, true, false, List, [], length, nat_lt, Option, None, Some, Result, Ok, Err, if◌then◌else◌}
 use Rattle.sspi_types.specs.declared.error.Error.{Error}
 use Rattle.sspi_types.specs.declared.error_kind.ErrorKind.{ErrorKind}
-use Rattle.sspi_types.specs.declared.error_kind.ErrorKind.TheVariants.{InvalidToken, UnknownCredentials, NoCredentials, OutOfSequence, InternalError, InsufficientMemory}
+use Rattle.sspi_types.specs.declared.error_kind.ErrorKind.TheVariants.{InvalidToken, UnknownCredentials, NoCredentials, OutOfSequence}
+use Rattle.sspi_types.specs.declared.error_kind.ErrorKind.TheVariants.{InternalError, InsufficientMemory}
 use Rattle.sspi_types.specs.declared.security_status.SecurityStatus.TheVariants as status
 use Rattle.sspi_names.specs.Name.{Name, inner_of, new_name}
 use Rattle.sspi_names.specs.Utf16.{text_of}
@@ -14,7 +15,8 @@ use Rattle.sspi_mech.specs.declared.ntlm.stage.Stage.{Stage}
 use Rattle.sspi_mech.specs.declared.ntlm.stage.Stage.TheVariants.{Unused, NegotiateSent, AuthenticateSent, ChallengeSent, Claimed}
 use Rattle.sspi_mech.specs.declared.step.Step.{Step}
 use Rattle.sspi_mech.specs.NtlmClaims.{claim_of}
-use Rattle.sspi_mech.specs.NtlmMessages.{proof_of, key_of, negotiate_message, challenge_message, authenticate_message, is_negotiate, read_challenge}
+use Rattle.sspi_mech.specs.NtlmMessages.{proof_of, key_of, negotiate_message, challenge_message, authenticate_message, is_negotiate}
+use Rattle.sspi_mech.specs.NtlmMessages.{read_challenge}
 use Rattle.sspi_mech.specs.NtlmStage.{NtlmState}
 
 pub data Outcome : Type 0 where

@@ -23,7 +23,8 @@ module _ {S T A B : Type 0} (n : Meaning S A) (k : Meaning T B) where
   sum = record {
     made = Both n.made k.made;
     unmade = in_hand n.unmade k.unmade;
-    acquires = λ m use_ asked buffers m2. Both (λ x x2. n.acquires x use_ asked buffers x2) (λ y y2. k.acquires y use_ asked buffers y2) m m2;
+    acquires = λ m use_ asked buffers m2. Both (λ x x2. n.acquires x use_ asked buffers x2)
+        (λ y y2. k.acquires y use_ asked buffers y2) m m2;
     steps = λ m args answer m2. Both (λ x x2. n.steps x args answer x2) (λ y y2. k.steps y args answer y2) m m2;
     resumes = λ m reply answer m2. Both (λ x x2. n.resumes x reply answer x2) (λ y y2. k.resumes y reply answer y2) m m2;
     accepts = λ m args answer m2. Both (λ x x2. n.accepts x args answer x2) (λ y y2. k.accepts y args answer y2) m m2;

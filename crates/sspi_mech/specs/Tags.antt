@@ -16,7 +16,8 @@ pub length-seal_tag : (key : List ℕ) (direction : Direction) (n : ℕ) (text :
 unfolding seal_tag
 length-seal_tag key direction n text = length-tag_of seal_label key direction n text
 
-pub long_blob : (key : Option (List ℕ)) (direction : Direction) (n : ℕ) (text blob : List ℕ) → SealsBy key direction n text blob → 16 ≤ length blob
+pub long_blob : (key : Option (List ℕ)) (direction : Direction) (n : ℕ) (text blob : List ℕ) → SealsBy key direction n text blob →
+    16 ≤ length blob
 long_blob None direction n text blob sealed = absurd sealed
 long_blob (Some key) direction n text blob sealed =
     rw sealed (omega (arith, length-append (seal_tag key direction n text) text, length-seal_tag key direction n text))

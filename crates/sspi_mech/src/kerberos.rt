@@ -84,7 +84,8 @@ impl Kerberos {
     ghost use Rattle.sspi_mech.specs.KerberosLogon.{logon_of};
     ghost use Rattle.sspi_mech.specs.KerberosMessages.{read_ticket};
     ghost use Rattle.sspi_mech.specs.KerberosReplies.{first_key_in};
-    ghost use Rattle.sspi_mech.specs.KerberosSteps.{Moves, Steps, client_step, resumed_step, server_step, begins, takes_ticket, pairs, admits, sends_ticket, arrival_of};
+    ghost use Rattle.sspi_mech.specs.KerberosSteps.{Moves, Steps, client_step, resumed_step, server_step};
+    ghost use Rattle.sspi_mech.specs.KerberosSteps.{begins, takes_ticket, pairs, admits, sends_ticket, arrival_of};
 
     /// An object of this configuration that has made no step.
     fn with(

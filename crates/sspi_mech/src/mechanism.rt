@@ -1,7 +1,8 @@
 ghost use Rattle.std.specs.Prelude.{◌≡◌, ◌≢◌, ◌<◌, Some, IsTrue, IfOk, IfErr, OnOk, OnErr, option_copied};
 ghost use Rattle.sspi_types.specs.Memory.{memory_error};
 ghost use Rattle.sspi_mech.specs.Calls.{step_args, accept_args, no_counts, one_sealed, one_unsealed, one_signed, one_verified};
-ghost use Rattle.sspi_mech.specs.Calls.{ToAcquire, ToName, ToIdentify, ToComplete, ToSeal, ToUnseal, ToSign, ToVerify, ToDescribe, ToShowKey};
+ghost use Rattle.sspi_mech.specs.Calls.{ToAcquire, ToName, ToIdentify, ToComplete, ToSeal, ToUnseal, ToSign, ToVerify, ToDescribe};
+ghost use Rattle.sspi_mech.specs.Calls.{ToShowKey};
 ghost use Rattle.sspi_mech.specs.Context.{IsContext};
 ghost use Rattle.sspi_mech.specs.Laws.{IsMechanism};
 ghost use Rattle.sspi_mech.specs.Meaning.{Meaning};
@@ -44,7 +45,8 @@ pub trait Mechanism: Sized + Drop {
         credential_use: CredentialUse,
         auth_data: Option<&Credentials>,
     ) -> Result<Option<CredentialsBuffers>, Error>
-        ensures acquired { IfOk result (λ buffers. meaning.acquires self.old credential_use (option_copied auth_data.entry) buffers self.new) }
+        ensures acquired { IfOk result (λ buffers. meaning.acquires self.old credential_use
+            (option_copied auth_data.entry) buffers self.new) }
         ensures count { meaning.counts self.new ≡ meaning.counts self.old }
         ensures err { OnErr result (self.new ≡ self.old) }
         ensures plain { IfErr result (λ error. error.nstatus ≡ None) }
@@ -84,13 +86,15 @@ pub trait Mechanism: Sized + Drop {
         ensures keyed { IsTrue (meaning.keyed self.old) → result ≡ Ok SecurityStatus.Ok }
         ensures permitted { OnOk result (meaning.permits self.old ToComplete) }
         ensures plain { IfErr result (λ error. error.nstatus ≡ None) }
-        ensures cause { IfErr result (λ error. error.error_type ≢ ErrorKind.InsufficientMemory → meaning.refuses self.old ToComplete error.error_type) };
+        ensures cause { IfErr result (λ error. error.error_type ≢ ErrorKind.InsufficientMemory →
+            meaning.refuses self.old ToComplete error.error_type) };
 
     /// The name that was authenticated: on a server the peer's, on a client its own.
     fn names(&self) -> Result<Username, Error>
         ensures named { IfOk result (λ name. meaning.names self.now ≡ Some name) }
         ensures plain { IfErr result (λ error. error.nstatus ≡ None) }
-        ensures cause { IfErr result (λ error. error.error_type ≢ ErrorKind.InsufficientMemory → meaning.refuses self.now ToName error.error_type) };
+        ensures cause { IfErr result (λ error. error.error_type ≢ ErrorKind.InsufficientMemory →
+            meaning.refuses self.now ToName error.error_type) };
 
     /// Tells a server which identities its peer may have.
     fn set_identities(&mut self, identities: &[Credentials]) -> Result<(), Error>
@@ -152,7 +156,8 @@ pub trait Mechanism: Sized + Drop {
     fn package_info(&self) -> Result<PackageInfo, Error>
         ensures entry { IfOk result (λ info. info ≡ meaning.entry self.now) }
         ensures plain { IfErr result (λ error. error.nstatus ≡ None) }
-        ensures cause { IfErr result (λ error. error.error_type ≢ ErrorKind.InsufficientMemory → meaning.refuses self.now ToDescribe error.error_type) };
+        ensures cause { IfErr result (λ error. error.error_type ≢ ErrorKind.InsufficientMemory →
+            meaning.refuses self.now ToDescribe error.error_type) };
 
     /// The sizes that users of the mechanism must know.
     fn sizes(&self) -> ContextSizes
@@ -162,7 +167,8 @@ pub trait Mechanism: Sized + Drop {
     fn session_key(&self) -> Result<SessionKeys, Error>
         ensures key { IfOk result (λ keys. meaning.session_key self.now ≡ Some keys.session_key.value) }
         ensures plain { IfErr result (λ error. error.nstatus ≡ None) }
-        ensures cause { IfErr result (λ error. error.error_type ≢ ErrorKind.InsufficientMemory → meaning.refuses self.now ToShowKey error.error_type) };
+        ensures cause { IfErr result (λ error. error.error_type ≢ ErrorKind.InsufficientMemory →
+            meaning.refuses self.now ToShowKey error.error_type) };
 
     ghost laws: { IsMechanism REQUESTS meaning };
 }

@@ -1,5 +1,6 @@
 ghost use Rattle.std.specs.Prelude.{◌≡◌, ◌+◌, ◌-◌, ◌^◌, ◌==◌, false, true, None, Some, IfOk, OnOk, OnErr, IfErr, option_copied};
-ghost use Rattle.sspi_mech.specs.Protection.{direction_byte, tag_of, seal_tag, mic_of, SealsBy, OpensBy, SignsBy, VerifiesBy, making_refusal, unseal_refusal, verify_refusal, no_protection};
+ghost use Rattle.sspi_mech.specs.Protection.{direction_byte, tag_of, seal_tag, mic_of, SealsBy, OpensBy, SignsBy, VerifiesBy};
+ghost use Rattle.sspi_mech.specs.Protection.{making_refusal, unseal_refusal, verify_refusal, no_protection};
 ghost use Rattle.sspi_mech.specs.Refusals.{IsCause};
 
 use sha2::{Digest, Sha256};
@@ -61,7 +62,8 @@ impl Protection {
     /// The key; OutOfSequence before there is one.
     pub fn key(&self) -> Result<&[u8; 32], Error>
         ensures ok { IfOk result (λ key. self.now.key ≡ Some key.now) }
-        ensures err { IfErr result (λ error. (self.now.key ≡ None) × (error.error_type ≡ ErrorKind.OutOfSequence) × (error.nstatus ≡ None)) }
+        ensures err { IfErr result (λ error. (self.now.key ≡ None) × (error.error_type ≡ ErrorKind.OutOfSequence) ×
+            (error.nstatus ≡ None)) }
     {
         match &self.key {
             Some(key) => Ok(key),
@@ -105,7 +107,8 @@ impl Protection {
         ensures permitted { OnOk result (unseal_refusal self.old.key direction self.old.unsealed blob.now ≡ None) }
         ensures err { OnErr result (self.new ≡ self.old) }
         ensures plain { IfErr result (λ error. error.nstatus ≡ None) }
-        ensures cause { IfErr result (λ error. IsCause (unseal_refusal self.old.key direction self.old.unsealed blob.now) error.error_type) }
+        ensures cause { IfErr result (λ error. IsCause (unseal_refusal self.old.key direction self.old.unsealed blob.now)
+            error.error_type) }
     {
         let key = self.key()?;
         let count = next(self.unsealed)?;
@@ -150,7 +153,8 @@ impl Protection {
         ensures permitted { OnOk result (verify_refusal self.old.key direction self.old.verified mic.now text.now ≡ None) }
         ensures err { OnErr result (self.new ≡ self.old) }
         ensures plain { IfErr result (λ error. error.nstatus ≡ None) }
-        ensures cause { IfErr result (λ error. verify_refusal self.old.key direction self.old.verified mic.now text.now ≡ Some error.error_type) }
+        ensures cause { IfErr result (λ error. verify_refusal self.old.key direction self.old.verified mic.now text.now ≡ Some
+            error.error_type) }
     {
         let key = self.key()?;
         let count = next(self.verified)?;
@@ -165,7 +169,8 @@ impl Protection {
 /// The count after this one; ContextExpired where there is none.
 fn next(count: u64) -> Result<u64, Error>
     ensures ok { IfOk result (λ next. ((count == 2 ^ 64 - 1) ≡ false) × (next ≡ count + 1)) }
-    ensures err { IfErr result (λ error. ((count == 2 ^ 64 - 1) ≡ true) × (error.error_type ≡ ErrorKind.ContextExpired) × (error.nstatus ≡ None)) }
+    ensures err { IfErr result (λ error. ((count == 2 ^ 64 - 1) ≡ true) × (error.error_type ≡ ErrorKind.ContextExpired) ×
+        (error.nstatus ≡ None)) }
 {
     match count.checked_add(1) {
         Some(next) => Ok(next),

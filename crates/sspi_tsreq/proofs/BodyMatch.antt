@@ -8,7 +8,8 @@ use Rattle.sspi_ber.proofs.PiecesMatch.{field_match}
 use Rattle.sspi_tsreq.specs.declared.request.TsRequest.{TsRequest}
 use Rattle.sspi_tsreq.specs.Value.{bare}
 use Rattle.sspi_tsreq.specs.Grammar.{IsLow, IsOctets, IsToken, IsCode, IsNonce, IsLookedFor, IsBody}
-use Rattle.sspi_tsreq.specs.Reading.{version_at, octets_at, token_at, code_at, nonce_at, looked_at, after_code, after_key, after_auth, after_nego, after_version, body_at}
+use Rattle.sspi_tsreq.specs.Reading.{version_at, octets_at, token_at, code_at, nonce_at, looked_at, after_code, after_key, after_auth}
+use Rattle.sspi_tsreq.specs.Reading.{after_nego, after_version, body_at}
 use Rattle.sspi_tsreq.proofs.FieldsMatch.{Bare, version_match, octets_match, token_match, code_match, nonce_match, looked_match}
 
 -- ---- the chain of continuations, each with the form of what it reads
@@ -21,7 +22,8 @@ AfterCode r = Mapped (with_nonce r) (IsLookedFor (leb 5 r.version) 0xA5 IsNonce)
 
 code_step : (r : TsRequest) → Matches (after_code r) (AfterCode r)
 unfolding after_code
-code_step r = Matches-map (with_nonce r) (looked_at (leb 5 r.version) (field_at 0xA5 nonce_at)) (IsLookedFor (leb 5 r.version) 0xA5 IsNonce) (looked_match (leb 5 r.version) 0xA5 nonce_at IsNonce nonce_match)
+code_step r = Matches-map (with_nonce r) (looked_at (leb 5 r.version) (field_at 0xA5 nonce_at))
+    (IsLookedFor (leb 5 r.version) 0xA5 IsNonce) (looked_match (leb 5 r.version) 0xA5 nonce_at IsNonce nonce_match)
 
 abbrev with_code : TsRequest → Option NStatusCode → TsRequest
 with_code r code = record r { error_code = code }
@@ -32,7 +34,8 @@ AfterKey r = Then (IsLookedFor (leb 3 r.version) 0xA4 IsCode) (λ code. AfterCod
 key_step : (r : TsRequest) → Matches (after_key r) (AfterKey r)
 unfolding after_key
 key_step r =
-    Matches-then (looked_at (leb 3 r.version) (field_at 0xA4 code_at)) (λ code. after_code (with_code r code)) (IsLookedFor (leb 3 r.version) 0xA4 IsCode) (λ code. AfterCode (with_code r code))
+    Matches-then (looked_at (leb 3 r.version) (field_at 0xA4 code_at)) (λ code. after_code (with_code r code))
+    (IsLookedFor (leb 3 r.version) 0xA4 IsCode) (λ code. AfterCode (with_code r code))
     (looked_match (leb 3 r.version) 0xA4 code_at IsCode code_match) (λ code. code_step (with_code r code))
 
 abbrev with_key : TsRequest → Option (List ℕ) → TsRequest
@@ -56,7 +59,8 @@ AfterNego r = Then (IsField 0xA2 IsOctets) (λ auth. AfterAuth (with_auth r auth
 nego_step : (r : TsRequest) → Matches (after_nego r) (AfterNego r)
 unfolding after_nego
 nego_step r =
-    Matches-then (field_at 0xA2 octets_at) (λ auth. after_auth (with_auth r auth)) (IsField 0xA2 IsOctets) (λ auth. AfterAuth (with_auth r auth))
+    Matches-then (field_at 0xA2 octets_at) (λ auth. after_auth (with_auth r auth)) (IsField 0xA2 IsOctets)
+    (λ auth. AfterAuth (with_auth r auth))
     (field_match 0xA2 octets_at IsOctets octets_match) (λ auth. auth_step (with_auth r auth))
 
 abbrev with_nego : TsRequest → Option (List ℕ) → TsRequest
@@ -68,7 +72,8 @@ AfterVersion r = Then (IsField 0xA1 IsToken) (λ nego. AfterNego (with_nego r ne
 version_step : (r : TsRequest) → Matches (after_version r) (AfterVersion r)
 unfolding after_version
 version_step r =
-    Matches-then (field_at 0xA1 token_at) (λ nego. after_nego (with_nego r nego)) (IsField 0xA1 IsToken) (λ nego. AfterNego (with_nego r nego))
+    Matches-then (field_at 0xA1 token_at) (λ nego. after_nego (with_nego r nego)) (IsField 0xA1 IsToken)
+    (λ nego. AfterNego (with_nego r nego))
     (field_match 0xA1 token_at IsToken token_match) (λ nego. nego_step (with_nego r nego))
 
 abbrev Body : List ℕ → TsRequest → List ℕ → Type 0
@@ -94,7 +99,14 @@ body_of text r tail t0 =
     let t4 = t3.second_is in
     let t5 = t4.second_is in
     let nonce = t4.second in
-    let made : TsRequest = record { version = t0.x; nego_tokens = t1.x; auth_info = t2.x; pub_key_auth = t3.x; error_code = t4.x; client_nonce = t5.0 } in
+    let made : TsRequest = record {
+      version = t0.x;
+      nego_tokens = t1.x;
+      auth_info = t2.x;
+      pub_key_auth = t3.x;
+      error_code = t4.x;
+      client_nonce = t5.0;
+    } in
     let e4 = then_tail t3.second t4.first nonce tail (nonce ++ tail) t4.parts refl in
     let e3 = then_tail t2.second t3.first t3.second tail _ t3.parts e4 in
     let e2 = then_tail t1.second t2.first t2.second tail _ t2.parts e3 in
@@ -126,7 +138,8 @@ body_takes body r tail e =
     let t = body_step.takes body r tail e in
     subst (λ (b : List ℕ). IsBody b r) (sym t.2) (body_of t.0 r tail t.1)
 
-chain_of : (body : List ℕ) (r : TsRequest) (b : IsBody body r) → Body (b.version ++ (b.nego ++ (b.auth ++ (b.key ++ (b.code ++ b.nonce))))) r b.tail
+chain_of : (body : List ℕ) (r : TsRequest) (b : IsBody body r) →
+    Body (b.version ++ (b.nego ++ (b.auth ++ (b.key ++ (b.code ++ b.nonce))))) r b.tail
 chain_of body r b =
     let e4 = then_tail (b.code ++ b.nonce) b.code b.nonce b.tail (b.nonce ++ b.tail) refl refl in
     let e3 = then_tail (b.key ++ (b.code ++ b.nonce)) b.key (b.code ++ b.nonce) b.tail _ refl e4 in
@@ -174,6 +187,7 @@ body_again body r b =
     let e4 = then_tail (b.code ++ b.nonce) b.code b.nonce b.tail (b.nonce ++ b.tail) refl refl in
     let e3 = then_tail (b.key ++ (b.code ++ b.nonce)) b.key (b.code ++ b.nonce) b.tail _ refl e4 in
     let e2 = then_tail (b.auth ++ (b.key ++ (b.code ++ b.nonce))) b.auth (b.key ++ (b.code ++ b.nonce)) b.tail _ refl e3 in
-    let e1 = then_tail (b.nego ++ (b.auth ++ (b.key ++ (b.code ++ b.nonce)))) b.nego (b.auth ++ (b.key ++ (b.code ++ b.nonce))) b.tail _ refl e2 in
+    let e1 = then_tail (b.nego ++ (b.auth ++ (b.key ++ (b.code ++ b.nonce)))) b.nego
+    (b.auth ++ (b.key ++ (b.code ++ b.nonce))) b.tail _ refl e2 in
     let e0 = then_tail text b.version (b.nego ++ (b.auth ++ (b.key ++ (b.code ++ b.nonce)))) b.tail _ refl e1 in
     (b.tail, ap body_at (b.parts ∙ sym e0) ∙ body_step.again text r b.tail (chain_of body r b))

@@ -7,7 +7,8 @@ use Rattle.sspi_ber.specs.Short.{element, element_size, int_short}
 use Rattle.sspi_ber.proofs.Written.{length-element, size_above, size_below, small_size}
 use Rattle.sspi_tsreq.specs.declared.request.TsRequest.{TsRequest}
 use Rattle.sspi_tsreq.specs.Size.{IsCapped, IsTokenSize}
-use Rattle.sspi_tsreq.specs.Spelling.{version_field, token_item, token_list, nego_field, octets_field, code_field, last_fields, later_fields, fields, carried, spelled}
+use Rattle.sspi_tsreq.specs.Spelling.{version_field, token_item, token_list, nego_field, octets_field, code_field, last_fields}
+use Rattle.sspi_tsreq.specs.Spelling.{later_fields, fields, carried, spelled}
 
 pub ruleset bounds = (size_above, size_below)
 
@@ -20,7 +21,8 @@ capped_more size exact outer inner more =
     elim (cases_lt max_content exact) [
       | inl lt ↦
           let above = size_above exact in
-          let past : max_content < element_size size = (let bigger : max_content < size = inner.past lt in let a = size_above size in omega arith) in
+          let past : max_content < element_size size = (let bigger : max_content < size = inner.past lt in let a =
+          size_above size in omega arith) in
           let far : max_content < outer = more.past past in
           record { same = λ le. absurd (omega (arith, le, above)); past = λ l. far }
       | inr le ↦ (let e : size ≡ exact = inner.same le in subst (λ (n : ℕ). IsCapped outer (element_size n)) e more)
@@ -32,7 +34,8 @@ capped_add a b x y p q =
       | inl lt ↦ (let far : max_content < a = p.past lt in record { same = λ le. absurd (omega (arith, le)); past = λ l. omega arith })
       | inr small ↦ elim (cases_lt max_content y) [
         | inl lt ↦ (let far : max_content < b = q.past lt in record { same = λ le. absurd (omega (arith, le)); past = λ l. omega arith })
-        | inr small2 ↦ (let e : a ≡ x = p.same small in let f : b ≡ y = q.same small2 in record { same = λ le. omega arith; past = λ l. omega (arith, l) })
+        | inr small2 ↦ (let e : a ≡ x = p.same small in let f : b ≡ y =
+            q.same small2 in record { same = λ le. omega arith; past = λ l. omega (arith, l) })
       ]
     ]
 
@@ -62,7 +65,8 @@ octets_capped tag size more octets p q =
     subst (λ (n : ℕ). IsCapped more n) (sym (length-element tag (element 0x04 octets) ∙ ap element_size (length-element 0x04 octets)))
     (capped_more size (element_size (length octets)) more p q)
 
-token_length : (token : List ℕ) → length (element 0xA1 (token_list token)) ≡ element_size (element_size (element_size (element_size (element_size (length token)))))
+token_length : (token : List ℕ) → length (element 0xA1 (token_list token)) ≡ element_size
+    (element_size (element_size (element_size (element_size (length token)))))
 unfolding token_list token_item
 token_length token =
     length-element 0xA1 (element 0x30 (element 0x30 (element 0xA0 (element 0x04 token))))
@@ -70,7 +74,8 @@ token_length token =
     ∙ ap element_size (length-element 0x30 (element 0xA0 (element 0x04 token))
     ∙ ap element_size (length-element 0xA0 (element 0x04 token) ∙ ap element_size (length-element 0x04 token))))
 
-pub token_capped : (a b c d e : ℕ) (token : List ℕ) → IsCapped a (element_size (length token)) → IsCapped b (element_size a) → IsCapped c (element_size b)
+pub token_capped : (a b c d e : ℕ) (token : List ℕ) → IsCapped a (element_size (length token)) → IsCapped b (element_size a) →
+    IsCapped c (element_size b)
     → IsCapped d (element_size c) → IsCapped e (element_size d) → IsCapped e (length (element 0xA1 (token_list token)))
 token_capped a b c d e token pa pb pc pd pe =
     let first = capped_more a _ b pa pb in
@@ -83,7 +88,8 @@ wrapped_integer tag v lt = length-element tag (int_short v) ∙ (let e = small_s
 
 pub nonce_field : (nonce : List ℕ) → length nonce ≡ 32 → length (element 0xA5 (element 0x04 nonce)) ≡ 36
 nonce_field nonce e =
-    let inner : length (element 0x04 nonce) ≡ 34 = length-element 0x04 nonce ∙ (let f = small_size (length nonce) (omega arith) in omega arith) in
+    let inner : length (element 0x04 nonce) ≡ 34 = length-element 0x04 nonce ∙
+    (let f = small_size (length nonce) (omega arith) in omega arith) in
     length-element 0xA5 (element 0x04 nonce) ∙ (let f = small_size (length (element 0x04 nonce)) (omega arith) in omega arith)
 
 -- ---- what fits where a field fits
@@ -102,7 +108,8 @@ unfolding version_field
 version_size v lt = wrapped_integer 0xA0 v lt
 
 -- the sum of all fields
-pub fields_capped : (r : TsRequest) (version nego auth key code nonce : ℕ) → version ≡ length (version_field r.version) → IsCapped nego (length (nego_field r.nego_tokens))
+pub fields_capped : (r : TsRequest) (version nego auth key code nonce : ℕ) → version ≡ length (version_field r.version) →
+    IsCapped nego (length (nego_field r.nego_tokens))
     → IsCapped auth (length (octets_field 0xA2 r.auth_info)) → IsCapped key (length (octets_field 0xA3 r.pub_key_auth))
     → code ≡ length (code_field r.error_code) → nonce ≡ length (octets_field 0xA5 r.client_nonce)
     → IsCapped (version + nego + auth + key + code + nonce) (length (fields r))
@@ -126,7 +133,8 @@ fields_capped r version nego auth key code nonce v n a k c o =
       length-append (code_field r.error_code) (octets_field 0xA5 r.client_nonce),
     ) in
     subst (λ (m : ℕ). IsCapped (version + nego + auth + key + code + nonce) m) (sym sums)
-    (rw (v, c, o) (capped_add _ _ _ _ (capped_add _ _ _ _ (capped_add _ _ _ _ (capped_add _ _ _ _ (capped_add _ _ _ _ (capped_same lv) n) a) k) (capped_same lc)) (capped_same lo)))
+    (rw (v, c, o) (capped_add _ _ _ _ (capped_add _ _ _ _ (capped_add _ _ _ _
+    (capped_add _ _ _ _ (capped_add _ _ _ _ (capped_same lv) n) a) k) (capped_same lc)) (capped_same lo)))
 
 -- what fits of fields that fit
 pub record Room (r : TsRequest) : Type 0 where
@@ -136,8 +144,16 @@ pub record Room (r : TsRequest) : Type 0 where
 pub fields_room : (r : TsRequest) → length (fields r) ≤ max_content → Room r
 unfolding fields
 fields_room r le = record {
-  nego = omega (arith, length-append (version_field r.version) (nego_field r.nego_tokens ++ later_fields r), length-append (nego_field r.nego_tokens) (later_fields r));
-  later = omega (arith, length-append (version_field r.version) (nego_field r.nego_tokens ++ later_fields r), length-append (nego_field r.nego_tokens) (later_fields r));
+  nego = omega (
+    arith,
+    length-append (version_field r.version) (nego_field r.nego_tokens ++ later_fields r),
+    length-append (nego_field r.nego_tokens) (later_fields r),
+  );
+  later = omega (
+    arith,
+    length-append (version_field r.version) (nego_field r.nego_tokens ++ later_fields r),
+    length-append (nego_field r.nego_tokens) (later_fields r),
+  );
 }
 
 pub record LaterRoom (r : TsRequest) : Type 0 where
@@ -147,14 +163,23 @@ pub record LaterRoom (r : TsRequest) : Type 0 where
 pub later_room : (r : TsRequest) → length (later_fields r) ≤ max_content → LaterRoom r
 unfolding later_fields
 later_room r le = record {
-  auth = omega (arith, length-append (octets_field 0xA2 r.auth_info) (octets_field 0xA3 r.pub_key_auth ++ last_fields r), length-append (octets_field 0xA3 r.pub_key_auth) (last_fields r));
-  key = omega (arith, length-append (octets_field 0xA2 r.auth_info) (octets_field 0xA3 r.pub_key_auth ++ last_fields r), length-append (octets_field 0xA3 r.pub_key_auth) (last_fields r));
+  auth = omega (
+    arith,
+    length-append (octets_field 0xA2 r.auth_info) (octets_field 0xA3 r.pub_key_auth ++ last_fields r),
+    length-append (octets_field 0xA3 r.pub_key_auth) (last_fields r),
+  );
+  key = omega (
+    arith,
+    length-append (octets_field 0xA2 r.auth_info) (octets_field 0xA3 r.pub_key_auth ++ last_fields r),
+    length-append (octets_field 0xA3 r.pub_key_auth) (last_fields r),
+  );
 }
 
 pub length-token_item : (token : List ℕ) → length (token_item token) ≡ element_size (element_size (element_size (length token)))
 unfolding token_item
 length-token_item token =
-    length-element 0x30 (element 0xA0 (element 0x04 token)) ∙ ap element_size (length-element 0xA0 (element 0x04 token) ∙ ap element_size (length-element 0x04 token))
+    length-element 0x30 (element 0xA0 (element 0x04 token)) ∙ ap element_size
+    (length-element 0xA0 (element 0x04 token) ∙ ap element_size (length-element 0x04 token))
 
 pub length-token_list : (token : List ℕ) → length (token_list token) ≡ element_size (length (token_item token))
 unfolding token_list

@@ -1,5 +1,6 @@
 -- What a text of credentials is answered, by the grammar.
-use Rattle.std.proofs.Common.{◌≡◌, ◌⊎◌, inl, inr, ◌%◌, ℕ, Bool, true, false, cond, eqb, List, [], ◌∷◌, length, Result, Ok, Err, refl, sym, ap, ◌∙◌, subst}
+use Rattle.std.proofs.Common.{◌≡◌, ◌⊎◌, inl, inr, ◌%◌, ℕ, Bool, true, false, cond, eqb, List, [], ◌∷◌, length, Result, Ok, Err, refl}
+use Rattle.std.proofs.Common.{sym, ap, ◌∙◌, subst}
 use Rattle.std.proofs.lemmas.Bool.{cases_eq, ne_eqb}
 use Rattle.std.specs.Char.Utf16.{has_unpaired_surrogate}
 use Rattle.std.specs.Result.{IsErr, is_err}
@@ -15,8 +16,10 @@ use Rattle.sspi_names.specs.declared.identity.AuthIdentityBuffers.{AuthIdentityB
 use Rattle.sspi_names.specs.declared.identity.KeytabIdentity.{KeytabIdentity}
 use Rattle.sspi_names.specs.declared.credentials.CredentialsBuffers.{CredentialsBuffers}
 use Rattle.sspi_names.specs.declared.credentials.CredentialsBuffers.TheVariants as buffered
-use Rattle.sspi_tsreq.specs.Creds.{Fields, Passwords, ◌and_then◌, malformed, unknown_type, smart_card, spelled_or_malformed, password_type, texts_of, fields_at, passwords_at, creds_in, creds_of}
-use Rattle.sspi_tsreq.specs.CredsGrammar.{IsPasswordCreds, IsCreds, IsCredsOfType, IsOtherType, AreTextsOf, HasBadText, StandsFor, IsNoCreds, LacksPasswords}
+use Rattle.sspi_tsreq.specs.Creds.{Fields, Passwords, ◌and_then◌, malformed, unknown_type, smart_card, spelled_or_malformed}
+use Rattle.sspi_tsreq.specs.Creds.{password_type, texts_of, fields_at, passwords_at, creds_in, creds_of}
+use Rattle.sspi_tsreq.specs.CredsGrammar.{IsPasswordCreds, IsCreds, IsCredsOfType, IsOtherType, AreTextsOf, HasBadText, StandsFor}
+use Rattle.sspi_tsreq.specs.CredsGrammar.{IsNoCreds, LacksPasswords}
 use Rattle.sspi_tsreq.proofs.CredsMatch.{passwords_take, passwords_again, fields_take, whole_again, fields_again}
 
 -- ---- what follows the structure of TSCredentials
@@ -41,7 +44,8 @@ creds_answer text cred_type credentials t =
 no_whole : (text : List ℕ) (fault : Fault) → element_at 0x30 text ≡ Err fault → IsNoCreds text
 no_whole text fault e cred_type credentials t = let f = whole_again text cred_type credentials t in cc
 
-no_fields : (text body behind : List ℕ) (fault : Fault) → element_at 0x30 text ≡ Ok (body, behind) → fields_at body ≡ Err fault → IsNoCreds text
+no_fields : (text body behind : List ℕ) (fault : Fault) → element_at 0x30 text ≡ Ok (body, behind) → fields_at body ≡ Err fault →
+    IsNoCreds text
 no_fields text body behind fault whole e cred_type credentials t =
     let same = both_are t.content body t.behind behind (sym (whole_again text cred_type credentials t) ∙ whole) in
     let f = ap fields_at (sym same.0) ∙ fields_again text cred_type credentials t in
@@ -51,17 +55,22 @@ whole_refused : (text : List ℕ) (fault : Fault) → element_at 0x30 text ≡ E
 unfolding creds_of
 whole_refused text fault e = ap (λ (r : Read (List ℕ)). spelled_or_malformed r and_then creds_in) e
 
-fields_refused : (text body behind : List ℕ) (fault : Fault) → element_at 0x30 text ≡ Ok (body, behind) → fields_at body ≡ Err fault → creds_of text ≡ Err malformed
+fields_refused : (text body behind : List ℕ) (fault : Fault) → element_at 0x30 text ≡ Ok (body, behind) → fields_at body ≡ Err fault →
+    creds_of text ≡ Err malformed
 unfolding creds_of creds_in
 fields_refused text body behind fault whole e =
-    ap (λ (r : Read (List ℕ)). spelled_or_malformed r and_then creds_in) whole ∙ ap (λ (r : Read Fields). spelled_or_malformed r and_then by_fields) e
+    ap (λ (r : Read (List ℕ)). spelled_or_malformed r and_then creds_in) whole ∙ ap
+    (λ (r : Read Fields). spelled_or_malformed r and_then by_fields) e
 
 abbrev Found : List ℕ → Type 0
 Found text = ((cred_type credentials : List ℕ) × IsCreds text cred_type credentials) ⊎ (IsNoCreds text × (creds_of text ≡ Err malformed))
 
 by_inside : (text body behind : List ℕ) (r : Read Fields) → element_at 0x30 text ≡ Ok (body, behind) → fields_at body ≡ r → Found text
 by_inside text body behind (Ok (f, left)) whole e = inl (f.cred_type, f.credentials, fields_take text body behind f left whole e)
-by_inside text body behind (Err fault) whole e = inr (no_fields text body behind fault whole e, fields_refused text body behind fault whole e)
+by_inside text body behind (Err fault) whole e = inr (
+  no_fields text body behind fault whole e,
+  fields_refused text body behind fault whole e,
+)
 
 by_whole : (text : List ℕ) (r : Read (List ℕ)) → element_at 0x30 text ≡ r → Found text
 by_whole text (Ok (body, behind)) whole = by_inside text body behind (fields_at body) whole refl
@@ -73,24 +82,32 @@ found text = by_whole text (element_at 0x30 text) refl
 -- ---- whether TSPasswordCreds are there
 
 abbrev FoundPasswords : List ℕ → Type 0
-FoundPasswords credentials = ((texts : Passwords) × IsPasswordCreds credentials texts) ⊎ (((texts : Passwords) → ¬ IsPasswordCreds credentials texts) × (by_passwords credentials ≡ Err malformed))
+FoundPasswords credentials = ((texts : Passwords) × IsPasswordCreds credentials texts) ⊎
+    (((texts : Passwords) → ¬ IsPasswordCreds credentials texts) × (by_passwords credentials ≡ Err malformed))
 
-no_passwords : (credentials : List ℕ) (fault : Fault) → passwords_at credentials ≡ Err fault → (texts : Passwords) → ¬ IsPasswordCreds credentials texts
+no_passwords : (credentials : List ℕ) (fault : Fault) → passwords_at credentials ≡ Err fault → (texts : Passwords) →
+    ¬ IsPasswordCreds credentials texts
 no_passwords credentials fault e texts t = let f = passwords_again credentials texts t in cc
 
 by_read : (credentials : List ℕ) (r : Read Passwords) → passwords_at credentials ≡ r → FoundPasswords credentials
 by_read credentials (Ok (texts, rest)) e = inl (texts, passwords_take credentials texts rest e)
-by_read credentials (Err fault) e = inr (no_passwords credentials fault e, ap (λ (r : Read Passwords). spelled_or_malformed r and_then λ passwords. texts_of passwords) e)
+by_read credentials (Err fault) e = inr (
+  no_passwords credentials fault e,
+  ap (λ (r : Read Passwords). spelled_or_malformed r and_then λ passwords. texts_of passwords) e,
+)
 
 found_passwords : (credentials : List ℕ) → FoundPasswords credentials
 found_passwords credentials = by_read credentials (passwords_at credentials) refl
 
-passwords_answer : (credentials : List ℕ) (texts : Passwords) → IsPasswordCreds credentials texts → by_passwords credentials ≡ texts_of texts
-passwords_answer credentials texts t = ap (λ (r : Read Passwords). spelled_or_malformed r and_then λ passwords. texts_of passwords) (passwords_again credentials texts t)
+passwords_answer : (credentials : List ℕ) (texts : Passwords) → IsPasswordCreds credentials texts →
+    by_passwords credentials ≡ texts_of texts
+passwords_answer credentials texts t = ap (λ (r : Read Passwords). spelled_or_malformed r and_then λ passwords. texts_of passwords)
+    (passwords_again credentials texts t)
 
 -- ---- the type
 
-type_cases : (cred_type : List ℕ) → ((more : List ℕ) × (cred_type ≡ 1 ∷ more)) ⊎ (((more : List ℕ) × (cred_type ≡ 2 ∷ more)) ⊎ IsOtherType cred_type)
+type_cases : (cred_type : List ℕ) → ((more : List ℕ) × (cred_type ≡ 1 ∷ more)) ⊎
+    (((more : List ℕ) × (cred_type ≡ 2 ∷ more)) ⊎ IsOtherType cred_type)
 type_cases [] = inr (inr tt)
 type_cases (number ∷ more) =
     elim (cases_eq number 1) [
@@ -110,7 +127,8 @@ other_refused (number ∷ more) h = rw (ne_eqb number 1 h.0, ne_eqb number 2 h.1
 abbrev Decoded : List ℕ → Result (List ℕ) Utf16Error → Type 0
 Decoded bytes r = ((units : List ℕ) × (r ≡ Ok units)) ⊎ ((error : Utf16Error) × (r ≡ Err error) × (utf16_refusal error ≡ bad_text))
 
-by_tests : (bytes units : List ℕ) (even bad : Bool) → Decoded bytes (cond even (cond bad (Err UnpairedSurrogate) (Ok units)) (Err OddLength))
+by_tests : (bytes units : List ℕ) (even bad : Bool) → Decoded bytes
+    (cond even (cond bad (Err UnpairedSurrogate) (Ok units)) (Err OddLength))
 by_tests bytes units true true = inr (UnpairedSurrogate, refl, refl)
 by_tests bytes units true false = inl (units, refl)
 by_tests bytes units false bad = inr (OddLength, refl, refl)
@@ -122,25 +140,30 @@ decoded bytes = by_tests bytes (units_le bytes) (eqb (length bytes % 2) 0) (has_
 abbrev buffers_with : List ℕ → List ℕ → List ℕ → AuthIdentityBuffers
 buffers_with domain user password = record { user = user; domain = domain; password = record { value = password } }
 
-pub texts_answer : (texts : Passwords) (buffers : AuthIdentityBuffers) → AreTextsOf texts buffers → texts_of texts ≡ Ok (buffered.AuthIdentity buffers)
+pub texts_answer : (texts : Passwords) (buffers : AuthIdentityBuffers) → AreTextsOf texts buffers →
+    texts_of texts ≡ Ok (buffered.AuthIdentity buffers)
 unfolding texts_of
 texts_answer texts buffers t = rw (t.domain_text, t.user_text, t.password_text) refl
 
-domain_refused : (texts : Passwords) (error : Utf16Error) → decode_le texts.domain ≡ Err error → utf16_refusal error ≡ bad_text → texts_of texts ≡ Err bad_text
+domain_refused : (texts : Passwords) (error : Utf16Error) → decode_le texts.domain ≡ Err error → utf16_refusal error ≡ bad_text →
+    texts_of texts ≡ Err bad_text
 unfolding texts_of
 domain_refused texts error e f = rw (e, f) refl
 
-user_refused : (texts : Passwords) (domain : List ℕ) (error : Utf16Error) → decode_le texts.domain ≡ Ok domain → decode_le texts.user ≡ Err error → utf16_refusal error ≡ bad_text
+user_refused : (texts : Passwords) (domain : List ℕ) (error : Utf16Error) → decode_le texts.domain ≡ Ok domain →
+    decode_le texts.user ≡ Err error → utf16_refusal error ≡ bad_text
     → texts_of texts ≡ Err bad_text
 unfolding texts_of
 user_refused texts domain error d e f = rw (d, e, f) refl
 
-password_refused : (texts : Passwords) (domain user : List ℕ) (error : Utf16Error) → decode_le texts.domain ≡ Ok domain → decode_le texts.user ≡ Ok user → decode_le texts.password ≡ Err error
+password_refused : (texts : Passwords) (domain user : List ℕ) (error : Utf16Error) → decode_le texts.domain ≡ Ok domain →
+    decode_le texts.user ≡ Ok user → decode_le texts.password ≡ Err error
     → utf16_refusal error ≡ bad_text → texts_of texts ≡ Err bad_text
 unfolding texts_of
 password_refused texts domain user error d u e f = rw (d, u, e, f) refl
 
-pub texts_cases : (texts : Passwords) → ((buffers : AuthIdentityBuffers) × AreTextsOf texts buffers) ⊎ (HasBadText texts × (texts_of texts ≡ Err bad_text))
+pub texts_cases : (texts : Passwords) → ((buffers : AuthIdentityBuffers) × AreTextsOf texts buffers) ⊎
+    (HasBadText texts × (texts_of texts ≡ Err bad_text))
 texts_cases texts =
     elim (decoded texts.domain) [
       | inr (error, e, f) ↦ inr (inl (ap is_err e), domain_refused texts error e f)
@@ -178,21 +201,25 @@ abbrev IsUnknown : List ℕ → Type 0
 IsUnknown text = (cred_type credentials : List ℕ) × IsCreds text cred_type credentials × IsOtherType cred_type
 
 abbrev IsBadText : List ℕ → Type 0
-IsBadText text = (credentials : List ℕ) × (texts : Passwords) × IsCredsOfType 1 text credentials × IsPasswordCreds credentials texts × HasBadText texts
+IsBadText text = (credentials : List ℕ) × (texts : Passwords) × IsCredsOfType 1 text credentials × IsPasswordCreds credentials texts ×
+    HasBadText texts
 
 password_answer : (text credentials : List ℕ) → IsCredsOfType 1 text credentials → creds_of text ≡ by_passwords credentials
 password_answer text credentials (more, t) = creds_answer text (1 ∷ more) credentials t
 
-pub password_read : (text : List ℕ) (buffers : AuthIdentityBuffers) → StandsFor text buffers → creds_of text ≡ Ok (buffered.AuthIdentity buffers)
+pub password_read : (text : List ℕ) (buffers : AuthIdentityBuffers) → StandsFor text buffers →
+    creds_of text ≡ Ok (buffered.AuthIdentity buffers)
 password_read text buffers t =
-    password_answer text t.credentials t.creds_is ∙ passwords_answer t.credentials t.texts t.passwords_is ∙ texts_answer t.texts buffers t.texts_are
+    password_answer text t.credentials t.creds_is ∙ passwords_answer t.credentials t.texts t.passwords_is ∙ texts_answer t.texts buffers
+    t.texts_are
 
 pub smart_card_refused : (text : List ℕ) → IsSmartCard text → creds_of text ≡ Err smart_card
 smart_card_refused text (credentials, (more, t)) = creds_answer text (2 ∷ more) credentials t
 
 pub unknown_refused : (text : List ℕ) → IsUnknown text → creds_of text ≡ Err unknown_type
 unknown_refused text (cred_type, credentials, t, h) =
-    creds_answer text cred_type credentials t ∙ ap (λ (r : Result (Unit {0}) Error). r and_then λ known. by_passwords credentials) (other_refused cred_type h)
+    creds_answer text cred_type credentials t ∙ ap (λ (r : Result (Unit {0}) Error). r and_then λ known. by_passwords credentials)
+    (other_refused cred_type h)
 
 no_creds_refused : (text : List ℕ) → IsNoCreds text → creds_of text ≡ Err malformed
 no_creds_refused text none =
@@ -201,7 +228,8 @@ no_creds_refused text none =
       | inr (lacks, e) ↦ e
     ]
 
-lacking_refused : (text credentials : List ℕ) → IsCredsOfType 1 text credentials → ((texts : Passwords) → ¬ IsPasswordCreds credentials texts) → creds_of text ≡ Err malformed
+lacking_refused : (text credentials : List ℕ) → IsCredsOfType 1 text credentials →
+    ((texts : Passwords) → ¬ IsPasswordCreds credentials texts) → creds_of text ≡ Err malformed
 lacking_refused text credentials t none =
     elim (found_passwords credentials) [
       | inl (texts, p) ↦ absurd (none texts p)
@@ -213,7 +241,8 @@ malformed_refused text (inl none) = no_creds_refused text none
 malformed_refused text (inr (credentials, t, none)) = lacking_refused text credentials t none
 
 pub bad_text_refused : (text : List ℕ) → IsBadText text → creds_of text ≡ Err bad_text
-bad_text_refused text (credentials, texts, t, p, h) = password_answer text credentials t ∙ passwords_answer credentials texts p ∙ bad_answer texts h
+bad_text_refused text (credentials, texts, t, p, h) = password_answer text credentials t ∙ passwords_answer credentials texts p ∙
+    bad_answer texts h
 
 -- ---- each text has one of these forms
 
@@ -224,10 +253,17 @@ pub data Form (text : List ℕ) : Type 0 where
   bad_text_form : IsBadText text → Form text
   stands_form : (buffers : AuthIdentityBuffers) → StandsFor text buffers → Form text
 
-with_texts : (text credentials : List ℕ) (texts : Passwords) → IsCredsOfType 1 text credentials → IsPasswordCreds credentials texts → Form text
+with_texts : (text credentials : List ℕ) (texts : Passwords) → IsCredsOfType 1 text credentials → IsPasswordCreds credentials texts →
+    Form text
 with_texts text credentials texts t p =
     elim (texts_cases texts) [
-      | inl (buffers, u) ↦ stands_form buffers (record { credentials = credentials; texts = texts; creds_is = t; passwords_is = p; texts_are = u })
+      | inl (buffers, u) ↦ stands_form buffers (record {
+        credentials = credentials;
+        texts = texts;
+        creds_is = t;
+        passwords_is = p;
+        texts_are = u;
+      })
       | inr (bad, e) ↦ bad_text_form (credentials, texts, t, p, bad)
     ]
 
@@ -263,7 +299,8 @@ one_refusal text d e f g = cc
 descriptions : (text : List ℕ) (d e : Error) → creds_of text ≡ Err d → creds_of text ≡ Err e → d.description ≡ e.description
 descriptions text d e f g = ap (λ (x : Error). x.description) (one_refusal text d e f g)
 
-pub password_stands : (text : List ℕ) (buffers : AuthIdentityBuffers) → creds_of text ≡ Ok (buffered.AuthIdentity buffers) → StandsFor text buffers
+pub password_stands : (text : List ℕ) (buffers : AuthIdentityBuffers) → creds_of text ≡ Ok (buffered.AuthIdentity buffers) →
+    StandsFor text buffers
 password_stands text buffers e = by_form (form_of text)
   where
     by_form : Form text → StandsFor text buffers
@@ -271,7 +308,8 @@ password_stands text buffers e = by_form (form_of text)
     by_form (unknown_form h) = let f = unknown_refused text h in absurd cc
     by_form (smart_card_form h) = let f = smart_card_refused text h in absurd cc
     by_form (bad_text_form h) = let f = bad_text_refused text h in absurd cc
-    by_form (stands_form others h) = let f = password_read text others h in let same : others ≡ buffers = cc in subst (StandsFor text) same h
+    by_form (stands_form others h) = let f = password_read text others h in let same : others ≡ buffers =
+        cc in subst (StandsFor text) same h
 
 pub keytab_never : (text : List ℕ) (keytab : KeytabIdentity) → ¬ (creds_of text ≡ Ok (buffered.Keytab keytab))
 keytab_never text keytab e = by_form (form_of text)
@@ -341,14 +379,17 @@ refusal_listed text error e = by_form (form_of text)
 pub one_creds : (text cred_type credentials other_type other : List ℕ) → IsCreds text cred_type credentials → IsCreds text other_type other
     → (cred_type ≡ other_type) × (credentials ≡ other)
 one_creds text cred_type credentials other_type other t u =
-    let outer = both_are t.content u.content t.behind u.behind (sym (whole_again text cred_type credentials t) ∙ whole_again text other_type other u) in
+    let outer = both_are t.content u.content t.behind u.behind
+    (sym (whole_again text cred_type credentials t) ∙ whole_again text other_type other u) in
     let first : Fields = record { cred_type = cred_type; credentials = credentials } in
     let second : Fields = record { cred_type = other_type; credentials = other } in
-    let same = both_are first second t.left u.left (sym (fields_again text cred_type credentials t) ∙ ap fields_at outer.0 ∙ fields_again text other_type other u) in
+    let same = both_are first second t.left u.left (sym (fields_again text cred_type credentials t) ∙ ap fields_at outer.0 ∙ fields_again
+    text other_type other u) in
     (ap (λ (f : Fields). f.cred_type) same.0, ap (λ (f : Fields). f.credentials) same.0)
 
 pub one_passwords : (text : List ℕ) (texts other : Passwords) → IsPasswordCreds text texts → IsPasswordCreds text other → texts ≡ other
-one_passwords text texts other t u = (both_are texts other t.behind u.behind (sym (passwords_again text texts t) ∙ passwords_again text other u)).0
+one_passwords text texts other t u = (both_are texts other t.behind u.behind
+    (sym (passwords_again text texts t) ∙ passwords_again text other u)).0
 
 pub one_identity : (text : List ℕ) (buffers other : AuthIdentityBuffers) → StandsFor text buffers → StandsFor text other → buffers ≡ other
 one_identity text buffers other t u = let e = password_read text buffers t in let f = password_read text other u in cc

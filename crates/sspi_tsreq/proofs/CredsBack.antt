@@ -1,5 +1,6 @@
 -- Credentials that are written are read back.
-use Rattle.std.proofs.Common.{◌≡◌, ℕ, ◌≤◌, List, [], ◌∷◌, ◌++◌, true, false, Bool, cond, leb, Result, Ok, Err, length, refl, sym, ap, ◌∙◌, subst, arith, lit≤}
+use Rattle.std.proofs.Common.{◌≡◌, ℕ, ◌≤◌, List, [], ◌∷◌, ◌++◌, true, false, Bool, cond, leb, Result, Ok, Err, length, refl, sym, ap}
+use Rattle.std.proofs.Common.{◌∙◌, subst, arith, lit≤}
 use Rattle.std.proofs.lemmas.List.{append-nil}
 use Rattle.std.proofs.lemmas.Bool.{leb-true}
 use Rattle.sspi_types.specs.declared.error.Error.{Error}
@@ -17,7 +18,9 @@ use Rattle.sspi_names.specs.declared.credentials.CredentialsBuffers.TheVariants 
 use Rattle.sspi_names.proofs.CodeUnits.{decode_le-bytes_le}
 use Rattle.sspi_tsreq.specs.declared.mode.CredSspMode.{CredSspMode}
 use Rattle.sspi_tsreq.specs.declared.mode.CredSspMode.TheVariants.{WithCredentials, CredentialLess}
-use Rattle.sspi_tsreq.specs.Creds.{octets_in, wrapped_octets, fields_at, passwords_at, password_fields, password_type_field, creds_body, creds_in, creds_of, creds_text, buffers_text, spelled_if_fits, too_long, texts_of, delegated, delegated_credentials}
+use Rattle.sspi_tsreq.specs.Creds.{octets_in, wrapped_octets, fields_at, passwords_at, password_fields, password_type_field}
+use Rattle.sspi_tsreq.specs.Creds.{creds_body, creds_in, creds_of, creds_text, buffers_text, spelled_if_fits, too_long, texts_of}
+use Rattle.sspi_tsreq.specs.Creds.{delegated, delegated_credentials}
 use Rattle.std.specs.Result.{IfOk}
 use Rattle.sspi_tsreq.specs.CredsAnswers.{IsOrMemory}
 use Rattle.sspi_tsreq.specs.CredsSizes.{FitTexts, password_fields_size}
@@ -61,7 +64,8 @@ fields_back : (d u p : List ℕ) → FitTexts (length d) (length u) (length p)
 unfolding fields_at creds_body password_type_field
 fields_back d u p fit =
     let sequence = element 0x30 (password_fields d u p) in
-    let size : length sequence ≡ element_size (password_fields_size (length d) (length u) (length p)) = length-element 0x30 (password_fields d u p) ∙ ap element_size (length-password_fields d u p) in
+    let size : length sequence ≡ element_size (password_fields_size (length d) (length u) (length p)) =
+    length-element 0x30 (password_fields d u p) ∙ ap element_size (length-password_fields d u p) in
     rw (
       short_element_again 0xA0 (int_short 1) (wrapped_octets 0xA1 sequence) number_length,
       number_back,
@@ -69,12 +73,19 @@ fields_back d u p fit =
     )
 
 texts_back : (b : AuthIdentityBuffers) → AreBuffers b
-    → texts_of (record { domain = bytes_le b.domain; user = bytes_le b.user; password = bytes_le b.password.value }) ≡ Ok (credentials.AuthIdentity b)
+    → texts_of (record { domain = bytes_le b.domain; user = bytes_le b.user; password = bytes_le b.password.value }) ≡ Ok
+    (credentials.AuthIdentity b)
 unfolding texts_of
-texts_back b h = rw (decode_le-bytes_le b.domain h.domain_text, decode_le-bytes_le b.user h.user_text, decode_le-bytes_le b.password.value h.password_text)
+texts_back b h = rw (
+  decode_le-bytes_le b.domain h.domain_text,
+  decode_le-bytes_le b.user h.user_text,
+  decode_le-bytes_le b.password.value h.password_text,
+)
 
-creds_back : (b : AuthIdentityBuffers) (more : List ℕ) → AreBuffers b → length (creds_body (bytes_le b.domain) (bytes_le b.user) (bytes_le b.password.value)) ≤ max_content
-    → creds_of (element 0x30 (creds_body (bytes_le b.domain) (bytes_le b.user) (bytes_le b.password.value)) ++ more) ≡ Ok (credentials.AuthIdentity b)
+creds_back : (b : AuthIdentityBuffers) (more : List ℕ) → AreBuffers b →
+    length (creds_body (bytes_le b.domain) (bytes_le b.user) (bytes_le b.password.value)) ≤ max_content
+    → creds_of (element 0x30 (creds_body (bytes_le b.domain) (bytes_le b.user) (bytes_le b.password.value)) ++ more) ≡ Ok
+    (credentials.AuthIdentity b)
 unfolding creds_of creds_in
 creds_back b more h le =
     let d = bytes_le b.domain in
@@ -88,16 +99,22 @@ nothing_is_text = record { characters = []; scalars = refl; spelled = refl }
 
 delegated_buffers : (mode : CredSspMode) (b : AuthIdentityBuffers) → AreBuffers b → AreBuffers (delegated mode b)
 delegated_buffers WithCredentials b h = h
-delegated_buffers CredentialLess b h = record { user_text = nothing_is_text; domain_text = nothing_is_text; password_text = nothing_is_text }
+delegated_buffers CredentialLess b h = record {
+  user_text = nothing_is_text;
+  domain_text = nothing_is_text;
+  password_text = nothing_is_text;
+}
 
 abbrev fits_or_long : Bool → List ℕ → Result (List ℕ) Error
 fits_or_long fits body = cond fits (Ok (element 0x30 body)) (Err too_long)
 
-whole_if_fits : (body text : List ℕ) (fits : Bool) → leb (length body) max_content ≡ fits → fits_or_long fits body ≡ Ok text → (length body ≤ max_content) × (element 0x30 body ≡ text)
+whole_if_fits : (body text : List ℕ) (fits : Bool) → leb (length body) max_content ≡ fits → fits_or_long fits body ≡ Ok text →
+    (length body ≤ max_content) × (element 0x30 body ≡ text)
 whole_if_fits body text true e is = (leb-true (length body) max_content e, cc)
 whole_if_fits body text false e is = absurd cc
 
-buffers_back : (b : AuthIdentityBuffers) (text more : List ℕ) → AreBuffers b → buffers_text b ≡ Ok text → creds_of (text ++ more) ≡ Ok (credentials.AuthIdentity b)
+buffers_back : (b : AuthIdentityBuffers) (text more : List ℕ) → AreBuffers b → buffers_text b ≡ Ok text →
+    creds_of (text ++ more) ≡ Ok (credentials.AuthIdentity b)
 unfolding buffers_text
 buffers_back b text more h e =
     let body = creds_body (bytes_le b.domain) (bytes_le b.user) (bytes_le b.password.value) in
@@ -105,24 +122,29 @@ buffers_back b text more h e =
     ap (λ t. creds_of (t ++ more)) (sym whole.1) ∙ creds_back b more h whole.0
 
 -- what is written of credentials is read back, whatever follows it
-pub credentials_back : (c : CredentialsBuffers) (mode : CredSspMode) (text more : List ℕ) → AreCredentials c → creds_text c mode ≡ Ok text → creds_of (text ++ more) ≡ Ok (delegated_credentials mode c)
+pub credentials_back : (c : CredentialsBuffers) (mode : CredSspMode) (text more : List ℕ) → AreCredentials c →
+    creds_text c mode ≡ Ok text → creds_of (text ++ more) ≡ Ok (delegated_credentials mode c)
 credentials_back (credentials.AuthIdentity b) mode text more h e = buffers_back (delegated mode b) text more (delegated_buffers mode b h) e
 credentials_back (credentials.Keytab identity) mode text more h e = absurd cc
 
-pub credentials_back_alone : (c : CredentialsBuffers) (mode : CredSspMode) (text : List ℕ) → AreCredentials c → creds_text c mode ≡ Ok text → creds_of text ≡ Ok (delegated_credentials mode c)
+pub credentials_back_alone : (c : CredentialsBuffers) (mode : CredSspMode) (text : List ℕ) → AreCredentials c →
+    creds_text c mode ≡ Ok text → creds_of text ≡ Ok (delegated_credentials mode c)
 credentials_back_alone c mode text h e = ap creds_of (sym (append-nil text)) ∙ credentials_back c mode text [] h e
 
 -- ---- what a writer answers
 
-pub buffers_answer : {X : Type 0} (view : X → List ℕ) (r : Result X Error) (b : AuthIdentityBuffers) → IsOrMemory view r (buffers_text b) → IfOk r (λ x. AreBuffers b)
+pub buffers_answer : {X : Type 0} (view : X → List ℕ) (r : Result X Error) (b : AuthIdentityBuffers) →
+    IsOrMemory view r (buffers_text b) → IfOk r (λ x. AreBuffers b)
     → IfOk r (λ x. creds_of (view x) ≡ Ok (credentials.AuthIdentity b))
 buffers_answer view (Ok x) b answer h = ap creds_of (sym (append-nil (view x))) ∙ buffers_back b (view x) [] h answer
 buffers_answer view (Err e) b answer h = tt
 
-pub empty_answer : {X : Type 0} (view : X → List ℕ) (r : Result X Error) (b : AuthIdentityBuffers) → IsOrMemory view r (spelled_if_fits (creds_body [] [] []))
+pub empty_answer : {X : Type 0} (view : X → List ℕ) (r : Result X Error) (b : AuthIdentityBuffers) →
+    IsOrMemory view r (spelled_if_fits (creds_body [] [] []))
     → IfOk r (λ x. creds_of (view x) ≡ Ok (credentials.AuthIdentity (delegated CredentialLess b)))
 unfolding buffers_text bytes_le
 empty_answer view (Ok x) b answer =
     ap creds_of (sym (append-nil (view x)))
-    ∙ buffers_back (delegated CredentialLess b) (view x) [] (record { user_text = nothing_is_text; domain_text = nothing_is_text; password_text = nothing_is_text }) answer
+    ∙ buffers_back (delegated CredentialLess b) (view x) [] (record
+    { user_text = nothing_is_text; domain_text = nothing_is_text; password_text = nothing_is_text }) answer
 empty_answer view (Err e) b answer = tt

@@ -17,7 +17,8 @@ inside after content = Ok (content.0, after)
 abbrev in_field : ℕ → List ℕ × List ℕ → Read (List ℕ)
 in_field inner field = element_at inner field.0 >>= inside field.1
 
-octets_takes : (tag : ℕ) (bytes x rest : List ℕ) → octets_in tag bytes ≡ Ok (x, rest) → (text : List ℕ) × IsOctetsIn tag text x × (bytes ≡ text ++ rest)
+octets_takes : (tag : ℕ) (bytes x rest : List ℕ) → octets_in tag bytes ≡ Ok (x, rest) → (text : List ℕ) × IsOctetsIn tag text x ×
+    (bytes ≡ text ++ rest)
 unfolding octets_in
 octets_takes tag bytes x rest e =
     let outer = bind_ok (element_at tag bytes) (in_field 0x04) (x, rest) e in
@@ -26,12 +27,20 @@ octets_takes tag bytes x rest e =
     let t = (element_match tag).takes bytes outer.0.0 outer.0.1 outer.1 in
     let u = (element_match 0x04).takes outer.0.0 within.0.0 within.0.1 within.1 in (
       t.0,
-      record { field = outer.0.0; element = u.0; left = within.0.1; field_is = t.1; parts = u.2; element_is = subst (IsElement 0x04 u.0) same.0 u.1 },
+      record {
+        field = outer.0.0;
+        element = u.0;
+        left = within.0.1;
+        field_is = t.1;
+        parts = u.2;
+        element_is = subst (IsElement 0x04 u.0) same.0 u.1;
+      },
       t.2 ∙ ap (λ (l : List ℕ). t.0 ++ l) same.1,
     )
 
 -- the element inside a field
-within_again : (tag inner : ℕ) (text content : List ℕ) (t : IsFieldOf tag inner text content) → element_at inner t.field ≡ Ok (content, t.left)
+within_again : (tag inner : ℕ) (text content : List ℕ) (t : IsFieldOf tag inner text content) →
+    element_at inner t.field ≡ Ok (content, t.left)
 within_again tag inner text content t = ap (element_at inner) t.parts ∙ (element_match inner).again t.element content t.left t.element_is
 
 octets_again : (tag : ℕ) (text x rest : List ℕ) → IsOctetsIn tag text x → octets_in tag (text ++ rest) ≡ Ok (x, rest)
@@ -60,7 +69,8 @@ with_domain after domain = octets_in 0xA1 domain.1 >>= with_user after domain.0
 abbrev in_sequence : List ℕ × List ℕ → Read Passwords
 in_sequence body = octets_in 0xA0 body.0 >>= with_domain body.1
 
-pub passwords_take : (bytes : List ℕ) (texts : Passwords) (rest : List ℕ) → passwords_at bytes ≡ Ok (texts, rest) → IsPasswordCreds bytes texts
+pub passwords_take : (bytes : List ℕ) (texts : Passwords) (rest : List ℕ) → passwords_at bytes ≡ Ok (texts, rest) →
+    IsPasswordCreds bytes texts
 unfolding passwords_at
 passwords_take bytes texts rest e =
     let body = bind_ok (element_at 0x30 bytes) in_sequence (texts, rest) e in
@@ -94,9 +104,12 @@ passwords_again bytes texts t =
     ap (λ (l : List ℕ). element_at 0x30 l >>= in_sequence) t.parts
     ∙ ap (λ (r : Read (List ℕ)). r >>= in_sequence) ((element_match 0x30).again t.sequence t.content t.behind t.sequence_is)
     ∙ ap (λ (l : List ℕ). octets_in 0xA0 l >>= with_domain t.behind) t.fields
-    ∙ ap (λ (r : Read (List ℕ)). r >>= with_domain t.behind) (octets_again 0xA0 t.domain texts.domain (t.user ++ (t.password ++ t.left)) t.domain_is)
-    ∙ ap (λ (r : Read (List ℕ)). r >>= with_user t.behind texts.domain) (octets_again 0xA1 t.user texts.user (t.password ++ t.left) t.user_is)
-    ∙ ap (λ (r : Read (List ℕ)). r >>= with_password t.behind texts.domain texts.user) (octets_again 0xA2 t.password texts.password t.left t.password_is)
+    ∙ ap (λ (r : Read (List ℕ)). r >>= with_domain t.behind)
+    (octets_again 0xA0 t.domain texts.domain (t.user ++ (t.password ++ t.left)) t.domain_is)
+    ∙ ap (λ (r : Read (List ℕ)). r >>= with_user t.behind texts.domain)
+    (octets_again 0xA1 t.user texts.user (t.password ++ t.left) t.user_is)
+    ∙ ap (λ (r : Read (List ℕ)). r >>= with_password t.behind texts.domain texts.user)
+    (octets_again 0xA2 t.password texts.password t.left t.password_is)
 
 -- ---- TSCredentials
 
@@ -112,7 +125,8 @@ with_number after number = octets_in 0xA1 after >>= with_octets number.0
 abbrev with_field : List ℕ × List ℕ → Read Fields
 with_field field = element_at 0x02 field.0 >>= with_number field.1
 
-pub fields_take : (text body behind : List ℕ) (f : Fields) (left : List ℕ) → element_at 0x30 text ≡ Ok (body, behind) → fields_at body ≡ Ok (f, left) → IsCreds text f.cred_type f.credentials
+pub fields_take : (text body behind : List ℕ) (f : Fields) (left : List ℕ) → element_at 0x30 text ≡ Ok (body, behind) →
+    fields_at body ≡ Ok (f, left) → IsCreds text f.cred_type f.credentials
 unfolding fields_at
 fields_take text body behind f left whole e =
     let a = bind_ok (element_at 0xA0 body) with_field (f, left) e in
@@ -137,13 +151,17 @@ fields_take text body behind f left whole e =
       credentials_is = octets.1;
     })
 
-pub whole_again : (text cred_type credentials : List ℕ) (t : IsCreds text cred_type credentials) → element_at 0x30 text ≡ Ok (t.content, t.behind)
-whole_again text cred_type credentials t = ap (element_at 0x30) t.parts ∙ (element_match 0x30).again t.sequence t.content t.behind t.sequence_is
+pub whole_again : (text cred_type credentials : List ℕ) (t : IsCreds text cred_type credentials) →
+    element_at 0x30 text ≡ Ok (t.content, t.behind)
+whole_again text cred_type credentials t = ap (element_at 0x30) t.parts ∙
+    (element_match 0x30).again t.sequence t.content t.behind t.sequence_is
 
-pub fields_again : (text cred_type credentials : List ℕ) (t : IsCreds text cred_type credentials) → fields_at t.content ≡ Ok (two_fields cred_type credentials, t.left)
+pub fields_again : (text cred_type credentials : List ℕ) (t : IsCreds text cred_type credentials) →
+    fields_at t.content ≡ Ok (two_fields cred_type credentials, t.left)
 unfolding fields_at
 fields_again text cred_type credentials t =
     ap (λ (l : List ℕ). element_at 0xA0 l >>= with_field) t.fields
-    ∙ ap (λ (r : Read (List ℕ)). r >>= with_field) ((element_match 0xA0).again t.number t.type_is.field (t.octets ++ t.left) t.type_is.field_is)
+    ∙ ap (λ (r : Read (List ℕ)). r >>= with_field) ((element_match 0xA0).again t.number t.type_is.field
+    (t.octets ++ t.left) t.type_is.field_is)
     ∙ ap (λ (r : Read (List ℕ)). r >>= with_number (t.octets ++ t.left)) (within_again 0xA0 0x02 t.number cred_type t.type_is)
     ∙ ap (λ (r : Read (List ℕ)). r >>= with_octets cred_type) (octets_again 0xA1 t.octets credentials t.left t.credentials_is)

@@ -1,5 +1,6 @@
 -- A content that ends here.
-use Rattle.std.proofs.Common.{◌≡◌, ℕ, ◌+◌, ◌-◌, ◌<◌, ◌≤◌, Bool, true, false, cond, ltb, leb, List, [], ◌∷◌, ◌++◌, length, Option, None, Some, Ok, Err, refl, sym, ap, ◌∙◌, arith}
+use Rattle.std.proofs.Common.{◌≡◌, ℕ, ◌+◌, ◌-◌, ◌<◌, ◌≤◌, Bool, true, false, cond, ltb, leb, List, [], ◌∷◌, ◌++◌, length, Option, None}
+use Rattle.std.proofs.Common.{Some, Ok, Err, refl, sym, ap, ◌∙◌, arith}
 use Rattle.std.proofs.lemmas.Bool.{lt-ltb, le-ltb}
 use Rattle.sspi_ber.specs.Fault.{Fault, Ended, Invalid, Read, ◌>>=◌}
 use Rattle.sspi_ber.specs.Pieces.{byte_at, bytes_at, length_at, header_at, integer_at, element_at, tag_or_absent_at, field_at, tagged_at}
@@ -10,9 +11,12 @@ use Rattle.sspi_tsreq.specs.declared.place.Text.{Text}
 use Rattle.sspi_tsreq.specs.declared.place.Text.TheVariants.{NegoTokens, AuthInfo, PubKeyAuth}
 use Rattle.sspi_tsreq.specs.declared.place.Element.{Element}
 use Rattle.sspi_tsreq.specs.declared.place.Inner.{Inner}
-use Rattle.sspi_tsreq.specs.declared.place.Inner.TheVariants.{Version, VersionNumber, TokenList, TokenItem, Token, Octets, CodeNumber, NonceOctets}
-use Rattle.sspi_tsreq.specs.Reading.{low_at, nonce_at, token_at, code_at, looked_at, after_code, after_key, after_auth, after_nego, after_version, body_at}
-use Rattle.sspi_tsreq.specs.Places.{answered, limited_from, low_from, length_rest, length_from, version_from, code_from, text_from, nonce_from}
+use Rattle.sspi_tsreq.specs.declared.place.Inner.TheVariants.{Version, VersionNumber, TokenList, TokenItem, Token, Octets, CodeNumber}
+use Rattle.sspi_tsreq.specs.declared.place.Inner.TheVariants.{NonceOctets}
+use Rattle.sspi_tsreq.specs.Reading.{low_at, nonce_at, token_at, code_at, looked_at, after_code, after_key, after_auth, after_nego}
+use Rattle.sspi_tsreq.specs.Reading.{after_version, body_at}
+use Rattle.sspi_tsreq.specs.Places.{answered, limited_from, low_from, length_rest, length_from, version_from, code_from, text_from}
+use Rattle.sspi_tsreq.specs.Places.{nonce_from}
 use Rattle.sspi_tsreq.specs.Walks.{from_inner}
 use Rattle.sspi_tsreq.proofs.Numbers.{bytes_short}
 use Rattle.sspi_tsreq.proofs.Steps.{nego_found, auth_found, key_found, code_found, nonce_found}
@@ -131,8 +135,10 @@ no_code r = ap answered (code_none r) ∙ no_nonce (record r { error_code = None
 pub no_key : (r : TsRequest) → answered (after_auth r []) ≡ Ok (record r { pub_key_auth = None; error_code = None; client_nonce = None })
 no_key r = ap answered (key_none r) ∙ no_code (record r { pub_key_auth = None })
 
-pub no_auth : (r : TsRequest) → answered (after_nego r []) ≡ Ok (record r { auth_info = None; pub_key_auth = None; error_code = None; client_nonce = None })
+pub no_auth : (r : TsRequest) → answered (after_nego r []) ≡ Ok
+    (record r { auth_info = None; pub_key_auth = None; error_code = None; client_nonce = None })
 no_auth r = ap answered (auth_none r) ∙ no_key (record r { auth_info = None })
 
-pub no_nego : (r : TsRequest) → answered (after_version r []) ≡ Ok (record r { nego_tokens = None; auth_info = None; pub_key_auth = None; error_code = None; client_nonce = None })
+pub no_nego : (r : TsRequest) → answered (after_version r []) ≡ Ok
+    (record r { nego_tokens = None; auth_info = None; pub_key_auth = None; error_code = None; client_nonce = None })
 no_nego r = ap answered (nego_none r) ∙ no_auth (record r { nego_tokens = None })

@@ -1,15 +1,19 @@
 -- What the first fault of a request means: what more bytes change, and what it is in terms of the header and the body.
-use Rattle.std.proofs.Common.{◌≡◌, ℕ, ◌%◌, ◌^◌, Bool, true, false, cond, eqb, leb, ltb, inl, inr, take, drop, List, ◌∷◌, ◌++◌, length, Option, Some, Ok, Err, refl, sym, ap, ◌∙◌, subst}
+use Rattle.std.proofs.Common.{◌≡◌, ℕ, ◌%◌, ◌^◌, Bool, true, false, cond, eqb, leb, ltb, inl, inr, take, drop, List, ◌∷◌, ◌++◌, length}
+use Rattle.std.proofs.Common.{Option, Some, Ok, Err, refl, sym, ap, ◌∙◌, subst}
 use Rattle.sspi_types.specs.declared.nstatus.NStatusCode.{NStatusCode}
 use Rattle.sspi_ber.specs.Fault.{Fault, Ended, Invalid, Read, ◌>>=◌, as_ended, fault_of, zeros}
 use Rattle.sspi_ber.specs.Forms.{IsLength, IsHeader}
 use Rattle.sspi_ber.specs.Pieces.{bytes_at, header_at, integer_at, field_at, tagged_at}
 use Rattle.sspi_ber.proofs.PiecesMatch.{chosen, bytes_match, header_match}
-use Rattle.sspi_ber.proofs.Steady.{Steady, Steady-then, Steady-map, Steady-cond, Steady-refused, Optional, field_optional, nothing_optional, Settled, Settled-map, Settled-then, Begun, Begun-then, bytes_steady, header_steady, element_steady, integer_steady, tagged_steady}
+use Rattle.sspi_ber.proofs.Steady.{Steady, Steady-then, Steady-map, Steady-cond, Steady-refused, Optional, field_optional}
+use Rattle.sspi_ber.proofs.Steady.{nothing_optional, Settled, Settled-map, Settled-then, Begun, Begun-then, bytes_steady}
+use Rattle.sspi_ber.proofs.Steady.{header_steady, element_steady, integer_steady, tagged_steady}
 use Rattle.sspi_tsreq.specs.declared.request.TsRequest.{TsRequest}
 use Rattle.sspi_tsreq.specs.Value.{bare}
 use Rattle.sspi_tsreq.specs.Answer.{fault, body_fault}
-use Rattle.sspi_tsreq.specs.Reading.{low_at, version_at, octets_at, token_at, code_at, nonce_at, looked_at, after_code, after_key, after_auth, after_nego, after_version, body_at, request_at}
+use Rattle.sspi_tsreq.specs.Reading.{low_at, version_at, octets_at, token_at, code_at, nonce_at, looked_at, after_code, after_key}
+use Rattle.sspi_tsreq.specs.Reading.{after_auth, after_nego, after_version, body_at, request_at}
 
 low_of : ℕ → ℕ
 low_of w = w % 2 ^ 32
@@ -25,7 +29,8 @@ octets_steady : Steady octets_at
 octets_steady = element_steady 0x04
 
 token_steady : Steady token_at
-token_steady = tagged_steady 0x30 (tagged_at 0x30 (tagged_at 0xA0 octets_at)) (tagged_steady 0x30 (tagged_at 0xA0 octets_at) (tagged_steady 0xA0 octets_at octets_steady))
+token_steady = tagged_steady 0x30 (tagged_at 0x30 (tagged_at 0xA0 octets_at))
+    (tagged_steady 0x30 (tagged_at 0xA0 octets_at) (tagged_steady 0xA0 octets_at octets_steady))
 
 abbrev code_of : ℕ → NStatusCode
 code_of low = record { 0 = low }
@@ -40,7 +45,8 @@ nonce_steady =
     Steady-then (header_at 0x04) (λ n bytes. cond (eqb n 32) (bytes_at n bytes) (Err Invalid)) (header_steady 0x04)
     (λ n. Steady-cond (eqb n 32) (bytes_at n) (λ bytes. Err Invalid) (bytes_steady n) Steady-refused)
 
-looked_optional : {A : Type 0} (looked : Bool) (tag : ℕ) (inner : List ℕ → Read A) → Steady inner → Optional (looked_at looked (field_at tag inner))
+looked_optional : {A : Type 0} (looked : Bool) (tag : ℕ) (inner : List ℕ → Read A) → Steady inner →
+    Optional (looked_at looked (field_at tag inner))
 looked_optional true tag inner s = field_optional tag inner s
 looked_optional false tag inner s = nothing_optional
 
@@ -51,24 +57,28 @@ with_nonce r nonce = record r { client_nonce = nonce }
 
 code_settled : (r : TsRequest) → Settled (after_code r)
 unfolding after_code
-code_settled r = Settled-map (with_nonce r) (looked_at (leb 5 r.version) (field_at 0xA5 nonce_at)) (looked_optional (leb 5 r.version) 0xA5 nonce_at nonce_steady)
+code_settled r = Settled-map (with_nonce r) (looked_at (leb 5 r.version) (field_at 0xA5 nonce_at))
+    (looked_optional (leb 5 r.version) 0xA5 nonce_at nonce_steady)
 
 key_settled : (r : TsRequest) → Settled (after_key r)
 unfolding after_key
 key_settled r =
-    Settled-then (looked_at (leb 3 r.version) (field_at 0xA4 code_at)) (λ code. after_code (record r { error_code = code })) (looked_optional (leb 3 r.version) 0xA4 code_at code_steady)
+    Settled-then (looked_at (leb 3 r.version) (field_at 0xA4 code_at)) (λ code. after_code (record r { error_code = code }))
+    (looked_optional (leb 3 r.version) 0xA4 code_at code_steady)
     (λ code. code_settled (record r { error_code = code }))
 
 auth_settled : (r : TsRequest) → Settled (after_auth r)
 unfolding after_auth
 auth_settled r =
-    Settled-then (field_at 0xA3 octets_at) (λ key. after_key (record r { pub_key_auth = key })) (field_optional 0xA3 octets_at octets_steady)
+    Settled-then (field_at 0xA3 octets_at) (λ key. after_key (record r { pub_key_auth = key }))
+    (field_optional 0xA3 octets_at octets_steady)
     (λ key. key_settled (record r { pub_key_auth = key }))
 
 nego_settled : (r : TsRequest) → Settled (after_nego r)
 unfolding after_nego
 nego_settled r =
-    Settled-then (field_at 0xA2 octets_at) (λ auth. after_auth (record r { auth_info = auth })) (field_optional 0xA2 octets_at octets_steady)
+    Settled-then (field_at 0xA2 octets_at) (λ auth. after_auth (record r { auth_info = auth }))
+    (field_optional 0xA2 octets_at octets_steady)
     (λ auth. auth_settled (record r { auth_info = auth }))
 
 version_settled : (r : TsRequest) → Settled (after_version r)
@@ -115,17 +125,21 @@ unfolding request_at
 framed len body after m =
     let header : header_at 0x30 ((0x30 ∷ len) ++ (body ++ after)) ≡ Ok (length body, body ++ after) =
     (header_match 0x30).again (0x30 ∷ len) (length body) (body ++ after) (record { len = len; spelled = refl; measured = m }) in
-    let block : bytes_at (length body) (body ++ after) ≡ Ok (body, after) = (bytes_match (length body)).again body body after (refl, refl) in
-    ap (λ (h : Read ℕ). fault_of (as_ended h >>= measured)) header ∙ ap (λ (h : Read (List ℕ)). fault_of (h >>= inside)) block ∙ same_fault after (body_at body)
+    let block : bytes_at (length body) (body ++ after) ≡ Ok (body, after) =
+    (bytes_match (length body)).again body body after (refl, refl) in
+    ap (λ (h : Read ℕ). fault_of (as_ended h >>= measured)) header ∙ ap
+    (λ (h : Read (List ℕ)). fault_of (h >>= inside)) block ∙ same_fault after (body_at body)
 
 abbrev Unframed : List ℕ → Type 0
 Unframed bytes = (len body after : List ℕ) → IsLength len (length body) → bytes ≡ (0x30 ∷ len) ++ (body ++ after) → ⊥
 
 never_invalid : (n : ℕ) (bytes : List ℕ) → bytes_at n bytes ≡ Err Invalid → ⊥
 unfolding bytes_at
-never_invalid n bytes e = elim (chosen (ltb (length bytes) n) (Err Ended) (Ok (take n bytes, drop n bytes)) (Err Invalid) e) [ inl (t, f) ↦ cc | inr (t, f) ↦ cc ]
+never_invalid n bytes e = elim (chosen (ltb (length bytes) n) (Err Ended) (Ok (take n bytes, drop n bytes)) (Err Invalid) e)
+    [ inl (t, f) ↦ cc | inr (t, f) ↦ cc ]
 
-block_ended : (bytes header : List ℕ) (n : ℕ) (rest : List ℕ) (z : Read (List ℕ)) → Unframed bytes → IsHeader 0x30 header n → bytes ≡ header ++ rest → bytes_at n rest ≡ z
+block_ended : (bytes header : List ℕ) (n : ℕ) (rest : List ℕ) (z : Read (List ℕ)) → Unframed bytes → IsHeader 0x30 header n →
+    bytes ≡ header ++ rest → bytes_at n rest ≡ z
     → fault_of (z >>= inside) ≡ Some Ended
 block_ended bytes header n rest (Ok b) none h e f =
     let t = (bytes_match n).takes rest b.0 b.1 f in

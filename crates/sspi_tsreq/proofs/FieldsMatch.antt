@@ -25,7 +25,8 @@ low_from text value rest t = (t.whole, t.integer, t.low)
 
 pub low_match : Matches low_at (Bare IsLow)
 unfolding low_at
-low_match = Matches-same low_at (Mapped low_of (Bare IsInteger)) (Bare IsLow) low_to low_from (Matches-map low_of integer_at (Bare IsInteger) integer_match)
+low_match = Matches-same low_at (Mapped low_of (Bare IsInteger)) (Bare IsLow) low_to low_from
+    (Matches-map low_of integer_at (Bare IsInteger) integer_match)
 
 pub version_match : Matches version_at (Bare (IsWrapped 0xA0 IsLow))
 version_match = tagged_match 0xA0 low_at IsLow low_match
@@ -49,7 +50,8 @@ code_from text code rest t = (code.0, t, refl)
 
 pub code_match : Matches code_at (Bare IsCode)
 unfolding code_at
-code_match = Matches-same code_at (Mapped code_of (Bare IsLow)) (Bare IsCode) code_to code_from (Matches-map code_of low_at (Bare IsLow) low_match)
+code_match = Matches-same code_at (Mapped code_of (Bare IsLow)) (Bare IsCode) code_to code_from
+    (Matches-map code_of low_at (Bare IsLow) low_match)
 
 -- ---- the nonce
 
@@ -95,7 +97,8 @@ nonce_match =
 
 -- ---- fields that only some versions look for
 
-pub looked_match : {A : Type 0} (looked : Bool) (tag : ℕ) (inner : List ℕ → Read A) (Inner : List ℕ → A → Type 0) → Matches inner (Bare Inner)
+pub looked_match : {A : Type 0} (looked : Bool) (tag : ℕ) (inner : List ℕ → Read A) (Inner : List ℕ → A → Type 0) →
+    Matches inner (Bare Inner)
     → Matches (looked_at looked (field_at tag inner)) (IsLookedFor looked tag Inner)
 looked_match true tag inner Inner m = field_match tag inner Inner m
 looked_match false tag inner Inner m = Matches-nothing None

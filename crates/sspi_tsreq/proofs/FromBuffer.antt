@@ -14,7 +14,8 @@ use Rattle.sspi_tsreq.specs.Reading.{request_at}
 use Rattle.sspi_tsreq.proofs.RequestMatch.{request_takes, request_again}
 
 -- nothing was read, and no memory was wanted for that
-pub refused_answer : {X : Type 0} (view : X → TsRequest) (bytes after : List ℕ) (kind : WireKind) → Gives view after (Err kind) (request_at bytes) → NeedsNoMemory {X = X} (Err kind) → IsAnswer bytes (Err kind)
+pub refused_answer : {X : Type 0} (view : X → TsRequest) (bytes after : List ℕ) (kind : WireKind) →
+    Gives view after (Err kind) (request_at bytes) → NeedsNoMemory {X = X} (Err kind) → IsAnswer bytes (Err kind)
 refused_answer view bytes after UnexpectedEof h m = ap (λ (x : Read TsRequest). fault_of x) h
 refused_answer view bytes after InvalidData h m = ap (λ (x : Read TsRequest). fault_of x) h
 refused_answer view bytes after ReadFault h m = h
@@ -29,13 +30,16 @@ kept_answer bytes after r s h same =
     ((t.0, t.1), ap (λ (x : Read TsRequest). fault_of x) e)
 
 -- memory was wanting for what was read
-pub unkept_answer : (bytes after : List ℕ) (s : TsRequest) → request_at bytes ≡ Ok (s, after) → HasOctets s → IsAnswer bytes (Err InsufficientMemory)
+pub unkept_answer : (bytes after : List ℕ) (s : TsRequest) → request_at bytes ≡ Ok (s, after) → HasOctets s →
+    IsAnswer bytes (Err InsufficientMemory)
 unkept_answer bytes after s h octets = let t = request_takes bytes s after h in (s, t.0, t.1, octets)
 
-not_fault : (bytes : List ℕ) (r : TsRequest) (rest : List ℕ) (fault : Fault) → request_at bytes ≡ Ok (r, rest) → request_at bytes ≡ Err fault → ⊥
+not_fault : (bytes : List ℕ) (r : TsRequest) (rest : List ℕ) (fault : Fault) → request_at bytes ≡ Ok (r, rest) →
+    request_at bytes ≡ Err fault → ⊥
 not_fault bytes r rest fault e f = cc
 
-pub refused_only : {X : Type 0} (view : X → TsRequest) (bytes after : List ℕ) (kind : WireKind) → Gives view after (Err kind) (request_at bytes) → NeedsNoMemory {X = X} (Err kind)
+pub refused_only : {X : Type 0} (view : X → TsRequest) (bytes after : List ℕ) (kind : WireKind) →
+    Gives view after (Err kind) (request_at bytes) → NeedsNoMemory {X = X} (Err kind)
     → (r : TsRequest) (count : ℕ) → IsRequest bytes r count → IsUnlessMemory {X = TsRequest} (Err kind) r
 refused_only view bytes after UnexpectedEof h m r count t = not_fault bytes r (drop count bytes) Ended (request_again bytes r count t) h
 refused_only view bytes after InvalidData h m r count t = not_fault bytes r (drop count bytes) Invalid (request_again bytes r count t) h
@@ -46,11 +50,16 @@ refused_only view bytes after InsufficientMemory h m r count t = tt
 abbrev Copied : TsRequest → Result TsRequest WireKind → Type 0
 Copied s result = IfOk result (λ r. r ≡ s) × IfErr result (λ kind. (kind ≡ InsufficientMemory) × HasOctets s)
 
-pub copied_answer : (bytes after : List ℕ) (s : TsRequest) (result : Result TsRequest WireKind) → request_at bytes ≡ Ok (s, after) → Copied s result → IsAnswer bytes result
+pub copied_answer : (bytes after : List ℕ) (s : TsRequest) (result : Result TsRequest WireKind) → request_at bytes ≡ Ok (s, after) →
+    Copied s result → IsAnswer bytes result
 copied_answer bytes after s (Ok r) h (same, none) = kept_answer bytes after r s h same
-copied_answer bytes after s (Err kind) h (none, (is, octets)) = subst (λ (k : WireKind). IsAnswer bytes (Err k)) (sym is) (unkept_answer bytes after s h octets)
+copied_answer bytes after s (Err kind) h (none, (is, octets)) =
+    subst (λ (k : WireKind). IsAnswer bytes (Err k)) (sym is) (unkept_answer bytes after s h octets)
 
-pub copied_only : (bytes after : List ℕ) (s : TsRequest) (result : Result TsRequest WireKind) → request_at bytes ≡ Ok (s, after) → Copied s result
+pub copied_only : (bytes after : List ℕ) (s : TsRequest) (result : Result TsRequest WireKind) → request_at bytes ≡ Ok (s, after) →
+    Copied s result
     → (r : TsRequest) (count : ℕ) → IsRequest bytes r count → IsUnlessMemory result r
-copied_only bytes after s (Ok x) h (same, none) r count t = same ∙ (both_are s r after (drop count bytes) (sym h ∙ request_again bytes r count t)).0
-copied_only bytes after s (Err kind) h (none, (is, octets)) r count t = subst (λ (k : WireKind). IsUnlessMemory {X = TsRequest} (Err k) r) (sym is) tt
+copied_only bytes after s (Ok x) h (same, none) r count t = same ∙
+    (both_are s r after (drop count bytes) (sym h ∙ request_again bytes r count t)).0
+copied_only bytes after s (Err kind) h (none, (is, octets)) r count t =
+    subst (λ (k : WireKind). IsUnlessMemory {X = TsRequest} (Err k) r) (sym is) tt

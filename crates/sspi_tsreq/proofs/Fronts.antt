@@ -27,18 +27,22 @@ alone_request bytes r count t = record {
 }
 
 -- what the header of bytes reads as, where they are a SEQUENCE and its content
-header_is : (bytes len body after : List ℕ) → IsLength len (length body) → bytes ≡ (0x30 ∷ len) ++ (body ++ after) → header_at 0x30 bytes ≡ Ok (length body, body ++ after)
+header_is : (bytes len body after : List ℕ) → IsLength len (length body) → bytes ≡ (0x30 ∷ len) ++ (body ++ after) →
+    header_at 0x30 bytes ≡ Ok (length body, body ++ after)
 header_is bytes len body after m e =
-    ap (header_at 0x30) e ∙ (header_match 0x30).again (0x30 ∷ len) (length body) (body ++ after) (record { len = len; spelled = refl; measured = m })
+    ap (header_at 0x30) e ∙ (header_match 0x30).again (0x30 ∷ len) (length body) (body ++ after)
+    (record { len = len; spelled = refl; measured = m })
 
 whole_length : (len body after : List ℕ) → length ((0x30 ∷ len) ++ (body ++ after)) ≡ length ((0x30 ∷ len) ++ body) + length after
 whole_length len body after = ap length (sym (append_assoc (0x30 ∷ len) body after)) ∙ length-append ((0x30 ∷ len) ++ body) after
 
 -- bytes are a SEQUENCE and its content in one way
 one_frame : (bytes len body after other content behind : List ℕ) → IsLength len (length body) → bytes ≡ (0x30 ∷ len) ++ (body ++ after)
-    → IsLength other (length content) → bytes ≡ (0x30 ∷ other) ++ (content ++ behind) → length ((0x30 ∷ len) ++ body) ≡ length ((0x30 ∷ other) ++ content)
+    → IsLength other (length content) → bytes ≡ (0x30 ∷ other) ++ (content ++ behind) →
+    length ((0x30 ∷ len) ++ body) ≡ length ((0x30 ∷ other) ++ content)
 one_frame bytes len body after other content behind m e n f =
-    let same = both_are (length body) (length content) (body ++ after) (content ++ behind) (sym (header_is bytes len body after m e) ∙ header_is bytes other content behind n f) in
+    let same = both_are (length body) (length content) (body ++ after) (content ++ behind)
+    (sym (header_is bytes len body after m e) ∙ header_is bytes other content behind n f) in
     omega (
       arith,
       same.0,

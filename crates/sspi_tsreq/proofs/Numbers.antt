@@ -1,5 +1,6 @@
 -- Lengths and numbers that are read byte by byte.
-use Rattle.std.proofs.Common.{◌≡◌, ℕ, zero, suc, ◌+◌, ◌-◌, ◌*◌, ◌%◌, ◌^◌, ◌<◌, ◌≤◌, Bool, true, false, cond, eqb, ltb, leb, List, [], ◌∷◌, ◌++◌, length, take, drop, fold, Ok, Err, refl, sym, ap, ◌∙◌, subst, inl, inr, add-one, arith, lit<}
+use Rattle.std.proofs.Common.{◌≡◌, ℕ, zero, suc, ◌+◌, ◌-◌, ◌*◌, ◌%◌, ◌^◌, ◌<◌, ◌≤◌, Bool, true, false, cond, eqb, ltb, leb, List, []}
+use Rattle.std.proofs.Common.{◌∷◌, ◌++◌, length, take, drop, fold, Ok, Err, refl, sym, ap, ◌∙◌, subst, inl, inr, add-one, arith, lit<}
 use Rattle.std.proofs.lemmas.Bool.{cases_lt, lt-ltb, le-ltb, le-leb, lt-leb}
 use Rattle.std.proofs.lemmas.List.{length-append}
 use Rattle.std.proofs.Math.Seq.{take-append-add, drop-append-add}
@@ -47,7 +48,8 @@ pub byte_behind : (byte : ℕ) (more : List ℕ) (n : ℕ) → bytes_at (n + 1) 
 byte_behind byte more n = ap (λ (k : ℕ). bytes_at k (byte ∷ more)) (omega arith) ∙ bytes_behind (byte ∷ []) more n
 
 -- two steps in one
-pub map_then : {A B C : Type 0} (z : Read A) (f : A × List ℕ → B × List ℕ) (k : B × List ℕ → Read C) → ((z >>= λ x. Ok (f x)) >>= k) ≡ (z >>= λ x. k (f x))
+pub map_then : {A B C : Type 0} (z : Read A) (f : A × List ℕ → B × List ℕ) (k : B × List ℕ → Read C) →
+    ((z >>= λ x. Ok (f x)) >>= k) ≡ (z >>= λ x. k (f x))
 map_then (Ok x) f k = refl
 map_then (Err fault) f k = refl
 
@@ -72,10 +74,12 @@ limited_last value more = ap (λ (z : Read (List ℕ)). z >>= limited_of value) 
 limited_start : (count : ℕ) (bytes : List ℕ) → limited_at count bytes ≡ limited_from 0 count bytes
 unfolding limited_at number_at limited_from
 limited_start count bytes =
-    map_then (bytes_at count bytes) (λ read. (big_endian read.0, read.1)) (λ (n : ℕ × List ℕ). cond (leb n.0 max_content) (Ok n) (Err Invalid))
+    map_then (bytes_at count bytes) (λ read. (big_endian read.0, read.1))
+    (λ (n : ℕ × List ℕ). cond (leb n.0 max_content) (Ok n) (Err Invalid))
 
 -- a length's first octet
-length_by : (byte : ℕ) (more : List ℕ) → length_at (byte ∷ more) ≡ cond (ltb byte 0x80) (Ok (byte, more)) (cond (is_octet_count (byte - 0x80)) (limited_at (byte - 0x80) more) (Err Invalid))
+length_by : (byte : ℕ) (more : List ℕ) → length_at (byte ∷ more) ≡ cond (ltb byte 0x80) (Ok (byte, more))
+    (cond (is_octet_count (byte - 0x80)) (limited_at (byte - 0x80) more) (Err Invalid))
 unfolding length_at
 length_by byte more = refl
 
@@ -98,7 +102,8 @@ no_count k a b c =
       | inr ge ↦ rw (le-leb 1 k ge, lt-leb k 3 (omega (arith, ge, a, b, c))) refl
     ]
 
-pub bad_first : (byte : ℕ) (more : List ℕ) → 0x80 ≤ byte → (byte ≡ 0x81 → ⊥) → (byte ≡ 0x82 → ⊥) → (byte ≡ 0x83 → ⊥) → length_at (byte ∷ more) ≡ Err Invalid
+pub bad_first : (byte : ℕ) (more : List ℕ) → 0x80 ≤ byte → (byte ≡ 0x81 → ⊥) → (byte ≡ 0x82 → ⊥) → (byte ≡ 0x83 → ⊥) →
+    length_at (byte ∷ more) ≡ Err Invalid
 bad_first byte more le a b c =
     let none : is_octet_count (byte - 0x80) ≡ false =
     no_count (byte - 0x80) (λ e. a (omega (arith, e, le))) (λ e. b (omega (arith, e, le))) (λ e. c (omega (arith, e, le))) in
@@ -109,7 +114,8 @@ pub length_lasts : (step : LengthStep) (value byte len : ℕ) (more : List ℕ) 
 length_lasts (Part part) value byte len more e h = absurd h
 length_lasts (Known n) value byte len more e h =
     limited_step value byte 0 more ∙ limited_last (value * 256 + byte) more ∙ rw (sym e, le-leb len max_content h.1, h.0) refl
-length_lasts Bad value byte len more e h = limited_step value byte 0 more ∙ limited_last (value * 256 + byte) more ∙ rw (sym e, lt-leb len max_content h) refl
+length_lasts Bad value byte len more e h = limited_step value byte 0 more ∙ limited_last (value * 256 + byte) more ∙ rw
+    (sym e, lt-leb len max_content h) refl
 
 -- ---- numbers
 
@@ -129,7 +135,8 @@ low_last value more = ap (λ (z : Read (List ℕ)). z >>= λ x. Ok (fold grow va
 cut_grow : (high byte : ℕ) → grow (high % 2 ^ 32) byte ≡ (high * 256 + byte) % 2 ^ 32
 cut_grow high byte = omega arith
 
-low_fold : (value : ℕ) (bytes : List ℕ) → fold (λ (high byte : ℕ). high * 256 + byte) value bytes % 2 ^ 32 ≡ fold grow (value % 2 ^ 32) bytes
+low_fold : (value : ℕ) (bytes : List ℕ) → fold (λ (high byte : ℕ). high * 256 + byte) value bytes % 2 ^ 32 ≡ fold grow
+    (value % 2 ^ 32) bytes
 low_fold value [] = refl
 low_fold value (byte ∷ bytes) = low_fold (value * 256 + byte) bytes ∙ ap (λ (v : ℕ). fold grow v bytes) (sym (cut_grow value byte))
 

@@ -9,13 +9,15 @@ use Rattle.sspi_tsreq.specs.Grammar.{IsLow, IsCode, IsNonce, IsLookedFor, IsRequ
 low_small : (text : List ℕ) (v : ℕ) → IsLow text v → v < 2 ^ 32
 low_small text v t = let e = t.low in omega arith
 
-code_small : (looked : Bool) (text following : List ℕ) (code : Option NStatusCode) → IsLookedFor looked 0xA4 IsCode text code following → IfSome code (λ c. c.0 < 2 ^ 32)
+code_small : (looked : Bool) (text following : List ℕ) (code : Option NStatusCode) → IsLookedFor looked 0xA4 IsCode text code following →
+    IfSome code (λ c. c.0 < 2 ^ 32)
 code_small true text following None t = tt
 code_small true text following (Some code) t = low_small t.0 code.0 t.2
 code_small false text following None t = tt
 code_small false text following (Some code) t = absurd (let e = t.1 in cc)
 
-nonce_long : (looked : Bool) (text following : List ℕ) (nonce : Option (List ℕ)) → IsLookedFor looked 0xA5 IsNonce text nonce following → IfSome nonce (λ n. length n ≡ 32)
+nonce_long : (looked : Bool) (text following : List ℕ) (nonce : Option (List ℕ)) → IsLookedFor looked 0xA5 IsNonce text nonce following →
+    IfSome nonce (λ n. length n ≡ 32)
 nonce_long true text following None t = tt
 nonce_long true text following (Some nonce) t = t.2.1
 nonce_long false text following None t = tt

@@ -14,7 +14,8 @@ length-wrapped_octets : (tag : ℕ) (content : List ℕ) → length (wrapped_oct
 unfolding wrapped_octets
 length-wrapped_octets tag content = length-element tag (element 0x04 content) ∙ ap element_size (length-element 0x04 content)
 
-pub length-password_fields : (domain user password : List ℕ) → length (password_fields domain user password) ≡ password_fields_size (length domain) (length user) (length password)
+pub length-password_fields : (domain user password : List ℕ) →
+    length (password_fields domain user password) ≡ password_fields_size (length domain) (length user) (length password)
 unfolding password_fields
 length-password_fields domain user password =
     omega (
@@ -30,13 +31,15 @@ length-password_type_field : length password_type_field ≡ 5
 unfolding password_type_field element header len_short int_short int_content
 length-password_type_field = refl
 
-pub length-creds_body : (domain user password : List ℕ) → length (creds_body domain user password) ≡ body_size (length domain) (length user) (length password)
+pub length-creds_body : (domain user password : List ℕ) → length (creds_body domain user password) ≡ body_size (length domain)
+    (length user) (length password)
 unfolding creds_body
 length-creds_body domain user password =
     let fields = password_fields domain user password in
     length-append password_type_field (wrapped_octets 0xA1 (element 0x30 fields))
     ∙ ap (λ n. n + length (wrapped_octets 0xA1 (element 0x30 fields))) length-password_type_field
-    ∙ ap (λ n. 5 + n) (length-wrapped_octets 0xA1 (element 0x30 fields) ∙ ap (λ n. element_size (element_size n)) (length-element 0x30 fields ∙ ap element_size (length-password_fields domain user password)))
+    ∙ ap (λ n. 5 + n) (length-wrapped_octets 0xA1 (element 0x30 fields) ∙ ap (λ n. element_size (element_size n))
+    (length-element 0x30 fields ∙ ap element_size (length-password_fields domain user password)))
 
 pub texts_fit : (d u p : ℕ) → body_size d u p ≤ max_content → FitTexts d u p
 texts_fit d u p le =
@@ -65,42 +68,49 @@ texts_fit d u p le =
 
 -- capped sizes of three fields
 pub fields_capped : (a b c d u p x y z : ℕ) → IsCapped a (element_size d) → IsCapped b (element_size u) → IsCapped c (element_size p)
-    → IsCapped x (element_size a) → IsCapped y (element_size b) → IsCapped z (element_size c) → IsCapped (x + (y + z)) (password_fields_size d u p)
+    → IsCapped x (element_size a) → IsCapped y (element_size b) → IsCapped z (element_size c) →
+    IsCapped (x + (y + z)) (password_fields_size d u p)
 fields_capped a b c d u p x y z pa pb pc px py pz =
     capped_add x (y + z) _ _ (capped_more a _ x pa px) (capped_add y z _ _ (capped_more b _ y pb py) (capped_more c _ z pc pz))
 
-pub body_capped : (f s o b d u p : ℕ) → IsCapped f (password_fields_size d u p) → IsCapped s (element_size f) → IsCapped o (element_size s) → IsCapped b (element_size o)
+pub body_capped : (f s o b d u p : ℕ) → IsCapped f (password_fields_size d u p) → IsCapped s (element_size f) →
+    IsCapped o (element_size s) → IsCapped b (element_size o)
     → IsCapped (5 + b) (body_size d u p)
 body_capped f s o b d u p pf ps po pb =
     capped_add 5 b 5 _ (capped_same 5) (capped_more o _ b (capped_more s _ o (capped_more f _ s pf ps) po) pb)
 
-pub fields_length : (domain user password : List ℕ) → password_fields_size (length domain) (length user) (length password) ≡ length (password_fields domain user password)
+pub fields_length : (domain user password : List ℕ) → password_fields_size (length domain) (length user) (length password) ≡ length
+    (password_fields domain user password)
 fields_length domain user password = sym (length-password_fields domain user password)
 
-pub sequence_length : (domain user password : List ℕ) → element_size (length (password_fields domain user password)) ≡ length (element 0x30 (password_fields domain user password))
+pub sequence_length : (domain user password : List ℕ) → element_size (length (password_fields domain user password)) ≡ length
+    (element 0x30 (password_fields domain user password))
 sequence_length domain user password = sym (length-element 0x30 (password_fields domain user password))
 
 pub ruleset sequence = (sequence_length, length-password_fields)
 
 -- ---- what fits is spelled
 
-module _ (domain user password : List ℕ) (size : ℕ) (capped : IsCapped size (body_size (length domain) (length user) (length password))) where
-  pub fits_texts : size ≤ max_content → FitTexts (length domain) (length user) (length password)
-  fits_texts le = texts_fit _ _ _ (capped_fits size _ capped le).0
+module _ (domain user password : List ℕ) (size : ℕ) (capped : IsCapped size (body_size (length domain) (length user) (length password)))
+  where
+    pub fits_texts : size ≤ max_content → FitTexts (length domain) (length user) (length password)
+    fits_texts le = texts_fit _ _ _ (capped_fits size _ capped le).0
 
-  pub fits_size : size ≤ max_content → size ≡ length (creds_body domain user password)
-  fits_size le = (capped_fits size _ capped le).1 ∙ sym (length-creds_body domain user password)
+    pub fits_size : size ≤ max_content → size ≡ length (creds_body domain user password)
+    fits_size le = (capped_fits size _ capped le).1 ∙ sym (length-creds_body domain user password)
 
-  pub fits_spelled : size ≤ max_content → spelled_if_fits (creds_body domain user password) ≡ Ok (element 0x30 (creds_body domain user password))
-  fits_spelled le =
-      let fits : leb (length (creds_body domain user password)) max_content ≡ true = le-leb _ _ (omega (arith, fits_size le)) in
-      rw fits
+    pub fits_spelled : size ≤ max_content → spelled_if_fits (creds_body domain user password) ≡ Ok
+        (element 0x30 (creds_body domain user password))
+    fits_spelled le =
+        let fits : leb (length (creds_body domain user password)) max_content ≡ true = le-leb _ _ (omega (arith, fits_size le)) in
+        rw fits
 
-  pub past_refused : max_content < size → spelled_if_fits (creds_body domain user password) ≡ Err too_long
-  past_refused lt =
-      let past : max_content < body_size (length domain) (length user) (length password) = capped_past size _ capped lt in
-      let long : leb (length (creds_body domain user password)) max_content ≡ false = lt-leb _ _ (omega (arith, length-creds_body domain user password)) in
-      rw long
+    pub past_refused : max_content < size → spelled_if_fits (creds_body domain user password) ≡ Err too_long
+    past_refused lt =
+        let past : max_content < body_size (length domain) (length user) (length password) = capped_past size _ capped lt in
+        let long : leb (length (creds_body domain user password)) max_content ≡ false =
+        lt-leb _ _ (omega (arith, length-creds_body domain user password)) in
+        rw long
 
 -- all that a sink has which began empty
 pub written_whole : (start now text items : List ℕ) → start ≡ [] → now ≡ start ++ text → items ≡ now → items ≡ text

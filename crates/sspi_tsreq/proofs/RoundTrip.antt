@@ -1,5 +1,6 @@
 -- The spelling of a value, with any bytes behind it, is read as that value; and what else the two laws of the grammar give.
-use Rattle.std.proofs.Common.{◌≡◌, ℕ, ◌^◌, ◌<◌, ◌≤◌, Bool, true, false, cond, leb, List, [], ◌∷◌, ◌++◌, length, take, drop, Option, None, Some, refl, sym, ap, ◌∙◌, subst, append_assoc, arith}
+use Rattle.std.proofs.Common.{◌≡◌, ℕ, ◌^◌, ◌<◌, ◌≤◌, Bool, true, false, cond, leb, List, [], ◌∷◌, ◌++◌, length, take, drop, Option}
+use Rattle.std.proofs.Common.{None, Some, refl, sym, ap, ◌∙◌, subst, append_assoc, arith}
 use Rattle.std.specs.Prelude.{IfSome, IsTrue}
 use Rattle.std.proofs.lemmas.Bool.{leb-true}
 use Rattle.std.proofs.lemmas.List.{append-nil, length-append, take-append-drop, length-take, length-drop}
@@ -13,7 +14,8 @@ use Rattle.sspi_ber.proofs.Written.{length-element, size_above}
 use Rattle.sspi_tsreq.specs.declared.request.TsRequest.{TsRequest}
 use Rattle.sspi_tsreq.specs.Value.{IsRequestValue}
 use Rattle.sspi_tsreq.specs.Grammar.{IsLow, IsOctets, IsToken, IsCode, IsNonce, IsLookedFor, IsBody, IsRequest}
-use Rattle.sspi_tsreq.specs.Spelling.{carries_code, carries_nonce, carried, version_field, token_item, token_list, nego_field, octets_field, code_field, last_fields, later_fields, fields, fits, spelled}
+use Rattle.sspi_tsreq.specs.Spelling.{carries_code, carries_nonce, carried, version_field, token_item, token_list, nego_field}
+use Rattle.sspi_tsreq.specs.Spelling.{octets_field, code_field, last_fields, later_fields, fields, fits, spelled}
 use Rattle.sspi_tsreq.proofs.RequestMatch.{request_again}
 
 -- ---- no field begins with the tag of another
@@ -51,7 +53,8 @@ version_is : (v : ℕ) → v < 2 ^ 32 → length (version_field v) ≤ max_conte
 unfolding version_field
 version_is v lt le = (int_short v, short_tagged 0xA0 (int_short v) (inner_fits 0xA0 (int_short v) le), low_is v lt)
 
-octets_is : (tag : ℕ) (field : Option (List ℕ)) (following : List ℕ) → length (octets_field tag field) ≤ max_content → IsNotNext tag following
+octets_is : (tag : ℕ) (field : Option (List ℕ)) (following : List ℕ) → length (octets_field tag field) ≤ max_content →
+    IsNotNext tag following
     → IsField tag IsOctets (octets_field tag field) field following
 unfolding octets_field
 octets_is tag None following le other = (refl, other)
@@ -82,16 +85,23 @@ nego_is (Some token) following le other =
     let inner = inner_fits 0xA1 (token_list token) le in
     (token_list token, short_tagged 0xA1 (token_list token) inner, token_is token inner)
 
-code_is : (looked : Bool) (field : Option NStatusCode) (following : List ℕ) → (looked ≡ false → field ≡ None) → IfSome field (λ code. code.0 < 2 ^ 32)
+code_is : (looked : Bool) (field : Option NStatusCode) (following : List ℕ) → (looked ≡ false → field ≡ None) →
+    IfSome field (λ code. code.0 < 2 ^ 32)
     → length (code_field field) ≤ max_content → IsNotNext 0xA4 following → IsLookedFor looked 0xA4 IsCode (code_field field) field following
 unfolding code_field
 code_is true None following absent lt le other = (refl, other)
-code_is true (Some code) following absent lt le other = (int_short code.0, short_tagged 0xA4 (int_short code.0) (inner_fits 0xA4 (int_short code.0) le), low_is code.0 lt)
+code_is true (Some code) following absent lt le other = (
+  int_short code.0,
+  short_tagged 0xA4 (int_short code.0) (inner_fits 0xA4 (int_short code.0) le),
+  low_is code.0 lt,
+)
 code_is false None following absent lt le other = (refl, refl)
 code_is false (Some code) following absent lt le other = absurd (let e = absent refl in cc)
 
-nonce_is : (looked : Bool) (field : Option (List ℕ)) (following : List ℕ) → (looked ≡ false → field ≡ None) → IfSome field (λ nonce. length nonce ≡ 32)
-    → length (octets_field 0xA5 field) ≤ max_content → IsNotNext 0xA5 following → IsLookedFor looked 0xA5 IsNonce (octets_field 0xA5 field) field following
+nonce_is : (looked : Bool) (field : Option (List ℕ)) (following : List ℕ) → (looked ≡ false → field ≡ None) →
+    IfSome field (λ nonce. length nonce ≡ 32)
+    → length (octets_field 0xA5 field) ≤ max_content → IsNotNext 0xA5 following →
+    IsLookedFor looked 0xA5 IsNonce (octets_field 0xA5 field) field following
 unfolding octets_field
 nonce_is true None following absent long le other = (refl, other)
 nonce_is true (Some nonce) following absent long le other =
@@ -140,12 +150,15 @@ body_spelled r is le =
     let k = octets_field 0xA3 r.pub_key_auth in
     let c = code_field r.error_code in
     let o = octets_field 0xA5 r.client_nonce in
-    let behind_code : (tag : ℕ) → (0xA5 ≡ tag → ⊥) → IsNotNext tag (o ++ []) = λ tag ne. apart tag o [] (octets_apart tag 0xA5 r.client_nonce ne) tt in
-    let behind_key : (tag : ℕ) → (0xA4 ≡ tag → ⊥) → (0xA5 ≡ tag → ⊥) → IsNotNext tag (c ++ (o ++ [])) = λ tag ne ne2. apart tag c (o ++ []) (code_apart tag r.error_code ne) (behind_code tag ne2) in
+    let behind_code : (tag : ℕ) → (0xA5 ≡ tag → ⊥) → IsNotNext tag (o ++ []) =
+    λ tag ne. apart tag o [] (octets_apart tag 0xA5 r.client_nonce ne) tt in
+    let behind_key : (tag : ℕ) → (0xA4 ≡ tag → ⊥) → (0xA5 ≡ tag → ⊥) →
+    IsNotNext tag (c ++ (o ++ [])) = λ tag ne ne2. apart tag c (o ++ []) (code_apart tag r.error_code ne) (behind_code tag ne2) in
     let behind_auth : (tag : ℕ) → (0xA3 ≡ tag → ⊥) → (0xA4 ≡ tag → ⊥) → (0xA5 ≡ tag → ⊥) → IsNotNext tag (k ++ (c ++ (o ++ []))) =
     λ tag ne ne2 ne3. apart tag k (c ++ (o ++ [])) (octets_apart tag 0xA3 r.pub_key_auth ne) (behind_key tag ne2 ne3) in
     let behind_nego : IsNotNext 0xA1 (a ++ (k ++ (c ++ (o ++ [])))) =
-    apart 0xA1 a (k ++ (c ++ (o ++ []))) (octets_apart 0xA1 0xA2 r.auth_info (λ e. omega (arith, e))) (behind_auth 0xA1 (λ e. omega (arith, e)) (λ e. omega (arith, e)) (λ e. omega (arith, e))) in
+    apart 0xA1 a (k ++ (c ++ (o ++ []))) (octets_apart 0xA1 0xA2 r.auth_info (λ e. omega (arith, e)))
+    (behind_auth 0xA1 (λ e. omega (arith, e)) (λ e. omega (arith, e)) (λ e. omega (arith, e))) in
     record {
       version = version_field r.version;
       nego = nego_field r.nego_tokens;
@@ -157,7 +170,8 @@ body_spelled r is le =
       parts = rw (append-nil o) refl;
       version_is = version_is r.version is.value.version lens.version;
       nego_is = nego_is r.nego_tokens (a ++ (k ++ (c ++ (o ++ [])))) lens.nego behind_nego;
-      auth_is = octets_is 0xA2 r.auth_info (k ++ (c ++ (o ++ []))) lens.auth (behind_auth 0xA2 (λ e. omega (arith, e)) (λ e. omega (arith, e)) (λ e. omega (arith, e)));
+      auth_is = octets_is 0xA2 r.auth_info (k ++ (c ++ (o ++ []))) lens.auth
+          (behind_auth 0xA2 (λ e. omega (arith, e)) (λ e. omega (arith, e)) (λ e. omega (arith, e)));
       key_is = octets_is 0xA3 r.pub_key_auth (c ++ (o ++ [])) lens.key (behind_key 0xA3 (λ e. omega (arith, e)) (λ e. omega (arith, e)));
       code_is = code_is (leb 3 r.version) r.error_code (o ++ []) is.code is.value.code lens.code (behind_code 0xA4 (λ e. omega (arith, e)));
       nonce_is = nonce_is (leb 5 r.version) r.client_nonce [] is.nonce is.value.nonce lens.nonce tt;
@@ -178,24 +192,31 @@ no_code v e = rw e refl
 
 pub carried_is : (r : TsRequest) → IsRequestValue r → IsCarried (carried r)
 carried_is r is = record {
-  value = record { version = is.version; code = chosen_some (carries_code r.version) r.error_code _ is.code; nonce = chosen_some (carries_nonce r.version) r.client_nonce _ is.nonce };
+  value = record {
+    version = is.version;
+    code = chosen_some (carries_code r.version) r.error_code _ is.code;
+    nonce = chosen_some (carries_nonce r.version) r.client_nonce _ is.nonce;
+  };
   code = λ e. chosen_none (carries_code r.version) r.error_code (no_code r.version e);
   nonce = λ e. chosen_none (carries_nonce r.version) r.client_nonce e;
 }
 
 -- a request that is read is read whatever follows it
-pub more_request : (bytes : List ℕ) (r : TsRequest) (count : ℕ) (more : List ℕ) → IsRequest bytes r count → IsRequest (bytes ++ more) r count
+pub more_request : (bytes : List ℕ) (r : TsRequest) (count : ℕ) (more : List ℕ) → IsRequest bytes r count →
+    IsRequest (bytes ++ more) r count
 more_request bytes r count more t = record {
   len = t.len;
   body = t.body;
   after = t.after ++ more;
-  parts = ap (λ (l : List ℕ). l ++ more) t.parts ∙ append_assoc (0x30 ∷ t.len) (t.body ++ t.after) more ∙ ap (λ (l : List ℕ). (0x30 ∷ t.len) ++ l) (append_assoc t.body t.after more);
+  parts = ap (λ (l : List ℕ). l ++ more) t.parts ∙ append_assoc (0x30 ∷ t.len) (t.body ++ t.after) more ∙ ap
+      (λ (l : List ℕ). (0x30 ∷ t.len) ++ l) (append_assoc t.body t.after more);
   measured = t.measured;
   body_is = t.body_is;
   taken = t.taken;
 }
 
-spelled_alone : (r : TsRequest) → IsRequestValue r → length (fields (carried r)) ≤ max_content → IsRequest (spelled r) (carried r) (length (spelled r))
+spelled_alone : (r : TsRequest) → IsRequestValue r → length (fields (carried r)) ≤ max_content →
+    IsRequest (spelled r) (carried r) (length (spelled r))
 unfolding spelled element header
 spelled_alone r is le = record {
   len = len_short (length (fields (carried r)));
@@ -207,8 +228,10 @@ spelled_alone r is le = record {
   taken = refl;
 }
 
-pub spelled_again : (r : TsRequest) (more : List ℕ) → IsRequestValue r → IsTrue (fits r) → IsRequest (spelled r ++ more) (carried r) (length (spelled r))
-spelled_again r more is fit = more_request (spelled r) (carried r) (length (spelled r)) more (spelled_alone r is (leb-true (length (fields (carried r))) max_content fit))
+pub spelled_again : (r : TsRequest) (more : List ℕ) → IsRequestValue r → IsTrue (fits r) →
+    IsRequest (spelled r ++ more) (carried r) (length (spelled r))
+spelled_again r more is fit = more_request (spelled r) (carried r) (length (spelled r)) more
+    (spelled_alone r is (leb-true (length (fields (carried r))) max_content fit))
 
 pub spelled_whole : (r : TsRequest) → IsRequestValue r → IsTrue (fits r) → IsRequest (spelled r) (carried r) (length (spelled r))
 spelled_whole r is fit = spelled_alone r is (leb-true (length (fields (carried r))) max_content fit)
@@ -232,7 +255,8 @@ taken_within bytes r k t =
     omega (arith, ap length whole, length-append ((0x30 ∷ t.len) ++ t.body) t.after, t.taken)
 
 -- bytes begin with at most one request
-counts_agree : (bytes : List ℕ) (r s : TsRequest) (k j : ℕ) (a : IsRequest bytes r k) (b : IsRequest bytes s j) → drop k bytes ≡ drop j bytes → k ≡ j
+counts_agree : (bytes : List ℕ) (r s : TsRequest) (k j : ℕ) (a : IsRequest bytes r k) (b : IsRequest bytes s j) →
+    drop k bytes ≡ drop j bytes → k ≡ j
 counts_agree bytes r s k j a b e =
     let wa = taken_within bytes r k a in
     let wb = taken_within bytes s j b in
@@ -244,10 +268,13 @@ one_request bytes r s k j a b =
     (same.0, counts_agree bytes r s k j a b same.1)
 
 -- no proper front of a spelling is read
-pub no_front : (r s : TsRequest) (j k : ℕ) → IsRequestValue r → IsTrue (fits r) → j < length (spelled r) → IsRequest (take j (spelled r)) s k → ⊥
+pub no_front : (r s : TsRequest) (j k : ℕ) → IsRequestValue r → IsTrue (fits r) → j < length (spelled r) →
+    IsRequest (take j (spelled r)) s k → ⊥
 no_front r s j k is fit lt t =
-    let longer : IsRequest (spelled r) s k = subst (λ (l : List ℕ). IsRequest l s k) (take-append-drop j (spelled r)) (more_request (take j (spelled r)) s k (drop j (spelled r)) t) in
-    let whole : IsRequest (spelled r) (carried r) (length (spelled r)) = subst (λ (l : List ℕ). IsRequest l (carried r) (length (spelled r))) (append-nil (spelled r)) (spelled_again r [] is fit) in
+    let longer : IsRequest (spelled r) s k = subst (λ (l : List ℕ). IsRequest l s k) (take-append-drop j (spelled r))
+    (more_request (take j (spelled r)) s k (drop j (spelled r)) t) in
+    let whole : IsRequest (spelled r) (carried r) (length (spelled r)) =
+    subst (λ (l : List ℕ). IsRequest l (carried r) (length (spelled r))) (append-nil (spelled r)) (spelled_again r [] is fit) in
     let same = one_request (spelled r) (carried r) s (length (spelled r)) k whole longer in
     let within = taken_within (take j (spelled r)) s k t in
     omega (arith, same.1, within, length-take j (spelled r))

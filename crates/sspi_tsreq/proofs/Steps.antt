@@ -1,8 +1,10 @@
 -- What one byte more makes of what is still to come.
-use Rattle.std.proofs.Common.{◌≡◌, ℕ, ◌+◌, ◌*◌, ◌%◌, ◌^◌, Bool, true, false, cond, eqb, leb, ◌&&◌, List, [], ◌∷◌, ◌++◌, Option, None, Some, Ok, Err, refl, sym, ap, ◌∙◌}
+use Rattle.std.proofs.Common.{◌≡◌, ℕ, ◌+◌, ◌*◌, ◌%◌, ◌^◌, Bool, true, false, cond, eqb, leb, ◌&&◌, List, [], ◌∷◌, ◌++◌, Option, None}
+use Rattle.std.proofs.Common.{Some, Ok, Err, refl, sym, ap, ◌∙◌}
 use Rattle.std.proofs.lemmas.Bool.{eq-eqb, ne_eqb}
 use Rattle.sspi_ber.specs.Fault.{Fault, Ended, Invalid, Read, ◌>>=◌}
-use Rattle.sspi_ber.specs.Pieces.{byte_at, bytes_at, length_at, header_at, number_at, integer_at, element_at, tag_or_absent_at, present_at, field_at, tagged_at}
+use Rattle.sspi_ber.specs.Pieces.{byte_at, bytes_at, length_at, header_at, number_at, integer_at, element_at, tag_or_absent_at}
+use Rattle.sspi_ber.specs.Pieces.{present_at, field_at, tagged_at}
 use Rattle.sspi_types.specs.declared.nstatus.NStatusCode.{NStatusCode}
 use Rattle.sspi_ber.specs.Forms.{is_integer_size}
 use Rattle.sspi_tsreq.specs.declared.request.TsRequest.{TsRequest}
@@ -11,9 +13,11 @@ use Rattle.sspi_tsreq.specs.declared.place.Text.TheVariants.{NegoTokens, AuthInf
 use Rattle.sspi_tsreq.specs.declared.place.Element.TheVariants.{Optional, Required}
 use Rattle.sspi_tsreq.specs.declared.place.Field.TheVariants.{Nego, Auth, Key, Code, Nonce}
 use Rattle.sspi_tsreq.specs.declared.place.Inner.{Inner}
-use Rattle.sspi_tsreq.specs.declared.place.Inner.TheVariants.{Version, VersionNumber, TokenList, TokenItem, Token, Octets, CodeNumber, NonceOctets}
+use Rattle.sspi_tsreq.specs.declared.place.Inner.TheVariants.{Version, VersionNumber, TokenList, TokenItem, Token, Octets, CodeNumber}
+use Rattle.sspi_tsreq.specs.declared.place.Inner.TheVariants.{NonceOctets}
 use Rattle.sspi_tsreq.specs.declared.place.Place.TheVariants.{InLength, Faulty}
-use Rattle.sspi_tsreq.specs.Reading.{low_at, version_at, octets_at, token_at, code_at, nonce_at, looked_at, after_code, after_key, after_auth, after_nego, after_version, body_at}
+use Rattle.sspi_tsreq.specs.Reading.{low_at, version_at, octets_at, token_at, code_at, nonce_at, looked_at, after_code, after_key}
+use Rattle.sspi_tsreq.specs.Reading.{after_auth, after_nego, after_version, body_at}
 use Rattle.sspi_tsreq.specs.Places.{behind, from_tag, inner_tag, rest_at, sized_low, text_then, version_then, code_then, nonce_then}
 use Rattle.sspi_tsreq.specs.Walks.{from_inner}
 use Rattle.sspi_tsreq.proofs.Numbers.{map_then}
@@ -29,7 +33,8 @@ cond_then : {A B C : Type 0} (c : Bool) (z : Read A) (j : A × List ℕ → Read
 cond_then true z j k = then_both z j k
 cond_then false z j k = refl
 
-cond_once : {A B : Type 0} (c : Bool) (z : Read A) (j : A × List ℕ → Read B) → (cond c z (Err Invalid) >>= j) ≡ cond c (z >>= j) (Err Invalid)
+cond_once : {A B : Type 0} (c : Bool) (z : Read A) (j : A × List ℕ → Read B) →
+    (cond c z (Err Invalid) >>= j) ≡ cond c (z >>= j) (Err Invalid)
 cond_once true z j = refl
 cond_once false z j = refl
 
@@ -62,7 +67,8 @@ low_then byte more k =
     ∙ ap (λ z. cond (eqb byte 0x02) z (Err Invalid)) (then_both (length_at more) (λ n. (sized n >>= low_of)) k)
 
 nonce_header : {B : Type 0} (byte : ℕ) (more : List ℕ) (k : List ℕ × List ℕ → Read B)
-    → (nonce_at (byte ∷ more) >>= k) ≡ cond (eqb byte 0x04) (length_at more >>= λ n. (cond (eqb n.0 32) (bytes_at n.0 n.1) (Err Invalid) >>= k)) (Err Invalid)
+    → (nonce_at (byte ∷ more) >>= k) ≡ cond (eqb byte 0x04) (length_at more >>= λ n.
+    (cond (eqb n.0 32) (bytes_at n.0 n.1) (Err Invalid) >>= k)) (Err Invalid)
 unfolding nonce_at
 nonce_header byte more k = header_then 0x04 byte more (λ n. cond (eqb n.0 32) (bytes_at n.0 n.1) (Err Invalid)) k
 
@@ -72,7 +78,8 @@ unfolding body_at
 version_step r byte more = tagged_then 0xA0 byte more low_at version_then
 
 inner_step : (inner : Inner) (r : TsRequest) (byte : ℕ) (more : List ℕ)
-    → from_inner inner r (byte ∷ more) ≡ cond (eqb byte (inner_tag inner)) (length_at more >>= λ n. behind (Required inner) r n.0 n.1) (Err Invalid)
+    → from_inner inner r (byte ∷ more) ≡ cond (eqb byte (inner_tag inner)) (length_at more >>= λ n. behind (Required inner) r n.0 n.1)
+    (Err Invalid)
 inner_step Version r byte more = version_step r byte more
 inner_step VersionNumber r byte more = low_then byte more version_then
 inner_step TokenList r byte more = tagged_then 0x30 byte more (tagged_at 0x30 (tagged_at 0xA0 octets_at)) (text_then NegoTokens r)
@@ -88,7 +95,8 @@ pub inner_next : (inner : Inner) (r : TsRequest) (byte : ℕ) (more : List ℕ) 
     → from_inner inner r (byte ∷ more) ≡ (length_at more >>= λ n. behind (Required inner) r n.0 n.1)
 inner_next inner r byte more e = inner_step inner r byte more ∙ rw (eq-eqb byte (inner_tag inner) e) refl
 
-pub inner_faulty : (inner : Inner) (r : TsRequest) (byte : ℕ) (more : List ℕ) → (byte ≡ inner_tag inner → ⊥) → from_inner inner r (byte ∷ more) ≡ Err Invalid
+pub inner_faulty : (inner : Inner) (r : TsRequest) (byte : ℕ) (more : List ℕ) → (byte ≡ inner_tag inner → ⊥) →
+    from_inner inner r (byte ∷ more) ≡ Err Invalid
 inner_faulty inner r byte more ne = inner_step inner r byte more ∙ rw (ne_eqb byte (inner_tag inner) ne) refl
 
 -- ---- what may be absent
@@ -103,18 +111,21 @@ abbrev length_found : Read ℕ → Read (Option ℕ)
 length_found z = z >>= λ n. Ok (some_of n)
 
 present_then : {A B : Type 0} (c : Bool) (z : Read ℕ) (inner : List ℕ → Read A) (rest : List ℕ) (k : Option A × List ℕ → Read B)
-    → ((cond c (length_found z) (Ok (None, rest)) >>= λ n. present_at inner n.0 n.1) >>= k) ≡ cond c (z >>= λ n. (inner n.1 >>= some_then k)) (k (None, rest))
+    → ((cond c (length_found z) (Ok (None, rest)) >>= λ n. present_at inner n.0 n.1) >>= k) ≡ cond c
+    (z >>= λ n. (inner n.1 >>= some_then k)) (k (None, rest))
 present_then true (Ok n) inner rest k = map_then (inner n.1) some_of k
 present_then true (Err fault) inner rest k = refl
 present_then false z inner rest k = refl
 
 field_then : {A B : Type 0} (tag byte : ℕ) (more : List ℕ) (inner : List ℕ → Read A) (k : Option A × List ℕ → Read B)
-    → (field_at tag inner (byte ∷ more) >>= k) ≡ cond (eqb byte tag) (length_at more >>= λ n. (inner n.1 >>= some_then k)) (k (None, byte ∷ more))
+    → (field_at tag inner (byte ∷ more) >>= k) ≡ cond (eqb byte tag) (length_at more >>= λ n. (inner n.1 >>= some_then k))
+    (k (None, byte ∷ more))
 unfolding field_at tag_or_absent_at
 field_then tag byte more inner k = present_then (eqb byte tag) (length_at more) inner (byte ∷ more) k
 
 looked_then : {A B : Type 0} (looked : Bool) (tag byte : ℕ) (more : List ℕ) (inner : List ℕ → Read A) (k : Option A × List ℕ → Read B)
-    → (looked_at looked (field_at tag inner) (byte ∷ more) >>= k) ≡ cond (looked && eqb byte tag) (length_at more >>= λ n. (inner n.1 >>= some_then k)) (k (None, byte ∷ more))
+    → (looked_at looked (field_at tag inner) (byte ∷ more) >>= k) ≡ cond (looked && eqb byte tag)
+    (length_at more >>= λ n. (inner n.1 >>= some_then k)) (k (None, byte ∷ more))
 looked_then true tag byte more inner k = field_then tag byte more inner k
 looked_then false tag byte more inner k = refl
 
@@ -134,17 +145,20 @@ abbrev pub nonce_found : TsRequest → Option (List ℕ) × List ℕ → Read Ts
 nonce_found r x = Ok (record r { client_nonce = x.0 }, x.1)
 
 nego_step : (r : TsRequest) (byte : ℕ) (more : List ℕ)
-    → after_version r (byte ∷ more) ≡ cond (eqb byte 0xA1) (length_at more >>= λ n. behind (Optional Nego) r n.0 n.1) (after_nego (record r { nego_tokens = None }) (byte ∷ more))
+    → after_version r (byte ∷ more) ≡ cond (eqb byte 0xA1) (length_at more >>= λ n. behind (Optional Nego) r n.0 n.1)
+    (after_nego (record r { nego_tokens = None }) (byte ∷ more))
 unfolding after_version
 nego_step r byte more = field_then 0xA1 byte more token_at (nego_found r)
 
 auth_step : (r : TsRequest) (byte : ℕ) (more : List ℕ)
-    → after_nego r (byte ∷ more) ≡ cond (eqb byte 0xA2) (length_at more >>= λ n. behind (Optional Auth) r n.0 n.1) (after_auth (record r { auth_info = None }) (byte ∷ more))
+    → after_nego r (byte ∷ more) ≡ cond (eqb byte 0xA2) (length_at more >>= λ n. behind (Optional Auth) r n.0 n.1)
+    (after_auth (record r { auth_info = None }) (byte ∷ more))
 unfolding after_nego
 auth_step r byte more = field_then 0xA2 byte more octets_at (auth_found r)
 
 key_step : (r : TsRequest) (byte : ℕ) (more : List ℕ)
-    → after_auth r (byte ∷ more) ≡ cond (eqb byte 0xA3) (length_at more >>= λ n. behind (Optional Key) r n.0 n.1) (after_key (record r { pub_key_auth = None }) (byte ∷ more))
+    → after_auth r (byte ∷ more) ≡ cond (eqb byte 0xA3) (length_at more >>= λ n. behind (Optional Key) r n.0 n.1)
+    (after_key (record r { pub_key_auth = None }) (byte ∷ more))
 unfolding after_auth
 key_step r byte more = field_then 0xA3 byte more octets_at (key_found r)
 
@@ -157,7 +171,8 @@ unfolding code_at
 code_number r n = map_then (low_at n.1) (λ low. (record { 0 = low.0 }, low.1)) (some_then (code_found r))
 
 code_step : (r : TsRequest) (byte : ℕ) (more : List ℕ)
-    → after_key r (byte ∷ more) ≡ cond (leb 3 r.version && eqb byte 0xA4) (length_at more >>= λ n. behind (Optional Code) r n.0 n.1) (after_code (record r { error_code = None }) (byte ∷ more))
+    → after_key r (byte ∷ more) ≡ cond (leb 3 r.version && eqb byte 0xA4) (length_at more >>= λ n. behind (Optional Code) r n.0 n.1)
+    (after_code (record r { error_code = None }) (byte ∷ more))
 unfolding after_key
 code_step r byte more =
     looked_then (leb 3 r.version) 0xA4 byte more code_at (code_found r)
@@ -165,26 +180,33 @@ code_step r byte more =
     (under (length_at more) (λ n. (code_at n.1 >>= some_then (code_found r))) (λ n. behind (Optional Code) r n.0 n.1) (code_number r))
 
 nonce_step : (r : TsRequest) (byte : ℕ) (more : List ℕ)
-    → after_code r (byte ∷ more) ≡ cond (leb 5 r.version && eqb byte 0xA5) (length_at more >>= λ n. behind (Optional Nonce) r n.0 n.1) (Ok (record r { client_nonce = None }, byte ∷ more))
+    → after_code r (byte ∷ more) ≡ cond (leb 5 r.version && eqb byte 0xA5) (length_at more >>= λ n. behind (Optional Nonce) r n.0 n.1)
+    (Ok (record r { client_nonce = None }, byte ∷ more))
 unfolding after_code
 nonce_step r byte more = looked_then (leb 5 r.version) 0xA5 byte more nonce_at (nonce_found r)
 
-pub nego_next : (r : TsRequest) (byte : ℕ) (more : List ℕ) → byte ≡ 0xA1 → after_version r (byte ∷ more) ≡ (length_at more >>= λ n. behind (Optional Nego) r n.0 n.1)
+pub nego_next : (r : TsRequest) (byte : ℕ) (more : List ℕ) → byte ≡ 0xA1 →
+    after_version r (byte ∷ more) ≡ (length_at more >>= λ n. behind (Optional Nego) r n.0 n.1)
 nego_next r byte more e = nego_step r byte more ∙ rw (eq-eqb byte 0xA1 e) refl
 
-pub nego_absent : (r : TsRequest) (byte : ℕ) (more : List ℕ) → (byte ≡ 0xA1 → ⊥) → after_version r (byte ∷ more) ≡ after_nego (record r { nego_tokens = None }) (byte ∷ more)
+pub nego_absent : (r : TsRequest) (byte : ℕ) (more : List ℕ) → (byte ≡ 0xA1 → ⊥) →
+    after_version r (byte ∷ more) ≡ after_nego (record r { nego_tokens = None }) (byte ∷ more)
 nego_absent r byte more ne = nego_step r byte more ∙ rw (ne_eqb byte 0xA1 ne) refl
 
-pub auth_next : (r : TsRequest) (byte : ℕ) (more : List ℕ) → byte ≡ 0xA2 → after_nego r (byte ∷ more) ≡ (length_at more >>= λ n. behind (Optional Auth) r n.0 n.1)
+pub auth_next : (r : TsRequest) (byte : ℕ) (more : List ℕ) → byte ≡ 0xA2 →
+    after_nego r (byte ∷ more) ≡ (length_at more >>= λ n. behind (Optional Auth) r n.0 n.1)
 auth_next r byte more e = auth_step r byte more ∙ rw (eq-eqb byte 0xA2 e) refl
 
-pub auth_absent : (r : TsRequest) (byte : ℕ) (more : List ℕ) → (byte ≡ 0xA2 → ⊥) → after_nego r (byte ∷ more) ≡ after_auth (record r { auth_info = None }) (byte ∷ more)
+pub auth_absent : (r : TsRequest) (byte : ℕ) (more : List ℕ) → (byte ≡ 0xA2 → ⊥) →
+    after_nego r (byte ∷ more) ≡ after_auth (record r { auth_info = None }) (byte ∷ more)
 auth_absent r byte more ne = auth_step r byte more ∙ rw (ne_eqb byte 0xA2 ne) refl
 
-pub key_next : (r : TsRequest) (byte : ℕ) (more : List ℕ) → byte ≡ 0xA3 → after_auth r (byte ∷ more) ≡ (length_at more >>= λ n. behind (Optional Key) r n.0 n.1)
+pub key_next : (r : TsRequest) (byte : ℕ) (more : List ℕ) → byte ≡ 0xA3 →
+    after_auth r (byte ∷ more) ≡ (length_at more >>= λ n. behind (Optional Key) r n.0 n.1)
 key_next r byte more e = key_step r byte more ∙ rw (eq-eqb byte 0xA3 e) refl
 
-pub key_absent : (r : TsRequest) (byte : ℕ) (more : List ℕ) → (byte ≡ 0xA3 → ⊥) → after_auth r (byte ∷ more) ≡ after_key (record r { pub_key_auth = None }) (byte ∷ more)
+pub key_absent : (r : TsRequest) (byte : ℕ) (more : List ℕ) → (byte ≡ 0xA3 → ⊥) →
+    after_auth r (byte ∷ more) ≡ after_key (record r { pub_key_auth = None }) (byte ∷ more)
 key_absent r byte more ne = key_step r byte more ∙ rw (ne_eqb byte 0xA3 ne) refl
 
 pub code_next : (r : TsRequest) (byte : ℕ) (more : List ℕ) → (leb 3 r.version && eqb byte 0xA4) ≡ true

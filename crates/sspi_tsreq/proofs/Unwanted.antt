@@ -1,5 +1,6 @@
 -- Where memory is not wanted by a reader of credentials.
-use Rattle.std.proofs.Common.{◌≡◌, inl, inr, ℕ, Bool, true, false, cond, eqb, List, ◌∷◌, [], ◌++◌, Option, None, Some, Result, Ok, Err, refl, sym, ap, ◌∙◌, subst}
+use Rattle.std.proofs.Common.{◌≡◌, inl, inr, ℕ, Bool, true, false, cond, eqb, List, ◌∷◌, [], ◌++◌, Option, None, Some, Result, Ok, Err}
+use Rattle.std.proofs.Common.{refl, sym, ap, ◌∙◌, subst}
 use Rattle.std.specs.Option.{IfSome}
 use Rattle.sspi_types.specs.declared.error.Error.{Error}
 use Rattle.sspi_types.specs.Memory.{memory_error}
@@ -12,10 +13,12 @@ use Rattle.sspi_ber.proofs.PiecesMatch.{header_match}
 use Rattle.sspi_names.specs.Refusals.{bad_text}
 use Rattle.std.specs.Result.{IfErr}
 use Rattle.sspi_names.specs.declared.credentials.CredentialsBuffers.{CredentialsBuffers}
-use Rattle.sspi_tsreq.specs.Creds.{Fields, Passwords, malformed, unknown_type, smart_card, spelled_or_malformed, password_type, texts_of, fields_at, passwords_at, creds_in, creds_of}
+use Rattle.sspi_tsreq.specs.Creds.{Fields, Passwords, malformed, unknown_type, smart_card, spelled_or_malformed, password_type}
+use Rattle.sspi_tsreq.specs.Creds.{texts_of, fields_at, passwords_at, creds_in, creds_of}
 use Rattle.sspi_tsreq.specs.CredsAnswers.{IsLate, refusal_by}
 use Rattle.sspi_tsreq.specs.CredsGrammar.{HasPasswords, BeginsSequence}
-use Rattle.sspi_tsreq.proofs.CredsAre.{Form, malformed_form, unknown_form, smart_card_form, bad_text_form, stands_form, form_of, texts_cases, texts_answer, malformed_refused, unknown_refused, smart_card_refused}
+use Rattle.sspi_tsreq.proofs.CredsAre.{Form, malformed_form, unknown_form, smart_card_form, bad_text_form, stands_form, form_of}
+use Rattle.sspi_tsreq.proofs.CredsAre.{texts_cases, texts_answer, malformed_refused, unknown_refused, smart_card_refused}
 
 -- ---- the refusals that are reached before memory is taken
 
@@ -27,7 +30,8 @@ pub spelled_unwanted : {A : Type 0} (read : Read A) (error : Error) → spelled_
 spelled_unwanted (Ok x) error e m = cc
 spelled_unwanted (Err fault) error e m = not_wanted malformed error (λ f. cc) (cc) m
 
-by_number : (one two : Bool) (error : Error) → cond {A = Result (Unit {0}) Error} one (Ok tt) (cond two (Err smart_card) (Err unknown_type)) ≡ Err error → error ≡ memory_error → ⊥
+by_number : (one two : Bool) (error : Error) → cond {A = Result (Unit {0}) Error} one (Ok tt)
+    (cond two (Err smart_card) (Err unknown_type)) ≡ Err error → error ≡ memory_error → ⊥
 by_number true two error e m = cc
 by_number false true error e m = not_wanted smart_card error (λ f. cc) (cc) m
 by_number false false error e m = not_wanted unknown_type error (λ f. cc) (cc) m
@@ -49,16 +53,19 @@ texts_late texts =
     ]
 
 -- so want of memory comes late
-pub late_in : (body : List ℕ) (fields : Fields) (passwords : Passwords) → spelled_or_malformed (fields_at body) ≡ Ok fields → password_type fields.cred_type ≡ Ok tt
+pub late_in : (body : List ℕ) (fields : Fields) (passwords : Passwords) → spelled_or_malformed (fields_at body) ≡ Ok fields →
+    password_type fields.cred_type ≡ Ok tt
     → spelled_or_malformed (passwords_at fields.credentials) ≡ Ok passwords → IsLate (creds_in body)
 unfolding creds_in
 late_in body fields passwords e f g = rw (e, f, g) (texts_late passwords)
 
-pub late_if : {X : Type 0} (result : Result X Error) (answer : Result CredentialsBuffers Error) → IsLate answer → IfErr result (λ error. error ≡ memory_error → IsLate answer)
+pub late_if : {X : Type 0} (result : Result X Error) (answer : Result CredentialsBuffers Error) → IsLate answer →
+    IfErr result (λ error. error ≡ memory_error → IsLate answer)
 late_if (Ok x) answer late = tt
 late_if (Err error) answer late = λ m. late
 
-not_late : (text : List ℕ) (error : Error) → creds_of text ≡ Err error → (error.description ≡ bad_text.description → ⊥) → IsLate (creds_of text) → ⊥
+not_late : (text : List ℕ) (error : Error) → creds_of text ≡ Err error → (error.description ≡ bad_text.description → ⊥) →
+    IsLate (creds_of text) → ⊥
 not_late text error e other late = other (ap (λ (x : Error). x.description) (subst IsLate e late))
 
 pub late_has : (text : List ℕ) → IsLate (creds_of text) → HasPasswords text
@@ -80,12 +87,14 @@ header_unwanted X ReadFault f g cause e = not_wanted (refusal_by ReadFault) memo
 header_unwanted X WriteFault f g cause e = cause
 header_unwanted X InsufficientMemory f g cause e = cause
 
-header_read : (text : List ℕ) (mid : Option (List ℕ)) (n : ℕ) (read : Read ℕ) → read ≡ header_at 0x30 text → Answers (λ k. k) mid (Ok n) read → BeginsSequence text
+header_read : (text : List ℕ) (mid : Option (List ℕ)) (n : ℕ) (read : Read ℕ) → read ≡ header_at 0x30 text →
+    Answers (λ k. k) mid (Ok n) read → BeginsSequence text
 header_read text mid n (Ok x) e h =
     let t = (header_match 0x30).takes text x.0 x.1 (sym e) in
     (t.1.len, x.1, x.0, t.1.measured, t.2 ∙ ap (λ (l : List ℕ). l ++ x.1) t.1.spelled)
 header_read text mid n (Err fault) e h = absurd h
 
-pub header_begins : (before mid : Option (List ℕ)) (n : ℕ) → Reads {X = ℕ} (λ k. k) before mid (Ok n) (header_at 0x30) → IfSome before BeginsSequence
+pub header_begins : (before mid : Option (List ℕ)) (n : ℕ) → Reads {X = ℕ} (λ k. k) before mid (Ok n) (header_at 0x30) →
+    IfSome before BeginsSequence
 header_begins None mid n h = tt
 header_begins (Some text) mid n h = header_read text mid n (header_at 0x30 text) refl h

@@ -1,5 +1,6 @@
 -- Octets, numbers and the nonce on the way through a piece.
-use Rattle.std.proofs.Common.{◌≡◌, ℕ, ◌+◌, ◌-◌, ◌*◌, ◌%◌, ◌^◌, ◌<◌, ◌≤◌, cond, ltb, List, [], ◌∷◌, ◌++◌, length, take, drop, Ok, Err, refl, sym, ap, ◌∙◌, append_assoc, arith, slice_set}
+use Rattle.std.proofs.Common.{◌≡◌, ℕ, ◌+◌, ◌-◌, ◌*◌, ◌%◌, ◌^◌, ◌<◌, ◌≤◌, cond, ltb, List, [], ◌∷◌, ◌++◌, length, take, drop, Ok, Err}
+use Rattle.std.proofs.Common.{refl, sym, ap, ◌∙◌, append_assoc, arith, slice_set}
 use Rattle.std.proofs.lemmas.Bool.{lt-ltb, le-ltb}
 use Rattle.std.proofs.lemmas.List.{length-append, take-append-le, drop-append-le, append-nil, take_more_set, length-set}
 use Rattle.std.proofs.Math.Seq.{take-length}
@@ -10,30 +11,38 @@ use Rattle.sspi_ber.proofs.Match.{read_of}
 use Rattle.sspi_tsreq.specs.declared.request.TsRequest.{TsRequest}
 use Rattle.sspi_tsreq.specs.declared.place.Text.{Text}
 use Rattle.sspi_tsreq.specs.declared.place.Text.TheVariants.{NegoTokens, AuthInfo, PubKeyAuth}
-use Rattle.sspi_tsreq.specs.Places.{low_from, nonce_from, nonce_rest, nonce_then, text_of, text_from, text_then, with_text, version_from, version_then, code_from, code_then}
+use Rattle.sspi_tsreq.specs.Places.{low_from, nonce_from, nonce_rest, nonce_then, text_of, text_from, text_then, with_text}
+use Rattle.sspi_tsreq.specs.Places.{version_from, version_then, code_from, code_then}
 use Rattle.sspi_tsreq.proofs.Numbers.{bytes_there, bytes_behind, byte_behind, low_step, low_last, none_left, put_before}
 
 -- ---- numbers
 
-low_more : (more value byte : ℕ) (text : List ℕ) → 0 < more → low_from value (more + 1) (byte ∷ text) ≡ low_from ((value * 256 + byte) % 2 ^ 32) ((more - 1) + 1) text
-low_more more value byte text some = low_step value byte more text ∙ ap (λ (n : ℕ). low_from ((value * 256 + byte) % 2 ^ 32) n text) (omega arith)
+low_more : (more value byte : ℕ) (text : List ℕ) → 0 < more →
+    low_from value (more + 1) (byte ∷ text) ≡ low_from ((value * 256 + byte) % 2 ^ 32) ((more - 1) + 1) text
+low_more more value byte text some = low_step value byte more text ∙ ap (λ (n : ℕ). low_from ((value * 256 + byte) % 2 ^ 32) n text)
+    (omega arith)
 
-low_end : (more value byte : ℕ) (text : List ℕ) → more ≤ 0 → low_from value (more + 1) (byte ∷ text) ≡ Ok ((value * 256 + byte) % 2 ^ 32, text)
+low_end : (more value byte : ℕ) (text : List ℕ) → more ≤ 0 →
+    low_from value (more + 1) (byte ∷ text) ≡ Ok ((value * 256 + byte) % 2 ^ 32, text)
 low_end more value byte text none =
     low_step value byte more text
     ∙ ap (λ (n : ℕ). low_from ((value * 256 + byte) % 2 ^ 32) n text) (omega arith)
     ∙ low_last ((value * 256 + byte) % 2 ^ 32) text
 
-pub version_more : (more value byte : ℕ) (text : List ℕ) → 0 < more → version_from more value (byte ∷ text) ≡ version_from (more - 1) ((value * 256 + byte) % 2 ^ 32) text
+pub version_more : (more value byte : ℕ) (text : List ℕ) → 0 < more →
+    version_from more value (byte ∷ text) ≡ version_from (more - 1) ((value * 256 + byte) % 2 ^ 32) text
 version_more more value byte text some = ap (λ (z : Read ℕ). z >>= version_then) (low_more more value byte text some)
 
-pub version_end : (more value byte : ℕ) (text : List ℕ) → more ≤ 0 → version_from more value (byte ∷ text) ≡ version_then ((value * 256 + byte) % 2 ^ 32, text)
+pub version_end : (more value byte : ℕ) (text : List ℕ) → more ≤ 0 →
+    version_from more value (byte ∷ text) ≡ version_then ((value * 256 + byte) % 2 ^ 32, text)
 version_end more value byte text none = ap (λ (z : Read ℕ). z >>= version_then) (low_end more value byte text none)
 
-pub code_more : (r : TsRequest) (more value byte : ℕ) (text : List ℕ) → 0 < more → code_from more value r (byte ∷ text) ≡ code_from (more - 1) ((value * 256 + byte) % 2 ^ 32) r text
+pub code_more : (r : TsRequest) (more value byte : ℕ) (text : List ℕ) → 0 < more →
+    code_from more value r (byte ∷ text) ≡ code_from (more - 1) ((value * 256 + byte) % 2 ^ 32) r text
 code_more r more value byte text some = ap (λ (z : Read ℕ). z >>= code_then r) (low_more more value byte text some)
 
-pub code_end : (r : TsRequest) (more value byte : ℕ) (text : List ℕ) → more ≤ 0 → code_from more value r (byte ∷ text) ≡ code_then r ((value * 256 + byte) % 2 ^ 32, text)
+pub code_end : (r : TsRequest) (more value byte : ℕ) (text : List ℕ) → more ≤ 0 →
+    code_from more value r (byte ∷ text) ≡ code_then r ((value * 256 + byte) % 2 ^ 32, text)
 code_end r more value byte text none = ap (λ (z : Read ℕ). z >>= code_then r) (low_end more value byte text none)
 
 -- ---- octets
@@ -48,7 +57,8 @@ octets_there text r len rest more le =
 
 -- a field's further bytes stand behind those that it has
 more_octets : (text : Text) (r : TsRequest) (front : List ℕ) (z : Read (List ℕ))
-    → ((z >>= put_before front) >>= text_then text r) ≡ (z >>= λ rest. text_then text (with_text text r front) (text_of text (with_text text r front) ++ rest.0, rest.1))
+    → ((z >>= put_before front) >>= text_then text r) ≡ (z >>= λ rest. text_then text (with_text text r front)
+    (text_of text (with_text text r front) ++ rest.0, rest.1))
 more_octets NegoTokens r front (Ok x) = refl
 more_octets AuthInfo r front (Ok x) = refl
 more_octets PubKeyAuth r front (Ok x) = refl
@@ -70,13 +80,17 @@ pub text_whole : (text : Text) (more : ℕ) (r : TsRequest) (octets rest : List 
 text_whole text more r octets rest e =
     ap (λ (n : ℕ). bytes_at n (octets ++ rest) >>= text_tail text r) (omega (arith, e))
     ∙ ap (λ (z : Read (List ℕ)). z >>= text_tail text r)
-    (bytes_behind octets rest 0 ∙ ap (λ (z : Read (List ℕ)). z >>= put_before octets) (none_left rest) ∙ ap (λ (l : List ℕ). read_of l rest) (append-nil octets))
+    (bytes_behind octets rest 0 ∙ ap (λ (z : Read (List ℕ)). z >>= put_before octets) (none_left rest) ∙ ap
+    (λ (l : List ℕ). read_of l rest) (append-nil octets))
 
 tail_behind : (text : Text) (r : TsRequest) (octets : List ℕ) (z : Read (List ℕ))
     → ((z >>= put_before octets) >>= text_tail text r) ≡ (z >>= text_tail text (with_text text r (text_of text r ++ octets)))
-tail_behind NegoTokens r octets (Ok x) = ap (λ (l : List ℕ). text_then NegoTokens r (l, x.1)) (sym (append_assoc (text_of NegoTokens r) octets x.0))
-tail_behind AuthInfo r octets (Ok x) = ap (λ (l : List ℕ). text_then AuthInfo r (l, x.1)) (sym (append_assoc (text_of AuthInfo r) octets x.0))
-tail_behind PubKeyAuth r octets (Ok x) = ap (λ (l : List ℕ). text_then PubKeyAuth r (l, x.1)) (sym (append_assoc (text_of PubKeyAuth r) octets x.0))
+tail_behind NegoTokens r octets (Ok x) = ap (λ (l : List ℕ). text_then NegoTokens r (l, x.1))
+    (sym (append_assoc (text_of NegoTokens r) octets x.0))
+tail_behind AuthInfo r octets (Ok x) = ap (λ (l : List ℕ). text_then AuthInfo r (l, x.1))
+    (sym (append_assoc (text_of AuthInfo r) octets x.0))
+tail_behind PubKeyAuth r octets (Ok x) = ap (λ (l : List ℕ). text_then PubKeyAuth r (l, x.1))
+    (sym (append_assoc (text_of PubKeyAuth r) octets x.0))
 tail_behind text r octets (Err fault) = refl
 
 pub text_part : (text : Text) (more : ℕ) (r : TsRequest) (octets rest : List ℕ) → length octets ≤ more
@@ -88,10 +102,12 @@ text_part text more r octets rest le =
 
 -- ---- the nonce
 
-pub nonce_ready : (nonce : List ℕ) (have : ℕ) (bytes : List ℕ) → have < 32 → nonce_rest nonce have bytes ≡ (bytes_at (32 - have) bytes >>= put_before (take have nonce))
+pub nonce_ready : (nonce : List ℕ) (have : ℕ) (bytes : List ℕ) → have < 32 →
+    nonce_rest nonce have bytes ≡ (bytes_at (32 - have) bytes >>= put_before (take have nonce))
 nonce_ready nonce have bytes lt = rw (lt-ltb have 32 lt) refl
 
-two_fronts : (first second : List ℕ) (z : Read (List ℕ)) → ((z >>= put_before second) >>= put_before first) ≡ (z >>= put_before (first ++ second))
+two_fronts : (first second : List ℕ) (z : Read (List ℕ)) → ((z >>= put_before second) >>= put_before first) ≡
+    (z >>= put_before (first ++ second))
 two_fronts first second (Ok x) = ap (λ (l : List ℕ). read_of l x.1) (sym (append_assoc first second x.0))
 two_fronts first second (Err fault) = refl
 
@@ -131,5 +147,6 @@ nonce_map : (r : TsRequest) (z : Read (List ℕ)) → (z >>= nonce_then r) ≡ (
 nonce_map r (Ok x) = refl
 nonce_map r (Err fault) = refl
 
-pub nonce_begun : (r : TsRequest) (nonce : List ℕ) (len : ℕ) (more : List ℕ) → len ≡ 32 → (bytes_at len more >>= nonce_then r) ≡ nonce_from nonce 0 r more
+pub nonce_begun : (r : TsRequest) (nonce : List ℕ) (len : ℕ) (more : List ℕ) → len ≡ 32 →
+    (bytes_at len more >>= nonce_then r) ≡ nonce_from nonce 0 r more
 nonce_begun r nonce len more e = rw e (nonce_map r (bytes_at 32 more))

@@ -94,7 +94,8 @@ IsNoCreds text = (cred_type credentials : List ℕ) → ¬ IsCreds text cred_typ
 
 -- TSCredentials of a password, in which no TSPasswordCreds stand
 abbrev pub LacksPasswords : List ℕ → Type 0
-LacksPasswords text = (credentials : List ℕ) × IsCredsOfType 1 text credentials × ((texts : Passwords) → ¬ IsPasswordCreds credentials texts)
+LacksPasswords text = (credentials : List ℕ) × IsCredsOfType 1 text credentials ×
+    ((texts : Passwords) → ¬ IsPasswordCreds credentials texts)
 
 -- The text begins with TSCredentials of a password that stand for these buffers, and behind their SEQUENCE stands the rest.
 abbrev pub StandsBefore : List ℕ → AuthIdentityBuffers → List ℕ → Type 0

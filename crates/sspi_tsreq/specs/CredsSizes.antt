@@ -5,7 +5,8 @@ use Rattle.sspi_ber.specs.Short.{element_size}
 
 -- the content of TSPasswordCreds
 abbrev pub password_fields_size : ℕ → ℕ → ℕ → ℕ
-password_fields_size domain user password = element_size (element_size domain) + (element_size (element_size user) + element_size (element_size password))
+password_fields_size domain user password = element_size (element_size domain) +
+    (element_size (element_size user) + element_size (element_size password))
 
 -- the content of TSCredentials
 abbrev pub body_size : ℕ → ℕ → ℕ → ℕ

@@ -1,5 +1,6 @@
 -- What a reader that is fed with pieces answers from each place of the grammar, if these bytes still come.
-use Rattle.std.specs.Prelude.{◌≡◌, ◌<◌, ◌≤◌, ℕ, ◌+◌, ◌-◌, ◌*◌, ◌%◌, ◌^◌, nat_lt, nat_le, ◌==◌, List, [], ◌∷◌, ◌++◌, length, take, fold, Option, None, Some, Result, Ok, Err, if◌then◌else◌}
+use Rattle.std.specs.Prelude.{◌≡◌, ◌<◌, ◌≤◌, ℕ, ◌+◌, ◌-◌, ◌*◌, ◌%◌, ◌^◌, nat_lt, nat_le, ◌==◌, List, [], ◌∷◌, ◌++◌, length, take, fold}
+use Rattle.std.specs.Prelude.{Option, None, Some, Result, Ok, Err, if◌then◌else◌}
 use Rattle.sspi_ber.specs.Fault.{Fault, Ended, Invalid, Read, ◌>>=◌}
 use Rattle.sspi_ber.specs.Forms.{is_integer_size}
 use Rattle.sspi_ber.specs.Limit.{max_content}
@@ -16,7 +17,8 @@ use Rattle.sspi_tsreq.specs.declared.place.Element.TheVariants.{Optional, Requir
 use Rattle.sspi_tsreq.specs.declared.place.Field.{Field}
 use Rattle.sspi_tsreq.specs.declared.place.Field.TheVariants.{Nego, Auth, Key, Code, Nonce}
 use Rattle.sspi_tsreq.specs.declared.place.Inner.{Inner}
-use Rattle.sspi_tsreq.specs.declared.place.Inner.TheVariants.{Version, VersionNumber, TokenList, TokenItem, Token, Octets, CodeNumber, NonceOctets}
+use Rattle.sspi_tsreq.specs.declared.place.Inner.TheVariants.{Version, VersionNumber, TokenList, TokenItem, Token, Octets, CodeNumber}
+use Rattle.sspi_tsreq.specs.declared.place.Inner.TheVariants.{NonceOctets}
 use Rattle.sspi_tsreq.specs.declared.place.Place.{Place}
 use Rattle.sspi_tsreq.specs.declared.place.Place.TheVariants.{AtTag, InLength, InVersion, InCode, InText, InNonce, Whole, Faulty}
 use Rattle.sspi_tsreq.specs.Value.{bare}
@@ -28,7 +30,8 @@ use Rattle.sspi_tsreq.specs.Reading.{low_at, octets_at, nonce_at, after_code, af
 unfoldable pub limited_from : ℕ → ℕ → List ℕ → Read ℕ
 limited_from value count bytes = do
   octets ← bytes_at count bytes
-  if nat_le (fold (λ high byte. high * 256 + byte) value octets.0) max_content then Ok (fold (λ high byte. high * 256 + byte) value octets.0, octets.1) else Err Invalid
+  if nat_le (fold (λ high byte. high * 256 + byte) value octets.0) max_content then Ok
+      (fold (λ high byte. high * 256 + byte) value octets.0, octets.1) else Err Invalid
 
 abbrev pub length_rest : LengthPart → List ℕ → Read ℕ
 length_rest First bytes = length_at bytes
@@ -125,7 +128,8 @@ with_text PubKeyAuth r octets = record r { pub_key_auth = Some octets }
 
 -- what is left of a nonce of which `have` bytes stand in `nonce`
 abbrev pub nonce_rest : List ℕ → ℕ → List ℕ → Read (List ℕ)
-nonce_rest nonce have bytes = if nat_lt have 32 then (bytes_at (32 - have) bytes >>= λ rest. Ok (take have nonce ++ rest.0, rest.1)) else Err Invalid
+nonce_rest nonce have bytes = if nat_lt have 32 then (bytes_at (32 - have) bytes >>= λ rest. Ok (take have nonce ++ rest.0, rest.1)) else
+    Err Invalid
 
 -- the pieces of which some bytes were read, and what follows them
 abbrev pub length_from : Element → LengthPart → TsRequest → List ℕ → Read TsRequest

@@ -5,7 +5,8 @@ use Rattle.sspi_tsreq.specs.declared.place.Element.{Element}
 use Rattle.sspi_tsreq.specs.declared.place.Element.TheVariants.{Optional, Required}
 use Rattle.sspi_tsreq.specs.declared.place.Field.{Field}
 use Rattle.sspi_tsreq.specs.declared.place.Inner.{Inner}
-use Rattle.sspi_tsreq.specs.declared.place.Inner.TheVariants.{Version, VersionNumber, TokenList, TokenItem, Token, Octets, CodeNumber, NonceOctets}
+use Rattle.sspi_tsreq.specs.declared.place.Inner.TheVariants.{Version, VersionNumber, TokenList, TokenItem, Token, Octets, CodeNumber}
+use Rattle.sspi_tsreq.specs.declared.place.Inner.TheVariants.{NonceOctets}
 use Rattle.sspi_tsreq.specs.declared.place.Place.{Place}
 use Rattle.sspi_tsreq.specs.declared.place.Place.TheVariants.{AtTag, InLength, InVersion, InCode, InText, InNonce, Whole, Faulty}
 use Rattle.sspi_tsreq.specs.declared.request.TsRequest.{TsRequest}

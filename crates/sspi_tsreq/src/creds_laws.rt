@@ -10,7 +10,8 @@ ghost use Rattle.sspi_names.specs.declared.identity.AuthIdentityBuffers.{AuthIde
 ghost use Rattle.sspi_names.specs.declared.identity.KeytabIdentity.{KeytabIdentity};
 ghost use Rattle.sspi_tsreq.specs.declared.mode.CredSspMode.{CredSspMode};
 ghost use Rattle.sspi_tsreq.specs.Creds.{delegated_credentials, creds_of, creds_text, malformed, smart_card, unknown_type, Passwords};
-ghost use Rattle.sspi_tsreq.specs.CredsGrammar.{HasBadText, IsCreds, IsCredsOfType, IsNoCreds, IsOtherType, IsPasswordCreds, LacksPasswords, StandsFor};
+ghost use Rattle.sspi_tsreq.specs.CredsGrammar.{HasBadText, IsCreds, IsCredsOfType, IsNoCreds, IsOtherType, IsPasswordCreds};
+ghost use Rattle.sspi_tsreq.specs.CredsGrammar.{LacksPasswords, StandsFor};
 
 /// Buffers are read exactly where the grammar has TSCredentials of a password that stand for them; a keytab is never read.
 pub fn password_is_grammar()
@@ -38,7 +39,8 @@ pub fn malformed_is_grammar()
 /// A text is refused exactly where both structures are there and one of the three texts is not UTF-16.
 pub fn bad_text_is_grammar()
     ensures { (text : List ℕ) → (creds_of text ≡ Err bad_text)
-        ↔ ((credentials : List ℕ) × (texts : Passwords) × IsCredsOfType 1 text credentials × IsPasswordCreds credentials texts × HasBadText texts) }
+        ↔ ((credentials : List ℕ) × (texts : Passwords) × IsCredsOfType 1 text credentials × IsPasswordCreds credentials texts ×
+        HasBadText texts) }
 {}
 
 /// Nothing else is answered.

@@ -4,7 +4,8 @@ ghost use Rattle.sspi_names.specs.Utf16.{decode_le};
 ghost use Rattle.sspi_tsreq.specs.CredsAnswers.{CredsCause, refusal_by, Is, IsCredsRefusal, IsLate, IsOrMemory, ReadsCreds};
 ghost use Rattle.sspi_tsreq.specs.CredsGrammar.{BeginsSequence, HasPasswords};
 ghost use Rattle.sspi_types.specs.Memory.{memory_error};
-ghost use Rattle.sspi_tsreq.specs.Creds.{creds_in, creds_of, fields_at, malformed, octets_in, password_type, passwords_at, spelled_or_malformed, text_or_refused, texts_of};
+ghost use Rattle.sspi_tsreq.specs.Creds.{creds_in, creds_of, fields_at, malformed, octets_in, password_type, passwords_at};
+ghost use Rattle.sspi_tsreq.specs.Creds.{spelled_or_malformed, text_or_refused, texts_of};
 
 use crate::block::read_content;
 use sspi_ber::identifier::{INTEGER, OCTET_STRING, SEQUENCE};
@@ -96,7 +97,8 @@ fn spelled_fields(body: &[u8]) -> Result<Fields<'_>, Error>
 }
 
 fn spelled_passwords(bytes: &[u8]) -> Result<Passwords<'_>, Error>
-    ensures { Is (λ passwords. record { domain = passwords.domain.now; user = passwords.user.now; password = passwords.password.now }) result
+    ensures { Is (λ passwords. record { domain = passwords.domain.now; user = passwords.user.now; password = passwords.password.now })
+        result
         (spelled_or_malformed (passwords_at bytes.now)) }
 {
     match read_passwords(&mut SliceSource::new(bytes)) {
@@ -122,7 +124,11 @@ fn read_fields<'a>(source: &mut SliceSource<'a>) -> Result<Fields<'a>, WireKind>
 
 #[tactic(auto, unfolding(crate::specs::Creds::passwords_at))]
 fn read_passwords<'a>(source: &mut SliceSource<'a>) -> Result<Passwords<'a>, WireKind>
-    ensures read { Gives (λ passwords. record { domain = passwords.domain.now; user = passwords.user.now; password = passwords.password.now })
+    ensures read { Gives (λ passwords. record {
+      domain = passwords.domain.now;
+      user = passwords.user.now;
+      password = passwords.password.now;
+    })
         source.new result (passwords_at source.old) }
     ensures memory { NeedsNoMemory result }
 {

@@ -1,10 +1,12 @@
 //! A request that is read from pieces, as a stream gives them.
 
-ghost use Rattle.std.specs.Prelude.{◌≡◌, ◌≤◌, ℕ, List, [], ◌∷◌, ◌++◌, length, take, drop, None, Some, Ok, Err, IfOk, IfErr, IsOk, MatchBool, OnOk, OnErr};
+ghost use Rattle.std.specs.Prelude.{◌≡◌, ◌≤◌, ℕ, List, [], ◌∷◌, ◌++◌, length, take, drop, None, Some, Ok, Err, IfOk, IfErr, IsOk};
+ghost use Rattle.std.specs.Prelude.{MatchBool, OnOk, OnErr};
 ghost use Rattle.sspi_ber.specs.Outside.{NeedsNoMemory};
 ghost use Rattle.sspi_tsreq.specs.declared.request.TsRequest.{TsRequest};
 ghost use Rattle.sspi_tsreq.specs.Answer.{IsAnswer};
-ghost use Rattle.sspi_tsreq.specs.Feeding.{EndsAs, IsOuter, IsPast, IsPastReading, lengthened, numbered, stage_of, Stands, StandsAt, StandsInside, WentOn};
+ghost use Rattle.sspi_tsreq.specs.Feeding.{EndsAs, IsOuter, IsPast, IsPastReading, lengthened, numbered, stage_of, Stands, StandsAt};
+ghost use Rattle.sspi_tsreq.specs.Feeding.{StandsInside, WentOn};
 ghost use Rattle.sspi_tsreq.specs.Grammar.{IsRequest};
 ghost use Rattle.sspi_tsreq.specs.Places.{answered, from_tag, nonce_from, octets_of, rest_at, text_from, text_of, with_text};
 ghost use Rattle.sspi_tsreq.specs.Walks.{filled, from_field, from_inner, slot, IsHere, IsInText, IsQuiet, IsWithout, Opened};
@@ -72,7 +74,8 @@ fn is_outer(stage: Stage) -> bool
 
 /// The outer header, as far as the piece has it, and how many of its bytes were read.
 fn read_outer(stage: Stage, piece: &[u8]) -> (Stage, usize)
-    ensures stands { (nonce bytes : List ℕ) (r : TsRequest) → StandsAt nonce stage r bytes → StandsAt nonce result.0 r (bytes ++ take result.1 piece.now) }
+    ensures stands { (nonce bytes : List ℕ) (r : TsRequest) → StandsAt nonce stage r bytes →
+        StandsAt nonce result.0 r (bytes ++ take result.1 piece.now) }
     ensures within { result.1 ≤ length piece.now }
     ensures whole { IsOuter result.0 → result.1 ≡ length piece.now }
     ensures past { IsPast stage → IsPast result.0 }
@@ -130,7 +133,8 @@ fn lengthen(alloc: Global, field: &mut Option<Bytes>, octets: &[u8]) -> Result<(
 fn first_octets<'a>(place: Place, body: &'a [u8]) -> (&'a [u8], Place)
     ensures front { result.0.now ≡ take (length result.0.now) body.now }
     ensures within { length result.0.now ≤ length body.now }
-    ensures goes { (nonce more : List ℕ) (r : TsRequest) → rest_at nonce place r (result.0.now ++ more) ≡ rest_at nonce result.1 (lengthened place r result.0.now) more }
+    ensures goes { (nonce more : List ℕ) (r : TsRequest) → rest_at nonce place r (result.0.now ++ more) ≡ rest_at nonce result.1
+        (lengthened place r result.0.now) more }
     ensures text { IsInText result.1 → drop (length result.0.now) body.now ≡ [] }
     ensures quiet { (Opened place → ⊥) → Opened result.1 → ⊥ }
 {
@@ -150,7 +154,8 @@ fn first_octets<'a>(place: Place, body: &'a [u8]) -> (&'a [u8], Place)
 fn octets_of_field<'a>(text: Text, more: u32, body: &'a [u8]) -> (&'a [u8], Place)
     ensures front { result.0.now ≡ take (length result.0.now) body.now }
     ensures within { length result.0.now ≤ length body.now }
-    ensures goes { (nonce rest : List ℕ) (r : TsRequest) → text_from text more r (result.0.now ++ rest) ≡ rest_at nonce result.1 (with_text text r (text_of text r ++ result.0.now)) rest }
+    ensures goes { (nonce rest : List ℕ) (r : TsRequest) → text_from text more r (result.0.now ++ rest) ≡ rest_at nonce result.1
+        (with_text text r (text_of text r ++ result.0.now)) rest }
     ensures text { IsInText result.1 → drop (length result.0.now) body.now ≡ [] }
 {
     if body.len() <= more as usize {
@@ -307,7 +312,8 @@ impl TsReader {
 
     /// As many bytes of the content as are still to come.
     fn feed_content(&mut self, left: u32, place: Place, behind: &[u8]) -> Result<(), WireKind>
-        ensures ok { (bytes : List ℕ) → StandsInside self.old.nonce left place self.old.request bytes → OnOk result (Stands self.new (bytes ++ behind.now)) }
+        ensures ok { (bytes : List ℕ) → StandsInside self.old.nonce left place self.old.request bytes →
+            OnOk result (Stands self.new (bytes ++ behind.now)) }
         ensures err { OnErr result (self.new ≡ self.old) }
         ensures kind { IfErr result (λ kind. kind ≡ WireKind.InsufficientMemory) }
         ensures free { (Opened place → ⊥) → IsWithout 0x04 behind.now → IsOk result }
@@ -391,7 +397,15 @@ impl TsReader {
     }
 
     fn settle_rest(&mut self, left: u32, walk: &Walk<'_>)
-        ensures { self.new ≡ record self.old { stage = Stage.Content left walk.now.place; nonce = walk.now.nonce; request = record self.old.request { version = walk.now.version; error_code = walk.now.error_code; client_nonce = walk.now.client_nonce } } }
+        ensures { self.new ≡ record self.old {
+          stage = Stage.Content left walk.now.place;
+          nonce = walk.now.nonce;
+          request = record self.old.request {
+            version = walk.now.version;
+            error_code = walk.now.error_code;
+            client_nonce = walk.now.client_nonce;
+          };
+        } }
     {
         self.stage = Stage::Content(left, walk.place);
         self.nonce = walk.nonce;

@@ -1,11 +1,14 @@
 //! A reader on its way through a piece of a request's content, byte by byte.
 
-ghost use Rattle.std.specs.Prelude.{◌≡◌, ℕ, ◌+◌, ◌*◌, ◌%◌, ◌^◌, ◌<◌, ◌≤◌, nat_le, ◌&&◌, ◌==◌, List, [], ◌∷◌, ◌++◌, length, slice_set, MatchOption};
+ghost use Rattle.std.specs.Prelude.{◌≡◌, ℕ, ◌+◌, ◌*◌, ◌%◌, ◌^◌, ◌<◌, ◌≤◌, nat_le, ◌&&◌, ◌==◌, List, [], ◌∷◌, ◌++◌, length, slice_set};
+ghost use Rattle.std.specs.Prelude.{MatchOption};
 ghost use Rattle.sspi_tsreq.specs.declared.request.TsRequest.{TsRequest};
 ghost use Rattle.sspi_tsreq.specs.Value.{bare};
-ghost use Rattle.sspi_tsreq.specs.Places.{answered, behind, code_from, inner_tag, length_from, nonce_from, rest_at, text_then, version_from, with_text};
+ghost use Rattle.sspi_tsreq.specs.Places.{answered, behind, code_from, inner_tag, length_from, nonce_from, rest_at, text_then};
+ghost use Rattle.sspi_tsreq.specs.Places.{version_from, with_text};
 ghost use Rattle.sspi_tsreq.specs.Reading.{after_code, after_key, after_auth, after_nego, after_version};
-ghost use Rattle.sspi_tsreq.specs.Walks.{filled, goes_on, from_field, from_inner, IsInText, IsOctetsElement, IsOctetsHeader, IsQuiet, IsWithout, Opened};
+ghost use Rattle.sspi_tsreq.specs.Walks.{filled, goes_on, from_field, from_inner, IsInText, IsOctetsElement, IsOctetsHeader, IsQuiet};
+ghost use Rattle.sspi_tsreq.specs.Walks.{IsWithout, Opened};
 
 use crate::length::{is_integer_size, next_length};
 use crate::place::{Element, Field, Inner, LengthPart, LengthStep, Place, Text};
@@ -87,7 +90,8 @@ fn push_low(value: u32, byte: u8) -> u32
 
 impl<'a> Walk<'a> {
     fn at_nonce(&mut self, byte: u8)
-        ensures goes { (base : TsRequest) (more : List ℕ) → answered (after_code (filled base self.old) (byte ∷ more)) ≡ goes_on self.new base more }
+        ensures goes { (base : TsRequest) (more : List ℕ) → answered
+            (after_code (filled base self.old) (byte ∷ more)) ≡ goes_on self.new base more }
         ensures text { IsInText self.new.place → ⊥ }
         ensures quiet { IsQuiet self.old → IsQuiet self.new }
     {
@@ -100,7 +104,8 @@ impl<'a> Walk<'a> {
     }
 
     fn at_code(&mut self, byte: u8)
-        ensures goes { (base : TsRequest) (more : List ℕ) → answered (after_key (filled base self.old) (byte ∷ more)) ≡ goes_on self.new base more }
+        ensures goes { (base : TsRequest) (more : List ℕ) → answered
+            (after_key (filled base self.old) (byte ∷ more)) ≡ goes_on self.new base more }
         ensures text { IsInText self.new.place → ⊥ }
         ensures quiet { IsQuiet self.old → IsQuiet self.new }
     {
@@ -113,7 +118,8 @@ impl<'a> Walk<'a> {
     }
 
     fn at_key(&mut self, byte: u8)
-        ensures goes { (base : TsRequest) (more : List ℕ) → answered (after_auth (filled base self.old) (byte ∷ more)) ≡ goes_on self.new base more }
+        ensures goes { (base : TsRequest) (more : List ℕ) → answered
+            (after_auth (filled base self.old) (byte ∷ more)) ≡ goes_on self.new base more }
         ensures text { IsInText self.new.place → ⊥ }
         ensures quiet { IsQuiet self.old → IsQuiet self.new }
     {
@@ -126,7 +132,8 @@ impl<'a> Walk<'a> {
     }
 
     fn at_auth(&mut self, byte: u8)
-        ensures goes { (base : TsRequest) (more : List ℕ) → answered (after_nego (filled base self.old) (byte ∷ more)) ≡ goes_on self.new base more }
+        ensures goes { (base : TsRequest) (more : List ℕ) → answered
+            (after_nego (filled base self.old) (byte ∷ more)) ≡ goes_on self.new base more }
         ensures text { IsInText self.new.place → ⊥ }
         ensures quiet { IsQuiet self.old → IsQuiet self.new }
     {
@@ -139,7 +146,8 @@ impl<'a> Walk<'a> {
     }
 
     fn at_nego(&mut self, byte: u8)
-        ensures goes { (base : TsRequest) (more : List ℕ) → answered (after_version (filled base self.old) (byte ∷ more)) ≡ goes_on self.new base more }
+        ensures goes { (base : TsRequest) (more : List ℕ) → answered
+            (after_version (filled base self.old) (byte ∷ more)) ≡ goes_on self.new base more }
         ensures text { IsInText self.new.place → ⊥ }
         ensures quiet { IsQuiet self.old → IsQuiet self.new }
     {
@@ -153,7 +161,8 @@ impl<'a> Walk<'a> {
 
     /// This field or one behind it, or what is not looked at.
     fn at_field(&mut self, field: Field, byte: u8)
-        ensures goes { (base : TsRequest) (more : List ℕ) → answered (from_field field (filled base self.old) (byte ∷ more)) ≡ goes_on self.new base more }
+        ensures goes { (base : TsRequest) (more : List ℕ) → answered
+            (from_field field (filled base self.old) (byte ∷ more)) ≡ goes_on self.new base more }
         ensures text { IsInText self.new.place → ⊥ }
         ensures quiet { IsQuiet self.old → IsQuiet self.new }
     {
@@ -167,7 +176,8 @@ impl<'a> Walk<'a> {
     }
 
     fn expect(&mut self, inner: Inner, byte: u8)
-        ensures goes { (base : TsRequest) (more : List ℕ) → answered (from_inner inner (filled base self.old) (byte ∷ more)) ≡ goes_on self.new base more }
+        ensures goes { (base : TsRequest) (more : List ℕ) → answered
+            (from_inner inner (filled base self.old) (byte ∷ more)) ≡ goes_on self.new base more }
         ensures text { IsInText self.new.place → ⊥ }
         ensures quiet { IsQuiet self.old → (byte ≡ 0x04 → ⊥) → IsQuiet self.new }
     {
@@ -207,7 +217,8 @@ impl<'a> Walk<'a> {
     }
 
     fn code_byte(&mut self, more: u32, value: u32, byte: u8)
-        ensures goes { (base : TsRequest) (text : List ℕ) → answered (code_from more value (filled base self.old) (byte ∷ text)) ≡ goes_on self.new base text }
+        ensures goes { (base : TsRequest) (text : List ℕ) → answered
+            (code_from more value (filled base self.old) (byte ∷ text)) ≡ goes_on self.new base text }
         ensures text { IsInText self.new.place → ⊥ }
         ensures quiet { IsQuiet self.old → IsQuiet self.new }
     {
@@ -221,7 +232,8 @@ impl<'a> Walk<'a> {
     }
 
     fn nonce_byte(&mut self, have: u32, byte: u8)
-        ensures goes { (base : TsRequest) (more : List ℕ) → answered (nonce_from self.old.nonce have (filled base self.old) (byte ∷ more)) ≡ goes_on self.new base more }
+        ensures goes { (base : TsRequest) (more : List ℕ) → answered
+            (nonce_from self.old.nonce have (filled base self.old) (byte ∷ more)) ≡ goes_on self.new base more }
         ensures text { IsInText self.new.place → ⊥ }
         ensures quiet { IsQuiet self.old → IsQuiet self.new }
     {
@@ -253,7 +265,9 @@ impl<'a> Walk<'a> {
     /// The field's `len` bytes, as far as they are there; the answer is what is behind them.
     fn octets(&mut self, text: Text, len: usize, rest: &'a [u8]) -> &'a [u8]
         requires { len < 2 ^ 32 }
-        ensures goes { (base : TsRequest) (more : List ℕ) → answered (behind (Element.Required (Inner.Octets text)) (filled base self.old) len (rest.now ++ more)) ≡ goes_on self.new base (result.now ++ more) }
+        ensures goes { (base : TsRequest) (more : List ℕ) → answered
+            (behind (Element.Required (Inner.Octets text)) (filled base self.old) len (rest.now ++ more)) ≡ goes_on self.new base
+            (result.now ++ more) }
         ensures text { IsInText self.new.place → result.now ≡ [] }
         ensures shorter { length result.now ≤ length rest.now }
     {
@@ -271,7 +285,8 @@ impl<'a> Walk<'a> {
 
     /// What stands behind the length of an element.
     fn behind(&mut self, element: Element, len: u32, rest: &'a [u8]) -> &'a [u8]
-        ensures goes { (base : TsRequest) (more : List ℕ) → answered (behind element (filled base self.old) len (rest.now ++ more)) ≡ goes_on self.new base (result.now ++ more) }
+        ensures goes { (base : TsRequest) (more : List ℕ) → answered
+            (behind element (filled base self.old) len (rest.now ++ more)) ≡ goes_on self.new base (result.now ++ more) }
         ensures text { IsInText self.new.place → result.now ≡ [] }
         ensures shorter { length result.now ≤ length rest.now }
         ensures quiet { IsQuiet self.old → (IsOctetsElement element → ⊥) → IsQuiet self.new × (result.now ≡ rest.now) }
@@ -286,7 +301,8 @@ impl<'a> Walk<'a> {
     }
 
     fn inside(&mut self, inner: Inner, len: u32, rest: &'a [u8]) -> &'a [u8]
-        ensures goes { (base : TsRequest) (more : List ℕ) → answered (behind (Element.Required inner) (filled base self.old) len (rest.now ++ more)) ≡ goes_on self.new base (result.now ++ more) }
+        ensures goes { (base : TsRequest) (more : List ℕ) → answered
+            (behind (Element.Required inner) (filled base self.old) len (rest.now ++ more)) ≡ goes_on self.new base (result.now ++ more) }
         ensures text { IsInText self.new.place → result.now ≡ [] }
         ensures shorter { length result.now ≤ length rest.now }
         ensures quiet { IsQuiet self.old → (IsOctetsHeader inner → ⊥) → IsQuiet self.new × (result.now ≡ rest.now) }
@@ -311,7 +327,8 @@ impl<'a> Walk<'a> {
         byte: u8,
         rest: &'a [u8],
     ) -> &'a [u8]
-        ensures goes { (base : TsRequest) (more : List ℕ) → answered (length_from element part (filled base self.old) (byte ∷ (rest.now ++ more))) ≡ goes_on self.new base (result.now ++ more) }
+        ensures goes { (base : TsRequest) (more : List ℕ) → answered
+            (length_from element part (filled base self.old) (byte ∷ (rest.now ++ more))) ≡ goes_on self.new base (result.now ++ more) }
         ensures text { IsInText self.new.place → result.now ≡ [] }
         ensures shorter { length result.now ≤ length rest.now }
         ensures quiet { IsQuiet self.old → (IsOctetsElement element → ⊥) → IsQuiet self.new × (result.now ≡ rest.now) }
@@ -332,7 +349,8 @@ impl<'a> Walk<'a> {
     /// One byte, and as many of `rest` as it settles; the answer is what is behind them.
     fn step(&mut self, byte: u8, rest: &'a [u8]) -> &'a [u8]
         requires { IsInText self.old.place → ⊥ }
-        ensures goes { (base : TsRequest) (more : List ℕ) → goes_on self.old base (byte ∷ (rest.now ++ more)) ≡ goes_on self.new base (result.now ++ more) }
+        ensures goes { (base : TsRequest) (more : List ℕ) → goes_on self.old base (byte ∷ (rest.now ++ more)) ≡ goes_on self.new base
+            (result.now ++ more) }
         ensures text { IsInText self.new.place → result.now ≡ [] }
         ensures shorter { length result.now ≤ length rest.now }
         ensures quiet { IsQuiet self.old → (byte ≡ 0x04 → ⊥) → IsWithout 0x04 rest.now → IsQuiet self.new × IsWithout 0x04 result.now }
@@ -388,7 +406,8 @@ pub(crate) fn after_text(text: Text) -> Field
 }
 
 fn version_place(len: u32) -> Place
-    ensures goes { (nonce : List ℕ) (r : TsRequest) (more : List ℕ) → behind (Element.Required Inner.VersionNumber) r len more ≡ rest_at nonce result r more }
+    ensures goes { (nonce : List ℕ) (r : TsRequest) (more : List ℕ) →
+        behind (Element.Required Inner.VersionNumber) r len more ≡ rest_at nonce result r more }
     ensures text { IsInText result → ⊥ }
     ensures quiet { Opened result → ⊥ }
 {
@@ -400,7 +419,8 @@ fn version_place(len: u32) -> Place
 }
 
 fn code_place(len: u32) -> Place
-    ensures goes { (nonce : List ℕ) (r : TsRequest) (more : List ℕ) → behind (Element.Required Inner.CodeNumber) r len more ≡ rest_at nonce result r more }
+    ensures goes { (nonce : List ℕ) (r : TsRequest) (more : List ℕ) →
+        behind (Element.Required Inner.CodeNumber) r len more ≡ rest_at nonce result r more }
     ensures text { IsInText result → ⊥ }
     ensures quiet { Opened result → ⊥ }
 {
@@ -412,7 +432,8 @@ fn code_place(len: u32) -> Place
 }
 
 fn nonce_place(len: u32) -> Place
-    ensures goes { (nonce : List ℕ) (r : TsRequest) (more : List ℕ) → behind (Element.Required Inner.NonceOctets) r len more ≡ rest_at nonce result r more }
+    ensures goes { (nonce : List ℕ) (r : TsRequest) (more : List ℕ) →
+        behind (Element.Required Inner.NonceOctets) r len more ≡ rest_at nonce result r more }
     ensures text { IsInText result → ⊥ }
     ensures quiet { Opened result → ⊥ }
 {

@@ -3,7 +3,8 @@ ghost use Rattle.sspi_ber.specs.Limit.{max_content};
 ghost use Rattle.sspi_ber.specs.Short.{element, int_short};
 ghost use Rattle.sspi_tsreq.specs.Size.{IsTokenSize};
 ghost use Rattle.sspi_ber.specs.Outside.{Writes, WritesIf, WriteCause};
-ghost use Rattle.sspi_tsreq.specs.Spelling.{carried, version_field, token_item, token_list, nego_field, octets_field, code_field, last_fields, later_fields, fields, fits, spelled};
+ghost use Rattle.sspi_tsreq.specs.Spelling.{carried, version_field, token_item, token_list, nego_field, octets_field, code_field};
+ghost use Rattle.sspi_tsreq.specs.Spelling.{last_fields, later_fields, fields, fits, spelled};
 
 use crate::request::TsRequest;
 use crate::sizes::{carried_code, carried_nonce};

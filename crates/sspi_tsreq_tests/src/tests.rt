@@ -81,7 +81,11 @@ fn is_request(rt: &impl Abort, answer: Result<TsRequest, WireKind>, request: &Ts
 fn reads(rt: &impl Abort, alloc: Global, bytes: &[u8], request: &TsRequest) {
     is_request(rt, TsRequest::from_buffer(alloc, bytes), request);
     for size in 0..7 {
-        is_request(rt, fed(alloc, bytes, least_size(bytes.len()) + size), request);
+        is_request(
+            rt,
+            fed(alloc, bytes, least_size(bytes.len()) + size),
+            request,
+        );
     }
     for at in 0..bytes.len().min(LONGEST_CUT) {
         is_request(rt, fed_cut(alloc, bytes, at), request);
@@ -92,7 +96,10 @@ fn reads(rt: &impl Abort, alloc: Global, bytes: &[u8], request: &TsRequest) {
 fn refuses(rt: &impl Abort, alloc: Global, bytes: &[u8], kind: WireKind) {
     assert_eq!(rt; TsRequest::from_buffer(alloc, bytes).err(), Some(kind));
     for size in 0..7 {
-        assert_eq!(rt; fed(alloc, bytes, least_size(bytes.len()) + size).err(), Some(kind));
+        assert_eq!(rt;
+            fed(alloc, bytes, least_size(bytes.len()) + size).err(),
+            Some(kind)
+        );
     }
     for at in 0..bytes.len().min(LONGEST_CUT) {
         assert_eq!(rt; fed_cut(alloc, bytes, at).err(), Some(kind));

@@ -29,7 +29,8 @@ pub fn signed_verifies()
     ensures verifies { (m p : NtlmState) (n : ℕ) (text mic : List ℕ) →
         IsPeer m p → ntlm_meaning.signs m n text mic → ntlm_meaning.verifies p n mic text }
     ensures taken { (p : NtlmState) (mic text : List ℕ) →
-        ntlm_meaning.verifies p p.protection.verified mic text → p.protection.verified < 2 ^ 64 - 1 → ntlm_meaning.permits p (ToVerify mic text) }
+        ntlm_meaning.verifies p p.protection.verified mic text → p.protection.verified < 2 ^ 64 - 1 →
+        ntlm_meaning.permits p (ToVerify mic text) }
 {}
 
 /// A call that may answer `Ok` is refused with no kind but want of memory.
@@ -47,5 +48,6 @@ pub fn written_is_read()
 /// The password that made a claim's proof is found to be the one.
 pub fn password_proves()
     ensures { (challenge : List ℕ) (claim : Claim) (identity : AuthIdentity) →
-        claim.proof ≡ proof_of challenge claim.text identity.password.value → proves challenge claim (credentials.AuthIdentity identity) ≡ true }
+        claim.proof ≡ proof_of challenge claim.text identity.password.value →
+        proves challenge claim (credentials.AuthIdentity identity) ≡ true }
 {}

@@ -1,5 +1,6 @@
 ghost use Rattle.std.specs.Prelude.{◌≡◌, ◌<◌, ◌^◌, ◌++◌, length, option_map, option_copied, IfOk};
-ghost use Rattle.sspi_mech.specs.NtlmMessages.{proof_of, key_of, challenge_message, authenticate_message, is_negotiate, read_challenge, read_authenticate};
+ghost use Rattle.sspi_mech.specs.NtlmMessages.{proof_of, key_of, challenge_message, authenticate_message, is_negotiate};
+ghost use Rattle.sspi_mech.specs.NtlmMessages.{read_challenge, read_authenticate};
 ghost use Rattle.sha2.specs.Sha256.{sha256};
 
 use crate::named::{named_message, read_named};

@@ -6,6 +6,7 @@ use std::process::Abort;
 
 /// Version 6 and a field of token `a2` whose length is no length, in a content that is whole; and in one that lacks a byte.
 const BAD: &[u8] = &[0x30, 0x07, 0xa0, 0x03, 0x02, 0x01, 0x06, 0xa2, 0x8a];
+
 const CUT: &[u8] = &[0x30, 0x08, 0xa0, 0x03, 0x02, 0x01, 0x06, 0xa2, 0x8a];
 
 /// Version 6 in a content of 65531 bytes, of which 65526 are to come.
@@ -49,11 +50,17 @@ fn is_default(rt: &impl Abort, answer: Result<TsRequest, WireKind>) {
 fn a_fault_waits_for_the_content(rt: HostRuntime) {
     refuses(&rt, rt.alloc(), BAD, WireKind::InvalidData);
     refuses(&rt, rt.alloc(), CUT, WireKind::UnexpectedEof);
-    assert_eq!(rt; fed(rt.alloc(), &[], 1).err(), Some(WireKind::UnexpectedEof));
+    assert_eq!(rt;
+        fed(rt.alloc(), &[], 1).err(),
+        Some(WireKind::UnexpectedEof)
+    );
 }
 
 #[test]
 fn what_is_behind_the_request_is_dropped(rt: HostRuntime) {
     is_default(&rt, fed_zeros(rt.alloc()));
-    assert_eq!(rt; fed_too_few(rt.alloc()).err(), Some(WireKind::UnexpectedEof));
+    assert_eq!(rt;
+        fed_too_few(rt.alloc()).err(),
+        Some(WireKind::UnexpectedEof)
+    );
 }

@@ -10,7 +10,8 @@ pub returns-in-Ok-true-clause-delivers : goal.returns-in-Ok-true-clause-delivers
 returns-in-Ok-true-clause-delivers g c =
     let laws = lawful _ _ g.N.Mechanism.meaning g.K.Mechanism.meaning g.met.N.Mechanism.laws g.met.K.Mechanism.laws in
     let sealed = c.seal_credentials.ensures in
-    delivered (either g.N.Mechanism.REQUESTS g.N.Mechanism.meaning g.K.Mechanism.meaning) laws _ _ _ c.args.acts.now _ _ _ _ _ c.requires.sealed
+    delivered (either g.N.Mechanism.REQUESTS g.N.Mechanism.meaning g.K.Mechanism.meaning) laws _ _ _ c.args.acts.now _ _ _ _ _
+    c.requires.sealed
     c.in-Ok-true.ensures.acts c.in-Ok-true.ensures.ok c.in-Ok-true.ensures.count (c.in-Ok-true.ensures.same c.in-Ok-true.field-0-test)
     sealed.acts sealed.ok sealed.count sealed.err sealed.err_acts
 

@@ -2,7 +2,8 @@ use Rattle.sspi_credssp.proofs.CredentialTexts.{text_written, text_unwritten, un
 use Rattle.sspi_credssp.proofs.credentials.write_credentials.Goals as goal
 
 pub returns-in-Ok-write_ts_credentials-clause-text : goal.returns-in-Ok-write_ts_credentials-clause-text
-returns-in-Ok-write_ts_credentials-clause-text c = text_written _ _ c.in-Ok.buffers _ c.in-Ok.ensures.buffers c.in-Ok-write_ts_credentials.ensures.text
+returns-in-Ok-write_ts_credentials-clause-text c = text_written _ _ c.in-Ok.buffers _ c.in-Ok.ensures.buffers
+    c.in-Ok-write_ts_credentials.ensures.text
 
 pub returns-clause-plain : goal.returns-clause-plain
 returns-clause-plain c = unwritten_plain _ _ _ c.in-Err-write_ts_credentials.ensures.text

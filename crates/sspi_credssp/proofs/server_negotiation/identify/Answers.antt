@@ -19,5 +19,6 @@ pub returns-clause-cause : goal.returns-clause-cause
 returns-clause-cause g c = λ memory.
     let it = either g.N.Mechanism.REQUESTS g.N.Mechanism.meaning g.K.Mechanism.meaning in
     unset c.in-Ok.names.username c.in-Ok-look_up.candidates.items (search rules) (search rules) c.in-Ok-look_up.ensures.some
-    (subst (λ all. it.refuses c.args.context.now (ToIdentify all) c.in-Err-custom_set_auth_identities.error.error_type) c.in-Ok-credentials_of.ensures.ok
+    (subst (λ all. it.refuses c.args.context.now (ToIdentify all) c.in-Err-custom_set_auth_identities.error.error_type)
+    c.in-Ok-credentials_of.ensures.ok
     (c.in-Err-custom_set_auth_identities.ensures.cause memory))

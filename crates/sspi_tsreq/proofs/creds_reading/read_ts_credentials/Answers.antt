@@ -14,7 +14,8 @@ returns-in-Ok-read_content-clause-read g c =
     (subst (λ b. IsOrMemory (λ x. x) c.read_creds.result (creds_in b)) c.deref.ensures.value c.read_creds.ensures.read)
 
 pub returns-in-Ok-read_content-clause-cause : goal.returns-in-Ok-read_content-clause-cause
-returns-in-Ok-read_content-clause-cause g c = content_cause _ _ _ c.deref.result.now c.read_creds.result c.in-Ok.ensures.cause c.in-Ok-read_content.ensures.cause c.read_creds.ensures.read
+returns-in-Ok-read_content-clause-cause g c = content_cause _ _ _ c.deref.result.now c.read_creds.result c.in-Ok.ensures.cause
+    c.in-Ok-read_content.ensures.cause c.read_creds.ensures.read
 
 pub returns-in-Ok-read_content-clause-rest : goal.returns-in-Ok-read_content-clause-rest
 returns-in-Ok-read_content-clause-rest g c = rest_then c.in-Ok.ensures.rest c.in-Ok-read_content.ensures.rest
@@ -22,7 +23,8 @@ returns-in-Ok-read_content-clause-rest g c = rest_then c.in-Ok.ensures.rest c.in
 pub returns-in-Err-read_content-clause-read : goal.returns-in-Err-read_content-clause-read
 returns-in-Err-read_content-clause-read g c =
     rw c.refusal_of-in-Err-read_content.ensures
-    (content_refused _ _ _ c.in-Ok.len c.in-Ok.len c.in-Err-read_content.kind _ _ refl c.in-Ok.ensures.read c.in-Err-read_content.ensures.read c.in-Err-read_content.ensures.cause)
+    (content_refused _ _ _ c.in-Ok.len c.in-Ok.len c.in-Err-read_content.kind _ _ refl c.in-Ok.ensures.read
+    c.in-Err-read_content.ensures.read c.in-Err-read_content.ensures.cause)
 
 pub returns-in-Err-read_content-clause-rest : goal.returns-in-Err-read_content-clause-rest
 returns-in-Err-read_content-clause-rest g c = rest_then c.in-Ok.ensures.rest c.in-Err-read_content.ensures.rest
@@ -34,4 +36,5 @@ pub returns-in-Ok-read_content-clause-kinds : goal.returns-in-Ok-read_content-cl
 returns-in-Ok-read_content-clause-kinds g c = content_listed _ c.read_creds.result c.read_creds.ensures.read
 
 pub returns-in-Err-read_content-clause-kinds : goal.returns-in-Err-read_content-clause-kinds
-returns-in-Err-read_content-clause-kinds g c = subst IsCredsRefusal (sym c.refusal_of-in-Err-read_content.ensures) (fault_listed c.in-Err-read_content.kind)
+returns-in-Err-read_content-clause-kinds g c = subst IsCredsRefusal (sym c.refusal_of-in-Err-read_content.ensures)
+    (fault_listed c.in-Err-read_content.kind)

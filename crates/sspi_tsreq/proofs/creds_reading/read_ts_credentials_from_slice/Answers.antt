@@ -9,5 +9,6 @@ pub returns-in-Err-clause-read : goal.returns-in-Err-clause-read
 unfolding creds_of
 returns-in-Err-clause-read c =
     inl (ap (λ bytes. spelled_or_malformed (element_at 0x30 bytes) and_then creds_in) (sym c.new.ensures)
-    ∙ ap (λ r. r and_then creds_in) (refused (λ (content : Bor (List ℕ)). content.now) c.read_element.new.source c.in-Err.field-0 _ c.in-Err.ensures.read c.in-Err.ensures.memory)
+    ∙ ap (λ r. r and_then creds_in) (refused (λ (content : Bor (List ℕ)). content.now) c.read_element.new.source c.in-Err.field-0 _
+    c.in-Err.ensures.read c.in-Err.ensures.memory)
     ∙ ap Err (sym c.not_spelled.ensures))

@@ -6,4 +6,5 @@ pub returns-clause-wrote : goal.returns-clause-wrote
 unfolding password_fields wrapped_octets
 returns-clause-wrote g c =
     writes_then _ _ _ c.write_wrapped_octets-3.result _ _ c.in_ok-write_wrapped_octets.ensures.wrote
-    (writes_then _ _ _ c.write_wrapped_octets-3.result _ _ c.in_ok-write_wrapped_octets-2.ensures.wrote c.write_wrapped_octets-3.ensures.wrote)
+    (writes_then _ _ _ c.write_wrapped_octets-3.result _ _ c.in_ok-write_wrapped_octets-2.ensures.wrote
+    c.write_wrapped_octets-3.ensures.wrote)

@@ -3,7 +3,8 @@ use Rattle.sspi_tsreq.proofs.Room.{fits_texts, fits_size, fits_spelled, past_ref
 use Rattle.sspi_tsreq.proofs.creds_writing.write_texts.Goals as goal
 
 pub returns-then-size-gt-MAX_CONTENT : goal.returns-then-size-gt-MAX_CONTENT
-returns-then-size-gt-MAX_CONTENT c = inl (past_refused _ _ _ c.capped_body-size.result c.capped_body-size.ensures c.if-size-gt-MAX_CONTENT.true ∙ ap Err (sym c.new.ensures))
+returns-then-size-gt-MAX_CONTENT c = inl (past_refused _ _ _ c.capped_body-size.result c.capped_body-size.ensures
+    c.if-size-gt-MAX_CONTENT.true ∙ ap Err (sym c.new.ensures))
 
 pub write_creds-requires-clause-fit : goal.write_creds-requires-clause-fit
 write_creds-requires-clause-fit c = fits_texts _ _ _ c.capped_body-size.result c.capped_body-size.ensures c.if-size-gt-MAX_CONTENT.false

@@ -7,7 +7,8 @@ use Rattle.sspi_tsreq.proofs.creds_writing.write_ts_credentials.Goals as goal
 pub returns-in-WithCredentials-clause-read_back : goal.returns-in-WithCredentials-clause-read_back
 returns-in-WithCredentials-clause-read_back c =
     rw (c.in-AuthIdentity.is, c.in-WithCredentials.is)
-    (buffers_answer (λ (text : Vec ℕ Global). text.items) c.write_buffers.result c.in-AuthIdentity.buffers c.write_buffers.ensures.text c.write_buffers.ensures.well_formed)
+    (buffers_answer (λ (text : Vec ℕ Global). text.items) c.write_buffers.result c.in-AuthIdentity.buffers c.write_buffers.ensures.text
+    c.write_buffers.ensures.well_formed)
 
 pub returns-in-CredentialLess-clause-text : goal.returns-in-CredentialLess-clause-text
 unfolding buffers_text bytes_le

@@ -14,4 +14,5 @@ pub returns-then-byte-eq131 : goal.returns-then-byte-eq131
 returns-then-byte-eq131 c = λ more. three_first c.args.byte more c.if-byte-eq131.true
 
 pub returns-else-byte-eq131 : goal.returns-else-byte-eq131
-returns-else-byte-eq131 c = λ more. bad_first c.args.byte more c.if-byte-lt128.false c.if-byte-eq129.false c.if-byte-eq130.false c.if-byte-eq131.false
+returns-else-byte-eq131 c = λ more. bad_first c.args.byte more c.if-byte-lt128.false c.if-byte-eq129.false c.if-byte-eq130.false
+    c.if-byte-eq131.false

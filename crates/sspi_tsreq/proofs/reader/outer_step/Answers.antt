@@ -10,7 +10,8 @@ returns-else-byte-eq48-clause-stands c = rw c.in-OuterTag.is (λ nonce bytes r e
 
 pub returns-in-OuterLength-clause-stands : goal.returns-in-OuterLength-clause-stands
 returns-in-OuterLength-clause-stands c =
-    rw (c.in-OuterLength.is, c.outer_stage.ensures) (λ nonce bytes r h. outer_steps nonce r bytes c.in-OuterLength.part c.args.byte c.next_length.result c.next_length.ensures h)
+    rw (c.in-OuterLength.is, c.outer_stage.ensures) (λ nonce bytes r h. outer_steps nonce r bytes c.in-OuterLength.part c.args.byte
+    c.next_length.result c.next_length.ensures h)
 
 pub returns-in-Refused-clause-stands : goal.returns-in-Refused-clause-stands
 returns-in-Refused-clause-stands c = rw c.in-Refused.is (λ nonce bytes r h. outer_stays bytes c.args.byte h)

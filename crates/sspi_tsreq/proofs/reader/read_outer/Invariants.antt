@@ -5,7 +5,8 @@ use Rattle.sspi_tsreq.proofs.reader.read_outer.Given as goal
 
 abbrev pub invariant-loop-taken : goal.invariant-loop-taken
 invariant-loop-taken l = record {
-  stands : (nonce bytes : List ℕ) (r : TsRequest) → StandsAt nonce l.fn.stage r bytes → StandsAt nonce l.stage r (bytes ++ take l.taken l.piece);
+  stands : (nonce bytes : List ℕ) (r : TsRequest) → StandsAt nonce l.fn.stage r bytes →
+      StandsAt nonce l.stage r (bytes ++ take l.taken l.piece);
   within : l.taken ≤ length l.piece;
   past : IsPast l.fn.stage → IsPast l.stage;
 }

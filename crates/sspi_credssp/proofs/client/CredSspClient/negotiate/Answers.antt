@@ -13,7 +13,8 @@ returns-clause-turn g c = λ start d same ready nego output.
     let it = either g.N.Mechanism.REQUESTS g.N.Mechanism.meaning g.K.Mechanism.meaning in
     let laws = lawful _ _ g.N.Mechanism.meaning g.K.Mechanism.meaning g.met.N.Mechanism.laws g.met.K.Mechanism.laws in
     c.go_on.ensures.turn start d (search rules)
-    (ready_stepped it start _ d c.in-Some.context _ _ (subst (λ v. IsReady it start d v) (sym c.self.view_is) ready) (search rules) (search rules)
+    (ready_stepped it start _ d c.in-Some.context _ _ (subst (λ v. IsReady it start d v) (sym c.self.view_is) ready) (search rules)
+    (search rules)
     (λ unused. laws.step_unused _ _ _ _ unused c.initialize-progress.ensures.step))
     (search rules) (search rules) (asked_waits it laws _ _ _ _ c.initialize-progress.ensures.step)
 

@@ -9,4 +9,5 @@ pub returns-then-eq-clause-cause : goal.returns-then-eq-clause-cause
 returns-then-eq-clause-cause g c =
     let ended : c.prove.new.self.acts.status ≡ Some statuses.Ok = search rules in
     subst (λ s. IfErr c.prove.result (λ e. e.error_type ≢ InsufficientMemory →
-    NegoCause (either g.N.Mechanism.REQUESTS g.N.Mechanism.meaning g.K.Mechanism.meaning) s c.prove.new.self e.error_type)) (sym ended) c.prove.ensures.cause
+    NegoCause (either g.N.Mechanism.REQUESTS g.N.Mechanism.meaning g.K.Mechanism.meaning) s c.prove.new.self e.error_type))
+    (sym ended) c.prove.ensures.cause

@@ -27,6 +27,7 @@ returns-in-Some-clause-heeded g c = λ start d tries log q under walked.
     let it = either g.N.Mechanism.REQUESTS g.N.Mechanism.meaning g.K.Mechanism.meaning in
     record {
       refuses = λ met. let old = met.old in let young = under.ready.young in absurd (cc (old, young));
-      only = λ never is. absurd (resumed_never it never start d tries _ c.resume_with.result c.resume_with.new.self c.resume_with.ensures.cause
+      only = λ never is. absurd (resumed_never it never start d tries _ c.resume_with.result c.resume_with.new.self
+          c.resume_with.ensures.cause
           (returns-in-Some-clause-step g c start d tries log q under walked) is);
     }

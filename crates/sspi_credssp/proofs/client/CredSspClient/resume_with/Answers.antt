@@ -13,7 +13,8 @@ returns-clause-turn g c = λ start d same ready nego output.
     let it = either g.N.Mechanism.REQUESTS g.N.Mechanism.meaning g.K.Mechanism.meaning in
     let laws = lawful _ _ g.N.Mechanism.meaning g.K.Mechanism.meaning g.met.N.Mechanism.laws g.met.K.Mechanism.laws in
     c.go_on.ensures.turn start d (search rules)
-    (ready_stepped it start _ d c.in-Some.context _ _ (subst (λ v. IsReady it start d v) (sym c.self.view_is) ready) (search rules) (search rules)
+    (ready_stepped it start _ d c.in-Some.context _ _ (subst (λ v. IsReady it start d v) (sym c.self.view_is) ready) (search rules)
+    (search rules)
     (λ unused. laws.resume_unused _ _ _ _ unused c.resume-progress.ensures.step))
     (search rules) (search rules) (asked_again_waits it laws _ _ _ _ c.resume-progress.ensures.step)
 
@@ -22,7 +23,8 @@ returns-clause-step g c = λ start d tries log q walked.
     let it = either g.N.Mechanism.REQUESTS g.N.Mechanism.meaning g.K.Mechanism.meaning in
     let walked_inside = subst (λ v. StepsTo it start d tries log (Ask q) v) (sym c.self.view_is) walked in
     let here : c.self.inside.context ≡ Some c.in-Some.context = search rules in
-    c.go_on.ensures.step start d tries _ (resumed c.in-Some.context _ tries log q _ _ (context_here _ _ _ here walked_inside) c.resume-progress.ensures.step)
+    c.go_on.ensures.step start d tries _ (resumed c.in-Some.context _ tries log q _ _
+    (context_here _ _ _ here walked_inside) c.resume-progress.ensures.step)
 
 pub returns-clause-still : goal.returns-clause-still
 returns-clause-still g c = λ start d tries log q same ready nego output walked.
@@ -31,8 +33,10 @@ returns-clause-still g c = λ start d tries log q same ready nego output walked.
     let ready_inside = subst (λ v. IsReady it start d v) (sym c.self.view_is) ready in
     let walked_inside = subst (λ v. StepsTo it start d tries log (Ask q) v) (sym c.self.view_is) walked in
     let here : c.self.inside.context ≡ Some c.in-Some.context = search rules in
-    still_waits it laws start d tries log q _ _ c.go_on.new.self c.in-Some.context c.resume-progress.new.self _ c.args.request c.resume-progress.result c.go_on.result
-    (search rules) (search rules) (search rules) here (search rules) refl ready_inside (context_here _ _ _ here walked_inside) c.resume-progress.ensures.step
+    still_waits it laws start d tries log q _ _ c.go_on.new.self c.in-Some.context c.resume-progress.new.self _ c.args.request
+    c.resume-progress.result c.go_on.result
+    (search rules) (search rules) (search rules) here (search rules) refl ready_inside
+    (context_here _ _ _ here walked_inside) c.resume-progress.ensures.step
     c.go_on.ensures.refused c.go_on.ensures.kept
 
 pub returns-clause-falls : goal.returns-clause-falls

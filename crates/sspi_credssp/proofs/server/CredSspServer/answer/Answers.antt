@@ -28,28 +28,34 @@ returns-in-Ok-clause-turn g c = λ start d same ready nego output.
 pub returns-in-Ok-clause-step : goal.returns-in-Ok-clause-step
 returns-in-Ok-clause-step g c = λ start d token told begun.
     let it = either g.N.Mechanism.REQUESTS g.N.Mechanism.meaning g.K.Mechanism.meaning in
-    let begun_inside = subst (λ v. IfContext v.context (Begun it start.context start.handle (server_setting g.C.CredentialsProxy.meaning start) Inbound None v.handle)) (sym c.self.view_is) begun in
+    let begun_inside = subst (λ v. IfContext v.context (Begun it start.context start.handle
+    (server_setting g.C.CredentialsProxy.meaning start) Inbound None v.handle)) (sym c.self.view_is) begun in
     let here : c.self.inside.context ≡ Some c.in-Some.context = search rules in
     c.answer_step.ensures.step start d (search rules)
     (accepted c.in-Some.context _ _ (context_here _ _ _ here begun_inside)
-    (subst (λ t. it.accepts c.in-Some.context (server_args c.self.inside.credentials_handle t) (Ok c.in-Ok.step) c.accept.new.context) (sym token) c.in-Ok.ensures.step))
+    (subst (λ t. it.accepts c.in-Some.context (server_args c.self.inside.credentials_handle t) (Ok c.in-Ok.step) c.accept.new.context)
+    (sym token) c.in-Ok.ensures.step))
 
 pub returns-in-Err-clause-step : goal.returns-in-Err-clause-step
 returns-in-Err-clause-step g c = λ start d token told begun.
     let it = either g.N.Mechanism.REQUESTS g.N.Mechanism.meaning g.K.Mechanism.meaning in
     let tells = g.C.CredentialsProxy.meaning in
-    let begun_inside = subst (λ v. IfContext v.context (Begun it start.context start.handle (server_setting g.C.CredentialsProxy.meaning start) Inbound None v.handle)) (sym c.self.view_is) begun in
+    let begun_inside = subst (λ v. IfContext v.context (Begun it start.context start.handle
+    (server_setting g.C.CredentialsProxy.meaning start) Inbound None v.handle)) (sym c.self.view_is) begun in
     let here : c.self.inside.context ≡ Some c.in-Some.context = search rules in
     let none : c.self.inside.acts.status ≡ None = search rules in
-    subst (λ s. RefusedAt it tells s start c.self.inside.credentials_handle d.nego_tokens (refused_step s c.self.inside.output c.in-Err.error) c.accept.new.context)
+    subst (λ s. RefusedAt it tells s start c.self.inside.credentials_handle d.nego_tokens
+    (refused_step s c.self.inside.output c.in-Err.error) c.accept.new.context)
     (sym none)
     (accepted c.in-Some.context _ _ (context_here _ _ _ here begun_inside)
-    (subst (λ t. it.accepts c.in-Some.context (server_args c.self.inside.credentials_handle t) (Err c.in-Err.error) c.accept.new.context) (sym token) c.in-Err.ensures.step))
+    (subst (λ t. it.accepts c.in-Some.context (server_args c.self.inside.credentials_handle t) (Err c.in-Err.error) c.accept.new.context)
+    (sym token) c.in-Err.ensures.step))
 
 pub returns-in-Ok-clause-cause : goal.returns-in-Ok-clause-cause
 returns-in-Ok-clause-cause g c = λ start d same proxy begun.
     let it = either g.N.Mechanism.REQUESTS g.N.Mechanism.meaning g.K.Mechanism.meaning in
-    let begun_inside = subst (λ v. IfContext v.context (Begun it start.context start.handle (server_setting g.C.CredentialsProxy.meaning start) Inbound None v.handle)) (sym c.self.view_is) begun in
+    let begun_inside = subst (λ v. IfContext v.context (Begun it start.context start.handle
+    (server_setting g.C.CredentialsProxy.meaning start) Inbound None v.handle)) (sym c.self.view_is) begun in
     let here : c.self.inside.context ≡ Some c.in-Some.context = search rules in
     let token : d.nego_tokens ≡ c.args.request.now.nego_tokens = ap (λ (x : TsRequest). x.nego_tokens) (sym same) in
     let new = c.answer_step.new.self in
@@ -57,4 +63,5 @@ returns-in-Ok-clause-cause g c = λ start d same proxy begun.
     NegoCause it g.C.CredentialsProxy.meaning s start d new error.error_type)) (sym c.answer_step.ensures.status)
     (c.answer_step.ensures.cause start d (search rules) (search rules)
     (accepted c.in-Some.context _ _ (context_here _ _ _ here begun_inside)
-    (subst (λ t. it.accepts c.in-Some.context (server_args c.self.inside.credentials_handle t) (Ok c.in-Ok.step) c.accept.new.context) (sym token) c.in-Ok.ensures.step)))
+    (subst (λ t. it.accepts c.in-Some.context (server_args c.self.inside.credentials_handle t) (Ok c.in-Ok.step) c.accept.new.context)
+    (sym token) c.in-Ok.ensures.step)))

@@ -56,4 +56,5 @@ pub returns-then-has_ended-clause-asked : goal.returns-then-has_ended-clause-ask
 returns-then-has_ended-clause-asked g c =
     let over : IsOver (Some c.args.status) = c.has_ended.ensures.ended c.if-has_ended.true in
     let answered : c.complete.new.self.acts.status ≡ Some c.args.status = search rules in
-    on_ok_asked_as g.C.CredentialsProxy.meaning 1 _ _ _ c.complete.result (over_looks c.args.status over ∙ ap look_ups_at (sym answered)) c.complete.ensures.asked
+    on_ok_asked_as g.C.CredentialsProxy.meaning 1 _ _ _ c.complete.result
+    (over_looks c.args.status over ∙ ap look_ups_at (sym answered)) c.complete.ensures.asked

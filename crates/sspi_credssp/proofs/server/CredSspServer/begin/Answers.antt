@@ -17,7 +17,8 @@ returns-in-Ok-clause-begun g c =
     let it = either g.N.Mechanism.REQUESTS g.N.Mechanism.meaning g.K.Mechanism.meaning in
     let now = c.args.self.now in
     whatever c.note_version-in-Ok.result _
-    (subst (λ v. IfContext v.context (Begun it now.context now.handle (server_setting g.C.CredentialsProxy.meaning now) Inbound None v.handle)) (sym c.self-in-None.view_is) c.in-Ok.ensures.begun)
+    (subst (λ v. IfContext v.context (Begun it now.context now.handle
+    (server_setting g.C.CredentialsProxy.meaning now) Inbound None v.handle)) (sym c.self-in-None.view_is) c.in-Ok.ensures.begun)
 
 pub returns-in-Ok-clause-made : goal.returns-in-Ok-clause-made
 returns-in-Ok-clause-made g c =
@@ -32,6 +33,8 @@ pub returns-in-Ok-clause-refused : goal.returns-in-Ok-clause-refused
 returns-in-Ok-clause-refused g c =
     let it = either g.N.Mechanism.REQUESTS g.N.Mechanism.meaning g.K.Mechanism.meaning in
     let now = c.args.self.now in
-    new_refused it _ c.note_version-in-Ok.result now _ c.args.version (search rules) c.in-Ok.ensures.noted c.in-Ok.ensures.state (search rules)
-    (subst (λ v. IfContext v.context (Begun it now.context now.handle (server_setting g.C.CredentialsProxy.meaning now) Inbound None v.handle)) (sym c.self-in-None.view_is) c.in-Ok.ensures.begun)
+    new_refused it _ c.note_version-in-Ok.result now _ c.args.version (search rules) c.in-Ok.ensures.noted c.in-Ok.ensures.state
+    (search rules)
+    (subst (λ v. IfContext v.context (Begun it now.context now.handle
+    (server_setting g.C.CredentialsProxy.meaning now) Inbound None v.handle)) (sym c.self-in-None.view_is) c.in-Ok.ensures.begun)
     (search rules) (search rules)

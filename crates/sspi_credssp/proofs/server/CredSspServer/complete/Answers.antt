@@ -16,7 +16,8 @@ pub returns-in-Err-clause-step : goal.returns-in-Err-clause-step
 returns-in-Err-clause-step g c = λ start token answer later accepted.
     let it = either g.N.Mechanism.REQUESTS g.N.Mechanism.meaning g.K.Mechanism.meaning in
     let here : c.args.self.now.context ≡ Some c.in-Some.context = search rules in
-    so_far Unknown (subst (λ m. Accepted it g.C.CredentialsProxy.meaning start c.args.self.now.handle token Unknown answer m) (sym c.in-Err.ensures.err)
+    so_far Unknown (subst (λ m. Accepted it g.C.CredentialsProxy.meaning start c.args.self.now.handle token Unknown answer m)
+    (sym c.in-Err.ensures.err)
     (context_here _ _ _ here accepted))
 
 pub returns-in-Err-clause-cause : goal.returns-in-Err-clause-cause
@@ -28,10 +29,13 @@ returns-in-Err-clause-cause g c = λ start d status same later come memory.
     let here : c.self.inside.context ≡ Some c.in-Some.context = search rules in
     let come_inside = subst (λ v. HasCome it tells Unknown status start d v) (sym c.self.view_is) come in
     unknown (search rules)
-    (subst (λ m. Accepted it tells start c.self.inside.credentials_handle d.nego_tokens Unknown (Ok (record { status = status; output = c.self.inside.output })) m)
+    (subst (λ m. Accepted it tells start c.self.inside.credentials_handle d.nego_tokens Unknown
+    (Ok (record { status = status; output = c.self.inside.output })) m)
     (sym c.in-Err.ensures.err) (context_here _ _ _ here come_inside))
-    (subst (λ m. IdentifyCause it m (tells.told start.proxy) (tells.faults start.proxy) (tells.faults c.identify.new.proxy) kind) (sym c.in-Err.ensures.err)
-    (identified_since it tells c.in-Some.context start.proxy c.self.inside.credentials _ kind (subst (λ x. IsLater tells start.proxy x) own later)
+    (subst (λ m. IdentifyCause it m (tells.told start.proxy) (tells.faults start.proxy) (tells.faults c.identify.new.proxy) kind)
+    (sym c.in-Err.ensures.err)
+    (identified_since it tells c.in-Some.context start.proxy c.self.inside.credentials _ kind
+    (subst (λ x. IsLater tells start.proxy x) own later)
     (c.in-Err.ensures.cause memory)))
 
 pub returns-in-Ok-complete_auth_token-clause-step : goal.returns-in-Ok-complete_auth_token-clause-step
@@ -58,7 +62,8 @@ returns-in-Err-complete_auth_token-clause-step g c = λ start token answer later
     let same : tells.told c.self.inside.credentials ≡ tells.told start.proxy = search rules in
     let known = subst (λ t. IsIdentified it t c.in-Some.context c.identify.new.context) same c.in-Ok.ensures.identified in
     let named = identified c.in-Some.context c.identify.new.context answer (context_here _ _ _ here accepted) known in
-    so_far Identified (subst (λ m. Accepted it tells start c.args.self.now.handle token Identified answer m) (sym c.complete_auth_token.ensures.same) named)
+    so_far Identified (subst (λ m. Accepted it tells start c.args.self.now.handle token Identified answer m)
+    (sym c.complete_auth_token.ensures.same) named)
 
 pub returns-in-Ok-complete_auth_token-clause-cause : goal.returns-in-Ok-complete_auth_token-clause-cause
 returns-in-Ok-complete_auth_token-clause-cause g c = λ start d status same later come.
@@ -75,7 +80,8 @@ returns-in-Ok-complete_auth_token-clause-cause g c = λ start d status same late
     let done = completed c.identify.new.context answer named c.in-Ok-complete_auth_token.ensures.permitted in
     known_causes it tells status start d c.args.request.now _ c.answer_peer.new.self c.answer_peer.result same
     (come_on it laws tells Completed status start now c.answer_peer.new.self d (search rules) (search rules)
-    (accepted_on it laws tells start now.handle d.nego_tokens Completed answer (Some c.complete_auth_token.new.self) _ c.answer_peer.ensures.moved
+    (accepted_on it laws tells start now.handle d.nego_tokens Completed answer
+    (Some c.complete_auth_token.new.self) _ c.answer_peer.ensures.moved
     (subst (λ m. Accepted it tells start now.handle d.nego_tokens Completed answer m) (sym c.complete_auth_token.ensures.same) done)))
     c.answer_peer.ensures.cause
 
@@ -91,6 +97,7 @@ returns-in-Err-complete_auth_token-clause-cause g c = λ start d status same lat
     let known = subst (λ t. IsIdentified it t c.in-Some.context c.identify.new.context) own c.in-Ok.ensures.identified in
     let named = identified c.in-Some.context c.identify.new.context answer (context_here _ _ _ here come_inside) known in
     incomplete (search rules)
-    (subst (λ m. Accepted it tells start c.self.inside.credentials_handle d.nego_tokens Identified answer m) (sym c.complete_auth_token.ensures.same) named)
+    (subst (λ m. Accepted it tells start c.self.inside.credentials_handle d.nego_tokens Identified answer m)
+    (sym c.complete_auth_token.ensures.same) named)
     (subst (λ m. it.refuses m ToComplete c.in-Err-complete_auth_token.error.error_type) (sym c.complete_auth_token.ensures.same)
     (c.in-Err-complete_auth_token.ensures.cause memory))

@@ -26,7 +26,8 @@ returns-in-Ok-acquire_credentials_handle-clause-begun g c =
     let it = either g.N.Mechanism.REQUESTS g.N.Mechanism.meaning g.K.Mechanism.meaning in
     let p = g.C.CredentialsProxy.meaning in
     is_new c.in-Ok-new_server.context c.requires
-    (subst (λ v. it.made (server_setting p v) c.in-Ok-new_server.context) c.self.view_is (c.in-Ok-new_server.ensures.made _ c.in-Ok.ensures.listed))
+    (subst (λ v. it.made (server_setting p v) c.in-Ok-new_server.context) c.self.view_is
+    (c.in-Ok-new_server.ensures.made _ c.in-Ok.ensures.listed))
     (search rules)
 
 pub returns-in-Err-acquire_credentials_handle-clause-proxy :
@@ -43,5 +44,6 @@ returns-in-Err-acquire_credentials_handle-clause-cause g c = λ memory.
     let it = either g.N.Mechanism.REQUESTS g.N.Mechanism.meaning g.K.Mechanism.meaning in
     let p = g.C.CredentialsProxy.meaning in
     unbegun (unacquired c.in-Ok-new_server.context
-    (subst (λ v. it.made (server_setting p v) c.in-Ok-new_server.context) c.self.view_is (c.in-Ok-new_server.ensures.made _ c.in-Ok.ensures.listed))
+    (subst (λ v. it.made (server_setting p v) c.in-Ok-new_server.context) c.self.view_is
+    (c.in-Ok-new_server.ensures.made _ c.in-Ok.ensures.listed))
     (search rules))

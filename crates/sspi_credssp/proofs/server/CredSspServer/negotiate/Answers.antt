@@ -15,11 +15,13 @@ returns-clause-turn g c = λ start d same ready nego output.
     let it = either g.N.Mechanism.REQUESTS g.N.Mechanism.meaning g.K.Mechanism.meaning in
     let own = sym c.answer.ensures.version in
     elim c.match-answer.branch [
-      | in-Ok w ↦ went_on it start c.answer.new.self d c.args.request _ w.in-Ok.answer w.with_answer.result c.match-answer.result w.result-is same own
+      | in-Ok w ↦ went_on it start c.answer.new.self d c.args.request _ w.in-Ok.answer w.with_answer.result c.match-answer.result
+          w.result-is same own
           w.with_answer.ensures (w.in-Ok.ensures.turn start d same ready nego output)
       | in-Err w ↦
           let kept = w.in-Err.ensures.state in
-          halted_as it start c.answer.new.self d c.args.request c.self.inside.state _ w.in-Err.error w.refusal.result c.match-answer.result w.result-is
+          halted_as it start c.answer.new.self d c.args.request c.self.inside.state _ w.in-Err.error w.refusal.result
+          c.match-answer.result w.result-is
           same own (search rules) w.refusal.ensures (w.in-Err.ensures.turn start d same ready nego output)
     ]
 
@@ -29,7 +31,8 @@ returns-clause-step g c = λ start d token told begun.
     let laws = lawful _ _ g.N.Mechanism.meaning g.K.Mechanism.meaning g.met.N.Mechanism.laws g.met.K.Mechanism.laws in
     let tells = g.C.CredentialsProxy.meaning in
     elim c.match-answer.branch [
-      | in-Ok w ↦ subst (λ r. HasAcceptedTurn it tells start d r c.answer.new.self) (sym w.result-is) (w.in-Ok.ensures.step start d token told begun)
+      | in-Ok w ↦ subst (λ r. HasAcceptedTurn it tells start d r c.answer.new.self) (sym w.result-is)
+          (w.in-Ok.ensures.step start d token told begun)
       | in-Err w ↦ subst (λ r. HasAcceptedTurn it tells start d r c.answer.new.self) (sym w.result-is)
           (refused_as it laws tells start c.answer.new.self d w.in-Err.error w.refusal.result.error (search rules)
           (w.in-Err.ensures.step start d token told begun))

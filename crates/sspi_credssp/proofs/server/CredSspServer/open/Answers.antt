@@ -18,5 +18,6 @@ returns-clause-opens g c =
 
 pub returns-clause-cause : goal.returns-clause-cause
 returns-clause-cause g c =
-    opened_cause (either g.N.Mechanism.REQUESTS g.N.Mechanism.meaning g.K.Mechanism.meaning) c.args.auth_info.now c.in-Ok.blob.now c.open_credentials.new.context
+    opened_cause (either g.N.Mechanism.REQUESTS g.N.Mechanism.meaning g.K.Mechanism.meaning) c.args.auth_info.now c.in-Ok.blob.now
+    c.open_credentials.new.context
     c.open_credentials.new.acts.opened c.open_credentials.result c.in-Ok.ensures.blob c.open_credentials.ensures.cause

@@ -27,7 +27,8 @@ returns-in-Ok-clause-step g c =
     let it = either g.N.Mechanism.REQUESTS g.N.Mechanism.meaning g.K.Mechanism.meaning in
     let p = g.C.CredentialsProxy.meaning in
     let begun = subst (λ v. IfContext c.begin.new.self.context
-    (Begun it v.context v.handle (server_setting p v) Inbound None c.begin.new.self.handle)) c.forget_last_call.ensures c.in-Ok.ensures.begun in
+    (Begun it v.context v.handle (server_setting p v) Inbound None c.begin.new.self.handle)) c.forget_last_call.ensures
+    c.in-Ok.ensures.begun in
     let since = subst (λ v. IsLater p v.proxy c.begin.new.self.proxy) c.forget_last_call.ensures (later p _ _ _ c.in-Ok.ensures.proxy) in
     c.take-in-Ok.ensures.step c.args.self.now c.args.ts_request (search rules) since begun
 
@@ -36,7 +37,8 @@ returns-in-Ok-clause-cause g c =
     let it = either g.N.Mechanism.REQUESTS g.N.Mechanism.meaning g.K.Mechanism.meaning in
     let p = g.C.CredentialsProxy.meaning in
     let begun = subst (λ v. IfContext c.begin.new.self.context
-    (Begun it v.context v.handle (server_setting p v) Inbound None c.begin.new.self.handle)) c.forget_last_call.ensures c.in-Ok.ensures.begun in
+    (Begun it v.context v.handle (server_setting p v) Inbound None c.begin.new.self.handle)) c.forget_last_call.ensures
+    c.in-Ok.ensures.begun in
     let since = subst (λ v. IsLater p v.proxy c.begin.new.self.proxy) c.forget_last_call.ensures (later p _ _ _ c.in-Ok.ensures.proxy) in
     server_cause_past it p c.args.self.now c.take-in-Ok.new.self c.args.ts_request _ _
     (search rules) (search rules) c.take-in-Ok.ensures.begun (search rules)
@@ -58,14 +60,16 @@ returns-in-Err-clause-made g c = λ idle none.
 pub returns-in-Ok-clause-proxy : goal.returns-in-Ok-clause-proxy
 returns-in-Ok-clause-proxy g c =
     let p = g.C.CredentialsProxy.meaning in
-    asked_on p _ _ _ _ _ (subst (λ v. IsAsked p (lists_in v.context v.mode) v.proxy c.begin.new.self.proxy) c.forget_last_call.ensures c.in-Ok.ensures.proxy)
+    asked_on p _ _ _ _ _ (subst (λ v. IsAsked p (lists_in v.context v.mode) v.proxy c.begin.new.self.proxy) c.forget_last_call.ensures
+    c.in-Ok.ensures.proxy)
     c.take-in-Ok.ensures.proxy
 
 pub returns-in-Ok-clause-asked : goal.returns-in-Ok-clause-asked
 returns-in-Ok-clause-asked g c =
     let p = g.C.CredentialsProxy.meaning in
     turn_asked p c.args.self.now.proxy c.begin.new.self.proxy c.take-in-Ok.new.self.proxy _ _ c.take-in-Ok.result
-    (subst (λ v. IsAsked p (lists_in v.context v.mode) v.proxy c.begin.new.self.proxy) c.forget_last_call.ensures c.in-Ok.ensures.proxy).told_same
+    (subst (λ v. IsAsked p (lists_in v.context v.mode) v.proxy c.begin.new.self.proxy) c.forget_last_call.ensures
+    c.in-Ok.ensures.proxy).told_same
     (subst (λ v. HasAsked p (lists_in v.context v.mode) v.proxy c.begin.new.self.proxy) c.forget_last_call.ensures c.in-Ok.ensures.asked)
     c.take-in-Ok.ensures.asked
 

@@ -4,7 +4,8 @@ use Rattle.sspi_tsreq.proofs.reader.TsReader.feed.Goals as goal
 pub returns-in-Content-clause-free : goal.returns-in-Content-clause-free
 returns-in-Content-clause-free c = λ bytes s without.
     c.feed_content.ensures.free
-    (fed_closed c.args.self.now c.read_outer-stage.result.0 c.in-Content.left c.in-Content.place bytes c.args.piece.now c.read_outer-stage.result.1
+    (fed_closed c.args.self.now c.read_outer-stage.result.0 c.in-Content.left c.in-Content.place bytes c.args.piece.now
+    c.read_outer-stage.result.1
     (c.read_outer-stage.ensures.stands _ bytes _ s.at) c.in-Content.is without)
     (fed_behind bytes c.args.piece.now c.read_outer-stage.result.1 without)
 

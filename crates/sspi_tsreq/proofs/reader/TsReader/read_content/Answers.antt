@@ -31,10 +31,14 @@ returns-clause-ok c =
     let octets = c.first_octets-behind.result.0.now in
     let base = lengthened c.args.place c.args.self.now.request octets in
     let walked = c.advance.new.self in
-    content_on c.args.self.now.nonce c.args.left c.args.place c.first_octets-behind.result.1 c.args.self.now.request c.args.body.now octets c.walk-walk.result walked c.settle_rest.new.self
-    c.first_octets-behind.ensures.front c.first_octets-behind.ensures.goes c.walk-walk.ensures.place c.walk-walk.ensures.nonce c.walk-walk.ensures.fields
-    (λ q more. ap (λ (l : List ℕ). goes_on c.walk-walk.result q (l ++ more)) (sym (range_back (length octets) c.args.body.now)) ∙ c.advance.ensures.goes q more)
-    (λ closed without. (c.advance.ensures.quiet (c.walk-walk.ensures.quiet (c.first_octets-behind.ensures.quiet closed)) (behind_octets (length octets) c.args.body.now without)).0)
+    content_on c.args.self.now.nonce c.args.left c.args.place c.first_octets-behind.result.1 c.args.self.now.request c.args.body.now
+    octets c.walk-walk.result walked c.settle_rest.new.self
+    c.first_octets-behind.ensures.front c.first_octets-behind.ensures.goes c.walk-walk.ensures.place c.walk-walk.ensures.nonce
+    c.walk-walk.ensures.fields
+    (λ q more. ap (λ (l : List ℕ). goes_on c.walk-walk.result q (l ++ more))
+    (sym (range_back (length octets) c.args.body.now)) ∙ c.advance.ensures.goes q more)
+    (λ closed without. (c.advance.ensures.quiet (c.walk-walk.ensures.quiet (c.first_octets-behind.ensures.quiet closed))
+    (behind_octets (length octets) c.args.body.now without)).0)
     (ap (λ (s : TsReader). s.stage) c.settle_rest.ensures) (ap (λ (s : TsReader). s.nonce) c.settle_rest.ensures)
     (ap (λ (s : TsReader). s.request) c.settle_rest.ensures
     ∙ settled base walked _ _ _

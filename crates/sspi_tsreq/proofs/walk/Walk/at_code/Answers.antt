@@ -5,8 +5,10 @@ use Rattle.sspi_tsreq.proofs.Steps.{code_next, code_absent}
 use Rattle.sspi_tsreq.proofs.walk.Walk.at_code.Goals as goal
 
 pub returns-then-begins-clause-goes : goal.returns-then-begins-clause-goes
-returns-then-begins-clause-goes c = λ base more. ap answered (code_next (filled base c.args.self.now) c.args.byte more (sym c.begins.ensures ∙ c.if-begins.true))
+returns-then-begins-clause-goes c = λ base more. ap answered
+    (code_next (filled base c.args.self.now) c.args.byte more (sym c.begins.ensures ∙ c.if-begins.true))
 
 pub returns-else-begins-clause-goes : goal.returns-else-begins-clause-goes
 returns-else-begins-clause-goes c =
-    λ base more. ap answered (code_absent (filled base c.args.self.now) c.args.byte more (sym c.begins.ensures ∙ c.if-begins.false)) ∙ c.at_nonce.ensures.goes base more
+    λ base more. ap answered (code_absent (filled base c.args.self.now) c.args.byte more (sym c.begins.ensures ∙ c.if-begins.false)) ∙
+    c.at_nonce.ensures.goes base more

@@ -13,5 +13,6 @@ returns-then-have-eq31-clause-goes c = λ base more.
 pub returns-else-have-eq31-clause-goes : goal.returns-else-have-eq31-clause-goes
 returns-else-have-eq31-clause-goes c = λ base more.
     let r = filled base c.args.self.now in
-    ap answered (nonce_more r c.args.self.now.nonce c.args.have c.args.byte more c.with_byte-self.ensures.size c.if-have-ge32.false c.if-have-eq31.false
+    ap answered (nonce_more r c.args.self.now.nonce c.args.have c.args.byte more c.with_byte-self.ensures.size c.if-have-ge32.false
+    c.if-have-eq31.false
     ∙ ap (λ (nonce : List ℕ). nonce_from nonce (c.args.have + 1) r more) (sym c.with_byte-self.ensures.put))
