@@ -1,22 +1,12 @@
 //! `sspi_run delegate`: reads a scenario from standard input, carries one CredSSP delegation between its two ends, and
 //! writes what was carried and what came of it to standard output.
 //!
-//! `run` does all the work, over any source and sink; its contract says what each exit status means and what was written.
-//! `specs/Exchange.antt` has what holds of the exchange that is reported.
+//! `run` of `sspi_program` does all the work, over any source and sink; its contract says what each exit status means and what was
+//! written.
 #![tactic(auto)]
 
-mod ends;
-mod exchange;
-mod modes;
-mod record;
-mod run;
-mod said;
-mod status;
-#[cfg(test)]
-mod tests;
-mod words;
-
 use sspi_ber::{StdSink, StdSource};
+use sspi_program::{run, status};
 use std::alloc::Global;
 use std::env::{self, Env};
 use std::io;

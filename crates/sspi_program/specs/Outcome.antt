@@ -1,0 +1,35 @@
+-- What the exchange of a scenario comes to where nothing stands in its way.
+use Rattle.std.specs.Prelude.{◌≡◌, ◌<◌, ◌≤◌, [], length, None, IfOk, nat_lt}
+use Rattle.sspi_names.specs.declared.identity.AuthIdentity.{AuthIdentity}
+use Rattle.sspi_completeness.specs.Matching.{HasEntry, IsShort, key_limit, delegated_as, ComesToOk, IsCutShort}
+use Rattle.sspi_scenario.specs.declared.scenario.Mode.TheVariants.{Ntlm}
+use Rattle.sspi_scenario.specs.declared.scenario.Scenario.{Scenario}
+use Rattle.sspi_scenario.specs.Scenario.{own_identity}
+use Rattle.sspi_program.specs.declared.record.Record.{Record}
+use Rattle.sspi_program.specs.Exchange.{answer_in}
+
+abbrev pub user_identity : Scenario → AuthIdentity
+user_identity scenario = own_identity scenario.user scenario.password
+
+-- Both ends speak plain NTLM. Nothing is edited and no look-up fails; the client has the password that the server's table
+-- knows, both ends have one key and one kind of proof, and each takes the other's version.
+pub record IsPlain (scenario : Scenario) : Type 0 where
+  pub mode : scenario.mode ≡ Ntlm
+  pub no_edit : scenario.edit ≡ []
+  pub no_failure : scenario.proxy_fail ≡ []
+  pub no_keytab : scenario.keytab ≡ None
+  pub key_same : scenario.server_key ≡ scenario.key
+  pub key_short : length scenario.key ≤ key_limit
+  pub versions : nat_lt scenario.client_version 5 ≡ nat_lt scenario.server_version 5
+  pub client_takes : scenario.client_least ≤ scenario.server_version
+  pub server_takes : scenario.server_least ≤ scenario.client_version
+  pub entry : HasEntry scenario.account (user_identity scenario)
+  pub short : IsShort (user_identity scenario)
+
+-- Ok of plain NTLM takes three messages of the client. A plain scenario comes to Ok where the client may make as many, and
+-- else is cut short; but for want of memory.
+pub record IsOutcome (r : Record) : Type 0 where
+  pub three : r.scenario.mode ≡ Ntlm → IfOk (answer_in r.outcome) (λ delegation. 3 ≤ delegation.turns)
+  pub comes : IsPlain r.scenario → 3 ≤ r.scenario.turns →
+      ComesToOk (delegated_as r.scenario.delegation (user_identity r.scenario)) (answer_in r.outcome)
+  pub short : IsPlain r.scenario → r.scenario.turns < 3 → IsCutShort (answer_in r.outcome)

@@ -1,0 +1,146 @@
+ghost use Rattle.std.specs.Prelude.{◌≡◌, IfOk};
+ghost use Rattle.sspi_credssp.specs.Client.{IsFreshClient};
+ghost use Rattle.sspi_credssp.specs.Server.{IsFreshServer};
+ghost use Rattle.sspi_program.specs.Ends.{credentials_in, IsClientOf, IsServerOf, link_in, kdc_in, AreEndsOf};
+
+use crate::modes::{client_mode, server_mode};
+use sspi_credssp::{CredSspClient, CredSspServer, TableProxy};
+use sspi_delegate::{Edit, MemoryLink};
+use sspi_mech::{Kerberos, Ntlm, PlainKdc};
+use sspi_names::{AuthIdentity, Credentials, KeytabIdentity};
+use sspi_scenario::Scenario;
+use sspi_types::{Secret, Text};
+use std::alloc::{AllocError, Global};
+
+/// The client of a scenario.
+pub type Client = CredSspClient<Ntlm, Kerberos>;
+
+/// The server of a scenario. Its proxy looks its peers up in the table of the scenario.
+pub type Server = CredSspServer<Ntlm, Kerberos, TableProxy>;
+
+/// Both ends of a scenario, the link between them, and the KDC that the client asks.
+#[derive(Drop)]
+pub struct Ends {
+    pub client: Client,
+    pub server: Server,
+    pub link: MemoryLink,
+    pub kdc: PlainKdc,
+}
+
+/// The ends, the link and the KDC that the scenario names.
+pub fn ends_of(alloc: Global, scenario: &Scenario) -> Result<Ends, AllocError>
+    ensures { IfOk result (AreEndsOf scenario.now) }
+{
+    Ok(Ends {
+        client: client_of(alloc, scenario)?,
+        server: server_of(alloc, scenario)?,
+        link: link_of(alloc, scenario)?,
+        kdc: kdc_of(alloc, scenario)?,
+    })
+}
+
+/// The client that the scenario names, to which nothing was delivered.
+fn client_of(alloc: Global, scenario: &Scenario) -> Result<Client, AllocError>
+    ensures fresh { IfOk result IsFreshClient }
+    ensures named { IfOk result (IsClientOf scenario.now) }
+{
+    let key = scenario.key.clone(alloc)?.into_inner();
+    let credentials = credentials_of(alloc, scenario)?;
+    let mode = client_mode(alloc, scenario)?;
+    let target = scenario.target.clone(alloc)?.into_inner();
+    Ok(CredSspClient::new_with_version(
+        alloc,
+        key,
+        credentials,
+        scenario.delegation,
+        scenario.client_version,
+        mode,
+        target,
+        scenario.nonce,
+    )
+    .with_least_version(scenario.client_least))
+}
+
+fn credentials_of(alloc: Global, scenario: &Scenario) -> Result<Credentials, AllocError>
+    ensures { IfOk result (λ credentials. credentials ≡ credentials_in scenario.now) }
+{
+    let username = scenario.user.clone(alloc)?;
+    Ok(match &scenario.keytab {
+        Some(keytab) => Credentials::Keytab(KeytabIdentity {
+            username,
+            keytab: keytab.clone(alloc)?,
+        }),
+        None => Credentials::AuthIdentity(AuthIdentity {
+            username,
+            password: Secret {
+                value: scenario.password.clone(alloc)?,
+            },
+        }),
+    })
+}
+
+/// The server that the scenario names, to which nothing was delivered.
+fn server_of(alloc: Global, scenario: &Scenario) -> Result<Server, AllocError>
+    ensures fresh { IfOk result IsFreshServer }
+    ensures named { IfOk result (IsServerOf scenario.now) }
+{
+    let key = scenario.server_key.clone(alloc)?.into_inner();
+    let accounts = copy_accounts(alloc, scenario.account.as_slice())?;
+    let failing = Vec::from_slice(alloc, scenario.proxy_fail.as_slice())?;
+    let mode = server_mode(alloc, scenario)?;
+    Ok(CredSspServer::new_with_version(
+        alloc,
+        key,
+        TableProxy::new(alloc, accounts, failing),
+        scenario.server_version,
+        mode,
+    )
+    .with_least_version(scenario.server_least))
+}
+
+fn copy_accounts(alloc: Global, accounts: &[AuthIdentity]) -> Result<Vec<AuthIdentity>, AllocError>
+    ensures { IfOk result (λ copies. copies.items ≡ accounts.now) }
+{
+    let mut copies = Vec::new(alloc);
+    for account in accounts {
+        copies.push(account.clone(alloc)?)?;
+    }
+    Ok(copies)
+}
+
+/// The link that the scenario names, with an empty log.
+fn link_of(alloc: Global, scenario: &Scenario) -> Result<MemoryLink, AllocError>
+    ensures { IfOk result (λ link. link ≡ link_in scenario.now) }
+{
+    let edits = copy_edits(alloc, scenario.edit.as_slice())?;
+    Ok(MemoryLink::new(alloc, edits))
+}
+
+fn copy_edits(alloc: Global, edits: &[Edit]) -> Result<Vec<Edit>, AllocError>
+    ensures { IfOk result (λ copies. copies.items ≡ edits.now) }
+{
+    let mut copies = Vec::new(alloc);
+    for edit in edits {
+        copies.push(edit.clone(alloc)?)?;
+    }
+    Ok(copies)
+}
+
+/// The KDC that the scenario names, which was not asked yet.
+fn kdc_of(alloc: Global, scenario: &Scenario) -> Result<PlainKdc, AllocError>
+    ensures { IfOk result (λ kdc. kdc ≡ kdc_in scenario.now) }
+{
+    let users = copy_texts(alloc, scenario.kdc_user.as_slice())?;
+    let script = Vec::from_slice(alloc, scenario.kdc_answer.as_slice())?;
+    Ok(PlainKdc::new(alloc, users, script))
+}
+
+fn copy_texts(alloc: Global, texts: &[Text]) -> Result<Vec<Text>, AllocError>
+    ensures { IfOk result (λ copies. copies.items ≡ texts.now) }
+{
+    let mut copies = Vec::new(alloc);
+    for text in texts {
+        copies.push(text.clone(alloc)?)?;
+    }
+    Ok(copies)
+}

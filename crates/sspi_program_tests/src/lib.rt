@@ -1,0 +1,7 @@
+//! Tests of the program, by runs over sources and sinks in memory.
+//!
+//! What they test stands in `sspi_program`, which is then proved once: a crate with tests is proved with them and without.
+#![tactic(auto)]
+
+#[cfg(test)]
+mod tests;
