@@ -1,5 +1,6 @@
 -- What a message is once the buffers that a call takes are left otherwise.
-use Rattle.std.proofs.Common.{◌≡◌, ◌∙◌, ℕ, suc, ◌+◌, ◌==◌, ◌&&◌, ◌≢◌, Bool, true, false, cond, not, List, [], ◌∷◌, Some, None, sym, ap, refl, arith, tests}
+use Rattle.std.proofs.Common.{◌≡◌, ◌∙◌, ℕ, suc, ◌+◌, ◌==◌, ◌&&◌, ◌≢◌, Bool, true, false, cond, not, List, [], ◌∷◌, Some, None, sym, ap}
+use Rattle.std.proofs.Common.{refl, arith, tests}
 use Rattle.std.specs.Prelude.{find, slice_set}
 use Rattle.std.specs.List.{position_or_len}
 use Rattle.sspi_types.specs.declared.buffer.SecurityBuffer.{SecurityBuffer}
@@ -57,7 +58,8 @@ module _ (f s : BufferType) (d : buffer_type_number f ≢ buffer_type_number s) 
   found_apart bytes (x ∷ xs) = by (is_plain f x) (apart x) (found_apart bytes xs)
     where
       by : (t : Bool) → (t ≡ true → is_plain s x ≡ false) → first_plain s (with_bytes f bytes xs) ≡ first_plain s xs →
-          first_plain s (cond t (record x { buffer = bytes } ∷ xs) (x ∷ with_bytes f bytes xs)) ≡ cond (is_plain s x) (Some x) (first_plain s xs)
+          first_plain s (cond t (record x { buffer = bytes } ∷ xs) (x ∷ with_bytes f bytes xs)) ≡ cond (is_plain s x) (Some x)
+              (first_plain s xs)
       by true other rest = ap (λ u. cond u (Some (record x { buffer = bytes })) (first_plain s xs)) (other refl)
           ∙ sym (ap (λ u. cond u (Some x) (first_plain s xs)) (other refl))
       by false other rest = ap (λ l. cond (is_plain s x) (Some x) l) rest
@@ -74,9 +76,11 @@ module _ (f s : BufferType) (d : buffer_type_number f ≢ buffer_type_number s) 
       by false rest = ap (λ n. cond (not (is_plain s x)) (1 + n) 0) rest
 
   -- both buffers are left otherwise, or only one of them
-  module _ (xs : List SecurityBuffer) (a b : SecurityBuffer) (has_first : first_plain f xs ≡ Some a) (has_second : first_plain s xs ≡ Some b) where
+  module _ (xs : List SecurityBuffer) (a b : SecurityBuffer) (has_first : first_plain f xs ≡ Some a)
+      (has_second : first_plain s xs ≡ Some b) where
     pub pair_left : (a2 b2 : SecurityBuffer) (x y : List ℕ) → a2 ≡ record a { buffer = x } → b2 ≡ record b { buffer = y } →
-        slice_set (slice_set xs (position_or_len (is_plain f) xs) a2) (position_or_len (is_plain s) xs) b2 ≡ with_bytes s y (with_bytes f x xs)
+        slice_set (slice_set xs (position_or_len (is_plain f) xs) a2) (position_or_len (is_plain s) xs) b2 ≡ with_bytes s y
+            (with_bytes f x xs)
     pair_left a2 b2 x y of_a of_b =
         ap (λ l. slice_set l (position_or_len (is_plain s) xs) b2) (set_bytes f x xs a a2 has_first of_a)
         ∙ ap (λ n. slice_set (with_bytes f x xs) n b2) (sym (place_apart x xs))

@@ -1,5 +1,7 @@
 -- Two elements of a list that is cut at the later one.
-use Rattle.std.proofs.Common.{◌≡◌, ◌∙◌, ℕ, zero, suc, ◌+◌, ◌<◌, ◌≤◌, ◌≢◌, Bool, true, false, cond, ltb, not, List, [], ◌∷◌, ◌++◌, length, get_or, take, drop, get_or-take, get_or-drop, position, Some, None, Option, sym, ap, refl, arith, tests, true≢false}
+use Rattle.std.proofs.Common.{◌≡◌, ◌∙◌, ℕ, zero, suc, ◌+◌, ◌<◌, ◌≤◌, ◌≢◌, Bool, true, false, cond, ltb, not, List, [], ◌∷◌, ◌++◌}
+use Rattle.std.proofs.Common.{length, get_or, take, drop, get_or-take, get_or-drop, position, Some, None, Option, sym, ap, refl, arith}
+use Rattle.std.proofs.Common.{tests, true≢false}
 use Rattle.std.specs.Prelude.{slice_set}
 use Rattle.std.specs.List.{position_or_len}
 use Rattle.sspi_types.specs.declared.buffer.SecurityBuffer.{SecurityBuffer}
@@ -17,7 +19,8 @@ module _ {X : Type 0} where
   set_behind (x ∷ xs) (suc j) y = ap (λ l. x ∷ l) (set_behind xs j y)
 
   -- the front one first
-  pub set_parts : (xs : List X) (i j : ℕ) (x y : X) → i < j → slice_set (take j xs) i x ++ slice_set (drop j xs) 0 y ≡ slice_set (slice_set xs i x) j y
+  pub set_parts : (xs : List X) (i j : ℕ) (x y : X) → i < j →
+      slice_set (take j xs) i x ++ slice_set (drop j xs) 0 y ≡ slice_set (slice_set xs i x) j y
   set_parts xs i zero x y lt = absurd (omega arith)
   set_parts [] zero (suc j) x y lt = refl
   set_parts [] (suc i) (suc j) x y lt = refl
@@ -25,7 +28,8 @@ module _ {X : Type 0} where
   set_parts (z ∷ zs) (suc i) (suc j) x y lt = ap (λ l. z ∷ l) (set_parts zs i j x y (omega arith))
 
   -- the front one last
-  pub set_parts_back : (xs : List X) (i j : ℕ) (x y : X) → i < j → slice_set (take j xs) i x ++ slice_set (drop j xs) 0 y ≡ slice_set (slice_set xs j y) i x
+  pub set_parts_back : (xs : List X) (i j : ℕ) (x y : X) → i < j →
+      slice_set (take j xs) i x ++ slice_set (drop j xs) 0 y ≡ slice_set (slice_set xs j y) i x
   set_parts_back xs i zero x y lt = absurd (omega arith)
   set_parts_back [] zero (suc j) x y lt = refl
   set_parts_back [] (suc i) (suc j) x y lt = refl
@@ -68,7 +72,8 @@ module _ (f s : BufferType) (d : buffer_type_number f ≢ buffer_type_number s) 
   differ = λ e. places_differ f s d xs (place_inside (is_plain f) xs i at_i)
       (sym (place_of_first (is_plain f) xs i at_i) ∙ e ∙ place_of_first (is_plain s) xs j at_j)
 
-  pub pair_found : (a b : SecurityBuffer) → a ≡ get_or xs i a → b ≡ get_or xs j b → Some (a, b) ≡ pair_of (first_plain f xs) (first_plain s xs)
+  pub pair_found : (a b : SecurityBuffer) → a ≡ get_or xs i a → b ≡ get_or xs j b →
+      Some (a, b) ≡ pair_of (first_plain f xs) (first_plain s xs)
   pair_found a b read_a read_b =
       sym (ap (λ o. pair_of o (first_plain s xs)) (found_at (is_plain f) xs i a at_i read_a)
       ∙ ap (λ o. pair_of (Some a) o) (found_at (is_plain s) xs j b at_j read_b))
@@ -85,7 +90,8 @@ module _ (f s : BufferType) (d : buffer_type_number f ≢ buffer_type_number s) 
     pub lent_back : (x y : SecurityBuffer) → front ≡ take i xs → back ≡ drop i xs → j < i →
         slice_set front j y ++ slice_set back 0 x
         ≡ slice_set (slice_set xs (position_or_len (is_plain f) xs) x) (position_or_len (is_plain s) xs) y
-    lent_back x y cut rest lt = ap (λ l. slice_set l j y ++ slice_set back 0 x) cut ∙ ap (λ l. slice_set (take i xs) j y ++ slice_set l 0 x) rest
+    lent_back x y cut rest lt = ap (λ l. slice_set l j y ++ slice_set back 0 x) cut ∙ ap
+        (λ l. slice_set (take i xs) j y ++ slice_set l 0 x) rest
         ∙ set_parts_back xs j i y x lt
         ∙ ap (λ n. slice_set (slice_set xs n x) j y) (place_of_first (is_plain f) xs i at_i)
         ∙ ap (λ n. slice_set (slice_set xs (position_or_len (is_plain f) xs) x) n y) (place_of_first (is_plain s) xs j at_j)

@@ -57,7 +57,8 @@ returns c =
       ((refl, refl), λ x y. lent_back f s c.requires xs i j c.in-Some.ensures c.in-Some-place.ensures front back x y cut.front cut.back lt),
       record {
         writes_back = tt;
-        pair = pair_found f s c.requires xs i j c.in-Some.ensures c.in-Some-place.ensures c.index-back-0-2.result c.index-front-second.result
+        pair = pair_found f s c.requires xs i j c.in-Some.ensures c.in-Some-place.ensures c.index-back-0-2.result
+            c.index-front-second.result
             (read_back xs back i c.index-back-0-2.result cut.back c.index-back-0-2.is)
             (read_front xs front j i c.index-front-second.result cut.front lt c.index-front-second.is);
       },

@@ -21,7 +21,8 @@ returns-in-Some-clause-opened g c =
       text = c.in_ok-text.text.items;
       taken = stream_taken xs a b both.1 both.0 ∙ ap (λ (t : List ℕ). Some t) (sym c.as_slice.ensures);
       opens = c.in_ok-text.ensures.opened;
-      buffers = second_left Stream Data stream_data xs a b both.0 both.1 _ _ c.in_ok-text.text.items refl (ap (holding b) c.from_vec.ensures);
+      buffers = second_left Stream Data stream_data xs a b both.0 both.1 _ _ c.in_ok-text.text.items refl
+          (ap (holding b) c.from_vec.ensures);
     }
 
 pub returns-in_err-text-2-clause-buffers : goal.returns-in_err-text-2-clause-buffers

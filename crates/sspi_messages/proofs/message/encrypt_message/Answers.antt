@@ -22,7 +22,8 @@ returns-clause-sealed g c =
     record {
       text = c.as_slice.result.now;
       blob = blob;
-      asked = asked_of xs a b both.1 (λ (p : List ℕ × List ℕ). ToSeal p.1) both.0 ∙ ap (λ (t : List ℕ). Some (ToSeal t)) (sym c.as_slice.ensures);
+      asked = asked_of xs a b both.1 (λ (p : List ℕ × List ℕ). ToSeal p.1) both.0 ∙ ap (λ (t : List ℕ). Some (ToSeal t))
+          (sym c.as_slice.ensures);
       seals = c.in_ok-blob.ensures.sealed;
       buffers = pair_left Token Data token_data xs a b both.0 both.1 _ _ (take 16 blob) (drop 16 blob)
           (ap (holding a) c.leave.ensures.tag) (ap (holding b) c.leave.ensures.behind);

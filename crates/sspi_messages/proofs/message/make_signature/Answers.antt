@@ -21,7 +21,8 @@ returns-clause-signed g c =
     record {
       text = c.as_slice.result.now;
       mic = c.in_ok-mic.mic.items;
-      asked = asked_of xs a b both.1 (λ (p : List ℕ × List ℕ). ToSign p.1) both.0 ∙ ap (λ (t : List ℕ). Some (ToSign t)) (sym c.as_slice.ensures);
+      asked = asked_of xs a b both.1 (λ (p : List ℕ × List ℕ). ToSign p.1) both.0 ∙ ap (λ (t : List ℕ). Some (ToSign t))
+          (sym c.as_slice.ensures);
       signed = c.in_ok-mic.ensures.mic;
       permitted = c.in_ok-mic.ensures.permitted;
       context = c.in_ok-mic.ensures.ok;
