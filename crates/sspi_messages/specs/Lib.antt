@@ -1,0 +1,4 @@
+pub mod Buffers
+pub mod Messages
+pub mod Protecting
+pub mod Unsupported

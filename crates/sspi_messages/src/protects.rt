@@ -1,0 +1,57 @@
+ghost use Rattle.std.specs.Prelude.{◌≡◌, ◌≢◌, ◌≤◌, None, length, IfOk, IfErr, OnOk, OnErr};
+ghost use Rattle.sspi_mech.specs.Calls.{one_sealed, one_unsealed, one_signed, one_verified, ToSeal, ToUnseal, ToSign, ToVerify};
+ghost use Rattle.sspi_messages.specs.Protecting.{Protecting};
+
+use sspi_types::{Error, ErrorKind};
+
+/// A context that protects messages once it has a key.
+///
+/// A refusal leaves it as it was and has no NTSTATUS code. Want of memory may come at any time, every other kind only where
+/// `refuses` says so. On `Ok` the call's own count has moved by one, and nothing else.
+pub trait Protects {
+    ghost protecting: { Protecting Self };
+
+    /// Seals a text for the peer, as the next of its messages: a blob of at least 16 bytes.
+    fn seal(&mut self, text: &[u8]) -> Result<Vec<u8>, Error>
+        ensures blob { IfOk result (λ blob. protecting.seals self.new (protecting.counts self.old).sealed text.now blob.items) }
+        ensures long { IfOk result (λ blob. 16 ≤ length blob.items) }
+        ensures ok { OnOk result (self.new ≡ protecting.counted self.old (one_sealed (protecting.counts self.old))) }
+        ensures count { OnOk result (protecting.counts self.new ≡ one_sealed (protecting.counts self.old)) }
+        ensures permitted { OnOk result (protecting.permits self.old (ToSeal text.now)) }
+        ensures err { OnErr result (self.new ≡ self.old) }
+        ensures plain { IfErr result (λ error. error.nstatus ≡ None) }
+        ensures cause { IfErr result (λ error. error.error_type ≢ ErrorKind.InsufficientMemory →
+            protecting.refuses self.old (ToSeal text.now) error.error_type) };
+
+    /// Opens what the peer sealed, as the next of its messages.
+    fn unseal(&mut self, blob: &[u8]) -> Result<Vec<u8>, Error>
+        ensures text { IfOk result (λ text. protecting.opens self.new (protecting.counts self.old).unsealed blob.now text.items) }
+        ensures ok { OnOk result (self.new ≡ protecting.counted self.old (one_unsealed (protecting.counts self.old))) }
+        ensures count { OnOk result (protecting.counts self.new ≡ one_unsealed (protecting.counts self.old)) }
+        ensures permitted { OnOk result (protecting.permits self.old (ToUnseal blob.now)) }
+        ensures err { OnErr result (self.new ≡ self.old) }
+        ensures plain { IfErr result (λ error. error.nstatus ≡ None) }
+        ensures cause { IfErr result (λ error. error.error_type ≢ ErrorKind.InsufficientMemory →
+            protecting.refuses self.old (ToUnseal blob.now) error.error_type) };
+
+    /// The MIC of a text for the peer, as the next of its MICs.
+    fn sign(&mut self, text: &[u8]) -> Result<Vec<u8>, Error>
+        ensures mic { IfOk result (λ mic. protecting.signs self.new (protecting.counts self.old).signed text.now mic.items) }
+        ensures ok { OnOk result (self.new ≡ protecting.counted self.old (one_signed (protecting.counts self.old))) }
+        ensures count { OnOk result (protecting.counts self.new ≡ one_signed (protecting.counts self.old)) }
+        ensures permitted { OnOk result (protecting.permits self.old (ToSign text.now)) }
+        ensures err { OnErr result (self.new ≡ self.old) }
+        ensures plain { IfErr result (λ error. error.nstatus ≡ None) }
+        ensures cause { IfErr result (λ error. error.error_type ≢ ErrorKind.InsufficientMemory →
+            protecting.refuses self.old (ToSign text.now) error.error_type) };
+
+    /// Checks the MIC that the peer made of a text as the next of its MICs. Takes no memory.
+    fn verify(&mut self, mic: &[u8], text: &[u8]) -> Result<(), Error>
+        ensures mic { OnOk result (protecting.verifies self.new (protecting.counts self.old).verified mic.now text.now) }
+        ensures ok { OnOk result (self.new ≡ protecting.counted self.old (one_verified (protecting.counts self.old))) }
+        ensures count { OnOk result (protecting.counts self.new ≡ one_verified (protecting.counts self.old)) }
+        ensures permitted { OnOk result (protecting.permits self.old (ToVerify mic.now text.now)) }
+        ensures err { OnErr result (self.new ≡ self.old) }
+        ensures plain { IfErr result (λ error. error.nstatus ≡ None) }
+        ensures cause { IfErr result (λ error. protecting.refuses self.old (ToVerify mic.now text.now) error.error_type) };
+}
