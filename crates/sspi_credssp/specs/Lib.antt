@@ -16,6 +16,7 @@ pub mod PackageName
 pub mod Peers
 pub mod Proxy
 pub mod PublicKey
+pub mod Queries
 pub mod Requests
 pub mod Server
 pub mod ServerAsks

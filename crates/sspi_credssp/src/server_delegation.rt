@@ -136,7 +136,7 @@ impl<N: Mechanism, K: Mechanism, C: CredentialsProxy> CredSspServer<N, K, C> {
             self.old.output ≡ [] → ServerGoes c start d result self.new }
         ensures cause { IfErr result (λ refusal. refusal.error.error_type ≢ ErrorKind.InsufficientMemory →
             ExchangeCause (either N.REQUESTS N.meaning K.meaning) request.pub_key_auth self.new.noted
-                request.client_nonce self.new refusal.error.error_type) }
+            request.client_nonce self.new refusal.error.error_type) }
         ensures plain { IfErr result (λ refusal. refusal.error.nstatus ≡ None) }
         ensures acts { (self.new.acts.status ≡ None) × (self.new.acts.negotiated ≡ false) }
         ensures begun { IsSome self.new.context }
@@ -204,7 +204,7 @@ impl<N: Mechanism, K: Mechanism, C: CredentialsProxy> CredSspServer<N, K, C> {
         ensures exchanges { ServerExchanges (either N.REQUESTS N.meaning K.meaning) self.old request.now result self.new }
         ensures cause { IfErr result (λ error. error.error_type ≢ ErrorKind.InsufficientMemory →
             ExchangeCause (either N.REQUESTS N.meaning K.meaning) request.now.pub_key_auth self.new.noted
-                request.now.client_nonce self.new error.error_type) }
+            request.now.client_nonce self.new error.error_type) }
         ensures plain { IfErr result (λ error. error.nstatus ≡ None) }
         ensures begun { IsSome self.new.context }
     {

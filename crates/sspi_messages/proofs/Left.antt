@@ -59,7 +59,7 @@ module _ (f s : BufferType) (d : buffer_type_number f ≢ buffer_type_number s) 
     where
       by : (t : Bool) → (t ≡ true → is_plain s x ≡ false) → first_plain s (with_bytes f bytes xs) ≡ first_plain s xs →
           first_plain s (cond t (record x { buffer = bytes } ∷ xs) (x ∷ with_bytes f bytes xs)) ≡ cond (is_plain s x) (Some x)
-              (first_plain s xs)
+          (first_plain s xs)
       by true other rest = ap (λ u. cond u (Some (record x { buffer = bytes })) (first_plain s xs)) (other refl)
           ∙ sym (ap (λ u. cond u (Some x) (first_plain s xs)) (other refl))
       by false other rest = ap (λ l. cond (is_plain s x) (Some x) l) rest
@@ -80,7 +80,7 @@ module _ (f s : BufferType) (d : buffer_type_number f ≢ buffer_type_number s) 
       (has_second : first_plain s xs ≡ Some b) where
     pub pair_left : (a2 b2 : SecurityBuffer) (x y : List ℕ) → a2 ≡ record a { buffer = x } → b2 ≡ record b { buffer = y } →
         slice_set (slice_set xs (position_or_len (is_plain f) xs) a2) (position_or_len (is_plain s) xs) b2 ≡ with_bytes s y
-            (with_bytes f x xs)
+        (with_bytes f x xs)
     pair_left a2 b2 x y of_a of_b =
         ap (λ l. slice_set l (position_or_len (is_plain s) xs) b2) (set_bytes f x xs a a2 has_first of_a)
         ∙ ap (λ n. slice_set (with_bytes f x xs) n b2) (sym (place_apart x xs))

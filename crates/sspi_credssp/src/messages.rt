@@ -1,0 +1,131 @@
+// What a context does with messages: what the mechanism or the negotiation in hand does.
+ghost use Rattle.std.specs.Prelude.{◌≡◌, IfOk, IfErr, OnErr};
+ghost use Rattle.sspi_messages.specs.Messages.{to_encrypt, to_decrypt, to_sign, to_verify};
+ghost use Rattle.sspi_messages.specs.Messages.{Encrypts, Decrypts, Signs, Verifies, Refuses, IsRefusal};
+ghost use Rattle.sspi_messages.specs.Protecting.{protecting};
+ghost use Rattle.sspi_credssp.specs.Context.{either};
+
+use crate::context::SspiContext;
+use sspi_mech::Mechanism;
+use sspi_messages::{Protects, decrypt_message, encrypt_message, make_signature, verify_signature};
+use sspi_types::{DecryptionFlags, EncryptionFlags, Error, SecurityBuffer, SecurityStatus};
+
+impl<N: Mechanism, K: Mechanism> Protects for SspiContext<N, K> {
+    ghost use Rattle.sspi_messages.specs.Protecting.{protecting};
+    ghost use Rattle.sspi_credssp.specs.Context.{either};
+
+    ghost protecting = { protecting (either N.REQUESTS N.meaning K.meaning) };
+
+    fn seal(&mut self, text: &[u8]) -> Result<Vec<u8>, Error> {
+        SspiContext::seal(self, text)
+    }
+
+    fn unseal(&mut self, blob: &[u8]) -> Result<Vec<u8>, Error> {
+        SspiContext::unseal(self, blob)
+    }
+
+    fn sign(&mut self, text: &[u8]) -> Result<Vec<u8>, Error> {
+        match self {
+            SspiContext::Negotiate(negotiation) => negotiation.sign(text),
+            SspiContext::Ntlm(mechanism) => mechanism.sign(text),
+            SspiContext::Kerberos(mechanism) => mechanism.sign(text),
+        }
+    }
+
+    fn verify(&mut self, mic: &[u8], text: &[u8]) -> Result<(), Error> {
+        match self {
+            SspiContext::Negotiate(negotiation) => negotiation.verify(mic, text),
+            SspiContext::Ntlm(mechanism) => mechanism.verify(mic, text),
+            SspiContext::Kerberos(mechanism) => mechanism.verify(mic, text),
+        }
+    }
+}
+
+impl<N: Mechanism, K: Mechanism> SspiContext<N, K> {
+    /// Seals the text in Data as the next message (EncryptMessage): the first 16 bytes of the blob go to Token, the rest stays
+    /// in Data. The flags are not read.
+    ///
+    /// Of each type the first buffer without flags is taken; `InvalidToken` exactly where Data or Token is missing, before the
+    /// mechanism in hand is asked. `OutOfSequence` before there is a key, `ContextExpired` once all numbers of messages are used.
+    /// Refused, the context and all buffers are as they were.
+    pub fn encrypt_message(
+        &mut self,
+        _flags: EncryptionFlags,
+        message: &mut [SecurityBuffer],
+    ) -> Result<SecurityStatus, Error>
+        ensures status { IfOk result (λ status. status ≡ SecurityStatus.Ok) }
+        ensures sealed { IfOk result (λ status.
+            Encrypts (protecting (either N.REQUESTS N.meaning K.meaning)) self.old message.old self.new message.new) }
+        ensures refused { IfErr result (λ error.
+            Refuses (protecting (either N.REQUESTS N.meaning K.meaning)) (to_encrypt message.old) self.old error self.new) }
+        ensures buffers { OnErr result (message.new ≡ message.old) }
+    {
+        encrypt_message(self, message)
+    }
+
+    /// Opens the peer's next message (DecryptMessage) and leaves its text in Data. The blob is the bytes of Stream, or without
+    /// one those of Token followed by those of Data. Answers no flags.
+    ///
+    /// Of each type the first buffer without flags is taken; `InvalidToken` exactly where Data is missing, where there is
+    /// neither Stream nor Token, and for a blob of under 16 bytes, before the mechanism in hand is asked. `OutOfSequence` before there
+    /// is a key, `ContextExpired` once all numbers of messages are used, `MessageAltered` for what the peer did not seal as
+    /// this message. Refused, the context and all buffers are as they were.
+    pub fn decrypt_message(
+        &mut self,
+        message: &mut [SecurityBuffer],
+    ) -> Result<DecryptionFlags, Error>
+        ensures flags { IfOk result (λ flags. flags.0 ≡ 0) }
+        ensures opened { IfOk result (λ flags.
+            Decrypts (protecting (either N.REQUESTS N.meaning K.meaning)) self.old message.old self.new message.new) }
+        ensures refused { IfErr result (λ error.
+            Refuses (protecting (either N.REQUESTS N.meaning K.meaning)) (to_decrypt message.old) self.old error self.new) }
+        ensures buffers { OnErr result (message.new ≡ message.old) }
+    {
+        decrypt_message(self, message)
+    }
+
+    /// Leaves the MIC of the text in Data (MakeSignature), as the next of the own MICs, in Token. Flags and sequence number are
+    /// not read.
+    ///
+    /// Of each type the first buffer without flags is taken; `InvalidToken` exactly where Data or Token is missing, before the
+    /// mechanism in hand is asked. `OutOfSequence` before there is a key, `ContextExpired` once all numbers of MICs are used. Refused,
+    /// the context and all buffers are as they were.
+    pub fn make_signature(
+        &mut self,
+        _flags: u32,
+        message: &mut [SecurityBuffer],
+        _sequence_number: u32,
+    ) -> Result<(), Error>
+        ensures signed { IfOk result (λ _.
+            Signs (protecting (either N.REQUESTS N.meaning K.meaning)) self.old message.old self.new message.new) }
+        ensures refused { IfErr result (λ error.
+            Refuses (protecting (either N.REQUESTS N.meaning K.meaning)) (to_sign message.old) self.old error self.new) }
+        ensures buffers { OnErr result (message.new ≡ message.old) }
+    {
+        make_signature(self, message)
+    }
+
+    /// Checks that Token is the MIC that the peer made of the text in Data (VerifySignature), as the next of its MICs, and
+    /// answers 0. Changes no buffer and takes no memory. The sequence number is not read.
+    ///
+    /// Of each type the first buffer without flags is taken; `InvalidToken` exactly where Data or Token is missing, before the
+    /// mechanism in hand is asked. `OutOfSequence` before there is a key, `ContextExpired` once all numbers of MICs are used,
+    /// `MessageAltered` for another MIC. Refused, the context is as it was.
+    pub fn verify_signature(
+        &mut self,
+        message: &mut [SecurityBuffer],
+        _sequence_number: u32,
+    ) -> Result<u32, Error>
+        ensures zero { IfOk result (λ answer. answer ≡ 0) }
+        ensures verified { IfOk result (λ answer.
+            Verifies (protecting (either N.REQUESTS N.meaning K.meaning)) self.old message.old self.new) }
+        ensures refused { IfErr result (λ error.
+            Refuses (protecting (either N.REQUESTS N.meaning K.meaning)) (to_verify message.old) self.old error self.new) }
+        ensures exact { IfErr result (λ error. IsRefusal (protecting (either N.REQUESTS N.meaning K.meaning)) self.old
+            (to_verify message.old) error.error_type) }
+        ensures buffers { message.new ≡ message.old }
+    {
+        verify_signature(self, message)?;
+        Ok(0)
+    }
+}

@@ -1,0 +1,91 @@
+// What a context tells of itself: what the mechanism or the negotiation in hand tells.
+ghost use Rattle.std.specs.Prelude.{◌≡◌, ◌≢◌, Some, None, IfOk, IfErr};
+ghost use Rattle.sspi_mech.specs.Calls.{ToDescribe, ToShowKey};
+ghost use Rattle.sspi_messages.specs.Unsupported.{unsupported};
+ghost use Rattle.sspi_credssp.specs.Context.{either};
+ghost use Rattle.sspi_credssp.specs.Queries.{negotiated_entry, RefusesNegotiated};
+
+use crate::context::SspiContext;
+use sspi_mech::Mechanism;
+use sspi_messages::unsupported;
+use sspi_types::{
+    CertTrustStatus, ConnectionInfo, ContextSizes, Error, ErrorKind, PackageInfo, SessionKeys,
+    StreamSizes,
+};
+
+impl<N: Mechanism, K: Mechanism> SspiContext<N, K> {
+    /// The sizes that users of the mechanism in hand must know.
+    pub fn query_context_sizes(&self) -> ContextSizes
+        ensures { result ≡ (either N.REQUESTS N.meaning K.meaning).sizes self.now }
+    {
+        match self {
+            SspiContext::Negotiate(negotiation) => negotiation.query_context_sizes(),
+            SspiContext::Ntlm(mechanism) => mechanism.sizes(),
+            SspiContext::Kerberos(mechanism) => mechanism.sizes(),
+        }
+    }
+
+    /// The session key of the mechanism in hand. `OutOfSequence` before there is one.
+    pub fn query_context_session_key(&self) -> Result<SessionKeys, Error>
+        ensures key { IfOk result (λ keys.
+            (either N.REQUESTS N.meaning K.meaning).session_key self.now ≡ Some keys.session_key.value) }
+        ensures plain { IfErr result (λ error. error.nstatus ≡ None) }
+        ensures cause { IfErr result (λ error. error.error_type ≢ ErrorKind.InsufficientMemory →
+            (either N.REQUESTS N.meaning K.meaning).refuses self.now ToShowKey error.error_type) }
+    {
+        match self {
+            SspiContext::Negotiate(negotiation) => negotiation.query_context_session_key(),
+            SspiContext::Ntlm(mechanism) => mechanism.session_key(),
+            SspiContext::Kerberos(mechanism) => mechanism.session_key(),
+        }
+    }
+
+    /// The entry of the package: of a negotiation the entry of Negotiate, else that of the mechanism.
+    pub fn query_context_package_info(&self) -> Result<PackageInfo, Error>
+        ensures entry { IfOk result (λ info. info ≡ (either N.REQUESTS N.meaning K.meaning).entry self.now) }
+        ensures plain { IfErr result (λ error. error.nstatus ≡ None) }
+        ensures cause { IfErr result (λ error. error.error_type ≢ ErrorKind.InsufficientMemory →
+            (either N.REQUESTS N.meaning K.meaning).refuses self.now ToDescribe error.error_type) }
+    {
+        match self {
+            SspiContext::Negotiate(negotiation) => negotiation.query_context_package_info(),
+            SspiContext::Ntlm(mechanism) => mechanism.package_info(),
+            SspiContext::Kerberos(mechanism) => mechanism.package_info(),
+        }
+    }
+
+    /// The entry of the mechanism that a negotiation has in hand. `UnsupportedFunction` exactly where nothing is negotiated.
+    pub fn query_context_negotiation_package(&self) -> Result<PackageInfo, Error>
+        ensures entry { IfOk result (λ info. negotiated_entry N.meaning K.meaning self.now ≡ Some info) }
+        ensures none { negotiated_entry N.meaning K.meaning self.now ≡ None → result ≡ Err unsupported }
+        ensures plain { IfErr result (λ error. error.nstatus ≡ None) }
+        ensures cause { IfErr result (λ error. error.error_type ≢ ErrorKind.InsufficientMemory →
+            RefusesNegotiated N.meaning K.meaning self.now error.error_type) }
+    {
+        match self {
+            SspiContext::Negotiate(negotiation) => negotiation.query_context_negotiation_package(),
+            SspiContext::Ntlm(_) | SspiContext::Kerberos(_) => Err(unsupported()),
+        }
+    }
+
+    /// Always `UnsupportedFunction`: no package here has streams.
+    pub fn query_context_stream_sizes(&self) -> Result<StreamSizes, Error>
+        ensures { result ≡ Err unsupported }
+    {
+        Err(unsupported())
+    }
+
+    /// Always `UnsupportedFunction`: no package here has certificates.
+    pub fn query_context_cert_trust_status(&self) -> Result<CertTrustStatus, Error>
+        ensures { result ≡ Err unsupported }
+    {
+        Err(unsupported())
+    }
+
+    /// Always `UnsupportedFunction`: no package here has a connection of its own.
+    pub fn query_context_connection_info(&self) -> Result<ConnectionInfo, Error>
+        ensures { result ≡ Err unsupported }
+    {
+        Err(unsupported())
+    }
+}

@@ -1,0 +1,6 @@
+mod buffers;
+mod ends;
+mod exchange;
+mod lines;
+mod queries;
+mod refusals;
