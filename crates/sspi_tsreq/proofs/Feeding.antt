@@ -1,14 +1,14 @@
 -- What a piece makes of a reader, and what a reader answers.
-use Rattle.std.proofs.Common.{◌≡◌, ℕ, ◌+◌, ◌-◌, ◌<◌, ◌≤◌, min, Bool, true, false, cond, eqb, List, [], ◌∷◌, ◌++◌, length, take, drop}
-use Rattle.std.proofs.Common.{get_or, Option, None, Some, Result, Ok, Err, refl, sym, ap, ◌∙◌, subst, inl, inr, append_assoc, arith}
+use Rattle.std.proofs.Common.{◌≡◌, ℕ, ◌+◌, ◌-◌, ◌<◌, ◌≤◌, min, true, false, cond, eqb, List, [], ◌∷◌, ◌++◌, length, take, drop, get_or}
+use Rattle.std.proofs.Common.{Option, Result, Ok, Err, refl, sym, ap, ◌∙◌, subst, inl, inr, append_assoc, arith}
 use Rattle.std.proofs.lemmas.Bool.{cases_lt, eq-eqb, ne_eqb}
 use Rattle.std.proofs.lemmas.List.{length-append, length-drop, append-nil, take-append-le, take-append-drop, take_all, take_more, take_min}
 use Rattle.std.proofs.Math.Seq.{take-nil, take-append-add}
 use Rattle.sspi_ber.specs.declared.wire_kind.WireKind.{WireKind}
 use Rattle.sspi_ber.specs.declared.wire_kind.WireKind.TheVariants.{UnexpectedEof, InvalidData, ReadFault, WriteFault, InsufficientMemory}
 use Rattle.sspi_ber.specs.Fault.{Fault, Ended, Invalid, Read, ◌>>=◌, as_ended, fault_of}
-use Rattle.sspi_ber.specs.Pieces.{byte_at, bytes_at, length_at, header_at}
-use Rattle.sspi_ber.proofs.Match.{read_of, both_are}
+use Rattle.sspi_ber.specs.Pieces.{bytes_at, length_at, header_at}
+use Rattle.sspi_ber.proofs.Match.{both_are}
 use Rattle.sspi_ber.proofs.Steady.{header_steady}
 use Rattle.sspi_tsreq.specs.declared.request.TsRequest.{TsRequest}
 use Rattle.sspi_tsreq.specs.declared.reader.TsReader.{TsReader}
@@ -17,8 +17,6 @@ use Rattle.sspi_tsreq.specs.declared.place.LengthPart.TheVariants.{First}
 use Rattle.sspi_tsreq.specs.declared.place.LengthStep.{LengthStep}
 use Rattle.sspi_tsreq.specs.declared.place.LengthStep.TheVariants.{Part, Known, Bad}
 use Rattle.sspi_tsreq.specs.declared.place.Text.TheVariants.{NegoTokens, AuthInfo, PubKeyAuth}
-use Rattle.sspi_tsreq.specs.declared.place.Element.TheVariants.{Required}
-use Rattle.sspi_tsreq.specs.declared.place.Inner.TheVariants.{Version}
 use Rattle.sspi_tsreq.specs.declared.place.Place.{Place}
 use Rattle.sspi_tsreq.specs.declared.place.Place.TheVariants.{AtTag, InLength, InVersion, InCode, InText, InNonce, Whole, Faulty}
 use Rattle.sspi_tsreq.specs.declared.place.Stage.{Stage}

@@ -1,18 +1,17 @@
 -- Lengths and numbers that are read byte by byte.
-use Rattle.std.proofs.Common.{◌≡◌, ℕ, zero, suc, ◌+◌, ◌-◌, ◌*◌, ◌%◌, ◌^◌, ◌<◌, ◌≤◌, Bool, true, false, cond, eqb, ltb, leb, List, []}
-use Rattle.std.proofs.Common.{◌∷◌, ◌++◌, length, take, drop, fold, Ok, Err, refl, sym, ap, ◌∙◌, subst, inl, inr, add-one, arith, lit<}
+use Rattle.std.proofs.Common.{◌≡◌, ℕ, zero, suc, ◌+◌, ◌-◌, ◌*◌, ◌%◌, ◌^◌, ◌<◌, ◌≤◌, true, false, cond, ltb, leb, List, [], ◌∷◌, ◌++◌}
+use Rattle.std.proofs.Common.{length, take, drop, fold, Ok, Err, refl, sym, ap, ◌∙◌, inl, inr, arith}
 use Rattle.std.proofs.lemmas.Bool.{cases_lt, lt-ltb, le-ltb, le-leb, lt-leb}
 use Rattle.std.proofs.lemmas.List.{length-append}
 use Rattle.std.proofs.Math.Seq.{take-append-add, drop-append-add}
-use Rattle.sspi_ber.specs.Fault.{Fault, Ended, Invalid, Read, ◌>>=◌}
+use Rattle.sspi_ber.specs.Fault.{Ended, Invalid, Read, ◌>>=◌}
 use Rattle.sspi_ber.specs.Forms.{big_endian, is_integer_size}
 use Rattle.sspi_ber.specs.Limit.{max_content}
-use Rattle.sspi_ber.specs.Pieces.{byte_at, bytes_at, is_octet_count, limited_at, length_at, header_at, number_at}
+use Rattle.sspi_ber.specs.Pieces.{bytes_at, is_octet_count, limited_at, length_at, number_at}
 use Rattle.sspi_ber.proofs.Match.{read_of}
 use Rattle.sspi_tsreq.specs.declared.place.LengthStep.{LengthStep}
 use Rattle.sspi_tsreq.specs.declared.place.LengthStep.TheVariants.{Part, Known, Bad}
-use Rattle.sspi_tsreq.specs.declared.place.LengthPart.TheVariants.{First, Three, Two, One}
-use Rattle.sspi_tsreq.specs.Places.{limited_from, low_from, length_rest, sized_low, LengthLasts, LengthSteps}
+use Rattle.sspi_tsreq.specs.Places.{limited_from, low_from, sized_low, LengthLasts, LengthSteps}
 
 -- ---- bytes
 

@@ -1,24 +1,22 @@
 -- What one byte more makes of what is still to come.
-use Rattle.std.proofs.Common.{◌≡◌, ℕ, ◌+◌, ◌*◌, ◌%◌, ◌^◌, Bool, true, false, cond, eqb, leb, ◌&&◌, List, [], ◌∷◌, ◌++◌, Option, None}
-use Rattle.std.proofs.Common.{Some, Ok, Err, refl, sym, ap, ◌∙◌}
+use Rattle.std.proofs.Common.{◌≡◌, ℕ, ◌%◌, ◌^◌, Bool, true, false, cond, eqb, leb, ◌&&◌, List, ◌∷◌, Option, None, Some, Ok, Err, refl}
+use Rattle.std.proofs.Common.{ap, ◌∙◌}
 use Rattle.std.proofs.lemmas.Bool.{eq-eqb, ne_eqb}
-use Rattle.sspi_ber.specs.Fault.{Fault, Ended, Invalid, Read, ◌>>=◌}
-use Rattle.sspi_ber.specs.Pieces.{byte_at, bytes_at, length_at, header_at, number_at, integer_at, element_at, tag_or_absent_at}
-use Rattle.sspi_ber.specs.Pieces.{present_at, field_at, tagged_at}
+use Rattle.sspi_ber.specs.Fault.{Invalid, Read, ◌>>=◌}
+use Rattle.sspi_ber.specs.Pieces.{bytes_at, length_at, header_at, number_at, integer_at, element_at, tag_or_absent_at, present_at}
+use Rattle.sspi_ber.specs.Pieces.{field_at, tagged_at}
 use Rattle.sspi_types.specs.declared.nstatus.NStatusCode.{NStatusCode}
 use Rattle.sspi_ber.specs.Forms.{is_integer_size}
 use Rattle.sspi_tsreq.specs.declared.request.TsRequest.{TsRequest}
-use Rattle.sspi_tsreq.specs.declared.place.LengthPart.TheVariants.{First}
 use Rattle.sspi_tsreq.specs.declared.place.Text.TheVariants.{NegoTokens, AuthInfo, PubKeyAuth}
 use Rattle.sspi_tsreq.specs.declared.place.Element.TheVariants.{Optional, Required}
 use Rattle.sspi_tsreq.specs.declared.place.Field.TheVariants.{Nego, Auth, Key, Code, Nonce}
 use Rattle.sspi_tsreq.specs.declared.place.Inner.{Inner}
 use Rattle.sspi_tsreq.specs.declared.place.Inner.TheVariants.{Version, VersionNumber, TokenList, TokenItem, Token, Octets, CodeNumber}
 use Rattle.sspi_tsreq.specs.declared.place.Inner.TheVariants.{NonceOctets}
-use Rattle.sspi_tsreq.specs.declared.place.Place.TheVariants.{InLength, Faulty}
-use Rattle.sspi_tsreq.specs.Reading.{low_at, version_at, octets_at, token_at, code_at, nonce_at, looked_at, after_code, after_key}
-use Rattle.sspi_tsreq.specs.Reading.{after_auth, after_nego, after_version, body_at}
-use Rattle.sspi_tsreq.specs.Places.{behind, from_tag, inner_tag, rest_at, sized_low, text_then, version_then, code_then, nonce_then}
+use Rattle.sspi_tsreq.specs.Reading.{low_at, octets_at, token_at, code_at, nonce_at, looked_at, after_code, after_key, after_auth}
+use Rattle.sspi_tsreq.specs.Reading.{after_nego, after_version, body_at}
+use Rattle.sspi_tsreq.specs.Places.{behind, inner_tag, sized_low, text_then, version_then, code_then, nonce_then}
 use Rattle.sspi_tsreq.specs.Walks.{from_inner}
 use Rattle.sspi_tsreq.proofs.Numbers.{map_then}
 

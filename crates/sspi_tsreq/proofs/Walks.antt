@@ -1,11 +1,10 @@
 -- Octets, numbers and the nonce on the way through a piece.
-use Rattle.std.proofs.Common.{◌≡◌, ℕ, ◌+◌, ◌-◌, ◌*◌, ◌%◌, ◌^◌, ◌<◌, ◌≤◌, cond, ltb, List, [], ◌∷◌, ◌++◌, length, take, drop, Ok, Err}
-use Rattle.std.proofs.Common.{refl, sym, ap, ◌∙◌, append_assoc, arith, slice_set}
+use Rattle.std.proofs.Common.{◌≡◌, ℕ, ◌+◌, ◌-◌, ◌*◌, ◌%◌, ◌^◌, ◌<◌, ◌≤◌, List, [], ◌∷◌, ◌++◌, length, take, drop, Ok, Err, refl, sym}
+use Rattle.std.proofs.Common.{ap, ◌∙◌, append_assoc, arith, slice_set}
 use Rattle.std.proofs.lemmas.Bool.{lt-ltb, le-ltb}
 use Rattle.std.proofs.lemmas.List.{length-append, take-append-le, drop-append-le, append-nil, take_more_set, length-set}
 use Rattle.std.proofs.Math.Seq.{take-length}
-use Rattle.sspi_ber.specs.Fault.{Fault, Invalid, Read, ◌>>=◌}
-use Rattle.sspi_ber.specs.Forms.{is_integer_size}
+use Rattle.sspi_ber.specs.Fault.{Invalid, Read, ◌>>=◌}
 use Rattle.sspi_ber.specs.Pieces.{bytes_at}
 use Rattle.sspi_ber.proofs.Match.{read_of}
 use Rattle.sspi_tsreq.specs.declared.request.TsRequest.{TsRequest}

@@ -1,7 +1,7 @@
 -- What a reader that is fed with pieces answers from each place of the grammar, if these bytes still come.
-use Rattle.std.specs.Prelude.{◌≡◌, ◌<◌, ◌≤◌, ℕ, ◌+◌, ◌-◌, ◌*◌, ◌%◌, ◌^◌, nat_lt, nat_le, ◌==◌, List, [], ◌∷◌, ◌++◌, length, take, fold}
-use Rattle.std.specs.Prelude.{Option, None, Some, Result, Ok, Err, if◌then◌else◌}
-use Rattle.sspi_ber.specs.Fault.{Fault, Ended, Invalid, Read, ◌>>=◌}
+use Rattle.std.specs.Prelude.{◌≡◌, ◌<◌, ◌≤◌, ℕ, ◌+◌, ◌-◌, ◌*◌, ◌%◌, ◌^◌, nat_lt, nat_le, ◌==◌, List, [], ◌++◌, take, fold, Option}
+use Rattle.std.specs.Prelude.{None, Some, Result, Ok, Err, if◌then◌else◌}
+use Rattle.sspi_ber.specs.Fault.{Fault, Invalid, Read, ◌>>=◌}
 use Rattle.sspi_ber.specs.Forms.{is_integer_size}
 use Rattle.sspi_ber.specs.Limit.{max_content}
 use Rattle.sspi_ber.specs.Pieces.{bytes_at, number_at, length_at, tagged_at}
@@ -14,7 +14,6 @@ use Rattle.sspi_tsreq.specs.declared.place.Text.{Text}
 use Rattle.sspi_tsreq.specs.declared.place.Text.TheVariants.{NegoTokens, AuthInfo, PubKeyAuth}
 use Rattle.sspi_tsreq.specs.declared.place.Element.{Element}
 use Rattle.sspi_tsreq.specs.declared.place.Element.TheVariants.{Optional, Required}
-use Rattle.sspi_tsreq.specs.declared.place.Field.{Field}
 use Rattle.sspi_tsreq.specs.declared.place.Field.TheVariants.{Nego, Auth, Key, Code, Nonce}
 use Rattle.sspi_tsreq.specs.declared.place.Inner.{Inner}
 use Rattle.sspi_tsreq.specs.declared.place.Inner.TheVariants.{Version, VersionNumber, TokenList, TokenItem, Token, Octets, CodeNumber}

@@ -1,5 +1,3 @@
-ghost use Rattle.std.specs.Prelude.{◌≤◌};
-
 use sspi_ber::{VecSink, WireKind};
 use sspi_tsreq::{TsReader, TsRequest};
 use sspi_types::Bytes;
@@ -60,14 +58,16 @@ fn fed_cut(alloc: Global, bytes: &[u8], at: usize) -> Result<TsRequest, WireKind
     reader.finish()
 }
 
-/// Longer texts are not cut at each place, and come in larger pieces.
+/// Longer texts come in pieces of one size, and are cut in their header alone.
 const LONGEST_CUT: usize = 200;
 
-/// The smallest pieces of a text of this length.
-fn least_size(len: usize) -> usize
-    ensures { result ≤ 1000 }
-{
-    if len > LONGEST_CUT { 1000 } else { 1 }
+/// The smallest pieces of a text, how many sizes follow, and at how many places it is cut.
+fn ways(len: usize) -> (usize, usize, usize) {
+    if len > LONGEST_CUT {
+        (1000, 1, 6)
+    } else {
+        (1, 7, len)
+    }
 }
 
 fn is_request(rt: &impl Abort, answer: Result<TsRequest, WireKind>, request: &TsRequest) {
@@ -80,14 +80,11 @@ fn is_request(rt: &impl Abort, answer: Result<TsRequest, WireKind>, request: &Ts
 /// The bytes begin with the request, whole or in whatever pieces.
 fn reads(rt: &impl Abort, alloc: Global, bytes: &[u8], request: &TsRequest) {
     is_request(rt, TsRequest::from_buffer(alloc, bytes), request);
-    for size in 0..7 {
-        is_request(
-            rt,
-            fed(alloc, bytes, least_size(bytes.len()) + size),
-            request,
-        );
+    let (least, sizes, cuts) = ways(bytes.len());
+    for size in 0..sizes {
+        is_request(rt, fed(alloc, bytes, least.saturating_add(size)), request);
     }
-    for at in 0..bytes.len().min(LONGEST_CUT) {
+    for at in 0..cuts {
         is_request(rt, fed_cut(alloc, bytes, at), request);
     }
 }
@@ -95,13 +92,14 @@ fn reads(rt: &impl Abort, alloc: Global, bytes: &[u8], request: &TsRequest) {
 /// The bytes have this fault, whole or in whatever pieces.
 fn refuses(rt: &impl Abort, alloc: Global, bytes: &[u8], kind: WireKind) {
     assert_eq!(rt; TsRequest::from_buffer(alloc, bytes).err(), Some(kind));
-    for size in 0..7 {
+    let (least, sizes, cuts) = ways(bytes.len());
+    for size in 0..sizes {
         assert_eq!(rt;
-            fed(alloc, bytes, least_size(bytes.len()) + size).err(),
+            fed(alloc, bytes, least.saturating_add(size)).err(),
             Some(kind)
         );
     }
-    for at in 0..bytes.len().min(LONGEST_CUT) {
+    for at in 0..cuts {
         assert_eq!(rt; fed_cut(alloc, bytes, at).err(), Some(kind));
     }
 }

@@ -1,4 +1,4 @@
-use Rattle.std.proofs.Common.{◌≡◌, ℕ, ◌+◌, ◌*◌, ap, ◌∙◌, arith}
+use Rattle.std.proofs.Common.{ℕ, ap, ◌∙◌, arith}
 use Rattle.sspi_tsreq.specs.Places.{limited_from}
 use Rattle.sspi_tsreq.proofs.Numbers.{limited_step, length_lasts}
 use Rattle.sspi_tsreq.proofs.length.next_length.Goals as goal

@@ -1,6 +1,5 @@
-use Rattle.std.proofs.Common.{◌≡◌, ℕ, ◌+◌, List, length, take, ap, ◌∙◌, sym, arith}
+use Rattle.std.proofs.Common.{◌+◌, length, ap, ◌∙◌, arith}
 use Rattle.std.proofs.lemmas.List.{length-take-le}
-use Rattle.sspi_tsreq.specs.Places.{text_of, with_text}
 use Rattle.sspi_tsreq.proofs.Walks.{text_part, text_whole}
 use Rattle.sspi_tsreq.proofs.reader.octets_of_field.Goals as goal
 

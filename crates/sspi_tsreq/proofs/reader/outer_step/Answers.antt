@@ -1,4 +1,3 @@
-use Rattle.std.proofs.Common.{ap, ◌∙◌, sym}
 use Rattle.sspi_tsreq.proofs.Feeding.{outer_begins, outer_refused, outer_stays, outer_steps}
 use Rattle.sspi_tsreq.proofs.reader.outer_step.Goals as goal
 

@@ -1,4 +1,4 @@
-use Rattle.std.proofs.Common.{◌≡◌, refl, ◌∙◌, sym}
+use Rattle.std.proofs.Common.{refl, ◌∙◌, sym}
 use Rattle.sspi_tsreq.proofs.Feeding.{inside_on, inside_still, never, without_front}
 use Rattle.sspi_tsreq.proofs.reader.TsReader.feed_content.Goals as goal
 

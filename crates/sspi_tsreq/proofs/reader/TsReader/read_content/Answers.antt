@@ -1,4 +1,4 @@
-use Rattle.std.proofs.Common.{◌≡◌, ℕ, ◌-◌, List, ◌++◌, length, take, drop, ap, ◌∙◌, subst, sym}
+use Rattle.std.proofs.Common.{ℕ, ◌-◌, List, ◌++◌, length, take, drop, ap, ◌∙◌, subst, sym}
 use Rattle.sspi_tsreq.specs.declared.reader.TsReader.{TsReader}
 use Rattle.sspi_tsreq.specs.Feeding.{lengthened}
 use Rattle.sspi_tsreq.specs.Walks.{goes_on, slot, IsWithout}

@@ -1,4 +1,4 @@
-use Rattle.std.proofs.Common.{ap, ◌∙◌, sym}
+use Rattle.std.proofs.Common.{ap, ◌∙◌}
 use Rattle.sspi_tsreq.specs.Places.{answered}
 use Rattle.sspi_tsreq.specs.Walks.{filled}
 use Rattle.sspi_tsreq.proofs.Steps.{auth_next, auth_absent}

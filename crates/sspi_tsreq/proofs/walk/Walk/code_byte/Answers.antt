@@ -1,4 +1,4 @@
-use Rattle.std.proofs.Common.{ℕ, ◌-◌, ap, ◌∙◌, sym, arith}
+use Rattle.std.proofs.Common.{ℕ, ◌-◌, ap, ◌∙◌, sym}
 use Rattle.sspi_tsreq.specs.Places.{answered, code_from, code_then}
 use Rattle.sspi_tsreq.specs.Walks.{filled}
 use Rattle.sspi_tsreq.proofs.Walks.{code_more, code_end}

@@ -1,4 +1,4 @@
-use Rattle.std.proofs.Common.{ap, ◌∙◌, sym, subst, List, ℕ, ◌+◌}
+use Rattle.std.proofs.Common.{ap, ◌∙◌, sym, List, ℕ, ◌+◌}
 use Rattle.sspi_tsreq.specs.Places.{answered, nonce_from, nonce_then}
 use Rattle.sspi_tsreq.specs.Walks.{filled}
 use Rattle.sspi_tsreq.proofs.Walks.{nonce_more, nonce_end}

@@ -1,6 +1,5 @@
-use Rattle.std.proofs.Common.{ℕ, ◌-◌, ap, ◌∙◌, sym, arith}
+use Rattle.std.proofs.Common.{ℕ, ◌-◌, ap, ◌∙◌, sym}
 use Rattle.sspi_tsreq.specs.Places.{answered, version_from, version_then}
-use Rattle.sspi_tsreq.specs.Walks.{filled}
 use Rattle.sspi_tsreq.proofs.Walks.{version_more, version_end}
 use Rattle.sspi_tsreq.proofs.walk.Walk.version_byte.Goals as goal
 
