@@ -71,5 +71,6 @@ abbrev pub all_keys : List Key
 all_keys =
     key.Mode ∷ key.User ∷ key.Password ∷ key.Key ∷ key.ServerKey ∷ key.ClientVersion ∷ key.ServerVersion ∷ key.Nonce ∷ key.Challenge ∷
     key.Computer ∷ key.Target ∷ key.Delegation ∷ key.Keytab ∷ key.ClientProtocol ∷ key.ServerProtocol ∷ key.ClientPackages ∷
-    key.ServerPackages ∷ key.ClientUrl ∷ key.Kdc ∷ key.KdcUser ∷ key.KdcAnswer ∷ key.Ticket ∷ key.Account ∷ key.Accounts ∷ key.ProxyFail ∷ key.Turns ∷ key.Edit ∷
+    key.ServerPackages ∷ key.ClientUrl ∷ key.Kdc ∷ key.KdcUser ∷ key.KdcAnswer ∷ key.Ticket ∷
+    key.Account ∷ key.Accounts ∷ key.ProxyFail ∷ key.Turns ∷ key.Edit ∷
     key.ClientLeast ∷ key.ServerLeast ∷ []
