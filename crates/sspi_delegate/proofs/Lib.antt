@@ -6,7 +6,7 @@ mod ClientSteps
 mod EndSteps
 mod Exactness
 mod Halves
-mod Headline
+pub mod Headline
 pub mod Histories
 pub mod Heeding
 pub mod HistoryRuns

@@ -34,7 +34,7 @@ use Rattle.sspi_play.specs.Faithful.{behind_tag, client_sealed, server_sealed, o
 use Rattle.sspi_play.specs.History.{GaveIn}
 use Rattle.sspi_play.proofs.ClientSeals.{ClientProof, ClientProofIn, client_proof, seals_once_opened, sealed_in, second_seal}
 use Rattle.sspi_play.proofs.Lists.{last_same, none_last}
-use Rattle.sspi_play.proofs.Parts.{server_split, ServerPlace, server_place, client_noted_later, server_noted_later, AllTurns, all_before}
+use Rattle.sspi_play.proofs.Parts.{server_more, server_split, ServerPlace, server_place, client_noted_later, server_noted_later, AllTurns, all_before}
 use Rattle.sspi_play.proofs.SameTexts.{Same, same_texts, no_client_echo, no_server_echo}
 use Rattle.sspi_play.proofs.ServerSeals.{at_some, at_version, nonce_length, opens_text, ServerProof, ServerProofIn, server_proof, opened_by_proof, one_opened, opened_at_end}
 
@@ -133,13 +133,14 @@ module _ {C : Type 0} (c : Meaning ContextSetting C) (kept : Option C → List (
             parts ∙ ap (λ (l : List Turn). later ++ (t ∷ l)) s.at.parts ∙ sym (append_assoc later (t ∷ s.at.later) (u ∷ s.at.before)) in
         let servers : server_turns turns ≡ server_turns (later ++ (t ∷ s.at.later)) ++ (u ∷ server_turns s.at.before) =
             ap server_turns whole ∙ server_split (later ++ (t ∷ s.at.later)) (u ∷ s.at.before)
-            ∙ ap (λ (l : List Turn). server_turns (later ++ (t ∷ s.at.later)) ++ l) (rw s.end refl) in
+            ∙ ap (λ (l : List Turn). server_turns (later ++ (t ∷ s.at.later)) ++ l) (server_more u s.at.before s.end) in
         let client_seen : client_noted client.least (client_turns turns) ≡ Some p.0.version =
             subst (λ (l : List Turn). client_noted client.least (client_turns l) ≡ Some p.0.version) (sym (whole ∙ sym (append_assoc (later ++ (t ∷ s.at.later)) (u ∷ []) s.at.before)))
             (client_noted_later client.least ((later ++ (t ∷ s.at.later)) ++ (u ∷ [])) s.at.before p.0.version p.0.noted) in
         let server_seen : server_noted server.least (server_turns turns) ≡ Some s.version =
             subst (λ (l : List Turn). server_noted server.least (server_turns l) ≡ Some s.version) (sym whole)
-            (server_noted_later server.least (later ++ (t ∷ s.at.later)) (u ∷ s.at.before) s.version (rw s.end s.noted)) in
+            (server_noted_later server.least (later ++ (t ∷ s.at.later)) (u ∷ s.at.before) s.version
+            (subst (λ (l : List Turn). server_noted server.least l ≡ Some s.version) (sym (server_more u s.at.before s.end)) s.noted)) in
         let same = same_texts client.public_key server.public_key client.nonce (nonce_of u.delivered.client_nonce) p.0.version s.version
             (faithful.no_collision _ _ (by_client whose.Client)
             (by_server whose.Client (server_turns (later ++ (t ∷ s.at.later))) (server_turns s.at.before) u servers))

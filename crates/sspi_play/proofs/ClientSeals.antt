@@ -24,6 +24,7 @@ use Rattle.sspi_delegate.specs.Turns.{GoesOn, AllGoOn}
 use Rattle.sspi_play.specs.Agreement.{TurnOf, HasSealed}
 use Rattle.sspi_play.specs.Faithful.{where_done, proof_text, text_in, behind_tag, client_texts, client_sealed, texts_opened, opened_texts}
 use Rattle.sspi_play.proofs.Lists.{head_of_two, two_are_more}
+use Rattle.sspi_play.proofs.Parts.{client_more, client_skip}
 
 pub is_false : (b : Bool) → (b ≡ true → ⊥) → b ≡ false
 is_false true refuted = absurd (refuted refl)
@@ -163,7 +164,7 @@ module _ {C : Type 0} (c : Meaning ContextSetting C) (e : ClientEnd C) where
   noted_on least x (t ∷ []) version is = absurd (cc (is))
   noted_on least x (t ∷ u ∷ past) version is = is
 
-  turn_on : (t : Turn) (past : List Turn) → TurnOf past → TurnOf (t ∷ past)
+  abbrev turn_on : (t : Turn) (past : List Turn) → TurnOf past → TurnOf (t ∷ past)
   turn_on t past at = record { later = t ∷ at.later; turn = at.turn; before = at.before; parts = ap (λ (l : List Turn). t ∷ l) at.parts }
 
   -- one more turn, of the client or of the server
@@ -173,9 +174,9 @@ module _ {C : Type 0} (c : Meaning ContextSetting C) (e : ClientEnd C) where
     end = p.end;
     proved = p.proved;
     version = p.version;
-    noted = rw is (noted_on e.least t (client_turns past) p.version p.noted);
+    noted = rw (client_more t past is) (noted_on e.least t (client_turns past) p.version p.noted);
     more = client_texts e (client_turns past) t ++ p.more;
-    first = rw is (ap (λ (l : List (List ℕ)). client_texts e (client_turns past) t ++ l) p.first
+    first = rw (client_more t past is) (ap (λ (l : List (List ℕ)). client_texts e (client_turns past) t ++ l) p.first
         ∙ sym (append_assoc (client_texts e (client_turns past) t) p.more (prescribed whose.Client p.version e.nonce e.public_key ∷ [])));
   }
 
@@ -185,10 +186,15 @@ module _ {C : Type 0} (c : Meaning ContextSetting C) (e : ClientEnd C) where
     end = p.end;
     proved = p.proved;
     version = p.version;
-    noted = rw is p.noted;
+    noted = rw (client_skip t past is) p.noted;
     more = p.more;
-    first = rw is p.first;
+    first = rw (client_skip t past is) p.first;
   }
+
+  proof_alone : (t : Turn) (past : List Turn) (version : ℕ) → t.acts.sealed ≡ false → t.acts.proved ≡ true →
+      client_noted e.least (t ∷ past) ≡ Some version → client_sealed e past ≡ [] →
+      client_sealed e (t ∷ past) ≡ prescribed whose.Client version e.nonce e.public_key ∷ []
+  proof_alone t past version un was noted nothing = rw (un, was, noted, nothing) refl
 
   proof_of : (t : Turn) (past : List Turn) → t.end ≡ Client → EachClientTurn c e (t ∷ client_turns past) → NoneProved (client_turns past) →
       client_sealed e (client_turns past) ≡ [] → (proved : Bool) → t.acts.proved ≡ proved → ClientProofIn (t ∷ past)
@@ -209,17 +215,18 @@ module _ {C : Type 0} (c : Meaning ContextSetting C) (e : ClientEnd C) where
             end = is;
             proved = was;
             version = v.0;
-            noted = rw is v.1;
+            noted = ap (λ (l : List Turn). client_noted e.least l) (client_more t past is) ∙ v.1;
             more = [];
-            first = rw is (rw (unsealed_yet, was, v.1, nothing) refl);
+            first = ap (λ (l : List Turn). client_sealed e l) (client_more t past is)
+                ∙ proof_alone t (client_turns past) v.0 unsealed_yet was v.1 nothing;
           })
-      proof_by false was = inl (rw is (was, none), rw is (rw (unsealed_yet, was) nothing))
+      proof_by false was = inl (rw (client_more t past is) (was, none), rw (client_more t past is) (rw (unsealed_yet, was) nothing))
 
   client_proof_by : (t : Turn) (past : List Turn) (end : End) → t.end ≡ end → EachClientTurn c e (onto_client end t (client_turns past)) →
       ClientProofIn past → ClientProofIn (t ∷ past)
   client_proof_by t past Client is each (inl none) = proof_of t past is each none.0 none.1 t.acts.proved refl
   client_proof_by t past Client is each (inr p) = inr (proof_on t past is p)
-  client_proof_by t past Server is each (inl none) = inl (rw is none.0, rw is none.1)
+  client_proof_by t past Server is each (inl none) = inl (rw (client_skip t past is) none.0, rw (client_skip t past is) none.1)
   client_proof_by t past Server is each (inr p) = inr (proof_over t past is p)
 
   each_before : (end : End) (t : Turn) (past : List Turn) → EachClientTurn c e (onto_client end t past) → EachClientTurn c e past
@@ -283,21 +290,21 @@ module _ {C : Type 0} (c : Meaning ContextSetting C) (e : ClientEnd C) where
         delegated = delegated;
         rest = client_sealed e (client_turns past);
         few = few;
-        all = rw is (rw (was, unproved, delegated) refl);
+        all = rw (client_more t past is) (rw (was, unproved, delegated) refl);
       })
-      by (Err error) delegated = inl (rw is (rw (was, unproved, delegated) few))
+      by (Err error) delegated = inl (rw (client_more t past is) (rw (was, unproved, delegated) few))
 
   unsealed_of : (t : Turn) (past : List Turn) → t.end ≡ Client → EachClientTurn c e (t ∷ client_turns past) → AllGoOn (client_turns past) →
       t.acts.sealed ≡ false → (proved : Bool) → t.acts.proved ≡ proved → SealedIn past → SealedIn (t ∷ past)
   unsealed_of t past is each went un true was found =
-      inl (rw is (rw (un, was)
+      inl (rw (client_more t past is) (rw (un, was)
       (one_more t (client_turns past) true (λ yes. proof_first (client_turns past) t each went was)
       (rw (proof_first (client_turns past) t each went was) (omega arith)))))
-  unsealed_of t past is each went un false was found = silent_on t past (rw is (rw (un, was) refl)) found
+  unsealed_of t past is each went un false was found = silent_on t past (rw (client_more t past is) (rw (un, was) refl)) found
 
   sealed_by : (t : Turn) (past : List Turn) (end : End) (sealed : Bool) → t.end ≡ end → t.acts.sealed ≡ sealed →
       EachClientTurn c e (onto_client end t (client_turns past)) → OthersGoOn (onto_client end t (client_turns past)) → SealedIn past → SealedIn (t ∷ past)
-  sealed_by t past Server sealed is was each others found = silent_on t past (rw is refl) found
+  sealed_by t past Server sealed is was each others found = silent_on t past (ap (λ (l : List Turn). client_sealed e l) (client_skip t past is)) found
   sealed_by t past Client true is was each others found = sealed_of t past is each others was (delegated_text e.credentials e.delegation) refl
   sealed_by t past Client false is was each others found = unsealed_of t past is each others was t.acts.proved refl found
 

@@ -1,5 +1,5 @@
 -- The identity that a play gives, after one more turn of the server.
-use Rattle.std.proofs.Common.{◌≡◌, ◌||◌, false, List, [], ◌∷◌, ◌++◌, Option, None, Some, ap, refl}
+use Rattle.std.proofs.Common.{◌≡◌, ◌||◌, ◌∙◌, sym, subst, false, List, [], ◌∷◌, ◌++◌, Option, None, Some, ap, refl}
 use Rattle.sspi_mech.specs.Meaning.{Meaning}
 use Rattle.sspi_names.specs.declared.identity.AuthIdentity.{AuthIdentity}
 use Rattle.sspi_credssp.specs.Context.{ContextSetting}
@@ -17,6 +17,7 @@ use Rattle.sspi_play.specs.declared.played.Ending.{Ending}
 use Rattle.sspi_play.specs.declared.played.Ending.TheVariants.{Running, Refused, Unread}
 use Rattle.sspi_play.specs.Hands.{HasTurn, TurnsSo, EndsSo}
 use Rattle.sspi_play.specs.History.{Gave, GaveIn}
+use Rattle.sspi_play.proofs.Parts.{server_more}
 
 went_unfinished : (out : Outcome) → GoesOn out → is_finished out ≡ false
 went_unfinished (outcome.Reply reply) went = refl
@@ -50,7 +51,9 @@ module _ {C P : Type 0} (c : Meaning ContextSetting C) (p : ProxyMeaning P) wher
       Gave c p first identity (server_turns new)
   gave_turn first identity P2 bytes turns [] un h gave = absurd h.1
   gave_turn first identity P2 bytes turns (t ∷ before) un h gave =
-      rw (h.1.1, h.1.0) (gave_more first identity t (server_turns turns) (un t.outcome h.1.3) gave)
+      subst (λ (l : List Turn). Gave c p first identity l)
+      (sym (server_more t before h.1.1 ∙ ap (λ (l : List Turn). t ∷ server_turns l) h.1.0))
+      (gave_more first identity t (server_turns turns) (un t.outcome h.1.3) gave)
 
   pub gave_on : (first : ServerView C P) (identity : Option AuthIdentity) (ending : Ending) (bytes : _) (turns new : List Turn) →
       EndsSo Server IsServerRefusal false bytes ending turns new → Gave c p first identity (server_turns turns) → Gave c p first identity (server_turns new)
@@ -63,12 +66,13 @@ module _ {C P : Type 0} (c : Meaning ContextSetting C) (p : ProxyMeaning P) wher
   pub gave_now : (first now : ServerView C P) (identity : AuthIdentity) (bytes : _) (turns new : List Turn) →
       TurnsSo Server false bytes IsFinished turns new → ServerGave c p first identity (server_turns new) now → Gave c p first (Some identity) (server_turns new)
   gave_now first now identity bytes turns [] h gave = absurd h.1
-  gave_now first now identity bytes turns (t ∷ before) h gave = rw h.1.1 (record {
-    later = [];
-    turn = t;
-    before = server_turns before;
-    parts = refl;
-    finished = h.1.3;
-    server = now;
-    gave = rw h.1.1 at gave;
-  })
+  gave_now first now identity bytes turns (t ∷ before) h gave =
+      subst (λ (l : List Turn). Gave c p first (Some identity) l) (sym (server_more t before h.1.1)) (record {
+        later = [];
+        turn = t;
+        before = server_turns before;
+        parts = refl;
+        finished = h.1.3;
+        server = now;
+        gave = subst (λ (l : List Turn). ServerGave c p first identity l now) (server_more t before h.1.1) gave;
+      })

@@ -5,6 +5,7 @@ pub mod Histories
 pub mod Lists
 pub mod Order
 pub mod Parts
+pub mod Runs
 pub mod SameTexts
 pub mod ServerSeals
 pub mod Steps

@@ -15,6 +15,18 @@ use Rattle.sspi_play.proofs.Lists.{head_same, tail_same}
 
 -- ---- the turns of an end
 
+pub client_more : (t : Turn) (past : List Turn) → t.end ≡ Client → client_turns (t ∷ past) ≡ t ∷ client_turns past
+client_more t past is = ap (λ (e : End). onto_client e t (client_turns past)) is
+
+pub client_skip : (t : Turn) (past : List Turn) → t.end ≡ Server → client_turns (t ∷ past) ≡ client_turns past
+client_skip t past is = ap (λ (e : End). onto_client e t (client_turns past)) is
+
+pub server_more : (t : Turn) (past : List Turn) → t.end ≡ Server → server_turns (t ∷ past) ≡ t ∷ server_turns past
+server_more t past is = ap (λ (e : End). onto_server e t (server_turns past)) is
+
+pub server_skip : (t : Turn) (past : List Turn) → t.end ≡ Client → server_turns (t ∷ past) ≡ server_turns past
+server_skip t past is = ap (λ (e : End). onto_server e t (server_turns past)) is
+
 onto_server_more : (end : End) (t : Turn) (a b : List Turn) → onto_server end t (a ++ b) ≡ onto_server end t a ++ b
 onto_server_more Client t a b = refl
 onto_server_more Server t a b = refl

@@ -26,6 +26,7 @@ use Rattle.sspi_delegate.specs.Turns.{IsUnrefused, NoneRefused}
 use Rattle.sspi_play.specs.Agreement.{TurnOf, OpensBehindTag}
 use Rattle.sspi_play.specs.Faithful.{where_done, proof_text, behind_tag, server_texts, server_sealed, texts_opened, opened_texts}
 use Rattle.sspi_play.proofs.ClientSeals.{is_false, or_false, and_not}
+use Rattle.sspi_play.proofs.Parts.{server_more, server_skip}
 
 state_auth : (finished proved over : Bool) →
     (if finished then Final else (if proved then AuthInfo else (if over then PubKeyInfo else NegoToken))) ≡ AuthInfo → (finished ≡ false) × (proved ≡ true)
@@ -145,7 +146,7 @@ module _ {C : Type 0} (c : Meaning ContextSetting C) (s : ServerEnd C) where
   abbrev pub ServerProofIn : List Turn → Type 0
   ServerProofIn turns = (NoneProved (server_turns turns) × (server_sealed s (server_turns turns) ≡ [])) ⊎ ServerProof turns
 
-  turn_on : (t : Turn) (past : List Turn) → TurnOf past → TurnOf (t ∷ past)
+  abbrev turn_on : (t : Turn) (past : List Turn) → TurnOf past → TurnOf (t ∷ past)
   turn_on t past at = record { later = t ∷ at.later; turn = at.turn; before = at.before; parts = ap (λ (l : List Turn). t ∷ l) at.parts }
 
   proof_on : (t : Turn) (past : List Turn) → t.end ≡ Server → ServerProof past → ServerProof (t ∷ past)
@@ -157,7 +158,7 @@ module _ {C : Type 0} (c : Meaning ContextSetting C) (s : ServerEnd C) where
     version = p.version;
     noted = p.noted;
     more = server_texts s (server_turns past) t ++ p.more;
-    first = rw is (ap (λ (l : List (List ℕ)). server_texts s (server_turns past) t ++ l) p.first
+    first = rw (server_more t past is) (ap (λ (l : List (List ℕ)). server_texts s (server_turns past) t ++ l) p.first
         ∙ sym (append_assoc (server_texts s (server_turns past) t) p.more
         (prescribed whose.Server p.version (nonce_of p.at.turn.delivered.client_nonce) s.public_key ∷ [])));
   }
@@ -171,8 +172,13 @@ module _ {C : Type 0} (c : Meaning ContextSetting C) (s : ServerEnd C) where
     version = p.version;
     noted = p.noted;
     more = p.more;
-    first = rw is p.first;
+    first = rw (server_skip t past is) p.first;
   }
+
+  proof_alone : (t : Turn) (past : List Turn) (version : ℕ) → t.acts.proved ≡ true → server_noted s.least (t ∷ past) ≡ Some version →
+      server_sealed s past ≡ [] →
+      server_sealed s (t ∷ past) ≡ prescribed whose.Server version (nonce_of t.delivered.client_nonce) s.public_key ∷ []
+  proof_alone t past version was noted nothing = rw (was, noted, nothing) refl
 
   proof_of : (t : Turn) (past : List Turn) (proved : Bool) → t.end ≡ Server → EachServerTurn c s (t ∷ server_turns past) → NoneProved (server_turns past) →
       server_sealed s (server_turns past) ≡ [] → t.acts.proved ≡ proved → ServerProofIn (t ∷ past)
@@ -186,13 +192,13 @@ module _ {C : Type 0} (c : Meaning ContextSetting C) (s : ServerEnd C) where
         version = v.0;
         noted = v.1;
         more = [];
-        first = rw is (rw (was, v.1, nothing) refl);
+        first = ap (λ (l : List Turn). server_sealed s l) (server_more t past is) ∙ proof_alone t (server_turns past) v.0 was v.1 nothing;
       })
-  proof_of t past false is each none nothing was = inl (rw is (was, none), rw is (rw was nothing))
+  proof_of t past false is each none nothing was = inl (rw (server_more t past is) (was, none), rw (server_more t past is) (rw was nothing))
 
   server_proof_by : (t : Turn) (past : List Turn) (end : End) → t.end ≡ end → EachServerTurn c s (onto_server end t (server_turns past)) →
       ServerProofIn past → ServerProofIn (t ∷ past)
-  server_proof_by t past Client is each (inl none) = inl (rw is none.0, rw is none.1)
+  server_proof_by t past Client is each (inl none) = inl (rw (server_skip t past is) none.0, rw (server_skip t past is) none.1)
   server_proof_by t past Client is each (inr p) = inr (proof_over t past is p)
   server_proof_by t past Server is each (inl none) = proof_of t past t.acts.proved is each none.0 none.1 refl
   server_proof_by t past Server is each (inr p) = inr (proof_on t past is p)
@@ -209,7 +215,7 @@ module _ {C : Type 0} (c : Meaning ContextSetting C) (s : ServerEnd C) where
 
   -- the turn before the one that finished is the one that proved
   unproved_yet : (past : List Turn) (state : CredSspState) → server_state past ≡ state → (state ≡ AuthInfo → ⊥) → any_finished past ≡ false → any_proved past ≡ false
-  unproved_yet past state is no finished = is_false (any_proved past) (λ was. no (sym is ∙ (rw (finished, was) refl)))
+  unproved_yet past state is never finished = is_false (any_proved past) (λ was. never (sym is ∙ (rw (finished, was) refl)))
 
   not_auth : (f : ServerFrame C) (t : Turn) (state : CredSspState) (reply : TsRequest) → ShowsStateBack (server_shown f) t state reply → state ≡ AuthInfo → ⊥
   not_auth f t NegoToken reply h is = absurd (cc (is))

@@ -14,7 +14,10 @@ use Rattle.sspi_credssp.specs.declared.turn.Turn.{Turn}
 use Rattle.sspi_delegate.specs.declared.answer.DelegateError.{DelegateError}
 use Rattle.sspi_delegate.specs.declared.answer.DelegateError.TheVariants as errors
 use Rattle.sspi_delegate.specs.Causes.{IsClientRefusal, IsServerRefusal, IsFinished}
+use Rattle.sspi_delegate.specs.Recorded.{PushedSuch}
 use Rattle.sspi_delegate.specs.Turns.{GoesOn}
+use Rattle.sspi_play.specs.declared.hand.Handed.{Handed}
+use Rattle.sspi_play.specs.declared.hand.Handed.TheVariants as handed
 use Rattle.sspi_play.specs.declared.hand.Standing.{Standing}
 use Rattle.sspi_play.specs.declared.played.Delivery.{Delivery}
 use Rattle.sspi_play.specs.declared.played.Ending.{Ending}
@@ -33,14 +36,31 @@ unread_is start bytes wire.ReadFault other h = absurd h
 unread_is start bytes wire.WriteFault other h = absurd h
 unread_is start bytes wire.InsufficientMemory other h = absurd (other refl)
 
+-- the turn that a round adds
+pub pushed_turn : (end : End) (start : Bool) (bytes : List ℕ) (request : TsRequest) (P : Outcome → Type 0) (old new : List Turn) →
+    RequestIs start bytes (Ok request) → PushedSuch end request P old new → TurnsSo end start bytes P old new
+pushed_turn end start bytes request P old [] given pushed = absurd pushed
+pushed_turn end start bytes request P old (t ∷ past) given pushed =
+    (given.1, (pushed.0, pushed.1, subst (λ (r : TsRequest). IsGiven start bytes r) (sym pushed.2) given.0, pushed.3))
+
 -- an end that refused, by what is answered
 pub client_ended : (start : Bool) (bytes : List ℕ) (kind : ErrorKind) (answer : Result Ending DelegateError) (old new : List Turn) → EndsBy kind answer →
     TurnsSo Client start bytes (IsClientRefusal kind) old new → ClientHands start bytes answer old new
-client_ended start bytes kind (Ok ending) old new by turns =
-    rw by.0 (subst (λ (k : ErrorKind). k ≢ kinds.InsufficientMemory) refl by.1, turns)
+client_ended start bytes kind (Ok ending) old new by turns = rw by.0 (by.1, turns)
 client_ended start bytes kind (Err error) old new by turns = record {
   error_is = by.0;
   turns = inr (subst (λ (k : ErrorKind). TurnsSo Client start bytes (IsClientRefusal k) old new) by.1 turns);
+}
+
+pub server_ended : (bytes : List ℕ) (kind : ErrorKind) (ending : Ending) (old new : List Turn) → EndsBy kind (Ok ending) →
+    TurnsSo Server false bytes (IsServerRefusal kind) old new → ServerHands bytes (Ok (handed.Stands ending)) old new
+server_ended bytes kind ending old new by turns = rw by.0 (by.1, turns)
+
+pub server_lacks : (bytes : List ℕ) (kind : ErrorKind) (error : DelegateError) (old new : List Turn) → EndsBy kind (Err error) →
+    TurnsSo Server false bytes (IsServerRefusal kind) old new → ServerHands bytes (Err error) old new
+server_lacks bytes kind error old new by turns = record {
+  error_is = by.0;
+  turns = inr (subst (λ (k : ErrorKind). TurnsSo Server false bytes (IsServerRefusal k) old new) by.1 turns);
 }
 
 -- ---- how a turn leaves an end
@@ -126,15 +146,15 @@ client_turned d past P ending turns (t ∷ before) standing to running want by h
 pub client_stands : (d : Delivery) (past : List Delivery) (start : Bool) (ending : Ending) (turns new : List Turn) (standing : Standing) → d.to ≡ Client →
     start ≡ not standing.begun → standing.played.client ≡ Running → EndsSo Client IsClientRefusal start d.bytes ending turns new →
     Stands past turns standing → Stands (d ∷ past) new (record { begun = true; played = record standing.played { client = ending } })
-client_stands d past start Running turns new standing to begins running h stands =
+client_stands d past start Running turns new standing to started running h stands =
     client_turned d past GoesOn Running turns new standing to running tt went_ending
-    (subst (λ (s : Bool). TurnsSo Client s d.bytes GoesOn turns new) (begins ∙ ap not stands.begun) h) stands
-client_stands d past start (Refused kind) turns new standing to begins running h stands =
+    (subst (λ (s : Bool). TurnsSo Client s d.bytes GoesOn turns new) (started ∙ ap not stands.begun) h) stands
+client_stands d past start (Refused kind) turns new standing to started running h stands =
     client_turned d past (IsClientRefusal kind) (Refused kind) turns new standing to running h.0 (client_refused_ending kind)
-    (subst (λ (s : Bool). TurnsSo Client s d.bytes (IsClientRefusal kind) turns new) (begins ∙ ap not stands.begun) h.1) stands
-client_stands d past start (Unread kind) turns new standing to begins running h stands =
+    (subst (λ (s : Bool). TurnsSo Client s d.bytes (IsClientRefusal kind) turns new) (started ∙ ap not stands.begun) h.1) stands
+client_stands d past start (Unread kind) turns new standing to started running h stands =
     let read : unread_kind (is_start Client past) d.bytes ≡ Some kind =
-    subst (λ (s : Bool). unread_kind s d.bytes ≡ Some kind) (begins ∙ ap not stands.begun) h.0 in
+    subst (λ (s : Bool). unread_kind s d.bytes ≡ Some kind) (started ∙ ap not stands.begun) h.0 in
     let ending = is_unread Client d past turns kind to (sym stands.client ∙ running) read in
     subst (λ (l : List Turn). Stands (d ∷ past) l (record { begun = true; played = record standing.played { client = Unread kind } })) (sym h.1)
     (record {
@@ -164,10 +184,10 @@ client_passed d past turns standing to stopped stands =
 pub client_stops : (d : Delivery) (past : List Delivery) (start : Bool) (error : DelegateError) (turns new : List Turn) (standing : Standing) → d.to ≡ Client →
     start ≡ not standing.begun → standing.played.client ≡ Running → LacksSo Client IsClientRefusal start d.bytes error turns new →
     Stands past turns standing → StopsAt d past new
-client_stops d past start error turns new standing to begins running h stands = elim h.turns [
+client_stops d past start error turns new standing to started running h stands = elim h.turns [
   | inl none ↦ inl (subst (λ (l : List Turn). Plays past l) (sym none) stands.plays)
   | inr turn ↦ inr (has_plays Client d past (IsClientRefusal kinds.InsufficientMemory) turns new to (sym stands.client ∙ running)
-      (subst (λ (s : Bool). TurnsSo Client s d.bytes (IsClientRefusal kinds.InsufficientMemory) turns new) (begins ∙ ap not stands.begun) turn) stands.plays)
+      (subst (λ (s : Bool). TurnsSo Client s d.bytes (IsClientRefusal kinds.InsufficientMemory) turns new) (started ∙ ap not stands.begun) turn) stands.plays)
 ]
 
 -- ---- a delivery to the server

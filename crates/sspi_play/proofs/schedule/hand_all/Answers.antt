@@ -1,0 +1,1 @@
+use Rattle.sspi_play.proofs.schedule.hand_all.Goals as goal
