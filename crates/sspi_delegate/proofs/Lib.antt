@@ -1,5 +1,5 @@
 mod Alternating
-mod Asking
+pub mod Asking
 pub mod Chained
 mod ClientOver
 mod ClientSteps
@@ -16,6 +16,6 @@ mod ProxyCalls
 mod Reading
 mod Recording
 mod Refused
-mod Refusing
+pub mod Refusing
 mod ServerOver
 mod ServerSteps

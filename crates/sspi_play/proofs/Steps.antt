@@ -1,5 +1,5 @@
 -- How a play stands after one more delivery.
-use Rattle.std.proofs.Common.{◌≡◌, ◌≢◌, ℕ, ◌⊎◌, inl, inr, List, [], ◌∷◌, Option, None, Some, Result, Ok, Err, Bool, true, false, ◌||◌, not, sym, ◌∙◌, ap, subst, refl}
+use Rattle.std.proofs.Common.{◌≡◌, ◌≢◌, ◌<◌, ◌≤◌, ◌+◌, ℕ, length, take, reverse, get_or, arith, ◌⊎◌, inl, inr, List, [], ◌∷◌, Option, None, Some, Result, Ok, Err, Bool, true, false, ◌||◌, not, sym, ◌∙◌, ap, subst, refl}
 use Rattle.sspi_types.specs.declared.error_kind.ErrorKind.{ErrorKind}
 use Rattle.sspi_types.specs.declared.error_kind.ErrorKind.TheVariants as kinds
 use Rattle.sspi_names.specs.declared.identity.AuthIdentity.{AuthIdentity}
@@ -24,7 +24,8 @@ use Rattle.sspi_play.specs.declared.played.Ending.{Ending}
 use Rattle.sspi_play.specs.declared.played.Ending.TheVariants.{Running, Refused, Unread}
 use Rattle.sspi_play.specs.Hands.{RequestIs, EndsBy, HasTurn, TurnsSo, EndsSo, LacksSo, ClientHands, ServerHands, IsNoWant, Stands, StopsAt}
 use Rattle.sspi_play.specs.Plays.{is_for, any_for, is_start, unread_kind, refusal_in, ending_by, ending_of, IsGiven, Plays, begins, takes, passes}
-use Rattle.sspi_play.proofs.Order.{still_runs, is_unread, stays, server_apart, client_apart, client_after, server_after, server_beside, client_beside}
+use Rattle.sspi_play.specs.Played.{PlaysFront}
+use Rattle.sspi_play.proofs.Order.{reverse_more, reverse_all, still_runs, is_unread, stays, server_apart, client_apart, client_after, server_after, server_beside, client_beside}
 
 -- ---- the request of a delivery
 
@@ -113,8 +114,11 @@ has_plays : (end : End) (d : Delivery) (past : List Delivery) (P : Outcome → T
 has_plays end d past P turns [] to runs h plays = absurd h.1
 has_plays end d past P turns (t ∷ before) to runs h plays = turn_plays end d past t before turns to h.1.0 h.1.1 runs h.0 h.1.2 plays
 
-unread_stops : (ending : Ending) (kind : WireKind) → ending ≡ Unread kind → ending ≢ Running
+pub unread_stops : (ending : Ending) (kind : WireKind) → ending ≡ Unread kind → ending ≢ Running
 unread_stops ending kind is runs = absurd (cc (is, runs))
+
+pub refused_stops : (ending : Ending) (kind : ErrorKind) → ending ≡ Refused kind → ending ≢ Running
+refused_stops ending kind is runs = absurd (cc (is, runs))
 
 begun_more : (d : Delivery) (past : List Delivery) → d.to ≡ Client → true ≡ any_for Client (d ∷ past)
 begun_more d past to = rw to refl
@@ -265,3 +269,24 @@ server_stops d past error turns new standing to running h stands = elim h.turns 
   | inl none ↦ inl (subst (λ (l : List Turn). Plays past l) (sym none) stands.plays)
   | inr turn ↦ inr (has_plays Server d past (IsServerRefusal kinds.InsufficientMemory) turns new to (sym stands.server ∙ running) turn stands.plays)
 ]
+
+-- ---- from the first delivery to the last
+
+pub first_stands : (turns : List Turn) → turns ≡ [] →
+    Stands [] turns (record { begun = false; played = record { client = Running; server = Running; identity = None } })
+first_stands turns empty =
+    subst (λ (l : List Turn). Stands [] l (record { begun = false; played = record { client = Running; server = Running; identity = None } })) (sym empty)
+    (record { plays = begins; begun = refl; client = refl; server = refl; client_kind = tt; server_kind = tt })
+
+pub front_of : (schedule : List Delivery) (n : ℕ) (d : Delivery) (turns : List Turn) → n < length schedule → d ≡ get_or schedule n d →
+    StopsAt d (reverse (take n schedule)) turns → PlaysFront schedule turns
+front_of schedule n d turns here is (inl plays) = record { handed = n; within = omega arith; plays = plays }
+front_of schedule n d turns here is (inr plays) = record {
+  handed = n + 1;
+  within = omega arith;
+  plays = subst (λ (l : List Delivery). Plays l turns) (sym (reverse_more schedule n d here is)) plays;
+}
+
+pub all_stands : (schedule : List Delivery) (n : ℕ) (turns : List Turn) (standing : Standing) → length schedule ≤ n →
+    Stands (reverse (take n schedule)) turns standing → Stands (reverse schedule) turns standing
+all_stands schedule n turns standing most stands = subst (λ (l : List Delivery). Stands l turns standing) (reverse_all schedule n most) stands
