@@ -2,13 +2,34 @@
 use Rattle.std.proofs.Common.{List, [], ◌∷◌}
 use Rattle.sspi_credssp.specs.declared.turn.End.{End}
 use Rattle.sspi_credssp.specs.declared.turn.End.TheVariants.{Client, Server}
+use Rattle.sspi_credssp.specs.declared.turn.Outcome.{Outcome}
+use Rattle.sspi_credssp.specs.declared.turn.Outcome.TheVariants as outcome
 use Rattle.sspi_credssp.specs.declared.turn.Turn.{Turn}
-use Rattle.sspi_delegate.specs.EndTurns.{onto_client, onto_server, client_turns, server_turns, OthersGoOn}
-use Rattle.sspi_delegate.specs.Turns.{GoesOn, AllGoOn, Alternates}
+use Rattle.sspi_delegate.specs.EndTurns.{onto_client, onto_server, client_turns, server_turns, OthersGoOn, OthersUnrefused}
+use Rattle.sspi_delegate.specs.Turns.{GoesOn, AllGoOn, IsUnrefused, NoneRefused, Alternates}
 
 pub others_go : (past : List Turn) → AllGoOn past → OthersGoOn past
 others_go [] going = tt
 others_go (t ∷ past) going = going.1
+
+-- a turn that went on was not refused
+pub went_unrefused : (out : Outcome) → GoesOn out → IsUnrefused out
+went_unrefused (outcome.Reply reply) went = tt
+went_unrefused (outcome.Final reply) went = tt
+went_unrefused outcome.Finished went = absurd went
+went_unrefused (outcome.Refused kind reply) went = absurd went
+
+pub all_unrefused : (turns : List Turn) → AllGoOn turns → NoneRefused turns
+all_unrefused [] going = tt
+all_unrefused (t ∷ past) going = (went_unrefused t.outcome going.0, all_unrefused past going.1)
+
+pub rest_unrefused : (turns : List Turn) → NoneRefused turns → OthersUnrefused turns
+rest_unrefused [] unrefused = tt
+rest_unrefused (t ∷ past) unrefused = unrefused.1
+
+pub others_unrefused : (turns : List Turn) → OthersGoOn turns → OthersUnrefused turns
+others_unrefused [] others = tt
+others_unrefused (t ∷ past) others = all_unrefused past others
 
 client_onto : (e : End) (t : Turn) (past : List Turn) → GoesOn t.outcome → AllGoOn past → AllGoOn (onto_client e t past)
 client_onto Client t past h rest = (h, rest)

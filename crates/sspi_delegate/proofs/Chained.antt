@@ -30,10 +30,10 @@ use Rattle.sspi_delegate.specs.declared.answer.DelegateError.{DelegateError}
 use Rattle.sspi_delegate.specs.declared.answer.DelegateError.TheVariants as errors
 use Rattle.sspi_delegate.specs.Asking.{KdcCalls}
 use Rattle.sspi_delegate.specs.Chain.{client_stage, client_at, ClientStepped, ClientRested, ClientMovedBy, ClientChain, ClientChainLeft, at_rest, waiting, ClientChained, server_stage, server_at, ServerStepped, ServerRested, ServerMovedBy, ServerChain}
-use Rattle.sspi_delegate.specs.EndTurns.{OthersGoOn}
+use Rattle.sspi_delegate.specs.EndTurns.{OthersGoOn, OthersUnrefused}
 use Rattle.sspi_delegate.specs.History.{ClientMakes, ClientHistory, ClientStopped, ClientLeft, between, ClientStops, ClientPast, ServerMakes, ServerHistory, ServerPast}
 use Rattle.sspi_delegate.specs.History as history
-use Rattle.sspi_delegate.proofs.Alternating.{others_go}
+use Rattle.sspi_delegate.proofs.Alternating.{others_go, rest_unrefused}
 use Rattle.sspi_delegate.proofs.Histories.{client_stopped_history, server_past_history}
 use Rattle.sspi_delegate.proofs.HistoryRuns.{history_follows, history_ran, history_proxy, server_history_follows, server_history_ran}
 
@@ -280,12 +280,12 @@ module _ {C : Type 0} (c : Meaning ContextSetting C) where
           (subst (λ (e : _). ServerTurn c old d (outcome.Refused e reply) mid) (sym makes.1) makes.2) makes.3.step)
 
       module _ (law : IsContext c) (fresh : IsFreshServer first) where
-        pub server_chained : (now : ServerView C P) (turns : List Turn) → OthersGoOn turns → ServerHistory c p first turns now →
+        pub server_chained : (now : ServerView C P) (turns : List Turn) → OthersUnrefused turns → ServerHistory c p first turns now →
             ServerChain c p first turns (server_stage now)
         server_chained now [] others h = rw h refl
         server_chained now (t ∷ past) others h =
             let made = h.2 in
-            let before = server_chained h.0 past (others_go past others) h.1 in
+            let before = server_chained h.0 past (rest_unrefused past others) h.1 in
             let same = (server_history_follows c law p first h.0 past fresh others h.1).ran.same in
             let entries = sym (history_proxy c law p first h.0 past h.1).told_same in
             let ran = server_history_ran c law p first now (t ∷ past) fresh others h in (
@@ -302,7 +302,7 @@ module _ {C : Type 0} (c : Meaning ContextSetting C) where
               },
             )
 
-        pub server_past_chained : (now : ServerView C P) (turns : List Turn) (result : Result Delegation DelegateError) → OthersGoOn turns →
+        pub server_past_chained : (now : ServerView C P) (turns : List Turn) (result : Result Delegation DelegateError) → OthersUnrefused turns →
             ServerPast c p first result turns now → ServerChain c p first turns (server_stage now)
         server_past_chained now turns result others past =
             server_chained now turns others (server_past_history c p first now turns result past)

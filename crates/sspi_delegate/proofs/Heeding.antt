@@ -25,11 +25,11 @@ use Rattle.sspi_delegate.specs.declared.answer.DelegateError.{DelegateError}
 use Rattle.sspi_delegate.specs.declared.answer.DelegateError.TheVariants as errors
 use Rattle.sspi_delegate.specs.Asking.{KdcCalls}
 use Rattle.sspi_delegate.specs.ClientRun.{client_noted, ClientEnd, client_end, EachClientTurn, HasBegun, ClientFollows}
-use Rattle.sspi_delegate.specs.EndTurns.{OthersGoOn}
+use Rattle.sspi_delegate.specs.EndTurns.{OthersGoOn, OthersUnrefused}
 use Rattle.sspi_delegate.specs.Heeded.{is_first, is_second, IsDowngrade, FindsOldServer, FindsOldClient, HeedsServer, HeedsClient, EachHeedsServer, EachHeedsClient}
 use Rattle.sspi_delegate.specs.History.{ClientMakes, ClientHistory, ClientLeft, between, waiting, ClientStops, ClientPast, ServerMakes, ServerHistory, ServerPast}
 use Rattle.sspi_delegate.specs.ServerRun.{server_noted, ServerEnd, server_end, EachServerTurn, ServerFollows}
-use Rattle.sspi_delegate.specs.Turns.{GoesOn, AllGoOn}
+use Rattle.sspi_delegate.specs.Turns.{GoesOn, AllGoOn, IsUnrefused, NoneRefused}
 use Rattle.sspi_delegate.proofs.ClientSteps.{client_underway, noted_by_two}
 use Rattle.sspi_delegate.proofs.Histories.{client_stopped_history, server_past_history}
 use Rattle.sspi_delegate.proofs.HistoryRuns.{client_turn_of, client_went, history_follows, server_turn_of, server_went, server_history_follows}
@@ -52,6 +52,12 @@ goes_apart (outcome.Reply reply) goes h = h
 goes_apart (outcome.Final reply) goes h = h
 goes_apart outcome.Finished goes h = h
 goes_apart (outcome.Refused kind reply) goes h = goes
+
+unrefused_apart : (out : Outcome) → IsUnrefused out → IsDowngrade out → ⊥
+unrefused_apart (outcome.Reply reply) un h = h
+unrefused_apart (outcome.Final reply) un h = h
+unrefused_apart outcome.Finished un h = h
+unrefused_apart (outcome.Refused kind reply) un h = un
 
 old_in : {C : Type 0} (context : Option C) (least : ℕ) (noted : Option ℕ) (version : ℕ) → IsSome context → noted ≡ None →
     nat_lt version least ≡ true → is_old_in context least noted version ≡ true
@@ -178,12 +184,12 @@ module _ {C : Type 0} (c : Meaning ContextSetting C) where
   first_noted context least t [] noted found = young_noted least t.delivered.version noted found.old
   first_noted context least t (u ∷ past) noted found = let s = found.first in absurd (cc (s))
 
-  went_heeds_client : (context : Option C) (e : ServerEnd C) (past : List Turn) → EachServerTurn c e past → AllGoOn past → EachHeedsClient c context e.least past
+  went_heeds_client : (context : Option C) (e : ServerEnd C) (past : List Turn) → EachServerTurn c e past → NoneRefused past → EachHeedsClient c context e.least past
   went_heeds_client context e [] each going = tt
   went_heeds_client context e (t ∷ past) each going = (
     record {
       refuses = λ found. absurd (first_noted context e.least t past (noted_by_one c e t past each going) found);
-      only = λ never is. absurd (goes_apart t.outcome going.0 is);
+      only = λ never is. absurd (unrefused_apart t.outcome going.0 is);
     },
     went_heeds_client context e past each.1 going.1,
   )
@@ -194,7 +200,7 @@ module _ {C : Type 0} (c : Meaning ContextSetting C) where
   met_first old (u ∷ past) version noted first below = absurd (cc (first))
 
   found_first : {P : Type 0} (old : ServerView C P) (past : List Turn) (version : ℕ) → old.noted ≡ server_noted old.least past →
-      EachServerTurn c (server_end old) past → AllGoOn past → is_old old.least old.noted version ≡ true →
+      EachServerTurn c (server_end old) past → NoneRefused past → is_old old.least old.noted version ≡ true →
       (is_first past ≡ true) × (nat_lt version old.least ≡ true)
   found_first old [] version noted each going met = (refl, rw noted at met)
   found_first old (u ∷ past) version noted each going met =
@@ -205,7 +211,7 @@ module _ {C : Type 0} (c : Meaning ContextSetting C) where
         ServerMakes c p old d out mid → mid.least ≡ old.least → HeedsClient c mid.context mid.least past (server_turn c d out mid)
     newest_heeds_client first old mid past d (outcome.Reply reply) follows makes same =
         let after = server_went c law p first old mid past d (outcome.Reply reply) tt follows makes in
-        (went_heeds_client mid.context (server_end mid) (server_turn c d (outcome.Reply reply) mid ∷ past) after.ran.each after.going).0
+        (went_heeds_client mid.context (server_end mid) (server_turn c d (outcome.Reply reply) mid ∷ past) after.ran.each after.unrefused).0
     newest_heeds_client first old mid past d (outcome.Final reply) follows makes same = absurd makes
     newest_heeds_client first old mid past d outcome.Finished follows makes same =
         let t : Turn = server_turn c d outcome.Finished mid in
@@ -224,11 +230,11 @@ module _ {C : Type 0} (c : Meaning ContextSetting C) where
           });
           only = λ never is.
               let met = server_met c never p ServerState old d error mid (λ some. (makes.2.moves.handle some).1) why.cause why.step (makes.1 ∙ is) in
-              let found = found_first old past d.version follows.noted follows.ran.each follows.going met.old in
+              let found = found_first old past d.version follows.noted follows.ran.each follows.unrefused met.old in
               record { first = found.0; begun = met.begun; old = rw same (ltb-true d.version old.least found.1) };
         }
 
-    server_history_heeds : (first now : ServerView C P) (turns : List Turn) → IsFreshServer first → OthersGoOn turns →
+    server_history_heeds : (first now : ServerView C P) (turns : List Turn) → IsFreshServer first → OthersUnrefused turns →
         ServerHistory c p first turns now → EachHeedsClient c now.context now.least turns
     server_history_heeds first now [] fresh others h = tt
     server_history_heeds first now (t ∷ past) fresh others h =
@@ -241,10 +247,10 @@ module _ {C : Type 0} (c : Meaning ContextSetting C) where
               (newest_heeds_client first h.0 made.mid past t.delivered t.outcome follows made.makes same)),
           subst (λ (v : ServerView C P). EachHeedsClient c v.context v.least past) (sym made.rest)
               (subst (λ (n : ℕ). EachHeedsClient c made.mid.context n past) (sym same)
-              (went_heeds_client made.mid.context (server_end h.0) past follows.ran.each follows.going)),
+              (went_heeds_client made.mid.context (server_end h.0) past follows.ran.each follows.unrefused)),
         )
 
     pub server_past_heeds : (first now : ServerView C P) (turns : List Turn) (result : Result Delegation DelegateError) → IsFreshServer first →
-        OthersGoOn turns → ServerPast c p first result turns now → EachHeedsClient c now.context now.least turns
+        OthersUnrefused turns → ServerPast c p first result turns now → EachHeedsClient c now.context now.least turns
     server_past_heeds first now turns result fresh others past =
         server_history_heeds first now turns fresh others (server_past_history c p first now turns result past)

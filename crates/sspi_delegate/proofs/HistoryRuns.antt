@@ -14,15 +14,15 @@ use Rattle.sspi_delegate.specs.declared.answer.DelegateError.{DelegateError}
 use Rattle.sspi_delegate.specs.declared.answer.DelegateError.TheVariants as errors
 use Rattle.sspi_delegate.specs.Asking.{KdcCalls}
 use Rattle.sspi_delegate.specs.ClientRun.{ClientRan, ClientFollows}
-use Rattle.sspi_delegate.specs.EndTurns.{OthersGoOn}
-use Rattle.sspi_delegate.specs.Turns.{GoesOn, AllGoOn}
+use Rattle.sspi_delegate.specs.EndTurns.{OthersGoOn, OthersUnrefused}
+use Rattle.sspi_delegate.specs.Turns.{GoesOn, AllGoOn, IsUnrefused, NoneRefused}
 use Rattle.sspi_delegate.specs.History.{ClientMakes, ClientHistory, ClientLeft, between, waiting, ClientStops, ClientPast, ServerMakes, ServerHistory, ServerPast}
 use Rattle.sspi_delegate.specs.Refusals.{ProxyStays}
 use Rattle.sspi_delegate.specs.ServerRun.{ServerRan, ServerFollows, server_end, GivesNewest}
 use Rattle.sspi_delegate.proofs.ClientSteps.{client_fresh, client_turned, client_replied, client_ended, client_underway, client_emptied}
 use Rattle.sspi_delegate.proofs.Histories.{client_stopped_history, server_past_history}
 use Rattle.sspi_delegate.proofs.Refusing.{proxy_on, proxy_asked}
-use Rattle.sspi_delegate.proofs.ServerSteps.{server_fresh, server_turned, server_follows, server_emptied}
+use Rattle.sspi_delegate.proofs.ServerSteps.{server_fresh, server_turned, server_follows, server_finished, server_emptied}
 use Rattle.sspi_credssp.specs.declared.turn.Outcome.{Outcome}
 use Rattle.sspi_credssp.specs.declared.turn.Outcome.TheVariants as outcome
 use Rattle.sspi_credssp.specs.declared.turn.Turn.{Turn}
@@ -107,7 +107,7 @@ module _ {C : Type 0} (c : Meaning ContextSetting C) (law : IsContext c) where
       ran = server_emptied c first now past follows.ran;
       state = follows.state;
       noted = follows.noted;
-      going = follows.going;
+      unrefused = follows.unrefused;
     }
 
     pub server_turn_of : (old mid : ServerView C P) (d : TsRequest) (out : Outcome) → ServerMakes c p old d out mid → ServerTurn c old d out mid
@@ -116,14 +116,14 @@ module _ {C : Type 0} (c : Meaning ContextSetting C) (law : IsContext c) where
     server_turn_of old mid d outcome.Finished makes = makes.0
     server_turn_of old mid d (outcome.Refused kind reply) makes = makes.2
 
-    pub server_went : (first old mid : ServerView C P) (past : List Turn) (d : TsRequest) (out : Outcome) → GoesOn out →
+    pub server_went : (first old mid : ServerView C P) (past : List Turn) (d : TsRequest) (out : Outcome) → IsUnrefused out →
         ServerFollows c first old past → ServerMakes c p old d out mid → ServerFollows c first mid (server_turn c d out mid ∷ past)
     server_went first old mid past d (outcome.Reply reply) went follows makes = server_follows c law first old mid past d reply follows makes.0
     server_went first old mid past d (outcome.Final reply) went follows makes = absurd makes
-    server_went first old mid past d outcome.Finished went follows makes = absurd went
+    server_went first old mid past d outcome.Finished went follows makes = server_finished c law first old mid past d follows makes.0
     server_went first old mid past d (outcome.Refused kind reply) went follows makes = absurd went
 
-    pub server_history_follows : (first now : ServerView C P) (turns : List Turn) → IsFreshServer first → AllGoOn turns →
+    pub server_history_follows : (first now : ServerView C P) (turns : List Turn) → IsFreshServer first → NoneRefused turns →
         ServerHistory c p first turns now → ServerFollows c first now turns
     server_history_follows first now [] fresh went h = subst (λ (v : ServerView C P). ServerFollows c first v []) (sym h) (server_fresh c first fresh)
     server_history_follows first now (t ∷ past) fresh went h =
@@ -133,7 +133,7 @@ module _ {C : Type 0} (c : Meaning ContextSetting C) (law : IsContext c) where
         (subst (λ (v : ServerView C P). ServerFollows c first v (server_turn c t.delivered t.outcome made.mid ∷ past)) (sym made.rest)
         (server_follows_emptied first made.mid _ (server_went first h.0 made.mid past t.delivered t.outcome went.0 follows made.makes)))
 
-    pub server_history_ran : (first now : ServerView C P) (turns : List Turn) → IsFreshServer first → OthersGoOn turns →
+    pub server_history_ran : (first now : ServerView C P) (turns : List Turn) → IsFreshServer first → OthersUnrefused turns →
         ServerHistory c p first turns now → ServerRan c first now turns
     server_history_ran first now [] fresh others h = (server_history_follows first now [] fresh tt h).ran
     server_history_ran first now (t ∷ past) fresh others h =
@@ -145,7 +145,7 @@ module _ {C : Type 0} (c : Meaning ContextSetting C) (law : IsContext c) where
         (server_turned c law first h.0 made.mid past t.delivered t.outcome follows (server_turn_of h.0 made.mid t.delivered t.outcome made.makes))))
 
     pub server_past_ran : (first now : ServerView C P) (turns : List Turn) (result : Result Delegation DelegateError) → IsFreshServer first →
-        OthersGoOn turns → ServerPast c p first result turns now → ServerRan c first now turns
+        OthersUnrefused turns → ServerPast c p first result turns now → ServerRan c first now turns
     server_past_ran first now turns result fresh others past =
         server_history_ran first now turns fresh others (server_past_history c p first now turns result past)
 

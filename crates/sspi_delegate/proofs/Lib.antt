@@ -1,12 +1,12 @@
 mod Alternating
-mod Asking
+pub mod Asking
 pub mod Chained
 mod ClientOver
 mod ClientSteps
 mod EndSteps
 mod Exactness
 mod Halves
-mod Headline
+pub mod Headline
 pub mod Histories
 pub mod Heeding
 pub mod HistoryRuns
@@ -16,6 +16,6 @@ mod ProxyCalls
 mod Reading
 mod Recording
 mod Refused
-mod Refusing
+pub mod Refusing
 mod ServerOver
 mod ServerSteps

@@ -27,7 +27,8 @@ use Rattle.sspi_delegate.specs.declared.carried.Carried.{Carried}
 use Rattle.sspi_delegate.specs.Causes.{RunEnds, IsFinished}
 use Rattle.sspi_delegate.specs.EndTurns.{onto_server, server_turns, OthersGoOn}
 use Rattle.sspi_delegate.specs.History.{ServerMakes, ServerHistory, ServerMade, ServerPast}
-use Rattle.sspi_delegate.specs.Turns.{GoesOn, AllGoOn}
+use Rattle.sspi_delegate.specs.Turns.{AllGoOn, IsUnrefused}
+use Rattle.sspi_delegate.proofs.Alternating.{went_unrefused}
 use Rattle.sspi_delegate.proofs.Histories.{server_past_history}
 
 -- by how far the server has come
@@ -37,18 +38,6 @@ calls_made (Some m) mode NegoToken = list_calls mode
 calls_made (Some m) mode PubKeyInfo = list_calls mode + 1
 calls_made (Some m) mode AuthInfo = list_calls mode + 1
 calls_made (Some m) mode Final = list_calls mode + 1
-
-abbrev IsUnrefused : Outcome → Type 0
-IsUnrefused (outcome.Reply reply) = Unit {0}
-IsUnrefused (outcome.Final reply) = Unit {0}
-IsUnrefused outcome.Finished = Unit {0}
-IsUnrefused (outcome.Refused kind reply) = ⊥
-
-went_unrefused : (out : Outcome) → GoesOn out → IsUnrefused out
-went_unrefused (outcome.Reply reply) went = tt
-went_unrefused (outcome.Final reply) went = tt
-went_unrefused outcome.Finished went = tt
-went_unrefused (outcome.Refused kind reply) went = absurd went
 
 unless_refused : (out : Outcome) (Q : Type 0) → IsUnrefused out → UnlessRefused out Q → Q
 unless_refused (outcome.Reply reply) Q un h = h

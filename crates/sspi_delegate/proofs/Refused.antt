@@ -17,7 +17,7 @@ use Rattle.sspi_delegate.specs.History.{ClientStopped, ClientPast, ServerStopped
 use Rattle.sspi_delegate.specs.Refusals.{ClientRefused, ServerRefused, RefusedBy}
 use Rattle.sspi_delegate.specs.Turns.{AllGoOn}
 use Rattle.sspi_delegate.proofs.Chained.{client_chained, server_chained}
-use Rattle.sspi_delegate.proofs.Alternating.{others_go}
+use Rattle.sspi_delegate.proofs.Alternating.{others_go, all_unrefused, rest_unrefused}
 use Rattle.sspi_delegate.proofs.HistoryRuns.{history_follows, history_proxy, server_history_follows}
 
 module _ {C D P : Type 0} (c : Meaning ContextSetting C) (law : IsContext c) (p : ProxyMeaning P) (k : KdcCalls D) where
@@ -50,8 +50,8 @@ module _ {C D P : Type 0} (c : Meaning ContextSetting C) (law : IsContext c) (p 
         reply = s.reply;
         past = s.past;
         newest = s.newest;
-        follows = server_history_follows c law p first s.old s.past fresh going s.before;
-        chain = server_chained c p first law fresh s.old s.past (others_go s.past going) s.before;
+        follows = server_history_follows c law p first s.old s.past fresh (all_unrefused s.past going) s.before;
+        chain = server_chained c p first law fresh s.old s.past (rest_unrefused s.past (all_unrefused s.past going)) s.before;
         told_before = stays.told_same;
         faults_before = stays.counted;
         cause = s.refuses.cause;

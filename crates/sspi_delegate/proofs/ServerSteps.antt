@@ -14,11 +14,10 @@ use Rattle.sspi_credssp.specs.Noted.{noted_with}
 use Rattle.sspi_credssp.specs.Server.{ServerView, IsFreshServer}
 use Rattle.sspi_credssp.specs.ServerTurn.{ServerTurn, SameServer, StartsUnused, server_frame, server_turn, after_reply, OnceNegotiated}
 use Rattle.sspi_credssp.specs.Shown.{IsOver, MayCheck, ShowsAnswer, ShowsNegoBack, ShowsServerActs, ShowsStateBack, server_shown}
-use Rattle.sspi_credssp.specs.Turn.{ServerFrame}
+use Rattle.sspi_credssp.specs.Turn.{ServerFrame, UnlessRefused, FitsNoted}
 use Rattle.sspi_delegate.specs.EndTurns.{made_in, opened_in, is_replied, is_finished, any_proved, any_finished}
-use Rattle.sspi_delegate.specs.Turns.{GoesOn, AllGoOn}
+use Rattle.sspi_delegate.specs.Turns.{IsUnrefused, NoneRefused}
 use Rattle.sspi_delegate.specs.ServerRun.{is_over, any_over, server_state, server_noted, ServerEnd, server_end, server_frame_at, EachServerTurn, ServerRan, ServerFollows}
-use Rattle.sspi_delegate.proofs.ClientSteps.{went_noted}
 use Rattle.sspi_delegate.proofs.EndSteps.{IsQuiet, AllQuiet, or_false, or_not, is_false, quiet_made, unused_in, same_but, Touched, touched, untouched, unless_given, unless_map, made_by_proof, opened_by_check}
 use Rattle.sspi_delegate.proofs.ServerOver.{OnceRefused, server_over}
 use Rattle.sspi_credssp.specs.declared.turn.Outcome.{Outcome}
@@ -44,12 +43,19 @@ noted_kept : (least : ℕ) (noted : Option ℕ) (version : ℕ) → IsSome noted
 noted_kept least None version some = absurd (cc (some))
 noted_kept least (Some noted) version some = refl
 
-module _ {C : Type 0} (c : Meaning ContextSetting C) where
-  -- each turn that went on has noted a version
-  pub noted_by_one : (e : ServerEnd C) (t : Turn) (past : List Turn) → EachServerTurn c e (t ∷ past) → AllGoOn (t ∷ past) → IsSome (server_noted e.least (t ∷ past))
-  noted_by_one e t past each going = went_noted (server_noted e.least (t ∷ past)) t.delivered.version t.outcome going.0 each.0.shown.version
+unrefused_noted : (noted : Option ℕ) (version : ℕ) (out : Outcome) → IsUnrefused out → UnlessRefused out (FitsNoted true noted version) → IsSome noted
+unrefused_noted (Some v) version out went fits = refl
+unrefused_noted None version (outcome.Reply reply) went fits = absurd fits
+unrefused_noted None version (outcome.Final reply) went fits = absurd fits
+unrefused_noted None version outcome.Finished went fits = absurd fits
+unrefused_noted None version (outcome.Refused kind reply) went fits = absurd went
 
-  noted_more : (e : ServerEnd C) (noted : Option ℕ) (t : Turn) (past : List Turn) → noted ≡ server_noted e.least past → EachServerTurn c e past → AllGoOn past →
+module _ {C : Type 0} (c : Meaning ContextSetting C) where
+  -- each turn that was not refused has noted a version
+  pub noted_by_one : (e : ServerEnd C) (t : Turn) (past : List Turn) → EachServerTurn c e (t ∷ past) → NoneRefused (t ∷ past) → IsSome (server_noted e.least (t ∷ past))
+  noted_by_one e t past each going = unrefused_noted (server_noted e.least (t ∷ past)) t.delivered.version t.outcome going.0 each.0.shown.version
+
+  noted_more : (e : ServerEnd C) (noted : Option ℕ) (t : Turn) (past : List Turn) → noted ≡ server_noted e.least past → EachServerTurn c e past → NoneRefused past →
       noted_with e.least noted t.delivered.version ≡ server_noted e.least (t ∷ past)
   noted_more e noted t [] is each going = rw is refl
   noted_more e noted t (u ∷ past) is each going = noted_kept e.least noted t.delivered.version (rw is (noted_by_one e u past each going)) ∙ is
@@ -78,16 +84,16 @@ module _ {C : Type 0} (c : Meaning ContextSetting C) where
   quiet_nego f t (Some statuses.Renegotiate) reply is over h = absurd h
   quiet_nego f t (Some statuses.NoLsaContext) reply is over h = absurd h
 
-  quiet_turn : (f : ServerFrame C) (t : Turn) (out : Outcome) → ShowsServerActs (server_shown f) t → f.state ≡ NegoToken → GoesOn out → ShowsAnswer (server_shown f) t out →
+  quiet_turn : (f : ServerFrame C) (t : Turn) (out : Outcome) → ShowsServerActs (server_shown f) t → f.state ≡ NegoToken → IsUnrefused out → ShowsAnswer (server_shown f) t out →
       is_replied out && is_over t.acts.status ≡ false → IsQuiet t.acts
   quiet_turn f t (outcome.Reply reply) acts nego went h over =
       let k = quiet_nego f t t.acts.status reply refl over (subst (λ (s : CredSspState). ShowsStateBack (server_shown f) t s reply) nego h) in
       quiet_token f t acts nego k.0 k.1
   quiet_turn f t (outcome.Final reply) acts nego went h over = absurd h
-  quiet_turn f t outcome.Finished acts nego went h over = absurd went
+  quiet_turn f t outcome.Finished acts nego went h over = let s = h.0 in absurd (cc (s, nego))
   quiet_turn f t (outcome.Refused kind reply) acts nego went h over = absurd went
 
-  all_quiet : (e : ServerEnd C) (past : List Turn) → EachServerTurn c e past → AllGoOn past → any_finished past ≡ false → any_proved past ≡ false →
+  all_quiet : (e : ServerEnd C) (past : List Turn) → EachServerTurn c e past → NoneRefused past → any_finished past ≡ false → any_proved past ≡ false →
       any_over past ≡ false → AllQuiet past
   all_quiet e [] each went unfinished unproved going = tt
   all_quiet e (t ∷ past) each went unfinished unproved going =
@@ -105,13 +111,13 @@ module _ {C : Type 0} (c : Meaning ContextSetting C) where
     pub version : e2.version ≡ e.version
     pub least : e2.least ≡ e.least
 
-  went_once : (out : Outcome) (P : Type 0) → GoesOn out → OnceRefused out P
+  went_once : (out : Outcome) (P : Type 0) → IsUnrefused out → OnceRefused out P
   went_once (outcome.Reply reply) P went = tt
   went_once (outcome.Final reply) P went = tt
   went_once outcome.Finished P went = tt
   went_once (outcome.Refused kind reply) P went = absurd went
 
-  each_over : (law : IsContext c) (e e2 : ServerEnd C) (past : List Turn) → SameEnd e e2 → AllGoOn past → Touched (SameBut c e.context e2.context) past →
+  each_over : (law : IsContext c) (e e2 : ServerEnd C) (past : List Turn) → SameEnd e e2 → NoneRefused past → Touched (SameBut c e.context e2.context) past →
       EachServerTurn c e past → EachServerTurn c e2 past
   each_over law e e2 [] same went touch each = tt
   each_over law e e2 (t ∷ past) same went touch each = (
@@ -189,7 +195,7 @@ module _ {C : Type 0} (c : Meaning ContextSetting C) where
   state_moved f t past Final reply is out h = absurd h
 
   touched_by : (e : ServerEnd C) (state : CredSspState) (past : List Turn) (Q : Type 0) → state ≡ server_state past → EachServerTurn c e past →
-      AllGoOn past → OnceNegotiated state Q → Touched Q past
+      NoneRefused past → OnceNegotiated state Q → Touched Q past
   touched_by e NegoToken past Q is each went bare =
       let s = state_nego (any_finished past) (any_proved past) (any_over past) (sym is) in
       untouched Q past (all_quiet e past each went s.0 s.1 s.2)
@@ -201,7 +207,7 @@ module _ {C : Type 0} (c : Meaning ContextSetting C) where
     starts_unused : (first old : ServerView C P) (past : List Turn) → ServerFollows c first old past → StartsUnused c old
     starts_unused first old past follows nego =
         let s = state_nego (any_finished past) (any_proved past) (any_over past) (sym follows.state ∙ nego) in
-        let none = quiet_made past (all_quiet (server_end old) past follows.ran.each follows.going s.0 s.1 s.2) in
+        let none = quiet_made past (all_quiet (server_end old) past follows.ran.each follows.unrefused s.0 s.1 s.2) in
         unused_in c old.context (follows.ran.made ∙ none.0) (follows.ran.opened ∙ none.1)
 
     -- ---- one more turn
@@ -220,7 +226,7 @@ module _ {C : Type 0} (c : Meaning ContextSetting C) where
     noted_of : (first old new : ServerView C P) (t : Turn) (past : List Turn) → ServerFollows c first old past → new.least ≡ old.least →
         noted_with old.least old.noted t.delivered.version ≡ server_noted new.least (t ∷ past)
     noted_of first old new t past follows same =
-        noted_more (server_end old) old.noted t past follows.noted follows.ran.each follows.going
+        noted_more (server_end old) old.noted t past follows.noted follows.ran.each follows.unrefused
         ∙ sym (ap (λ (n : ℕ). server_noted n (t ∷ past)) same)
 
     pub server_turned : (law : IsContext c) (first old new : ServerView C P) (past : List Turn) (d : TsRequest) (out : Outcome) →
@@ -251,11 +257,11 @@ module _ {C : Type 0} (c : Meaning ContextSetting C) where
               checked = λ was. sym (turn.moves.noted_checked was ∙ noted);
               refused = once out _ (refl, λ some. sym (turn.moves.noted some ∙ noted));
             }) turn.turn,
-            each_over law (server_end old) (server_end new) past (same_end old new turn.moves.same) follows.going
-                (touched_by (server_end old) old.state past (SameBut c old.context new.context) follows.state follows.ran.each follows.going turn.moves.bare)
+            each_over law (server_end old) (server_end new) past (same_end old new turn.moves.same) follows.unrefused
+                (touched_by (server_end old) old.state past (SameBut c old.context new.context) follows.state follows.ran.each follows.unrefused turn.moves.bare)
                 follows.ran.each,
           );
-          others = follows.going;
+          others = follows.unrefused;
         }
 
     pub server_follows : (law : IsContext c) (first old new : ServerView C P) (past : List Turn) (d : TsRequest) (reply : TsRequest) →
@@ -265,12 +271,17 @@ module _ {C : Type 0} (c : Meaning ContextSetting C) where
       state = turn.moves.state
           ∙ state_moved (server_frame c old new) (server_turn c d (outcome.Reply reply) new) past old.state reply follows.state refl turn.turn.shown.reply;
       noted = turn.moves.noted turn.moves.begun ∙ noted_of first old new (server_turn c d (outcome.Reply reply) new) past follows turn.moves.same.least;
-      going = (tt, follows.going);
+      unrefused = (tt, follows.unrefused);
     }
 
     pub server_finished : (law : IsContext c) (first old new : ServerView C P) (past : List Turn) (d : TsRequest) →
-        ServerFollows c first old past → ServerTurn c old d outcome.Finished new → ServerRan c first new (server_turn c d outcome.Finished new ∷ past)
-    server_finished law first old new past d follows turn = server_turned law first old new past d outcome.Finished follows turn
+        ServerFollows c first old past → ServerTurn c old d outcome.Finished new → ServerFollows c first new (server_turn c d outcome.Finished new ∷ past)
+    server_finished law first old new past d follows turn = record {
+      ran = server_turned law first old new past d outcome.Finished follows turn;
+      state = turn.moves.state;
+      noted = turn.moves.noted turn.moves.begun ∙ noted_of first old new (server_turn c d outcome.Finished new) past follows turn.moves.same.least;
+      unrefused = (tt, follows.unrefused);
+    }
 
     pub server_emptied : (first now : ServerView C P) (past : List Turn) → ServerRan c first now past → ServerRan c first (record now { output = [] }) past
     server_emptied first now past ran = record {
@@ -292,5 +303,5 @@ module _ {C : Type 0} (c : Meaning ContextSetting C) where
       };
       state = fresh.state;
       noted = fresh.noted;
-      going = tt;
+      unrefused = tt;
     }

@@ -6,7 +6,7 @@ use Rattle.sspi_credssp.specs.declared.turn.End.TheVariants.{Client, Server}
 use Rattle.sspi_credssp.specs.declared.turn.Outcome.{Outcome}
 use Rattle.sspi_credssp.specs.declared.turn.Outcome.TheVariants as outcome
 use Rattle.sspi_credssp.specs.declared.turn.Turn.{Turn}
-use Rattle.sspi_delegate.specs.Turns.{AllGoOn}
+use Rattle.sspi_delegate.specs.Turns.{AllGoOn, NoneRefused}
 
 abbrev pub onto_client : End → Turn → List Turn → List Turn
 onto_client Client t past = t ∷ past
@@ -68,3 +68,8 @@ any_finished (t ∷ past) = is_finished t.outcome || any_finished past
 abbrev pub OthersGoOn : List Turn → Type 0
 OthersGoOn [] = Unit {0}
 OthersGoOn (t ∷ past) = AllGoOn past
+
+-- at most the newest turn was refused
+abbrev pub OthersUnrefused : List Turn → Type 0
+OthersUnrefused [] = Unit {0}
+OthersUnrefused (t ∷ past) = NoneRefused past

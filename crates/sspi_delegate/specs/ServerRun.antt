@@ -13,8 +13,8 @@ use Rattle.sspi_credssp.specs.Noted.{noted_with}
 use Rattle.sspi_credssp.specs.Server.{ServerView}
 use Rattle.sspi_credssp.specs.ServerTurn.{IsServerTurn, SameServer, HoldsIdentity}
 use Rattle.sspi_credssp.specs.Turn.{ServerFrame}
-use Rattle.sspi_delegate.specs.EndTurns.{made_in, opened_in, is_replied, any_proved, any_finished, OthersGoOn}
-use Rattle.sspi_delegate.specs.Turns.{AllGoOn}
+use Rattle.sspi_delegate.specs.EndTurns.{made_in, opened_in, is_replied, any_proved, any_finished, OthersUnrefused}
+use Rattle.sspi_delegate.specs.Turns.{NoneRefused}
 use Rattle.sspi_credssp.specs.declared.turn.Turn.{Turn}
 
 abbrev pub is_over : Option SecurityStatus → Bool
@@ -79,12 +79,12 @@ module _ {C : Type 0} (c : Meaning ContextSetting C) where
       pub made : sealed_in c now.context ≡ made_in past
       pub opened : unsealed_in c now.context ≡ opened_in past
       pub each : EachServerTurn (server_end now) past
-      -- only the newest turn may have been refused, or be the last
-      pub others : OthersGoOn past
+      -- only the newest turn may have been refused
+      pub others : OthersUnrefused past
 
-    -- all turns went on, and the server is where they left it
+    -- none of the turns was refused, and the server is where they left it
     pub record ServerFollows (first now : ServerView C P) (past : List Turn) : Type 0 where
       pub ran : ServerRan first now past
       pub state : now.state ≡ server_state past
       pub noted : now.noted ≡ server_noted now.least past
-      pub going : AllGoOn past
+      pub unrefused : NoneRefused past

@@ -31,6 +31,17 @@ abbrev pub AllGoOn : List Turn → Type 0
 AllGoOn [] = Unit {0}
 AllGoOn (t ∷ past) = GoesOn t.outcome × AllGoOn past
 
+-- this outcome is no refusal
+abbrev pub IsUnrefused : Outcome → Type 0
+IsUnrefused (Reply reply) = Unit {0}
+IsUnrefused (Final reply) = Unit {0}
+IsUnrefused Finished = Unit {0}
+IsUnrefused (Refused kind reply) = ⊥
+
+abbrev pub NoneRefused : List Turn → Type 0
+NoneRefused [] = Unit {0}
+NoneRefused (t ∷ past) = IsUnrefused t.outcome × NoneRefused past
+
 -- the ends take turns, and only the newest turn may have ended the exchange
 abbrev pub Alternates : List Turn → Type 0
 Alternates [] = Unit {0}

@@ -32,8 +32,10 @@ enum Concluded {
 
 /// What came of a client's turn.
 #[derive(Drop)]
-pub(crate) enum ClientRound {
+pub enum ClientRound {
+    /// It has a message for the server.
     Replied,
+    /// It refused, with this error.
     Refused(Error),
     /// There was no memory, and no turn was made.
     Lost,
@@ -41,9 +43,12 @@ pub(crate) enum ClientRound {
 
 /// What came of a server's turn.
 #[derive(Drop)]
-pub(crate) enum ServerRound {
+pub enum ServerRound {
+    /// It has a message for the client.
     Replied,
+    /// It has opened the client's credentials, which hold this identity.
     Finished(AuthIdentity),
+    /// It refused, with this error.
     Refused(Error),
     /// There was no memory, and no turn was made.
     Lost,
@@ -91,8 +96,12 @@ fn finish_turn<N: Mechanism, K: Mechanism, D: Kdc>(
     }
 }
 
-/// A turn of the client, which is recorded whether or not it is refused. Room for it is made first.
-pub(crate) fn client_round<N: Mechanism, K: Mechanism, D: Kdc>(
+/// A turn of the client on this request, which is recorded whether or not it is refused.
+///
+/// The KDC is asked what the client's context asks, and the turn goes on with its replies; a call of the KDC that fails goes
+/// on as `Reply::Failed`. `Lost` comes where there was no memory for the record or for a reply of the KDC: then the transcript
+/// has no further turn, and the client is as it was, or waits for that reply.
+pub fn client_round<N: Mechanism, K: Mechanism, D: Kdc>(
     alloc: Global,
     client: &mut CredSspClient<N, K>,
     kdc: &mut D,
@@ -156,8 +165,10 @@ fn record_client<N: Mechanism, K: Mechanism>(
     });
 }
 
-/// A turn of the server, which is recorded whether or not it is refused. Room for it is made first.
-pub(crate) fn server_round<N: Mechanism, K: Mechanism, C: CredentialsProxy>(
+/// A turn of the server on this request, which is recorded whether or not it is refused.
+///
+/// `Lost` comes where there was no memory for the record: then the server is as it was, and the transcript has no further turn.
+pub fn server_round<N: Mechanism, K: Mechanism, C: CredentialsProxy>(
     alloc: Global,
     server: &mut CredSspServer<N, K, C>,
     transcript: &mut Transcript,

@@ -4,6 +4,7 @@
 //!   delivers; `specs/Run.antt` how turns and log belong together; `specs/Causes.antt` and `specs/Exactly.antt` when each
 //!   answer comes, `specs/Refusals.antt` why an end refused; `specs/History.antt` the calls that made the turns;
 //!   `specs/Chain.antt` the steps of an end's context, turn by turn.
+//! - `client_round`, `server_round`: one turn of an end, recorded, for those who carry the messages otherwise.
 //! - `Transcript`: the turns of an exchange, each with what it was given, what the end did, and how it ended.
 //! - `Link`: carries the messages and keeps a log of what was sent and what was delivered. `MemoryLink` delivers what was
 //!   sent, but for the edits that it was given; `KeptLink` keeps the log over any `Carrier`. `specs/Log.antt` has the log,
@@ -13,7 +14,7 @@
 pub mod answer;
 pub mod carried;
 pub mod edit;
-mod ends;
+pub mod ends;
 pub mod exchange;
 pub mod kept_link;
 pub mod link;
@@ -25,6 +26,7 @@ pub mod transcript;
 pub use answer::{DelegateError, Delegation};
 pub use carried::Carried;
 pub use edit::{Edit, EditKind};
+pub use ends::{ClientRound, ServerRound, client_round, server_round};
 pub use exchange::delegate;
 pub use kept_link::{Carrier, KeptLink};
 pub use link::{Link, LinkError};

@@ -1,7 +1,7 @@
 use Rattle.sspi_credssp.proofs.ContextLaws.{lawful}
 use Rattle.sspi_credssp.specs.Context.{either}
 use Rattle.sspi_delegate.specs.Asking.{kdc_calls}
-use Rattle.sspi_delegate.proofs.Alternating.{clients_others, servers_others}
+use Rattle.sspi_delegate.proofs.Alternating.{clients_others, servers_others, others_unrefused}
 use Rattle.sspi_delegate.proofs.Chained.{client_past_chained, server_past_chained}
 use Rattle.sspi_delegate.proofs.Exactness.{exactly}
 use Rattle.sspi_delegate.proofs.Headline.{run_log, run_order, sealed_once, seals_after_proof, server_never_seals, exchanged_ok}
@@ -42,10 +42,10 @@ returns-clause-delegates g c fresh =
     let order = run_order _ _ _ _ _ _ _ cause in
     let client = client_past_ran m law k _ _ _ _ _ result fresh.client_is (clients_others turns order) client_past in
     let server = server_past_ran m law g.C.CredentialsProxy.meaning _ _ _ result fresh.server_is
-    (servers_others turns order) server_past in
+    (others_unrefused _ (servers_others turns order)) server_past in
     let client_heeds = client_past_heeds m law k _ _ _ _ _ result fresh.client_is (clients_others turns order) client_past in
     let server_heeds = server_past_heeds m law g.C.CredentialsProxy.meaning _ _ _ result fresh.server_is
-    (servers_others turns order) server_past in
+    (others_unrefused _ (servers_others turns order)) server_past in
     record {
       the_turns_are_a_run = record { order = order; entries = run_log _ _ _ _ _ _ _ cause; client_ran = client; server_ran = server; client_heeds = client_heeds; server_heeds = server_heeds };
       credentials_are_sealed_at_most_once = sealed_once m _ _ turns client.each client.others server.each;
@@ -59,7 +59,7 @@ returns-clause-delegates g c fresh =
       the_client_has_the_context_of_its_chain = client_past_chained m k _ law fresh.client_is _ _ _ _ result (clients_others turns order) client_past;
       the_server_has_the_context_of_its_chain =
           server_past_chained m g.C.CredentialsProxy.meaning _ law fresh.server_is _ _ result
-          (servers_others turns order) server_past;
+          (others_unrefused _ (servers_others turns order)) server_past;
       a_refusal_has_its_cause =
           past_refused m law g.C.CredentialsProxy.meaning k _ _ _ _ _ _ _ _ result
           fresh.client_is fresh.server_is (clients_others turns order) (servers_others turns order) client_past server_past;

@@ -1,0 +1,11 @@
+pub mod Agreed
+pub mod ClientSeals
+pub mod Gives
+pub mod Histories
+pub mod Lists
+pub mod Order
+pub mod Parts
+pub mod Runs
+pub mod SameTexts
+pub mod ServerSeals
+pub mod Steps

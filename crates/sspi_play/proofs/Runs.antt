@@ -1,0 +1,102 @@
+-- What the accounts of a play tell of it where both ends were fresh.
+use Rattle.std.proofs.Common.{◌≡◌, ◌≤◌, ℕ, List, [], ◌∷◌, length, reverse, take, Option, None, Some, Result, Ok, Err, sym, ◌∙◌, ap, subst, refl}
+use Rattle.sspi_mech.specs.Context.{IsContext}
+use Rattle.sspi_mech.specs.Meaning.{Meaning}
+use Rattle.sspi_names.specs.declared.identity.AuthIdentity.{AuthIdentity}
+use Rattle.sspi_credssp.specs.Client.{ClientView, IsFreshClient}
+use Rattle.sspi_credssp.specs.Context.{ContextSetting}
+use Rattle.sspi_credssp.specs.Proxy.{ProxyMeaning}
+use Rattle.sspi_credssp.specs.Server.{ServerView, IsFreshServer}
+use Rattle.sspi_credssp.specs.declared.turn.End.TheVariants.{Client, Server}
+use Rattle.sspi_credssp.specs.declared.turn.Turn.{Turn}
+use Rattle.sspi_delegate.specs.declared.answer.DelegateError.{DelegateError}
+use Rattle.sspi_delegate.specs.declared.answer.DelegateError.TheVariants as errors
+use Rattle.sspi_delegate.specs.Asking.{KdcCalls}
+use Rattle.sspi_delegate.specs.ClientRun.{client_end}
+use Rattle.sspi_delegate.specs.EndTurns.{client_turns, server_turns, OthersGoOn, OthersUnrefused}
+use Rattle.sspi_delegate.specs.History.{ClientHistory, ClientLeft, between, waiting}
+use Rattle.sspi_delegate.specs.ServerRun.{server_end}
+use Rattle.sspi_delegate.specs.Turns.{AllGoOn, NoneRefused}
+use Rattle.sspi_delegate.proofs.Headline.{sealed_once}
+use Rattle.sspi_delegate.proofs.Heeding.{client_past_heeds, server_past_heeds}
+use Rattle.sspi_delegate.proofs.HistoryRuns.{client_past_ran, server_past_ran}
+use Rattle.sspi_play.specs.declared.played.Delivery.{Delivery}
+use Rattle.sspi_play.specs.declared.played.Played.{Played}
+use Rattle.sspi_play.specs.Agreement.{OpensBehindTag, NoEcho, AgreesIfFaithful}
+use Rattle.sspi_play.specs.Faithful.{IsFaithful}
+use Rattle.sspi_play.specs.History.{ClientPlayed, Gave, GaveIn}
+use Rattle.sspi_play.specs.Kept.{identity_of}
+use Rattle.sspi_play.specs.Played.{Both, PlaysBy, Accounts, IsPlay}
+use Rattle.sspi_play.specs.Plays.{Plays}
+use Rattle.sspi_play.proofs.Agreed.{agreement}
+use Rattle.sspi_play.proofs.Histories.{history_goes}
+use Rattle.sspi_play.proofs.Order.{others_of}
+
+played_some : (schedule : List Delivery) (result : Result Played DelegateError) (turns : List Turn) → PlaysBy schedule result turns →
+    (deliveries : List Delivery) × Plays deliveries turns
+played_some schedule (Ok played) turns plays = (reverse schedule, plays)
+played_some schedule (Err error) turns plays = (reverse (take plays.handed schedule), plays.plays)
+
+going_others : (turns : List Turn) → AllGoOn turns → OthersGoOn turns
+going_others [] going = tt
+going_others (t ∷ past) going = going.1
+
+module _ {C D : Type 0} (c : Meaning ContextSetting C) (k : KdcCalls D) where
+  history_others : (first now : ClientView C) (kdc kdc2 : D) (turns : List Turn) → OthersUnrefused turns → ClientHistory c k first kdc turns now kdc2 → OthersGoOn turns
+  history_others first now kdc kdc2 [] un h = tt
+  history_others first now kdc kdc2 (t ∷ past) un h = history_goes c k first h.0 kdc h.1 past un h.2
+
+  left_others : (first now : ClientView C) (kdc kdc2 : D) (turns : List Turn) → OthersUnrefused turns → ClientLeft c k first kdc turns now kdc2 → OthersGoOn turns
+  left_others first now kdc kdc2 turns un (between h) = history_others first now kdc kdc2 turns un h
+  left_others first now kdc kdc2 turns un (waiting old kdc1 d went h way) = going_others turns went
+
+  played_left : (result : Result Played DelegateError) (first now : ClientView C) (kdc kdc2 : D) (turns : List Turn) →
+      ClientPlayed c k {X = Played} first kdc result turns now kdc2 → ClientLeft c k first kdc turns now kdc2
+  played_left (Ok played) first now kdc kdc2 turns h = between h
+  played_left (Err error) first now kdc kdc2 turns h = h
+
+module _ {C P D : Type 0} (c : Meaning ContextSetting C) (law : IsContext c) (p : ProxyMeaning P) (k : KdcCalls D) where
+  pub is_play : (schedule : List Delivery) (old new : Both C P D) (result : Result Played DelegateError) → IsFreshClient old.client → IsFreshServer old.server →
+      Accounts c p k schedule old result new → IsPlay c old new
+  is_play schedule old new result client_fresh server_fresh accounts =
+      let plays = played_some schedule result new.turns accounts.the_turns_are_those_of_the_deliveries in
+      let left = played_left c k result old.client new.client old.kdc new.kdc (client_turns new.turns) accounts.client_turns_are_its_calls in
+      let client_others = left_others c k old.client new.client old.kdc new.kdc (client_turns new.turns) (others_of Client plays.0 new.turns plays.1) left in
+      let server_others = others_of Server plays.0 new.turns plays.1 in
+      let client = client_past_ran c law k old.client new.client old.kdc new.kdc (client_turns new.turns) (Err errors.InsufficientMemory) client_fresh client_others left in
+      let server = server_past_ran c law p old.server new.server (server_turns new.turns) (Err errors.InsufficientMemory) server_fresh server_others
+          accounts.server_turns_are_its_calls in
+      record {
+        client_ran = client;
+        server_ran = server;
+        client_heeds = client_past_heeds c law k old.client new.client old.kdc new.kdc (client_turns new.turns) (Err errors.InsufficientMemory)
+            client_fresh client_others left;
+        server_heeds = server_past_heeds c law p old.server new.server (server_turns new.turns) (Err errors.InsufficientMemory)
+            server_fresh server_others accounts.server_turns_are_its_calls;
+        credentials_are_sealed_at_most_once = sealed_once c (client_end new.client) (server_end new.server) new.turns client.each client_others server.each;
+      }
+
+  given_in : (first : ServerView C P) (identity : Option AuthIdentity) (given : AuthIdentity) (turns : List Turn) → identity ≡ Some given →
+      Gave c p first identity turns → GaveIn c p first given turns
+  given_in first identity given turns is gave =
+      let at : Gave c p first (Some given) turns = subst (λ (o : Option AuthIdentity). Gave c p first o turns) is gave in at
+
+  identity_gave : (schedule : List Delivery) (old new : Both C P D) (result : Result Played DelegateError) → Accounts c p k schedule old result new →
+      (given : AuthIdentity) → identity_of result ≡ Some given → GaveIn c p old.server given (server_turns new.turns)
+  identity_gave schedule old new (Ok played) accounts given is =
+      given_in old.server played.identity given (server_turns new.turns) is accounts.the_identity_is_that_of_the_turn_that_finished
+  identity_gave schedule old new (Err error) accounts given is = absurd (cc (is))
+
+  pub agrees_if_faithful : (kept : Option C → List (List ℕ)) (schedule : List Delivery) (old new : Both C P D) (result : Result Played DelegateError) →
+      length new.client.nonce ≡ 32 → IsPlay c old new → Accounts c p k schedule old result new →
+      AgreesIfFaithful c kept (client_end new.client) (server_end new.server) new.turns (identity_of result)
+  agrees_if_faithful kept schedule old new result long play accounts = λ faithful tags echo.
+      agreement c kept (client_end new.client) (server_end new.server) tags p old.server new.turns (identity_of result)
+      (identity_gave schedule old new result accounts)
+      (record {
+        client_each = play.client_ran.each;
+        client_others = play.client_ran.others;
+        server_each = play.server_ran.each;
+        server_others = play.server_ran.others;
+        opens = faithful.opens;
+      }) long faithful echo

@@ -1,0 +1,28 @@
+use Rattle.std.proofs.Common.{inl, refl}
+use Rattle.sspi_credssp.specs.Context.{either}
+use Rattle.sspi_credssp.specs.declared.turn.End.TheVariants.{Client}
+use Rattle.sspi_delegate.specs.Asking.{kdc_calls}
+use Rattle.sspi_delegate.specs.Causes.{IsClientRefusal}
+use Rattle.sspi_delegate.specs.History.{between}
+use Rattle.sspi_delegate.specs.Turns.{GoesOn}
+use Rattle.sspi_play.proofs.Histories.{stopped_played}
+use Rattle.sspi_play.proofs.Steps.{unread_is, pushed_turn, client_ended}
+use Rattle.sspi_play.proofs.hand.hand_client.Goals as goal
+
+pub returns-in-Err-clause-hands : goal.returns-in-Err-clause-hands
+returns-in-Err-clause-hands g c = unread_is c.args.start c.args.bytes.now c.in-Err.kind (search rules) c.in-Err.ensures
+
+pub returns-in-Replied-clause-hands : goal.returns-in-Replied-clause-hands
+returns-in-Replied-clause-hands g c =
+    pushed_turn Client c.args.start c.args.bytes.now c.in-Ok.request GoesOn _ _ c.in-Ok.ensures c.in-Replied.ensures.turn
+
+pub returns-in-Refused-clause-hands : goal.returns-in-Refused-clause-hands
+returns-in-Refused-clause-hands g c =
+    client_ended c.args.start c.args.bytes.now c.in-Refused.error.error_type c.ending_by.result _ _ c.ending_by.ensures
+    (pushed_turn Client c.args.start c.args.bytes.now c.in-Ok.request (IsClientRefusal c.in-Refused.error.error_type) _ _ c.in-Ok.ensures c.in-Refused.ensures.turn)
+
+pub returns-in-Refused-clause-history : goal.returns-in-Refused-clause-history
+returns-in-Refused-clause-history g c first kdc_first going history =
+    stopped_played (either g.N.Mechanism.REQUESTS g.N.Mechanism.meaning g.K.Mechanism.meaning) (kdc_calls g.D.Kdc.told g.D.Kdc.asked g.D.Kdc.faults)
+    c.ending_by.result first c.client_round.new.client kdc_first c.client_round.new.kdc c.in-Refused.error _
+    (c.in-Refused.ensures.client_history first kdc_first going history)

@@ -1,0 +1,69 @@
+use Rattle.std.proofs.Common.{◌≡◌, List, sym, subst, refl, arith}
+use Rattle.sspi_delegate.proofs.Asking.{kdc_on}
+use Rattle.sspi_delegate.proofs.Refusing.{proxy_on}
+use Rattle.sspi_play.specs.declared.played.Delivery.{Delivery}
+use Rattle.sspi_play.specs.Hands.{Stands}
+use Rattle.sspi_play.proofs.Order.{reverse_more}
+use Rattle.sspi_play.proofs.Steps.{first_stands, front_of, all_stands}
+use Rattle.sspi_play.proofs.schedule.hand_all.Goals as goal
+
+pub loop-delivery-init : goal.loop-delivery-init
+loop-delivery-init g c = record {
+  stands = λ empty. first_stands _ empty;
+  client_history = λ empty. rw empty (refl, refl);
+  server_history = λ empty. rw empty refl;
+  identity = λ empty. rw empty refl;
+  proxy = record { told_same = refl; counted = omega arith; calm = λ none. refl };
+  kdc = record { told_same = refl; counted = omega arith };
+}
+
+pub loop-delivery-preserved : goal.loop-delivery-preserved
+loop-delivery-preserved g c =
+    let at = c.loop-delivery.invariant in
+    record {
+      stands = λ empty.
+          subst (λ (l : List Delivery). Stands l c.hand.new.transcript.turns c.hand.new.standing)
+          (sym (reverse_more c.args.schedule.now c.loop-delivery.delivery-index c.delivery-item.result c.loop-delivery-test.true c.delivery-item.is))
+          (c.in-Ok.ensures.stands _ (at.stands empty));
+      client_history = λ empty. c.in-Ok.ensures.client_history _ _ _ (at.stands empty) (at.client_history empty);
+      server_history = λ empty. c.in-Ok.ensures.server_history _ (at.server_history empty);
+      identity = λ empty. c.in-Ok.ensures.identity _ (at.server_history empty) (at.identity empty);
+      proxy = proxy_on _ _ _ _ at.proxy c.in-Ok.ensures.proxy;
+      kdc = kdc_on _ _ _ _ _ at.kdc c.in-Ok.ensures.kdc;
+    }
+
+pub returns-in-Err-clause-accounts : goal.returns-in-Err-clause-accounts
+returns-in-Err-clause-accounts g c empty =
+    let at = c.loop-delivery.invariant in
+    record {
+      the_turns_are_those_of_the_deliveries =
+          front_of c.args.schedule.now c.loop-delivery.delivery-index c.delivery-item.result _ c.loop-delivery-test.true c.delivery-item.is
+          (c.in-Err.ensures.stops _ (at.stands empty));
+      deliveries_and_turns_say_how_the_ends_stand = tt;
+      client_turns_are_its_calls = c.in-Err.ensures.client_history _ _ _ (at.stands empty) (at.client_history empty);
+      server_turns_are_its_calls = c.in-Err.ensures.server_history _ (at.server_history empty);
+      the_identity_is_that_of_the_turn_that_finished = tt;
+    }
+
+pub returns-in-Err-clause-kdc : goal.returns-in-Err-clause-kdc
+returns-in-Err-clause-kdc g c = kdc_on _ _ _ _ _ c.loop-delivery.invariant.kdc c.in-Err.ensures.kdc
+
+pub returns-in-Err-clause-proxy : goal.returns-in-Err-clause-proxy
+returns-in-Err-clause-proxy g c = proxy_on _ _ _ _ c.loop-delivery.invariant.proxy c.in-Err.ensures.proxy
+
+pub returns-clause-accounts : goal.returns-clause-accounts
+returns-clause-accounts g c empty =
+    let at = c.loop-delivery.invariant in
+    let stands = all_stands c.args.schedule.now c.loop-delivery.delivery-index _ _ c.loop-delivery-test.false (at.stands empty) in
+    record {
+      the_turns_are_those_of_the_deliveries = stands.plays;
+      deliveries_and_turns_say_how_the_ends_stand = record {
+        client = stands.client;
+        server = stands.server;
+        client_kind = stands.client_kind;
+        server_kind = stands.server_kind;
+      };
+      client_turns_are_its_calls = at.client_history empty;
+      server_turns_are_its_calls = at.server_history empty;
+      the_identity_is_that_of_the_turn_that_finished = at.identity empty;
+    }

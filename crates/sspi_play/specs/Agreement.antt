@@ -1,0 +1,95 @@
+-- Agreement of a client and a server whose messages an attacker carries, if the mechanism is faithful.
+--
+-- Whatever is delivered to whom: a client that sealed its credentials sealed them for a server that had checked this client's proof
+-- over the same key, and what a finishing server holds is what this client sealed.
+use Rattle.std.specs.Prelude.{◌≡◌, ◌<◌, ◌≤◌, ℕ, List, ◌∷◌, ◌++◌, drop, length, Option, None, Some, Ok, Bool, true, false, nat_lt}
+use Rattle.sspi_mech.specs.Meaning.{Meaning}
+use Rattle.sspi_names.specs.declared.identity.AuthIdentity.{AuthIdentity}
+use Rattle.sspi_credssp.specs.declared.turn.End.{End}
+use Rattle.sspi_credssp.specs.declared.turn.End.TheVariants.{Client, Server}
+use Rattle.sspi_credssp.specs.declared.turn.Turn.{Turn}
+use Rattle.sspi_credssp.specs.Context.{ContextSetting}
+use Rattle.sspi_credssp.specs.Credentials.{delegated_text, delegated_identity}
+use Rattle.sspi_credssp.specs.Requests.{nonce_of}
+use Rattle.sspi_delegate.specs.Causes.{IsFinished}
+use Rattle.sspi_delegate.specs.ClientRun.{ClientEnd, client_noted}
+use Rattle.sspi_delegate.specs.EndTurns.{client_turns, server_turns}
+use Rattle.sspi_delegate.specs.ServerRun.{ServerEnd, server_noted}
+use Rattle.sspi_play.specs.Faithful.{IsFaithful}
+
+-- one of these turns, the newest first: the turns after it, and those before
+pub record TurnOf (turns : List Turn) : Type 0 where
+  pub later : List Turn
+  pub turn : Turn
+  pub before : List Turn
+  pub parts : turns ≡ later ++ (turn ∷ before)
+
+-- ---- the premises
+
+-- what a blob opens to stands behind its tag of 16 octets
+abbrev pub OpensBehindTag : {C : Type 0} → Meaning ContextSetting C → Type 0
+OpensBehindTag {C} c = (m : C) (n : ℕ) (blob text : List ℕ) → c.opens m n blob text → text ≡ drop 16 blob
+
+-- no hash, which has 32 octets, is taken for the echo of a key, which is what a peer below version 5 proves with
+pub data NoEcho {C : Type 0} (client : ClientEnd C) (server : ServerEnd C) : Type 0 where
+  by_length : 32 < length client.public_key → 32 < length server.public_key → NoEcho client server
+  by_least_versions : 5 ≤ client.least → 5 ≤ server.least → NoEcho client server
+
+-- ---- what both agree on
+
+-- the two ends proved in the same form: both noted a version below 5, or both one from 5 on
+abbrev pub AreAlike : Option ℕ → Option ℕ → Type 0
+AreAlike None other = ⊥
+AreAlike (Some version) None = ⊥
+AreAlike (Some version) (Some other) = nat_lt version 5 ≡ nat_lt other 5
+
+-- the client proved in one of these turns
+pub record HasProved (turns : List Turn) : Type 0 where
+  pub at : TurnOf turns
+  pub end : at.turn.end ≡ Client
+  pub proved : at.turn.acts.proved ≡ true
+
+-- the server checked the client's proof in one of these turns, and proved; before it the client had proved
+pub record HasExchanged (turns : List Turn) : Type 0 where
+  pub at : TurnOf turns
+  pub end : at.turn.end ≡ Server
+  pub checked : at.turn.acts.checked ≡ true
+  pub proved : at.turn.acts.proved ≡ true
+  pub client_proved : HasProved at.before
+
+-- the client checked the server's proof in one of these turns, and sealed its credentials
+pub record HasSealed (turns : List Turn) : Type 0 where
+  pub at : TurnOf turns
+  pub end : at.turn.end ≡ Client
+  pub checked : at.turn.acts.checked ≡ true
+  pub sealed : at.turn.acts.sealed ≡ true
+
+module _ {C : Type 0} (client : ClientEnd C) (server : ServerEnd C) where
+  -- of a client that sealed, where these are the turns before it did
+  pub record Agrees (turns before : List Turn) : Type 0 where
+    pub exchanged : HasExchanged before
+    pub keys : client.public_key ≡ server.public_key
+    pub versions : AreAlike (client_noted client.least (client_turns turns)) (server_noted server.least (server_turns turns))
+    -- from version 5 on the server checked a proof that was made with this client's nonce
+    pub nonce : (version : ℕ) → server_noted server.least (server_turns turns) ≡ Some version → 5 ≤ version →
+        nonce_of exchanged.at.turn.delivered.client_nonce ≡ client.nonce
+
+  -- of a server that finished with this identity: before it did the client had sealed, and the identity is the one that it sealed
+  pub record HoldsSealed (turns : List Turn) (identity : AuthIdentity) : Type 0 where
+    pub at : TurnOf turns
+    pub end : at.turn.end ≡ Server
+    pub finished : IsFinished at.turn.outcome
+    pub client_sealed : HasSealed at.before
+    pub text : List ℕ
+    pub delegated : delegated_text client.credentials client.delegation ≡ Ok text
+    pub read : delegated_identity text ≡ Ok identity
+
+  pub record Agreement (turns : List Turn) (identity : Option AuthIdentity) : Type 0 where
+    pub a_client_that_sealed : (at : TurnOf turns) → at.turn.end ≡ Client → at.turn.acts.sealed ≡ true → Agrees turns at.before
+    pub a_server_that_finished : (given : AuthIdentity) → identity ≡ Some given → HoldsSealed turns given
+
+-- The theorem, of the ends as the play left them.
+abbrev pub AgreesIfFaithful : {C : Type 0} → Meaning ContextSetting C → (Option C → List (List ℕ)) → ClientEnd C → ServerEnd C → List Turn →
+    Option AuthIdentity → Type 0
+AgreesIfFaithful c kept client server turns identity =
+    IsFaithful c kept client server turns → OpensBehindTag c → NoEcho client server → Agreement client server turns identity

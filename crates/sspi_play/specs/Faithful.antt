@@ -1,0 +1,105 @@
+-- What agreement rests on: that the mechanism under both ends is faithful in this play. Lists are the newest first.
+use Rattle.std.specs.Prelude.{◌≡◌, ◌≤◌, ℕ, List, [], ◌∷◌, ◌++◌, drop, Option, None, Some, Result, Ok, Err, Bool, true, false}
+use Rattle.sha2.specs.Sha256.{sha256}
+use Rattle.sspi_types.specs.declared.error.Error.{Error}
+use Rattle.sspi_mech.specs.Meaning.{Meaning}
+use Rattle.sspi_credssp.specs.declared.public_key.EndpointType.{EndpointType}
+use Rattle.sspi_credssp.specs.declared.public_key.EndpointType.TheVariants as whose
+use Rattle.sspi_credssp.specs.declared.turn.Turn.{Turn}
+use Rattle.sspi_credssp.specs.Context.{ContextSetting}
+use Rattle.sspi_credssp.specs.Credentials.{delegated_text}
+use Rattle.sspi_credssp.specs.PublicKey.{magic, prescribed}
+use Rattle.sspi_credssp.specs.Requests.{nonce_of}
+use Rattle.sspi_delegate.specs.ClientRun.{ClientEnd, client_noted}
+use Rattle.sspi_delegate.specs.EndTurns.{client_turns, server_turns}
+use Rattle.sspi_delegate.specs.ServerRun.{ServerEnd, server_noted}
+
+-- ---- the texts that an end sealed and opened
+
+abbrev pub where_done : Bool → List (List ℕ) → List (List ℕ)
+where_done true texts = texts
+where_done false texts = []
+
+-- the proof of an end, by the version that it noted
+abbrev pub proof_text : EndpointType → Option ℕ → List ℕ → List ℕ → List (List ℕ)
+proof_text end None nonce key = []
+proof_text end (Some version) nonce key = prescribed end version nonce key ∷ []
+
+abbrev pub text_in : Result (List ℕ) Error → List (List ℕ)
+text_in (Ok text) = text ∷ []
+text_in (Err error) = []
+
+-- what lies behind the tag of 16 octets
+abbrev pub behind_tag : Option (List ℕ) → List (List ℕ)
+behind_tag None = []
+behind_tag (Some blob) = drop 16 blob ∷ []
+
+module _ {C : Type 0} where
+  -- a client seals its proof, and then its credentials; the turns before this one say which version it had noted
+  abbrev pub client_texts : ClientEnd C → List Turn → Turn → List (List ℕ)
+  client_texts e past t =
+      where_done t.acts.sealed (text_in (delegated_text e.credentials e.delegation))
+      ++ where_done t.acts.proved (proof_text whose.Client (client_noted e.least (t ∷ past)) e.nonce e.public_key)
+
+  abbrev pub client_sealed : ClientEnd C → List Turn → List (List ℕ)
+  client_sealed e [] = []
+  client_sealed e (t ∷ past) = client_texts e past t ++ client_sealed e past
+
+  -- a server seals its proof
+  abbrev pub server_texts : ServerEnd C → List Turn → Turn → List (List ℕ)
+  server_texts e past t =
+      where_done t.acts.proved (proof_text whose.Server (server_noted e.least (t ∷ past)) (nonce_of t.delivered.client_nonce) e.public_key)
+
+  abbrev pub server_sealed : ServerEnd C → List Turn → List (List ℕ)
+  server_sealed e [] = []
+  server_sealed e (t ∷ past) = server_texts e past t ++ server_sealed e past
+
+-- an end opens the proof of its peer, and a server the credentials
+abbrev pub texts_opened : Turn → List (List ℕ)
+texts_opened t = where_done t.acts.opened (behind_tag t.delivered.auth_info) ++ where_done t.acts.checked (behind_tag t.delivered.pub_key_auth)
+
+abbrev pub opened_texts : List Turn → List (List ℕ)
+opened_texts [] = []
+opened_texts (t ∷ past) = texts_opened t ++ opened_texts past
+
+-- ---- faithful
+
+-- these texts are the first of those
+abbrev pub AreFirstOf : List (List ℕ) → List (List ℕ) → Type 0
+AreFirstOf texts all = (later : List (List ℕ)) × (all ≡ later ++ texts)
+
+-- so is one of the run's hashes made: an end's magic, a nonce and its own key, joined; a server's nonce is a delivered one
+pub data IsHashed {C : Type 0} (client : ClientEnd C) (server : ServerEnd C) (turns : List Turn) : List ℕ → Type 0 where
+  by_client : (end : EndpointType) → IsHashed client server turns (magic end ++ client.nonce ++ client.public_key)
+  by_server : (end : EndpointType) (later before : List Turn) (t : Turn) → server_turns turns ≡ later ++ (t ∷ before) →
+      IsHashed client server turns (magic end ++ nonce_of t.delivered.client_nonce ++ server.public_key)
+
+module _ {C : Type 0} (c : Meaning ContextSetting C) (kept : Option C → List (List ℕ)) where
+  -- after each turn what an end has opened so far is what its peer sealed first
+  abbrev pub OpensWhatWasSealed : ClientEnd C → ServerEnd C → List Turn → Type 0
+  OpensWhatWasSealed client server [] = Unit {0}
+  OpensWhatWasSealed client server (t ∷ past) =
+      AreFirstOf (opened_texts (client_turns (t ∷ past))) (server_sealed server (server_turns (t ∷ past)))
+      × AreFirstOf (opened_texts (server_turns (t ∷ past))) (client_sealed client (client_turns (t ∷ past)))
+      × OpensWhatWasSealed client server past
+
+  abbrev pub signed_in : Option C → ℕ
+  signed_in None = 0
+  signed_in (Some m) = (c.counts m).signed
+
+  abbrev pub verified_in : Option C → ℕ
+  verified_in None = 0
+  verified_in (Some m) = (c.counts m).verified
+
+  -- an end verified no more than its peer signed, and where it did both keep the same list of mechanisms
+  pub record VerifiesWhatWasSigned (own peer : Option C) : Type 0 where
+    pub count : verified_in own ≤ signed_in peer
+    pub lists : 1 ≤ verified_in own → kept own ≡ kept peer
+
+  -- `kept` is the list that a context keeps
+  pub record IsFaithful (client : ClientEnd C) (server : ServerEnd C) (turns : List Turn) : Type 0 where
+    pub opens : OpensWhatWasSealed client server turns
+    pub client_verifies : VerifiesWhatWasSigned client.context server.context
+    pub server_verifies : VerifiesWhatWasSigned server.context client.context
+    pub no_collision : (text other : List ℕ) → IsHashed client server turns text → IsHashed client server turns other →
+        sha256 text ≡ sha256 other → text ≡ other

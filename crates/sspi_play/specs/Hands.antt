@@ -1,0 +1,83 @@
+-- What one delivery makes of its end.
+use Rattle.std.specs.Prelude.{◌≡◌, ◌≢◌, ℕ, ◌⊎◌, List, [], ◌∷◌, Option, None, Some, Result, Ok, Err, Bool, false}
+use Rattle.sspi_types.specs.declared.error_kind.ErrorKind.{ErrorKind}
+use Rattle.sspi_types.specs.declared.error_kind.ErrorKind.TheVariants as kinds
+use Rattle.sspi_ber.specs.declared.wire_kind.WireKind.{WireKind}
+use Rattle.sspi_ber.specs.declared.wire_kind.WireKind.TheVariants as wire
+use Rattle.sspi_tsreq.specs.declared.request.TsRequest.{TsRequest}
+use Rattle.sspi_credssp.specs.declared.turn.End.{End}
+use Rattle.sspi_credssp.specs.declared.turn.End.TheVariants.{Client, Server}
+use Rattle.sspi_credssp.specs.declared.turn.Outcome.{Outcome}
+use Rattle.sspi_credssp.specs.declared.turn.Turn.{Turn}
+use Rattle.sspi_delegate.specs.declared.answer.DelegateError.{DelegateError}
+use Rattle.sspi_delegate.specs.declared.answer.DelegateError.TheVariants as errors
+use Rattle.sspi_delegate.specs.Causes.{IsClientRefusal, IsServerRefusal, IsFinished}
+use Rattle.sspi_delegate.specs.Turns.{GoesOn}
+use Rattle.sspi_play.specs.declared.hand.Handed.{Handed}
+use Rattle.sspi_play.specs.declared.hand.Handed.TheVariants as handed
+use Rattle.sspi_play.specs.declared.hand.Standing.{Standing}
+use Rattle.sspi_play.specs.declared.played.Delivery.{Delivery}
+use Rattle.sspi_play.specs.declared.played.Ending.{Ending}
+use Rattle.sspi_play.specs.declared.played.Ending.TheVariants.{Running, Refused, Unread}
+use Rattle.sspi_play.specs.Plays.{any_for, unread_kind, ending_of, IsGiven, Plays}
+
+-- the request of a delivery, or why it has none
+abbrev pub RequestIs : Bool → List ℕ → Result TsRequest WireKind → Type 0
+RequestIs start bytes (Ok request) = IsGiven start bytes request × (unread_kind start bytes ≡ None)
+RequestIs start bytes (Err wire.UnexpectedEof) = unread_kind start bytes ≡ Some wire.UnexpectedEof
+RequestIs start bytes (Err wire.InvalidData) = unread_kind start bytes ≡ Some wire.InvalidData
+RequestIs start bytes (Err wire.ReadFault) = ⊥
+RequestIs start bytes (Err wire.WriteFault) = ⊥
+RequestIs start bytes (Err wire.InsufficientMemory) = Unit {0}
+
+-- an end that refused with this kind stands so, but want of memory ends the play
+abbrev pub EndsBy : ErrorKind → Result Ending DelegateError → Type 0
+EndsBy kind (Ok ending) = (ending ≡ Refused kind) × (kind ≢ kinds.InsufficientMemory)
+EndsBy kind (Err error) = (error ≡ errors.InsufficientMemory) × (kind ≡ kinds.InsufficientMemory)
+
+-- one more turn: whose it is, what it was given, and how it ended
+abbrev pub HasTurn : End → Bool → List ℕ → (Outcome → Type 0) → List Turn → List Turn → Type 0
+HasTurn end start bytes P old [] = ⊥
+HasTurn end start bytes P old (t ∷ past) = (past ≡ old) × (t.end ≡ end) × IsGiven start bytes t.delivered × P t.outcome
+
+-- a delivery made a turn that ended so
+abbrev pub TurnsSo : End → Bool → List ℕ → (Outcome → Type 0) → List Turn → List Turn → Type 0
+TurnsSo end start bytes P old new = (unread_kind start bytes ≡ None) × HasTurn end start bytes P old new
+
+abbrev pub EndsSo : End → (ErrorKind → Outcome → Type 0) → Bool → List ℕ → Ending → List Turn → List Turn → Type 0
+EndsSo end IsRefusal start bytes Running old new = TurnsSo end start bytes GoesOn old new
+EndsSo end IsRefusal start bytes (Refused kind) old new = (kind ≢ kinds.InsufficientMemory) × TurnsSo end start bytes (IsRefusal kind) old new
+EndsSo end IsRefusal start bytes (Unread kind) old new = (unread_kind start bytes ≡ Some kind) × (new ≡ old)
+
+-- want of memory: no turn was made, or it was refused with that
+pub record LacksSo (end : End) (IsRefusal : ErrorKind → Outcome → Type 0) (start : Bool) (bytes : List ℕ) (error : DelegateError) (old new : List Turn) : Type 0 where
+  pub error_is : error ≡ errors.InsufficientMemory
+  pub turns : (new ≡ old) ⊎ TurnsSo end start bytes (IsRefusal kinds.InsufficientMemory) old new
+
+abbrev pub ClientHands : Bool → List ℕ → Result Ending DelegateError → List Turn → List Turn → Type 0
+ClientHands start bytes (Ok ending) old new = EndsSo Client IsClientRefusal start bytes ending old new
+ClientHands start bytes (Err error) old new = LacksSo Client IsClientRefusal start bytes error old new
+
+abbrev pub ServerHands : List ℕ → Result Handed DelegateError → List Turn → List Turn → Type 0
+ServerHands bytes (Ok (handed.Stands ending)) old new = EndsSo Server IsServerRefusal false bytes ending old new
+ServerHands bytes (Ok (handed.Finished identity)) old new = TurnsSo Server false bytes IsFinished old new
+ServerHands bytes (Err error) old new = LacksSo Server IsServerRefusal false bytes error old new
+
+-- no end stands refused for want of memory
+abbrev pub IsNoWant : Ending → Type 0
+IsNoWant Running = Unit {0}
+IsNoWant (Refused kind) = kind ≢ kinds.InsufficientMemory
+IsNoWant (Unread kind) = Unit {0}
+
+-- a play that stands so after these deliveries and turns
+pub record Stands (deliveries : List Delivery) (turns : List Turn) (standing : Standing) : Type 0 where
+  pub plays : Plays deliveries turns
+  pub begun : standing.begun ≡ any_for Client deliveries
+  pub client : standing.played.client ≡ ending_of Client deliveries turns
+  pub server : standing.played.server ≡ ending_of Server deliveries turns
+  pub client_kind : IsNoWant standing.played.client
+  pub server_kind : IsNoWant standing.played.server
+
+-- a play that this delivery ended by an error: it made a turn, or it made none
+abbrev pub StopsAt : Delivery → List Delivery → List Turn → Type 0
+StopsAt d past turns = Plays past turns ⊎ Plays (d ∷ past) turns

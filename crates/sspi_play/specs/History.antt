@@ -1,0 +1,44 @@
+-- What one delivery, and a whole play, make of an end and of its history.
+use Rattle.std.specs.Prelude.{◌≡◌, false, List, ◌∷◌, ◌++◌, Option, None, Some, Result, Ok, Err}
+use Rattle.sspi_mech.specs.Meaning.{Meaning}
+use Rattle.sspi_names.specs.declared.identity.AuthIdentity.{AuthIdentity}
+use Rattle.sspi_credssp.specs.Client.{ClientView}
+use Rattle.sspi_credssp.specs.Context.{ContextSetting}
+use Rattle.sspi_credssp.specs.Proxy.{ProxyMeaning}
+use Rattle.sspi_credssp.specs.Server.{ServerView}
+use Rattle.sspi_credssp.specs.declared.turn.Turn.{Turn}
+use Rattle.sspi_delegate.specs.declared.answer.DelegateError.{DelegateError}
+use Rattle.sspi_delegate.specs.Asking.{KdcCalls}
+use Rattle.sspi_delegate.specs.Causes.{IsFinished}
+use Rattle.sspi_delegate.specs.EndTurns.{any_finished}
+use Rattle.sspi_delegate.specs.History.{ClientHistory, ClientLeft, ServerHistory, ServerGave}
+use Rattle.sspi_play.specs.declared.hand.Handed.{Handed}
+use Rattle.sspi_play.specs.declared.hand.Handed.TheVariants as handed
+
+module _ {C D : Type 0} (c : Meaning ContextSetting C) (k : KdcCalls D) where
+  -- the history of a client, by the answer: where there was no memory it may have been left waiting for its KDC
+  abbrev pub ClientPlayed : {X : Type 0} → ClientView C → D → Result X DelegateError → List Turn → ClientView C → D → Type 0
+  ClientPlayed first kdc (Ok done) turns now kdc2 = ClientHistory c k first kdc turns now kdc2
+  ClientPlayed first kdc (Err error) turns now kdc2 = ClientLeft c k first kdc turns now kdc2
+
+module _ {C P : Type 0} (c : Meaning ContextSetting C) (p : ProxyMeaning P) where
+  abbrev pub ServerHandPast : ServerView C P → Result Handed DelegateError → List Turn → ServerView C P → Type 0
+  ServerHandPast first (Ok (handed.Stands ending)) turns now = ServerHistory c p first turns now
+  ServerHandPast first (Ok (handed.Finished identity)) turns now = ServerGave c p first identity turns now
+  ServerHandPast first (Err error) turns now = ServerHistory c p first turns now
+
+  -- one of these turns of the server finished, and gave this identity
+  pub record GaveIn (first : ServerView C P) (identity : AuthIdentity) (turns : List Turn) : Type 0 where
+    pub later : List Turn
+    pub turn : Turn
+    pub before : List Turn
+    pub parts : turns ≡ later ++ (turn ∷ before)
+    pub finished : IsFinished turn.outcome
+    -- the server once it had made that turn
+    pub server : ServerView C P
+    pub gave : ServerGave c p first identity (turn ∷ before) server
+
+  -- the identity is that of the turn that finished, and there is none where no turn did
+  abbrev pub Gave : ServerView C P → Option AuthIdentity → List Turn → Type 0
+  Gave first None turns = any_finished turns ≡ false
+  Gave first (Some identity) turns = GaveIn first identity turns

@@ -1,0 +1,7 @@
+pub mod Agreement
+pub mod Faithful
+pub mod Hands
+pub mod History
+pub mod Kept
+pub mod Played
+pub mod Plays

@@ -1,0 +1,187 @@
+ghost use Rattle.std.specs.Prelude.{◌≡◌, List, ◌∷◌, OnOk, OnErr, IfErr};
+ghost use Rattle.sspi_credssp.specs.Client.{ClientView};
+ghost use Rattle.sspi_credssp.specs.Context.{either};
+ghost use Rattle.sspi_credssp.specs.Server.{ServerView};
+ghost use Rattle.sspi_delegate.specs.Asking.{kdc_calls};
+ghost use Rattle.sspi_delegate.specs.EndTurns.{client_turns, server_turns};
+ghost use Rattle.sspi_delegate.specs.History.{ClientHistory, ServerHistory};
+ghost use Rattle.sspi_delegate.specs.Refusals.{KdcStays, ProxyStays};
+ghost use Rattle.sspi_delegate.specs.Turns.{AllGoOn};
+ghost use Rattle.sspi_play.specs.declared.played.Delivery.{Delivery};
+ghost use Rattle.sspi_play.specs.Hands.{RequestIs, EndsBy, ClientHands, ServerHands, Stands, StopsAt};
+ghost use Rattle.sspi_play.specs.History.{ClientPlayed, ServerHandPast, Gave};
+
+use crate::played::{Delivery, Ending, Played};
+use sspi_ber::WireKind;
+use sspi_credssp::{CredSspClient, CredSspServer, CredentialsProxy, SspiContext};
+use sspi_delegate::{
+    ClientRound, DelegateError, End, ServerRound, Transcript, client_round, server_round,
+};
+use sspi_mech::{Kdc, Mechanism};
+use sspi_names::AuthIdentity;
+use sspi_tsreq::TsRequest;
+use sspi_types::{Bytes, Error, ErrorKind};
+use std::alloc::Global;
+
+/// How a play stands between two deliveries.
+#[derive(Drop)]
+pub(crate) struct Standing {
+    /// Whether the client has had its start.
+    pub begun: bool,
+    pub played: Played,
+}
+
+/// What a delivery made of the server.
+#[derive(Drop)]
+pub(crate) enum Handed {
+    Stands(Ending),
+    Finished(AuthIdentity),
+}
+
+/// The request of a delivery: a start is not read, and gives the client's own first request.
+fn request_of(alloc: Global, start: bool, bytes: &Bytes) -> Result<TsRequest, WireKind>
+    ensures { RequestIs start bytes.now result }
+{
+    if start {
+        return Ok(TsRequest::default());
+    }
+    match TsRequest::from_buffer(alloc, bytes.as_slice()) {
+        Ok(request) => Ok(request),
+        Err(kind) => Err(kind),
+    }
+}
+
+/// How an end stands that refused with this error.
+fn ending_by(error: Error) -> Result<Ending, DelegateError>
+    ensures { EndsBy error.error_type result }
+{
+    if error.error_type == ErrorKind::InsufficientMemory {
+        Err(DelegateError::InsufficientMemory)
+    } else {
+        Ok(Ending::Refused(error.error_type))
+    }
+}
+
+/// Hands a delivery to a client that stands; how it stands then.
+fn hand_client<N: Mechanism, K: Mechanism, D: Kdc>(
+    alloc: Global,
+    client: &mut CredSspClient<N, K>,
+    kdc: &mut D,
+    transcript: &mut Transcript,
+    start: bool,
+    bytes: &Bytes,
+) -> Result<Ending, DelegateError>
+    ensures hands { ClientHands start bytes.now result transcript.old.turns transcript.new.turns }
+    ensures history { let c = either N.REQUESTS N.meaning K.meaning in let k = kdc_calls D.told D.asked D.faults in
+        (first : ClientView (SspiContext N K)) (kdc_first : D) → AllGoOn (client_turns transcript.old.turns) →
+        ClientHistory c k first kdc_first (client_turns transcript.old.turns) client.old kdc.old →
+        ClientPlayed c k first kdc_first result (client_turns transcript.new.turns) client.new kdc.new }
+    ensures server { server_turns transcript.new.turns ≡ server_turns transcript.old.turns }
+    ensures kdc { KdcStays D.told D.faults kdc.old kdc.new }
+{
+    let request = match request_of(alloc, start, bytes) {
+        Ok(request) => request,
+        Err(WireKind::InsufficientMemory) => return Err(DelegateError::InsufficientMemory),
+        Err(kind) => return Ok(Ending::Unread(kind)),
+    };
+    match client_round(alloc, client, kdc, transcript, request) {
+        ClientRound::Replied => Ok(Ending::Running),
+        ClientRound::Refused(error) => ending_by(error),
+        ClientRound::Lost => Err(DelegateError::InsufficientMemory),
+    }
+}
+
+/// Hands a delivery to a server that stands; how it stands then, or the identity that it opened.
+fn hand_server<N: Mechanism, K: Mechanism, C: CredentialsProxy>(
+    alloc: Global,
+    server: &mut CredSspServer<N, K, C>,
+    transcript: &mut Transcript,
+    bytes: &Bytes,
+) -> Result<Handed, DelegateError>
+    ensures hands { ServerHands bytes.now result transcript.old.turns transcript.new.turns }
+    ensures history { let c = either N.REQUESTS N.meaning K.meaning in (first : ServerView (SspiContext N K) C) →
+        ServerHistory c C.meaning first (server_turns transcript.old.turns) server.old →
+        ServerHandPast c C.meaning first result (server_turns transcript.new.turns) server.new }
+    ensures client { client_turns transcript.new.turns ≡ client_turns transcript.old.turns }
+    ensures proxy { ProxyStays C.meaning server.old.proxy server.new.proxy }
+{
+    let request = match request_of(alloc, false, bytes) {
+        Ok(request) => request,
+        Err(WireKind::InsufficientMemory) => return Err(DelegateError::InsufficientMemory),
+        Err(kind) => return Ok(Handed::Stands(Ending::Unread(kind))),
+    };
+    match server_round(alloc, server, transcript, request) {
+        ServerRound::Replied => Ok(Handed::Stands(Ending::Running)),
+        ServerRound::Finished(identity) => Ok(Handed::Finished(identity)),
+        ServerRound::Refused(error) => match ending_by(error) {
+            Ok(ending) => Ok(Handed::Stands(ending)),
+            Err(error) => Err(error),
+        },
+        ServerRound::Lost => Err(DelegateError::InsufficientMemory),
+    }
+}
+
+/// Hands a delivery to its end, if that stands.
+pub(crate) fn hand<N: Mechanism, K: Mechanism, C: CredentialsProxy, D: Kdc>(
+    alloc: Global,
+    client: &mut CredSspClient<N, K>,
+    server: &mut CredSspServer<N, K, C>,
+    delivery: &Delivery,
+    kdc: &mut D,
+    transcript: &mut Transcript,
+    standing: &mut Standing,
+) -> Result<(), DelegateError>
+    ensures stands { OnOk result ((past : List Delivery) → Stands past transcript.old.turns standing.old →
+        Stands (delivery.now ∷ past) transcript.new.turns standing.new) }
+    ensures stops { OnErr result ((past : List Delivery) → Stands past transcript.old.turns standing.old →
+        StopsAt delivery.now past transcript.new.turns) }
+    ensures only { IfErr result (λ error. error ≡ DelegateError.InsufficientMemory) }
+    ensures client_history { let c = either N.REQUESTS N.meaning K.meaning in let k = kdc_calls D.told D.asked D.faults in
+        (first : ClientView (SspiContext N K)) (kdc_first : D) (past : List Delivery) → Stands past transcript.old.turns standing.old →
+        ClientHistory c k first kdc_first (client_turns transcript.old.turns) client.old kdc.old →
+        ClientPlayed c k first kdc_first result (client_turns transcript.new.turns) client.new kdc.new }
+    ensures server_history { let c = either N.REQUESTS N.meaning K.meaning in (first : ServerView (SspiContext N K) C) →
+        ServerHistory c C.meaning first (server_turns transcript.old.turns) server.old →
+        ServerHistory c C.meaning first (server_turns transcript.new.turns) server.new }
+    ensures identity { let c = either N.REQUESTS N.meaning K.meaning in (first : ServerView (SspiContext N K) C) →
+        ServerHistory c C.meaning first (server_turns transcript.old.turns) server.old →
+        Gave c C.meaning first standing.old.played.identity (server_turns transcript.old.turns) →
+        OnOk result (Gave c C.meaning first standing.new.played.identity (server_turns transcript.new.turns)) }
+    ensures kdc { KdcStays D.told D.faults kdc.old kdc.new }
+    ensures proxy { ProxyStays C.meaning server.old.proxy server.new.proxy }
+{
+    match delivery.to {
+        End::Client => {
+            let start = !standing.begun;
+            standing.begun = true;
+            match standing.played.client {
+                Ending::Running => {
+                    match hand_client(alloc, client, kdc, transcript, start, &delivery.bytes) {
+                        Ok(ending) => {
+                            standing.played.client = ending;
+                            Ok(())
+                        }
+                        Err(error) => Err(error),
+                    }
+                }
+                Ending::Refused(_) => Ok(()),
+                Ending::Unread(_) => Ok(()),
+            }
+        }
+        End::Server => match standing.played.server {
+            Ending::Running => match hand_server(alloc, server, transcript, &delivery.bytes) {
+                Ok(Handed::Stands(ending)) => {
+                    standing.played.server = ending;
+                    Ok(())
+                }
+                Ok(Handed::Finished(identity)) => {
+                    standing.played.identity = Some(identity);
+                    Ok(())
+                }
+                Err(error) => Err(error),
+            },
+            Ending::Refused(_) => Ok(()),
+            Ending::Unread(_) => Ok(()),
+        },
+    }
+}

@@ -1,0 +1,87 @@
+ghost use Rattle.std.specs.Prelude.{◌≡◌, [], IfErr};
+ghost use Rattle.sspi_credssp.specs.Context.{either};
+ghost use Rattle.sspi_delegate.specs.Asking.{kdc_calls};
+ghost use Rattle.sspi_delegate.specs.Headline.{IsFresh};
+ghost use Rattle.sspi_delegate.specs.Refusals.{KdcStays, ProxyStays};
+ghost use Rattle.sspi_delegate.specs.ClientRun.{client_end};
+ghost use Rattle.sspi_delegate.specs.ServerRun.{server_end};
+ghost use Rattle.sspi_play.specs.Agreement.{AgreesIfFaithful};
+ghost use Rattle.sspi_play.specs.Kept.{kept_list, identity_of};
+ghost use Rattle.sspi_play.specs.Played.{both, Accounts, IsPlay};
+
+use crate::hand::{Standing, hand};
+use crate::played::{Delivery, Ending, Played};
+use sspi_credssp::{CredSspClient, CredSspServer, CredentialsProxy};
+use sspi_delegate::{DelegateError, Transcript};
+use sspi_mech::{Kdc, Mechanism};
+use std::alloc::Global;
+
+/// Hands each delivery, in its order, to its end: any octets, to either end, in any order (MS-CSSP 3.1.5).
+///
+/// The first delivery to the client is its start, whose octets are not read; each other delivery is a request that its end
+/// makes a turn of. Where the client's context asks a KDC, `kdc` is asked and the turn goes on with its reply; a call that fails
+/// goes on as `Reply::Failed`. An end takes nothing more after its first refusal, or after the first delivery to it that is no
+/// request: what else comes for it is passed over. A server that has finished still takes a delivery, and refuses it.
+///
+/// Ok says how each end stands, and the identity that the server opened. The only error is `InsufficientMemory`, that of an end
+/// or of the KDC among it. Whatever the answer, the transcript has got each turn that was made, a refused one too, in the order
+/// of the deliveries, and both ends are as their last turn left them; where there was no memory for a reply of the KDC, the
+/// client waits for it in one further turn, which has no record.
+///
+/// `accounts` speaks of any ends and a transcript without turns, `plays` and `agrees` of ends to which nothing was delivered
+/// since they were made, by whatever version and least version; `agrees` has premises of its own, which
+/// `specs/Agreement.antt` and `specs/Faithful.antt` state.
+pub fn play<N: Mechanism, K: Mechanism, C: CredentialsProxy, D: Kdc>(
+    alloc: Global,
+    client: &mut CredSspClient<N, K>,
+    server: &mut CredSspServer<N, K, C>,
+    schedule: &[Delivery],
+    kdc: &mut D,
+    transcript: &mut Transcript,
+) -> Result<Played, DelegateError>
+    ensures only { IfErr result (λ error. error ≡ DelegateError.InsufficientMemory) }
+    ensures accounts { transcript.old.turns ≡ [] → Accounts (either N.REQUESTS N.meaning K.meaning) C.meaning
+        (kdc_calls D.told D.asked D.faults) schedule.now (both client.old server.old kdc.old transcript.old.turns) result
+        (both client.new server.new kdc.new transcript.new.turns) }
+    ensures plays { IsFresh client.old server.old transcript.old.turns → IsPlay (either N.REQUESTS N.meaning K.meaning)
+        (both client.old server.old kdc.old transcript.old.turns) (both client.new server.new kdc.new transcript.new.turns) }
+    ensures agrees { IsFresh client.old server.old transcript.old.turns → AgreesIfFaithful (either N.REQUESTS N.meaning K.meaning) kept_list
+        (client_end client.new) (server_end server.new) transcript.new.turns (identity_of result) }
+    ensures kdc { KdcStays D.told D.faults kdc.old kdc.new }
+    ensures proxy { ProxyStays C.meaning server.old.proxy server.new.proxy }
+{
+    hand_all(alloc, client, server, schedule, kdc, transcript)
+}
+
+/// The same of any ends.
+fn hand_all<N: Mechanism, K: Mechanism, C: CredentialsProxy, D: Kdc>(
+    alloc: Global,
+    client: &mut CredSspClient<N, K>,
+    server: &mut CredSspServer<N, K, C>,
+    schedule: &[Delivery],
+    kdc: &mut D,
+    transcript: &mut Transcript,
+) -> Result<Played, DelegateError>
+    ensures only { IfErr result (λ error. error ≡ DelegateError.InsufficientMemory) }
+    ensures accounts { transcript.old.turns ≡ [] → Accounts (either N.REQUESTS N.meaning K.meaning) C.meaning
+        (kdc_calls D.told D.asked D.faults) schedule.now (both client.old server.old kdc.old transcript.old.turns) result
+        (both client.new server.new kdc.new transcript.new.turns) }
+    ensures kdc { KdcStays D.told D.faults kdc.old kdc.new }
+    ensures proxy { ProxyStays C.meaning server.old.proxy server.new.proxy }
+{
+    let mut standing = Standing {
+        begun: false,
+        played: Played {
+            client: Ending::Running,
+            server: Ending::Running,
+            identity: None,
+        },
+    };
+    for delivery in schedule {
+        match hand(alloc, client, server, delivery, kdc, transcript, &mut standing) {
+            Ok(()) => {}
+            Err(error) => return Err(error),
+        }
+    }
+    Ok(standing.played)
+}

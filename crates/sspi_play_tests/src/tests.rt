@@ -1,0 +1,4 @@
+//! Schedules of deliveries to two ends of plain NTLM.
+
+mod ends;
+mod schedules;

@@ -1,0 +1,149 @@
+//! The two ends, and what is delivered to them. What they send to each other was computed apart.
+
+use sspi_credssp::{ClientMode, CredSspClient, CredSspServer, ServerMode, TableProxy};
+use sspi_delegate::{DelegateError, End, Transcript, Turn};
+use sspi_mech::{FailingKdc, Ntlm, NtlmConfig};
+use sspi_names::{AuthIdentity, Credentials, Username};
+use sspi_play::{Delivery, Ending, Played, play};
+use sspi_tsreq::CredSspMode;
+use sspi_types::{Bytes, Secret, Text};
+use std::alloc::{AllocError, Global};
+use std::process::Abort;
+
+/// What a test runs on.
+pub trait Test: Abort + Alloc<A = Global> {}
+
+impl<R: Abort + Alloc<A = Global>> Test for R {}
+
+/// The value of a call that is not to be refused.
+pub fn given<T, E: Drop>(rt: &impl Abort, answer: Result<T, E>) -> T {
+    match answer {
+        Ok(value) => value,
+        Err(_) => rt.abort(),
+    }
+}
+
+/// The messages of `DOM\ann` with the password `pw` and the key 010203 to a server of that key, by their numbers: two tokens,
+/// two proofs and the credentials. Other words are octets themselves.
+fn octets_of(word: &str) -> &str {
+    match word {
+        "1" => "3011a003020106a10a30083006a00404024e31",
+        "2" => "3019a003020106a1123010300ea00c040a4e320000000000000000",
+        "3" => {
+            "308192a003020106a1333031302fa02d042b4e330700444f4d5c616e6e34ddc90ba7ffb071634b466e4d8ecefc8e57189f71f0576ac2bb6e173cf15e3fa3320430507e00ce75d8eebf639da627511157b3e1e0e7bbbd1efcbe459a5253b2f0839a676027203f86155c53b75ceb87f89c4ca52204200000000000000000000000000000000000000000000000000000000000000000"
+        }
+        "4" => {
+            "305da003020106a332043078cc8c57f30bd91a89321eab210cec4eb4f2c13c3a9badf1d36d23a85d33afc979a1ffec6a9fcc3e9b7026299ad0c77ea52204200000000000000000000000000000000000000000000000000000000000000000"
+        }
+        "5" => {
+            "3066a003020106a23b0439a5410dbaf6a0ebe3683e10cab62877af3027a003020101a120041e301ca008040644004f004d00a108040661006e006e00a206040470007700a52204200000000000000000000000000000000000000000000000000000000000000000"
+        }
+        _ => word,
+    }
+}
+
+/// A word for a delivery: `c` or `s` for its end, and what is delivered.
+fn delivery(rt: &impl Test, word: &str) -> Delivery {
+    match word.split_once(':') {
+        Some((end, octets)) => Delivery {
+            to: if end == "c" { End::Client } else { End::Server },
+            bytes: Bytes::from_vec(given(rt, hex::decode(rt.alloc(), octets_of(octets)))),
+        },
+        None => rt.abort(),
+    }
+}
+
+fn schedule(rt: &impl Test, words: &str) -> Vec<Delivery> {
+    let mut schedule = Vec::new(rt.alloc());
+    for word in words.split_whitespace() {
+        given(rt, schedule.push(delivery(rt, word)));
+    }
+    schedule
+}
+
+fn identity(rt: &impl Test) -> AuthIdentity {
+    let username = given(rt, Username::parse(rt.alloc(), "DOM\\ann"));
+    let password = Secret::from(given(rt, Text::from_text(rt.alloc(), "pw")));
+    AuthIdentity { username, password }
+}
+
+fn config(rt: &impl Test) -> NtlmConfig {
+    NtlmConfig::new(given(rt, Text::from_text(rt.alloc(), "CLIENT")))
+}
+
+fn key(rt: &impl Test, digits: &str) -> Vec<u8> {
+    given(rt, hex::decode(rt.alloc(), digits))
+}
+
+fn client(rt: &impl Test) -> CredSspClient<Ntlm, Ntlm> {
+    let mut target = String::new(rt.alloc());
+    given(rt, target.push_str("TERMSRV/host.example.com"));
+    CredSspClient::new(
+        rt.alloc(),
+        key(rt, "010203"),
+        Credentials::AuthIdentity(identity(rt)),
+        CredSspMode::WithCredentials,
+        ClientMode::Ntlm(config(rt)),
+        target,
+        [0; 32],
+    )
+}
+
+/// A server of this key, which knows the client's own identity.
+fn server(rt: &impl Test, digits: &str) -> CredSspServer<Ntlm, Ntlm, TableProxy> {
+    let mut known = Vec::new(rt.alloc());
+    given(rt, known.push(identity(rt)));
+    CredSspServer::new(
+        rt.alloc(),
+        key(rt, digits),
+        TableProxy::new(rt.alloc(), known, Vec::new(rt.alloc())),
+        ServerMode::Ntlm(config(rt)),
+    )
+}
+
+/// How the ends stand after a play, by the server's key, the words for the deliveries and the ends of the turns.
+pub fn comes_to(rt: &impl Test, digits: &str, words: &str, turns: &str, wanted: (Ending, Ending, Option<&str>)) {
+    let mut transcript = Transcript::new(rt.alloc());
+    let played = play(
+        rt.alloc(),
+        &mut client(rt),
+        &mut server(rt, digits),
+        &schedule(rt, words),
+        &mut FailingKdc::new(),
+        &mut transcript,
+    );
+    assert!(rt; made_by(transcript.turns(), turns), "{words}");
+    stands(rt, played, words, wanted);
+}
+
+fn made_by(turns: &[Turn], ends: &str) -> bool {
+    let ends = if ends == "-" {
+        [].as_slice()
+    } else {
+        ends.as_bytes()
+    };
+    turns.len() == ends.len()
+        && turns
+            .iter()
+            .zip(ends.iter())
+            .all(|(turn, end)| (turn.end == End::Client) == (*end == b'c'))
+}
+
+fn stands(rt: &impl Abort, played: Result<Played, DelegateError>, words: &str, (client, server, name): (Ending, Ending, Option<&str>)) {
+    match played {
+        Ok(played) => {
+            assert!(rt; played.client == client, "{words}");
+            assert!(rt; played.server == server, "{words}");
+            assert!(rt; is_named(&played.identity, name), "{words}");
+        }
+        Err(_) => rt.abort(),
+    }
+}
+
+fn is_named(identity: &Option<AuthIdentity>, name: Option<&str>) -> bool {
+    match (identity, name) {
+        (Some(identity), Some(name)) => identity.username.inner() == name,
+        (None, None) => true,
+        _ => false,
+    }
+}

@@ -1,0 +1,107 @@
+//! One line a play: the deliveries, the end of each turn that is made or `-` for none, how the client and the server stand, and whether the
+//! server opened an identity. The server's key is that of the client, unless a test says otherwise.
+
+use crate::tests::ends::{Test, comes_to};
+use sspi_ber::WireKind;
+use sspi_play::Ending;
+use sspi_types::ErrorKind;
+
+fn ending(rt: &impl Test, word: &str) -> Ending {
+    match word {
+        "running" => Ending::Running,
+        "altered" => Ending::Refused(ErrorKind::MessageAltered),
+        "token" => Ending::Refused(ErrorKind::InvalidToken),
+        "sequence" => Ending::Refused(ErrorKind::OutOfSequence),
+        "unsupported" => Ending::Refused(ErrorKind::UnsupportedFunction),
+        "old" => Ending::Refused(ErrorKind::DowngradeDetected),
+        "eof" => Ending::Unread(WireKind::UnexpectedEof),
+        "data" => Ending::Unread(WireKind::InvalidData),
+        _ => rt.abort(),
+    }
+}
+
+fn identity(rt: &impl Test, word: &str) -> Option<&'static str> {
+    match word {
+        "-" => None,
+        "ann" => Some("DOM\\ann"),
+        _ => rt.abort(),
+    }
+}
+
+/// How the ends stand, in three words.
+fn standing(rt: &impl Test, words: &str) -> (Ending, Ending, Option<&'static str>) {
+    match words.split_once(' ') {
+        Some((client, rest)) => match rest.split_once(' ') {
+            Some((server, name)) => (ending(rt, client), ending(rt, server), identity(rt, name)),
+            None => rt.abort(),
+        },
+        None => rt.abort(),
+    }
+}
+
+fn plays(rt: &impl Test, key: &str, lines: &str) {
+    for line in lines.lines() {
+        if let Some((words, rest)) = line.split_once(" = ") {
+            if let Some((turns, wanted)) = rest.split_once(' ') {
+                comes_to(rt, key, words, turns, standing(rt, wanted));
+            }
+        }
+    }
+}
+
+/// The exchange itself, and fronts of it.
+const EXCHANGES: &str = r"
+c: s:1 c:2 s:3 c:4 s:5 = cscscs running running ann
+c: s:1 c:2 s:3 c:4 = cscsc running running -
+c: s:1 c:2 s:3 = cscs running running -
+c: = c running running -
+";
+
+#[test]
+fn exchanges(rt: HostRuntime) {
+    plays(&rt, "010203", EXCHANGES);
+}
+
+/// Messages that are repeated, reflected, put in another order or left out. The challenge is one of zeros, so what an earlier
+/// session sent is taken again: the plain mechanism is not faithful there.
+const REORDERED: &str = r"
+c: s:1 s:1 = css running token -
+c: s:1 c:2 s:3 c:3 = cscsc altered running -
+c: s:1 c:2 s:3 s:4 = cscss running token -
+c: s:1 c:2 s:3 c:4 c:4 = cscscc sequence running -
+c: s:1 c:2 s:3 c:4 s:5 s:5 c:4 = cscscssc sequence unsupported ann
+c: s:1 c:2 s:3 c:4 s:5 c:4 c:4 = cscscsc sequence running ann
+s:1 c: c:2 s:3 c:4 s:5 = sccscs running running ann
+s:1 s:3 s:5 = sss running running ann
+";
+
+#[test]
+fn reordered(rt: HostRuntime) {
+    plays(&rt, "010203", REORDERED);
+}
+
+/// Messages that the attacker made. What comes after a refusal, or after what is no request, is passed over.
+const INVENTED: &str = r"
+s:3005a003020104 c:3005a003020106 c:3005a003020104 = scc old old -
+s:3005a003020104 c:30 c:3005a003020104 = scc old old -
+c: s:1 c:2 s:3 c:4 s:5 s:30 s:3005a003020105 = cscscs running eof ann
+c: s:1 c:2 s:3 c:4 s:5 s:3005a003020105 c:3005a003020105 = cscscssc altered altered ann
+c: s:1 c:30 s:300aa003020106a403020105 = css eof token -
+s:30 s:1 c: c:2 = cc running eof -
+s:3007a003020106a28a s:1 = - running data -
+";
+
+#[test]
+fn invented(rt: HostRuntime) {
+    plays(&rt, "010203", INVENTED);
+}
+
+/// A server of another key refuses the client's proof, so the client never seals.
+const IMPOSTOR: &str = r"
+c: s:1 c:2 s:3 = cscs running altered -
+";
+
+#[test]
+fn a_server_of_another_key(rt: HostRuntime) {
+    plays(&rt, "010204", IMPOSTOR);
+}
