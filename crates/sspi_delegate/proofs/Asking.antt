@@ -22,13 +22,15 @@ calm_risen None before now h = h
 calm_risen (Some told) before now h = omega (arith, h)
 
 -- what is told of an answer is told of the reply that it becomes
-told_answer : {A : Type 0} (told : Option (ℕ → NetworkRequest → Reply)) (call : ℕ) (question : NetworkRequest) (before now : ℕ) (bytes : Vec ℕ A) →
+told_answer : {A : Type 0} (told : Option (ℕ → NetworkRequest → Reply)) (call : ℕ) (question : NetworkRequest) (before now : ℕ)
+    (bytes : Vec ℕ A) →
     IsTold told call question before now (Ok bytes) → RepliesAsTold told call question (Answered bytes.items) before now
 told_answer None call question before now bytes h = h
 told_answer (Some told) call question before now bytes h = h
 
 module _ {D : Type 0} (told : D → Option (ℕ → NetworkRequest → Reply)) (calls faults : D → ℕ) where
-  pub answered : {A : Type 0} (before now : D) (question : NetworkRequest) (bytes : Vec ℕ A) → told now ≡ told before → calls now ≡ counted_on (calls before) →
+  pub answered : {A : Type 0} (before now : D) (question : NetworkRequest) (bytes : Vec ℕ A) → told now ≡ told before →
+      calls now ≡ counted_on (calls before) →
       IsTold (told before) (calls before) question (faults before) (faults now) (Ok bytes) → faults before ≤ faults now →
       HasReplied told calls faults before question (Answered bytes.items) now
   answered before now question bytes same called as_told counted = record {
@@ -47,7 +49,8 @@ module _ {D : Type 0} (told : D → Option (ℕ → NetworkRequest → Reply)) (
     counted = omega (arith, stays.counted, reply_counted (faults before) (faults now) reply call.counted);
   }
 
-  pub kdc_lost : (first before now : D) → KdcStays told faults first before → HasNoReply told calls faults before now → KdcStays told faults first now
+  pub kdc_lost : (first before now : D) → KdcStays told faults first before → HasNoReply told calls faults before now →
+      KdcStays told faults first now
   kdc_lost first before now stays call = record {
     told_same = call.told_same ∙ stays.told_same;
     counted = omega (arith, stays.counted, calm_risen (told before) (faults before) (faults now) call.calm);

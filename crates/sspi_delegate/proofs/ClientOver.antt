@@ -43,21 +43,24 @@ module _ {C : Type 0} (c : Meaning ContextSetting C) (law : IsContext c) where
       ∙ ap (λ (x : C). c.counted x (c.counts m)) (sym same)
       ∙ law.counted_counted m2 (silent (c.counts m2)) (c.counts m)
 
-  pub seals_still : (x y : Option C) (n : ℕ) (text : List ℕ) (blob : Option (List ℕ)) → SameBut c x y → SealsIn c x n text blob → SealsIn c y n text blob
+  pub seals_still : (x y : Option C) (n : ℕ) (text : List ℕ) (blob : Option (List ℕ)) → SameBut c x y → SealsIn c x n text blob →
+      SealsIn c y n text blob
   seals_still None y n text blob same h = absurd h
   seals_still (Some m) None n text blob same h = absurd same
   seals_still (Some m) (Some m2) n text None same h = absurd h
   seals_still (Some m) (Some m2) n text (Some blob) same h =
       law.seals_counted m2 (c.counts m) n text blob (subst (λ (x : C). c.seals x n text blob) (recounted m m2 same) h)
 
-  pub opens_still : (x y : Option C) (n : ℕ) (blob : Option (List ℕ)) (text : List ℕ) → SameBut c x y → OpensIn c x n blob text → OpensIn c y n blob text
+  pub opens_still : (x y : Option C) (n : ℕ) (blob : Option (List ℕ)) (text : List ℕ) → SameBut c x y → OpensIn c x n blob text →
+      OpensIn c y n blob text
   opens_still None y n blob text same h = absurd h
   opens_still (Some m) None n blob text same h = absurd same
   opens_still (Some m) (Some m2) n None text same h = absurd h
   opens_still (Some m) (Some m2) n (Some blob) text same h =
       law.opens_counted m2 (c.counts m) n blob text (subst (λ (x : C). c.opens x n blob text) (recounted m m2 same) h)
 
-  pub at_noted : (noted noted2 : Option ℕ) (P Q : ℕ → Type 0) → noted2 ≡ noted → ((version : ℕ) → P version → Q version) → AtNoted noted P → AtNoted noted2 Q
+  pub at_noted : (noted noted2 : Option ℕ) (P Q : ℕ → Type 0) → noted2 ≡ noted → ((version : ℕ) → P version → Q version) →
+      AtNoted noted P → AtNoted noted2 Q
   at_noted noted noted2 P Q same weaker h = rw same (weaker_at noted P Q weaker h)
     where
       weaker_at : (noted : Option ℕ) (P Q : ℕ → Type 0) → ((version : ℕ) → P version → Q version) → AtNoted noted P → AtNoted noted Q
@@ -86,9 +89,14 @@ module _ {C : Type 0} (c : Meaning ContextSetting C) (law : IsContext c) where
     nonce = h.nonce;
     reply = h.reply;
   }
-  nego_over f g t (Some other) reply same h = record { state = same.state ∙ h.state; version = h.version ∙ sym same.version; reply = h.reply }
+  nego_over f g t (Some other) reply same h = record {
+    state = same.state ∙ h.state;
+    version = h.version ∙ sym same.version;
+    reply = h.reply;
+  }
 
-  replies_over : (f g : ClientFrame C) (t : Turn) (out : Outcome) → SameFrame c f g t → ShowsReply (client_shown f) t out → ShowsReply (client_shown g) t out
+  replies_over : (f g : ClientFrame C) (t : Turn) (out : Outcome) → SameFrame c f g t → ShowsReply (client_shown f) t out →
+      ShowsReply (client_shown g) t out
   replies_over f g t (outcome.Reply reply) same h = nego_over f g t t.acts.status reply same h
   replies_over f g t (outcome.Final reply) same h = record {
     state = same.state ∙ h.state;
@@ -117,7 +125,8 @@ module _ {C : Type 0} (c : Meaning ContextSetting C) (law : IsContext c) where
   proof_over f g t (Some statuses.Ok) reply same shows h = let k = same.proved shows.proved in record {
     nonce = rw same.nonce h.nonce;
     proof = at_noted f.noted g.noted _ _ k.0 (λ version seals.
-        rw (k.1, same.nonce, same.public_key) (seals_still f.context g.context f.made (prescribed Client version f.nonce f.public_key) reply.pub_key_auth k.2 seals)) h.proof;
+        rw (k.1, same.nonce, same.public_key) (seals_still f.context g.context f.made
+        (prescribed Client version f.nonce f.public_key) reply.pub_key_auth k.2 seals)) h.proof;
   }
   proof_over f g t (Some other) reply same shows h = tt
 
@@ -130,7 +139,8 @@ module _ {C : Type 0} (c : Meaning ContextSetting C) (law : IsContext c) where
   holds_over f g t (outcome.Reply reply) same shows h = proof_over f g t t.acts.status reply same shows h
   holds_over f g t (outcome.Final reply) same shows h = let k = same.checked shows.checked in
       rw (same.credentials, same.delegation, same.sealed shows.sealed)
-      (text_over (delegated_text f.credentials f.delegation) _ _ (λ text seals. seals_still f.context g.context f.made text reply.auth_info k.2 seals) h)
+      (text_over (delegated_text f.credentials f.delegation) _ _
+      (λ text seals. seals_still f.context g.context f.made text reply.auth_info k.2 seals) h)
   holds_over f g t outcome.Finished same shows h = tt
   holds_over f g t (outcome.Refused kind reply) same shows h = tt
 
@@ -145,7 +155,8 @@ module _ {C : Type 0} (c : Meaning ContextSetting C) (law : IsContext c) where
     held = record {
       sealed = λ was. let k = same.checked (shown.acts.sealed was) in
           at_noted f.noted g.noted _ _ k.0 (λ version h.
-          rw (k.1, same.nonce, same.public_key) (opens_still f.context g.context f.opened t.delivered.pub_key_auth (prescribed Server version f.nonce f.public_key) k.2 h))
+          rw (k.1, same.nonce, same.public_key) (opens_still f.context g.context f.opened t.delivered.pub_key_auth
+          (prescribed Server version f.nonce f.public_key) k.2 h))
           (turn.held.sealed was);
       reply = holds_over f g t t.outcome same shown.reply turn.held.reply;
     };

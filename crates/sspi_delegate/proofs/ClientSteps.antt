@@ -1,5 +1,6 @@
 -- One more turn of a client: what holds of its turns so far holds of them with this one.
-use Rattle.std.proofs.Common.{◌≡◌, ℕ, ◌+◌, Bool, true, false, ◌&&◌, List, [], ◌∷◌, sym, ◌∙◌, ap, subst, refl, Option, None, Some, is_some, IsSome, Ok, if◌then◌else◌}
+use Rattle.std.proofs.Common.{◌≡◌, ℕ, ◌+◌, Bool, true, false, ◌&&◌, List, [], ◌∷◌, sym, ◌∙◌, ap, subst, refl, Option, None, Some}
+use Rattle.std.proofs.Common.{is_some, IsSome, Ok, if◌then◌else◌}
 use Rattle.sspi_types.specs.declared.security_status.SecurityStatus.{SecurityStatus}
 use Rattle.sspi_types.specs.declared.security_status.SecurityStatus.TheVariants as statuses
 use Rattle.sspi_mech.specs.Context.{IsContext}
@@ -9,7 +10,8 @@ use Rattle.sspi_credssp.specs.declared.state.CredSspState.{CredSspState}
 use Rattle.sspi_credssp.specs.declared.state.CredSspState.TheVariants.{NegoToken, PubKeyInfo, AuthInfo, Final}
 use Rattle.sspi_credssp.specs.Acts.{sealed_by, unsealed_by}
 use Rattle.sspi_credssp.specs.Client.{ClientView, IsFreshClient}
-use Rattle.sspi_credssp.specs.ClientTurn.{ClientTurn, IsUnderway, SameClient, StartsUnused, client_frame, client_turn, noted_next, state_after, OnceNegotiated}
+use Rattle.sspi_credssp.specs.ClientTurn.{ClientTurn, IsUnderway, SameClient, StartsUnused, client_frame, client_turn, noted_next}
+use Rattle.sspi_credssp.specs.ClientTurn.{state_after, OnceNegotiated}
 use Rattle.sspi_names.specs.declared.credentials.CredentialsBuffers.{CredentialsBuffers}
 use Rattle.sspi_mech.specs.declared.step.Answer.{Answer}
 use Rattle.sspi_mech.specs.declared.step.Answer.TheVariants.{Done}
@@ -22,13 +24,15 @@ use Rattle.sspi_credssp.specs.Context.{ContextSetting}
 use Rattle.sspi_credssp.specs.Counts.{sealed_in, unsealed_in, SameBut, silent, is_waiting_in}
 use Rattle.sspi_credssp.specs.Noted.{noted_in, noted_with}
 use Rattle.sspi_credssp.specs.Turn.{ClientFrame, UnlessRefused, FitsNoted}
-use Rattle.sspi_delegate.specs.ClientRun.{client_state, client_noted, has_turn, ClientEnd, client_end, client_frame_at, EachClientTurn, ClientRan, HasBegun, ClientFollows}
+use Rattle.sspi_delegate.specs.ClientRun.{client_state, client_noted, has_turn, ClientEnd, client_end, client_frame_at, EachClientTurn}
+use Rattle.sspi_delegate.specs.ClientRun.{ClientRan, HasBegun, ClientFollows}
 use Rattle.sspi_delegate.specs.EndTurns.{made_in, opened_in, is_replied, is_ended, any_proved, any_ended}
 use Rattle.sspi_delegate.specs.Turns.{GoesOn, AllGoOn}
 use Rattle.sspi_delegate.specs.Refusals.{StepsSo}
 use Rattle.sspi_delegate.proofs.Alternating.{others_go}
 use Rattle.sspi_delegate.proofs.ClientOver.{client_over}
-use Rattle.sspi_delegate.proofs.EndSteps.{or_false, or_not, is_false, IsQuiet, AllQuiet, quiet_made, Touched, touched, untouched, unless_given, unless_map, made_by_proof, made_by_seal, opened_by_check, unused_in, same_but}
+use Rattle.sspi_delegate.proofs.EndSteps.{or_false, or_not, is_false, IsQuiet, AllQuiet, quiet_made, Touched, touched, untouched}
+use Rattle.sspi_delegate.proofs.EndSteps.{unless_given, unless_map, made_by_proof, made_by_seal, opened_by_check, unused_in, same_but}
 use Rattle.sspi_credssp.specs.declared.turn.Outcome.{Outcome}
 use Rattle.sspi_credssp.specs.declared.turn.Outcome.TheVariants as outcome
 use Rattle.sspi_credssp.specs.declared.turn.Turn.{Turn}
@@ -36,12 +40,14 @@ use Rattle.sspi_credssp.specs.Shown.{ShowsClientActs, ShowsNego, client_shown}
 
 -- ---- tests
 
-state_nego : (ended proved : Bool) → (if ended then Final else (if proved then AuthInfo else NegoToken)) ≡ NegoToken → (ended ≡ false) × (proved ≡ false)
+state_nego : (ended proved : Bool) → (if ended then Final else (if proved then AuthInfo else NegoToken)) ≡ NegoToken → (ended ≡ false) ×
+    (proved ≡ false)
 state_nego true proved h = absurd (cc (h))
 state_nego false true h = absurd (cc (h))
 state_nego false false h = (refl, refl)
 
-pub state_auth : (ended proved : Bool) → (if ended then Final else (if proved then AuthInfo else NegoToken)) ≡ AuthInfo → (ended ≡ false) × (proved ≡ true)
+pub state_auth : (ended proved : Bool) → (if ended then Final else (if proved then AuthInfo else NegoToken)) ≡ AuthInfo →
+    (ended ≡ false) × (proved ≡ true)
 state_auth true proved h = absurd (cc (h))
 state_auth false true h = (refl, refl)
 state_auth false false h = absurd (cc (h))
@@ -49,14 +55,16 @@ state_auth false false h = absurd (cc (h))
 -- ---- the version that is noted
 
 -- a turn that looked at its peer's version and was not refused has noted it
-pub went_noted : (noted : Option ℕ) (version : ℕ) (out : Outcome) → GoesOn out → UnlessRefused out (FitsNoted true noted version) → IsSome noted
+pub went_noted : (noted : Option ℕ) (version : ℕ) (out : Outcome) → GoesOn out → UnlessRefused out (FitsNoted true noted version) →
+    IsSome noted
 went_noted (Some v) version out went fits = refl
 went_noted None version (outcome.Reply reply) went fits = absurd fits
 went_noted None version (outcome.Final reply) went fits = absurd fits
 went_noted None version outcome.Finished went fits = absurd went
 went_noted None version (outcome.Refused kind reply) went fits = absurd went
 
-noted_kept : {C : Type 0} (context : Option C) (least : ℕ) (noted : Option ℕ) (version : ℕ) → IsSome noted → noted_in context least noted version ≡ noted
+noted_kept : {C : Type 0} (context : Option C) (least : ℕ) (noted : Option ℕ) (version : ℕ) → IsSome noted →
+    noted_in context least noted version ≡ noted
 noted_kept None least noted version some = refl
 noted_kept (Some m) least None version some = absurd (cc (some))
 noted_kept (Some m) least (Some noted) version some = refl
@@ -71,7 +79,8 @@ module _ {C : Type 0} (c : Meaning ContextSetting C) where
   -- each turn past the first has noted a version
   pub noted_by_two : (e : ClientEnd C) (t u : Turn) (past : List Turn) → EachClientTurn c e (t ∷ u ∷ past) → AllGoOn (t ∷ u ∷ past) →
       IsSome (client_noted e.least (t ∷ u ∷ past))
-  noted_by_two e t u past each going = went_noted (client_noted e.least (t ∷ u ∷ past)) t.delivered.version t.outcome going.0 each.0.shown.version
+  noted_by_two e t u past each going = went_noted (client_noted e.least (t ∷ u ∷ past)) t.delivered.version t.outcome going.0
+      each.0.shown.version
 
   noted_more : (old : ClientView C) (t : Turn) (past : List Turn) → HasBegun c old.context past → old.noted ≡ client_noted old.least past →
       EachClientTurn c (client_end old) past → AllGoOn past → noted_next c old t.delivered ≡ client_noted old.least (t ∷ past)
@@ -88,7 +97,8 @@ module _ {C : Type 0} (c : Meaning ContextSetting C) where
 
 module _ {C : Type 0} (c : Meaning ContextSetting C) where
   -- in the authentication nothing is checked or sealed
-  quiet_acts : (f : ClientFrame C) (t : Turn) → ShowsClientActs (client_shown f) t → f.state ≡ NegoToken → t.acts.proved ≡ false → IsQuiet t.acts
+  quiet_acts : (f : ClientFrame C) (t : Turn) → ShowsClientActs (client_shown f) t → f.state ≡ NegoToken → t.acts.proved ≡ false →
+      IsQuiet t.acts
   quiet_acts f t acts nego unproved =
       let unchecked : t.acts.checked ≡ false = is_false t.acts.checked (λ was. let s = (acts.checked was).0 in absurd (cc (s, nego))) in
       record {
@@ -107,12 +117,14 @@ module _ {C : Type 0} (c : Meaning ContextSetting C) where
   nego_state : (past : List Turn) → any_proved past ≡ false → any_ended past ≡ false → client_state past ≡ NegoToken
   nego_state past unproved unended = rw (unended, unproved) refl
 
-  all_quiet : (e : ClientEnd C) (past : List Turn) → EachClientTurn c e past → AllGoOn past → any_proved past ≡ false → any_ended past ≡ false → AllQuiet past
+  all_quiet : (e : ClientEnd C) (past : List Turn) → EachClientTurn c e past → AllGoOn past → any_proved past ≡ false →
+      any_ended past ≡ false → AllQuiet past
   all_quiet e [] each went unproved unended = tt
   all_quiet e (t ∷ past) each went unproved unended =
       let p = or_false (is_replied t.outcome && t.acts.proved) (any_proved past) unproved in
       let q = or_false (is_ended t.outcome) (any_ended past) unended in (
-        quiet_acts (client_frame_at e past t) t each.0.shown.acts (nego_state past p.1 q.1) (reply_unproved t.outcome t.acts.proved went.0 q.0 p.0),
+        quiet_acts (client_frame_at e past t) t each.0.shown.acts (nego_state past p.1 q.1)
+            (reply_unproved t.outcome t.acts.proved went.0 q.0 p.0),
         all_quiet e past each.1 went.1 p.1 q.1,
       )
 
@@ -153,7 +165,8 @@ module _ {C : Type 0} (c : Meaning ContextSetting C) where
     each_over law e e2 past same touch.2 each.1,
   )
 
-  touched_by : (e : ClientEnd C) (state : CredSspState) (past : List Turn) (P : Type 0) → state ≡ client_state past → EachClientTurn c e past → AllGoOn past →
+  touched_by : (e : ClientEnd C) (state : CredSspState) (past : List Turn) (P : Type 0) → state ≡ client_state past →
+      EachClientTurn c e past → AllGoOn past →
       OnceNegotiated state P → Touched P past
   touched_by e NegoToken past P is each went bare =
       let s = state_nego (any_ended past) (any_proved past) (sym is) in untouched P past (all_quiet e past each went s.1 s.0)
@@ -188,7 +201,8 @@ module _ {C : Type 0} (c : Meaning ContextSetting C) where
   noted_of : (first old new : ClientView C) (t : Turn) (past : List Turn) → ClientFollows c first old past → new.least ≡ old.least →
       noted_next c old t.delivered ≡ client_noted new.least (t ∷ past)
   noted_of first old new t past follows same =
-      noted_more c old t past follows.begun follows.noted follows.ran.each follows.going ∙ sym (ap (λ (n : ℕ). client_noted n (t ∷ past)) same)
+      noted_more c old t past follows.begun follows.noted follows.ran.each follows.going ∙ sym
+      (ap (λ (n : ℕ). client_noted n (t ∷ past)) same)
 
   -- a turn that proves seals nothing else, and one that seals the credentials proves nothing
   proved_alone : (f : ClientFrame C) (t : Turn) → ShowsClientActs (client_shown f) t → t.acts.proved ≡ true → t.acts.sealed ≡ false
@@ -205,8 +219,10 @@ module _ {C : Type 0} (c : Meaning ContextSetting C) where
   client_turned law first old new past d out follows turn =
       let unused = starts_unused first old past follows in
       let t : Turn = client_turn c d out new in
-      let made : sealed_in c new.context ≡ made_in past + sealed_by new.acts = turn.moves.sealed unused ∙ ap (λ (n : ℕ). n + sealed_by new.acts) follows.ran.made in
-      let opened : unsealed_in c new.context ≡ opened_in past + unsealed_by new.acts = turn.moves.unsealed unused ∙ ap (λ (n : ℕ). n + unsealed_by new.acts) follows.ran.opened in
+      let made : sealed_in c new.context ≡ made_in past + sealed_by new.acts =
+      turn.moves.sealed unused ∙ ap (λ (n : ℕ). n + sealed_by new.acts) follows.ran.made in
+      let opened : unsealed_in c new.context ≡ opened_in past + unsealed_by new.acts =
+      turn.moves.unsealed unused ∙ ap (λ (n : ℕ). n + unsealed_by new.acts) follows.ran.opened in
       let noted : noted_next c old d ≡ client_noted new.least (t ∷ past) = noted_of first old new t past follows turn.moves.same.least in
       record {
         same = same_on first old new follows.ran.same turn.moves.same;
@@ -224,7 +240,8 @@ module _ {C : Type 0} (c : Meaning ContextSetting C) where
             noted = unless_map out _ _ (λ h. sym (h ∙ noted)) turn.moves.noted_going;
             proved = λ was. (
               sym (turn.moves.noted_proved was ∙ noted),
-              made_by_proof new.acts (made_in past) (sealed_in c new.context) made was (proved_alone (client_frame c old new) t turn.turn.shown.acts was),
+              made_by_proof new.acts (made_in past) (sealed_in c new.context) made was
+                  (proved_alone (client_frame c old new) t turn.turn.shown.acts was),
               same_but c new.context,
             );
             checked = λ was. (
@@ -232,22 +249,26 @@ module _ {C : Type 0} (c : Meaning ContextSetting C) where
               opened_by_check new.acts (opened_in past) (unsealed_in c new.context) opened was turn.turn.shown.acts.opened,
               same_but c new.context,
             );
-            sealed = λ was. made_by_seal new.acts (made_in past) (sealed_in c new.context) made was (sealed_alone (client_frame c old new) t turn.turn.shown.acts was);
+            sealed = λ was. made_by_seal new.acts (made_in past) (sealed_in c new.context) made was
+                (sealed_alone (client_frame c old new) t turn.turn.shown.acts was);
           }) turn.turn,
           each_over law (client_end old) (client_end new) past (same_end old new turn.moves.same)
-              (touched_by (client_end old) old.state past (SameBut c old.context new.context) follows.state follows.ran.each follows.going turn.moves.bare)
+              (touched_by (client_end old) old.state past (SameBut c old.context new.context) follows.state follows.ran.each follows.going
+              turn.moves.bare)
               follows.ran.each,
         );
         others = follows.going;
       }
 
   -- the state after one more turn that went on
-  pub reply_state : (f : ClientFrame C) (t : Turn) (status : Option SecurityStatus) (reply : TsRequest) → ShowsNego (client_shown f) t status reply → f.state ≡ NegoToken
+  pub reply_state : (f : ClientFrame C) (t : Turn) (status : Option SecurityStatus) (reply : TsRequest) →
+      ShowsNego (client_shown f) t status reply → f.state ≡ NegoToken
   reply_state f t None reply h = absurd h
   reply_state f t (Some statuses.Ok) reply h = h.state
   reply_state f t (Some other) reply h = h.state
 
-  replied_state : (f : ClientFrame C) (t : Turn) (past : List Turn) (reply : TsRequest) → f.state ≡ client_state past → t.outcome ≡ outcome.Reply reply →
+  replied_state : (f : ClientFrame C) (t : Turn) (past : List Turn) (reply : TsRequest) → f.state ≡ client_state past →
+      t.outcome ≡ outcome.Reply reply →
       ShowsNego (client_shown f) t t.acts.status reply → state_after f.state (outcome.Reply reply) t.acts.proved ≡ client_state (t ∷ past)
   replied_state f t past reply is out h =
       let nego = reply_state f t t.acts.status reply h in
@@ -255,47 +276,59 @@ module _ {C : Type 0} (c : Meaning ContextSetting C) where
       rw (out, nego, s.0, s.1, or_not t.acts.proved) refl
 
   -- a context that has ended its step waits for no KDC
-  walked_idle : (law : IsContext c) (start : ClientView C) (handle : Option CredentialsBuffers) (token : Option (List ℕ)) (tries : ℕ) (log : List Asked)
+  walked_idle : (law : IsContext c) (start : ClientView C) (handle : Option CredentialsBuffers) (token : Option (List ℕ)) (tries : ℕ)
+      (log : List Asked)
       (answer : Answer) (step : Step) (m : C) → answer ≡ Done step → Walked c start handle token tries log answer m → c.waits m ≡ false
   walked_idle law start handle token tries log answer step m is (stepped m0 m1 a begun stepped_so) =
-      law.step_done m0 m (client_args handle start.target token) step (subst (λ (x : Answer). c.steps m0 (client_args handle start.target token) x m) is stepped_so)
+      law.step_done m0 m (client_args handle start.target token) step
+      (subst (λ (x : Answer). c.steps m0 (client_args handle start.target token) x m) is stepped_so)
   walked_idle law start handle token tries log answer step m is (resumed m1 m2 tried before q reply a walked resumed_so) =
       law.resume_done m1 m reply step (subst (λ (x : Answer). c.resumes m1 reply x m) is resumed_so)
-  walked_idle law start handle token tries log answer step m is (still_asked m1 m2 tried before q reply error walked resumed_so waits) = absurd (cc (is))
+  walked_idle law start handle token tries log answer step m is (still_asked m1 m2 tried before q reply error walked resumed_so waits) =
+      absurd (cc (is))
   walked_idle law start handle token tries log answer step m is (recounted m1 m2 n tried before a walked counted quiet) =
       rw counted (law.waits_counted m1 n ∙ walked_idle law start handle token tried log answer step m1 is walked)
 
-  idle_context : (law : IsContext c) (start : ClientView C) (handle : Option CredentialsBuffers) (token : Option (List ℕ)) (log : List Asked) (step : Step) (context : Option C) →
+  idle_context : (law : IsContext c) (start : ClientView C) (handle : Option CredentialsBuffers) (token : Option (List ℕ))
+      (log : List Asked) (step : Step) (context : Option C) →
       IfContext context (Walked c start handle token 0 log (Done step)) → is_waiting_in c context ≡ false
   idle_context law start handle token log step None h = absurd h
   idle_context law start handle token log step (Some m) h = walked_idle law start handle token 0 log (Done step) step m refl h
 
-  idle_in : (law : IsContext c) (start : ClientView C) (d : TsRequest) (log : List Asked) (status : Option SecurityStatus) (now : ClientView C) (f : ClientFrame C) (t : Turn) (reply : TsRequest) →
+  idle_in : (law : IsContext c) (start : ClientView C) (d : TsRequest) (log : List Asked) (status : Option SecurityStatus)
+      (now : ClientView C) (f : ClientFrame C) (t : Turn) (reply : TsRequest) →
       ShowsNego (client_shown f) t status reply → DoneStep c status start d 0 log now → is_waiting_in c now.context ≡ false
   idle_in law start d log None now f t reply h step = absurd h
-  idle_in law start d log (Some status) now f t reply h step = idle_context law start now.handle d.nego_tokens log (record { status = status; output = now.output }) now.context step
+  idle_in law start d log (Some status) now f t reply h step =
+      idle_context law start now.handle d.nego_tokens log (record { status = status; output = now.output }) now.context step
 
   -- a context that differs in its counts alone waits where the other does
   waits_same : (law : IsContext c) (x y : Option C) → SameBut c x y → is_waiting_in c y ≡ is_waiting_in c x
   waits_same law None None same = refl
   waits_same law None (Some m2) same = absurd same
   waits_same law (Some m) None same = absurd same
-  waits_same law (Some m) (Some m2) same = sym (law.waits_counted m2 (silent (c.counts m2))) ∙ ap c.waits same ∙ law.waits_counted m (silent (c.counts m))
+  waits_same law (Some m) (Some m2) same = sym (law.waits_counted m2 (silent (c.counts m2))) ∙ ap c.waits same ∙ law.waits_counted m
+      (silent (c.counts m))
 
-  pub client_replied : (law : IsContext c) (replies : List Asked → Type 0) (first old new : ClientView C) (past : List Turn) (d : TsRequest) (reply : TsRequest) →
-      ClientFollows c first old past → ClientTurn c old d (outcome.Reply reply) new → StepsSo c replies old d (Ok (Completed (ReplyNeeded reply))) new →
+  pub client_replied : (law : IsContext c) (replies : List Asked → Type 0) (first old new : ClientView C) (past : List Turn)
+      (d : TsRequest) (reply : TsRequest) →
+      ClientFollows c first old past → ClientTurn c old d (outcome.Reply reply) new →
+      StepsSo c replies old d (Ok (Completed (ReplyNeeded reply))) new →
       ClientFollows c first new (client_turn c d (outcome.Reply reply) new ∷ past)
   client_replied law replies first old new past d reply follows turn steps = record {
     ran = client_turned law first old new past d (outcome.Reply reply) follows turn;
     state = turn.moves.state
-        ∙ replied_state (client_frame c old new) (client_turn c d (outcome.Reply reply) new) past reply follows.state refl turn.turn.shown.reply;
+        ∙ replied_state (client_frame c old new) (client_turn c d (outcome.Reply reply) new) past reply follows.state refl
+        turn.turn.shown.reply;
     noted = turn.moves.noted_going ∙ noted_of first old new (client_turn c d (outcome.Reply reply) new) past follows turn.moves.same.least;
     begun = turn.moves.begun;
-    idle = idle_in law old d steps.asked new.acts.status new (client_frame c old new) (client_turn c d (outcome.Reply reply) new) reply turn.turn.shown.reply steps.step;
+    idle = idle_in law old d steps.asked new.acts.status new (client_frame c old new)
+        (client_turn c d (outcome.Reply reply) new) reply turn.turn.shown.reply steps.step;
     going = (tt, follows.going);
   }
 
-  ended_idle : (law : IsContext c) (state : CredSspState) (old new : Option C) → state ≡ AuthInfo → OnceNegotiated state (SameBut c old new) →
+  ended_idle : (law : IsContext c) (state : CredSspState) (old new : Option C) → state ≡ AuthInfo →
+      OnceNegotiated state (SameBut c old new) →
       is_waiting_in c old ≡ false → is_waiting_in c new ≡ false
   ended_idle law NegoToken old new is bare idle = absurd (cc (is))
   ended_idle law PubKeyInfo old new is bare idle = absurd (cc (is))
@@ -303,7 +336,8 @@ module _ {C : Type 0} (c : Meaning ContextSetting C) where
   ended_idle law Final old new is bare idle = absurd (cc (is))
 
   pub client_ended : (law : IsContext c) (first old new : ClientView C) (past : List Turn) (d : TsRequest) (reply : TsRequest) →
-      ClientFollows c first old past → ClientTurn c old d (outcome.Final reply) new → ClientFollows c first new (client_turn c d (outcome.Final reply) new ∷ past)
+      ClientFollows c first old past → ClientTurn c old d (outcome.Final reply) new →
+      ClientFollows c first new (client_turn c d (outcome.Final reply) new ∷ past)
   client_ended law first old new past d reply follows turn = record {
     ran = client_turned law first old new past d (outcome.Final reply) follows turn;
     state = turn.moves.state;
@@ -323,13 +357,15 @@ module _ {C : Type 0} (c : Meaning ContextSetting C) where
         made = way.ready.sealed unused ∙ follows.ran.made;
         opened = way.ready.unsealed unused ∙ follows.ran.opened;
         each = each_over law (client_end old) (client_end now) past (same_end old now way.ready.same)
-            (touched_by (client_end old) old.state past (SameBut c old.context now.context) follows.state follows.ran.each follows.going way.ready.bare)
+            (touched_by (client_end old) old.state past (SameBut c old.context now.context) follows.state follows.ran.each follows.going
+            way.ready.bare)
             follows.ran.each;
         others = others_go past follows.going;
       }
 
   -- what was taken out of the client is no part of its run
-  pub client_emptied : (first now : ClientView C) (past : List Turn) → ClientRan c first now past → ClientRan c first (record now { output = [] }) past
+  pub client_emptied : (first now : ClientView C) (past : List Turn) → ClientRan c first now past →
+      ClientRan c first (record now { output = [] }) past
   client_emptied first now past ran = record {
     same = record {
       public_key = ran.same.public_key;
@@ -350,7 +386,16 @@ module _ {C : Type 0} (c : Meaning ContextSetting C) where
   pub client_fresh : (first : ClientView C) → IsFreshClient first → ClientFollows c first first []
   client_fresh first fresh = record {
     ran = record {
-      same = record { public_key = refl; credentials = refl; delegation = refl; version = refl; least = refl; mode = refl; target = refl; nonce = refl };
+      same = record {
+        public_key = refl;
+        credentials = refl;
+        delegation = refl;
+        version = refl;
+        least = refl;
+        mode = refl;
+        target = refl;
+        nonce = refl;
+      };
       made = rw fresh.context refl;
       opened = rw fresh.context refl;
       each = tt;

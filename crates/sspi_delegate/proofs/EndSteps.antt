@@ -50,8 +50,11 @@ touched P (t ∷ past) h = ((λ was. h), (λ was. h), touched P past h)
 
 pub untouched : (P : Type 0) (past : List Turn) → AllQuiet past → Touched P past
 untouched P [] quiet = tt
-untouched P (t ∷ past) quiet =
-    ((λ was. let s = quiet.0.proved in absurd (cc (s, was))), (λ was. let s = quiet.0.checked in absurd (cc (s, was))), untouched P past quiet.1)
+untouched P (t ∷ past) quiet = (
+  (λ was. let s = quiet.0.proved in absurd (cc (s, was))),
+  (λ was. let s = quiet.0.checked in absurd (cc (s, was))),
+  untouched P past quiet.1,
+)
 
 pub unless_given : (out : Outcome) (P : Type 0) → P → UnlessRefused out P
 unless_given (outcome.Reply reply) P h = h
@@ -72,10 +75,12 @@ made_by_proof acts made now is proved sealed = rw (is, proved, sealed) (omega ar
 pub made_by_seal : (acts : Acts) (made now : ℕ) → now ≡ made + sealed_by acts → acts.sealed ≡ true → acts.proved ≡ false → made ≡ now - 1
 made_by_seal acts made now is sealed proved = rw (is, proved, sealed) (omega arith)
 
-pub opened_by_check : (acts : Acts) (opened now : ℕ) → now ≡ opened + unsealed_by acts → acts.checked ≡ true → acts.opened ≡ false → opened ≡ now - 1
+pub opened_by_check : (acts : Acts) (opened now : ℕ) → now ≡ opened + unsealed_by acts → acts.checked ≡ true → acts.opened ≡ false →
+    opened ≡ now - 1
 opened_by_check acts opened now is checked unopened = rw (is, checked, unopened) (omega arith)
 
-pub opened_by_end : (acts : Acts) (opened now : ℕ) → now ≡ opened + unsealed_by acts → acts.opened ≡ true → acts.checked ≡ false → opened ≡ now - 1
+pub opened_by_end : (acts : Acts) (opened now : ℕ) → now ≡ opened + unsealed_by acts → acts.opened ≡ true → acts.checked ≡ false →
+    opened ≡ now - 1
 opened_by_end acts opened now is was unchecked = rw (is, unchecked, was) (omega arith)
 
 module _ {S C : Type 0} (c : Meaning S C) where

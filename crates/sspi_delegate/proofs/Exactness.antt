@@ -1,5 +1,6 @@
 -- The turns and the log of an exchange leave one answer.
-use Rattle.std.proofs.Common.{◌≡◌, ℕ, ◌+◌, inl, inr, true, false, List, [], ◌∷◌, length, sym, ◌∙◌, ap, refl, arith, Option, None, Some, Result, Ok, Err}
+use Rattle.std.proofs.Common.{◌≡◌, ℕ, ◌+◌, inl, inr, true, false, List, [], ◌∷◌, length, sym, ◌∙◌, ap, refl, arith, Option, None, Some}
+use Rattle.std.proofs.Common.{Result, Ok, Err}
 use Rattle.sspi_types.specs.declared.error_kind.ErrorKind.{ErrorKind}
 use Rattle.sspi_ber.specs.declared.wire_kind.WireKind.{WireKind}
 use Rattle.sspi_ber.specs.declared.wire_kind.WireKind.TheVariants.{UnexpectedEof, InvalidData, ReadFault, WriteFault, InsufficientMemory}
@@ -13,7 +14,8 @@ use Rattle.sspi_credssp.specs.declared.turn.End.TheVariants.{Client, Server}
 use Rattle.sspi_credssp.specs.declared.turn.Outcome.{Outcome}
 use Rattle.sspi_credssp.specs.declared.turn.Outcome.TheVariants.{Reply, Final, Finished, Refused}
 use Rattle.sspi_credssp.specs.declared.turn.Turn.{Turn}
-use Rattle.sspi_delegate.specs.Causes.{NewestIs, IsClientRefusal, IsServerRefusal, IsFinished, MessageFits, NewestFits, MayLackAfter, MayLack, TurnLeft, turns_of, RunEnds}
+use Rattle.sspi_delegate.specs.Causes.{NewestIs, IsClientRefusal, IsServerRefusal, IsFinished, MessageFits, NewestFits, MayLackAfter}
+use Rattle.sspi_delegate.specs.Causes.{MayLack, TurnLeft, turns_of, RunEnds}
 use Rattle.sspi_delegate.specs.Deliveries.{is_taken}
 use Rattle.sspi_delegate.specs.Exactly.{IsOnly, IsClientError, IsServerError, IsOk, Exactly}
 use Rattle.sspi_delegate.specs.Run.{Logged, LoggedButLast, OpenFor, UnreadFor, IsUnreadable, IsFault}
@@ -22,12 +24,14 @@ use Rattle.sspi_credssp.specs.Turn.{message_of}
 
 -- ---- the log has an entry of each turn, or of each but the newest
 
-logged_length : (base : List Carried) (turns : List Turn) (log : List Carried) → Logged base turns log → length log ≡ length turns + length base
+logged_length : (base : List Carried) (turns : List Turn) (log : List Carried) → Logged base turns log →
+    length log ≡ length turns + length base
 logged_length base [] log entries = ap length entries ∙ omega arith
 logged_length base (t ∷ past) [] entries = absurd entries
 logged_length base (t ∷ past) (e ∷ log) entries = omega (arith, logged_length base past log entries.2)
 
-but_last_length : (base : List Carried) (turns : List Turn) (log : List Carried) → LoggedButLast base turns log → length log + 1 ≡ length turns + length base
+but_last_length : (base : List Carried) (turns : List Turn) (log : List Carried) → LoggedButLast base turns log →
+    length log + 1 ≡ length turns + length base
 but_last_length base [] log entries = absurd entries
 but_last_length base (t ∷ past) log entries = omega (arith, logged_length base past log entries.1)
 
@@ -167,10 +171,12 @@ module _ (base : List Carried) (start limit : ℕ) where
   only_ok : (result : Result Delegation DelegateError) (turns : List Turn) (log : List Carried) (now : ℕ) →
       RunEnds base start limit result turns log now → NewestIs Server IsFinished turns → IsOk result
   only_ok (Ok delegation) turns log now ends newest = tt
-  only_ok (Err (errors.Client error)) turns log now ends newest = newest_ends (IsClientRefusal error.error_type) IsFinished turns ends.cause.1 newest
+  only_ok (Err (errors.Client error)) turns log now ends newest =
+      newest_ends (IsClientRefusal error.error_type) IsFinished turns ends.cause.1 newest
   only_ok (Err (errors.Server error)) turns log now ends newest =
       newest_apart Server (IsServerRefusal error.error_type) IsFinished (server_refusal_finished error.error_type) turns ends.cause.1 newest
-  only_ok (Err (errors.Read end kind)) turns log now ends newest = newest_goes_apart Server IsFinished finished_goes turns newest ends.cause.0
+  only_ok (Err (errors.Read end kind)) turns log now ends newest =
+      newest_goes_apart Server IsFinished finished_goes turns newest ends.cause.0
   only_ok (Err (errors.Write end)) turns log now ends newest = newest_goes_apart Server IsFinished finished_goes turns newest ends.cause.0
   only_ok (Err errors.LinkFault) turns log now ends newest = newest_goes_apart Server IsFinished finished_goes turns newest ends.cause.0
   only_ok (Err errors.TurnsSpent) turns log now ends newest = newest_goes_apart Server IsFinished finished_goes turns newest ends.cause.0
@@ -180,13 +186,18 @@ module _ (base : List Carried) (start limit : ℕ) where
       RunEnds base start limit result turns log now → NewestIs Client (IsClientRefusal kind) turns → IsOnly (IsClientError kind) result
   only_client kind (Ok delegation) turns log now ends newest = newest_ends (IsClientRefusal kind) IsFinished turns newest ends.0.newest
   only_client kind (Err (errors.Client error)) turns log now ends newest =
-      newest_one Client (IsClientRefusal error.error_type) (IsClientRefusal kind) (error.error_type ≡ kind) (one_client_refusal error.error_type kind) turns ends.cause.1 newest
+      newest_one Client (IsClientRefusal error.error_type) (IsClientRefusal kind) (error.error_type ≡ kind)
+      (one_client_refusal error.error_type kind) turns ends.cause.1 newest
   only_client kind (Err (errors.Server error)) turns log now ends newest =
       newest_ends (IsClientRefusal kind) (IsServerRefusal error.error_type) turns newest ends.cause.1
-  only_client kind (Err (errors.Read end wire)) turns log now ends newest = newest_goes_apart Client (IsClientRefusal kind) (client_refusal_goes kind) turns newest ends.cause.0
-  only_client kind (Err (errors.Write end)) turns log now ends newest = newest_goes_apart Client (IsClientRefusal kind) (client_refusal_goes kind) turns newest ends.cause.0
-  only_client kind (Err errors.LinkFault) turns log now ends newest = newest_goes_apart Client (IsClientRefusal kind) (client_refusal_goes kind) turns newest ends.cause.0
-  only_client kind (Err errors.TurnsSpent) turns log now ends newest = newest_goes_apart Client (IsClientRefusal kind) (client_refusal_goes kind) turns newest ends.cause.0
+  only_client kind (Err (errors.Read end wire)) turns log now ends newest =
+      newest_goes_apart Client (IsClientRefusal kind) (client_refusal_goes kind) turns newest ends.cause.0
+  only_client kind (Err (errors.Write end)) turns log now ends newest =
+      newest_goes_apart Client (IsClientRefusal kind) (client_refusal_goes kind) turns newest ends.cause.0
+  only_client kind (Err errors.LinkFault) turns log now ends newest =
+      newest_goes_apart Client (IsClientRefusal kind) (client_refusal_goes kind) turns newest ends.cause.0
+  only_client kind (Err errors.TurnsSpent) turns log now ends newest =
+      newest_goes_apart Client (IsClientRefusal kind) (client_refusal_goes kind) turns newest ends.cause.0
   only_client kind (Err errors.InsufficientMemory) turns log now ends newest = tt
 
   only_server : (kind : ErrorKind) (result : Result Delegation DelegateError) (turns : List Turn) (log : List Carried) (now : ℕ) →
@@ -196,52 +207,66 @@ module _ (base : List Carried) (start limit : ℕ) where
   only_server kind (Err (errors.Client error)) turns log now ends newest =
       newest_ends (IsClientRefusal error.error_type) (IsServerRefusal kind) turns ends.cause.1 newest
   only_server kind (Err (errors.Server error)) turns log now ends newest =
-      newest_one Server (IsServerRefusal error.error_type) (IsServerRefusal kind) (error.error_type ≡ kind) (one_server_refusal error.error_type kind) turns ends.cause.1 newest
-  only_server kind (Err (errors.Read end wire)) turns log now ends newest = newest_goes_apart Server (IsServerRefusal kind) (server_refusal_goes kind) turns newest ends.cause.0
-  only_server kind (Err (errors.Write end)) turns log now ends newest = newest_goes_apart Server (IsServerRefusal kind) (server_refusal_goes kind) turns newest ends.cause.0
-  only_server kind (Err errors.LinkFault) turns log now ends newest = newest_goes_apart Server (IsServerRefusal kind) (server_refusal_goes kind) turns newest ends.cause.0
-  only_server kind (Err errors.TurnsSpent) turns log now ends newest = newest_goes_apart Server (IsServerRefusal kind) (server_refusal_goes kind) turns newest ends.cause.0
+      newest_one Server (IsServerRefusal error.error_type) (IsServerRefusal kind) (error.error_type ≡ kind)
+      (one_server_refusal error.error_type kind) turns ends.cause.1 newest
+  only_server kind (Err (errors.Read end wire)) turns log now ends newest =
+      newest_goes_apart Server (IsServerRefusal kind) (server_refusal_goes kind) turns newest ends.cause.0
+  only_server kind (Err (errors.Write end)) turns log now ends newest =
+      newest_goes_apart Server (IsServerRefusal kind) (server_refusal_goes kind) turns newest ends.cause.0
+  only_server kind (Err errors.LinkFault) turns log now ends newest =
+      newest_goes_apart Server (IsServerRefusal kind) (server_refusal_goes kind) turns newest ends.cause.0
+  only_server kind (Err errors.TurnsSpent) turns log now ends newest =
+      newest_goes_apart Server (IsServerRefusal kind) (server_refusal_goes kind) turns newest ends.cause.0
   only_server kind (Err errors.InsufficientMemory) turns log now ends newest = tt
 
   only_read : (kind : WireKind) (result : Result Delegation DelegateError) (turns : List Turn) (log : List Carried) (now : ℕ) →
       RunEnds base start limit result turns log now → AllGoOn turns → Logged base turns log → IsUnreadable turns log kind →
       IsOnly (λ error. error ≡ errors.Read (next_end turns) kind) result
   only_read kind (Ok delegation) turns log now ends going entries unreadable = absurd (logged_apart base turns log entries ends.0.entries)
-  only_read kind (Err (errors.Client error)) turns log now ends going entries unreadable = absurd (logged_apart base turns log entries ends.cause.2)
+  only_read kind (Err (errors.Client error)) turns log now ends going entries unreadable =
+      absurd (logged_apart base turns log entries ends.cause.2)
   only_read kind (Err (errors.Server error)) turns log now ends going entries unreadable =
       absurd (newest_goes_apart Server (IsServerRefusal error.error_type) (server_refusal_goes error.error_type) turns ends.cause.1 going)
   only_read kind (Err (errors.Read end wire)) turns log now ends going entries unreadable =
       let one : wire ≡ kind = one_unreadable turns log wire kind ends.cause.4 unreadable in
       let next : next_end turns ≡ end = ends.cause.1 in cc
-  only_read kind (Err (errors.Write end)) turns log now ends going entries unreadable = absurd (logged_apart base turns log entries ends.cause.2)
+  only_read kind (Err (errors.Write end)) turns log now ends going entries unreadable =
+      absurd (logged_apart base turns log entries ends.cause.2)
   only_read kind (Err errors.LinkFault) turns log now ends going entries unreadable = elim ends.cause.2 [
     | inl unread ↦ absurd (taken_open turns log kind unreadable unread.1)
     | inr unsent ↦ absurd (logged_apart base turns log entries unsent.0)
   ]
-  only_read kind (Err errors.TurnsSpent) turns log now ends going entries unreadable = absurd (taken_unread turns log kind unreadable ends.cause.4)
+  only_read kind (Err errors.TurnsSpent) turns log now ends going entries unreadable =
+      absurd (taken_unread turns log kind unreadable ends.cause.4)
   only_read kind (Err errors.InsufficientMemory) turns log now ends going entries unreadable = tt
 
   only_write : (end : End) (result : Result Delegation DelegateError) (turns : List Turn) (log : List Carried) (now : ℕ) →
-      RunEnds base start limit result turns log now → NewestIs end (λ outcome. Unit {0}) turns → AllGoOn turns → LoggedButLast base turns log →
+      RunEnds base start limit result turns log now → NewestIs end (λ outcome. Unit {0}) turns → AllGoOn turns →
+      LoggedButLast base turns log →
       NewestFits turns false → IsOnly (λ error. error ≡ errors.Write end) result
-  only_write end (Ok delegation) turns log now ends newest going entries long = absurd (newest_goes_apart Server IsFinished finished_goes turns ends.0.newest going)
+  only_write end (Ok delegation) turns log now ends newest going entries long =
+      absurd (newest_goes_apart Server IsFinished finished_goes turns ends.0.newest going)
   only_write end (Err (errors.Client error)) turns log now ends newest going entries long =
       absurd (newest_goes_apart Client (IsClientRefusal error.error_type) (client_refusal_goes error.error_type) turns ends.cause.1 going)
   only_write end (Err (errors.Server error)) turns log now ends newest going entries long =
       absurd (newest_goes_apart Server (IsServerRefusal error.error_type) (server_refusal_goes error.error_type) turns ends.cause.1 going)
-  only_write end (Err (errors.Read other_end wire)) turns log now ends newest going entries long = absurd (logged_apart base turns log ends.cause.3 entries)
-  only_write end (Err (errors.Write named)) turns log now ends newest going entries long = ap errors.Write (written_by end named turns newest ends.cause.1)
+  only_write end (Err (errors.Read other_end wire)) turns log now ends newest going entries long =
+      absurd (logged_apart base turns log ends.cause.3 entries)
+  only_write end (Err (errors.Write named)) turns log now ends newest going entries long =
+      ap errors.Write (written_by end named turns newest ends.cause.1)
   only_write end (Err errors.LinkFault) turns log now ends newest going entries long = elim ends.cause.2 [
     | inl unread ↦ absurd (logged_apart base turns log unread.0 entries)
     | inr unsent ↦ absurd (fits_apart turns unsent.1 long)
   ]
-  only_write end (Err errors.TurnsSpent) turns log now ends newest going entries long = absurd (logged_apart base turns log ends.cause.3 entries)
+  only_write end (Err errors.TurnsSpent) turns log now ends newest going entries long =
+      absurd (logged_apart base turns log ends.cause.3 entries)
   only_write end (Err errors.InsufficientMemory) turns log now ends newest going entries long = tt
 
   only_carry : (result : Result Delegation DelegateError) (turns : List Turn) (log : List Carried) (now : ℕ) →
       RunEnds base start limit result turns log now → AllGoOn turns → LoggedButLast base turns log → NewestFits turns true →
       IsOnly (λ error. error ≡ errors.LinkFault) result
-  only_carry (Ok delegation) turns log now ends going entries fit = absurd (newest_goes_apart Server IsFinished finished_goes turns ends.0.newest going)
+  only_carry (Ok delegation) turns log now ends going entries fit =
+      absurd (newest_goes_apart Server IsFinished finished_goes turns ends.0.newest going)
   only_carry (Err (errors.Client error)) turns log now ends going entries fit =
       absurd (newest_goes_apart Client (IsClientRefusal error.error_type) (client_refusal_goes error.error_type) turns ends.cause.1 going)
   only_carry (Err (errors.Server error)) turns log now ends going entries fit =
@@ -256,24 +281,30 @@ module _ (base : List Carried) (start limit : ℕ) where
       RunEnds base start limit result turns log now → AllGoOn turns → Logged base turns log → OpenFor turns log → TurnLeft limit turns →
       IsOnly (λ error. error ≡ errors.LinkFault) result
   only_piece (Ok delegation) turns log now ends going entries part left = absurd (logged_apart base turns log entries ends.0.entries)
-  only_piece (Err (errors.Client error)) turns log now ends going entries part left = absurd (logged_apart base turns log entries ends.cause.2)
+  only_piece (Err (errors.Client error)) turns log now ends going entries part left =
+      absurd (logged_apart base turns log entries ends.cause.2)
   only_piece (Err (errors.Server error)) turns log now ends going entries part left =
       absurd (newest_goes_apart Server (IsServerRefusal error.error_type) (server_refusal_goes error.error_type) turns ends.cause.1 going)
   only_piece (Err (errors.Read end wire)) turns log now ends going entries part left = absurd (taken_open turns log wire ends.cause.4 part)
   only_piece (Err (errors.Write end)) turns log now ends going entries part left = absurd (logged_apart base turns log entries ends.cause.2)
   only_piece (Err errors.LinkFault) turns log now ends going entries part left = refl
-  only_piece (Err errors.TurnsSpent) turns log now ends going entries part left = absurd (spent_apart limit turns ends.cause.1 ends.cause.2 left)
+  only_piece (Err errors.TurnsSpent) turns log now ends going entries part left =
+      absurd (spent_apart limit turns ends.cause.1 ends.cause.2 left)
   only_piece (Err errors.InsufficientMemory) turns log now ends going entries part left = tt
 
   only_spent : (result : Result Delegation DelegateError) (turns : List Turn) (log : List Carried) (now : ℕ) →
-      RunEnds base start limit result turns log now → AllGoOn turns → Logged base turns log → next_end turns ≡ Client → turns_of Client turns ≡ limit →
+      RunEnds base start limit result turns log now → AllGoOn turns → Logged base turns log → next_end turns ≡ Client →
+      turns_of Client turns ≡ limit →
       IsOnly (λ error. error ≡ errors.TurnsSpent) result
   only_spent (Ok delegation) turns log now ends going entries next spent = absurd (logged_apart base turns log entries ends.0.entries)
-  only_spent (Err (errors.Client error)) turns log now ends going entries next spent = absurd (logged_apart base turns log entries ends.cause.2)
+  only_spent (Err (errors.Client error)) turns log now ends going entries next spent =
+      absurd (logged_apart base turns log entries ends.cause.2)
   only_spent (Err (errors.Server error)) turns log now ends going entries next spent =
       absurd (newest_goes_apart Server (IsServerRefusal error.error_type) (server_refusal_goes error.error_type) turns ends.cause.1 going)
-  only_spent (Err (errors.Read end wire)) turns log now ends going entries next spent = absurd (spent_apart limit turns next spent ends.cause.2)
-  only_spent (Err (errors.Write end)) turns log now ends going entries next spent = absurd (logged_apart base turns log entries ends.cause.2)
+  only_spent (Err (errors.Read end wire)) turns log now ends going entries next spent =
+      absurd (spent_apart limit turns next spent ends.cause.2)
+  only_spent (Err (errors.Write end)) turns log now ends going entries next spent =
+      absurd (logged_apart base turns log entries ends.cause.2)
   only_spent (Err errors.LinkFault) turns log now ends going entries next spent = elim ends.cause.2 [
     | inl unread ↦ absurd (spent_apart limit turns next spent unread.2)
     | inr unsent ↦ absurd (logged_apart base turns log entries unsent.0)

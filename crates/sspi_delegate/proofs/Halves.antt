@@ -45,7 +45,8 @@ module _ {C D : Type 0} (c : Meaning ContextSetting C) (k : KdcCalls D) where
 
   module _ {P : Type 0} (p : ProxyMeaning P) where
     -- the other end of a half that was ended by an error
-    pub server_beside : (first now : ClientView C) (kdc kdc2 : D) (turns : List Turn) (error : DelegateError) (server server2 : ServerView C P)
+    pub server_beside : (first now : ClientView C) (kdc kdc2 : D) (turns : List Turn) (error : DelegateError)
+        (server server2 : ServerView C P)
         (servers : List Turn) → ClientHalfStops c k first kdc error turns now kdc2 → ServerHistory c p server servers server2 →
         ServerStops c p server error servers server2
     server_beside first now kdc kdc2 turns (errors.Client error) server server2 servers half h = h
@@ -56,7 +57,8 @@ module _ {C D : Type 0} (c : Meaning ContextSetting C) (k : KdcCalls D) where
     server_beside first now kdc kdc2 turns errors.TurnsSpent server server2 servers half h = h
     server_beside first now kdc kdc2 turns errors.InsufficientMemory server server2 servers half h = h
 
-    pub client_beside : (first now : ClientView C) (kdc kdc2 : D) (turns : List Turn) (error : DelegateError) (server server2 : ServerView C P)
+    pub client_beside : (first now : ClientView C) (kdc kdc2 : D) (turns : List Turn) (error : DelegateError)
+        (server server2 : ServerView C P)
         (servers : List Turn) → ServerHalfStops c p server error servers server2 → ClientHistory c k first kdc turns now kdc2 →
         ClientStops c k first kdc error turns now kdc2
     client_beside first now kdc kdc2 turns (errors.Client error) server server2 servers half h = absurd half

@@ -1,5 +1,6 @@
 -- What follows from the runs of both ends.
-use Rattle.std.proofs.Common.{◌≡◌, ◌≤◌, ℕ, ◌+◌, Bool, true, false, ◌||◌, ◌&&◌, ◌⊎◌, inl, inr, List, [], ◌∷◌, sym, ◌∙◌, ap, refl, arith, Result, Ok, Err, OnOk, if◌then◌else◌}
+use Rattle.std.proofs.Common.{◌≡◌, ◌≤◌, ℕ, ◌+◌, Bool, true, false, ◌||◌, ◌&&◌, ◌⊎◌, inl, inr, List, [], ◌∷◌, sym, ◌∙◌, ap, refl, arith}
+use Rattle.std.proofs.Common.{Result, Ok, Err, OnOk, if◌then◌else◌}
 use Rattle.sspi_mech.specs.Meaning.{Meaning}
 use Rattle.sspi_credssp.specs.declared.state.CredSspState.TheVariants.{NegoToken, PubKeyInfo, AuthInfo, Final}
 use Rattle.sspi_credssp.specs.Acts.{count_of}
@@ -17,7 +18,8 @@ use Rattle.sspi_credssp.specs.declared.turn.Turn.{Turn}
 use Rattle.sspi_credssp.specs.Shown.{ShowsAnswer, ShowsClientActs, ShowsReply, client_shown, server_shown}
 use Rattle.sspi_delegate.specs.Causes.{NewestIs, IsFinished, RunEnds}
 use Rattle.sspi_delegate.specs.ClientRun.{ClientEnd, client_frame_at, EachClientTurn}
-use Rattle.sspi_delegate.specs.EndTurns.{onto_client, onto_server, client_turns, server_turns, is_replied, is_ended, any_ended, any_proved, any_finished, OthersGoOn}
+use Rattle.sspi_delegate.specs.EndTurns.{onto_client, onto_server, client_turns, server_turns, is_replied, is_ended, any_ended}
+use Rattle.sspi_delegate.specs.EndTurns.{any_proved, any_finished, OthersGoOn}
 use Rattle.sspi_delegate.specs.Turns.{GoesOn, AllGoOn, Alternates}
 use Rattle.sspi_delegate.specs.Headline.{sealed_turns, NeverSeals, SealsAfterProof, any_exchange, HasExchanged}
 use Rattle.sspi_delegate.specs.Run.{HasLog}
@@ -34,7 +36,8 @@ sealed_of [] = 0
 sealed_of (t ∷ past) = sealed_of past + count_of t.acts.sealed
 
 split_by : (e : End) (t : Turn) (clients servers : List Turn) →
-    sealed_of (onto_client e t clients) + sealed_of (onto_server e t servers) ≡ sealed_of clients + sealed_of servers + count_of t.acts.sealed
+    sealed_of (onto_client e t clients) + sealed_of (onto_server e t servers) ≡ sealed_of clients + sealed_of servers + count_of
+    t.acts.sealed
 unfolding sealed_of
 split_by Client t clients servers = omega arith
 split_by Server t clients servers = omega arith
@@ -52,7 +55,8 @@ never_seals [] never = refl
 never_seals (t ∷ past) never = rw (never_seals past never.1, never.0) refl
 
 module _ {C : Type 0} (c : Meaning ContextSetting C) where
-  reply_unsealed : (f : ClientFrame C) (t : Turn) (out : Outcome) → ShowsClientActs (client_shown f) t → ShowsReply (client_shown f) t out → GoesOn out → is_ended out ≡ false → t.acts.sealed ≡ false
+  reply_unsealed : (f : ClientFrame C) (t : Turn) (out : Outcome) → ShowsClientActs (client_shown f) t →
+      ShowsReply (client_shown f) t out → GoesOn out → is_ended out ≡ false → t.acts.sealed ≡ false
   reply_unsealed f t (outcome.Reply reply) acts h went ended = is_false t.acts.sealed (λ was.
       let auth = (acts.checked (acts.sealed was)).0 in let nego = reply_state c f t t.acts.status reply h in absurd (cc (auth, nego)))
   reply_unsealed f t (outcome.Final reply) acts h went ended = absurd (cc (ended))
@@ -62,14 +66,17 @@ module _ {C : Type 0} (c : Meaning ContextSetting C) where
   unsealed_before : (e : ClientEnd C) (past : List Turn) → EachClientTurn c e past → AllGoOn past → any_ended past ≡ false → NeverSeals past
   unsealed_before e [] each went unended = tt
   unsealed_before e (t ∷ past) each went unended =
-      let s = or_false (is_ended t.outcome) (any_ended past) unended in
-      (reply_unsealed (client_frame_at e past t) t t.outcome each.0.shown.acts each.0.shown.reply went.0 s.0, unsealed_before e past each.1 went.1 s.1)
+      let s = or_false (is_ended t.outcome) (any_ended past) unended in (
+        reply_unsealed (client_frame_at e past t) t t.outcome each.0.shown.acts each.0.shown.reply went.0 s.0,
+        unsealed_before e past each.1 went.1 s.1,
+      )
 
   pub server_never_seals : (e : ServerEnd C) (past : List Turn) → EachServerTurn c e past → NeverSeals past
   server_never_seals e [] each = tt
   server_never_seals e (t ∷ past) each = (each.0.shown.acts.sealed, server_never_seals e past each.1)
 
-  sealed_last : (e : ClientEnd C) (t : Turn) (past : List Turn) (sealed : Bool) → t.acts.sealed ≡ sealed → EachClientTurn c e (t ∷ past) → AllGoOn past →
+  sealed_last : (e : ClientEnd C) (t : Turn) (past : List Turn) (sealed : Bool) → t.acts.sealed ≡ sealed → EachClientTurn c e (t ∷ past) →
+      AllGoOn past →
       sealed_of past ≤ 1 → sealed_of past + count_of t.acts.sealed ≤ 1
   sealed_last e t past true was each went before =
       let s = state_auth (any_ended past) (any_proved past) (each.0.shown.acts.checked (each.0.shown.acts.sealed was)).0 in
@@ -83,7 +90,8 @@ module _ {C : Type 0} (c : Meaning ContextSetting C) where
   client_once e (t ∷ past) each went =
       sealed_last e t past t.acts.sealed refl each went (client_once e past each.1 (others_go past went))
 
-  pub sealed_once : (e : ClientEnd C) (e2 : ServerEnd C) (turns : List Turn) → EachClientTurn c e (client_turns turns) → OthersGoOn (client_turns turns) →
+  pub sealed_once : (e : ClientEnd C) (e2 : ServerEnd C) (turns : List Turn) → EachClientTurn c e (client_turns turns) →
+      OthersGoOn (client_turns turns) →
       EachServerTurn c e2 (server_turns turns) → sealed_turns turns ≤ 1
   sealed_once e e2 turns client went server =
       rw (sealed_split turns, never_seals (server_turns turns) (server_never_seals e2 (server_turns turns) server))
@@ -118,7 +126,8 @@ module _ {C : Type 0} (c : Meaning ContextSetting C) where
   proved_exchange e [] each was = absurd (cc (was))
   proved_exchange e (t ∷ past) each was = elim (or_true (is_replied t.outcome && t.acts.proved) (any_proved past) was) [
     | inl here ↦ or_left (t.acts.checked && t.acts.proved) (any_exchange past)
-        (both_true t.acts.checked t.acts.proved (each.0.shown.acts.proved (and_second (is_replied t.outcome) t.acts.proved here)).0 (and_second (is_replied t.outcome) t.acts.proved here))
+        (both_true t.acts.checked t.acts.proved (each.0.shown.acts.proved (and_second (is_replied t.outcome) t.acts.proved here)).0
+        (and_second (is_replied t.outcome) t.acts.proved here))
     | inr before ↦ or_right (t.acts.checked && t.acts.proved) (any_exchange past) (proved_exchange e past each.1 before)
   ]
 
@@ -129,7 +138,8 @@ module _ {C : Type 0} (c : Meaning ContextSetting C) where
   state_proved false false true h = absurd (cc (h))
   state_proved false false false h = absurd (cc (h))
 
-  finished_exchanged : (e : ServerEnd C) (f : ServerFrame C) (t : Turn) (past : List Turn) (out : Outcome) → f.state ≡ server_state past → EachServerTurn c e past →
+  finished_exchanged : (e : ServerEnd C) (f : ServerFrame C) (t : Turn) (past : List Turn) (out : Outcome) → f.state ≡ server_state past →
+      EachServerTurn c e past →
       out ≡ outcome.Finished → ShowsAnswer (server_shown f) t out → any_exchange past ≡ true
   finished_exchanged e f t past (outcome.Reply reply) is each out h = absurd (cc (out))
   finished_exchanged e f t past (outcome.Final reply) is each out h = absurd (cc (out))
@@ -143,19 +153,23 @@ module _ {C : Type 0} (c : Meaning ContextSetting C) where
   as_finished outcome.Finished h = refl
   as_finished (outcome.Refused kind reply) h = absurd h
 
-  newest_exchanged : (e : ServerEnd C) (n : End) (t : Turn) (past : List Turn) → n ≡ Server → t.outcome ≡ outcome.Finished → EachServerTurn c e (onto_server n t past) →
+  newest_exchanged : (e : ServerEnd C) (n : End) (t : Turn) (past : List Turn) → n ≡ Server → t.outcome ≡ outcome.Finished →
+      EachServerTurn c e (onto_server n t past) →
       HasExchanged (onto_server n t past)
   newest_exchanged e Client t past is out each = absurd (cc (is))
-  newest_exchanged e Server t past is out each = finished_exchanged e (server_frame_at e past t) t past t.outcome refl each.1 out each.0.shown.reply
+  newest_exchanged e Server t past is out each = finished_exchanged e
+      (server_frame_at e past t) t past t.outcome refl each.1 out each.0.shown.reply
 
-  pub exchanged : (e : ServerEnd C) (turns : List Turn) → NewestIs Server IsFinished turns → EachServerTurn c e (server_turns turns) → HasExchanged (server_turns turns)
+  pub exchanged : (e : ServerEnd C) (turns : List Turn) → NewestIs Server IsFinished turns → EachServerTurn c e (server_turns turns) →
+      HasExchanged (server_turns turns)
   exchanged e [] newest each = absurd newest
   exchanged e (t ∷ past) newest each = newest_exchanged e t.end t (server_turns past) newest.0 (as_finished t.outcome newest.1) each
 
 -- ---- the log at every answer
 
 module _ (base : List Carried) (start limit : ℕ) where
-  pub run_log : (result : Result Delegation DelegateError) (turns : List Turn) (log : List Carried) (now : ℕ) → RunEnds base start limit result turns log now → HasLog base turns log
+  pub run_log : (result : Result Delegation DelegateError) (turns : List Turn) (log : List Carried) (now : ℕ) →
+      RunEnds base start limit result turns log now → HasLog base turns log
   run_log (Ok delegation) turns log now ends = inr ends.0.entries
   run_log (Err (errors.Client error)) turns log now ends = inr ends.cause.2
   run_log (Err (errors.Server error)) turns log now ends = given_log base start turns log now ends.cause.2
@@ -165,12 +179,15 @@ module _ (base : List Carried) (start limit : ℕ) where
   run_log (Err errors.TurnsSpent) turns log now ends = inl ends.cause.3
   run_log (Err errors.InsufficientMemory) turns log now ends = ends.cause.1
 
-  pub run_order : (result : Result Delegation DelegateError) (turns : List Turn) (log : List Carried) (now : ℕ) → RunEnds base start limit result turns log now → Alternates turns
+  pub run_order : (result : Result Delegation DelegateError) (turns : List Turn) (log : List Carried) (now : ℕ) →
+      RunEnds base start limit result turns log now → Alternates turns
   run_order (Ok delegation) turns log now ends = ends.0.order
   run_order (Err error) turns log now ends = ends.order
 
-pub exchanged_ok : {C : Type 0} (c : Meaning ContextSetting C) (base : List Carried) (start limit : ℕ) (result : Result Delegation DelegateError) (turns : List Turn)
-    (log : List Carried) (now : ℕ) → RunEnds base start limit result turns log now → (e : ServerEnd C) → EachServerTurn c e (server_turns turns) →
+pub exchanged_ok : {C : Type 0} (c : Meaning ContextSetting C) (base : List Carried) (start limit : ℕ)
+    (result : Result Delegation DelegateError) (turns : List Turn)
+    (log : List Carried) (now : ℕ) → RunEnds base start limit result turns log now → (e : ServerEnd C) →
+    EachServerTurn c e (server_turns turns) →
     OnOk result (HasExchanged (server_turns turns))
 exchanged_ok c base start limit (Ok delegation) turns log now ends e each = exchanged c e turns ends.0.newest each
 exchanged_ok c base start limit (Err error) turns log now ends e each = tt

@@ -1,5 +1,6 @@
 -- Each turn of a run is refused for the age of its peer's version exactly where it finds one.
-use Rattle.std.proofs.Common.{◌≡◌, ℕ, ◌<◌, List, [], ◌∷◌, Bool, true, false, Option, None, Some, IsSome, Result, Ok, Err, refl, sym, ◌∙◌, ap, subst, nat_lt, if◌then◌else◌}
+use Rattle.std.proofs.Common.{◌≡◌, ℕ, ◌<◌, List, [], ◌∷◌, Bool, true, false, Option, None, Some, IsSome, Result, Ok, Err, refl, sym}
+use Rattle.std.proofs.Common.{◌∙◌, ap, subst, nat_lt, if◌then◌else◌}
 use Rattle.std.proofs.lemmas.Bool.{ltb-true, lt-ltb, true≢false}
 use Rattle.sspi_types.specs.declared.error.Error.{Error}
 use Rattle.sspi_mech.specs.Context.{IsContext}
@@ -26,13 +27,16 @@ use Rattle.sspi_delegate.specs.declared.answer.DelegateError.TheVariants as erro
 use Rattle.sspi_delegate.specs.Asking.{KdcCalls}
 use Rattle.sspi_delegate.specs.ClientRun.{client_noted, ClientEnd, client_end, EachClientTurn, HasBegun, ClientFollows}
 use Rattle.sspi_delegate.specs.EndTurns.{OthersGoOn, OthersUnrefused}
-use Rattle.sspi_delegate.specs.Heeded.{is_first, is_second, IsDowngrade, FindsOldServer, FindsOldClient, HeedsServer, HeedsClient, EachHeedsServer, EachHeedsClient}
-use Rattle.sspi_delegate.specs.History.{ClientMakes, ClientHistory, ClientLeft, between, waiting, ClientStops, ClientPast, ServerMakes, ServerHistory, ServerPast}
+use Rattle.sspi_delegate.specs.Heeded.{is_first, is_second, IsDowngrade, FindsOldServer, FindsOldClient, HeedsServer, HeedsClient}
+use Rattle.sspi_delegate.specs.Heeded.{EachHeedsServer, EachHeedsClient}
+use Rattle.sspi_delegate.specs.History.{ClientMakes, ClientHistory, ClientLeft, between, waiting, ClientStops, ClientPast, ServerMakes}
+use Rattle.sspi_delegate.specs.History.{ServerHistory, ServerPast}
 use Rattle.sspi_delegate.specs.ServerRun.{server_noted, ServerEnd, server_end, EachServerTurn, ServerFollows}
 use Rattle.sspi_delegate.specs.Turns.{GoesOn, AllGoOn, IsUnrefused, NoneRefused}
 use Rattle.sspi_delegate.proofs.ClientSteps.{client_underway, noted_by_two}
 use Rattle.sspi_delegate.proofs.Histories.{client_stopped_history, server_past_history}
-use Rattle.sspi_delegate.proofs.HistoryRuns.{client_turn_of, client_went, history_follows, server_turn_of, server_went, server_history_follows}
+use Rattle.sspi_delegate.proofs.HistoryRuns.{client_turn_of, client_went, history_follows, server_turn_of, server_went}
+use Rattle.sspi_delegate.proofs.HistoryRuns.{server_history_follows}
 use Rattle.sspi_delegate.proofs.ServerSteps.{noted_by_one, server_turned}
 
 -- what was noted is not below the least
@@ -64,12 +68,14 @@ old_in : {C : Type 0} (context : Option C) (least : ℕ) (noted : Option ℕ) (v
 old_in None least noted version begun none old = absurd (cc (begun))
 old_in (Some m) least noted version begun none old = rw none old
 
-young_in : {C : Type 0} (context : Option C) (least : ℕ) (noted : Option ℕ) (version : ℕ) → IsSome noted → is_old_in context least noted version ≡ true → ⊥
+young_in : {C : Type 0} (context : Option C) (least : ℕ) (noted : Option ℕ) (version : ℕ) → IsSome noted →
+    is_old_in context least noted version ≡ true → ⊥
 young_in None least noted version some old = absurd (cc (old))
 young_in (Some m) least None version some old = absurd (cc (some))
 young_in (Some m) least (Some v) version some old = absurd (cc (old))
 
-first_in : {C : Type 0} (context : Option C) (least : ℕ) (noted : Option ℕ) (version : ℕ) → noted ≡ None → is_old_in context least noted version ≡ true →
+first_in : {C : Type 0} (context : Option C) (least : ℕ) (noted : Option ℕ) (version : ℕ) → noted ≡ None →
+    is_old_in context least noted version ≡ true →
     nat_lt version least ≡ true
 first_in None least noted version none old = absurd (cc (old))
 first_in (Some m) least noted version none old = rw none at old
@@ -83,7 +89,8 @@ module _ {C : Type 0} (c : Meaning ContextSetting C) where
   second_noted least t (u ∷ []) noted found = young_noted least t.delivered.version (noted refl) found.old
   second_noted least t (u ∷ v ∷ past) noted found = let s = found.second in absurd (cc (s))
 
-  some_noted : (e : ClientEnd C) (t : Turn) (past : List Turn) → EachClientTurn c e (t ∷ past) → AllGoOn (t ∷ past) → is_second past ≡ true →
+  some_noted : (e : ClientEnd C) (t : Turn) (past : List Turn) → EachClientTurn c e (t ∷ past) → AllGoOn (t ∷ past) →
+      is_second past ≡ true →
       IsSome (client_noted e.least (t ∷ past))
   some_noted e t [] each going second = absurd (cc (second))
   some_noted e t (u ∷ past) each going second = noted_by_two c e t u past each going
@@ -115,7 +122,8 @@ module _ {C : Type 0} (c : Meaning ContextSetting C) where
 
   module _ (law : IsContext c) where
     module _ {D : Type 0} (k : KdcCalls D) where
-      newest_heeds : (first old mid : ClientView C) (kdc kdc2 : D) (past : List Turn) (d : TsRequest) (out : Outcome) → ClientFollows c first old past →
+      newest_heeds : (first old mid : ClientView C) (kdc kdc2 : D) (past : List Turn) (d : TsRequest) (out : Outcome) →
+          ClientFollows c first old past →
           ClientMakes c k old kdc d out mid kdc2 → mid.least ≡ old.least → HeedsServer c mid.least past (client_turn c d out mid)
       newest_heeds first old mid kdc kdc2 past d (outcome.Reply reply) follows makes same =
           let after = client_went c law k first old mid kdc kdc2 past d (outcome.Reply reply) tt follows makes in
@@ -152,17 +160,20 @@ module _ {C : Type 0} (c : Meaning ContextSetting C) where
             subst (λ (n : ℕ). HeedsServer c n past t) (sym least)
                 (subst (λ (x : Turn). HeedsServer c made.mid.least past x) (sym made.turn)
                 (newest_heeds first h.0 made.mid h.1 kdc2 past t.delivered t.outcome follows made.makes same)),
-            subst (λ (n : ℕ). EachHeedsServer c n past) (sym (least ∙ same)) (went_heeds (client_end h.0) past follows.ran.each follows.going),
+            subst (λ (n : ℕ). EachHeedsServer c n past) (sym (least ∙ same))
+                (went_heeds (client_end h.0) past follows.ran.each follows.going),
           )
 
       left_heeds : (first now : ClientView C) (kdc kdc2 : D) (turns : List Turn) → IsFreshClient first → OthersGoOn turns →
           ClientLeft c k first kdc turns now kdc2 → EachHeedsServer c now.least turns
       left_heeds first now kdc kdc2 turns fresh others (between h) = history_heeds first now kdc kdc2 turns fresh others h
       left_heeds first now kdc kdc2 turns fresh others (waiting old kdc1 d went h way) =
-          let ran = client_underway c law first old now turns d (history_follows c law k first old kdc kdc1 turns fresh went h) way.underway in
+          let ran = client_underway c law first old now turns d
+          (history_follows c law k first old kdc kdc1 turns fresh went h) way.underway in
           went_heeds (client_end now) turns ran.each went
 
-      stops_heeds : (first now : ClientView C) (kdc kdc2 : D) (turns : List Turn) (error : DelegateError) → IsFreshClient first → OthersGoOn turns →
+      stops_heeds : (first now : ClientView C) (kdc kdc2 : D) (turns : List Turn) (error : DelegateError) → IsFreshClient first →
+          OthersGoOn turns →
           ClientStops c k first kdc error turns now kdc2 → EachHeedsServer c now.least turns
       stops_heeds first now kdc kdc2 turns (errors.Client error) fresh others s =
           history_heeds first now kdc kdc2 turns fresh others (client_stopped_history c k first now kdc kdc2 error turns s)
@@ -180,11 +191,13 @@ module _ {C : Type 0} (c : Meaning ContextSetting C) where
 
   -- ---- a server's turns
 
-  first_noted : (context : Option C) (least : ℕ) (t : Turn) (past : List Turn) → IsSome (server_noted least (t ∷ past)) → FindsOldClient context least past t → ⊥
+  first_noted : (context : Option C) (least : ℕ) (t : Turn) (past : List Turn) → IsSome (server_noted least (t ∷ past)) →
+      FindsOldClient context least past t → ⊥
   first_noted context least t [] noted found = young_noted least t.delivered.version noted found.old
   first_noted context least t (u ∷ past) noted found = let s = found.first in absurd (cc (s))
 
-  went_heeds_client : (context : Option C) (e : ServerEnd C) (past : List Turn) → EachServerTurn c e past → NoneRefused past → EachHeedsClient c context e.least past
+  went_heeds_client : (context : Option C) (e : ServerEnd C) (past : List Turn) → EachServerTurn c e past → NoneRefused past →
+      EachHeedsClient c context e.least past
   went_heeds_client context e [] each going = tt
   went_heeds_client context e (t ∷ past) each going = (
     record {
@@ -194,7 +207,8 @@ module _ {C : Type 0} (c : Meaning ContextSetting C) where
     went_heeds_client context e past each.1 going.1,
   )
 
-  met_first : {P : Type 0} (old : ServerView C P) (past : List Turn) (version : ℕ) → old.noted ≡ server_noted old.least past → is_first past ≡ true →
+  met_first : {P : Type 0} (old : ServerView C P) (past : List Turn) (version : ℕ) → old.noted ≡ server_noted old.least past →
+      is_first past ≡ true →
       nat_lt version old.least ≡ true → is_old old.least old.noted version ≡ true
   met_first old [] version noted first below = rw noted below
   met_first old (u ∷ past) version noted first below = absurd (cc (first))
@@ -207,7 +221,8 @@ module _ {C : Type 0} (c : Meaning ContextSetting C) where
       absurd (young_in (Some old) old.least old.noted version (rw noted (noted_by_one c (server_end old) u past each going)) met)
 
   module _ (law : IsContext c) {P : Type 0} (p : ProxyMeaning P) where
-    newest_heeds_client : (first old mid : ServerView C P) (past : List Turn) (d : TsRequest) (out : Outcome) → ServerFollows c first old past →
+    newest_heeds_client : (first old mid : ServerView C P) (past : List Turn) (d : TsRequest) (out : Outcome) →
+        ServerFollows c first old past →
         ServerMakes c p old d out mid → mid.least ≡ old.least → HeedsClient c mid.context mid.least past (server_turn c d out mid)
     newest_heeds_client first old mid past d (outcome.Reply reply) follows makes same =
         let after = server_went c law p first old mid past d (outcome.Reply reply) tt follows makes in
@@ -217,7 +232,8 @@ module _ {C : Type 0} (c : Meaning ContextSetting C) where
         let t : Turn = server_turn c d outcome.Finished mid in
         let ran = server_turned c law first old mid past d outcome.Finished follows makes.0 in
         record {
-          refuses = λ found. absurd (first_noted mid.context mid.least t past (at_some (server_noted mid.least (t ∷ past)) _ ran.each.0.shown.version) found);
+          refuses = λ found. absurd (first_noted mid.context mid.least t past
+              (at_some (server_noted mid.least (t ∷ past)) _ ran.each.0.shown.version) found);
           only = λ never is. absurd is;
         }
     newest_heeds_client first old mid past d (outcome.Refused kind reply) follows makes same =
@@ -229,7 +245,8 @@ module _ {C : Type 0} (c : Meaning ContextSetting C) where
             old = met_first old past d.version follows.noted found.first (lt-ltb d.version old.least (rw (← same) found.old));
           });
           only = λ never is.
-              let met = server_met c never p ServerState old d error mid (λ some. (makes.2.moves.handle some).1) why.cause why.step (makes.1 ∙ is) in
+              let met = server_met c never p ServerState old d error mid (λ some. (makes.2.moves.handle some).1) why.cause why.step
+              (makes.1 ∙ is) in
               let found = found_first old past d.version follows.noted follows.ran.each follows.unrefused met.old in
               record { first = found.0; begun = met.begun; old = rw same (ltb-true d.version old.least found.1) };
         }
@@ -250,7 +267,8 @@ module _ {C : Type 0} (c : Meaning ContextSetting C) where
               (went_heeds_client made.mid.context (server_end h.0) past follows.ran.each follows.unrefused)),
         )
 
-    pub server_past_heeds : (first now : ServerView C P) (turns : List Turn) (result : Result Delegation DelegateError) → IsFreshServer first →
+    pub server_past_heeds : (first now : ServerView C P) (turns : List Turn) (result : Result Delegation DelegateError) →
+        IsFreshServer first →
         OthersUnrefused turns → ServerPast c p first result turns now → EachHeedsClient c now.context now.least turns
     server_past_heeds first now turns result fresh others past =
         server_history_heeds first now turns fresh others (server_past_history c p first now turns result past)

@@ -22,7 +22,8 @@ use Rattle.sspi_credssp.specs.declared.turn.Outcome.TheVariants as outcome
 use Rattle.sspi_credssp.specs.declared.turn.Turn.{Turn}
 use Rattle.sspi_delegate.specs.Asking.{KdcCalls}
 use Rattle.sspi_delegate.specs.EndTurns.{client_turns, server_turns}
-use Rattle.sspi_delegate.specs.History.{ClientMakes, ClientHistory, ClientStopped, ServerMakes, ServerRefuses, ServerHistory, ServerGave, ServerStopped, ServerPast}
+use Rattle.sspi_delegate.specs.History.{ClientMakes, ClientHistory, ClientStopped, ServerMakes, ServerRefuses, ServerHistory}
+use Rattle.sspi_delegate.specs.History.{ServerGave, ServerStopped, ServerPast}
 use Rattle.sspi_delegate.specs.Refusals.{ClientRefuses}
 use Rattle.sspi_delegate.specs.Rounds.{recorded}
 
@@ -34,7 +35,8 @@ module _ {C D : Type 0} (c : Meaning ContextSetting C) (k : KdcCalls D) where
   client_made first old mid new kdc_first kdc kdc2 d out turns turns2 history makes rest is =
       rw is (old, kdc, history, record { mid = mid; turn = refl; makes = makes; rest = rest })
 
-  pub client_stopped : (first old mid new : ClientView C) (kdc_first kdc kdc2 : D) (d : TsRequest) (error : Error) (turns turns2 : List Turn) →
+  pub client_stopped : (first old mid new : ClientView C) (kdc_first kdc kdc2 : D) (d : TsRequest) (error : Error)
+      (turns turns2 : List Turn) →
       ClientHistory c k first kdc_first (client_turns turns) old kdc →
       ClientTurn c old d (outcome.Refused error.error_type None) mid × ClientRefuses c (λ asked. k.replies kdc asked kdc2) old d error mid →
       new ≡ record mid { output = [] } → turns2 ≡ recorded Client d mid.acts mid.output (outcome.Refused error.error_type None) ∷ turns →
@@ -66,7 +68,8 @@ module _ {C : Type 0} (c : Meaning ContextSetting C) where
   module _ {P : Type 0} (p : ProxyMeaning P) where
     pub server_made : (first old mid new : ServerView C P) (d : TsRequest) (out : Outcome) (turns turns2 : List Turn) →
         ServerHistory c p first (server_turns turns) old → ServerMakes c p old d out mid → MakesAlone c p old mid →
-        IsAsked p (calls_in old mid.acts.status) old.proxy mid.proxy → UnlessRefused out (HasAsked p (calls_in old mid.acts.status) old.proxy mid.proxy) →
+        IsAsked p (calls_in old mid.acts.status) old.proxy mid.proxy →
+        UnlessRefused out (HasAsked p (calls_in old mid.acts.status) old.proxy mid.proxy) →
         new ≡ record mid { output = [] } → turns2 ≡ recorded Server d mid.acts mid.output out ∷ turns →
         ServerHistory c p first (server_turns turns2) new
     server_made first old mid new d out turns turns2 history makes alone proxy asked rest is =
@@ -74,14 +77,19 @@ module _ {C : Type 0} (c : Meaning ContextSetting C) where
 
     pub server_gave : (first old mid new : ServerView C P) (d : TsRequest) (identity : AuthIdentity) (turns turns2 : List Turn) →
         ServerHistory c p first (server_turns turns) old →
-        ServerTurn c old d outcome.Finished mid × HoldsIdentity c mid.context d.auth_info identity → DoneStep c p mid.acts.status old d mid →
-        MakesAlone c p old mid → IsAsked p (calls_in old mid.acts.status) old.proxy mid.proxy → HasAsked p (calls_in old mid.acts.status) old.proxy mid.proxy →
+        ServerTurn c old d outcome.Finished mid × HoldsIdentity c mid.context d.auth_info identity →
+        DoneStep c p mid.acts.status old d mid →
+        MakesAlone c p old mid → IsAsked p (calls_in old mid.acts.status) old.proxy mid.proxy →
+        HasAsked p (calls_in old mid.acts.status) old.proxy mid.proxy →
         new ≡ record mid { output = [] } → turns2 ≡ recorded Server d mid.acts mid.output outcome.Finished ∷ turns →
         ServerGave c p first identity (server_turns turns2) new
-    server_gave first old mid new d identity turns turns2 history turn step alone proxy asked rest is =
-        (server_made first old mid new d outcome.Finished turns turns2 history (turn.0, step, identity, turn.1) alone proxy asked rest is, rw (is, rest) turn.1)
+    server_gave first old mid new d identity turns turns2 history turn step alone proxy asked rest is = (
+      server_made first old mid new d outcome.Finished turns turns2 history (turn.0, step, identity, turn.1) alone proxy asked rest is,
+      rw (is, rest) turn.1,
+    )
 
-    pub server_stopped : (first old mid new : ServerView C P) (d : TsRequest) (error : Error) (reply : Option TsRequest) (turns turns2 : List Turn) →
+    pub server_stopped : (first old mid new : ServerView C P) (d : TsRequest) (error : Error) (reply : Option TsRequest)
+        (turns turns2 : List Turn) →
         ServerHistory c p first (server_turns turns) old →
         ServerTurn c old d (outcome.Refused error.error_type reply) mid → ServerRefuses c p old d error mid → MakesAlone c p old mid →
         IsAsked p (calls_in old mid.acts.status) old.proxy mid.proxy →
@@ -107,7 +115,15 @@ module _ {C : Type 0} (c : Meaning ContextSetting C) where
     server_stopped_history first now error turns s = rw s.newest (
       s.old,
       s.before,
-      record { mid = s.mid; turn = refl; makes = (error, refl, s.turn, s.refuses); made = s.made; proxy = s.proxy; asked = tt; rest = s.rest },
+      record {
+        mid = s.mid;
+        turn = refl;
+        makes = (error, refl, s.turn, s.refuses);
+        made = s.made;
+        proxy = s.proxy;
+        asked = tt;
+        rest = s.rest;
+      },
     )
 
     pub server_past_history : (first now : ServerView C P) (turns : List Turn) (result : Result Delegation DelegateError) →

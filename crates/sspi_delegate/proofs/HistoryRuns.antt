@@ -16,7 +16,8 @@ use Rattle.sspi_delegate.specs.Asking.{KdcCalls}
 use Rattle.sspi_delegate.specs.ClientRun.{ClientRan, ClientFollows}
 use Rattle.sspi_delegate.specs.EndTurns.{OthersGoOn, OthersUnrefused}
 use Rattle.sspi_delegate.specs.Turns.{GoesOn, AllGoOn, IsUnrefused, NoneRefused}
-use Rattle.sspi_delegate.specs.History.{ClientMakes, ClientHistory, ClientLeft, between, waiting, ClientStops, ClientPast, ServerMakes, ServerHistory, ServerPast}
+use Rattle.sspi_delegate.specs.History.{ClientMakes, ClientHistory, ClientLeft, between, waiting, ClientStops, ClientPast, ServerMakes}
+use Rattle.sspi_delegate.specs.History.{ServerHistory, ServerPast}
 use Rattle.sspi_delegate.specs.Refusals.{ProxyStays}
 use Rattle.sspi_delegate.specs.ServerRun.{ServerRan, ServerFollows, server_end, GivesNewest}
 use Rattle.sspi_delegate.proofs.ClientSteps.{client_fresh, client_turned, client_replied, client_ended, client_underway, client_emptied}
@@ -30,7 +31,8 @@ use Rattle.sspi_credssp.specs.declared.turn.Turn.{Turn}
 module _ {C : Type 0} (c : Meaning ContextSetting C) (law : IsContext c) where
   -- ---- the client
 
-  client_follows_emptied : (first now : ClientView C) (past : List Turn) → ClientFollows c first now past → ClientFollows c first (record now { output = [] }) past
+  client_follows_emptied : (first now : ClientView C) (past : List Turn) → ClientFollows c first now past →
+      ClientFollows c first (record now { output = [] }) past
   client_follows_emptied first now past follows = record {
     ran = client_emptied c first now past follows.ran;
     state = follows.state;
@@ -41,7 +43,8 @@ module _ {C : Type 0} (c : Meaning ContextSetting C) (law : IsContext c) where
   }
 
   module _ {D : Type 0} (k : KdcCalls D) where
-    pub client_turn_of : (old mid : ClientView C) (kdc kdc2 : D) (d : TsRequest) (out : Outcome) → ClientMakes c k old kdc d out mid kdc2 → ClientTurn c old d out mid
+    pub client_turn_of : (old mid : ClientView C) (kdc kdc2 : D) (d : TsRequest) (out : Outcome) →
+        ClientMakes c k old kdc d out mid kdc2 → ClientTurn c old d out mid
     client_turn_of old mid kdc kdc2 d (outcome.Reply reply) makes = makes.0
     client_turn_of old mid kdc kdc2 d (outcome.Final reply) makes = makes.0
     client_turn_of old mid kdc kdc2 d outcome.Finished makes = absurd makes
@@ -52,19 +55,22 @@ module _ {C : Type 0} (c : Meaning ContextSetting C) (law : IsContext c) where
         ClientFollows c first old past → ClientMakes c k old kdc d out mid kdc2 → ClientFollows c first mid (client_turn c d out mid ∷ past)
     client_went first old mid kdc kdc2 past d (outcome.Reply reply) went follows makes =
         client_replied c law (λ asked. k.replies kdc asked kdc2) first old mid past d reply follows makes.0 makes.1
-    client_went first old mid kdc kdc2 past d (outcome.Final reply) went follows makes = client_ended c law first old mid past d reply follows makes.0
+    client_went first old mid kdc kdc2 past d (outcome.Final reply) went follows makes =
+        client_ended c law first old mid past d reply follows makes.0
     client_went first old mid kdc kdc2 past d outcome.Finished went follows makes = absurd went
     client_went first old mid kdc kdc2 past d (outcome.Refused kind reply) went follows makes = absurd went
 
     pub history_follows : (first now : ClientView C) (kdc kdc2 : D) (turns : List Turn) → IsFreshClient first → AllGoOn turns →
         ClientHistory c k first kdc turns now kdc2 → ClientFollows c first now turns
-    history_follows first now kdc kdc2 [] fresh went h = subst (λ (v : ClientView C). ClientFollows c first v []) (sym h.0) (client_fresh c first fresh)
+    history_follows first now kdc kdc2 [] fresh went h = subst (λ (v : ClientView C). ClientFollows c first v []) (sym h.0)
+        (client_fresh c first fresh)
     history_follows first now kdc kdc2 (t ∷ past) fresh went h =
         let made = h.3 in
         let follows = history_follows first h.0 kdc h.1 past fresh went.1 h.2 in
         subst (λ (x : Turn). ClientFollows c first now (x ∷ past)) (sym made.turn)
         (subst (λ (v : ClientView C). ClientFollows c first v (client_turn c t.delivered t.outcome made.mid ∷ past)) (sym made.rest)
-        (client_follows_emptied first made.mid _ (client_went first h.0 made.mid h.1 kdc2 past t.delivered t.outcome went.0 follows made.makes)))
+        (client_follows_emptied first made.mid _ (client_went first h.0 made.mid h.1 kdc2 past t.delivered t.outcome went.0 follows
+        made.makes)))
 
     pub history_ran : (first now : ClientView C) (kdc kdc2 : D) (turns : List Turn) → IsFreshClient first → OthersGoOn turns →
         ClientHistory c k first kdc turns now kdc2 → ClientRan c first now turns
@@ -75,7 +81,8 @@ module _ {C : Type 0} (c : Meaning ContextSetting C) (law : IsContext c) where
         subst (λ (x : Turn). ClientRan c first now (x ∷ past)) (sym made.turn)
         (subst (λ (v : ClientView C). ClientRan c first v (client_turn c t.delivered t.outcome made.mid ∷ past)) (sym made.rest)
         (client_emptied c first made.mid _
-        (client_turned c law first h.0 made.mid past t.delivered t.outcome follows (client_turn_of h.0 made.mid h.1 kdc2 t.delivered t.outcome made.makes))))
+        (client_turned c law first h.0 made.mid past t.delivered t.outcome follows
+        (client_turn_of h.0 made.mid h.1 kdc2 t.delivered t.outcome made.makes))))
 
     left_ran : (first now : ClientView C) (kdc kdc2 : D) (turns : List Turn) → IsFreshClient first → OthersGoOn turns →
         ClientLeft c k first kdc turns now kdc2 → ClientRan c first now turns
@@ -83,7 +90,8 @@ module _ {C : Type 0} (c : Meaning ContextSetting C) (law : IsContext c) where
     left_ran first now kdc kdc2 turns fresh others (waiting old kdc1 d went h way) =
         client_underway c law first old now turns d (history_follows first old kdc kdc1 turns fresh went h) way.underway
 
-    stops_ran : (first now : ClientView C) (kdc kdc2 : D) (turns : List Turn) (error : DelegateError) → IsFreshClient first → OthersGoOn turns →
+    stops_ran : (first now : ClientView C) (kdc kdc2 : D) (turns : List Turn) (error : DelegateError) → IsFreshClient first →
+        OthersGoOn turns →
         ClientStops c k first kdc error turns now kdc2 → ClientRan c first now turns
     stops_ran first now kdc kdc2 turns (errors.Client error) fresh others s =
         history_ran first now kdc kdc2 turns fresh others (client_stopped_history c k first now kdc kdc2 error turns s)
@@ -102,7 +110,8 @@ module _ {C : Type 0} (c : Meaning ContextSetting C) (law : IsContext c) where
   -- ---- the server
 
   module _ {P : Type 0} (p : ProxyMeaning P) where
-    server_follows_emptied : (first now : ServerView C P) (past : List Turn) → ServerFollows c first now past → ServerFollows c first (record now { output = [] }) past
+    server_follows_emptied : (first now : ServerView C P) (past : List Turn) → ServerFollows c first now past →
+        ServerFollows c first (record now { output = [] }) past
     server_follows_emptied first now past follows = record {
       ran = server_emptied c first now past follows.ran;
       state = follows.state;
@@ -110,7 +119,8 @@ module _ {C : Type 0} (c : Meaning ContextSetting C) (law : IsContext c) where
       unrefused = follows.unrefused;
     }
 
-    pub server_turn_of : (old mid : ServerView C P) (d : TsRequest) (out : Outcome) → ServerMakes c p old d out mid → ServerTurn c old d out mid
+    pub server_turn_of : (old mid : ServerView C P) (d : TsRequest) (out : Outcome) → ServerMakes c p old d out mid →
+        ServerTurn c old d out mid
     server_turn_of old mid d (outcome.Reply reply) makes = makes.0
     server_turn_of old mid d (outcome.Final reply) makes = absurd makes
     server_turn_of old mid d outcome.Finished makes = makes.0
@@ -118,14 +128,16 @@ module _ {C : Type 0} (c : Meaning ContextSetting C) (law : IsContext c) where
 
     pub server_went : (first old mid : ServerView C P) (past : List Turn) (d : TsRequest) (out : Outcome) → IsUnrefused out →
         ServerFollows c first old past → ServerMakes c p old d out mid → ServerFollows c first mid (server_turn c d out mid ∷ past)
-    server_went first old mid past d (outcome.Reply reply) went follows makes = server_follows c law first old mid past d reply follows makes.0
+    server_went first old mid past d (outcome.Reply reply) went follows makes =
+        server_follows c law first old mid past d reply follows makes.0
     server_went first old mid past d (outcome.Final reply) went follows makes = absurd makes
     server_went first old mid past d outcome.Finished went follows makes = server_finished c law first old mid past d follows makes.0
     server_went first old mid past d (outcome.Refused kind reply) went follows makes = absurd went
 
     pub server_history_follows : (first now : ServerView C P) (turns : List Turn) → IsFreshServer first → NoneRefused turns →
         ServerHistory c p first turns now → ServerFollows c first now turns
-    server_history_follows first now [] fresh went h = subst (λ (v : ServerView C P). ServerFollows c first v []) (sym h) (server_fresh c first fresh)
+    server_history_follows first now [] fresh went h = subst (λ (v : ServerView C P). ServerFollows c first v []) (sym h)
+        (server_fresh c first fresh)
     server_history_follows first now (t ∷ past) fresh went h =
         let made = h.2 in
         let follows = server_history_follows first h.0 past fresh went.1 h.1 in
@@ -142,9 +154,11 @@ module _ {C : Type 0} (c : Meaning ContextSetting C) (law : IsContext c) where
         subst (λ (x : Turn). ServerRan c first now (x ∷ past)) (sym made.turn)
         (subst (λ (v : ServerView C P). ServerRan c first v (server_turn c t.delivered t.outcome made.mid ∷ past)) (sym made.rest)
         (server_emptied c first made.mid _
-        (server_turned c law first h.0 made.mid past t.delivered t.outcome follows (server_turn_of h.0 made.mid t.delivered t.outcome made.makes))))
+        (server_turned c law first h.0 made.mid past t.delivered t.outcome follows
+        (server_turn_of h.0 made.mid t.delivered t.outcome made.makes))))
 
-    pub server_past_ran : (first now : ServerView C P) (turns : List Turn) (result : Result Delegation DelegateError) → IsFreshServer first →
+    pub server_past_ran : (first now : ServerView C P) (turns : List Turn) (result : Result Delegation DelegateError) →
+        IsFreshServer first →
         OthersUnrefused turns → ServerPast c p first result turns now → ServerRan c first now turns
     server_past_ran first now turns result fresh others past =
         server_history_ran first now turns fresh others (server_past_history c p first now turns result past)

@@ -1,5 +1,6 @@
 -- One more turn, and what it makes of the log of an exchange.
-use Rattle.std.proofs.Common.{◌≡◌, ℕ, ◌≤◌, ◌<◌, ◌⊎◌, inl, inr, List, [], ◌∷◌, length, sym, ◌∙◌, ap, subst, refl, None, Some, IsSome, Ok, slice_get}
+use Rattle.std.proofs.Common.{◌≡◌, ℕ, ◌≤◌, ◌<◌, ◌⊎◌, inl, inr, List, [], ◌∷◌, length, sym, ◌∙◌, ap, subst, refl, None, Some, IsSome}
+use Rattle.std.proofs.Common.{Ok, slice_get}
 use Rattle.sspi_types.specs.declared.error.Error.{Error}
 use Rattle.sspi_types.specs.declared.error_kind.ErrorKind.{ErrorKind}
 use Rattle.sspi_types.specs.declared.error_kind.ErrorKind.TheVariants as kinds
@@ -13,7 +14,9 @@ use Rattle.sspi_credssp.specs.declared.turn.End.TheVariants.{Client, Server}
 use Rattle.sspi_credssp.specs.declared.turn.Outcome.{Outcome}
 use Rattle.sspi_credssp.specs.declared.turn.Outcome.TheVariants.{Reply, Final, Finished, Refused}
 use Rattle.sspi_credssp.specs.declared.turn.Turn.{Turn}
-use Rattle.sspi_delegate.specs.Causes.{Between, Asked, Turned, Finishes, Stopped, NewestIs, IsClientRefusal, IsServerRefusal, IsFinished, IsAnswerTo, MayLackAfter, MayLack, TurnLeft, HasMessage, Given, carried, too_long, link_failed, no_memory, turns_of}
+use Rattle.sspi_delegate.specs.Causes.{Between, Asked, Turned, Finishes, Stopped, NewestIs, IsClientRefusal, IsServerRefusal}
+use Rattle.sspi_delegate.specs.Causes.{IsFinished, IsAnswerTo, MayLackAfter, MayLack, TurnLeft, HasMessage, Given, carried, too_long}
+use Rattle.sspi_delegate.specs.Causes.{link_failed, no_memory, turns_of}
 use Rattle.sspi_delegate.specs.Deliveries.{delivery_limit, IsUnread, Fed, HeadTaken, Takes}
 use Rattle.sspi_delegate.specs.Recorded.{PushedSuch}
 use Rattle.sspi_delegate.specs.Run.{Logged, LoggedButLast, HasLog, IsDelivered, IsRead, IsSent}
@@ -30,25 +33,29 @@ pub going_may_lack : (turns : List Turn) → AllGoOn turns → MayLack turns
 going_may_lack [] going = tt
 going_may_lack (t ∷ past) going = goes_may_lack t.outcome going.0
 
-client_refusal_lacks : (kind : ErrorKind) (outcome : Outcome) → kind ≡ kinds.InsufficientMemory → IsClientRefusal kind outcome → MayLackAfter outcome
+client_refusal_lacks : (kind : ErrorKind) (outcome : Outcome) → kind ≡ kinds.InsufficientMemory → IsClientRefusal kind outcome →
+    MayLackAfter outcome
 client_refusal_lacks kind (Reply reply) memory refusal = tt
 client_refusal_lacks kind (Final reply) memory refusal = tt
 client_refusal_lacks kind Finished memory refusal = refusal
 client_refusal_lacks kind (Refused refused None) memory refusal = refusal ∙ memory
 client_refusal_lacks kind (Refused refused (Some reply)) memory refusal = absurd refusal
 
-client_lacks : (kind : ErrorKind) (turns : List Turn) → kind ≡ kinds.InsufficientMemory → NewestIs Client (IsClientRefusal kind) turns → MayLack turns
+client_lacks : (kind : ErrorKind) (turns : List Turn) → kind ≡ kinds.InsufficientMemory → NewestIs Client (IsClientRefusal kind) turns →
+    MayLack turns
 client_lacks kind [] memory newest = tt
 client_lacks kind (t ∷ past) memory newest = client_refusal_lacks kind t.outcome memory newest.1
 
-server_refusal_lacks : (kind : ErrorKind) (outcome : Outcome) → kind ≡ kinds.InsufficientMemory → IsServerRefusal kind outcome → MayLackAfter outcome
+server_refusal_lacks : (kind : ErrorKind) (outcome : Outcome) → kind ≡ kinds.InsufficientMemory → IsServerRefusal kind outcome →
+    MayLackAfter outcome
 server_refusal_lacks kind (Reply reply) memory refusal = tt
 server_refusal_lacks kind (Final reply) memory refusal = tt
 server_refusal_lacks kind Finished memory refusal = refusal
 server_refusal_lacks kind (Refused refused None) memory refusal = absurd refusal
 server_refusal_lacks kind (Refused refused (Some reply)) memory refusal = refusal ∙ memory
 
-server_lacks : (kind : ErrorKind) (turns : List Turn) → kind ≡ kinds.InsufficientMemory → NewestIs Server (IsServerRefusal kind) turns → MayLack turns
+server_lacks : (kind : ErrorKind) (turns : List Turn) → kind ≡ kinds.InsufficientMemory → NewestIs Server (IsServerRefusal kind) turns →
+    MayLack turns
 server_lacks kind [] memory newest = tt
 server_lacks kind (t ∷ past) memory newest = server_refusal_lacks kind t.outcome memory newest.1
 
@@ -60,12 +67,14 @@ refusal_message kind (Refused refused None) refusal = absurd refusal
 refusal_message kind (Refused refused (Some reply)) refusal = refl
 
 -- a server that refused has a message for its client
-pub refusal_has_message : (d : TsRequest) (kind : ErrorKind) (old new : List Turn) → PushedSuch Server d (IsServerRefusal kind) old new → HasMessage new
+pub refusal_has_message : (d : TsRequest) (kind : ErrorKind) (old new : List Turn) → PushedSuch Server d (IsServerRefusal kind) old new →
+    HasMessage new
 refusal_has_message d kind old [] pushed = absurd pushed
 refusal_has_message d kind old (t ∷ past) pushed = refusal_message kind t.outcome pushed.3
 
 -- reading changes no more of an entry than what was delivered
-fed_logged : (base : List Carried) (t : Turn) (past : List Turn) (log log2 : List Carried) → Fed log log2 → Logged base (t ∷ past) log → Logged base (t ∷ past) log2
+fed_logged : (base : List Carried) (t : Turn) (past : List Turn) (log log2 : List Carried) → Fed log log2 → Logged base (t ∷ past) log →
+    Logged base (t ∷ past) log2
 fed_logged base t past [] log2 fed entries = absurd entries
 fed_logged base t past (e ∷ log) [] fed entries = absurd fed
 fed_logged base t past (e ∷ log) (f ∷ more) fed entries = (
@@ -74,7 +83,8 @@ fed_logged base t past (e ∷ log) (f ∷ more) fed entries = (
   subst (λ (rest : List Carried). Logged base past rest) (sym fed.2) entries.2,
 )
 
-head_delivered : (t : Turn) (past : List Turn) (log : List Carried) (text : List ℕ) (request : TsRequest) → HeadTaken log text → IsRead text request →
+head_delivered : (t : Turn) (past : List Turn) (log : List Carried) (text : List ℕ) (request : TsRequest) → HeadTaken log text →
+    IsRead text request →
     IsDelivered (t ∷ past) log request
 head_delivered t past [] text request head read = absurd head
 head_delivered t past (e ∷ log) text request head read = (
@@ -133,7 +143,8 @@ module _ (base : List Carried) (start : ℕ) where
       let v = asked_by d old new log now same w in
       record { order = v.order; cause = (going_may_lack new v.going, inl v.entries, inl v.calm) }
 
-  pub client_refused : (limit : ℕ) (error : Error) (answer : DelegateError) (d : TsRequest) (old new : List Turn) (log : List Carried) (now : ℕ) →
+  pub client_refused : (limit : ℕ) (error : Error) (answer : DelegateError) (d : TsRequest) (old new : List Turn) (log : List Carried)
+      (now : ℕ) →
       next_end old ≡ Client → Asked base start old log now d → PushedSuch Client d (IsClientRefusal error.error_type) old new →
       IsAnswerTo error.error_type (errors.Client error) answer → Stopped base start limit answer new log now
   client_refused limit error answer d old new log now next w pushed (inl memory) = rw memory.1 (record {
@@ -166,9 +177,11 @@ module _ (base : List Carried) (start : ℕ) where
   given_counted turns log now (link_failed entries fit counted) = inr counted
   given_counted turns log now (no_memory entries calm) = inl calm
 
-  pub server_refused : (limit : ℕ) (error : Error) (answer : DelegateError) (d : TsRequest) (old new : List Turn) (log log2 : List Carried) (now now2 : ℕ) →
+  pub server_refused : (limit : ℕ) (error : Error) (answer : DelegateError) (d : TsRequest) (old new : List Turn)
+      (log log2 : List Carried) (now now2 : ℕ) →
       next_end old ≡ Server → Asked base start old log now d → PushedSuch Server d (IsServerRefusal error.error_type) old new →
-      IsAnswerTo error.error_type (errors.Server error) answer → Given base start new log2 now2 → Stopped base start limit answer new log2 now2
+      IsAnswerTo error.error_type (errors.Server error) answer → Given base start new log2 now2 →
+      Stopped base start limit answer new log2 now2
   server_refused limit error answer d old new log log2 now now2 next w pushed (inl memory) sent = rw memory.1 (record {
     order = in_order Server d (IsServerRefusal error.error_type) old new log now next w pushed;
     cause = (
@@ -199,12 +212,14 @@ at_first base start turns empty = rw empty (record {
   made = refl;
 })
 
-pub left_at : (base : List Carried) (start : ℕ) (turns : List Turn) (log : List Carried) (now turn limit : ℕ) → IsAtTurn base start turns log now turn →
+pub left_at : (base : List Carried) (start : ℕ) (turns : List Turn) (log : List Carried) (now turn limit : ℕ) →
+    IsAtTurn base start turns log now turn →
     turn < limit → TurnLeft limit turns
 left_at base start turns log now turn limit at left client = rw at.made left
 
 -- all turns that the client may make were made and answered
-pub spent : (base : List Carried) (start : ℕ) (turns : List Turn) (log : List Carried) (now turn limit : ℕ) → IsAtTurn base start turns log now turn →
+pub spent : (base : List Carried) (start : ℕ) (turns : List Turn) (log : List Carried) (now turn limit : ℕ) →
+    IsAtTurn base start turns log now turn →
     turn ≡ limit → Stopped base start limit errors.TurnsSpent turns log now
 spent base start turns log now turn limit at all = record {
   order = at.between.order;
@@ -212,8 +227,10 @@ spent base start turns log now turn limit at all = record {
 }
 
 -- the request that was read of the newest delivery
-pub read_asked : (base : List Carried) (start : ℕ) (turns : List Turn) (log log2 : List Carried) (now now2 : ℕ) (text : List ℕ) (request : TsRequest) (newest : Turn) →
-    Some newest ≡ slice_get turns 0 → Between base start turns log now → (IsUnread log → Takes log log2 (Ok text)) → now2 ≡ now → IsRead text request →
+pub read_asked : (base : List Carried) (start : ℕ) (turns : List Turn) (log log2 : List Carried) (now now2 : ℕ) (text : List ℕ)
+    (request : TsRequest) (newest : Turn) →
+    Some newest ≡ slice_get turns 0 → Between base start turns log now → (IsUnread log → Takes log log2 (Ok text)) → now2 ≡ now →
+    IsRead text request →
     Asked base start turns log2 now2 request
 read_asked base start [] log log2 now now2 text request newest there between takes later read = absurd (cc (there))
 read_asked base start (t ∷ past) log log2 now now2 text request newest there between takes later read =
@@ -226,12 +243,17 @@ read_asked base start (t ∷ past) log log2 now now2 text request newest there b
     }
 
 -- no memory for the request that was read of the newest delivery
-pub read_lacks : (base : List Carried) (start limit : ℕ) (turns : List Turn) (log log2 : List Carried) (now now2 : ℕ) (text : List ℕ) (newest : Turn) →
+pub read_lacks : (base : List Carried) (start limit : ℕ) (turns : List Turn) (log log2 : List Carried) (now now2 : ℕ) (text : List ℕ)
+    (newest : Turn) →
     Some newest ≡ slice_get turns 0 → Between base start turns log now → (IsUnread log → Takes log log2 (Ok text)) → now2 ≡ now →
     Stopped base start limit errors.InsufficientMemory turns log2 now2
 read_lacks base start limit [] log log2 now now2 text newest there between takes later = absurd (cc (there))
 read_lacks base start limit (t ∷ past) log log2 now now2 text newest there between takes later =
     let took = takes between.unread in record {
       order = between.order;
-      cause = (going_may_lack (t ∷ past) between.going, inl (fed_logged base t past log log2 took.0 between.entries), inl (later ∙ between.calm));
+      cause = (
+        going_may_lack (t ∷ past) between.going,
+        inl (fed_logged base t past log log2 took.0 between.entries),
+        inl (later ∙ between.calm),
+      );
     }

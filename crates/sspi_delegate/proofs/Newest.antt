@@ -1,5 +1,6 @@
 -- The newest entry of a log whose entries are kept in a `Vec`, the first one first.
-use Rattle.std.proofs.Common.{◌≡◌, ℕ, ◌+◌, ◌<◌, ◌≤◌, suc, List, [], ◌∷◌, ◌++◌, length, get_or, set, take, reverse, sym, ◌∙◌, ap, arith, Result, Ok, Err, IfOk, OnErr, true}
+use Rattle.std.proofs.Common.{◌≡◌, ℕ, ◌+◌, ◌<◌, ◌≤◌, suc, List, [], ◌∷◌, ◌++◌, length, get_or, set, take, reverse, sym, ◌∙◌, ap, arith}
+use Rattle.std.proofs.Common.{Result, Ok, Err, IfOk, OnErr, true}
 use Rattle.std.proofs.lemmas.List.{length-reverse, reverse-append, set_split, take_more, take_all, drop_all}
 use Rattle.sspi_delegate.specs.declared.carried.Carried.{Carried}
 use Rattle.sspi_delegate.specs.declared.link.LinkError.{LinkError}
@@ -19,7 +20,8 @@ pub reverse-set_last : {A : Type 0} (xs : List A) (n : ℕ) (x : A) → length x
 reverse-set_last xs n x e =
     let here : n < length xs = omega arith in
     let past : length xs ≤ suc n = omega arith in
-    let parts : set xs n x ≡ take n xs ++ x ∷ [] = set_split xs n x here ∙ ap (λ (ys : _). take n xs ++ x ∷ ys) (drop_all (suc n) xs past) in
+    let parts : set xs n x ≡ take n xs ++ x ∷ [] = set_split xs n x here ∙ ap (λ (ys : _). take n xs ++ x ∷ ys)
+    (drop_all (suc n) xs past) in
     ap reverse parts ∙ reverse-append (take n xs) (x ∷ [])
 
 gives_at : (e e2 : Carried) (log : List Carried) (into : List ℕ) (r : Result ℕ LinkError) →

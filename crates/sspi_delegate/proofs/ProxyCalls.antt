@@ -1,5 +1,6 @@
 -- How often a server has asked its proxy: for the list with its context, and for the peer at the end of the authentication.
-use Rattle.std.proofs.Common.{◌≡◌, ◌∙◌, ℕ, ◌+◌, List, [], ◌∷◌, Option, None, Some, IsSome, Result, Ok, Err, OnOk, Bool, true, false, refl, sym, ap, subst, arith}
+use Rattle.std.proofs.Common.{◌≡◌, ◌∙◌, ℕ, ◌+◌, List, [], ◌∷◌, Option, None, Some, IsSome, Result, Ok, Err, OnOk, Bool, true, false}
+use Rattle.std.proofs.Common.{refl, sym, ap, subst, arith}
 use Rattle.sspi_types.specs.declared.security_status.SecurityStatus.{SecurityStatus}
 use Rattle.sspi_types.specs.declared.security_status.SecurityStatus.TheVariants as statuses
 use Rattle.sspi_mech.specs.Meaning.{Meaning}
@@ -61,14 +62,18 @@ in_later_part (Some m) mode None AuthInfo later first stepped = omega arith
 in_later_part (Some m) mode None Final later first stepped = omega arith
 
 module _ {C : Type 0} (c : Meaning ContextSetting C) where
-  over_calls : (f : ServerFrame C) (t : Turn) (r : TsRequest) (m : C) (mode : ServerMode) (status : Option SecurityStatus) (field : Option (List ℕ)) →
-      after_status status ≡ PubKeyInfo → ShowsOver (server_shown f) t field r → list_calls mode + 1 ≡ calls_made (Some m) mode (after_reply NegoToken t.acts.proved status)
+  over_calls : (f : ServerFrame C) (t : Turn) (r : TsRequest) (m : C) (mode : ServerMode) (status : Option SecurityStatus)
+      (field : Option (List ℕ)) →
+      after_status status ≡ PubKeyInfo → ShowsOver (server_shown f) t field r →
+      list_calls mode + 1 ≡ calls_made (Some m) mode (after_reply NegoToken t.acts.proved status)
   over_calls f t r m mode status None over h = rw (h.0.unproved, over) refl
   over_calls f t r m mode status (Some blob) over h = rw h.proved refl
 
-  nego_calls : (f : ServerFrame C) (t : Turn) (r : TsRequest) (context : Option C) (m : C) (mode : ServerMode) (status : Option SecurityStatus) →
+  nego_calls : (f : ServerFrame C) (t : Turn) (r : TsRequest) (context : Option C) (m : C) (mode : ServerMode)
+      (status : Option SecurityStatus) →
       ShowsNegoBack (server_shown f) t status r →
-      calls_made context mode NegoToken + (lists_in context mode + look_ups_at status) ≡ calls_made (Some m) mode (after_reply NegoToken t.acts.proved status)
+      calls_made context mode NegoToken + (lists_in context mode + look_ups_at status) ≡ calls_made (Some m) mode
+      (after_reply NegoToken t.acts.proved status)
   nego_calls f t r context m mode None h = absurd h
   nego_calls f t r context m mode (Some statuses.Ok) h = in_first_part context mode 1 ∙ over_calls f t r m mode (Some statuses.Ok) _ refl h
   nego_calls f t r context m mode (Some statuses.ContinueNeeded) h =
@@ -92,8 +97,10 @@ module _ {C : Type 0} (c : Meaning ContextSetting C) where
   state_calls f t r context m mode AuthInfo first stepped h = absurd h
   state_calls f t r context m mode Final first stepped h = absurd h
 
-  turn_calls : (f : ServerFrame C) (t : Turn) (out : Outcome) (context : Option C) (m : C) (mode : ServerMode) (state : CredSspState) → state ≡ f.state →
-      IsUnrefused out → (context ≡ None → state ≡ NegoToken) → (IsSome t.acts.status → state ≡ NegoToken) → ShowsAnswer (server_shown f) t out →
+  turn_calls : (f : ServerFrame C) (t : Turn) (out : Outcome) (context : Option C) (m : C) (mode : ServerMode) (state : CredSspState) →
+      state ≡ f.state →
+      IsUnrefused out → (context ≡ None → state ≡ NegoToken) → (IsSome t.acts.status → state ≡ NegoToken) →
+      ShowsAnswer (server_shown f) t out →
       calls_made context mode state + (lists_in context mode + look_ups_at t.acts.status)
       ≡ calls_made (Some m) mode (server_state_after state out t.acts.proved t.acts.status)
   turn_calls f t (outcome.Reply r) context m mode state is un first stepped h =
@@ -124,22 +131,27 @@ module _ {C : Type 0} (c : Meaning ContextSetting C) where
       asked = has_not_asked p _ _ _ (ap (λ (o : Option C). calls_made o first.mode first.state) fresh.context) refl;
     }
 
-    turn_of : (old mid : ServerView C P) (d : TsRequest) (out : Outcome) → IsUnrefused out → ServerMakes c p old d out mid → ServerTurn c old d out mid
+    turn_of : (old mid : ServerView C P) (d : TsRequest) (out : Outcome) → IsUnrefused out → ServerMakes c p old d out mid →
+        ServerTurn c old d out mid
     turn_of old mid d (outcome.Reply reply) un makes = makes.0
     turn_of old mid d (outcome.Final reply) un makes = absurd makes
     turn_of old mid d outcome.Finished un makes = makes.0
     turn_of old mid d (outcome.Refused kind reply) un makes = absurd un
 
-    next_so_far : (first old now : ServerView C P) (t : Turn) → IsUnrefused t.outcome → SoFar first old → ServerMade c p old t now → SoFar first now
+    next_so_far : (first old now : ServerView C P) (t : Turn) → IsUnrefused t.outcome → SoFar first old → ServerMade c p old t now →
+        SoFar first now
     next_so_far first old now t un so_far made =
         let turn = turn_of old made.mid t.delivered t.outcome un made.makes in
         let begun : IsSome made.mid.context = unless_refused t.outcome _ un turn.moves.begun in
-        let stepped : IsSome made.mid.acts.status → old.state ≡ NegoToken = λ some. turn.turn.shown.acts.negotiated (turn.turn.shown.acts.answered some) in
+        let stepped : IsSome made.mid.acts.status → old.state ≡ NegoToken =
+        λ some. turn.turn.shown.acts.negotiated (turn.turn.shown.acts.answered some) in
         let more = unless_refused t.outcome _ un made.asked in
         let total = has_asked_on p _ _ _ _ _ so_far.told_same so_far.asked more in
         let count = some_calls made.mid.context first.mode made.mid.state _ begun (λ m.
-        ap (λ mode. calls_made old.context first.mode old.state + (lists_in old.context mode + look_ups_at made.mid.acts.status)) so_far.mode_same
-        ∙ turn_calls (server_frame c old made.mid) (server_turn c t.delivered t.outcome made.mid) t.outcome old.context m first.mode old.state refl un so_far.begins stepped turn.turn.shown.reply
+        ap (λ mode. calls_made old.context first.mode old.state + (lists_in old.context mode + look_ups_at made.mid.acts.status))
+        so_far.mode_same
+        ∙ turn_calls (server_frame c old made.mid) (server_turn c t.delivered t.outcome made.mid) t.outcome old.context m first.mode
+        old.state refl un so_far.begins stepped turn.turn.shown.reply
         ∙ ap (calls_made (Some m) first.mode) (sym turn.moves.state)) in
         subst (λ v. SoFar first v) (sym made.rest) (record {
           mode_same = turn.moves.same.mode ∙ so_far.mode_same;
@@ -148,12 +160,14 @@ module _ {C : Type 0} (c : Meaning ContextSetting C) where
           asked = has_asked_as p _ _ _ _ count total;
         })
 
-    all_so_far : (first now : ServerView C P) (turns : List Turn) → IsFreshServer first → AllGoOn turns → ServerHistory c p first turns now → SoFar first now
+    all_so_far : (first now : ServerView C P) (turns : List Turn) → IsFreshServer first → AllGoOn turns →
+        ServerHistory c p first turns now → SoFar first now
     all_so_far first now [] fresh going h = subst (λ v. SoFar first v) (sym h) (fresh_so_far first fresh)
     all_so_far first now (t ∷ past) fresh going h =
         next_so_far first h.0 now t (went_unrefused t.outcome going.0) (all_so_far first h.0 past fresh going.1 h.1) h.2
 
-    finished_asked : (first now : ServerView C P) (t : Turn) (past : List Turn) → IsFreshServer first → IsFinished t.outcome → AllGoOn past →
+    finished_asked : (first now : ServerView C P) (t : Turn) (past : List Turn) → IsFreshServer first → IsFinished t.outcome →
+        AllGoOn past →
         ServerHistory c p first (t ∷ past) now → HasAsked p (list_calls first.mode + 1) first.proxy now.proxy
     finished_asked first now t past fresh finished going h =
         let made = h.2 in
@@ -164,7 +178,8 @@ module _ {C : Type 0} (c : Meaning ContextSetting C) where
         let ended : made.mid.state ≡ Final = turn.moves.state ∙ finished_state h.0.state t.outcome _ _ finished in
         let state : now.state ≡ Final = ap (λ (v : ServerView C P). v.state) made.rest ∙ ended in
         let context : now.context ≡ made.mid.context = ap (λ (v : ServerView C P). v.context) made.rest in
-        has_asked_as p _ _ _ _ (at_end now.context now.state first.mode (subst (λ (o : Option C). IsSome o) (sym context) begun) state) so_far.asked
+        has_asked_as p _ _ _ _ (at_end now.context now.state first.mode (subst (λ (o : Option C). IsSome o) (sym context) begun) state)
+        so_far.asked
       where
         finished_unrefused : (out : Outcome) → IsFinished out → IsUnrefused out
         finished_unrefused (outcome.Reply reply) is = tt
@@ -179,21 +194,26 @@ module _ {C : Type 0} (c : Meaning ContextSetting C) where
         finished_state old outcome.Finished proved status is = refl
         finished_state old (outcome.Refused kind reply) proved status is = absurd is
 
-        at_end : (o : Option C) (state : CredSspState) (mode : ServerMode) → IsSome o → state ≡ Final → calls_made o mode state ≡ list_calls mode + 1
+        at_end : (o : Option C) (state : CredSspState) (mode : ServerMode) → IsSome o → state ≡ Final →
+            calls_made o mode state ≡ list_calls mode + 1
         at_end None state mode some is = absurd (cc some)
         at_end (Some m) state mode some is = rw is refl
 
-    newest_asked : (first now : ServerView C P) (n : End) (t : Turn) (past : List Turn) → IsFreshServer first → n ≡ Server → IsFinished t.outcome →
+    newest_asked : (first now : ServerView C P) (n : End) (t : Turn) (past : List Turn) → IsFreshServer first → n ≡ Server →
+        IsFinished t.outcome →
         OthersGoOn (onto_server n t past) → ServerHistory c p first (onto_server n t past) now →
         HasAsked p (list_calls first.mode + 1) first.proxy now.proxy
     newest_asked first now Client t past fresh is finished others h = absurd (cc is)
     newest_asked first now Server t past fresh is finished others h = finished_asked first now t past fresh finished others h
 
     -- an exchange that gave an identity
-    pub ok_asked : (base : List Carried) (start limit : ℕ) (result : Result Delegation DelegateError) (turns : List Turn) (log : List Carried) (faults : ℕ)
-        (first now : ServerView C P) → IsFreshServer first → RunEnds base start limit result turns log faults → OthersGoOn (server_turns turns) →
+    pub ok_asked : (base : List Carried) (start limit : ℕ) (result : Result Delegation DelegateError) (turns : List Turn)
+        (log : List Carried) (faults : ℕ)
+        (first now : ServerView C P) → IsFreshServer first → RunEnds base start limit result turns log faults →
+        OthersGoOn (server_turns turns) →
         ServerPast c p first result (server_turns turns) now → OnOk result (HasAsked p (list_calls first.mode + 1) first.proxy now.proxy)
     ok_asked base start limit (Ok delegation) [] log faults first now fresh ends others past = absurd ends.0.newest
     ok_asked base start limit (Ok delegation) (t ∷ turns) log faults first now fresh ends others past =
-        newest_asked first now t.end t (server_turns turns) fresh ends.0.newest.0 ends.0.newest.1 others (server_past_history c p first now _ (Ok delegation) past)
+        newest_asked first now t.end t (server_turns turns) fresh ends.0.newest.0 ends.0.newest.1 others
+        (server_past_history c p first now _ (Ok delegation) past)
     ok_asked base start limit (Err error) turns log faults first now fresh ends others past = tt

@@ -21,8 +21,16 @@ refusal_told : {C : Type 0} (c : Meaning ContextSetting C) (f : ServerFrame C) (
 refusal_told c f t kind None h = absurd h
 refusal_told c f t kind (Some reply) h = refl
 
-pub refusal_pushed : {C P : Type 0} (c : Meaning ContextSetting C) (old mid : ServerView C P) (d : TsRequest) (kind : ErrorKind) (reply : Option TsRequest)
+pub refusal_pushed : {C P : Type 0} (c : Meaning ContextSetting C) (old mid : ServerView C P) (d : TsRequest) (kind : ErrorKind)
+    (reply : Option TsRequest)
     (turns turns2 : List Turn) → ServerTurn c old d (outcome.Refused kind reply) mid →
-    turns2 ≡ recorded Server d mid.acts mid.output (outcome.Refused kind reply) ∷ turns → PushedSuch Server d (IsServerRefusal kind) turns turns2
+    turns2 ≡ recorded Server d mid.acts mid.output (outcome.Refused kind reply) ∷ turns →
+    PushedSuch Server d (IsServerRefusal kind) turns turns2
 refusal_pushed c old mid d kind reply turns turns2 turn is =
-    rw is (refl, refl, refl, refusal_told c (server_frame c old mid) (server_turn c d (outcome.Refused kind reply) mid) kind reply turn.turn.shown.reply)
+    rw is (
+      refl,
+      refl,
+      refl,
+      refusal_told c (server_frame c old mid)
+          (server_turn c d (outcome.Refused kind reply) mid) kind reply turn.turn.shown.reply,
+    )

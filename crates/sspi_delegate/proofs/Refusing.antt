@@ -1,9 +1,11 @@
 -- Why a turn was refused that asked a KDC.
-use Rattle.std.proofs.Common.{◌≡◌, ◌≢◌, ℕ, ◌==◌, Bool, true, false, not, List, Option, None, Some, IsSome, Err, sym, ◌∙◌, ap, subst, refl, arith, eq-eqb}
+use Rattle.std.proofs.Common.{◌≡◌, ◌≢◌, ℕ, ◌==◌, Bool, true, false, not, List, Option, None, Some, IsSome, Err, sym, ◌∙◌, ap, subst}
+use Rattle.std.proofs.Common.{refl, arith, eq-eqb}
 use Rattle.std.proofs.lemmas.Bool.{true≢false}
 use Rattle.sspi_types.specs.declared.error.Error.{Error}
 use Rattle.sspi_types.specs.declared.error_kind.ErrorKind.{ErrorKind}
-use Rattle.sspi_types.specs.declared.error_kind.ErrorKind.TheVariants.{OutOfSequence, InvalidToken, MessageAltered, DowngradeDetected, InsufficientMemory}
+use Rattle.sspi_types.specs.declared.error_kind.ErrorKind.TheVariants.{OutOfSequence, InvalidToken, MessageAltered, DowngradeDetected}
+use Rattle.sspi_types.specs.declared.error_kind.ErrorKind.TheVariants.{InsufficientMemory}
 use Rattle.sspi_types.specs.declared.security_status.SecurityStatus.{SecurityStatus}
 use Rattle.sspi_mech.specs.Meaning.{Meaning}
 use Rattle.sspi_tsreq.specs.declared.request.TsRequest.{TsRequest}
@@ -43,27 +45,33 @@ module _ {C : Type 0} (c : Meaning ContextSetting C) where
   nego_negotiated None new kind is answered h = h
   nego_negotiated (Some status) new kind is answered h = answered (rw is refl)
 
-  kept_cause : (kept : Option TsRequest) (request : TsRequest) (new : ClientView C) (kind : ErrorKind) → kept ≡ Some request → KeptCause c kept new kind →
+  kept_cause : (kept : Option TsRequest) (request : TsRequest) (new : ClientView C) (kind : ErrorKind) → kept ≡ Some request →
+      KeptCause c kept new kind →
       NegoCause c new.acts.status new kind
   kept_cause None request new kind is h = absurd (cc (is))
   kept_cause (Some held) request new kind is h = h
 
-  resumed_nego : (start : ClientView C) (d : TsRequest) (mid new : ClientView C) (kind : ErrorKind) → IsUnderway c start d mid → ResumeCause c mid new kind →
+  resumed_nego : (start : ClientView C) (d : TsRequest) (mid new : ClientView C) (kind : ErrorKind) → IsUnderway c start d mid →
+      ResumeCause c mid new kind →
       NegoCause c new.acts.status new kind
   resumed_nego start d mid new kind way cause =
       kept_cause mid.kept _ new kind way.kept
       (stops_later (not (is_waiting_in c mid.context)) OutOfSequence kind _ (rw way.waiting refl) cause)
 
-  state_cause : (state : CredSspState) (d : TsRequest) (new : ClientView C) (kind : ErrorKind) → state ≡ NegoToken → NegoCause c new.acts.status new kind →
+  state_cause : (state : CredSspState) (d : TsRequest) (new : ClientView C) (kind : ErrorKind) → state ≡ NegoToken →
+      NegoCause c new.acts.status new kind →
       StateCause c state d new kind
   state_cause state d new kind is h = rw is h
 
-  resumed_cause : (start : ClientView C) (d : TsRequest) (mid new : ClientView C) (log : List Asked) (error : Error) → IsUnderway c start d mid →
-      ResumeCause c mid new error.error_type → ClientTurn c start d (outcome.Refused error.error_type None) new → HasStepped c start d 0 log (Err error) new →
+  resumed_cause : (start : ClientView C) (d : TsRequest) (mid new : ClientView C) (log : List Asked) (error : Error) →
+      IsUnderway c start d mid →
+      ResumeCause c mid new error.error_type → ClientTurn c start d (outcome.Refused error.error_type None) new →
+      HasStepped c start d 0 log (Err error) new →
       ClientCause c start d new error.error_type
   resumed_cause start d mid new log error way cause turn step =
       let nego = resumed_nego start d mid new error.error_type way cause in
-      let negotiated : new.acts.negotiated ≡ true = nego_negotiated new.acts.status new error.error_type refl turn.turn.shown.acts.answered nego in
+      let negotiated : new.acts.negotiated ≡ true = nego_negotiated new.acts.status new error.error_type refl
+      turn.turn.shown.acts.answered nego in
       stops_past (is_waiting_in c start.context) OutOfSequence error.error_type _ way.ready.idle
       (stops_past _ InvalidToken error.error_type _ way.ready.code
       (stops_past (is_old_in start.context start.least start.noted d.version) DowngradeDetected error.error_type _ way.ready.young
@@ -71,9 +79,11 @@ module _ {C : Type 0} (c : Meaning ContextSetting C) where
       (made_past start.context new.context _ _ _ (on_step new.acts.negotiated _ negotiated step)
       (state_cause start.state d new error.error_type (sym way.ready.state ∙ way.state) nego)))))
 
-  pub resumed_refuses : (replies : List Asked → Type 0) (start : ClientView C) (d : TsRequest) (mid new : ClientView C) (log : List Asked) (error : Error) → IsUnderway c start d mid →
+  pub resumed_refuses : (replies : List Asked → Type 0) (start : ClientView C) (d : TsRequest) (mid new : ClientView C) (log : List Asked)
+      (error : Error) → IsUnderway c start d mid →
       (error.error_type ≢ InsufficientMemory → ResumeCause c mid new error.error_type) → error.nstatus ≡ None →
-      ClientTurn c start d (outcome.Refused error.error_type None) new → HasStepped c start d 0 log (Err error) new → replies log → new.acts.negotiated ≡ true →
+      ClientTurn c start d (outcome.Refused error.error_type None) new → HasStepped c start d 0 log (Err error) new → replies log →
+      new.acts.negotiated ≡ true →
       ClientRefuses c replies start d error new
   resumed_refuses replies start d mid new log error way cause plain turn step replied negotiated = record {
     cause = λ other. resumed_cause start d mid new log error way (cause other) turn step;

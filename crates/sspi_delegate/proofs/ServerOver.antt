@@ -16,7 +16,8 @@ use Rattle.sspi_credssp.specs.PublicKey.{prescribed}
 use Rattle.sspi_credssp.specs.Requests.{nonce_of}
 use Rattle.sspi_credssp.specs.ServerTurn.{IsServerTurn}
 use Rattle.sspi_credssp.specs.Held.{Proven, HoldsAnswer}
-use Rattle.sspi_credssp.specs.Shown.{server_shown, MayCheck, ShowsServerActs, ShowsTokenBack, ShowsProofBack, ShowsOver, ShowsNegoBack, ShowsStateBack, ShowsAnswer}
+use Rattle.sspi_credssp.specs.Shown.{server_shown, MayCheck, ShowsServerActs, ShowsTokenBack, ShowsProofBack, ShowsOver, ShowsNegoBack}
+use Rattle.sspi_credssp.specs.Shown.{ShowsStateBack, ShowsAnswer}
 use Rattle.sspi_credssp.specs.Turn.{ServerFrame, UnlessRefused, FitsNoted}
 use Rattle.sspi_delegate.proofs.ClientOver.{seals_still, opens_still, at_noted}
 use Rattle.sspi_credssp.specs.declared.turn.Outcome.{Outcome}
@@ -41,10 +42,12 @@ pub record SameFrame {C : Type 0} (c : Meaning ContextSetting C) (f g : ServerFr
   pub refused : OnceRefused t.outcome ((g.context ≡ f.context) × (IsSome f.context → g.noted ≡ f.noted))
 
 module _ {C : Type 0} (c : Meaning ContextSetting C) (law : IsContext c) where
-  proven_over : (f g : ServerFrame C) (t : Turn) (noted : ℕ) → SameFrame c f g t → t.acts.proved ≡ true → Proven c f.context f.opened f.public_key t.delivered noted → Proven c g.context g.opened g.public_key t.delivered noted
+  proven_over : (f g : ServerFrame C) (t : Turn) (noted : ℕ) → SameFrame c f g t → t.acts.proved ≡ true →
+      Proven c f.context f.opened f.public_key t.delivered noted → Proven c g.context g.opened g.public_key t.delivered noted
   proven_over f g t noted same was h = let k = same.proved was in record {
     opens = rw (k.2, same.public_key)
-        (opens_still c law f.context g.context f.opened t.delivered.pub_key_auth (prescribed Client noted (nonce_of t.delivered.client_nonce) f.public_key) k.3 h.opens);
+        (opens_still c law f.context g.context f.opened t.delivered.pub_key_auth
+        (prescribed Client noted (nonce_of t.delivered.client_nonce) f.public_key) k.3 h.opens);
     nonce = h.nonce;
   }
 
@@ -119,12 +122,14 @@ module _ {C : Type 0} (c : Meaning ContextSetting C) (law : IsContext c) where
   holds_over f g t (outcome.Reply reply) same once h = λ was. let k = same.proved was in
       at_noted c law f.noted g.noted _ _ k.0 (λ noted seals.
       rw (k.1, same.public_key)
-      (seals_still c law f.context g.context f.made (prescribed Server noted (nonce_of t.delivered.client_nonce) f.public_key) reply.pub_key_auth k.3 seals)) (h was)
+      (seals_still c law f.context g.context f.made (prescribed Server noted (nonce_of t.delivered.client_nonce) f.public_key)
+      reply.pub_key_auth k.3 seals)) (h was)
   holds_over f g t (outcome.Final reply) same once h = tt
   holds_over f g t outcome.Finished same once h = tt
   holds_over f g t (outcome.Refused kind None) same once h = tt
   holds_over f g t (outcome.Refused kind (Some reply)) same once h =
-      let back : version_back g.context g.noted t.delivered.version g.version ≡ version_back f.context f.noted t.delivered.version f.version =
+      let back : version_back g.context g.noted t.delivered.version g.version ≡ version_back f.context f.noted t.delivered.version
+      f.version =
       ap (λ (x : Option C). version_back x g.noted t.delivered.version g.version) once.0
       ∙ ap (λ (v : ℕ). version_back f.context g.noted t.delivered.version v) same.version
       ∙ back_over f.context f.noted g.noted t.delivered.version f.version once.1 in
@@ -139,7 +144,8 @@ module _ {C : Type 0} (c : Meaning ContextSetting C) (law : IsContext c) where
     };
     held = record {
       checked = λ was. at_noted c law f.noted g.noted _ _ (same.checked was) (λ noted h. h) (turn.held.checked was);
-      proved = λ was. at_noted c law f.noted g.noted _ _ (same.proved was).0 (λ noted h. proven_over f g t noted same was h) (turn.held.proved was);
+      proved = λ was. at_noted c law f.noted g.noted _ _ (same.proved was).0 (λ noted h. proven_over f g t noted same was h)
+          (turn.held.proved was);
       reply = holds_over f g t t.outcome same same.refused turn.held.reply;
     };
   }

@@ -1,5 +1,6 @@
 -- One more turn of a server: what holds of its turns so far holds of them with this one.
-use Rattle.std.proofs.Common.{◌≡◌, ℕ, ◌+◌, Bool, true, false, ◌&&◌, List, [], ◌∷◌, sym, ◌∙◌, ap, subst, refl, Option, None, Some, IsSome, if◌then◌else◌}
+use Rattle.std.proofs.Common.{◌≡◌, ℕ, ◌+◌, Bool, true, false, ◌&&◌, List, [], ◌∷◌, sym, ◌∙◌, ap, subst, refl, Option, None, Some}
+use Rattle.std.proofs.Common.{IsSome, if◌then◌else◌}
 use Rattle.sspi_types.specs.declared.security_status.SecurityStatus.{SecurityStatus}
 use Rattle.sspi_types.specs.declared.security_status.SecurityStatus.TheVariants as statuses
 use Rattle.sspi_mech.specs.Context.{IsContext}
@@ -17,8 +18,10 @@ use Rattle.sspi_credssp.specs.Shown.{IsOver, MayCheck, ShowsAnswer, ShowsNegoBac
 use Rattle.sspi_credssp.specs.Turn.{ServerFrame, UnlessRefused, FitsNoted}
 use Rattle.sspi_delegate.specs.EndTurns.{made_in, opened_in, is_replied, is_finished, any_proved, any_finished}
 use Rattle.sspi_delegate.specs.Turns.{IsUnrefused, NoneRefused}
-use Rattle.sspi_delegate.specs.ServerRun.{is_over, any_over, server_state, server_noted, ServerEnd, server_end, server_frame_at, EachServerTurn, ServerRan, ServerFollows}
-use Rattle.sspi_delegate.proofs.EndSteps.{IsQuiet, AllQuiet, or_false, or_not, is_false, quiet_made, unused_in, same_but, Touched, touched, untouched, unless_given, unless_map, made_by_proof, opened_by_check}
+use Rattle.sspi_delegate.specs.ServerRun.{is_over, any_over, server_state, server_noted, ServerEnd, server_end, server_frame_at}
+use Rattle.sspi_delegate.specs.ServerRun.{EachServerTurn, ServerRan, ServerFollows}
+use Rattle.sspi_delegate.proofs.EndSteps.{IsQuiet, AllQuiet, or_false, or_not, is_false, quiet_made, unused_in, same_but, Touched}
+use Rattle.sspi_delegate.proofs.EndSteps.{touched, untouched, unless_given, unless_map, made_by_proof, opened_by_check}
 use Rattle.sspi_delegate.proofs.ServerOver.{OnceRefused, server_over}
 use Rattle.sspi_credssp.specs.declared.turn.Outcome.{Outcome}
 use Rattle.sspi_credssp.specs.declared.turn.Outcome.TheVariants as outcome
@@ -34,7 +37,8 @@ state_nego false true over h = absurd (cc (h))
 state_nego false false true h = absurd (cc (h))
 state_nego false false false h = (refl, refl, refl)
 
-nego_state : (past : List Turn) → any_finished past ≡ false → any_proved past ≡ false → any_over past ≡ false → server_state past ≡ NegoToken
+nego_state : (past : List Turn) → any_finished past ≡ false → any_proved past ≡ false → any_over past ≡ false →
+    server_state past ≡ NegoToken
 nego_state past unfinished unproved going = rw (unfinished, unproved, going) refl
 
 -- ---- the version that is noted
@@ -43,7 +47,8 @@ noted_kept : (least : ℕ) (noted : Option ℕ) (version : ℕ) → IsSome noted
 noted_kept least None version some = absurd (cc (some))
 noted_kept least (Some noted) version some = refl
 
-unrefused_noted : (noted : Option ℕ) (version : ℕ) (out : Outcome) → IsUnrefused out → UnlessRefused out (FitsNoted true noted version) → IsSome noted
+unrefused_noted : (noted : Option ℕ) (version : ℕ) (out : Outcome) → IsUnrefused out → UnlessRefused out (FitsNoted true noted version) →
+    IsSome noted
 unrefused_noted (Some v) version out went fits = refl
 unrefused_noted None version (outcome.Reply reply) went fits = absurd fits
 unrefused_noted None version (outcome.Final reply) went fits = absurd fits
@@ -52,18 +57,23 @@ unrefused_noted None version (outcome.Refused kind reply) went fits = absurd wen
 
 module _ {C : Type 0} (c : Meaning ContextSetting C) where
   -- each turn that was not refused has noted a version
-  pub noted_by_one : (e : ServerEnd C) (t : Turn) (past : List Turn) → EachServerTurn c e (t ∷ past) → NoneRefused (t ∷ past) → IsSome (server_noted e.least (t ∷ past))
-  noted_by_one e t past each going = unrefused_noted (server_noted e.least (t ∷ past)) t.delivered.version t.outcome going.0 each.0.shown.version
+  pub noted_by_one : (e : ServerEnd C) (t : Turn) (past : List Turn) → EachServerTurn c e (t ∷ past) → NoneRefused (t ∷ past) →
+      IsSome (server_noted e.least (t ∷ past))
+  noted_by_one e t past each going = unrefused_noted (server_noted e.least (t ∷ past)) t.delivered.version t.outcome going.0
+      each.0.shown.version
 
-  noted_more : (e : ServerEnd C) (noted : Option ℕ) (t : Turn) (past : List Turn) → noted ≡ server_noted e.least past → EachServerTurn c e past → NoneRefused past →
+  noted_more : (e : ServerEnd C) (noted : Option ℕ) (t : Turn) (past : List Turn) → noted ≡ server_noted e.least past →
+      EachServerTurn c e past → NoneRefused past →
       noted_with e.least noted t.delivered.version ≡ server_noted e.least (t ∷ past)
   noted_more e noted t [] is each going = rw is refl
-  noted_more e noted t (u ∷ past) is each going = noted_kept e.least noted t.delivered.version (rw is (noted_by_one e u past each going)) ∙ is
+  noted_more e noted t (u ∷ past) is each going = noted_kept e.least noted t.delivered.version
+      (rw is (noted_by_one e u past each going)) ∙ is
 
   -- ---- turns that came before the end of the authentication
 
   -- while tokens are exchanged nothing is checked, proved or opened
-  quiet_token : (f : ServerFrame C) (t : Turn) → ShowsServerActs (server_shown f) t → f.state ≡ NegoToken → (IsOver t.acts.status → ⊥) → t.acts.proved ≡ false → IsQuiet t.acts
+  quiet_token : (f : ServerFrame C) (t : Turn) → ShowsServerActs (server_shown f) t → f.state ≡ NegoToken → (IsOver t.acts.status → ⊥) →
+      t.acts.proved ≡ false → IsQuiet t.acts
   quiet_token f t acts nego going unproved = record {
     proved = unproved;
     checked = is_false t.acts.checked (λ was. going (subst (λ (s : CredSspState). MayCheck s t.acts.status) nego (acts.checked was).0));
@@ -71,7 +81,8 @@ module _ {C : Type 0} (c : Meaning ContextSetting C) where
     opened = is_false t.acts.opened (λ was. let s = (acts.opened was).0 in absurd (cc (s, nego)));
   }
 
-  quiet_nego : (f : ServerFrame C) (t : Turn) (status : Option SecurityStatus) (reply : TsRequest) → t.acts.status ≡ status → is_over status ≡ false →
+  quiet_nego : (f : ServerFrame C) (t : Turn) (status : Option SecurityStatus) (reply : TsRequest) → t.acts.status ≡ status →
+      is_over status ≡ false →
       ShowsNegoBack (server_shown f) t status reply → (IsOver t.acts.status → ⊥) × (t.acts.proved ≡ false)
   quiet_nego f t None reply is over h = absurd h
   quiet_nego f t (Some statuses.ContinueNeeded) reply is over h = (rw is (λ x. x), h.unproved)
@@ -84,16 +95,19 @@ module _ {C : Type 0} (c : Meaning ContextSetting C) where
   quiet_nego f t (Some statuses.Renegotiate) reply is over h = absurd h
   quiet_nego f t (Some statuses.NoLsaContext) reply is over h = absurd h
 
-  quiet_turn : (f : ServerFrame C) (t : Turn) (out : Outcome) → ShowsServerActs (server_shown f) t → f.state ≡ NegoToken → IsUnrefused out → ShowsAnswer (server_shown f) t out →
+  quiet_turn : (f : ServerFrame C) (t : Turn) (out : Outcome) → ShowsServerActs (server_shown f) t → f.state ≡ NegoToken →
+      IsUnrefused out → ShowsAnswer (server_shown f) t out →
       is_replied out && is_over t.acts.status ≡ false → IsQuiet t.acts
   quiet_turn f t (outcome.Reply reply) acts nego went h over =
-      let k = quiet_nego f t t.acts.status reply refl over (subst (λ (s : CredSspState). ShowsStateBack (server_shown f) t s reply) nego h) in
+      let k = quiet_nego f t t.acts.status reply refl over (subst
+      (λ (s : CredSspState). ShowsStateBack (server_shown f) t s reply) nego h) in
       quiet_token f t acts nego k.0 k.1
   quiet_turn f t (outcome.Final reply) acts nego went h over = absurd h
   quiet_turn f t outcome.Finished acts nego went h over = let s = h.0 in absurd (cc (s, nego))
   quiet_turn f t (outcome.Refused kind reply) acts nego went h over = absurd went
 
-  all_quiet : (e : ServerEnd C) (past : List Turn) → EachServerTurn c e past → NoneRefused past → any_finished past ≡ false → any_proved past ≡ false →
+  all_quiet : (e : ServerEnd C) (past : List Turn) → EachServerTurn c e past → NoneRefused past → any_finished past ≡ false →
+      any_proved past ≡ false →
       any_over past ≡ false → AllQuiet past
   all_quiet e [] each went unfinished unproved going = tt
   all_quiet e (t ∷ past) each went unfinished unproved going =
@@ -117,7 +131,8 @@ module _ {C : Type 0} (c : Meaning ContextSetting C) where
   went_once outcome.Finished P went = tt
   went_once (outcome.Refused kind reply) P went = absurd went
 
-  each_over : (law : IsContext c) (e e2 : ServerEnd C) (past : List Turn) → SameEnd e e2 → NoneRefused past → Touched (SameBut c e.context e2.context) past →
+  each_over : (law : IsContext c) (e e2 : ServerEnd C) (past : List Turn) → SameEnd e e2 → NoneRefused past →
+      Touched (SameBut c e.context e2.context) past →
       EachServerTurn c e past → EachServerTurn c e2 past
   each_over law e e2 [] same went touch each = tt
   each_over law e e2 (t ∷ past) same went touch each = (
@@ -147,7 +162,8 @@ module _ {C : Type 0} (c : Meaning ContextSetting C) where
   once outcome.Finished Q h = tt
   once (outcome.Refused kind reply) Q h = h
 
-  nego_moves : (status : Option SecurityStatus) (proved : Bool) → (is_over status ≡ false → (status ≡ Some statuses.ContinueNeeded) × (proved ≡ false)) →
+  nego_moves : (status : Option SecurityStatus) (proved : Bool) →
+      (is_over status ≡ false → (status ≡ Some statuses.ContinueNeeded) × (proved ≡ false)) →
       after_reply NegoToken proved status ≡ (if proved then AuthInfo else (if is_over status then PubKeyInfo else NegoToken))
   nego_moves None true h = refl
   nego_moves None false h = let k = (h refl).0 in absurd (cc (k))
@@ -164,7 +180,8 @@ module _ {C : Type 0} (c : Meaning ContextSetting C) where
   nego_moves (Some statuses.Renegotiate) proved h = let k = (h refl).0 in absurd (cc (k))
   nego_moves (Some statuses.NoLsaContext) proved h = let k = (h refl).0 in absurd (cc (k))
 
-  nego_status : (f : ServerFrame C) (t : Turn) (status : Option SecurityStatus) (reply : TsRequest) → ShowsNegoBack (server_shown f) t status reply → is_over status ≡ false →
+  nego_status : (f : ServerFrame C) (t : Turn) (status : Option SecurityStatus) (reply : TsRequest) →
+      ShowsNegoBack (server_shown f) t status reply → is_over status ≡ false →
       (status ≡ Some statuses.ContinueNeeded) × (t.acts.proved ≡ false)
   nego_status f t None reply h over = absurd h
   nego_status f t (Some statuses.ContinueNeeded) reply h over = (refl, h.unproved)
@@ -183,7 +200,8 @@ module _ {C : Type 0} (c : Meaning ContextSetting C) where
   state_key false proved over h = refl
 
   state_moved : (f : ServerFrame C) (t : Turn) (past : List Turn) (state : CredSspState) (reply : TsRequest) → state ≡ server_state past →
-      t.outcome ≡ outcome.Reply reply → ShowsStateBack (server_shown f) t state reply → after_reply state t.acts.proved t.acts.status ≡ server_state (t ∷ past)
+      t.outcome ≡ outcome.Reply reply → ShowsStateBack (server_shown f) t state reply →
+      after_reply state t.acts.proved t.acts.status ≡ server_state (t ∷ past)
   state_moved f t past NegoToken reply is out h =
       let s = state_nego (any_finished past) (any_proved past) (any_over past) (sym is) in
       rw (out, s.0, s.1, s.2, or_not t.acts.proved, or_not (is_over t.acts.status))
@@ -194,7 +212,8 @@ module _ {C : Type 0} (c : Meaning ContextSetting C) where
   state_moved f t past AuthInfo reply is out h = absurd h
   state_moved f t past Final reply is out h = absurd h
 
-  touched_by : (e : ServerEnd C) (state : CredSspState) (past : List Turn) (Q : Type 0) → state ≡ server_state past → EachServerTurn c e past →
+  touched_by : (e : ServerEnd C) (state : CredSspState) (past : List Turn) (Q : Type 0) → state ≡ server_state past →
+      EachServerTurn c e past →
       NoneRefused past → OnceNegotiated state Q → Touched Q past
   touched_by e NegoToken past Q is each went bare =
       let s = state_nego (any_finished past) (any_proved past) (any_over past) (sym is) in
@@ -234,9 +253,12 @@ module _ {C : Type 0} (c : Meaning ContextSetting C) where
     server_turned law first old new past d out follows turn =
         let unused = starts_unused first old past follows in
         let t : Turn = server_turn c d out new in
-        let made : sealed_in c new.context ≡ made_in past + sealed_by new.acts = turn.moves.sealed unused ∙ ap (λ (n : ℕ). n + sealed_by new.acts) follows.ran.made in
-        let opened : unsealed_in c new.context ≡ opened_in past + unsealed_by new.acts = turn.moves.unsealed unused ∙ ap (λ (n : ℕ). n + unsealed_by new.acts) follows.ran.opened in
-        let noted : noted_with old.least old.noted d.version ≡ server_noted new.least (t ∷ past) = noted_of first old new t past follows turn.moves.same.least in
+        let made : sealed_in c new.context ≡ made_in past + sealed_by new.acts =
+        turn.moves.sealed unused ∙ ap (λ (n : ℕ). n + sealed_by new.acts) follows.ran.made in
+        let opened : unsealed_in c new.context ≡ opened_in past + unsealed_by new.acts =
+        turn.moves.unsealed unused ∙ ap (λ (n : ℕ). n + unsealed_by new.acts) follows.ran.opened in
+        let noted : noted_with old.least old.noted d.version ≡ server_noted new.least (t ∷ past) =
+        noted_of first old new t past follows turn.moves.same.least in
         record {
           same = same_on first old new follows.ran.same turn.moves.same;
           made = made;
@@ -258,32 +280,39 @@ module _ {C : Type 0} (c : Meaning ContextSetting C) where
               refused = once out _ (refl, λ some. sym (turn.moves.noted some ∙ noted));
             }) turn.turn,
             each_over law (server_end old) (server_end new) past (same_end old new turn.moves.same) follows.unrefused
-                (touched_by (server_end old) old.state past (SameBut c old.context new.context) follows.state follows.ran.each follows.unrefused turn.moves.bare)
+                (touched_by (server_end old) old.state past (SameBut c old.context new.context) follows.state follows.ran.each
+                follows.unrefused turn.moves.bare)
                 follows.ran.each,
           );
           others = follows.unrefused;
         }
 
     pub server_follows : (law : IsContext c) (first old new : ServerView C P) (past : List Turn) (d : TsRequest) (reply : TsRequest) →
-        ServerFollows c first old past → ServerTurn c old d (outcome.Reply reply) new → ServerFollows c first new (server_turn c d (outcome.Reply reply) new ∷ past)
+        ServerFollows c first old past → ServerTurn c old d (outcome.Reply reply) new →
+        ServerFollows c first new (server_turn c d (outcome.Reply reply) new ∷ past)
     server_follows law first old new past d reply follows turn = record {
       ran = server_turned law first old new past d (outcome.Reply reply) follows turn;
       state = turn.moves.state
-          ∙ state_moved (server_frame c old new) (server_turn c d (outcome.Reply reply) new) past old.state reply follows.state refl turn.turn.shown.reply;
-      noted = turn.moves.noted turn.moves.begun ∙ noted_of first old new (server_turn c d (outcome.Reply reply) new) past follows turn.moves.same.least;
+          ∙ state_moved (server_frame c old new) (server_turn c d (outcome.Reply reply) new) past old.state reply follows.state refl
+          turn.turn.shown.reply;
+      noted = turn.moves.noted turn.moves.begun ∙ noted_of first old new
+          (server_turn c d (outcome.Reply reply) new) past follows turn.moves.same.least;
       unrefused = (tt, follows.unrefused);
     }
 
     pub server_finished : (law : IsContext c) (first old new : ServerView C P) (past : List Turn) (d : TsRequest) →
-        ServerFollows c first old past → ServerTurn c old d outcome.Finished new → ServerFollows c first new (server_turn c d outcome.Finished new ∷ past)
+        ServerFollows c first old past → ServerTurn c old d outcome.Finished new →
+        ServerFollows c first new (server_turn c d outcome.Finished new ∷ past)
     server_finished law first old new past d follows turn = record {
       ran = server_turned law first old new past d outcome.Finished follows turn;
       state = turn.moves.state;
-      noted = turn.moves.noted turn.moves.begun ∙ noted_of first old new (server_turn c d outcome.Finished new) past follows turn.moves.same.least;
+      noted = turn.moves.noted turn.moves.begun ∙ noted_of first old new
+          (server_turn c d outcome.Finished new) past follows turn.moves.same.least;
       unrefused = (tt, follows.unrefused);
     }
 
-    pub server_emptied : (first now : ServerView C P) (past : List Turn) → ServerRan c first now past → ServerRan c first (record now { output = [] }) past
+    pub server_emptied : (first now : ServerView C P) (past : List Turn) → ServerRan c first now past →
+        ServerRan c first (record now { output = [] }) past
     server_emptied first now past ran = record {
       same = record { public_key = ran.same.public_key; version = ran.same.version; least = ran.same.least; mode = ran.same.mode };
       made = ran.made;

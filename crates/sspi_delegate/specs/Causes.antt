@@ -171,4 +171,5 @@ module _ (base : List Carried) (start : ℕ) where
 
 -- an end's refusal as an answer: want of memory is no refusal
 abbrev pub IsAnswerTo : ErrorKind → DelegateError → DelegateError → Type 0
-IsAnswerTo kind refusal answer = ((kind ≡ kinds.InsufficientMemory) × (answer ≡ errors.InsufficientMemory)) ⊎ ((kind ≢ kinds.InsufficientMemory) × (answer ≡ refusal))
+IsAnswerTo kind refusal answer = ((kind ≡ kinds.InsufficientMemory) × (answer ≡ errors.InsufficientMemory)) ⊎
+    ((kind ≢ kinds.InsufficientMemory) × (answer ≡ refusal))

@@ -68,11 +68,13 @@ module _ {P L D : Type 0} (around : Around P L D) where
   calls_of_kdc = kdc_calls around.replies around.asked around.kdc_faults
 
   -- of every exchange
-  pub record Stays {C : Type 0} (old : Parties C P L D) (limit : ℕ) (result : Result Delegation DelegateError) (new : Parties C P L D) : Type 0 where
+  pub record Stays {C : Type 0} (old : Parties C P L D) (limit : ℕ) (result : Result Delegation DelegateError)
+      (new : Parties C P L D) : Type 0 where
     pub the_proxy_tells_what_it_told : ProxyStays around.proxy old.server.proxy new.server.proxy
     pub the_kdc_tells_what_it_told : KdcStays around.replies around.kdc_faults old.kdc new.kdc
     pub the_link_tells_what_it_told : StaysTold (around.edits old.link) (around.edits new.link) (around.log old.link) (around.log new.link)
-    pub the_link_fails_where_its_edits_say_so : AnswerTold (around.edits old.link) (around.link_faults old.link) (around.link_faults new.link)
+    pub the_link_fails_where_its_edits_say_so : AnswerTold (around.edits old.link) (around.link_faults old.link)
+        (around.link_faults new.link)
         result (around.log new.link) (newest_message new.turns)
     pub no_turns_are_spent_at_once : limit ≡ 0 → result ≡ Err TurnsSpent
     pub ok_comes_within_the_limit : IfOk result (λ delegation. delegation.turns ≤ limit)
@@ -86,7 +88,8 @@ module _ {C P L D : Type 0} (c : Meaning ContextSetting C) (around : Around P L 
     pub no_other_answer_fits : Exactly (around.log old.link) limit result new.turns (around.log new.link)
     -- each turn of an end was one of its calls, and nothing moved it between two of them; the last one refused with the error
     -- that is answered, or gave the identity
-    pub client_turns_are_its_calls : ClientPast c (calls_of_kdc around) old.client old.kdc result (client_turns new.turns) new.client new.kdc
+    pub client_turns_are_its_calls : ClientPast c (calls_of_kdc around) old.client old.kdc result
+        (client_turns new.turns) new.client new.kdc
     pub server_turns_are_its_calls : ServerPast c around.proxy old.server result (server_turns new.turns) new.server
 
   -- of an exchange between two fresh ends

@@ -33,15 +33,18 @@ IsOk (Ok delegation) = Unit {0}
 IsOk (Err error) = ⊥
 
 -- base: the log before the exchange; limit: how many turns the client may make
-pub record Exactly (base : List Carried) (limit : ℕ) (result : Result Delegation DelegateError) (turns : List Turn) (log : List Carried) : Type 0 where
+pub record Exactly (base : List Carried) (limit : ℕ) (result : Result Delegation DelegateError) (turns : List Turn)
+    (log : List Carried) : Type 0 where
   pub ok : NewestIs Server IsFinished turns → IsOk result
   pub client : (kind : ErrorKind) → NewestIs Client (IsClientRefusal kind) turns → IsOnly (IsClientError kind) result
   pub server : (kind : ErrorKind) → NewestIs Server (IsServerRefusal kind) turns → IsOnly (IsServerError kind) result
   pub read : (kind : WireKind) → AllGoOn turns → Logged base turns log → IsUnreadable turns log kind →
       IsOnly (λ error. error ≡ errors.Read (next_end turns) kind) result
-  pub write : (end : End) → NewestIs end (λ outcome. Unit {0}) turns → AllGoOn turns → LoggedButLast base turns log → NewestFits turns false →
+  pub write : (end : End) → NewestIs end (λ outcome. Unit {0}) turns → AllGoOn turns → LoggedButLast base turns log →
+      NewestFits turns false →
       IsOnly (λ error. error ≡ errors.Write end) result
   pub carry : AllGoOn turns → LoggedButLast base turns log → NewestFits turns true → IsOnly (λ error. error ≡ errors.LinkFault) result
-  pub piece : AllGoOn turns → Logged base turns log → OpenFor turns log → TurnLeft limit turns → IsOnly (λ error. error ≡ errors.LinkFault) result
+  pub piece : AllGoOn turns → Logged base turns log → OpenFor turns log → TurnLeft limit turns →
+      IsOnly (λ error. error ≡ errors.LinkFault) result
   pub spent : AllGoOn turns → Logged base turns log → next_end turns ≡ Client → turns_of Client turns ≡ limit →
       IsOnly (λ error. error ≡ errors.TurnsSpent) result

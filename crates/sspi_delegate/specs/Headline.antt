@@ -58,7 +58,8 @@ module _ {C : Type 0} (c : Meaning ContextSetting C) where
   module _ {P : Type 0} where
     -- The turns alternate, each is that of its end, and each has its entry in the log and was given what the entry before
     -- delivered; the newest one may have none. A peer that is too old is refused as that, and no other.
-    pub record IsRun (client client2 : ClientView C) (server server2 : ServerView C P) (base log : List Carried) (turns : List Turn) : Type 0 where
+    pub record IsRun (client client2 : ClientView C) (server server2 : ServerView C P) (base log : List Carried)
+        (turns : List Turn) : Type 0 where
       pub order : Alternates turns
       pub entries : HasLog base turns log
       pub client_ran : ClientRan c client client2 (client_turns turns)

@@ -36,9 +36,11 @@ module _ {C D : Type 0} (c : Meaning ContextSetting C) (k : KdcCalls D) where
   -- asked what that step asked, and replied so.
   abbrev pub ClientMakes : ClientView C → D → TsRequest → Outcome → ClientView C → D → Type 0
   ClientMakes old kdc d (outcome.Reply reply) new kdc2 =
-      ClientTurn c old d (outcome.Reply reply) new × StepsSo c (λ asked. k.replies kdc asked kdc2) old d (Ok (Completed (ReplyNeeded reply))) new
+      ClientTurn c old d (outcome.Reply reply) new × StepsSo c (λ asked. k.replies kdc asked kdc2) old d
+      (Ok (Completed (ReplyNeeded reply))) new
   ClientMakes old kdc d (outcome.Final reply) new kdc2 =
-      ClientTurn c old d (outcome.Final reply) new × StepsSo c (λ asked. k.replies kdc asked kdc2) old d (Ok (Completed (FinalMessage reply))) new
+      ClientTurn c old d (outcome.Final reply) new × StepsSo c (λ asked. k.replies kdc asked kdc2) old d
+      (Ok (Completed (FinalMessage reply))) new
   ClientMakes old kdc d outcome.Finished new kdc2 = ⊥
   ClientMakes old kdc d (outcome.Refused kind None) new kdc2 = (error : Error) × (error.error_type ≡ kind) ×
       ClientTurn c old d (outcome.Refused kind None) new × ClientRefuses c (λ asked. k.replies kdc asked kdc2) old d error new
@@ -54,7 +56,8 @@ module _ {C D : Type 0} (c : Meaning ContextSetting C) (k : KdcCalls D) where
   -- from a client that was `first` these turns, the newest first, lead to one that is `now`; and its KDC from `kdc` to `kdc2`
   abbrev pub ClientHistory : ClientView C → D → List Turn → ClientView C → D → Type 0
   ClientHistory first kdc [] now kdc2 = (now ≡ first) × (kdc2 ≡ kdc)
-  ClientHistory first kdc (t ∷ past) now kdc2 = (old : ClientView C) × (kdc1 : D) × ClientHistory first kdc past old kdc1 × ClientMade old kdc1 t now kdc2
+  ClientHistory first kdc (t ∷ past) now kdc2 = (old : ClientView C) × (kdc1 : D) × ClientHistory first kdc past old kdc1 ×
+      ClientMade old kdc1 t now kdc2
 
   -- the turn on d is suspended at a question for which the KDC had no memory
   pub record IsWaiting (old : ClientView C) (kdc : D) (d : TsRequest) (now : ClientView C) (kdc2 : D) : Type 0 where
@@ -65,7 +68,8 @@ module _ {C D : Type 0} (c : Meaning ContextSetting C) (k : KdcCalls D) where
     pub lost : k.lost asked_by kdc2
 
   -- The newest of these turns was refused with this error; the turns before it led the client to `old`.
-  pub record ClientStopped (first : ClientView C) (kdc : D) (error : Error) (turns : List Turn) (now : ClientView C) (kdc2 : D) : Type 0 where
+  pub record ClientStopped (first : ClientView C) (kdc : D) (error : Error) (turns : List Turn) (now : ClientView C)
+      (kdc2 : D) : Type 0 where
     pub old : ClientView C
     pub kdc1 : D
     pub mid : ClientView C

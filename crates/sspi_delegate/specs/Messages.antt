@@ -6,7 +6,8 @@ use Rattle.sspi_ber.specs.Outside.{Counts}
 use Rattle.sspi_tsreq.specs.declared.request.TsRequest.{TsRequest}
 use Rattle.sspi_tsreq.specs.Spelling.{fits, spelled}
 use Rattle.sspi_delegate.specs.declared.answer.DelegateError.{DelegateError}
-use Rattle.sspi_delegate.specs.declared.answer.DelegateError.TheVariants.{Client, Server, Read, Write, LinkFault, TurnsSpent, InsufficientMemory}
+use Rattle.sspi_delegate.specs.declared.answer.DelegateError.TheVariants.{Client, Server, Read, Write, LinkFault, TurnsSpent}
+use Rattle.sspi_delegate.specs.declared.answer.DelegateError.TheVariants.{InsufficientMemory}
 use Rattle.sspi_delegate.specs.declared.carried.Carried.{Carried}
 use Rattle.sspi_credssp.specs.declared.turn.End.{End}
 use Rattle.sspi_delegate.specs.declared.edit.Edit.{Edit}

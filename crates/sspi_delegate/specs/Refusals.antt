@@ -42,14 +42,16 @@ pub record KdcStays {D : Type 0} (told : D → Option (ℕ → NetworkRequest �
 module _ {C : Type 0} (c : Meaning ContextSetting C) where
   -- the step that a client's turn took of its context, with what a KDC was asked in it, the newest request first, and the
   -- replies that it gave: no refused resume was tried again, and where no step was taken nothing was asked
-  pub record StepsSo (replies : List Asked → Type 0) (old : ClientView C) (d : TsRequest) (result : Result Progress Error) (new : ClientView C) : Type 0 where
+  pub record StepsSo (replies : List Asked → Type 0) (old : ClientView C) (d : TsRequest) (result : Result Progress Error)
+      (new : ClientView C) : Type 0 where
     pub asked : List Asked
     pub replied : replies asked
     pub step : HasStepped c old d 0 asked result new
     pub unasked : new.acts.negotiated ≡ false → asked ≡ []
 
   -- a turn of the client on d was refused
-  pub record ClientRefuses (replies : List Asked → Type 0) (old : ClientView C) (d : TsRequest) (error : Error) (new : ClientView C) : Type 0 where
+  pub record ClientRefuses (replies : List Asked → Type 0) (old : ClientView C) (d : TsRequest) (error : Error)
+      (new : ClientView C) : Type 0 where
     pub cause : error.error_type ≢ InsufficientMemory → ClientCause c old d new error.error_type
     pub heeds : ClientMeetsOld c old d → error.error_type ≡ DowngradeDetected
     pub status : error.nstatus ≡ status_of c old d

@@ -23,7 +23,8 @@ use Rattle.sspi_delegate.specs.declared.ends.ServerRound.TheVariants as server
 use Rattle.sspi_credssp.specs.declared.turn.Outcome.{Outcome}
 use Rattle.sspi_credssp.specs.declared.turn.Turn.{Turn}
 use Rattle.sspi_delegate.specs.Asking.{KdcCalls}
-use Rattle.sspi_delegate.specs.History.{ClientHistory, IsWaiting, ClientStopped, ClientLeft, ClientStops, ServerHistory, ServerGave, ServerStopped, ServerStops}
+use Rattle.sspi_delegate.specs.History.{ClientHistory, IsWaiting, ClientStopped, ClientLeft, ClientStops, ServerHistory, ServerGave}
+use Rattle.sspi_delegate.specs.History.{ServerStopped, ServerStops}
 use Rattle.sspi_delegate.specs.Refusals.{StepsSo, ClientRefuses}
 use Rattle.sspi_credssp.specs.declared.turn.Outcome.TheVariants as outcome
 
@@ -45,9 +46,11 @@ module _ {C D : Type 0} (c : Meaning ContextSetting C) (k : KdcCalls D) where
   -- what came of a client's call and of all that its KDC was asked
   abbrev pub ClientConcludes : ClientView C → D → TsRequest → Concluded → ClientView C → D → Type 0
   ClientConcludes old kdc d (concluded.Answered (ReplyNeeded reply)) new kdc2 =
-      ClientTurn c old d (outcome.Reply reply) new × StepsSo c (λ asked. k.replies kdc asked kdc2) old d (Ok (Completed (ReplyNeeded reply))) new
+      ClientTurn c old d (outcome.Reply reply) new × StepsSo c (λ asked. k.replies kdc asked kdc2) old d
+      (Ok (Completed (ReplyNeeded reply))) new
   ClientConcludes old kdc d (concluded.Answered (FinalMessage reply)) new kdc2 =
-      ClientTurn c old d (outcome.Final reply) new × StepsSo c (λ asked. k.replies kdc asked kdc2) old d (Ok (Completed (FinalMessage reply))) new
+      ClientTurn c old d (outcome.Final reply) new × StepsSo c (λ asked. k.replies kdc asked kdc2) old d
+      (Ok (Completed (FinalMessage reply))) new
   ClientConcludes old kdc d (concluded.Refused error) new kdc2 =
       ClientTurn c old d (outcome.Refused error.error_type None) new × ClientRefuses c (λ asked. k.replies kdc asked kdc2) old d error new
   ClientConcludes old kdc d concluded.Lost new kdc2 = IsUnderway c old d new

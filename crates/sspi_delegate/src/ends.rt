@@ -72,8 +72,10 @@ fn finish_turn<N: Mechanism, K: Mechanism, D: Kdc>(
     request: TsRequest,
     kdc: &mut D,
 ) -> Concluded
-    ensures turn { ClientConcludes (either N.REQUESTS N.meaning K.meaning) (kdc_calls D.told D.asked D.faults) client.old kdc.old request result client.new kdc.new }
-    ensures lost { WaitsWhereLost (either N.REQUESTS N.meaning K.meaning) (kdc_calls D.told D.asked D.faults) client.old kdc.old request result client.new kdc.new }
+    ensures turn { ClientConcludes (either N.REQUESTS N.meaning K.meaning)
+        (kdc_calls D.told D.asked D.faults) client.old kdc.old request result client.new kdc.new }
+    ensures lost { WaitsWhereLost (either N.REQUESTS N.meaning K.meaning)
+        (kdc_calls D.told D.asked D.faults) client.old kdc.old request result client.new kdc.new }
     ensures kdc { KdcStays D.told D.faults kdc.old kdc.new }
 {
     let mut progress = match client.process(request) {

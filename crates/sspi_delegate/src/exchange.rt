@@ -9,7 +9,8 @@ ghost use Rattle.sspi_delegate.specs.History.{ClientHistory, ClientPast, ServerH
 ghost use Rattle.sspi_delegate.specs.Refusals.{KdcStays, ProxyStays};
 ghost use Rattle.sspi_delegate.specs.Rounds.{IsNoRefusal, ClientHalfPast, ServerHalfPast};
 ghost use Rattle.sspi_delegate.specs.declared.carried.Carried.{Carried};
-ghost use Rattle.sspi_delegate.specs.Causes.{Between, Asked, Turned, Stopped, ClientHalf, ServerHalf, RunEnds, TurnLeft, HasMessage, Given, turns_of, IsAnswerTo};
+ghost use Rattle.sspi_delegate.specs.Causes.{Between, Asked, Turned, Stopped, ClientHalf, ServerHalf, RunEnds, TurnLeft, HasMessage};
+ghost use Rattle.sspi_delegate.specs.Causes.{Given, turns_of, IsAnswerTo};
 ghost use Rattle.sspi_delegate.specs.Headline.{IsFresh};
 ghost use Rattle.sspi_delegate.specs.Link.{StaysTold};
 ghost use Rattle.sspi_delegate.specs.Messages.{newest_message, GiveTold, AnswerTold, RequestTold};
@@ -89,9 +90,11 @@ fn rounds<N: Mechanism, K: Mechanism, C: CredentialsProxy, L: Link, D: Kdc>(
     turns: u32,
     transcript: &mut Transcript,
 ) -> Result<Delegation, DelegateError>
-    ensures cause { transcript.old.turns ≡ [] → RunEnds (L.log link.old) (L.faults link.old) turns result transcript.new.turns (L.log link.new) (L.faults link.new) }
+    ensures cause { transcript.old.turns ≡ [] → RunEnds (L.log link.old) (L.faults link.old) turns result transcript.new.turns
+        (L.log link.new) (L.faults link.new) }
     ensures told { StaysTold (L.edits link.old) (L.edits link.new) (L.log link.old) (L.log link.new) }
-    ensures still { AnswerTold (L.edits link.old) (L.faults link.old) (L.faults link.new) result (L.log link.new) (newest_message transcript.new.turns) }
+    ensures still { AnswerTold (L.edits link.old) (L.faults link.old) (L.faults link.new) result (L.log link.new)
+        (newest_message transcript.new.turns) }
     ensures none { turns ≡ 0 → result ≡ Err DelegateError.TurnsSpent }
     ensures within { IfOk result (λ delegation. delegation.turns ≤ turns) }
     ensures client_history { transcript.old.turns ≡ [] →
@@ -136,7 +139,8 @@ fn client_half<N: Mechanism, K: Mechanism, L: Link, D: Kdc>(
     ensures next { OnOk result (next_end transcript.new.turns ≡ End.Server) }
     ensures count { OnOk result (turns_of End.Client transcript.new.turns ≡ turns_of End.Client transcript.old.turns + 1) }
     ensures told { StaysTold (L.edits link.old) (L.edits link.new) (L.log link.old) (L.log link.new) }
-    ensures still { AnswerTold (L.edits link.old) (L.faults link.old) (L.faults link.new) result (L.log link.new) (newest_message transcript.new.turns) }
+    ensures still { AnswerTold (L.edits link.old) (L.faults link.old) (L.faults link.new) result (L.log link.new)
+        (newest_message transcript.new.turns) }
     ensures client_history { let c = either N.REQUESTS N.meaning K.meaning in let k = kdc_calls D.told D.asked D.faults in
         (first : ClientView (SspiContext N K)) (kdc_first : D) → AllGoOn transcript.old.turns →
         ClientHistory c k first kdc_first (client_turns transcript.old.turns) client.old kdc.old →
@@ -171,7 +175,8 @@ fn server_half<N: Mechanism, K: Mechanism, C: CredentialsProxy, L: Link>(
     ensures next { OnOk result (next_end transcript.new.turns ≡ End.Client) }
     ensures count { OnOk result (turns_of End.Client transcript.new.turns ≡ turns_of End.Client transcript.old.turns) }
     ensures told { StaysTold (L.edits link.old) (L.edits link.new) (L.log link.old) (L.log link.new) }
-    ensures still { AnswerTold (L.edits link.old) (L.faults link.old) (L.faults link.new) result (L.log link.new) (newest_message transcript.new.turns) }
+    ensures still { AnswerTold (L.edits link.old) (L.faults link.old) (L.faults link.new) result (L.log link.new)
+        (newest_message transcript.new.turns) }
     ensures server_history { let c = either N.REQUESTS N.meaning K.meaning in (first : ServerView (SspiContext N K) C) →
         ServerHistory c C.meaning first (server_turns transcript.old.turns) server.old →
         ServerHalfPast c C.meaning first result (server_turns transcript.new.turns) server.new }
@@ -243,7 +248,8 @@ fn give<L: Link>(alloc: Global, link: &mut L, transcript: &Transcript) -> Result
     ensures link { IfErr result IsNoRefusal }
     ensures same { OnErr result (L.log link.new ≡ L.log link.old) }
     ensures told { StaysTold (L.edits link.old) (L.edits link.new) (L.log link.old) (L.log link.new) }
-    ensures still { GiveTold (L.edits link.old) (L.log link.old) (newest_message transcript.now.turns) (L.faults link.old) (L.faults link.new) result }
+    ensures still { GiveTold (L.edits link.old) (L.log link.old) (newest_message transcript.now.turns) (L.faults link.old)
+        (L.faults link.new) result }
 {
     match transcript.newest() {
         Some(turn) => match turn.outcome.message() {

@@ -17,7 +17,10 @@ impl Model for Transcript {
 
     ghost Value = { TranscriptView };
 
-    ghost view = { λ transcript. record { turns = reverse transcript.turns.items; room = vec_capacity transcript.turns - vec_len transcript.turns } };
+    ghost view = { λ transcript. record {
+      turns = reverse transcript.turns.items;
+      room = vec_capacity transcript.turns - vec_len transcript.turns;
+    } };
 }
 
 impl Transcript {

@@ -85,9 +85,11 @@ module _ {C : Type 0} (c : Meaning ContextSetting C) (kept : Option C → List (
       (p : ClientProof c client past) × (prescribed whose.Client p.version client.nonce client.public_key ≡ text)
   client_proved past text texts is first (inl none) =
       none_last first.0 text (sym none.1 ∙ first.1 ∙ ap (λ (l : List (List ℕ)). first.0 ++ l) is)
-  client_proved past text texts is first (inr p) =
-      (p, last_same p.more first.0 (prescribed whose.Client p.version client.nonce client.public_key) text
-      (sym p.first ∙ first.1 ∙ ap (λ (l : List (List ℕ)). first.0 ++ l) is))
+  client_proved past text texts is first (inr p) = (
+    p,
+    last_same p.more first.0 (prescribed whose.Client p.version client.nonce client.public_key) text
+        (sym p.first ∙ first.1 ∙ ap (λ (l : List (List ℕ)). first.0 ++ l) is),
+  )
 
   -- ---- a client that sealed
 
@@ -125,29 +127,29 @@ module _ {C : Type 0} (c : Meaning ContextSetting C) (kept : Option C → List (
         let there = all_before c kept client server s.at.later (u ∷ s.at.before) (subst (λ (l : List Turn). AllTurns c kept client server l) s.at.parts before) in
         let peer = server_at u s.at.before s.end there in
         let opened : opened_texts (u ∷ server_turns s.at.before) ≡ prescribed whose.Client s.version (nonce_of u.delivered.client_nonce) server.public_key ∷ [] =
-            opened_by_proof c server (server_turns s.at.before) u peer.0 peer.1 s.none s.proved
-            ∙ proven_text u (server_turns s.at.before) s.version peer.0 s.proved s.noted in
+        opened_by_proof c server (server_turns s.at.before) u peer.0 peer.1 s.none s.proved
+        ∙ proven_text u (server_turns s.at.before) s.version peer.0 s.proved s.noted in
         let first = all_before c kept client server (u ∷ []) s.at.before there in
         let p = client_proved s.at.before _ (opened_texts (u ∷ server_turns s.at.before)) opened peer.2 (client_proof c client s.at.before first.client_each) in
         let whole : turns ≡ (later ++ (t ∷ s.at.later)) ++ (u ∷ s.at.before) =
-            parts ∙ ap (λ (l : List Turn). later ++ (t ∷ l)) s.at.parts ∙ sym (append_assoc later (t ∷ s.at.later) (u ∷ s.at.before)) in
+        parts ∙ ap (λ (l : List Turn). later ++ (t ∷ l)) s.at.parts ∙ sym (append_assoc later (t ∷ s.at.later) (u ∷ s.at.before)) in
         let servers : server_turns turns ≡ server_turns (later ++ (t ∷ s.at.later)) ++ (u ∷ server_turns s.at.before) =
-            ap server_turns whole ∙ server_split (later ++ (t ∷ s.at.later)) (u ∷ s.at.before)
-            ∙ ap (λ (l : List Turn). server_turns (later ++ (t ∷ s.at.later)) ++ l) (server_more u s.at.before s.end) in
+        ap server_turns whole ∙ server_split (later ++ (t ∷ s.at.later)) (u ∷ s.at.before)
+        ∙ ap (λ (l : List Turn). server_turns (later ++ (t ∷ s.at.later)) ++ l) (server_more u s.at.before s.end) in
         let client_seen : client_noted client.least (client_turns turns) ≡ Some p.0.version =
-            subst (λ (l : List Turn). client_noted client.least (client_turns l) ≡ Some p.0.version) (sym (whole ∙ sym (append_assoc (later ++ (t ∷ s.at.later)) (u ∷ []) s.at.before)))
-            (client_noted_later client.least ((later ++ (t ∷ s.at.later)) ++ (u ∷ [])) s.at.before p.0.version p.0.noted) in
+        subst (λ (l : List Turn). client_noted client.least (client_turns l) ≡ Some p.0.version) (sym (whole ∙ sym (append_assoc (later ++ (t ∷ s.at.later)) (u ∷ []) s.at.before)))
+        (client_noted_later client.least ((later ++ (t ∷ s.at.later)) ++ (u ∷ [])) s.at.before p.0.version p.0.noted) in
         let server_seen : server_noted server.least (server_turns turns) ≡ Some s.version =
-            subst (λ (l : List Turn). server_noted server.least (server_turns l) ≡ Some s.version) (sym whole)
-            (server_noted_later server.least (later ++ (t ∷ s.at.later)) (u ∷ s.at.before) s.version
-            (subst (λ (l : List Turn). server_noted server.least l ≡ Some s.version) (sym (server_more u s.at.before s.end)) s.noted)) in
+        subst (λ (l : List Turn). server_noted server.least (server_turns l) ≡ Some s.version) (sym whole)
+        (server_noted_later server.least (later ++ (t ∷ s.at.later)) (u ∷ s.at.before) s.version
+        (subst (λ (l : List Turn). server_noted server.least l ≡ Some s.version) (sym (server_more u s.at.before s.end)) s.noted)) in
         let same = same_texts client.public_key server.public_key client.nonce (nonce_of u.delivered.client_nonce) p.0.version s.version
-            (faithful.no_collision _ _ (by_client whose.Client)
-            (by_server whose.Client (server_turns (later ++ (t ∷ s.at.later))) (server_turns s.at.before) u servers))
-            long (proven_nonce u (server_turns s.at.before) s.version peer.0 s.proved s.noted)
-            (λ young old. no_client_echo client server (client_turns turns) p.0.version echo client_seen young)
-            (λ old young. no_server_echo client server (server_turns turns) s.version echo server_seen young)
-            p.1 in
+        (faithful.no_collision _ _ (by_client whose.Client)
+        (by_server whose.Client (server_turns (later ++ (t ∷ s.at.later))) (server_turns s.at.before) u servers))
+        long (proven_nonce u (server_turns s.at.before) s.version peer.0 s.proved s.noted)
+        (λ young old. no_client_echo client server (client_turns turns) p.0.version echo client_seen young)
+        (λ old young. no_server_echo client server (server_turns turns) s.version echo server_seen young)
+        p.1 in
         record {
           exchanged = record {
             at = s.at;
@@ -171,7 +173,7 @@ module _ {C : Type 0} (c : Meaning ContextSetting C) (kept : Option C → List (
         let own = client_at t past is here in
         let seen = at_some (client_noted client.least (t ∷ client_turns past)) _ (own.0.0.held.sealed was) in
         let opened : opened_texts (t ∷ client_turns past) ≡ prescribed whose.Server seen.0 client.nonce client.public_key ∷ [] =
-            seals_once_opened c client (client_turns past) t own.0 own.1 was ∙ sealing_text t (client_turns past) seen.0 own.0 was seen.1 in
+        seals_once_opened c client (client_turns past) t own.0 own.1 was ∙ sealing_text t (client_turns past) seen.0 own.0 was seen.1 in
         let before = all_before c kept client server (t ∷ []) past here in
         let s = server_proved past _ (opened_texts (t ∷ client_turns past)) opened own.2 (server_proof c server past before.server_each) in
         agreed_by turns later past t parts is seen.0 seen.1 all faithful echo long before s
@@ -201,12 +203,12 @@ module _ {C : Type 0} (c : Meaning ContextSetting C) (kept : Option C → List (
         let one = one_opened c server (server_turns place.past) own.0.1 own.1 shows.0 in
         let text = identity_text gave.server.context t.delivered.auth_info identity gave.gave.1 in
         let opened : opened_texts (t ∷ server_turns place.past) ≡ text.0 ∷ (one.0 ∷ []) =
-            opened_at_end c server (server_turns place.past) t own.0 shows.1
-            ∙ ap (λ (l : List (List ℕ)). l ++ opened_texts (server_turns place.past)) text.1
-            ∙ ap (λ (l : List (List ℕ)). text.0 ∷ l) one.1 in
+        opened_at_end c server (server_turns place.past) t own.0 shows.1
+        ∙ ap (λ (l : List (List ℕ)). l ++ opened_texts (server_turns place.past)) text.1
+        ∙ ap (λ (l : List (List ℕ)). text.0 ∷ l) one.1 in
         let before = all_before c kept client server (t ∷ []) place.past here in
         let sealed = second_seal c client place.past text.0 one.0 own.2.0 (sealed_in c client place.past before.client_each before.client_others)
-            (own.2.1 ∙ ap (λ (l : List (List ℕ)). own.2.0 ++ l) opened) in
+        (own.2.1 ∙ ap (λ (l : List (List ℕ)). own.2.0 ++ l) opened) in
         record {
           at = record { later = place.later; turn = t; before = place.past; parts = place.parts };
           end = place.end;

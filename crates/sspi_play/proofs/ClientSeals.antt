@@ -271,10 +271,13 @@ module _ {C : Type 0} (c : Meaning ContextSetting C) (e : ClientEnd C) where
     where
       frame : ClientFrame C
       frame = client_frame_at e (client_turns past) t
+
       auth : frame.state ≡ AuthInfo
       auth = checked_auth frame t each.0.shown.acts was
+
       unproved : t.acts.proved ≡ false
       unproved = is_false t.acts.proved (λ proved. let n = proved_nego frame t each.0.shown.acts proved in absurd (cc (auth, n)))
+
       few : length (client_sealed e (client_turns past)) ≤ 1
       few = one_at_most (client_turns past) each.1 went (state_auth (any_ended (client_turns past)) (any_proved (client_turns past)) auth).0
 

@@ -65,7 +65,7 @@ module _ {C P D : Type 0} (c : Meaning ContextSetting C) (law : IsContext c) (p 
       let server_others = others_of Server plays.0 new.turns plays.1 in
       let client = client_past_ran c law k old.client new.client old.kdc new.kdc (client_turns new.turns) (Err errors.InsufficientMemory) client_fresh client_others left in
       let server = server_past_ran c law p old.server new.server (server_turns new.turns) (Err errors.InsufficientMemory) server_fresh server_others
-          accounts.server_turns_are_its_calls in
+      accounts.server_turns_are_its_calls in
       record {
         client_ran = client;
         server_ran = server;

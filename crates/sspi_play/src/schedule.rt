@@ -78,7 +78,15 @@ fn hand_all<N: Mechanism, K: Mechanism, C: CredentialsProxy, D: Kdc>(
         },
     };
     for delivery in schedule {
-        match hand(alloc, client, server, delivery, kdc, transcript, &mut standing) {
+        match hand(
+            alloc,
+            client,
+            server,
+            delivery,
+            kdc,
+            transcript,
+            &mut standing,
+        ) {
             Ok(()) => {}
             Err(error) => return Err(error),
         }

@@ -43,6 +43,7 @@ module _ (word argument : List ℕ) where
   unfolding kind_by_number
   is_again e = rw e refl
 
-  pub none_by_number : (word ≡ codes "cut" → ⊥) → (word ≡ codes "set" → ⊥) → (word ≡ codes "again" → ⊥) → kind_by_number word argument ≡ None
+  pub none_by_number : (word ≡ codes "cut" → ⊥) → (word ≡ codes "set" → ⊥) → (word ≡ codes "again" → ⊥) →
+      kind_by_number word argument ≡ None
   unfolding kind_by_number
   none_by_number n m o = rw (differs word _ n, differs word _ m, differs word _ o) refl

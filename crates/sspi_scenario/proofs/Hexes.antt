@@ -10,12 +10,14 @@ use Rattle.std.specs.Result.{result_ok}
 
 module _ {E : Type 0} (out : List ℕ) where
   pub sized-ok : (d : Result (List ℕ) E) (x : Unit {0})
-      → MatchResult d (λ bytes. (◌≡◌ {A = Result (Unit {0}) E} (Ok x) (Ok tt)) × (out ≡ bytes)) (λ e. ◌≡◌ {A = Result (Unit {0}) E} (Ok x) (Err e)) → Some out ≡ result_ok d
+      → MatchResult d (λ bytes. (◌≡◌ {A = Result (Unit {0}) E} (Ok x) (Ok tt)) × (out ≡ bytes))
+      (λ e. ◌≡◌ {A = Result (Unit {0}) E} (Ok x) (Err e)) → Some out ≡ result_ok d
   sized-ok (Ok bytes) x h = ap Some h.1
   sized-ok (Err e) x h = absurd cc
 
   pub sized-err : (d : Result (List ℕ) E) (e : E)
-      → MatchResult d (λ bytes. (◌≡◌ {A = Result (Unit {0}) E} (Err e) (Ok tt)) × (out ≡ bytes)) (λ e'. ◌≡◌ {A = Result (Unit {0}) E} (Err e) (Err e')) → None ≡ result_ok d
+      → MatchResult d (λ bytes. (◌≡◌ {A = Result (Unit {0}) E} (Err e) (Ok tt)) × (out ≡ bytes))
+      (λ e'. ◌≡◌ {A = Result (Unit {0}) E} (Err e) (Err e')) → None ≡ result_ok d
   sized-err (Ok bytes) e h = let different = h.0 in absurd cc
   sized-err (Err e') e h = refl
 

@@ -20,7 +20,8 @@ line-unknown : (line : List ℕ) → key_named (before_space line) ≡ None → 
 unfolding line_told
 line-unknown line e = rw e refl
 
-line-known : (line : List ℕ) (k : Key) (o : Option (Values → Values)) → key_named (before_space line) ≡ Some k → (row k).value (after_space line) ≡ o
+line-known : (line : List ℕ) (k : Key) (o : Option (Values → Values)) → key_named (before_space line) ≡ Some k →
+    (row k).value (after_space line) ≡ o
     → line_told line ≡ option_map (told_as k) o
 unfolding line_told
 line-known line k None e v = rw (e, v) refl
@@ -48,7 +49,8 @@ module _ (draft : Draft) (line : List ℕ) where
         let value = (row k).value (after_space line) in
         told-line s (option_map (told_as k) value) (line-known line k value named refl) ∙ barred-by value h
 
-    taken-by : (o : Option (Values → Values)) (new : Values) → is_excluded draft.seen k ≡ false → option_map (λ (c : Values → Values). c draft.values) o ≡ Some new
+    taken-by : (o : Option (Values → Values)) (new : Values) → is_excluded draft.seen k ≡ false →
+        option_map (λ (c : Values → Values). c draft.values) o ≡ Some new
         → with_told draft (option_map (told_as k) o) ≡ Some (record { values = new; seen = noted draft.seen k })
     taken-by None new h e = absurd cc
     taken-by (Some change) new h e =
@@ -61,7 +63,8 @@ module _ (draft : Draft) (line : List ℕ) where
         let value = (row k).value (after_space line) in
         told-line s (option_map (told_as k) value) (line-known line k value named refl) ∙ taken-by value new h e
 
-    pub refused : (new : Draft) (values : Values) (error : LineError) → Puts draft.values values (Err error) ((row k).value (after_space line))
+    pub refused : (new : Draft) (values : Values) (error : LineError) →
+        Puts draft.values values (Err error) ((row k).value (after_space line))
         → Takes draft new line (Err error)
     refused new values Fault e = told-line s None (line-known line k None named e)
     refused new values InsufficientMemory e = tt

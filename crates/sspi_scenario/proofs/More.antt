@@ -16,7 +16,8 @@ keys-more : (lines : List Told) (told : Told) → keys_of (lines ++ told ∷ [])
 keys-more [] told = refl
 keys-more (first ∷ lines) told = ap (λ (keys : List Key). first.key ∷ keys) (keys-more lines told)
 
-seen-more : (lines : List Told) (told : Told) → fold noted [] (keys_of (lines ++ told ∷ [])) ≡ noted (fold noted [] (keys_of lines)) told.key
+seen-more : (lines : List Told) (told : Told) → fold noted [] (keys_of (lines ++ told ∷ [])) ≡ noted
+    (fold noted [] (keys_of lines)) told.key
 seen-more lines told = ap (fold noted []) (keys-more lines told) ∙ fold-append noted [] (keys_of lines) (told.key ∷ [])
 
 pub draft-more : (lines : List Told) (told : Told)
@@ -37,7 +38,8 @@ completed_at required told values = if required then Some (record values.scenari
   account = proxy_table values.scenario.account values.accounts (own_identity values.scenario.user values.scenario.password);
 }) else None
 
-completed-same : (keys seen : List Key) (values : Values) → ((k : Key) → has keys k ≡ has seen k) → completed_by keys values ≡ completed_by seen values
+completed-same : (keys seen : List Key) (values : Values) → ((k : Key) → has keys k ≡ has seen k) →
+    completed_by keys values ≡ completed_by seen values
 completed-same keys seen values e = λ i.
     completed_at (e key.Mode i && e key.User i && e key.Password i && e key.Key i) (e key.ServerKey i) values
 

@@ -1,10 +1,12 @@
 -- A number as `parse` reads it.
-use Rattle.std.proofs.Common.{◌≡◌, ◌≢◌, ℕ, ◌^◌, ◌<◌, ◌≤◌, true, false, not, ◌&&◌, leb, eqb, List, [], ◌∷◌, length, get_or, Some, None, Result, Ok, Err, refl, ap, arith}
+use Rattle.std.proofs.Common.{◌≡◌, ◌≢◌, ℕ, ◌^◌, ◌<◌, ◌≤◌, true, false, not, ◌&&◌, leb, eqb, List, [], ◌∷◌, length, get_or, Some, None}
+use Rattle.std.proofs.Common.{Result, Ok, Err, refl, ap, arith}
 use Rattle.std.specs.Char.{is_ascii_digit}
 use Rattle.std.specs.Result.{OkIff, result_ok}
 use Rattle.std.specs.Str.{all_ascii_digits}
 use Rattle.std.specs.Str.Parse.{ParsesUnsigned, digits_value}
-use Rattle.std.proofs.lemmas.Bool.{false≢true, and_from, and_left, and_parts, false_from_ne_true, not_from_true, not_from_false, eq-eqb, ne_eqb, le-leb, leb-true}
+use Rattle.std.proofs.lemmas.Bool.{false≢true, and_from, and_left, and_parts, false_from_ne_true, not_from_true, not_from_false}
+use Rattle.std.proofs.lemmas.Bool.{eq-eqb, ne_eqb, le-leb, leb-true}
 use Rattle.std.proofs.lemmas.Str.Parse.{IsNumeralModel, numerals_by_value, tells_all_ascii_digits, parse_plain}
 use Rattle.sspi_scenario.specs.Numbers.{is_decimal, number_of}
 
@@ -16,7 +18,8 @@ decimal-digits [] e = refl
 decimal-digits (d ∷ []) e = and_from (is_ascii_digit d) true e refl
 decimal-digits (d ∷ next ∷ more) e = (and_parts (not (eqb d 48)) (all_ascii_digits (d ∷ next ∷ more)) e).1
 
-digits-decimal : (bs : List ℕ) → 0 < length bs → (1 < length bs → get_or bs 0 0 ≡ 48 → ⊥) → all_ascii_digits bs ≡ true → is_decimal bs ≡ true
+digits-decimal : (bs : List ℕ) → 0 < length bs → (1 < length bs → get_or bs 0 0 ≡ 48 → ⊥) → all_ascii_digits bs ≡ true →
+    is_decimal bs ≡ true
 digits-decimal [] some plain e = absurd (omega (arith, some))
 digits-decimal (d ∷ []) some plain e = (and_parts (is_ascii_digit d) true e).0
 digits-decimal (d ∷ next ∷ more) some plain e =
@@ -47,7 +50,8 @@ zero-number (d ∷ next ∷ more) long zero_first =
 
 module _ {E : Type 0} (bs : List ℕ) where
   number-ok : (r : Result ℕ E) → (0 < length bs) → (1 < length bs → get_or bs 0 0 ≡ 48 → ⊥)
-      → OkIff r ((all_ascii_digits bs ≡ true) × (0 < length bs) × (digits_value 10 bs < 2 ^ 32)) (digits_value 10 bs) → result_ok r ≡ number_of bs
+      → OkIff r ((all_ascii_digits bs ≡ true) × (0 < length bs) × (digits_value 10 bs < 2 ^ 32)) (digits_value 10 bs) →
+      result_ok r ≡ number_of bs
   unfolding number_of
   number-ok (Ok n) some plain h =
       let fits : digits_value 10 bs ≤ 4294967295 = omega (arith, h.0.2) in
@@ -60,6 +64,7 @@ module _ {E : Type 0} (bs : List ℕ) where
       rw refused refl
 
   -- without a plus and a leading zero `parse` gives the number
-  pub number-parsed : (r : Result ℕ E) → ParsesUnsigned 32 10 bs r → get_or bs 0 0 ≢ 43 → 0 < length bs → (1 < length bs → get_or bs 0 0 ≡ 48 → ⊥)
+  pub number-parsed : (r : Result ℕ E) → ParsesUnsigned 32 10 bs r → get_or bs 0 0 ≢ 43 → 0 < length bs →
+      (1 < length bs → get_or bs 0 0 ≡ 48 → ⊥)
       → result_ok r ≡ number_of bs
   number-parsed r parses plus some plain = number-ok r some plain (parse_plain own 32 bs r parses plus)

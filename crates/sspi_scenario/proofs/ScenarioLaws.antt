@@ -1,5 +1,6 @@
 -- What follows from the definition of scenarios.
-use Rattle.std.proofs.Common.{◌≡◌, ℕ, ◌+◌, ◌<◌, arith, Bool, true, false, List, [], ◌∷◌, ◌++◌, length, Option, Some, None, Result, Ok, Err, refl, ap, sym, ◌∙◌}
+use Rattle.std.proofs.Common.{◌≡◌, ℕ, ◌+◌, ◌<◌, arith, Bool, true, false, List, [], ◌∷◌, ◌++◌, length, Option, Some, None, Result, Ok}
+use Rattle.std.proofs.Common.{Err, refl, ap, sym, ◌∙◌}
 use Rattle.std.specs.Prelude.{if◌then◌else◌, map}
 use Rattle.std.specs.Option.{option_map}
 use Rattle.std.specs.List.{filter_map, cons_option, enumerate_from, list_any, slice_split, onto_first}
@@ -8,7 +9,8 @@ use Rattle.std.proofs.lemmas.List.{append_assoc, append-nil}
 use Rattle.std.proofs.lemmas.List.Splits.{slice_split-cons_yes, slice_split-cons_no, length-slice_split}
 use Rattle.sspi_scenario.specs.declared.scenario.Scenario.{Scenario}
 use Rattle.sspi_scenario.specs.Lines.{lines_of, is_line_feed, is_skipped}
-use Rattle.sspi_scenario.specs.Faults.{Line, Told, telling, broken, judged, numbered, line_told, lines_from, keys_of, first_fault, told_by, told_in}
+use Rattle.sspi_scenario.specs.Faults.{Line, Told, telling, broken, judged, numbered, line_told, lines_from, keys_of, first_fault}
+use Rattle.sspi_scenario.specs.Faults.{told_by, told_in}
 use Rattle.sspi_scenario.specs.Keys.{is_excluded}
 use Rattle.sspi_scenario.specs.Scenario.{decided, completed, is_readable, scenario_of_lines, scenario_of}
 
@@ -28,7 +30,8 @@ split-append-cons : (p : ℕ → Bool) (x : ℕ) (xs : List ℕ) (y : ℕ) (ys :
     → slice_split p (xs ++ y ∷ ys) ≡ slice_split p xs ++ slice_split p ys
     → slice_split p (x ∷ (xs ++ y ∷ ys)) ≡ slice_split p (x ∷ xs) ++ slice_split p ys
 split-append-cons p x xs y ys true h e =
-    slice_split-cons_yes p x (xs ++ y ∷ ys) h ∙ (ap (λ (parts : List (List ℕ)). [] ∷ parts) e ∙ ap (λ (parts : List (List ℕ)). parts ++ slice_split p ys) (sym (slice_split-cons_yes p x xs h)))
+    slice_split-cons_yes p x (xs ++ y ∷ ys) h ∙ (ap (λ (parts : List (List ℕ)). [] ∷ parts) e ∙ ap
+    (λ (parts : List (List ℕ)). parts ++ slice_split p ys) (sym (slice_split-cons_yes p x xs h)))
 split-append-cons p x xs y ys false h e =
     let some : 0 < length (slice_split p xs) = omega (arith, length-slice_split p xs) in
     slice_split-cons_no p x (xs ++ y ∷ ys) h
@@ -37,7 +40,8 @@ split-append-cons p x xs y ys false h e =
     ∙ ap (λ (parts : List (List ℕ)). parts ++ slice_split p ys) (sym (slice_split-cons_no p x xs h))))
 
 -- an LF ends a line
-split-append : (p : ℕ → Bool) (xs : List ℕ) (y : ℕ) (ys : List ℕ) → p y ≡ true → slice_split p (xs ++ y ∷ ys) ≡ slice_split p xs ++ slice_split p ys
+split-append : (p : ℕ → Bool) (xs : List ℕ) (y : ℕ) (ys : List ℕ) → p y ≡ true →
+    slice_split p (xs ++ y ∷ ys) ≡ slice_split p xs ++ slice_split p ys
 split-append p [] y ys at = slice_split-cons_yes p y ys at
 split-append p (x ∷ xs) y ys at = split-append-cons p x xs y ys (p x) refl (split-append p xs y ys at)
 
@@ -55,7 +59,8 @@ numbered-at : (number : ℕ) (skip : Bool) (told : Option Told)
 numbered-at number true told = refl
 numbered-at number false told = ap Some (judged-later number told)
 
-cons-map : (o : Option Line) (lines : List Line) → cons_option (option_map later_line o) (map later_line lines) ≡ map later_line (cons_option o lines)
+cons-map : (o : Option Line) (lines : List Line) → cons_option (option_map later_line o) (map later_line lines) ≡ map later_line
+    (cons_option o lines)
 cons-map None lines = refl
 cons-map (Some line) lines = refl
 
@@ -73,7 +78,8 @@ fault-barred : (earlier : List Told) (number : ℕ) (told : Told) (lines : List 
 fault-barred earlier number told lines true e = refl
 fault-barred earlier number told lines false e = e
 
-fault-later : (earlier : List Told) (lines : List Line) → first_fault earlier (map later_line lines) ≡ option_map (λ n. n + 1) (first_fault earlier lines)
+fault-later : (earlier : List Told) (lines : List Line) → first_fault earlier (map later_line lines) ≡ option_map (λ n. n + 1)
+    (first_fault earlier lines)
 unfolding first_fault
 fault-later earlier [] = refl
 fault-later earlier (broken number ∷ lines) = refl
@@ -86,7 +92,8 @@ settings-later [] = refl
 settings-later (broken number ∷ lines) = settings-later lines
 settings-later (telling number told ∷ lines) = ap (λ (rest : List Told). told ∷ rest) (settings-later lines)
 
-scenario-later : (lines : List Line) → scenario_of_lines (map later_line lines) ≡ decided (option_map (λ n. n + 1) (first_fault [] lines)) (completed (told_in lines))
+scenario-later : (lines : List Line) → scenario_of_lines (map later_line lines) ≡ decided (option_map (λ n. n + 1) (first_fault [] lines))
+    (completed (told_in lines))
 unfolding scenario_of_lines
 scenario-later lines = λ i. decided (fault-later [] lines i) (completed (settings-later lines i))
 
@@ -110,11 +117,13 @@ unread : (text : List ℕ) → is_readable text ≡ false → scenario_of text �
 unfolding scenario_of
 unread text e = rw e refl
 
-readable-by : (text : List ℕ) (r : Result Scenario ℕ) → (r ≡ Err 0 → ⊥) → scenario_of text ≡ r → (b : Bool) → is_readable text ≡ b → is_readable text ≡ true
+readable-by : (text : List ℕ) (r : Result Scenario ℕ) → (r ≡ Err 0 → ⊥) → scenario_of text ≡ r → (b : Bool) → is_readable text ≡ b →
+    is_readable text ≡ true
 readable-by text r other e true h = h
 readable-by text r other e false h = absurd (other (sym e ∙ unread text h))
 
-module _ (line text : List ℕ) (skip : is_skipped line ≡ true) (within : list_any is_line_feed line ≡ false) (readable : is_readable (line ++ 10 ∷ text) ≡ true) where
+module _ (line text : List ℕ) (skip : is_skipped line ≡ true) (within : list_any is_line_feed line ≡ false)
+    (readable : is_readable (line ++ 10 ∷ text) ≡ true) where
   lines-skipped : lines_from 1 (line ∷ lines_of text) ≡ lines_from (1 + 1) (lines_of text)
   unfolding lines_from
   lines-skipped = rw skip refl
@@ -123,14 +132,18 @@ module _ (line text : List ℕ) (skip : is_skipped line ≡ true) (within : list
   skip-lines = ap (lines_from 1) (split-front is_line_feed line 10 text within refl) ∙ (lines-skipped ∙ lines-later 1 (lines_of text))
 
   skip-scenario : scenario_of (line ++ 10 ∷ text)
-      ≡ decided (option_map (λ n. n + 1) (first_fault [] (lines_from 1 (lines_of text)))) (completed (told_in (lines_from 1 (lines_of text))))
-  skip-scenario = readable-lines (line ++ 10 ∷ text) readable ∙ (ap scenario_of_lines skip-lines ∙ scenario-later (lines_from 1 (lines_of text)))
+      ≡ decided (option_map (λ n. n + 1) (first_fault [] (lines_from 1 (lines_of text))))
+      (completed (told_in (lines_from 1 (lines_of text))))
+  skip-scenario = readable-lines (line ++ 10 ∷ text) readable ∙
+      (ap scenario_of_lines skip-lines ∙ scenario-later (lines_from 1 (lines_of text)))
 
   pub skip-ok : (scenario : Scenario) → scenario_of text ≡ Ok scenario → scenario_of (line ++ 10 ∷ text) ≡ Ok scenario
   unfolding scenario_of_lines
   skip-ok scenario e =
-      let whole = sym (readable-lines text (readable-by text (Ok scenario) (λ (h : Ok scenario ≡ Err 0). absurd cc) e (is_readable text) refl)) ∙ e in
-      let none = decided-ok (first_fault [] (lines_from 1 (lines_of text))) (completed (told_in (lines_from 1 (lines_of text)))) scenario whole in
+      let whole = sym (readable-lines text (readable-by text (Ok scenario) (λ (h : Ok scenario ≡ Err 0). absurd cc) e
+      (is_readable text) refl)) ∙ e in
+      let none = decided-ok (first_fault [] (lines_from 1 (lines_of text)))
+      (completed (told_in (lines_from 1 (lines_of text)))) scenario whole in
       skip-scenario
       ∙ (ap (λ (f : Option ℕ). decided (option_map (λ n. n + 1) f) (completed (told_in (lines_from 1 (lines_of text))))) none
       ∙ (ap (λ (f : Option ℕ). decided f (completed (told_in (lines_from 1 (lines_of text))))) (sym none) ∙ whole))
@@ -140,7 +153,8 @@ module _ (line text : List ℕ) (skip : is_skipped line ≡ true) (within : list
   skip-fault n some e =
       let other = err-other n some in
       let whole = sym (readable-lines text (readable-by text (Err n) other e (is_readable text) refl)) ∙ e in
-      let fault = decided-fault (first_fault [] (lines_from 1 (lines_of text))) (completed (told_in (lines_from 1 (lines_of text)))) n whole some in
+      let fault = decided-fault (first_fault [] (lines_from 1 (lines_of text)))
+      (completed (told_in (lines_from 1 (lines_of text)))) n whole some in
       skip-scenario
       ∙ ap (λ (f : Option ℕ). decided (option_map (λ n. n + 1) f) (completed (told_in (lines_from 1 (lines_of text))))) fault
 
@@ -148,36 +162,46 @@ cons-append : (o : Option Line) (lines more : List Line) → cons_option o (line
 cons-append None lines more = refl
 cons-append (Some line) lines more = refl
 
-lines-append : (number : ℕ) (lines more : List (List ℕ)) → (rest : List Line) × (lines_from number (lines ++ more) ≡ lines_from number lines ++ rest)
+lines-append : (number : ℕ) (lines more : List (List ℕ)) → (rest : List Line) ×
+    (lines_from number (lines ++ more) ≡ lines_from number lines ++ rest)
 unfolding lines_from
 lines-append number [] more = (filter_map numbered (enumerate_from number more), refl)
 lines-append number (line ∷ lines) more =
-    let tail = lines-append (number + 1) lines more in
-    (tail.0, ap (cons_option (numbered (number, line))) tail.1 ∙ cons-append (numbered (number, line)) (filter_map numbered (enumerate_from (number + 1) lines)) tail.0)
+    let tail = lines-append (number + 1) lines more in (
+      tail.0,
+      ap (cons_option (numbered (number, line))) tail.1 ∙ cons-append (numbered (number, line))
+          (filter_map numbered (enumerate_from (number + 1) lines)) tail.0,
+    )
 
-fault-kept-at : (b : Bool) (number n : ℕ) (a c : Option ℕ) → (a ≡ Some n → c ≡ Some n) → (if b then Some number else a) ≡ Some n → (if b then Some number else c) ≡ Some n
+fault-kept-at : (b : Bool) (number n : ℕ) (a c : Option ℕ) → (a ≡ Some n → c ≡ Some n) → (if b then Some number else a) ≡ Some n →
+    (if b then Some number else c) ≡ Some n
 fault-kept-at true number n a c more e = e
 fault-kept-at false number n a c more e = more e
 
-fault-kept : (earlier : List Told) (lines rest : List Line) (n : ℕ) → first_fault earlier lines ≡ Some n → first_fault earlier (lines ++ rest) ≡ Some n
+fault-kept : (earlier : List Told) (lines rest : List Line) (n : ℕ) → first_fault earlier lines ≡ Some n →
+    first_fault earlier (lines ++ rest) ≡ Some n
 unfolding first_fault
 fault-kept earlier [] rest n e = absurd cc
 fault-kept earlier (broken number ∷ lines) rest n e = e
 fault-kept earlier (telling number told ∷ lines) rest n e =
-    fault-kept-at (is_excluded (keys_of earlier) told.key) number n (first_fault (earlier ++ told ∷ []) lines) (first_fault (earlier ++ told ∷ []) (lines ++ rest))
+    fault-kept-at (is_excluded (keys_of earlier) told.key) number n (first_fault (earlier ++ told ∷ []) lines)
+    (first_fault (earlier ++ told ∷ []) (lines ++ rest))
     (fault-kept (earlier ++ told ∷ []) lines rest n) e
 
-pub fault-stays : (text more : List ℕ) (n : ℕ) → 0 < n → scenario_of text ≡ Err n → is_readable (text ++ 10 ∷ more) ≡ true → scenario_of (text ++ 10 ∷ more) ≡ Err n
+pub fault-stays : (text more : List ℕ) (n : ℕ) → 0 < n → scenario_of text ≡ Err n → is_readable (text ++ 10 ∷ more) ≡ true →
+    scenario_of (text ++ 10 ∷ more) ≡ Err n
 unfolding scenario_of_lines
 fault-stays text more n some e readable =
     let other = err-other n some in
     let whole = sym (readable-lines text (readable-by text (Err n) other e (is_readable text) refl)) ∙ e in
-    let fault = decided-fault (first_fault [] (lines_from 1 (lines_of text))) (completed (told_in (lines_from 1 (lines_of text)))) n whole some in
+    let fault = decided-fault (first_fault [] (lines_from 1 (lines_of text)))
+    (completed (told_in (lines_from 1 (lines_of text)))) n whole some in
     let both = lines-append 1 (lines_of text) (lines_of more) in
     let all = ap (lines_from 1) (split-append is_line_feed text 10 more refl) ∙ both.1 in
     readable-lines (text ++ 10 ∷ more) readable
     ∙ (ap scenario_of_lines all
-    ∙ ap (λ (f : Option ℕ). decided f (completed (told_in (lines_from 1 (lines_of text) ++ both.0)))) (fault-kept [] (lines_from 1 (lines_of text)) both.0 n fault))
+    ∙ ap (λ (f : Option ℕ). decided f (completed (told_in (lines_from 1 (lines_of text) ++ both.0))))
+    (fault-kept [] (lines_from 1 (lines_of text)) both.0 n fault))
 
 -- no setting is excluded by those before it
 bar-false : (b : Bool) (number : ℕ) (rest : Option ℕ) → (if b then Some number else rest) ≡ None → (b ≡ false) × (rest ≡ None)
@@ -202,14 +226,18 @@ apart-in earlier (telling number first ∷ lines) (x ∷ before) told after none
     ap (λ (t : Told). is_excluded (keys_of (earlier ++ t ∷ before)) told.key) (sym same) ∙ rw append_assoc at inner
 
 pub apart : (text : List ℕ) (scenario : Scenario) (before : List Told) (told : Told) (after : List Told)
-    → scenario_of text ≡ Ok scenario → told_in (lines_from 1 (lines_of text)) ≡ before ++ told ∷ after → is_excluded (keys_of before) told.key ≡ false
+    → scenario_of text ≡ Ok scenario → told_in (lines_from 1 (lines_of text)) ≡ before ++ told ∷ after →
+    is_excluded (keys_of before) told.key ≡ false
 unfolding scenario_of_lines
 apart text scenario before told after e settings =
-    let whole = sym (readable-lines text (readable-by text (Ok scenario) (λ (h : Ok scenario ≡ Err 0). absurd cc) e (is_readable text) refl)) ∙ e in
-    let none = decided-ok (first_fault [] (lines_from 1 (lines_of text))) (completed (told_in (lines_from 1 (lines_of text)))) scenario whole in
+    let whole = sym (readable-lines text (readable-by text (Ok scenario) (λ (h : Ok scenario ≡ Err 0). absurd cc) e
+    (is_readable text) refl)) ∙ e in
+    let none = decided-ok (first_fault [] (lines_from 1 (lines_of text)))
+    (completed (told_in (lines_from 1 (lines_of text)))) scenario whole in
     apart-in [] (lines_from 1 (lines_of text)) before told after none settings
 
-decided-some : (fault : Option ℕ) (found : Option Scenario) (scenario : Scenario) → decided fault found ≡ Ok scenario → found ≡ Some scenario
+decided-some : (fault : Option ℕ) (found : Option Scenario) (scenario : Scenario) → decided fault found ≡ Ok scenario →
+    found ≡ Some scenario
 decided-some None (Some made) scenario e = let same : made ≡ scenario = cc in ap Some same
 decided-some None None scenario e = absurd cc
 decided-some (Some n) found scenario e = absurd cc
@@ -220,5 +248,8 @@ pub told-whole : (text : List ℕ) (scenario : Scenario) → scenario_of text �
 unfolding scenario_of_lines
 told-whole text scenario e =
     let readable = readable-by text (Ok scenario) (λ (h : Ok scenario ≡ Err 0). absurd cc) e (is_readable text) refl in
-    let whole = sym (readable-lines text readable) ∙ e in
-    (readable, decided-some (first_fault [] (lines_from 1 (lines_of text))) (completed (told_in (lines_from 1 (lines_of text)))) scenario whole)
+    let whole = sym (readable-lines text readable) ∙ e in (
+      readable,
+      decided-some (first_fault [] (lines_from 1 (lines_of text)))
+          (completed (told_in (lines_from 1 (lines_of text)))) scenario whole,
+    )

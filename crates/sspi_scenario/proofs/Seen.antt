@@ -58,7 +58,8 @@ module _ (p : Key → Bool) where
   kept keys k true h passes = let all : list_any p keys ≡ true = found keys k h passes in rw all refl
   kept keys k false h fails = sym (or-false (list_any p keys))
 
-  note-any : (keys : List Key) (k : Key) (b : Bool) → has keys k ≡ b → list_any p (if b then keys else keys ++ k ∷ []) ≡ (list_any p keys || p k)
+  note-any : (keys : List Key) (k : Key) (b : Bool) → has keys k ≡ b →
+      list_any p (if b then keys else keys ++ k ∷ []) ≡ (list_any p keys || p k)
   note-any keys k true h = kept keys k (p k) h refl
   note-any keys k false h = list_any-append p keys (k ∷ []) ∙ ap (λ (b : Bool). list_any p keys || b) (or-false (p k))
 

@@ -1,5 +1,6 @@
 -- The parts of a UTF-8 text between ASCII characters are UTF-8.
-use Rattle.std.proofs.Common.{◌≡◌, ℕ, ◌+◌, ◌<◌, ◌≤◌, arith, Bool, true, false, List, [], ◌∷◌, ◌++◌, length, length-append, get_or, refl, ap, sym, subst, ◌⊎◌, inl, inr}
+use Rattle.std.proofs.Common.{◌≡◌, ℕ, ◌+◌, ◌<◌, ◌≤◌, arith, Bool, true, false, List, [], ◌∷◌, ◌++◌, length, length-append, get_or}
+use Rattle.std.proofs.Common.{refl, ap, sym, subst, ◌⊎◌, inl, inr}
 use Rattle.std.specs.Str.{IsUtf8}
 use Rattle.std.specs.List.{slice_split, onto_first, position_or_len, before_first, after_first}
 use Rattle.std.proofs.Math.ListN.{drop_of_length-le}
@@ -50,7 +51,8 @@ led-more front x (part ∷ parts) = ap (λ (p : List ℕ). p ∷ parts) (sym (ap
 feed-ascii : (x : ℕ) → is_line_feed x ≡ true → x < 128
 feed-ascii x e = let is : x ≡ 10 = eqb-true x 10 e in omega (arith, is)
 
-split-at : (xs : List ℕ) → ((front : List ℕ) → IsUtf8 (front ++ xs) → AreUtf8 (led front (slice_split is_line_feed xs))) → (front : List ℕ) (x : ℕ) (b : Bool) →
+split-at : (xs : List ℕ) → ((front : List ℕ) → IsUtf8 (front ++ xs) → AreUtf8 (led front (slice_split is_line_feed xs))) →
+    (front : List ℕ) (x : ℕ) (b : Bool) →
     is_line_feed x ≡ b → IsUtf8 (front ++ x ∷ xs) → AreUtf8 (led front (slice_split is_line_feed (x ∷ xs)))
 split-at xs more front x true e text =
     let ascii = feed-ascii x e in
@@ -68,10 +70,12 @@ pub lines-utf8 : (text : List ℕ) → IsUtf8 text → AreUtf8 (lines_of text)
 lines-utf8 text utf8 = unled (lines_of text) (split-utf8 text [] utf8)
 
 -- what stands behind the first space of a line
-behind-at : (line : List ℕ) → IsUtf8 line → (position_or_len is_space line < length line) ⊎ (length line ≤ position_or_len is_space line) → IsUtf8 (after_first is_space line)
+behind-at : (line : List ℕ) → IsUtf8 line → (position_or_len is_space line < length line) ⊎
+    (length line ≤ position_or_len is_space line) → IsUtf8 (after_first is_space line)
 behind-at line utf8 (inl here) =
     let space : get_or line (position_or_len is_space line) 0 ≡ 32 = eqb-true _ 32 (passes_at_first is_space line 0 here) in
-    behind_utf8 (before_first is_space line) (get_or line (position_or_len is_space line) 0) (after_first is_space line) (omega (arith, space))
+    behind_utf8 (before_first is_space line) (get_or line (position_or_len is_space line) 0) (after_first is_space line)
+    (omega (arith, space))
     (subst IsUtf8 (split_at_first is_space line 0 here) utf8)
 behind-at line utf8 (inr none) = rw (drop_of_length-le line {i = position_or_len is_space line + 1} (omega (arith, none))) IsUtf8-nil
 

@@ -1,5 +1,6 @@
 -- The values of a scenario are as their keys allow.
-use Rattle.std.proofs.Common.{◌≡◌, ℕ, ◌*◌, ◌<◌, ◌≤◌, ◌^◌, ◌==◌, ◌+◌, ◌/◌, ◌%◌, ◌&&◌, nat_le, arith, Bool, true, false, List, [], ◌∷◌, length, Option, Some, None, Result, Ok, Err, refl, ap, subst}
+use Rattle.std.proofs.Common.{◌≡◌, ℕ, ◌*◌, ◌<◌, ◌≤◌, ◌^◌, ◌==◌, ◌+◌, ◌/◌, ◌%◌, ◌&&◌, nat_le, arith, Bool, true, false, List, [], ◌∷◌}
+use Rattle.std.proofs.Common.{length, Option, Some, None, Result, Ok, Err, refl, ap, subst}
 use Rattle.std.specs.Prelude.{fold, unwrap_or, if◌then◌else◌}
 use Rattle.std.specs.Option.{option_map}
 use Rattle.std.specs.Result.{result_ok}
@@ -80,7 +81,8 @@ Keeps change = (v : Values) → HoldsValues v.scenario → HoldsValues (change v
 keeps-by : {A : Type 0} (f : A → Values → Values) (o : Option A) (change : Values → Values) → option_map f o ≡ Some change →
     ((x : A) → o ≡ Some x → (v : Values) → HoldsValues v.scenario → HoldsValues (f x v).scenario) → Keeps change
 keeps-by f None change e keeps = absurd cc
-keeps-by f (Some x) change e keeps = λ v h. subst (λ (c : Values → Values). HoldsValues (c v).scenario) (some-is (f x) change e) (keeps x refl v h)
+keeps-by f (Some x) change e keeps = λ v h. subst (λ (c : Values → Values). HoldsValues (c v).scenario) (some-is (f x) change e)
+    (keeps x refl v h)
 
 same-keeps : (made change : Values → Values) → Some made ≡ Some change → Keeps made → Keeps change
 same-keeps made change e keeps = subst Keeps (some-is made change e) keeps
@@ -180,7 +182,8 @@ value-keeps k line told (Some change) utf8 is e =
     (row-keeps k (after_space line) change (behind-space line utf8) is)
 
 named-keeps : (o : Option Key) (line : List ℕ) (told : Told) → IsUtf8 line →
-    (o >>= (λ k. (row k).value (after_space line) >>= (λ change. Some (record { key = k; change = change })))) ≡ Some told → Keeps told.change
+    (o >>= (λ k. (row k).value (after_space line) >>= (λ change. Some (record { key = k; change = change })))) ≡ Some told →
+    Keeps told.change
 named-keeps None line told utf8 e = absurd cc
 named-keeps (Some k) line told utf8 e = value-keeps k line told ((row k).value (after_space line)) utf8 refl e
 
@@ -192,7 +195,8 @@ abbrev then_told : Values → List Told → Values
 then_told v lines = fold (λ values told. told.change values) v lines
 
 more-keeps : (number : ℕ) (line : List ℕ) (rest : List Line) (v : Values) → IsUtf8 line → HoldsValues v.scenario →
-    ((w : Values) → HoldsValues w.scenario → HoldsValues (then_told w (filter_map told_by rest)).scenario) → (skip : Bool) (o : Option Told) → line_told line ≡ o →
+    ((w : Values) → HoldsValues w.scenario → HoldsValues (then_told w (filter_map told_by rest)).scenario) →
+    (skip : Bool) (o : Option Told) → line_told line ≡ o →
     HoldsValues (then_told v (filter_map told_by (cons_option (if skip then None else Some (judged number o)) rest))).scenario
 more-keeps number line rest v utf8 h more true o is = more v h
 more-keeps number line rest v utf8 h more false None is = more v h
@@ -203,7 +207,8 @@ lines-keep : (number : ℕ) (lines : List (List ℕ)) (v : Values) → AreUtf8 l
 unfolding told_in lines_from
 lines-keep number [] v utf8 h = h
 lines-keep number (line ∷ lines) v utf8 h =
-    more-keeps number line (filter_map numbered (enumerate_from (number + 1) lines)) v utf8.0 h (λ w held. lines-keep (number + 1) lines w utf8.1 held)
+    more-keeps number line (filter_map numbered (enumerate_from (number + 1) lines)) v utf8.0 h
+    (λ w held. lines-keep (number + 1) lines w utf8.1 held)
     (is_skipped line) (line_told line) refl
 
 default-name : parse_name [] ≡ Some (down_level [] [])
@@ -228,7 +233,8 @@ completed-is false made scenario e = absurd cc
 readable-utf8 : (text : List ℕ) → is_readable text ≡ true → IsUtf8 text
 readable-utf8 text e = IsUtf8-from_is_utf8 text (and_parts (nat_le (length text) text_limit) (is_utf8 text) e).1
 
-finished-holds : (lines : List Told) (scenario : Scenario) → HoldsValues (values_of lines).scenario → completed lines ≡ Some scenario → HoldsValues scenario
+finished-holds : (lines : List Told) (scenario : Scenario) → HoldsValues (values_of lines).scenario → completed lines ≡ Some scenario →
+    HoldsValues scenario
 unfolding completed
 finished-holds lines scenario h e =
     subst HoldsValues (completed-is (has_required (keys_of lines)) (finished (keys_of lines) (values_of lines)) scenario e) h

@@ -1,5 +1,6 @@
 -- What the lines that are left decide, after lines that told some settings.
-use Rattle.std.proofs.Common.{◌≡◌, ℕ, ◌+◌, ◌<◌, ◌≤◌, arith, Bool, true, false, List, [], ◌∷◌, ◌++◌, length, Option, Some, None, Result, Ok, Err, refl, ap, sym, subst, ◌∙◌}
+use Rattle.std.proofs.Common.{◌≡◌, ℕ, ◌+◌, ◌<◌, ◌≤◌, arith, Bool, true, false, List, [], ◌∷◌, ◌++◌, length, Option, Some, None, Result}
+use Rattle.std.proofs.Common.{Ok, Err, refl, ap, sym, subst, ◌∙◌}
 use Rattle.std.specs.Prelude.{if◌then◌else◌, IfSome, option_copied}
 use Rattle.std.specs.Borrow.{Bor}
 use Rattle.std.specs.List.{cons_option}
@@ -28,9 +29,11 @@ pub outcome-start : (lines : List Line) → outcome [] lines ≡ scenario_of_lin
 unfolding outcome scenario_of_lines
 outcome-start lines = refl
 
-pub outcome-end : (earlier : List Told) (number : ℕ) → outcome earlier (lines_from number []) ≡ decided None (draft_completed (draft_of earlier))
+pub outcome-end : (earlier : List Told) (number : ℕ) → outcome earlier (lines_from number []) ≡ decided None
+    (draft_completed (draft_of earlier))
 unfolding outcome lines_from told_in first_fault
-outcome-end earlier number = ap (λ (lines : List Told). decided None (completed lines)) (append-nil earlier) ∙ ap (decided None) (draft-ends earlier)
+outcome-end earlier number = ap (λ (lines : List Told). decided None (completed lines)) (append-nil earlier) ∙ ap (decided None)
+    (draft-ends earlier)
 
 outcome-broken : (earlier : List Told) (number : ℕ) (lines : List Line) → outcome earlier (broken number ∷ lines) ≡ Err number
 unfolding outcome first_fault
@@ -53,10 +56,17 @@ Step earlier (Some new) number lines rest = (later : List Told) × (new ≡ draf
 
 module _ (earlier : List Told) (number : ℕ) (rest : List Line) where
   step-barred : (told : Told) (b : Bool) → is_excluded (draft_of earlier).seen told.key ≡ b
-      → Step earlier (if b then None else Some (record { values = told.change (draft_of earlier).values; seen = noted (draft_of earlier).seen told.key })) number (telling number told ∷ rest) rest
+      → Step earlier (if b then None else Some (record {
+        values = told.change (draft_of earlier).values;
+        seen = noted (draft_of earlier).seen told.key;
+      })) number (telling number told ∷ rest) rest
   step-barred told true e = outcome-excluded earlier number told rest (sym (draft-excluded earlier told.key) ∙ e)
-  step-barred told false e =
-      (earlier ++ told ∷ [], sym (draft-more earlier told), outcome-told earlier number told rest (sym (draft-excluded earlier told.key) ∙ e))
+  step-barred told false e = (
+    earlier ++ told ∷ [],
+    sym (draft-more earlier told),
+    outcome-told earlier number told rest
+        (sym (draft-excluded earlier told.key) ∙ e),
+  )
 
   step-told : (told : Option Told) → Step earlier (with_told (draft_of earlier) told) number (judged number told ∷ rest) rest
   step-told None = outcome-broken earlier number rest
@@ -76,7 +86,8 @@ step earlier number line rest = step-line earlier number (lines_from (number + 1
 -- the same of a line that is taken, and of one that is at fault
 pub step-taken : (earlier : List Told) (number : ℕ) (line : List ℕ) (rest : List (List ℕ)) (new : Draft)
     → with_line (draft_of earlier) line ≡ Some new
-    → (later : List Told) × (new ≡ draft_of later) × (outcome earlier (lines_from number (line ∷ rest)) ≡ outcome later (lines_from (number + 1) rest))
+    → (later : List Told) × (new ≡ draft_of later) × (outcome earlier (lines_from number (line ∷ rest)) ≡ outcome later
+    (lines_from (number + 1) rest))
 step-taken earlier number line rest new e =
     subst (λ o. Step earlier o number (lines_from number (line ∷ rest)) (lines_from (number + 1) rest)) e (step earlier number line rest)
 
@@ -90,14 +101,17 @@ step-refused earlier number line rest e =
 abbrev pub Sofar : Draft → ℕ → List (List ℕ) → Result Scenario ℕ → Type 0
 Sofar draft number lines all = (earlier : List Told) × (draft ≡ draft_of earlier) × (outcome earlier (lines_from number lines) ≡ all)
 
-pub told-start : (draft : Draft) (lines : List (List ℕ)) → draft ≡ draft_of [] → Sofar draft 1 lines (scenario_of_lines (lines_from 1 lines))
+pub told-start : (draft : Draft) (lines : List (List ℕ)) → draft ≡ draft_of [] →
+    Sofar draft 1 lines (scenario_of_lines (lines_from 1 lines))
 told-start draft lines e = ([], e, outcome-start (lines_from 1 lines))
 
-pub told-end : (draft : Draft) (number : ℕ) (all : Result Scenario ℕ) → Sofar draft number [] all → all ≡ decided None (draft_completed draft)
+pub told-end : (draft : Draft) (number : ℕ) (all : Result Scenario ℕ) → Sofar draft number [] all →
+    all ≡ decided None (draft_completed draft)
 told-end draft number all told =
     sym told.2 ∙ (outcome-end told.0 number ∙ ap (λ (d : Draft). decided None (draft_completed d)) (sym told.1))
 
-module _ (draft : Draft) (number : ℕ) (all : Result Scenario ℕ) (lines : List (List ℕ)) (line : List ℕ) (rest : List (List ℕ)) (cut : lines ≡ line ∷ rest) where
+module _ (draft : Draft) (number : ℕ) (all : Result Scenario ℕ) (lines : List (List ℕ)) (line : List ℕ) (rest : List (List ℕ))
+    (cut : lines ≡ line ∷ rest) where
   pub told-more : (new : Draft) → with_line draft line ≡ Some new → Sofar draft number lines all → Sofar new (number + 1) rest all
   told-more new h told =
       let next = step-taken told.0 number line rest new (ap (λ (d : Draft). with_line d line) (sym told.1) ∙ h) in
@@ -127,7 +141,8 @@ module _ (text read : List ℕ) (same : read ≡ text) (readable : is_readable t
   parsed-fault (error.Line number) h = whole ∙ h
   parsed-fault error.InsufficientMemory h = tt
 
-  pub parsed : (draft : Draft) (r : Result Scenario ScenarioError) → Gathers read (Ok draft) → Completes r (draft_completed draft) → Parses text r
+  pub parsed : (draft : Draft) (r : Result Scenario ScenarioError) → Gathers read (Ok draft) → Completes r (draft_completed draft) →
+      Parses text r
   parsed draft (Ok scenario) h e = whole ∙ (h ∙ ap (decided None) e)
   parsed draft (Err (error.Line number)) h e = whole ∙ (h ∙ (ap (decided None) e.0 ∙ ap Err (sym e.1)))
   parsed draft (Err error.InsufficientMemory) h e = tt

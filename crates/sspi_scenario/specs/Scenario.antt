@@ -1,5 +1,6 @@
 -- The scenario of a text.
-use Rattle.std.specs.Prelude.{◌≡◌, ℕ, ◌&&◌, nat_le, Bool, List, [], ◌∷◌, length, replicate, codes, Option, Some, None, Result, Ok, Err, fold, if◌then◌else◌}
+use Rattle.std.specs.Prelude.{◌≡◌, ℕ, ◌&&◌, nat_le, Bool, List, [], ◌∷◌, length, replicate, codes, Option, Some, None, Result, Ok, Err}
+use Rattle.std.specs.Prelude.{fold, if◌then◌else◌}
 use Rattle.std.specs.Str.{is_utf8}
 use Rattle.sspi_names.specs.Name.{Name, down_level}
 use Rattle.sspi_names.specs.declared.identity.AuthIdentity.{AuthIdentity}

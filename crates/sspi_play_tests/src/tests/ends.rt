@@ -102,7 +102,13 @@ fn server(rt: &impl Test, digits: &str) -> CredSspServer<Ntlm, Ntlm, TableProxy>
 }
 
 /// How the ends stand after a play, by the server's key, the words for the deliveries and the ends of the turns.
-pub fn comes_to(rt: &impl Test, digits: &str, words: &str, turns: &str, wanted: (Ending, Ending, Option<&str>)) {
+pub fn comes_to(
+    rt: &impl Test,
+    digits: &str,
+    words: &str,
+    turns: &str,
+    wanted: (Ending, Ending, Option<&str>),
+) {
     let mut transcript = Transcript::new(rt.alloc());
     let played = play(
         rt.alloc(),
@@ -129,7 +135,12 @@ fn made_by(turns: &[Turn], ends: &str) -> bool {
             .all(|(turn, end)| (turn.end == End::Client) == (*end == b'c'))
 }
 
-fn stands(rt: &impl Abort, played: Result<Played, DelegateError>, words: &str, (client, server, name): (Ending, Ending, Option<&str>)) {
+fn stands(
+    rt: &impl Abort,
+    played: Result<Played, DelegateError>,
+    words: &str,
+    (client, server, name): (Ending, Ending, Option<&str>),
+) {
     match played {
         Ok(played) => {
             assert!(rt; played.client == client, "{words}");

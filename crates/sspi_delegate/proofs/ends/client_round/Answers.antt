@@ -7,7 +7,8 @@ use Rattle.sspi_delegate.proofs.ends.client_round.Goals as goal
 
 pub returns-in-Answered-ReplyNeeded-clause-client_history : goal.returns-in-Answered-ReplyNeeded-clause-client_history
 returns-in-Answered-ReplyNeeded-clause-client_history g c first kdc_first went history =
-    client_made (either g.N.Mechanism.REQUESTS g.N.Mechanism.meaning g.K.Mechanism.meaning) (kdc_calls g.D.Kdc.told g.D.Kdc.asked g.D.Kdc.faults)
+    client_made (either g.N.Mechanism.REQUESTS g.N.Mechanism.meaning g.K.Mechanism.meaning)
+    (kdc_calls g.D.Kdc.told g.D.Kdc.asked g.D.Kdc.faults)
     first c.args.client.now c.finish_turn.new.client c.record_client.new.client kdc_first c.args.kdc.now c.finish_turn.new.kdc
     c.args.request (outcome.Reply c.in-Answered-ReplyNeeded.reply) c.args.transcript.now.turns c.record_client.new.transcript.turns history
     (rw c.in-Answered-ReplyNeeded.field-0-is at c.in-Answered-ReplyNeeded.ensures.turn) c.record_client.ensures.rest
@@ -15,16 +16,20 @@ returns-in-Answered-ReplyNeeded-clause-client_history g c first kdc_first went h
 
 pub returns-in-Answered-FinalMessage-clause-client_history : goal.returns-in-Answered-FinalMessage-clause-client_history
 returns-in-Answered-FinalMessage-clause-client_history g c first kdc_first went history =
-    client_made (either g.N.Mechanism.REQUESTS g.N.Mechanism.meaning g.K.Mechanism.meaning) (kdc_calls g.D.Kdc.told g.D.Kdc.asked g.D.Kdc.faults)
+    client_made (either g.N.Mechanism.REQUESTS g.N.Mechanism.meaning g.K.Mechanism.meaning)
+    (kdc_calls g.D.Kdc.told g.D.Kdc.asked g.D.Kdc.faults)
     first c.args.client.now c.finish_turn.new.client c.record_client-in-Answered-FinalMessage.new.client
-    kdc_first c.args.kdc.now c.finish_turn.new.kdc c.args.request (outcome.Final c.in-Answered-FinalMessage.reply) c.args.transcript.now.turns
+    kdc_first c.args.kdc.now c.finish_turn.new.kdc c.args.request
+    (outcome.Final c.in-Answered-FinalMessage.reply) c.args.transcript.now.turns
     c.record_client-in-Answered-FinalMessage.new.transcript.turns history
-    (rw c.in-Answered-FinalMessage.field-0-is at c.in-Answered-FinalMessage.ensures.turn) c.record_client-in-Answered-FinalMessage.ensures.rest
+    (rw c.in-Answered-FinalMessage.field-0-is at c.in-Answered-FinalMessage.ensures.turn)
+    c.record_client-in-Answered-FinalMessage.ensures.rest
     (rw (← c.in-Ok.ensures.turns, ← c.in-Ok-clone.ensures) c.record_client-in-Answered-FinalMessage.ensures.turn)
 
 pub returns-in-Refused-clause-client_history : goal.returns-in-Refused-clause-client_history
 returns-in-Refused-clause-client_history g c first kdc_first went history =
-    client_stopped (either g.N.Mechanism.REQUESTS g.N.Mechanism.meaning g.K.Mechanism.meaning) (kdc_calls g.D.Kdc.told g.D.Kdc.asked g.D.Kdc.faults)
+    client_stopped (either g.N.Mechanism.REQUESTS g.N.Mechanism.meaning g.K.Mechanism.meaning)
+    (kdc_calls g.D.Kdc.told g.D.Kdc.asked g.D.Kdc.faults)
     first c.args.client.now c.finish_turn.new.client c.record_client-in-Refused.new.client
     kdc_first c.args.kdc.now c.finish_turn.new.kdc c.args.request c.in-Refused.error c.args.transcript.now.turns
     c.record_client-in-Refused.new.transcript.turns history c.in-Refused.ensures.turn c.record_client-in-Refused.ensures.rest

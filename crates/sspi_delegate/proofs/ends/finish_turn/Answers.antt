@@ -15,12 +15,14 @@ returns-in-Err-resume-clause-turn g c =
     (rw c.in-Suspended.is at steps.step) in (
       turn,
       resumed_refuses meaning _ c.args.client.now c.args.request c.loop-progress.client c.resume.new.self _ c.in-Err-resume.error underway
-          c.in-Err-resume.ensures.cause c.in-Err-resume.ensures.plain turn step (c.loop-progress.kdc, steps.replied, c.in-Some.ensures.replied)
+          c.in-Err-resume.ensures.cause c.in-Err-resume.ensures.plain turn step
+          (c.loop-progress.kdc, steps.replied, c.in-Some.ensures.replied)
           (c.in-Err-resume.ensures.stepped underway.waiting (rw underway.kept cc)),
     )
 
 pub returns-in-Err-resume-clause-kdc : goal.returns-in-Err-resume-clause-kdc
-returns-in-Err-resume-clause-kdc g c = kdc_replied g.D.Kdc.told g.D.Kdc.asked g.D.Kdc.faults c.args.kdc.now c.loop-progress.kdc c.ask.new.kdc
+returns-in-Err-resume-clause-kdc g c = kdc_replied g.D.Kdc.told g.D.Kdc.asked g.D.Kdc.faults c.args.kdc.now c.loop-progress.kdc
+    c.ask.new.kdc
     _ _ c.loop-progress.invariant.kdc c.in-Some.ensures.replied
 
 pub loop-progress-preserved : goal.loop-progress-preserved

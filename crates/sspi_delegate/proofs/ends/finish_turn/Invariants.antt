@@ -9,11 +9,14 @@ use Rattle.sspi_delegate.proofs.ends.finish_turn.Given as goal
 
 abbrev pub invariant-loop-progress : goal.invariant-loop-progress
 invariant-loop-progress g l = record {
-  goes : ClientGoes (either g.N.Mechanism.REQUESTS g.N.Mechanism.meaning g.K.Mechanism.meaning) l.fn.client l.fn.request (Ok l.progress) l.client;
+  goes : ClientGoes (either g.N.Mechanism.REQUESTS g.N.Mechanism.meaning g.K.Mechanism.meaning) l.fn.client l.fn.request
+      (Ok l.progress) l.client;
   steps : StepsSo (either g.N.Mechanism.REQUESTS g.N.Mechanism.meaning g.K.Mechanism.meaning)
-      (λ asked. HasAnswered g.D.Kdc.told g.D.Kdc.asked g.D.Kdc.faults l.fn.kdc asked l.kdc) l.fn.client l.fn.request (Ok l.progress) l.client;
+      (λ asked. HasAnswered g.D.Kdc.told g.D.Kdc.asked g.D.Kdc.faults l.fn.kdc asked l.kdc) l.fn.client l.fn.request
+      (Ok l.progress) l.client;
   kdc : KdcStays g.D.Kdc.told g.D.Kdc.faults l.fn.kdc l.kdc;
 }
 
 abbrev pub decreases-loop-progress : goal.decreases-loop-progress
-decreases-loop-progress g l = rounds_left l.progress (left_in (either g.N.Mechanism.REQUESTS g.N.Mechanism.meaning g.K.Mechanism.meaning) l.client.context)
+decreases-loop-progress g l = rounds_left l.progress (left_in
+    (either g.N.Mechanism.REQUESTS g.N.Mechanism.meaning g.K.Mechanism.meaning) l.client.context)

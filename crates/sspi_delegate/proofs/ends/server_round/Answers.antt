@@ -6,7 +6,8 @@ use Rattle.sspi_delegate.proofs.ends.server_round.Goals as goal
 
 pub returns-in-Err-clause-turn : goal.returns-in-Err-clause-turn
 returns-in-Err-clause-turn g c =
-    refusal_pushed (either g.N.Mechanism.REQUESTS g.N.Mechanism.meaning g.K.Mechanism.meaning) c.args.server.now c.process.new.self c.args.request
+    refusal_pushed (either g.N.Mechanism.REQUESTS g.N.Mechanism.meaning g.K.Mechanism.meaning) c.args.server.now c.process.new.self
+    c.args.request
     c.in-Err.field-0.error.error_type c.in-Err.field-0.ts_request c.args.transcript.now.turns c.record_server-in-Err.new.transcript.turns
     c.in-Err.ensures.turn (rw (← c.in-Ok.ensures.turns, ← c.in-Ok-clone.ensures) c.record_server-in-Err.ensures.turn)
 
@@ -26,13 +27,19 @@ returns-in-Ok-Finished-clause-server_history g c first history =
     c.args.transcript.now.turns c.record_server-in-Ok-Finished.new.transcript.turns history
     (rw c.in-Ok-Finished.field-0-is at c.in-Ok-Finished.ensures.turn) c.in-Ok-Finished.ensures.step
     c.in-Ok-Finished.ensures.made c.in-Ok-Finished.ensures.proxy c.in-Ok-Finished.ensures.asked
-    c.record_server-in-Ok-Finished.ensures.rest (rw (← c.in-Ok.ensures.turns, ← c.in-Ok-clone.ensures) c.record_server-in-Ok-Finished.ensures.turn)
+    c.record_server-in-Ok-Finished.ensures.rest (rw (← c.in-Ok.ensures.turns, ← c.in-Ok-clone.ensures)
+    c.record_server-in-Ok-Finished.ensures.turn)
 
 pub returns-in-Err-clause-server_history : goal.returns-in-Err-clause-server_history
 returns-in-Err-clause-server_history g c first history =
     server_stopped (either g.N.Mechanism.REQUESTS g.N.Mechanism.meaning g.K.Mechanism.meaning) g.C.CredentialsProxy.meaning
     first c.args.server.now c.process.new.self c.record_server-in-Err.new.server c.args.request
     c.in-Err.field-0.error c.in-Err.field-0.ts_request c.args.transcript.now.turns c.record_server-in-Err.new.transcript.turns history
-    c.in-Err.ensures.turn (record { cause = c.in-Err.ensures.cause; heeds = λ met. (c.in-Err.ensures.heeded.refuses met).0; status = c.in-Err.ensures.plain; step = c.in-Err.ensures.step })
+    c.in-Err.ensures.turn (record {
+      cause = c.in-Err.ensures.cause;
+      heeds = λ met. (c.in-Err.ensures.heeded.refuses met).0;
+      status = c.in-Err.ensures.plain;
+      step = c.in-Err.ensures.step;
+    })
     c.in-Err.ensures.made c.in-Err.ensures.proxy
     c.record_server-in-Err.ensures.rest (rw (← c.in-Ok.ensures.turns, ← c.in-Ok-clone.ensures) c.record_server-in-Err.ensures.turn)

@@ -31,13 +31,15 @@ returns-in-Ok-give-clause-client_history g c first kdc_first going history =
 
 pub returns-in-Err-give-clause-client_history : goal.returns-in-Err-give-clause-client_history
 returns-in-Err-give-clause-client_history g c first kdc_first going history =
-    client_half_stopped (either g.N.Mechanism.REQUESTS g.N.Mechanism.meaning g.K.Mechanism.meaning) (kdc_calls g.D.Kdc.told g.D.Kdc.asked g.D.Kdc.faults) first c.client_round.new.client kdc_first
+    client_half_stopped (either g.N.Mechanism.REQUESTS g.N.Mechanism.meaning g.K.Mechanism.meaning)
+    (kdc_calls g.D.Kdc.told g.D.Kdc.asked g.D.Kdc.faults) first c.client_round.new.client kdc_first
     c.client_round.new.kdc _ c.in-Err-give.error c.in-Err-give.ensures.link
     (c.in-Replied.ensures.client_history first kdc_first (clients_go _ going) history)
 
 pub returns-in-Refused-clause-client_history : goal.returns-in-Refused-clause-client_history
 returns-in-Refused-clause-client_history g c first kdc_first going history =
-    client_half_refused (either g.N.Mechanism.REQUESTS g.N.Mechanism.meaning g.K.Mechanism.meaning) (kdc_calls g.D.Kdc.told g.D.Kdc.asked g.D.Kdc.faults) first c.client_round.new.client kdc_first
+    client_half_refused (either g.N.Mechanism.REQUESTS g.N.Mechanism.meaning g.K.Mechanism.meaning)
+    (kdc_calls g.D.Kdc.told g.D.Kdc.asked g.D.Kdc.faults) first c.client_round.new.client kdc_first
     c.client_round.new.kdc _ c.in-Refused.error c.client_error.result c.client_error.ensures
     (c.in-Refused.ensures.client_history first kdc_first (clients_go _ going) history)
 
@@ -47,5 +49,6 @@ returns-in-Lost-clause-client_history g c first kdc_first going history =
 
 pub returns-in-Err-clause-client_history : goal.returns-in-Err-clause-client_history
 returns-in-Err-clause-client_history g c first kdc_first going history =
-    client_half_stopped (either g.N.Mechanism.REQUESTS g.N.Mechanism.meaning g.K.Mechanism.meaning) (kdc_calls g.D.Kdc.told g.D.Kdc.asked g.D.Kdc.faults) first c.args.client.now kdc_first
+    client_half_stopped (either g.N.Mechanism.REQUESTS g.N.Mechanism.meaning g.K.Mechanism.meaning)
+    (kdc_calls g.D.Kdc.told g.D.Kdc.asked g.D.Kdc.faults) first c.args.client.now kdc_first
     c.args.kdc.now _ c.in-Err.error c.in-Err.ensures.link history

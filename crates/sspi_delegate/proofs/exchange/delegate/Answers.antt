@@ -47,7 +47,14 @@ returns-clause-delegates g c fresh =
     let server_heeds = server_past_heeds m law g.C.CredentialsProxy.meaning _ _ _ result fresh.server_is
     (others_unrefused _ (servers_others turns order)) server_past in
     record {
-      the_turns_are_a_run = record { order = order; entries = run_log _ _ _ _ _ _ _ cause; client_ran = client; server_ran = server; client_heeds = client_heeds; server_heeds = server_heeds };
+      the_turns_are_a_run = record {
+        order = order;
+        entries = run_log _ _ _ _ _ _ _ cause;
+        client_ran = client;
+        server_ran = server;
+        client_heeds = client_heeds;
+        server_heeds = server_heeds;
+      };
       credentials_are_sealed_at_most_once = sealed_once m _ _ turns client.each client.others server.each;
       the_client_seals_after_the_proof = seals_after_proof m _ _ client.each;
       the_server_never_seals = server_never_seals m _ _ server.each;
@@ -56,7 +63,8 @@ returns-clause-delegates g c fresh =
       both_proofs_came_before_ok = exchanged_ok m _ _ _ _ _ _ _ cause _ server.each;
       no_call_of_the_proxy_before_ok_was_to_fail =
           ok_asked m g.C.CredentialsProxy.meaning _ _ _ result turns _ _ _ _ fresh.server_is cause (servers_others turns order) server_past;
-      the_client_has_the_context_of_its_chain = client_past_chained m k _ law fresh.client_is _ _ _ _ result (clients_others turns order) client_past;
+      the_client_has_the_context_of_its_chain = client_past_chained m k _ law fresh.client_is _ _ _ _ result
+          (clients_others turns order) client_past;
       the_server_has_the_context_of_its_chain =
           server_past_chained m g.C.CredentialsProxy.meaning _ law fresh.server_is _ _ result
           (others_unrefused _ (servers_others turns order)) server_past;

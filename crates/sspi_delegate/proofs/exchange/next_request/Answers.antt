@@ -6,7 +6,8 @@ use Rattle.sspi_delegate.proofs.exchange.next_request.Goals as goal
 pub returns-in-Ok-from_buffer-clause-ok : goal.returns-in-Ok-from_buffer-clause-ok
 returns-in-Ok-from_buffer-clause-ok g c base start between =
     read_asked base start c.args.transcript.now.turns (g.L.Link.log c.args.link.now) (g.L.Link.log c.take_delivery.new.link)
-    (g.L.Link.faults c.args.link.now) (g.L.Link.faults c.take_delivery.new.link) c.in-Ok.text c.in-Ok-from_buffer.request c.in_default.field-0.now
+    (g.L.Link.faults c.args.link.now) (g.L.Link.faults c.take_delivery.new.link) c.in-Ok.text c.in-Ok-from_buffer.request
+    c.in_default.field-0.now
     c.in_default.ensures between c.in-Ok.ensures.takes c.in-Ok.ensures.cause
     (subst (λ (bytes : List ℕ). IsRead bytes c.in-Ok-from_buffer.request) c.as_slice.ensures c.in-Ok-from_buffer.ensures.answer.0)
 

@@ -12,10 +12,12 @@ use Rattle.sspi_delegate.proofs.exchange.rounds.Given as goal
 abbrev pub invariant-loop-turn : goal.invariant-loop-turn
 invariant-loop-turn g l = record {
   at_turn : l.fn.transcript.turns ≡ [] →
-      IsAtTurn (g.L.Link.log l.fn.link) (g.L.Link.faults l.fn.link) l.transcript.turns (g.L.Link.log l.link) (g.L.Link.faults l.link) l.turn;
+      IsAtTurn (g.L.Link.log l.fn.link) (g.L.Link.faults l.fn.link) l.transcript.turns (g.L.Link.log l.link)
+      (g.L.Link.faults l.link) l.turn;
   told : StaysTold (g.L.Link.edits l.fn.link) (g.L.Link.edits l.link) (g.L.Link.log l.fn.link) (g.L.Link.log l.link);
   client_history : l.fn.transcript.turns ≡ [] →
-      ClientHistory (either g.N.Mechanism.REQUESTS g.N.Mechanism.meaning g.K.Mechanism.meaning) (kdc_calls g.D.Kdc.told g.D.Kdc.asked g.D.Kdc.faults)
+      ClientHistory (either g.N.Mechanism.REQUESTS g.N.Mechanism.meaning g.K.Mechanism.meaning)
+      (kdc_calls g.D.Kdc.told g.D.Kdc.asked g.D.Kdc.faults)
       l.fn.client l.fn.kdc (client_turns l.transcript.turns) l.client l.kdc;
   server_history : l.fn.transcript.turns ≡ [] →
       ServerHistory (either g.N.Mechanism.REQUESTS g.N.Mechanism.meaning g.K.Mechanism.meaning) g.C.CredentialsProxy.meaning

@@ -30,7 +30,9 @@ returns-in-Refused-clause-half g c base start limit next w =
     let v = c.in-Ok.ensures.ok base start w in
     server_refused base start limit c.in-Refused.error c.server_error.result c.in-Ok.request _ _ _ _ _ _
     next v c.in-Refused.ensures.turn c.server_error.ensures
-    (c.give-given.ensures.given base start v.calm (refusal_has_message c.in-Ok.request c.in-Refused.error.error_type _ _ c.in-Refused.ensures.turn) (but_last base start Server c.in-Ok.request (IsServerRefusal c.in-Refused.error.error_type) _ _ _ _ v c.in-Refused.ensures.turn))
+    (c.give-given.ensures.given base start v.calm (refusal_has_message c.in-Ok.request c.in-Refused.error.error_type _ _
+    c.in-Refused.ensures.turn) (but_last base start Server c.in-Ok.request
+    (IsServerRefusal c.in-Refused.error.error_type) _ _ _ _ v c.in-Refused.ensures.turn))
 
 pub returns-in-Lost-clause-half : goal.returns-in-Lost-clause-half
 returns-in-Lost-clause-half g c base start limit next w =
@@ -50,7 +52,8 @@ returns-in-Finished-clause-server_history g c first history = c.in-Finished.ensu
 pub returns-in-Refused-clause-server_history : goal.returns-in-Refused-clause-server_history
 returns-in-Refused-clause-server_history g c first history =
     server_half_refused (either g.N.Mechanism.REQUESTS g.N.Mechanism.meaning g.K.Mechanism.meaning) g.C.CredentialsProxy.meaning first
-    c.server_round.new.server _ c.in-Refused.error c.server_error.result c.server_error.ensures (c.in-Refused.ensures.server_history first history)
+    c.server_round.new.server _ c.in-Refused.error c.server_error.result c.server_error.ensures
+    (c.in-Refused.ensures.server_history first history)
 
 pub returns-in-Lost-clause-server_history : goal.returns-in-Lost-clause-server_history
 returns-in-Lost-clause-server_history g c first history = c.in-Lost.ensures.server_history first history

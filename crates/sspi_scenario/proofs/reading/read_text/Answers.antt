@@ -1,6 +1,7 @@
 use Rattle.std.proofs.Common.{ℕ, arith, length-append, length-drop}
 use Rattle.std.proofs.lemmas.List.{length-take}
-use Rattle.sspi_scenario.proofs.SourceTexts.{takes_on, takes_kept, consumes_front, front_is_short, consumes_nothing, reads_to_end, reads_too_long}
+use Rattle.sspi_scenario.proofs.SourceTexts.{takes_on, takes_kept, consumes_front, front_is_short, consumes_nothing, reads_to_end}
+use Rattle.sspi_scenario.proofs.SourceTexts.{reads_too_long}
 use Rattle.sspi_scenario.proofs.reading.read_text.Goals as goal
 
 pub returns-in_default-clause-taken : goal.returns-in_default-clause-taken

@@ -7,8 +7,11 @@ use Rattle.sspi_scenario.proofs.scenario.checked.Goals as goal
 
 pub returns-in-Ok-clause-text : goal.returns-in-Ok-clause-text
 returns-in-Ok-clause-text c =
-    let text = c.args.text.now in
-    (c.in-Ok.ensures.cases.0, and_from _ (is_utf8 text) (le-leb (length text) text_limit c.if-text-gt-TEXT_LIMIT.false) (is_utf8-from_IsUtf8 text c.in-Ok.ensures.cases.1))
+    let text = c.args.text.now in (
+      c.in-Ok.ensures.cases.0,
+      and_from _ (is_utf8 text) (le-leb (length text) text_limit c.if-text-gt-TEXT_LIMIT.false)
+          (is_utf8-from_IsUtf8 text c.in-Ok.ensures.cases.1),
+    )
 
 pub returns-in-Err-clause-refused : goal.returns-in-Err-clause-refused
 returns-in-Err-clause-refused c =

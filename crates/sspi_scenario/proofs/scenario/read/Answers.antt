@@ -24,7 +24,8 @@ overflow_add-number c = let fits = c.loop-rest.invariant.fits in omega arith
 pub loop-rest-preserved : goal.loop-rest-preserved
 loop-rest-preserved c =
     let cut = ap (λ (r : Option (Bor (List ℕ))). lines_after (option_copied r)) c.in-Some.is ∙ c.first_line.ensures.lines in
-    let size : left (option_copied c.loop-rest.rest) ≡ length c.in-Some.text.now + 1 = ap (λ (r : Option (Bor (List ℕ))). left (option_copied r)) c.in-Some.is in
+    let size : left (option_copied c.loop-rest.rest) ≡ length c.in-Some.text.now + 1 =
+    ap (λ (r : Option (Bor (List ℕ))). left (option_copied r)) c.in-Some.is in
     let less = left-shorter c.first_line.result.1 (length c.in-Some.text.now) c.first_line.ensures.shorter in
     let fits = c.loop-rest.invariant.fits in
     record {

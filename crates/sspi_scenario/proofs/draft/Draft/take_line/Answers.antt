@@ -26,7 +26,8 @@ returns-in_err-put c =
     rw (p.1, p.2)
     (refused c.args.self.now c.args.line.now c.in-Some.key (sym c.is_skipped.ensures ∙ c.if-is_skipped.false)
     (ap key_named (sym c.key_and_value.ensures.key) ∙ (sym c.from_name.ensures ∙ c.in-Some.is))
-    (record { values = c.put.new.self; seen = c.args.self.now.seen }) c.put.new.self c.in_err-put.field-0.0 (rw c.key_and_value.ensures.value at c.in_err-put.ensures))
+    (record { values = c.put.new.self; seen = c.args.self.now.seen }) c.put.new.self c.in_err-put.field-0.0
+    (rw c.key_and_value.ensures.value at c.in_err-put.ensures))
 
 pub returns : goal.returns
 returns c =
