@@ -88,9 +88,9 @@ module _ {C P D : Type 0} (c : Meaning ContextSetting C) (law : IsContext c) (p 
   identity_gave schedule old new (Err error) accounts given is = absurd (cc (is))
 
   pub agrees_if_faithful : (kept : Option C → List (List ℕ)) (schedule : List Delivery) (old new : Both C P D) (result : Result Played DelegateError) →
-      length new.client.nonce ≡ 32 → IsPlay c old new → Accounts c p k schedule old result new →
+      IsPlay c old new → Accounts c p k schedule old result new →
       AgreesIfFaithful c kept (client_end new.client) (server_end new.server) new.turns (identity_of result)
-  agrees_if_faithful kept schedule old new result long play accounts = λ faithful tags echo.
+  agrees_if_faithful kept schedule old new result play accounts = λ faithful tags echo long.
       agreement c kept (client_end new.client) (server_end new.server) tags p old.server new.turns (identity_of result)
       (identity_gave schedule old new result accounts)
       (record {

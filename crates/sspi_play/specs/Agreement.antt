@@ -88,8 +88,9 @@ module _ {C : Type 0} (client : ClientEnd C) (server : ServerEnd C) where
     pub a_client_that_sealed : (at : TurnOf turns) → at.turn.end ≡ Client → at.turn.acts.sealed ≡ true → Agrees turns at.before
     pub a_server_that_finished : (given : AuthIdentity) → identity ≡ Some given → HoldsSealed turns given
 
--- The theorem, of the ends as the play left them.
+-- The theorem, of the ends as the play left them. The client's nonce has 32 octets, as that of every client has.
 abbrev pub AgreesIfFaithful : {C : Type 0} → Meaning ContextSetting C → (Option C → List (List ℕ)) → ClientEnd C → ServerEnd C → List Turn →
     Option AuthIdentity → Type 0
 AgreesIfFaithful c kept client server turns identity =
-    IsFaithful c kept client server turns → OpensBehindTag c → NoEcho client server → Agreement client server turns identity
+    IsFaithful c kept client server turns → OpensBehindTag c → NoEcho client server → length client.nonce ≡ 32 →
+    Agreement client server turns identity

@@ -1,16 +1,15 @@
-use Rattle.std.proofs.Common.{inl, refl}
+use Rattle.std.proofs.Common.{refl, rules}
 use Rattle.sspi_credssp.specs.Context.{either}
 use Rattle.sspi_credssp.specs.declared.turn.End.TheVariants.{Client}
 use Rattle.sspi_delegate.specs.Asking.{kdc_calls}
 use Rattle.sspi_delegate.specs.Causes.{IsClientRefusal}
-use Rattle.sspi_delegate.specs.History.{between}
 use Rattle.sspi_delegate.specs.Turns.{GoesOn}
 use Rattle.sspi_play.proofs.Histories.{stopped_played}
 use Rattle.sspi_play.proofs.Steps.{unread_is, pushed_turn, client_ended}
 use Rattle.sspi_play.proofs.hand.hand_client.Goals as goal
 
 pub returns-in-Err-clause-hands : goal.returns-in-Err-clause-hands
-returns-in-Err-clause-hands g c = unread_is c.args.start c.args.bytes.now c.in-Err.kind (search rules) c.in-Err.ensures
+returns-in-Err-clause-hands g c = (unread_is c.args.start c.args.bytes.now c.in-Err.kind (search rules) c.in-Err.ensures, refl)
 
 pub returns-in-Replied-clause-hands : goal.returns-in-Replied-clause-hands
 returns-in-Replied-clause-hands g c =

@@ -1,13 +1,14 @@
+use Rattle.std.proofs.Common.{false, refl, rules}
 use Rattle.sspi_credssp.specs.Context.{either}
 use Rattle.sspi_credssp.specs.declared.turn.End.TheVariants.{Server}
-use Rattle.sspi_delegate.specs.Causes.{IsServerRefusal, IsFinished}
+use Rattle.sspi_delegate.specs.Causes.{IsFinished}
 use Rattle.sspi_delegate.specs.Turns.{GoesOn}
 use Rattle.sspi_delegate.proofs.Histories.{server_stopped_history}
-use Rattle.sspi_play.proofs.Steps.{unread_is, pushed_turn, server_ended, server_lacks}
+use Rattle.sspi_play.proofs.Steps.{unread_is, pushed_turn}
 use Rattle.sspi_play.proofs.hand.hand_server.Goals as goal
 
 pub returns-in-Err-clause-hands : goal.returns-in-Err-clause-hands
-returns-in-Err-clause-hands g c = unread_is false c.args.bytes.now c.in-Err.kind (search rules) c.in-Err.ensures
+returns-in-Err-clause-hands g c = (unread_is false c.args.bytes.now c.in-Err.kind (search rules) c.in-Err.ensures, refl)
 
 pub returns-in-Replied-clause-hands : goal.returns-in-Replied-clause-hands
 returns-in-Replied-clause-hands g c =
@@ -16,3 +17,13 @@ returns-in-Replied-clause-hands g c =
 pub returns-in-Finished-clause-hands : goal.returns-in-Finished-clause-hands
 returns-in-Finished-clause-hands g c =
     pushed_turn Server false c.args.bytes.now c.in-Ok.request IsFinished _ _ c.in-Ok.ensures c.in-Finished.ensures.turn
+
+pub returns-in-Ok-ending_by-clause-history : goal.returns-in-Ok-ending_by-clause-history
+returns-in-Ok-ending_by-clause-history g c first history =
+    server_stopped_history (either g.N.Mechanism.REQUESTS g.N.Mechanism.meaning g.K.Mechanism.meaning) g.C.CredentialsProxy.meaning
+    first c.server_round.new.server c.in-Refused.error _ (c.in-Refused.ensures.server_history first history)
+
+pub returns-in-Err-ending_by-clause-history : goal.returns-in-Err-ending_by-clause-history
+returns-in-Err-ending_by-clause-history g c first history =
+    server_stopped_history (either g.N.Mechanism.REQUESTS g.N.Mechanism.meaning g.K.Mechanism.meaning) g.C.CredentialsProxy.meaning
+    first c.server_round.new.server c.in-Refused.error _ (c.in-Refused.ensures.server_history first history)
