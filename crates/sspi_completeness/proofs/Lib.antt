@@ -13,6 +13,7 @@ pub mod Points
 pub mod Settling
 pub mod Negotiation
 pub mod NeverRefusing
+pub mod NegotiationRefusals
 pub mod Negotiated
 pub mod NtlmRound
 pub mod Shortness

@@ -210,7 +210,7 @@ both_other P Q R first second (inr t) (inl x) h = absurd h
 both_other P Q R first second (inr t) (inr y) h = second t y h
 
 module _ {S T A B : Type 0} (n : Meaning S A) (k : Meaning T B) (kind : ErrorKind) (first : NeverRefuses n kind) (second : NeverRefuses k kind) where
-  sum_never : NeverRefuses (sum n k) kind
+  pub sum_never : NeverRefuses (sum n k) kind
   sum_never = record {
     makes = λ s h. in_hand_never (λ x. n.unmade x kind) (λ y. k.unmade y kind) first.makes second.makes s (hand_at n.unmade k.unmade s h);
     calls = λ m call h. in_hand_never (λ x. n.refuses x call kind) (λ y. k.refuses y call kind) (λ x. first.calls x call) (λ y. second.calls y call) m
@@ -228,7 +228,7 @@ module _ {S T A B : Type 0} (n : Meaning S A) (k : Meaning T B) (kind : ErrorKin
       call_at (inl x) call h = h
       call_at (inr y) call h = h
 
-taking_never : {S C : Type 0} (some : List Credentials → List Credentials) (c : Meaning S C) (kind : ErrorKind) → NeverRefuses c kind → NeverRefuses (taking some c) kind
+pub taking_never : {S C : Type 0} (some : List Credentials → List Credentials) (c : Meaning S C) (kind : ErrorKind) → NeverRefuses c kind → NeverRefuses (taking some c) kind
 taking_never some c kind never = record {
   makes = never.makes;
   calls = λ m call h. never.calls m (taken some call) h;
@@ -237,7 +237,7 @@ taking_never some c kind never = record {
   accepts = never.accepts;
 }
 
-seen_never : {R S C D : Type 0} (parts : R → S) (view : C → D) (back : D → C) (c : Meaning S D) (kind : ErrorKind) → NeverRefuses c kind →
+pub seen_never : {R S C D : Type 0} (parts : R → S) (view : C → D) (back : D → C) (c : Meaning S D) (kind : ErrorKind) → NeverRefuses c kind →
     NeverRefuses (seen parts view back c) kind
 seen_never parts view back c kind never = record {
   makes = λ s h. never.makes (parts s) h;
