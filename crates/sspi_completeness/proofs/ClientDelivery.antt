@@ -101,7 +101,7 @@ module _ {C D : Type 0} (c : Meaning ContextSetting C) (k : KdcCalls D) where
     deliver_cause : (mid : View) (kind : ErrorKind) → ClientCause c old d mid kind → DeliverCause c d.pub_key_auth mid kind
     deliver_cause mid kind cause =
         subst (λ (s : CredSspState). StateCause c s d mid kind) given.is.state_is
-        (made_past old.context mid.context _ _ (never_made kind)
+        (made_past old.context mid.context _ _ (λ none. never_made kind)
         (stops_later _ MessageAltered kind _ (rw given.version given.is.fits)
         (stops_later _ DowngradeDetected kind _ (rw given.version given.is.young)
         (stops_later _ InvalidToken kind _ given.code (stops_later _ OutOfSequence kind _ given.is.idle cause)))))

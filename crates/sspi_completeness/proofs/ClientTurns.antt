@@ -141,7 +141,7 @@ module _ {C : Type 0} (c : Meaning ContextSetting C) (laws : IsContext c) where
       nego_cause : (mid : View) (kind : ErrorKind) → ClientCause c old d mid kind → NegoCause c mid.acts.status mid kind
       nego_cause mid kind cause =
           subst (λ (s : CredSspState). StateCause c s d mid kind) given.is.state_is
-          (made_past old.context mid.context _ _ (never_made kind)
+          (made_past old.context mid.context _ _ (λ none. never_made kind)
           (stops_later _ MessageAltered kind _ (rw given.version given.is.fits)
           (stops_later _ DowngradeDetected kind _ (rw given.version given.is.young)
           (stops_later _ InvalidToken kind _ given.code (stops_later _ OutOfSequence kind _ given.is.idle cause)))))

@@ -47,10 +47,10 @@ is_false false never = refl
 pub stops_later : (test : Bool) (here kind : ErrorKind) (Later : Type 0) → test ≡ false → StopsIf test here kind Later → Later
 stops_later test here kind Later unmet h = subst (λ (b : Bool). StopsIf b here kind Later) unmet h
 
-pub made_past : {C : Type 0} (old new : Option C) (Cause Later : Type 0) → (Cause → ⊥) → MadeOr old new Cause Later → Later
+pub made_past : {C : Type 0} (old new : Option C) (Cause Later : Type 0) → (old ≡ None → Cause → ⊥) → MadeOr old new Cause Later → Later
 made_past (Some m) new Cause Later never h = h
 made_past None (Some m) Cause Later never h = h
-made_past None None Cause Later never h = absurd (never h)
+made_past None None Cause Later never h = absurd (never refl h)
 
 count_few : (b : Bool) → count_of b ≤ 1
 count_few true = omega arith

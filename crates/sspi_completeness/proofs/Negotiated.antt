@@ -308,11 +308,13 @@ module _ {C D P : Type 0} (c : Meaning ContextSetting C) (laws : IsContext c) (k
 
   -- ---- the server's turns
 
-  takes_at : (n : ℕ) (y : SView) (d : TsRequest) → n ≤ last_step early j → ServerNego n y → d.nego_tokens ≡ Some (it.client_step n).output →
+  takes_at : (n : ℕ) (y : SView) (d : TsRequest) → n ≤ last_step early j → ServerNego n y → p.told y.proxy ≡ p.told b.proxy →
+      d.nego_tokens ≡ Some (it.client_step n).output →
       Takes c laws p y d.nego_tokens (it.server_step n) (it.server_context (suc n)) it.server_handle
-  takes_at zero y d less at token =
-      subst (λ (t : Option (List ℕ)). Takes c laws p y t (it.server_step 0) (it.server_context 1) it.server_handle) (sym token) (it.takes_first y at.is.same at.has)
-  takes_at (suc n) y d less at token =
+  takes_at zero y d less at tells token =
+      subst (λ (t : Option (List ℕ)). Takes c laws p y t (it.server_step 0) (it.server_context 1) it.server_handle) (sym token)
+      (it.takes_first y at.is.same tells at.has)
+  takes_at (suc n) y d less at tells token =
       subst (λ (t : Option (List ℕ)). Takes c laws p y t (it.server_step (suc n)) (it.server_context (suc (suc n))) it.server_handle) (sym token)
       (it.takes n y less at.is.same at.has.0 at.has.1)
 
@@ -327,8 +329,8 @@ module _ {C D P : Type 0} (c : Meaning ContextSetting C) (laws : IsContext c) (k
   server_given n y d at version takes = record { is = at.is; takes = takes; version = version; begins = it.server_begins }
 
   server_token : (n : ℕ) (y mid : SView) (d : TsRequest) (out : Outcome) → n < last_step early j → ServerNego n y → d ≡ carried (up_of n) →
-      ServerMakes c p y d out mid → Comes out (λ r. (r ≡ down_of n) × ServerNego (suc n) (record mid { output = [] }))
-  server_token n y mid d out less at is makes =
+      p.told y.proxy ≡ p.told b.proxy → p.faults mid.proxy ≡ p.faults y.proxy → p.faults y.proxy < 2 ^ 64 - 1 → ServerMakes c p y d out mid → Comes out (λ r. (r ≡ down_of n) × ServerNego (suc n) (record mid { output = [] }))
+  server_token n y mid d out less at is tells still calm makes =
       comes_map out _ _
       (λ r h. (
         h.0 ∙ ap (λ (q : TsRequest). record q { version = b.version; nego_tokens = Some (it.server_step n).output }) is,
@@ -338,8 +340,8 @@ module _ {C D P : Type 0} (c : Meaning ContextSetting C) (laws : IsContext c) (k
         },
       ))
       (server.token_turn c laws p b y a.version d (it.server_step n) (it.server_context (suc n)) it.server_handle
-      (server_given n y d at (ap (λ (r : TsRequest). r.version) is) (takes_at n y d (omega (arith, less)) at (ap (λ (r : TsRequest). r.nego_tokens) is)))
-      out mid (it.server_goes n less) makes)
+      (server_given n y d at (ap (λ (r : TsRequest). r.version) is) (takes_at n y d (omega (arith, less)) at tells (ap (λ (r : TsRequest). r.nego_tokens) is)))
+      out mid (it.server_goes n less) still calm makes)
 
   proof_given : (d : TsRequest) → d ≡ carried proof_of → proofs.ProofGiven c laws p b a.version d it.peer_context it.downs it.ups
   proof_given d is =
@@ -397,14 +399,14 @@ module _ {C D P : Type 0} (c : Meaning ContextSetting C) (laws : IsContext c) (k
         },
       ))
       (proofs.over_turn c laws p b y a.version d (it.server_step n) (it.server_context (suc n)) it.peer_context it.server_handle
-      (server_given n y d at (ap (λ (r : TsRequest). r.version) is) (takes_at n y d (omega (arith, m)) at (ap (λ (r : TsRequest). r.nego_tokens) is)))
+      (server_given n y d at (ap (λ (r : TsRequest). r.version) is) (takes_at n y d (omega (arith, m)) at tells (ap (λ (r : TsRequest). r.nego_tokens) is)))
       (peer_at y n m tells) (over_at n m)
       (ap (λ (r : TsRequest). r.pub_key_auth) is ∙ (taken_only c laws k p a b kdc_first j early it text identity alike n).proof)
       (subst (λ (x : ℕ). (it.server_step x).output ≢ []) (sym is_last) (it.server_speaks when)) out mid still calm makes)
   last_token false when n y mid d out is_last at is tells still calm makes =
       let m : last_step early j ≡ suc j = ap (λ (x : Bool). last_step x j) when in
       comes_map out _ _ (λ r h. (h.0, subst (λ (x : ℕ). ServerNego (suc x) (record mid { output = [] })) is_last h.1))
-      (server_token n y mid d out (omega (arith, m, is_last)) at is makes)
+      (server_token n y mid d out (omega (arith, m, is_last)) at is tells still calm makes)
 
   answers_proof : (early2 : Bool) → early ≡ early2 → (y mid : SView) (d : TsRequest) (out : Outcome) → BeforeProof early2 y → d ≡ carried proof_of →
       p.told y.proxy ≡ p.told b.proxy → p.faults mid.proxy ≡ p.faults y.proxy → p.faults y.proxy < 2 ^ 64 - 1 → ServerMakes c p y d out mid →
@@ -412,7 +414,7 @@ module _ {C D P : Type 0} (c : Meaning ContextSetting C) (laws : IsContext c) (k
   answers_proof true when y mid d out at is tells still calm makes =
       comes_map out _ _ (λ r h. answer_more mid d r is h)
       (proofs.proof_turn c laws p b y a.version d it.peer_context it.downs it.ups (proof_given d is) at.is at.holds (ap (λ (r : TsRequest). r.version) is)
-      it.server_begins out mid makes)
+      out mid makes)
   answers_proof false when y mid d out at is tells still calm makes =
       let m : last_step early j ≡ suc j = ap (λ (x : Bool). last_step x j) when in
       let token : d.nego_tokens ≡ unless_empty (it.client_step (suc j)).output = ap (λ (r : TsRequest). r.nego_tokens) is in
@@ -428,7 +430,7 @@ module _ {C D P : Type 0} (c : Meaning ContextSetting C) (laws : IsContext c) (k
       Comes out (λ r. (r ≡ down i) × ServerAt (next i) (record mid { output = [] }))
   server_goes (Token n zero e) y mid d out goes at is tells still calm makes = last_token early refl n y mid d out (is_j n e) at is tells still calm makes
   server_goes (Token n (suc rest) e) y mid d out goes at is tells still calm makes =
-      server_token n y mid d out (less_last early n (omega (arith, e))) at is makes
+      server_token n y mid d out (less_last early n (omega (arith, e))) at is tells still calm makes
   server_goes Proof y mid d out goes at is tells still calm makes = answers_proof early refl y mid d out at is tells still calm makes
   server_goes Last y mid d out goes at is tells still calm makes = absurd cc
 
@@ -444,7 +446,6 @@ module _ {C D P : Type 0} (c : Meaning ContextSetting C) (laws : IsContext c) (k
         version = ap (λ (r : TsRequest). r.version) is;
         field = ap (λ (r : TsRequest). r.auth_info) is;
         delegates = alike.delegates;
-        begins = it.server_begins;
       }) out mid makes
 
   none_before : 0 + j ≡ j

@@ -1,5 +1,5 @@
 -- What a mode supplies of its authentication, and the messages of an undisturbed exchange, which follow of it.
-use Rattle.std.proofs.Common.{◌≡◌, ◌≢◌, ℕ, zero, suc, ◌+◌, ◌≤◌, ◌<◌, ◌^◌, Bool, true, false, List, [], ◌∷◌, length, Option, None, Some, Ok, refl, ap, arith, nat_lt, if◌then◌else◌}
+use Rattle.std.proofs.Common.{◌≡◌, ◌≢◌, ℕ, zero, suc, ◌+◌, ◌≤◌, ◌<◌, ◌-◌, ◌^◌, Bool, true, false, List, [], ◌∷◌, length, Option, None, Some, Ok, refl, ap, arith, nat_lt, if◌then◌else◌}
 use Rattle.sspi_types.specs.declared.credential_use.CredentialUse.TheVariants.{Outbound}
 use Rattle.sspi_types.specs.declared.error_kind.ErrorKind.{ErrorKind}
 use Rattle.sspi_types.specs.declared.security_status.SecurityStatus.TheVariants as statuses
@@ -68,14 +68,15 @@ module _ {C D P : Type 0} (c : Meaning ContextSetting C) (laws : IsContext c) (k
     pub ups : ℕ → List ℕ → List ℕ
     pub downs : ℕ → List ℕ → List ℕ
     pub client_begins : (kind : ErrorKind) → BeginCause c (ForClient a.mode) Outbound (Some a.credentials) kind → ⊥
-    pub server_begins : (before now : P) (kind : ErrorKind) → MakeCause c p b.mode before now kind → ⊥
+    pub server_begins : (before now : P) (kind : ErrorKind) → p.faults now ≡ p.faults before → p.faults before < 2 ^ 64 - 1 →
+        MakeCause c p b.mode before now kind → ⊥
     pub kdc_start : KdcAt 0 kdc_first
     pub walks_first : (old : ClientView C) (kdc : D) → SameClient c a old → old.context ≡ None → KdcAt 0 kdc →
         Walks c laws k old kdc None (client_step 0) (client_context 1) client_handle (KdcAt 1)
     pub walks : (n : ℕ) (old : ClientView C) (kdc : D) → n ≤ j → SameClient c a old → old.context ≡ Some (client_context (suc n)) → old.handle ≡ client_handle →
         KdcAt (suc n) kdc →
         Walks c laws k old kdc (Some (server_step n).output) (client_step (suc n)) (client_context (suc (suc n))) client_handle (KdcAt (suc (suc n)))
-    pub takes_first : (old : ServerView C P) → SameServer c b old → old.context ≡ None →
+    pub takes_first : (old : ServerView C P) → SameServer c b old → p.told old.proxy ≡ p.told b.proxy → old.context ≡ None →
         Takes c laws p old (Some (client_step 0).output) (server_step 0) (server_context 1) server_handle
     pub takes : (n : ℕ) (old : ServerView C P) → suc n ≤ last_step early j → SameServer c b old → old.context ≡ Some (server_context (suc n)) →
         old.handle ≡ server_handle →

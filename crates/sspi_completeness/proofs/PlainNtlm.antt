@@ -302,8 +302,8 @@ module _ {K D P : Type 0} (k : Meaning Setting K) (laws : IsContext (either 0 nt
     server_never mode before now kind is (unbegun h) = never_acquires server_config _ kind
         (subst (λ (x : ServerMode). BeginCause c (ForServer x (p.told before).entries) Inbound None kind) is h)
 
-    takes_first : (old : ServerView C P) → SameServer c b old → old.context ≡ None → Takes c laws p old (Some negotiate_message) (server_steps 0) (server_context 1) None
-    takes_first old same none =
+    takes_first : (old : ServerView C P) → SameServer c b old → p.told old.proxy ≡ p.told b.proxy → old.context ≡ None → Takes c laws p old (Some negotiate_message) (server_steps 0) (server_context 1) None
+    takes_first old same tells none =
         takes_by old (Some negotiate_message) (λ h m. (m ≡ server_new) × (h ≡ None)) server_sent (server_steps 0) None
         (λ h m0 start. server_first k server_config _ old.context old.handle h m0 none
         (subst (λ (mode : ServerMode). Begun c old.context old.handle (ForServer mode (p.told old.proxy).entries) Inbound None h m0)
@@ -411,7 +411,7 @@ module _ {K D P : Type 0} (k : Meaning Setting K) (laws : IsContext (either 0 nt
       downs = blob_of key FromServer;
       client_begins = λ kind cause. never_begins client_config a.credentials kind matching.credentials_are
           (subst (λ (mode : ClientMode). BeginCause c (ForClient mode) Outbound (Some a.credentials) kind) client_is cause);
-      server_begins = λ before now kind. server_never b.mode before now kind server_is;
+      server_begins = λ before now kind still calm. server_never b.mode before now kind server_is;
       kdc_start = tt;
       walks_first = walks_first;
       walks = walks;

@@ -36,7 +36,6 @@ module _ {C P : Type 0} (c : Meaning ContextSetting C) (laws : IsContext c) (p :
     pub version : d.version ≡ w
     pub field : d.auth_info ≡ Some (peers 1 text)
     pub delegates : delegated_identity text ≡ Ok identity
-    pub begins : (before now : P) (kind : ErrorKind) → MakeCause c p b.mode before now kind → ⊥
 
   bare_at : (state : CredSspState) (Q : Type 0) → state ≡ AuthInfo → OnceNegotiated state Q → Q
   bare_at state Q auth h = subst (λ (s : CredSspState). OnceNegotiated s Q) auth h
@@ -77,7 +76,7 @@ module _ {C P : Type 0} (c : Meaning ContextSetting C) (laws : IsContext c) (p :
         let error = makes.0 in
         let turn = makes.2 in
         let others2 : error.error_type ≢ InsufficientMemory = λ memory. others (sym makes.1 ∙ memory) in
-        let cause = cause_past c laws p b old mid w d AuthInfo 1 1 error.error_type given.is given.version given.begins (makes.3.cause others2) in
+        let cause = cause_past c laws p b old mid w d AuthInfo 1 1 error.error_type given.is given.version (λ none. absurd (cc (none, given.holds.there))) (makes.3.cause others2) in
         let at_blob = subst (λ (f : Option (List ℕ)). BlobStops f error.error_type (λ blob. OpenedCause c mid.acts.opened mid.context blob error.error_type)) given.field cause in
         let later = stops_later _ InvalidToken error.error_type _ (given.taker.long 1 text) at_blob in
         let h = held_now mid turn.moves.bare in

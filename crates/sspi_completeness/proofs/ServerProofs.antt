@@ -107,8 +107,7 @@ module _ {C P : Type 0} (c : Meaning ContextSetting C) (laws : IsContext c) (p :
 
     -- ---- the proof alone
 
-    module _ (is : ServerIs c b old w PubKeyInfo 0 0) (holds : Holds c old.context z) (version : d.version ≡ w)
-        (begins : (before now : P) (kind : ErrorKind) → MakeCause c p b.mode before now kind → ⊥) where
+    module _ (is : ServerIs c b old w PubKeyInfo 0 0) (holds : Holds c old.context z) (version : d.version ≡ w) where
       unstarted : StartsUnused c old
       unstarted = λ nego. let at = is.state_is in absurd cc
 
@@ -154,7 +153,7 @@ module _ {C P : Type 0} (c : Meaning ContextSetting C) (laws : IsContext c) (p :
       proof_refused mid kind reply makes others =
           let turn = makes.2 in
           let others2 : makes.0.error_type ≢ InsufficientMemory = λ memory. others (sym makes.1 ∙ memory) in
-          let cause = cause_past c laws p b old mid w d PubKeyInfo 0 0 makes.0.error_type is version begins (makes.3.cause others2) in
+          let cause = cause_past c laws p b old mid w d PubKeyInfo 0 0 makes.0.error_type is version (λ none. absurd (cc (none, holds.there))) (makes.3.cause others2) in
           let h = held_now mid turn.moves.bare in
           let sealed = turn.moves.sealed unstarted in
           let opened = turn.moves.unsealed unstarted in
@@ -237,7 +236,7 @@ module _ {C P : Type 0} (c : Meaning ContextSetting C) (laws : IsContext c) (p :
       exchange_refused : (mid : View) (kind : ErrorKind) (reply : Option TsRequest) → p.faults mid.proxy ≡ p.faults old.proxy → p.faults old.proxy < 2 ^ 64 - 1 →
           ServerMakes c p old d (outcome.Refused kind reply) mid → kind ≢ InsufficientMemory → ⊥
       exchange_refused mid kind reply still calm makes others =
-          let x = refusal c laws p b old w d step y handle given mid kind reply makes others in
+          let x = refusal c laws p b old w d step y handle given mid kind reply still calm makes others in
           let after = over_after mid kind still calm (over_cause c laws p step.status old d mid kind over x.cause) in
           let start = unused c laws p b old w d step y handle given in
           let quiet = nego_acts c laws p (server_frame c old mid) (server_turn c d (outcome.Refused kind reply) mid) x.turn.turn.shown.acts given.is.state_is in
@@ -296,7 +295,7 @@ module _ {C P : Type 0} (c : Meaning ContextSetting C) (laws : IsContext c) (p :
       over_refused : (mid : View) (kind : ErrorKind) (reply : Option TsRequest) → p.faults mid.proxy ≡ p.faults old.proxy → p.faults old.proxy < 2 ^ 64 - 1 →
           ServerMakes c p old d (outcome.Refused kind reply) mid → kind ≢ InsufficientMemory → ⊥
       over_refused mid kind reply still calm makes others =
-          let x = refusal c laws p b old w d step y handle given mid kind reply makes others in
+          let x = refusal c laws p b old w d step y handle given mid kind reply still calm makes others in
           let after = over_after mid kind still calm (over_cause c laws p step.status old d mid kind over x.cause) in
           let empty : (mid.output ≡ []) × (kind ≡ InvalidToken) = subst (λ (f : Option (List ℕ)). AfterCause c f d.client_nonce mid kind) absent after.2 in
           speaks (sym after.1 ∙ empty.0)

@@ -1,6 +1,6 @@
 -- The turns of a server's authentication in an undisturbed exchange that send a token: each but the last asks for more, and
 -- the last one asks for the client's proof where that did not come yet.
-use Rattle.std.proofs.Common.{◌≡◌, ◌≢◌, ℕ, List, true, false, Option, None, Some, IsSome, refl, ap, sym, ◌∙◌, subst}
+use Rattle.std.proofs.Common.{◌≡◌, ◌<◌, ◌-◌, ◌^◌, ◌≢◌, ℕ, List, true, false, Option, None, Some, IsSome, refl, ap, sym, ◌∙◌, subst}
 use Rattle.sspi_types.specs.declared.error_kind.ErrorKind.{ErrorKind}
 use Rattle.sspi_types.specs.declared.error_kind.ErrorKind.TheVariants.{MessageAltered, DowngradeDetected, InsufficientMemory}
 use Rattle.sspi_types.specs.declared.security_status.SecurityStatus.{SecurityStatus}
@@ -49,11 +49,11 @@ module _ {C P : Type 0} (c : Meaning ContextSetting C) (laws : IsContext c) (p :
 
   -- a refusal is past what a turn looks at first
   pub cause_past : (b old mid : View) (w : ℕ) (d : TsRequest) (state : CredSspState) (sealed unsealed : ℕ) (kind : ErrorKind) →
-      ServerIs c b old w state sealed unsealed → d.version ≡ w → ((before now : P) (kind : ErrorKind) → MakeCause c p b.mode before now kind → ⊥) →
+      ServerIs c b old w state sealed unsealed → d.version ≡ w → (old.context ≡ None → MakeCause c p b.mode old.proxy mid.proxy kind → ⊥) →
       ServerCause c p old d mid kind → StateCause c p state old d mid kind
   cause_past b old mid w d state sealed unsealed kind is version begins cause =
-      let never : MakeCause c p old.mode old.proxy mid.proxy kind → ⊥ =
-      λ h. begins old.proxy mid.proxy kind (subst (λ x. MakeCause c p x old.proxy mid.proxy kind) is.same.mode h) in
+      let never : old.context ≡ None → MakeCause c p old.mode old.proxy mid.proxy kind → ⊥ =
+      λ none h. begins none (subst (λ x. MakeCause c p x old.proxy mid.proxy kind) is.same.mode h) in
       subst (λ (s : CredSspState). StateCause c p s old d mid kind) is.state_is
       (stops_later _ MessageAltered kind _ (rw version is.fits)
       (stops_later _ DowngradeDetected kind _ (rw version is.young) (made_past old.context mid.context _ _ never cause)))
@@ -97,7 +97,7 @@ module _ {C P : Type 0} (c : Meaning ContextSetting C) (laws : IsContext c) (p :
     pub is : ServerIs c b old w NegoToken 0 0
     pub takes : Takes c laws p old d.nego_tokens step y handle
     pub version : d.version ≡ w
-    pub begins : (before now : P) (kind : ErrorKind) → MakeCause c p b.mode before now kind → ⊥
+    pub begins : (before now : P) (kind : ErrorKind) → p.faults now ≡ p.faults before → p.faults before < 2 ^ 64 - 1 → MakeCause c p b.mode before now kind → ⊥
 
   module _ (b old : View) (w : ℕ) (d : TsRequest) (step : Step) (y : C) (handle : Option CredentialsBuffers) (given : NegoGiven b old w d step y handle) where
     abbrev pub Leaves : View → Knowing → Type 0
@@ -148,13 +148,14 @@ module _ {C P : Type 0} (c : Meaning ContextSetting C) (laws : IsContext c) (p :
       pub turn : ServerTurn c old d (outcome.Refused kind reply) mid
       pub cause : NegoCause c p (Some step.status) old d mid kind
 
-    pub refusal : (mid : View) (kind : ErrorKind) (reply : Option TsRequest) → ServerMakes c p old d (outcome.Refused kind reply) mid → kind ≢ InsufficientMemory →
-        Refusal mid kind reply
-    refusal mid kind reply makes others =
+    pub refusal : (mid : View) (kind : ErrorKind) (reply : Option TsRequest) → p.faults mid.proxy ≡ p.faults old.proxy → p.faults old.proxy < 2 ^ 64 - 1 →
+        ServerMakes c p old d (outcome.Refused kind reply) mid → kind ≢ InsufficientMemory → Refusal mid kind reply
+    refusal mid kind reply still calm makes others =
         let error = makes.0 in
         let turn = makes.2 in
         let others2 : error.error_type ≢ InsufficientMemory = λ memory. others (sym makes.1 ∙ memory) in
-        let cause = cause_past b old mid w d NegoToken 0 0 error.error_type given.is given.version given.begins (makes.3.cause others2) in
+        let cause = cause_past b old mid w d NegoToken 0 0 error.error_type given.is given.version
+        (λ none h. given.begins old.proxy mid.proxy error.error_type still calm h) (makes.3.cause others2) in
         let was = began mid.acts.status mid error.error_type refl turn.turn.shown.acts.answered cause in
         let status = refused_at c laws p old d.nego_tokens step y handle given.takes mid mid.acts.status mid.acts.negotiated error was others2 makes.3.step in
         record {
@@ -197,10 +198,11 @@ module _ {C P : Type 0} (c : Meaning ContextSetting C) (laws : IsContext c) (p :
           left.handle_is,
         )
 
-    pub token_turn : (out : Outcome) (mid : View) → step.status ≡ statuses.ContinueNeeded → ServerMakes c p old d out mid →
+    pub token_turn : (out : Outcome) (mid : View) → step.status ≡ statuses.ContinueNeeded → p.faults mid.proxy ≡ p.faults old.proxy →
+        p.faults old.proxy < 2 ^ 64 - 1 → ServerMakes c p old d out mid →
         Comes out (λ r. (r ≡ record d { version = b.version; nego_tokens = Some step.output }) × ServerIs c b mid w NegoToken 0 0 × Holds c mid.context y × (mid.handle ≡ handle))
-    token_turn (outcome.Reply r) mid goes makes = token_replied mid r goes makes
-    token_turn (outcome.Final r) mid goes makes = absurd makes
-    token_turn outcome.Finished mid goes makes = never_finishes mid makes
-    token_turn (outcome.Refused kind reply) mid goes makes =
-        λ others. subst (λ (x : SecurityStatus). NegoCause c p (Some x) old d mid kind) goes (refusal mid kind reply makes others).cause
+    token_turn (outcome.Reply r) mid goes still calm makes = token_replied mid r goes makes
+    token_turn (outcome.Final r) mid goes still calm makes = absurd makes
+    token_turn outcome.Finished mid goes still calm makes = never_finishes mid makes
+    token_turn (outcome.Refused kind reply) mid goes still calm makes =
+        λ others. subst (λ (x : SecurityStatus). NegoCause c p (Some x) old d mid kind) goes (refusal mid kind reply still calm makes others).cause
