@@ -115,14 +115,14 @@ module _ {K : Type 0} (k : Meaning Setting K) where
 
   module _ (x : NtlmState) (key : List ℕ) (own peers : Direction) (keyed : x.protection.key ≡ Some key) (own_is : own_direction x.stage ≡ own)
       (peers_are : peer_direction x.stage ≡ peers) where
-    key_of_rest : (y : NtlmState) → at_rest y ≡ x → (y.protection.key ≡ Some key) × (own_direction y.stage ≡ own) × (peer_direction y.stage ≡ peers)
+    pub key_of_rest : (y : NtlmState) → at_rest y ≡ x → (y.protection.key ≡ Some key) × (own_direction y.stage ≡ own) × (peer_direction y.stage ≡ peers)
     key_of_rest y same = (
       ap (λ (z : NtlmState). z.protection.key) same ∙ keyed,
       ap (λ (z : NtlmState). own_direction z.stage) same ∙ own_is,
       ap (λ (z : NtlmState). peer_direction z.stage) same ∙ peers_are,
     )
 
-    made : (y : NtlmState) (n : ℕ) (text sealed : List ℕ) → at_rest y ≡ x → ntlm_meaning.seals y n text sealed → sealed ≡ blob_of key own n text
+    pub made : (y : NtlmState) (n : ℕ) (text sealed : List ℕ) → at_rest y ≡ x → ntlm_meaning.seals y n text sealed → sealed ≡ blob_of key own n text
     made y n text sealed same seals =
         let rest = key_of_rest y same in
         subst (λ (d : Direction). SealsBy (Some key) d n text sealed) rest.1 (subst (λ (e : Option (List ℕ)). SealsBy e (own_direction y.stage) n text sealed) rest.0 seals)

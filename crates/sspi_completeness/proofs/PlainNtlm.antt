@@ -56,68 +56,11 @@ use Rattle.sspi_completeness.proofs.Blobs.{blob_of, blob_length}
 use Rattle.sspi_completeness.proofs.ClientTurns.{Walks}
 use Rattle.sspi_completeness.proofs.Negotiation.{IsNegotiation, AreAlike}
 use Rattle.sspi_completeness.proofs.NtlmEnds.{at_rest, as_ntlm, IfNtlm, client_first, server_first, goes_on_as, stepped_once, maker, taker}
-use Rattle.sspi_completeness.proofs.NtlmRound.{last_token, logs_on, claimed, first_found, key_is, proof_length, token_length}
+use Rattle.sspi_completeness.proofs.NtlmOutcomes.{claim_by, key_for, keyed_by, logged_on, client_outcome, server_outcome, acquires_buffers}
+use Rattle.sspi_completeness.proofs.NtlmOutcomes as outcomes
+use Rattle.sspi_completeness.proofs.NtlmRound.{last_token, token_length}
 use Rattle.sspi_completeness.proofs.Shortness.{short_name}
 use Rattle.sspi_completeness.proofs.Texts.{HasDelegated, delegates}
-
--- ---- what the steps come to
-
-abbrev pub claim_by : AuthIdentity → List ℕ → Claim
-claim_by i challenge = record { name = i.username; text = inner_of i.username; proof = proof_of challenge (inner_of i.username) i.password.value }
-
-abbrev pub key_for : AuthIdentity → List ℕ → List ℕ
-key_for i challenge = key_of challenge (inner_of i.username) i.password.value
-
-abbrev keyed_by : List ℕ → NtlmState → NtlmState
-keyed_by key m = record m { protection = record m.protection { key = Some key } }
-
-abbrev logged_on : AuthIdentity → List ℕ → NtlmState → NtlmState
-logged_on i challenge m = record m {
-  stage = AuthenticateSent i.username;
-  protection = record m.protection { key = Some (key_for i challenge) };
-}
-
-client_outcome : (m : NtlmState) (stage : Stage) (handle : Option CredentialsBuffers) (input challenge : List ℕ) (i : AuthIdentity) → IsIdentity i →
-    length (inner_of i.username) ≤ 65535 → length challenge ≡ 8 → stage ≡ NegotiateSent → input ≡ challenge_message challenge →
-    handle ≡ Some (buffers.AuthIdentity (buffers_of i)) →
-    client_step stage m handle input ≡ Goes (logged_on i challenge m) (record { status = statuses.Ok; output = last_token i challenge })
-client_outcome m stage handle input challenge i is short eight sent given had =
-    rw (sent, given, had, challenge_is_read challenge eight, logs_on i is short) refl
-
-server_outcome : (m : NtlmState) (stage : Stage) (input challenge : List ℕ) (i : AuthIdentity) → IsIdentity i → length (inner_of i.username) < 2 ^ 16 →
-    stage ≡ ChallengeSent → input ≡ last_token i challenge →
-    server_step stage m input ≡ Goes (record m { stage = Claimed (claim_by i challenge) }) (record { status = statuses.CompleteNeeded; output = [] })
-server_outcome m stage input challenge i is short sent given =
-    rw (sent, given, claimed i.username (proof_of challenge (inner_of i.username) i.password.value) is.name short (proof_length challenge (inner_of i.username) i.password.value)) refl
-
-some_candidates : (entries : List AuthIdentity) (i : AuthIdentity) (has : HasEntry entries i) → (rest : List AuthIdentity) × (candidates_of entries i.username ≡ has.entry ∷ rest)
-unfolding entry_of candidates_of
-some_candidates entries i has = first_found (is_named i.username) entries has.entry has.found
-
--- an object with the client's claim takes its key
-keyed : (m : NtlmState) (identities entries : List AuthIdentity) (i : AuthIdentity) (challenge : List ℕ) → HasEntry entries i →
-    m.stage ≡ Claimed (claim_by i challenge) → m.challenge ≡ challenge → identities ≡ candidates_of entries i.username →
-    identified m (filter has_password (map credentials.AuthIdentity identities)) ≡ Ok (keyed_by (key_for i challenge) m)
-keyed m identities entries i challenge has stage_is challenge_is candidates =
-    let some = some_candidates entries i has in
-    let list : identities ≡ has.entry ∷ some.0 = candidates ∙ some.1 in
-    let key = key_is challenge (claim_by i challenge) i.password.value has.entry some.0 refl has.password in
-    let at : key_at m.stage m.challenge (filter has_password (map credentials.AuthIdentity identities)) ≡ Ok (key_for i challenge) =
-    (rw (stage_is, challenge_is, list) refl) ∙ key in
-    ap (with_key m) at
-
-acquires_buffers : (cr : Credentials) (i : AuthIdentity) (handle : Option CredentialsBuffers) → cr ≡ credentials.AuthIdentity i → acquired Outbound (Some cr) ≡ Ok handle →
-    handle ≡ Some (buffers.AuthIdentity (buffers_of i))
-acquires_buffers cr i handle is h =
-    let e : acquired Outbound (Some (credentials.AuthIdentity i)) ≡ Ok handle = subst (λ (x : Credentials). acquired Outbound (Some x) ≡ Ok handle) is h in cc
-
-plain_client : (mode : ClientMode) → IsPlainClient mode → (config : NtlmConfig) × (mode ≡ client_mode.Ntlm config)
-plain_client (client_mode.Ntlm config) plain = (config, refl)
-plain_client (client_mode.Negotiate config) plain = absurd plain
-
-plain_server : (mode : ServerMode) → IsPlainServer mode → (config : NtlmConfig) × (mode ≡ server_mode.Ntlm config)
-plain_server (server_mode.Ntlm config) plain = (config, refl)
-plain_server (server_mode.Negotiate config) plain = absurd plain
 
 module _ {K D P : Type 0} (k : Meaning Setting K) (laws : IsContext (either 0 ntlm_meaning k)) (calls : KdcCalls D) (p : ProxyMeaning P) where
   abbrev C : Type 0
@@ -187,24 +130,11 @@ module _ {K D P : Type 0} (k : Meaning Setting K) (laws : IsContext (either 0 nt
     never = λ h m0 m error others start accepts. took_never (begun h) h token y step error m0 m (begins h m0 start) (outcome h) others accepts;
   }
 
-  module _ (a : ClientView C) (b : ServerView C P) (kdc_first : D) (matching : AreMatching p a b) where
+  module _ (a : ClientView C) (b : ServerView C P) (kdc_first : D) (matching : AreMatching p a b) (client_config server_config : NtlmConfig)
+      (client_is : a.mode ≡ client_mode.Ntlm client_config) (server_is : b.mode ≡ server_mode.Ntlm server_config)
+      (challenge_length : length server_config.challenge ≡ 8) where
     abbrev i : AuthIdentity
     i = matching.identity
-
-    abbrev client_config : NtlmConfig
-    client_config = (plain_client a.mode matching.client_plain).0
-
-    client_is : a.mode ≡ client_mode.Ntlm client_config
-    client_is = (plain_client a.mode matching.client_plain).1
-
-    abbrev server_config : NtlmConfig
-    server_config = (plain_server b.mode matching.server_plain).0
-
-    server_is : b.mode ≡ server_mode.Ntlm server_config
-    server_is = (plain_server b.mode matching.server_plain).1
-
-    challenge_length : length server_config.challenge ≡ 8
-    challenge_length = subst HasChallenge server_is matching.challenge
 
     abbrev challenge : List ℕ
     challenge = server_config.challenge
@@ -323,34 +253,33 @@ module _ {K D P : Type 0} (k : Meaning Setting K) (laws : IsContext (either 0 nt
 
     -- ---- the peer
 
+    claim_of : (y : NtlmState) → at_rest y ≡ server_claimed → y.stage ≡ Claimed (claim_by i challenge)
+    claim_of y rest = ap (λ (x : NtlmState). x.stage) rest
+
+    sent_of : (y : NtlmState) → at_rest y ≡ server_claimed → y.challenge ≡ challenge
+    sent_of y rest = ap (λ (x : NtlmState). x.challenge) rest
+
     name_is : (y : NtlmState) (name : Name) → at_rest y ≡ server_claimed → name_at y.stage ≡ Some name → name ≡ i.username
-    name_is y name rest named = let e : Some i.username ≡ Some name = ap (λ (x : NtlmState). name_at x.stage) (sym rest) ∙ named in cc
+    name_is y name rest named =
+        outcomes.name_is (p.told b.proxy) matching.entries i challenge matching.tells matching.entry y (claim_of y rest) (sent_of y rest) name named
 
-    found : (name : Name) (identities : List AuthIdentity) → name ≡ i.username → AreFound (p.told b.proxy) name identities → identities ≡ candidates_of matching.entries i.username
-    found name identities same candidates =
-        let here : identities ≡ candidates_of matching.entries name = subst (λ (x : Option (List AuthIdentity)). AreCandidates x name identities) matching.tells candidates.candidates in
-        here ∙ ap (candidates_of matching.entries) same
-
-    takes_key : (y : NtlmState) (identities : List AuthIdentity) → at_rest y ≡ server_claimed → identities ≡ candidates_of matching.entries i.username →
+    takes_key : (y : NtlmState) (name : Name) (identities : List AuthIdentity) → at_rest y ≡ server_claimed → name_at y.stage ≡ Some name →
+        AreFound (p.told b.proxy) name identities →
         identified y (filter has_password (map credentials.AuthIdentity identities)) ≡ Ok (keyed_by key y)
-    takes_key y identities rest list =
-        keyed y identities matching.entries i challenge matching.entry (ap (λ (x : NtlmState). x.stage) rest) (ap (λ (x : NtlmState). x.challenge) rest) list
+    takes_key y name identities rest named candidates =
+        let tells = p.told b.proxy in
+        outcomes.takes_key tells matching.entries i challenge matching.tells matching.entry y (claim_of y rest) (sent_of y rest) identities
+        (outcomes.found tells matching.entries i challenge matching.tells matching.entry y (claim_of y rest) (sent_of y rest) name identities
+        (name_is y name rest named) candidates)
 
     named_as : (y : NtlmState) (m2 : C) → at_rest y ≡ server_claimed → IsIdentified c (p.told b.proxy) (Ntlm y) m2 → cleared c m2 ≡ Ntlm server_keyed
     named_as y (Ntlm z) rest (is_identified name identities named candidates some sets) =
-        let takes_it = takes_key y identities rest (found name identities (name_is y name rest named) candidates) in
+        let takes_it = takes_key y name identities rest named candidates in
         let both : Ok z ≡ Ok (keyed_by key y) = sym sets ∙ takes_it in
         let last : z ≡ keyed_by key y = cc in
         ap (λ (x : NtlmState). Ntlm (at_rest x)) last ∙ ap (λ (x : NtlmState). Ntlm (keyed_by key x)) rest
     named_as y (Kerberos z) rest (is_identified name identities named candidates some sets) = absurd sets
     named_as y (Negotiate z) rest (is_identified name identities named candidates some sets) = absurd sets
-
-    look_never : (before now : ℕ) (kind : ErrorKind) → now ≡ before → before < 2 ^ 64 - 1 → LookUpRefused (p.told b.proxy) i.username before now kind → ⊥
-    look_never before now kind still few (failed more is) = omega (arith, more, still, few)
-    look_never before now kind still few (nobody none is) =
-        let some = some_candidates matching.entries i matching.entry in
-        let empty : [] ≡ candidates_of matching.entries i.username = subst (λ (x : Option (List AuthIdentity)). AreCandidates x i.username []) matching.tells none.candidates in
-        let never : [] ≡ matching.entry.entry ∷ some.0 = empty ∙ some.1 in cc
 
     identify_never : (y : NtlmState) (before now : ℕ) (kind : ErrorKind) → at_rest y ≡ server_claimed → now ≡ before → before < 2 ^ 64 - 1 →
         IdentifyCause c (Ntlm y) (p.told b.proxy) before now kind → ⊥
@@ -358,9 +287,10 @@ module _ {K D P : Type 0} (k : Meaning Setting K) (laws : IsContext (either 0 nt
         let stage : y.stage ≡ Claimed (claim_by i challenge) = ap (λ (x : NtlmState). x.stage) rest in
         let never : None ≡ Some kind = rw stage at refuses in cc
     identify_never y before now kind rest still few (looked name named refused) =
-        look_never before now kind still few (subst (λ (n : Name). LookUpRefused (p.told b.proxy) n before now kind) (name_is y name rest named) refused)
+        outcomes.look_never (p.told b.proxy) matching.entries i challenge matching.tells matching.entry y (claim_of y rest) (sent_of y rest) before now kind still few
+        (subst (λ (n : Name). LookUpRefused (p.told b.proxy) n before now kind) (name_is y name rest named) refused)
     identify_never y before now kind rest still few (unset name identities named candidates some refuses) =
-        let sets = takes_key y identities rest (found name identities (name_is y name rest named) candidates) in
+        let sets = takes_key y name identities rest named candidates in
         let never : None ≡ Some kind = rw sets at refuses in cc
 
     complete_never : (y : NtlmState) (kind : ErrorKind) → at_rest y ≡ server_keyed → c.refuses (Ntlm y) ToComplete kind → ⊥
@@ -431,22 +361,4 @@ module _ {K D P : Type 0} (k : Meaning Setting K) (laws : IsContext (either 0 nt
       server_short = server_short;
       ups_short = λ n text. let e = blob_length key FromClient n text in omega (arith, e);
       downs_short = λ n text. let e = blob_length key FromServer n text in omega (arith, e);
-    }
-
-    pub delegated : HasDelegated a.delegation i
-    delegated = delegates a.delegation i matching.identity_is matching.short
-
-    pub alike : AreAlike a b delegated.text (delegated_as a.delegation i)
-    alike = record {
-      key_same = matching.key_same;
-      key_short = matching.key_short;
-      versions = matching.versions;
-      client_takes = le-ltb b.version a.least matching.client_takes;
-      server_takes = le-ltb a.version b.least matching.server_takes;
-      client_version = matching.client_version;
-      server_version = matching.server_version;
-      nonce = matching.nonce;
-      text_is = ap (λ (cr : Credentials). delegated_text cr a.delegation) matching.credentials_are ∙ delegated.is;
-      text_short = delegated.short;
-      delegates = delegated.holds;
     }

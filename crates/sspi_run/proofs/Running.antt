@@ -7,7 +7,7 @@ use Rattle.sspi_delegate.specs.declared.answer.Delegation.{Delegation}
 use Rattle.sspi_delegate.specs.declared.answer.DelegateError.{DelegateError}
 use Rattle.sspi_names.specs.declared.identity.AuthIdentity.{AuthIdentity}
 use Rattle.sspi_delegate.specs.declared.answer.DelegateError.TheVariants as errors
-use Rattle.sspi_completeness.specs.Matching.{ComesToOk, IsCutShort}
+use Rattle.sspi_completeness.specs.Matching.{ComesToOkIn, IsCutShort}
 use Rattle.sspi_scenario.specs.declared.scenario.Scenario.{Scenario}
 use Rattle.sspi_scenario.specs.Reading.{IsReadWhole}
 use Rattle.sspi_scenario.specs.Scenario.{scenario_of}
@@ -16,7 +16,7 @@ use Rattle.sspi_run.specs.declared.said.Said.{Said}
 use Rattle.sspi_run.specs.declared.said.Said.TheVariants.{Exchanged, NoScenario, ReadFault, OtherWords, NoMemory}
 use Rattle.sspi_run.specs.Exchange.{answer_in}
 use Rattle.sspi_run.specs.Run.{Conducts, IsJudged, HasExchange, WroteLine, WroteOwed, IsUnlessWrite, IsUnlessFault, EndsPlainly, EndsText}
-use Rattle.sspi_run.specs.Outcome.{IsPlain}
+use Rattle.sspi_run.specs.Outcome.{messages_in, IsPlain}
 use Rattle.sspi_run.specs.Said.{words_text, read_text, report_of, answer_status, said_status, said_text, kept_in, Written}
 use Rattle.sspi_run.specs.Words.{AreDelegate}
 
@@ -24,16 +24,17 @@ status_small : (answer : Result Delegation DelegateError) → answer_status answ
 status_small (Ok delegation) = omega arith
 status_small (Err error) = omega arith
 
-ok_status : (identity : AuthIdentity) (answer : Result Delegation DelegateError) → answer ≢ Err errors.InsufficientMemory → ComesToOk identity answer →
+ok_status : (messages : ℕ) (identity : AuthIdentity) (answer : Result Delegation DelegateError) → answer ≢ Err errors.InsufficientMemory →
+    ComesToOkIn messages identity answer →
     answer_status answer ≡ 0
-ok_status identity (Ok delegation) memory comes = refl
-ok_status identity (Err (errors.Client error)) memory comes = absurd comes
-ok_status identity (Err (errors.Server error)) memory comes = absurd comes
-ok_status identity (Err (errors.Read to kind)) memory comes = absurd comes
-ok_status identity (Err (errors.Write from)) memory comes = absurd comes
-ok_status identity (Err errors.LinkFault) memory comes = absurd comes
-ok_status identity (Err errors.TurnsSpent) memory comes = absurd comes
-ok_status identity (Err errors.InsufficientMemory) memory comes = absurd (memory refl)
+ok_status messages identity (Ok delegation) memory comes = refl
+ok_status messages identity (Err (errors.Client error)) memory comes = absurd comes
+ok_status messages identity (Err (errors.Server error)) memory comes = absurd comes
+ok_status messages identity (Err (errors.Read to kind)) memory comes = absurd comes
+ok_status messages identity (Err (errors.Write from)) memory comes = absurd comes
+ok_status messages identity (Err errors.LinkFault) memory comes = absurd comes
+ok_status messages identity (Err errors.TurnsSpent) memory comes = absurd comes
+ok_status messages identity (Err errors.InsufficientMemory) memory comes = absurd (memory refl)
 
 short_status : (answer : Result Delegation DelegateError) → IsCutShort answer → answer_status answer ≡ 1
 short_status (Ok delegation) short = absurd short
@@ -201,10 +202,10 @@ module _ {A : Type 0} (words : List (String A)) (before now : ℕ) (w w2 : Optio
 
   -- an exchange of a plain scenario
   plain_exchange : (r : Record) (status : ℕ) → HasExchange r → Written (answer_status (answer_in r.outcome)) (report_of r) w w2 f f2 status → IsPlain r.scenario →
-      EndsPlainly r.scenario.turns status
+      EndsPlainly (messages_in r.scenario.mode) r.scenario.turns status
   plain_exchange r status has written plain =
       let own = unless_write w w2 f f2 (answer_status (answer_in r.outcome)) (report_of r) status written in (
-        (λ enough. inr (subst (λ (n : ℕ). IsUnlessWrite n status) (ok_status _ (answer_in r.outcome) has.memory (has.outcome.comes plain enough)) own)),
+        (λ enough. inr (subst (λ (n : ℕ). IsUnlessWrite n status) (ok_status _ _ (answer_in r.outcome) has.memory (has.outcome.comes plain enough)) own)),
         (λ few. inr (subst (λ (n : ℕ). IsUnlessWrite n status) (short_status (answer_in r.outcome) (has.outcome.short plain few)) own)),
       )
 
@@ -213,7 +214,7 @@ module _ {A : Type 0} (words : List (String A)) (before now : ℕ) (w w2 : Optio
   status_plain None said status c written delegates = tt
   status_plain (Some text) (Exchanged r) status c written delegates = λ scenario is plain.
       let same : r.scenario ≡ scenario = same_scenario text r.scenario scenario c.2 is in
-      subst (λ (s : Scenario). EndsPlainly s.turns status) same (plain_exchange r status c.1 written (subst IsPlain (sym same) plain))
+      subst (λ (s : Scenario). EndsPlainly (messages_in s.mode) s.turns status) same (plain_exchange r status c.1 written (subst IsPlain (sym same) plain))
   status_plain (Some text) (NoScenario n) status c written delegates = λ scenario is plain. absurd (both text scenario n is c.1)
   status_plain (Some text) ReadFault status c written delegates = λ scenario is plain.
       ((λ enough. unless_read w w2 f f2 0 read_text status written), (λ few. unless_read w w2 f f2 1 read_text status written))

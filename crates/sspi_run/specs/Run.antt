@@ -9,7 +9,7 @@ use Rattle.sspi_run.specs.declared.record.Record.{Record}
 use Rattle.sspi_run.specs.declared.said.Said.{Said}
 use Rattle.sspi_run.specs.declared.said.Said.TheVariants.{Exchanged, NoScenario, ReadFault, OtherWords, NoMemory}
 use Rattle.sspi_run.specs.Exchange.{IsExchange, answer_in}
-use Rattle.sspi_run.specs.Outcome.{IsPlain, IsOutcome}
+use Rattle.sspi_run.specs.Outcome.{messages_in, IsPlain, IsOutcome}
 use Rattle.sspi_run.specs.Said.{said_text, kept_in, line_text}
 use Rattle.sspi_run.specs.Words.{AreDelegate}
 
@@ -74,10 +74,11 @@ IsUnlessWrite own status = (status ≡ own) ⊎ ((status ≡ 4) ⊎ (status ≡ 
 abbrev pub IsUnlessFault : ℕ → ℕ → Type 0
 IsUnlessFault own status = (status ≡ 3) ⊎ IsUnlessWrite own status
 
--- three messages of the client are enough, and fewer are not
-abbrev pub EndsPlainly : ℕ → ℕ → Type 0
-EndsPlainly turns status = (3 ≤ turns → IsUnlessFault 0 status) × (turns < 3 → IsUnlessFault 1 status)
+-- so many messages of the client are enough, and fewer are not
+abbrev pub EndsPlainly : ℕ → ℕ → ℕ → Type 0
+EndsPlainly messages turns status = (messages ≤ turns → IsUnlessFault 0 status) × (turns < messages → IsUnlessFault 1 status)
 
 -- what the status is where the text is that of a plain scenario
 abbrev pub EndsText : List ℕ → ℕ → Type 0
-EndsText text status = (scenario : Scenario) → scenario_of text ≡ Ok scenario → IsPlain scenario → EndsPlainly scenario.turns status
+EndsText text status = (scenario : Scenario) → scenario_of text ≡ Ok scenario → IsPlain scenario →
+    EndsPlainly (messages_in scenario.mode) scenario.turns status
