@@ -67,7 +67,7 @@ modes_by s target Negotiate eight plain = record {
   challenge = eight;
 }
 
-plain_modes : (s : Scenario) (client : ClientView NtlmContext) (server : ServerView NtlmContext TableView) → IsClientOf s client → IsServerOf s server →
+pub plain_modes : (s : Scenario) (client : ClientView NtlmContext) (server : ServerView NtlmContext TableView) → IsClientOf s client → IsServerOf s server →
     HoldsValues s → ComeToNtlm s.mode s → MatchModes client.target (user_identity s) client.mode server.mode
 plain_modes s client server client_named server_named held plain =
     subst (λ (mode : ClientMode). MatchModes client.target (user_identity s) mode server.mode) (sym client_named.mode)
