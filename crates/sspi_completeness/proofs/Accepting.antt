@@ -1,5 +1,6 @@
 -- The step of a server's turn, and how far the server then knows its peer.
-use Rattle.std.proofs.Common.{◌≡◌, ◌-◌, ◌≢◌, ℕ, ◌<◌, ◌^◌, List, Bool, true, false, Option, None, Some, Result, Ok, Err, refl, ap, ◌∙◌, subst}
+use Rattle.std.proofs.Common.{◌≡◌, ◌-◌, ◌≢◌, ℕ, ◌<◌, ◌^◌, List, Bool, true, false, Option, None, Some, Result, Ok, Err, refl, ap, ◌∙◌}
+use Rattle.std.proofs.Common.{subst}
 use Rattle.sspi_types.specs.declared.credential_use.CredentialUse.TheVariants.{Inbound}
 use Rattle.sspi_types.specs.declared.error.Error.{Error}
 use Rattle.sspi_types.specs.declared.error_kind.ErrorKind.{ErrorKind}
@@ -17,7 +18,9 @@ use Rattle.sspi_credssp.specs.Counts.{cleared}
 use Rattle.sspi_credssp.specs.Proxy.{ProxyMeaning, ProxyTells}
 use Rattle.sspi_credssp.specs.Server.{ServerView}
 use Rattle.sspi_credssp.specs.ServerCause.{IdentifyCause}
-use Rattle.sspi_credssp.specs.ServerStep.{Knowing, Unknown, Identified, Completed, IsIdentified, Accepted, accepted, identified, completed, recounted, AcceptedSoFar, so_far, RefusedAt, OnStep, refused_step, server_args, server_setting}
+use Rattle.sspi_credssp.specs.ServerStep.{Knowing, Unknown, Identified, Completed, IsIdentified, Accepted, accepted, identified}
+use Rattle.sspi_credssp.specs.ServerStep.{completed, recounted, AcceptedSoFar, so_far, RefusedAt, OnStep, refused_step, server_args}
+use Rattle.sspi_credssp.specs.ServerStep.{server_setting}
 use Rattle.sspi_credssp.proofs.Deliver.{bare_after}
 use Rattle.sspi_completeness.proofs.Ends.{in_context}
 
@@ -45,7 +48,8 @@ module _ {C : Type 0} (c : Meaning ContextSetting C) (laws : IsContext c) where
   pub named_is : (tells : ProxyTells) (y z m : C) → IsPeer tells y z → IsNamed tells y m → cleared c m ≡ z
   named_is tells y z m peer named = named.cleared_is ∙ peer.identified named.before named.after named.same named.identifies
 
-  recounted_on : (known : Knowing) (tells : ProxyTells) (y m m2 : C) → cleared c m2 ≡ cleared c m → ComesOf known tells y m → ComesOf known tells y m2
+  recounted_on : (known : Knowing) (tells : ProxyTells) (y m m2 : C) → cleared c m2 ≡ cleared c m → ComesOf known tells y m →
+      ComesOf known tells y m2
   recounted_on Unknown tells y m m2 same h = same ∙ h
   recounted_on Identified tells y m m2 same h =
       record { before = h.before; after = h.after; same = h.same; identifies = h.identifies; cleared_is = same ∙ h.cleared_is }
@@ -54,13 +58,16 @@ module _ {C : Type 0} (c : Meaning ContextSetting C) (laws : IsContext c) where
 
   module _ {P : Type 0} (p : ProxyMeaning P) where
     -- all that a mode says of the step of a turn: its answer, and the context and the credentials after it
-    pub record Takes (old : ServerView C P) (token : Option (List ℕ)) (step : Step) (y : C) (handle : Option CredentialsBuffers) : Type 0 where
-      pub done : (h : Option CredentialsBuffers) (m0 m : C) (s : Step) → Begun c old.context old.handle (server_setting p old) Inbound None h m0 →
+    pub record Takes (old : ServerView C P) (token : Option (List ℕ)) (step : Step) (y : C)
+        (handle : Option CredentialsBuffers) : Type 0 where
+      pub done : (h : Option CredentialsBuffers) (m0 m : C) (s : Step) →
+          Begun c old.context old.handle (server_setting p old) Inbound None h m0 →
           c.accepts m0 (server_args h token) (Ok s) m → (s ≡ step) × (cleared c m ≡ y) × (h ≡ handle)
       pub never : (h : Option CredentialsBuffers) (m0 m : C) (error : Error) → error.error_type ≢ InsufficientMemory →
           Begun c old.context old.handle (server_setting p old) Inbound None h m0 → c.accepts m0 (server_args h token) (Err error) m → ⊥
 
-    module _ (old : ServerView C P) (token : Option (List ℕ)) (step : Step) (y : C) (handle : Option CredentialsBuffers) (takes : Takes old token step y handle) where
+    module _ (old : ServerView C P) (token : Option (List ℕ)) (step : Step) (y : C) (handle : Option CredentialsBuffers)
+        (takes : Takes old token step y handle) where
       took_done : (h : Option CredentialsBuffers) (known : Knowing) (answer : Result Step Error) (s : Step) (m : C) → answer ≡ Ok s →
           Accepted c p old h token known answer m → (s ≡ step) × ComesOf known (p.told old.proxy) y m × (h ≡ handle)
       took_done h known answer s m is (accepted m0 m1 a begun accepts) =
@@ -73,13 +80,15 @@ module _ {C : Type 0} (c : Meaning ContextSetting C) (laws : IsContext c) where
           let t = took_done h known answer s m1 is before in
           (t.0, recounted_on known (p.told old.proxy) y m1 m (bare_after c laws m1 m n counted quiet) t.1, t.2)
 
-      took_never : (h : Option CredentialsBuffers) (known : Knowing) (answer : Result Step Error) (error : Error) (m : C) → answer ≡ Err error →
+      took_never : (h : Option CredentialsBuffers) (known : Knowing) (answer : Result Step Error) (error : Error) (m : C) →
+          answer ≡ Err error →
           error.error_type ≢ InsufficientMemory → Accepted c p old h token known answer m → ⊥
       took_never h known answer error m is others (accepted m0 m1 a begun accepts) =
           takes.never h m0 m error others begun (subst (λ (x : Result Step Error). c.accepts m0 (server_args h token) x m) is accepts)
       took_never h known answer error m is others (identified m1 m2 a before names) = took_never h Unknown answer error m1 is others before
       took_never h known answer error m is others (completed m1 a before permits) = took_never h Identified answer error m is others before
-      took_never h known answer error m is others (recounted m1 m2 n kn a before counted quiet) = took_never h known answer error m1 is others before
+      took_never h known answer error m is others (recounted m1 m2 n kn a before counted quiet) =
+          took_never h known answer error m1 is others before
 
       -- the context of a turn that came so far
       pub record Left (mid : ServerView C P) (known : Knowing) : Type 0 where
@@ -90,7 +99,8 @@ module _ {C : Type 0} (c : Meaning ContextSetting C) (laws : IsContext c) where
         pub handle_is : mid.handle ≡ handle
 
       pub come_at : (mid : ServerView C P) (known : Knowing) (st : SecurityStatus) →
-          IfContext mid.context (Accepted c p old mid.handle token known (Ok (record { status = st; output = mid.output }))) → (st ≡ step.status) × Left mid known
+          IfContext mid.context (Accepted c p old mid.handle token known (Ok (record { status = st; output = mid.output }))) →
+          (st ≡ step.status) × Left mid known
       come_at mid known st h =
           let there = in_context mid.context _ h in
           let t = took_done mid.handle known _ _ there.0 refl there.2 in (
@@ -100,7 +110,8 @@ module _ {C : Type 0} (c : Meaning ContextSetting C) (laws : IsContext c) where
 
       pub never_at : (mid : ServerView C P) (known : Knowing) (error : Error) → error.error_type ≢ InsufficientMemory →
           IfContext mid.context (Accepted c p old mid.handle token known (Err error)) → ⊥
-      never_at mid known error others h = let there = in_context mid.context _ h in took_never mid.handle known _ error there.0 refl others there.2
+      never_at mid known error others h = let there = in_context mid.context _ h in took_never mid.handle known _ error there.0 refl
+          others there.2
 
       -- the step of a refused turn was made, and came to the status
       refused_known : (mid : ServerView C P) (st : SecurityStatus) (m : C) → mid.context ≡ Some m →
@@ -115,7 +126,8 @@ module _ {C : Type 0} (c : Meaning ContextSetting C) (laws : IsContext c) where
       refused_status mid statuses.CompleteAndContinue m there h = refused_known mid statuses.CompleteAndContinue m there (so_far Unknown h)
       refused_status mid statuses.LocalLogon m there h = refused_known mid statuses.LocalLogon m there (so_far Unknown h)
       refused_status mid statuses.ContextExpired m there h = refused_known mid statuses.ContextExpired m there (so_far Unknown h)
-      refused_status mid statuses.IncompleteCredentials m there h = refused_known mid statuses.IncompleteCredentials m there (so_far Unknown h)
+      refused_status mid statuses.IncompleteCredentials m there h =
+          refused_known mid statuses.IncompleteCredentials m there (so_far Unknown h)
       refused_status mid statuses.Renegotiate m there h = refused_known mid statuses.Renegotiate m there (so_far Unknown h)
       refused_status mid statuses.NoLsaContext m there h = refused_known mid statuses.NoLsaContext m there (so_far Unknown h)
 
@@ -124,5 +136,6 @@ module _ {C : Type 0} (c : Meaning ContextSetting C) (laws : IsContext c) where
           OnStep c p negotiated (IfContext mid.context (RefusedAt c p status old mid.handle token (refused_step status mid.output error))) →
           status ≡ Some step.status
       refused_at mid None true error was others h = absurd (never_at mid Unknown error others h)
-      refused_at mid (Some st) true error was others h = let there = in_context mid.context _ h in ap Some (refused_status mid st there.0 there.1 there.2)
+      refused_at mid (Some st) true error was others h = let there =
+          in_context mid.context _ h in ap Some (refused_status mid st there.0 there.1 there.2)
       refused_at mid status false error was others h = absurd cc

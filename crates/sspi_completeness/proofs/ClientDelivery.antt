@@ -1,9 +1,11 @@
 -- The last turn of a client in an undisturbed exchange: it opens the server's proof and seals its credentials.
-use Rattle.std.proofs.Common.{◌≡◌, ◌≢◌, ℕ, ◌-◌, ◌<◌, ◌^◌, List, Bool, true, false, Option, None, Some, Result, Ok, refl, ap, sym, ◌∙◌, subst, arith}
+use Rattle.std.proofs.Common.{◌≡◌, ◌≢◌, ℕ, ◌-◌, ◌<◌, ◌^◌, List, Bool, true, false, Option, None, Some, Result, Ok, refl, ap, sym, ◌∙◌}
+use Rattle.std.proofs.Common.{subst, arith}
 use Rattle.sspi_types.specs.declared.credential_use.CredentialUse.TheVariants.{Outbound}
 use Rattle.sspi_types.specs.declared.error.Error.{Error}
 use Rattle.sspi_types.specs.declared.error_kind.ErrorKind.{ErrorKind}
-use Rattle.sspi_types.specs.declared.error_kind.ErrorKind.TheVariants.{OutOfSequence, InvalidToken, MessageAltered, DowngradeDetected, InsufficientMemory}
+use Rattle.sspi_types.specs.declared.error_kind.ErrorKind.TheVariants.{OutOfSequence, InvalidToken, MessageAltered, DowngradeDetected}
+use Rattle.sspi_types.specs.declared.error_kind.ErrorKind.TheVariants.{InsufficientMemory}
 use Rattle.sspi_types.specs.declared.security_status.SecurityStatus.{SecurityStatus}
 use Rattle.sspi_types.specs.declared.security_status.SecurityStatus.TheVariants as statuses
 use Rattle.sspi_tsreq.specs.declared.request.TsRequest.{TsRequest}
@@ -14,7 +16,8 @@ use Rattle.sspi_credssp.specs.declared.state.CredSspState.TheVariants.{NegoToken
 use Rattle.sspi_credssp.specs.Acts.{sealed_by, unsealed_by}
 use Rattle.sspi_credssp.specs.Begun.{BeginCause}
 use Rattle.sspi_credssp.specs.Client.{ClientView}
-use Rattle.sspi_credssp.specs.ClientCause.{ClientCause, StateCause, DeliverCause, BlobOpens, OpenedCause, CheckedCause, SealsCause, altered, unsealed}
+use Rattle.sspi_credssp.specs.ClientCause.{ClientCause, StateCause, DeliverCause, BlobOpens, OpenedCause, CheckedCause, SealsCause}
+use Rattle.sspi_credssp.specs.ClientCause.{altered, unsealed}
 use Rattle.sspi_credssp.specs.ClientTurn.{StartsUnused, OnceNegotiated, client_frame, client_turn}
 use Rattle.sspi_credssp.specs.Turn.{ClientFrame}
 use Rattle.sspi_credssp.specs.Context.{ContextSetting, ForClient}
@@ -27,7 +30,8 @@ use Rattle.sspi_credssp.specs.declared.turn.Outcome.{Outcome}
 use Rattle.sspi_credssp.specs.declared.turn.Outcome.TheVariants as outcome
 use Rattle.sspi_delegate.specs.Asking.{KdcCalls}
 use Rattle.sspi_delegate.specs.History.{ClientMakes}
-use Rattle.sspi_completeness.proofs.Ends.{Comes, is_false, stops_later, made_past, sealed_few, Holds, IsMaker, IsTaker, holds_still, sealed_field, ClientIs}
+use Rattle.sspi_completeness.proofs.Ends.{Comes, is_false, stops_later, made_past, sealed_few, Holds, IsMaker, IsTaker, holds_still}
+use Rattle.sspi_completeness.proofs.Ends.{sealed_field, ClientIs}
 use Rattle.sspi_completeness.proofs.Replies.{final_is, proof_is}
 use Rattle.sspi_credssp.specs.declared.turn.Turn.{Turn}
 use Rattle.sspi_credssp.specs.Shown.{ShowsNego, client_shown}
@@ -48,7 +52,8 @@ module _ {C D : Type 0} (c : Meaning ContextSetting C) (k : KdcCalls D) where
     pub text_is : delegated_text a.credentials a.delegation ≡ Ok text
     pub begins : (kind : ErrorKind) → BeginCause c (ForClient a.mode) Outbound (Some a.credentials) kind → ⊥
 
-  reply_nego : (frame : ClientFrame C) (t : Turn) (status : Option SecurityStatus) (reply : TsRequest) → ShowsNego (client_shown frame) t status reply → frame.state ≡ NegoToken
+  reply_nego : (frame : ClientFrame C) (t : Turn) (status : Option SecurityStatus) (reply : TsRequest) →
+      ShowsNego (client_shown frame) t status reply → frame.state ≡ NegoToken
   reply_nego frame t None reply h = absurd h
   reply_nego frame t (Some statuses.Ok) reply h = h.state
   reply_nego frame t (Some other) reply h = h.state
@@ -72,7 +77,8 @@ module _ {C D : Type 0} (c : Meaning ContextSetting C) (k : KdcCalls D) where
     held_now : (mid : View) → OnceNegotiated old.state (SameBut c old.context mid.context) → Holds c mid.context y
     held_now mid bare = holds_still c old.context mid.context y (bare_at old.state _ given.is.state_is bare) given.holds
 
-    texts_of : (mid : View) → mid.credentials ≡ old.credentials → mid.delegation ≡ old.delegation → delegated_text mid.credentials mid.delegation ≡ Ok text
+    texts_of : (mid : View) → mid.credentials ≡ old.credentials → mid.delegation ≡ old.delegation →
+        delegated_text mid.credentials mid.delegation ≡ Ok text
     texts_of mid one two = (rw (one, given.is.same.credentials, two, given.is.same.delegation) refl) ∙ given.text_is
 
     delivered : (mid : View) (kdc2 : D) (r : TsRequest) → ClientMakes c k old kdc d (outcome.Final r) mid kdc2 →
@@ -86,7 +92,8 @@ module _ {C D : Type 0} (c : Meaning ContextSetting C) (k : KdcCalls D) where
         let nego = turn.turn.shown.acts.negotiated answered in let auth = given.is.state_is in cc) in
         let one : sealed_by mid.acts ≡ 1 = rw (unproved, final.sealed) refl in
         let sealed_now : sealed_in c mid.context ≡ 2 = turn.moves.sealed unused ∙ (rw (given.is.sealed_is, one) refl) in
-        let seals = subst (λ (x : Result (List ℕ) Error). IfText x (λ text. SealsIn c mid.context (sealed_in c mid.context - 1) text r.auth_info))
+        let seals = subst (λ (x : Result (List ℕ) Error). IfText x
+        (λ text. SealsIn c mid.context (sealed_in c mid.context - 1) text r.auth_info))
         (texts_of mid turn.moves.same.credentials turn.moves.same.delegation) turn.turn.held.reply in
         let field = sealed_field c mid.context y own _ text r.auth_info holds given.maker seals in
         let field_is : r.auth_info ≡ Some (own 1 text) = field ∙ (rw sealed_now refl) in
@@ -101,33 +108,40 @@ module _ {C D : Type 0} (c : Meaning ContextSetting C) (k : KdcCalls D) where
     deliver_cause : (mid : View) (kind : ErrorKind) → ClientCause c old d mid kind → DeliverCause c d.pub_key_auth mid kind
     deliver_cause mid kind cause =
         subst (λ (s : CredSspState). StateCause c s d mid kind) given.is.state_is
-        (made_past old.context mid.context _ _ (never_made kind)
+        (made_past old.context mid.context _ _ (λ none. never_made kind)
         (stops_later _ MessageAltered kind _ (rw given.version given.is.fits)
         (stops_later _ DowngradeDetected kind _ (rw given.version given.is.young)
         (stops_later _ InvalidToken kind _ given.code (stops_later _ OutOfSequence kind _ given.is.idle cause)))))
 
-    seals_never : (m : C) (kind : ErrorKind) (texts : Result (List ℕ) Error) → texts ≡ Ok text → cleared c m ≡ y → (c.counts m).sealed < 2 ^ 64 - 1 →
+    seals_never : (m : C) (kind : ErrorKind) (texts : Result (List ℕ) Error) → texts ≡ Ok text → cleared c m ≡ y →
+        (c.counts m).sealed < 2 ^ 64 - 1 →
         SealsCause c m texts kind → ⊥
-    seals_never m kind texts is same few h = given.maker.never m text kind same few (subst (λ (r : Result (List ℕ) Error). SealsCause c m r kind) is h)
+    seals_never m kind texts is same few h = given.maker.never m text kind same few
+        (subst (λ (r : Result (List ℕ) Error). SealsCause c m r kind) is h)
 
-    checked_never : (m : C) (kind : ErrorKind) (texts : Result (List ℕ) Error) → texts ≡ Ok text → cleared c m ≡ y → (c.counts m).sealed < 2 ^ 64 - 1 →
+    checked_never : (m : C) (kind : ErrorKind) (texts : Result (List ℕ) Error) → texts ≡ Ok text → cleared c m ≡ y →
+        (c.counts m).sealed < 2 ^ 64 - 1 →
         CheckedCause c m (peers 0 proof_text) proof_text texts kind → ⊥
-    checked_never m kind texts is same few (altered (opens_other text2 opens differs) kind_is) = differs (given.taker.opened m 0 _ proof_text text2 same opens)
+    checked_never m kind texts is same few (altered (opens_other text2 opens differs) kind_is) =
+        differs (given.taker.opened m 0 _ proof_text text2 same opens)
     checked_never m kind texts is same few (unsealed opens h) = seals_never m kind texts is same few h
 
-    opened_never : (checked : Bool) (m : C) (kind : ErrorKind) (texts : Result (List ℕ) Error) → texts ≡ Ok text → cleared c m ≡ y → (c.counts m).sealed < 2 ^ 64 - 1 →
+    opened_never : (checked : Bool) (m : C) (kind : ErrorKind) (texts : Result (List ℕ) Error) → texts ≡ Ok text → cleared c m ≡ y →
+        (c.counts m).sealed < 2 ^ 64 - 1 →
         (checked ≡ false → (c.counts m).unsealed ≡ 0) → OpenedCause c checked m (peers 0 proof_text) proof_text texts kind → ⊥
     opened_never false m kind texts is same few next h = given.taker.never m 0 proof_text kind same (next refl) (omega arith) h
     opened_never true m kind texts is same few next h = checked_never m kind texts is same few h
 
-    delivery_refused : (mid : View) (kdc2 : D) (kind : ErrorKind) → ClientMakes c k old kdc d (outcome.Refused kind None) mid kdc2 → kind ≢ InsufficientMemory → ⊥
+    delivery_refused : (mid : View) (kdc2 : D) (kind : ErrorKind) → ClientMakes c k old kdc d (outcome.Refused kind None) mid kdc2 →
+        kind ≢ InsufficientMemory → ⊥
     delivery_refused mid kdc2 kind makes others =
         let error = makes.0 in
         let turn = makes.2 in
         let others2 : error.error_type ≢ InsufficientMemory = λ memory. others (sym makes.1 ∙ memory) in
         let cause = deliver_cause mid error.error_type (makes.3.cause others2) in
         let blob = peers 0 proof_text in
-        let stops = subst (λ (x : Option (List ℕ)). BlobStops x error.error_type (λ b. BlobOpens c mid.noted mid.context b mid error.error_type)) given.proof cause in
+        let stops = subst (λ (x : Option (List ℕ)). BlobStops x error.error_type
+        (λ b. BlobOpens c mid.noted mid.context b mid error.error_type)) given.proof cause in
         let later = stops_later _ InvalidToken error.error_type _ (given.taker.long 0 proof_text) stops in
         let holds = held_now mid turn.moves.bare in
         let noted_now : mid.noted ≡ Some w = turn.moves.noted ∙ (rw (given.is.idle, given.code, given.version) given.is.notes) in
@@ -136,7 +150,8 @@ module _ {C D : Type 0} (c : Meaning ContextSetting C) (k : KdcCalls D) where
         let nonce = turn.moves.same.nonce ∙ given.is.same.nonce in
         let public_key = turn.moves.same.public_key ∙ given.is.same.public_key in
         let proof_is : prescribed Server w mid.nonce mid.public_key ≡ proof_text = rw (nonce, public_key) refl in
-        let at = subst (λ (p : List ℕ). OpenedCause c mid.acts.checked holds.held blob p (delegated_text mid.credentials mid.delegation) error.error_type) proof_is opens in
+        let at = subst (λ (p : List ℕ). OpenedCause c mid.acts.checked holds.held blob p
+        (delegated_text mid.credentials mid.delegation) error.error_type) proof_is opens in
         let sealed = turn.moves.sealed unused in
         let opened = turn.moves.unsealed unused in
         let sealed_before = given.is.sealed_is in
@@ -147,7 +162,8 @@ module _ {C D : Type 0} (c : Meaning ContextSetting C) (k : KdcCalls D) where
         opened_never mid.acts.checked holds.held error.error_type (delegated_text mid.credentials mid.delegation)
         (texts_of mid turn.moves.same.credentials turn.moves.same.delegation) holds.same
         (omega (arith, sealed, sealed_before, sealed_here, two))
-        (λ unchecked. let none : unsealed_by mid.acts ≡ 0 = rw (unchecked, turn.turn.shown.acts.opened) refl in omega (arith, opened, opened_before, opened_here, none))
+        (λ unchecked. let none : unsealed_by mid.acts ≡ 0 = rw (unchecked, turn.turn.shown.acts.opened) refl in omega
+        (arith, opened, opened_before, opened_here, none))
         at
 
     pub last_turn : (out : Outcome) (mid : View) (kdc2 : D) → ClientMakes c k old kdc d out mid kdc2 →

@@ -1,9 +1,11 @@
 -- The turns of a client in an undisturbed exchange: one that sends a token, the one that sends its proof, and its last.
-use Rattle.std.proofs.Common.{◌≡◌, ◌≢◌, ℕ, ◌-◌, ◌<◌, ◌^◌, List, Bool, true, false, Option, None, Some, IsSome, refl, ap, sym, ◌∙◌, subst, arith, nat_lt}
+use Rattle.std.proofs.Common.{◌≡◌, ◌≢◌, ℕ, ◌-◌, ◌<◌, ◌^◌, List, Bool, true, false, Option, None, Some, IsSome, refl, ap, sym, ◌∙◌}
+use Rattle.std.proofs.Common.{subst, arith, nat_lt}
 use Rattle.sspi_types.specs.declared.credential_use.CredentialUse.TheVariants.{Outbound}
 use Rattle.sspi_types.specs.declared.error.Error.{Error}
 use Rattle.sspi_types.specs.declared.error_kind.ErrorKind.{ErrorKind}
-use Rattle.sspi_types.specs.declared.error_kind.ErrorKind.TheVariants.{OutOfSequence, InvalidToken, MessageAltered, DowngradeDetected, InsufficientMemory}
+use Rattle.sspi_types.specs.declared.error_kind.ErrorKind.TheVariants.{OutOfSequence, InvalidToken, MessageAltered, DowngradeDetected}
+use Rattle.sspi_types.specs.declared.error_kind.ErrorKind.TheVariants.{InsufficientMemory}
 use Rattle.sspi_types.specs.declared.security_status.SecurityStatus.{SecurityStatus}
 use Rattle.sspi_types.specs.declared.security_status.SecurityStatus.TheVariants as statuses
 use Rattle.sspi_names.specs.declared.credentials.CredentialsBuffers.{CredentialsBuffers}
@@ -20,7 +22,8 @@ use Rattle.sspi_credssp.specs.Acts.{sealed_by, unsealed_by}
 use Rattle.sspi_credssp.specs.Begun.{BeginCause}
 use Rattle.sspi_credssp.specs.Client.{ClientView}
 use Rattle.sspi_credssp.specs.ClientCause.{ClientCause, StateCause, NegoCause, ProveCause}
-use Rattle.sspi_credssp.specs.ClientStep.{Asked, Walked, stepped, resumed, still_asked, recounted, StepsTo, DoneStep, OnStep, refused_answer, client_args}
+use Rattle.sspi_credssp.specs.ClientStep.{Asked, Walked, stepped, resumed, still_asked, recounted, StepsTo, DoneStep, OnStep}
+use Rattle.sspi_credssp.specs.ClientStep.{refused_answer, client_args}
 use Rattle.sspi_credssp.specs.ClientTurn.{ClientTurn, SameClient, StartsUnused, client_frame, client_turn, noted_next}
 use Rattle.sspi_credssp.specs.Context.{ContextSetting, ForClient}
 use Rattle.sspi_credssp.specs.Counts.{sealed_in, SealsIn, is_waiting_in, cleared}
@@ -32,7 +35,8 @@ use Rattle.sspi_credssp.specs.declared.turn.Outcome.{Outcome}
 use Rattle.sspi_credssp.specs.declared.turn.Outcome.TheVariants as outcome
 use Rattle.sspi_delegate.specs.Asking.{KdcCalls}
 use Rattle.sspi_delegate.specs.History.{ClientMakes}
-use Rattle.sspi_completeness.proofs.Ends.{Comes, in_context, is_false, stops_later, made_past, sealed_few, noted_at, Holds, IsMaker, sealed_field, unused_in, ClientIs, takes_later, takes_noted}
+use Rattle.sspi_completeness.proofs.Ends.{Comes, in_context, is_false, stops_later, made_past, sealed_few, noted_at, Holds, IsMaker}
+use Rattle.sspi_completeness.proofs.Ends.{sealed_field, unused_in, ClientIs, takes_later, takes_noted}
 use Rattle.sspi_completeness.proofs.Replies.{proof_is, token_is}
 use Rattle.sspi_credssp.specs.declared.turn.Turn.{Turn}
 use Rattle.sspi_credssp.specs.Shown.{ShowsClientActs, ShowsNego, ShowsProof, ShowsToken, client_shown}
@@ -43,13 +47,16 @@ module _ {C : Type 0} (c : Meaning ContextSetting C) (laws : IsContext c) where
   View = ClientView C
 
   -- a context whose step is done waits for no KDC
-  pub done_idle : (start : View) (handle : Option CredentialsBuffers) (token : Option (List ℕ)) (tries : ℕ) (log : List Asked) (answer : Answer)
+  pub done_idle : (start : View) (handle : Option CredentialsBuffers) (token : Option (List ℕ)) (tries : ℕ) (log : List Asked)
+      (answer : Answer)
       (step : Step) (m : C) → answer ≡ Done step → Walked c start handle token tries log answer m → c.waits m ≡ false
   done_idle start handle token tries log answer step m is (stepped m0 m1 a begun steps) =
-      laws.step_done m0 m (client_args handle start.target token) step (subst (λ (x : Answer). c.steps m0 (client_args handle start.target token) x m) is steps)
+      laws.step_done m0 m (client_args handle start.target token) step
+      (subst (λ (x : Answer). c.steps m0 (client_args handle start.target token) x m) is steps)
   done_idle start handle token tries log answer step m is (resumed m1 m2 tried before q reply a walked resumes) =
       laws.resume_done m1 m reply step (subst (λ (x : Answer). c.resumes m1 reply x m) is resumes)
-  done_idle start handle token tries log answer step m is (still_asked m1 m2 tried before q reply error walked resumes waits) = absurd (cc (is))
+  done_idle start handle token tries log answer step m is (still_asked m1 m2 tried before q reply error walked resumes waits) =
+      absurd (cc (is))
   done_idle start handle token tries log answer step m is (recounted m1 m2 n tried before a walked counted quiet) =
       rw counted (laws.waits_counted m1 n ∙ done_idle start handle token tried log answer step m1 is walked)
 
@@ -75,14 +82,16 @@ module _ {C : Type 0} (c : Meaning ContextSetting C) (laws : IsContext c) where
 
   module _ {D : Type 0} (k : KdcCalls D) where
     -- all that a mode says of the step of a turn: its answer, the context, the credentials and the KDC after it
-    pub record Walks (old : View) (kdc : D) (token : Option (List ℕ)) (step : Step) (y : C) (handle : Option CredentialsBuffers) (After : D → Type 0) : Type 0 where
+    pub record Walks (old : View) (kdc : D) (token : Option (List ℕ)) (step : Step) (y : C) (handle : Option CredentialsBuffers)
+        (After : D → Type 0) : Type 0 where
       pub done : (h : Option CredentialsBuffers) (log : List Asked) (kdc2 : D) (s : Step) (m : C) → k.replies kdc log kdc2 →
           Walked c old h token 0 log (Done s) m → (s ≡ step) × (cleared c m ≡ y) × (h ≡ handle) × After kdc2
       pub never : (h : Option CredentialsBuffers) (log : List Asked) (kdc2 : D) (error : Error) (m : C) → k.replies kdc log kdc2 →
           error.error_type ≢ InsufficientMemory → Walked c old h token 0 log (Refused error) m → ⊥
 
     -- what a turn of the authentication is given
-    pub record NegoGiven (a old : View) (w : ℕ) (first : Bool) (kdc : D) (d : TsRequest) (step : Step) (y : C) (handle : Option CredentialsBuffers)
+    pub record NegoGiven (a old : View) (w : ℕ) (first : Bool) (kdc : D) (d : TsRequest) (step : Step) (y : C)
+        (handle : Option CredentialsBuffers)
         (After : D → Type 0) : Type 0 where
       pub is : ClientIs c a old w first NegoToken 0 0
       pub walks : Walks old kdc d.nego_tokens step y handle After
@@ -104,7 +113,8 @@ module _ {C : Type 0} (c : Meaning ContextSetting C) (laws : IsContext c) where
       unused = λ nego. unused_in c old.context given.is.sealed_is given.is.unsealed_is
 
       walked_at : (mid : View) (kdc2 : D) (st : SecurityStatus) (log : List Asked) → k.replies kdc log kdc2 →
-          StepsTo c old d 0 log (Done (record { status = st; output = mid.output })) mid → (st ≡ step.status) × Left mid y handle After kdc2 step
+          StepsTo c old d 0 log (Done (record { status = st; output = mid.output })) mid → (st ≡ step.status) ×
+          Left mid y handle After kdc2 step
       walked_at mid kdc2 st log replied h =
           let there = in_context mid.context _ h in
           let s = given.walks.done mid.handle log kdc2 _ there.0 replied there.2 in (
@@ -119,13 +129,16 @@ module _ {C : Type 0} (c : Meaning ContextSetting C) (laws : IsContext c) where
           )
 
       replied_at : (mid : View) (kdc2 : D) (status : Option SecurityStatus) (log : List Asked) (r : TsRequest) → k.replies kdc log kdc2 →
-          ShowsNego (client_shown (client_frame c old mid)) (client_turn c d (outcome.Reply r) mid) status r → DoneStep c status old d 0 log mid →
+          ShowsNego (client_shown (client_frame c old mid)) (client_turn c d (outcome.Reply r) mid) status r →
+          DoneStep c status old d 0 log mid →
           (status ≡ Some step.status) × Left mid y handle After kdc2 step
       replied_at mid kdc2 None log r replied h done = absurd h
       replied_at mid kdc2 (Some st) log r replied h done = let s = walked_at mid kdc2 st log replied done in (ap Some s.0, s.1)
 
-      refused_at : (mid : View) (kdc2 : D) (status : Option SecurityStatus) (negotiated : Bool) (log : List Asked) (error : Error) → k.replies kdc log kdc2 →
-          negotiated ≡ true → error.error_type ≢ InsufficientMemory → OnStep c negotiated (StepsTo c old d 0 log (refused_answer status mid.output error) mid) →
+      refused_at : (mid : View) (kdc2 : D) (status : Option SecurityStatus) (negotiated : Bool) (log : List Asked) (error : Error) →
+          k.replies kdc log kdc2 →
+          negotiated ≡ true → error.error_type ≢ InsufficientMemory →
+          OnStep c negotiated (StepsTo c old d 0 log (refused_answer status mid.output error) mid) →
           (status ≡ Some step.status) × Left mid y handle After kdc2 step
       refused_at mid kdc2 None true log error replied was others h =
           let there = in_context mid.context _ h in absurd (given.walks.never mid.handle log kdc2 error there.0 replied others there.2)
@@ -141,12 +154,13 @@ module _ {C : Type 0} (c : Meaning ContextSetting C) (laws : IsContext c) where
       nego_cause : (mid : View) (kind : ErrorKind) → ClientCause c old d mid kind → NegoCause c mid.acts.status mid kind
       nego_cause mid kind cause =
           subst (λ (s : CredSspState). StateCause c s d mid kind) given.is.state_is
-          (made_past old.context mid.context _ _ (never_made kind)
+          (made_past old.context mid.context _ _ (λ none. never_made kind)
           (stops_later _ MessageAltered kind _ (rw given.version given.is.fits)
           (stops_later _ DowngradeDetected kind _ (rw given.version given.is.young)
           (stops_later _ InvalidToken kind _ given.code (stops_later _ OutOfSequence kind _ given.is.idle cause)))))
 
-      began : (status : Option SecurityStatus) (mid : View) (kind : ErrorKind) → mid.acts.status ≡ status → (IsSome mid.acts.status → mid.acts.negotiated ≡ true) →
+      began : (status : Option SecurityStatus) (mid : View) (kind : ErrorKind) → mid.acts.status ≡ status →
+          (IsSome mid.acts.status → mid.acts.negotiated ≡ true) →
           NegoCause c status mid kind → mid.acts.negotiated ≡ true
       began None mid kind is answered h = h
       began (Some status) mid kind is answered h = answered (rw is refl)
@@ -157,7 +171,8 @@ module _ {C : Type 0} (c : Meaning ContextSetting C) (laws : IsContext c) where
         pub left : Left mid y handle After kdc2 step
         pub cause : NegoCause c (Some step.status) mid kind
 
-      refusal : (mid : View) (kdc2 : D) (kind : ErrorKind) → ClientMakes c k old kdc d (outcome.Refused kind None) mid kdc2 → kind ≢ InsufficientMemory → Refusal mid kdc2 kind
+      refusal : (mid : View) (kdc2 : D) (kind : ErrorKind) → ClientMakes c k old kdc d (outcome.Refused kind None) mid kdc2 →
+          kind ≢ InsufficientMemory → Refusal mid kdc2 kind
       refusal mid kdc2 kind makes others =
           let error = makes.0 in
           let turn = makes.2 in
@@ -169,7 +184,8 @@ module _ {C : Type 0} (c : Meaning ContextSetting C) (laws : IsContext c) where
           record {
             turn = turn;
             left = s.1;
-            cause = subst (λ (x : ErrorKind). NegoCause c (Some step.status) mid x) makes.1 (subst (λ (x : Option SecurityStatus). NegoCause c x mid error.error_type) s.0 cause);
+            cause = subst (λ (x : ErrorKind). NegoCause c (Some step.status) mid x) makes.1
+                (subst (λ (x : Option SecurityStatus). NegoCause c x mid error.error_type) s.0 cause);
           }
 
       never_ends : (mid : View) (kdc2 : D) (r : TsRequest) → ClientMakes c k old kdc d (outcome.Final r) mid kdc2 → ⊥
@@ -183,7 +199,8 @@ module _ {C : Type 0} (c : Meaning ContextSetting C) (laws : IsContext c) where
       token_replied : (w2 : ℕ) (mid : View) (kdc2 : D) (r : TsRequest) → step.status ≡ statuses.ContinueNeeded → (first ≡ false → w2 ≡ w) →
           nat_lt w2 a.least ≡ false →
           ClientMakes c k old kdc d (outcome.Reply r) mid kdc2 →
-          (r ≡ record d { version = a.version; nego_tokens = Some step.output }) × ClientIs c a mid w2 false NegoToken 0 0 × Holds c mid.context y
+          (r ≡ record d { version = a.version; nego_tokens = Some step.output }) × ClientIs c a mid w2 false NegoToken 0 0 ×
+          Holds c mid.context y
           × (mid.handle ≡ handle) × After kdc2
       token_replied w2 mid kdc2 r goes peer takes makes =
           let turn = makes.0 in
@@ -191,13 +208,15 @@ module _ {C : Type 0} (c : Meaning ContextSetting C) (laws : IsContext c) where
           let t = client_turn c d (outcome.Reply r) mid in
           let s = replied_at mid kdc2 mid.acts.status makes.1.asked r makes.1.replied turn.turn.shown.reply makes.1.step in
           let status : mid.acts.status ≡ Some statuses.ContinueNeeded = s.0 ∙ ap Some goes in
-          let token : ShowsToken (client_shown frame) t r = subst (λ (x : Option SecurityStatus). ShowsNego (client_shown frame) t x r) status turn.turn.shown.reply in
+          let token : ShowsToken (client_shown frame) t r = subst
+          (λ (x : Option SecurityStatus). ShowsNego (client_shown frame) t x r) status turn.turn.shown.reply in
           let quiet = nego_acts frame t turn.turn.shown.acts given.is.state_is in
           let unproved : mid.acts.proved ≡ false = is_false mid.acts.proved (λ was. let ok = (turn.turn.shown.acts.proved was).0 in cc) in
           let none_sealed : sealed_by mid.acts ≡ 0 = rw (unproved, quiet.1) refl in
           let none_opened : unsealed_by mid.acts ≡ 0 = rw (quiet.0, quiet.2) refl in
           let same = same_on a old mid given.is.same turn.moves.same in
-          let later = takes_later c mid s.1.holds.held first w w2 peer (rw same.least takes) s.1.holds.there (noted_now mid turn.moves.noted_going) in (
+          let later = takes_later c mid s.1.holds.held first w w2 peer (rw same.least takes) s.1.holds.there
+          (noted_now mid turn.moves.noted_going) in (
             token_is frame t r token ∙ (rw (same.version, s.1.output_is) refl),
             record {
               same = same;
@@ -217,7 +236,8 @@ module _ {C : Type 0} (c : Meaning ContextSetting C) (laws : IsContext c) where
       pub token_turn : (w2 : ℕ) (out : Outcome) (mid : View) (kdc2 : D) → step.status ≡ statuses.ContinueNeeded → (first ≡ false → w2 ≡ w) →
           nat_lt w2 a.least ≡ false →
           ClientMakes c k old kdc d out mid kdc2 →
-          Comes out (λ r. (r ≡ record d { version = a.version; nego_tokens = Some step.output }) × ClientIs c a mid w2 false NegoToken 0 0 × Holds c mid.context y
+          Comes out (λ r. (r ≡ record d { version = a.version; nego_tokens = Some step.output }) ×
+          ClientIs c a mid w2 false NegoToken 0 0 × Holds c mid.context y
           × (mid.handle ≡ handle) × After kdc2)
       token_turn w2 (outcome.Reply r) mid kdc2 goes peer takes makes = token_replied w2 mid kdc2 r goes peer takes makes
       token_turn w2 (outcome.Final r) mid kdc2 goes peer takes makes = absurd (never_ends mid kdc2 r makes)
@@ -229,7 +249,8 @@ module _ {C : Type 0} (c : Meaning ContextSetting C) (laws : IsContext c) where
       -- ---- the proof
 
       module _ (blob : ℕ → List ℕ → List ℕ) (maker : IsMaker c y blob) (later : first ≡ false) where
-        proof_replied : (mid : View) (kdc2 : D) (r : TsRequest) → step.status ≡ statuses.Ok → ClientMakes c k old kdc d (outcome.Reply r) mid kdc2 →
+        proof_replied : (mid : View) (kdc2 : D) (r : TsRequest) → step.status ≡ statuses.Ok →
+            ClientMakes c k old kdc d (outcome.Reply r) mid kdc2 →
             (r ≡ record d {
               version = a.version;
               nego_tokens = unless_empty step.output;
@@ -242,7 +263,8 @@ module _ {C : Type 0} (c : Meaning ContextSetting C) (laws : IsContext c) where
             let t = client_turn c d (outcome.Reply r) mid in
             let s = replied_at mid kdc2 mid.acts.status makes.1.asked r makes.1.replied turn.turn.shown.reply makes.1.step in
             let status : mid.acts.status ≡ Some statuses.Ok = s.0 ∙ ap Some ends in
-            let proof : ShowsProof (client_shown frame) t r = subst (λ (x : Option SecurityStatus). ShowsNego (client_shown frame) t x r) status turn.turn.shown.reply in
+            let proof : ShowsProof (client_shown frame) t r =
+            subst (λ (x : Option SecurityStatus). ShowsNego (client_shown frame) t x r) status turn.turn.shown.reply in
             let held : HoldsProof c frame r = subst (λ (x : Option SecurityStatus). HoldsNego c frame x r) status turn.turn.held.reply in
             let quiet = nego_acts frame t turn.turn.shown.acts given.is.state_is in
             let one : sealed_by mid.acts ≡ 1 = rw (proof.proved, quiet.1) refl in
@@ -251,10 +273,12 @@ module _ {C : Type 0} (c : Meaning ContextSetting C) (laws : IsContext c) where
             let noted : mid.noted ≡ Some w = noted_now mid turn.moves.noted_going ∙ ap (λ (x : Bool). noted_at x w) later in
             let more = takes_noted c mid s.1.holds.held w s.1.holds.there noted in
             let same = same_on a old mid given.is.same turn.moves.same in
-            let seals = subst (λ (x : Option ℕ). AtNoted x (λ n. SealsIn c mid.context (sealed_in c mid.context - 1) (prescribed Client n mid.nonce mid.public_key) r.pub_key_auth))
+            let seals = subst (λ (x : Option ℕ). AtNoted x (λ n. SealsIn c mid.context (sealed_in c mid.context - 1)
+            (prescribed Client n mid.nonce mid.public_key) r.pub_key_auth))
             noted held.proof in
             let field = sealed_field c mid.context y blob _ _ r.pub_key_auth s.1.holds maker seals in
-            let field_is : r.pub_key_auth ≡ Some (blob 0 (prescribed Client w a.nonce a.public_key)) = field ∙ (rw (sealed_now, same.nonce, same.public_key) refl) in (
+            let field_is : r.pub_key_auth ≡ Some (blob 0 (prescribed Client w a.nonce a.public_key)) =
+            field ∙ (rw (sealed_now, same.nonce, same.public_key) refl) in (
               proof_is frame t r proof held.nonce ∙ (rw (same.version, s.1.output_is, same.nonce, field_is) refl),
               record {
                 same = same;
@@ -270,14 +294,17 @@ module _ {C : Type 0} (c : Meaning ContextSetting C) (laws : IsContext c) where
               s.1.after,
             )
 
-        prove_never : (mid : View) (noted : Option ℕ) (context : Option C) (m : C) (kind : ErrorKind) → noted ≡ Some w → context ≡ Some m → cleared c m ≡ y →
+        prove_never : (mid : View) (noted : Option ℕ) (context : Option C) (m : C) (kind : ErrorKind) → noted ≡ Some w →
+            context ≡ Some m → cleared c m ≡ y →
             (c.counts m).sealed < 2 ^ 64 - 1 → ProveCause c noted context mid kind → ⊥
         prove_never mid noted context m kind is there same few cause =
             let at : ProveCause c (Some w) (Some m) mid kind =
-            subst (λ (x : Option C). ProveCause c (Some w) x mid kind) there (subst (λ (x : Option ℕ). ProveCause c x context mid kind) is cause) in
+            subst (λ (x : Option C). ProveCause c (Some w) x mid kind) there
+            (subst (λ (x : Option ℕ). ProveCause c x context mid kind) is cause) in
             maker.never m _ kind same few at
 
-        proof_refused : (mid : View) (kdc2 : D) (kind : ErrorKind) → step.status ≡ statuses.Ok → ClientMakes c k old kdc d (outcome.Refused kind None) mid kdc2 →
+        proof_refused : (mid : View) (kdc2 : D) (kind : ErrorKind) → step.status ≡ statuses.Ok →
+            ClientMakes c k old kdc d (outcome.Refused kind None) mid kdc2 →
             kind ≢ InsufficientMemory → ⊥
         proof_refused mid kdc2 kind ends makes others =
             let x = refusal mid kdc2 kind makes others in
@@ -287,7 +314,8 @@ module _ {C : Type 0} (c : Meaning ContextSetting C) (laws : IsContext c) where
             let before = given.is.sealed_is in
             let two = sealed_few mid.acts in
             let here : sealed_in c mid.context ≡ (c.counts x.left.holds.held).sealed = ap (sealed_in c) x.left.holds.there in
-            prove_never mid mid.noted mid.context x.left.holds.held kind noted x.left.holds.there x.left.holds.same (omega (arith, sealed, before, two, here))
+            prove_never mid mid.noted mid.context x.left.holds.held kind noted x.left.holds.there x.left.holds.same
+            (omega (arith, sealed, before, two, here))
             (subst (λ (s : SecurityStatus). NegoCause c (Some s) mid kind) ends x.cause)
 
         pub proof_turn : (out : Outcome) (mid : View) (kdc2 : D) → step.status ≡ statuses.Ok → ClientMakes c k old kdc d out mid kdc2 →

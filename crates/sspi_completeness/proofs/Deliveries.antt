@@ -1,5 +1,6 @@
 -- What an undisturbed link delivers: the whole of each message, which is read as what is carried of it.
-use Rattle.std.proofs.Common.{◌≡◌, ℕ, ◌≤◌, Bool, true, false, ◌||◌, List, [], ◌∷◌, length, take, Option, None, Some, refl, ap, sym, ◌∙◌, subst, arith, nat_le}
+use Rattle.std.proofs.Common.{◌≡◌, ℕ, ◌≤◌, Bool, true, false, ◌||◌, List, [], ◌∷◌, length, take, Option, None, Some, refl, ap, sym}
+use Rattle.std.proofs.Common.{◌∙◌, subst, arith, nat_le}
 use Rattle.std.proofs.lemmas.Bool.{leb-true}
 use Rattle.std.proofs.lemmas.List.{take_all}
 use Rattle.sspi_ber.specs.declared.wire_kind.WireKind.{WireKind}
@@ -30,7 +31,8 @@ spelled_short r fit =
     let more = size_below (length (fields (carried r))) in
     omega arith
 
-taken_at : (ended : Bool) (delivered sent : List ℕ) → length sent ≤ delivery_limit → delivered ≡ take (length delivered) sent → (ended ≡ true → delivered ≡ sent) →
+taken_at : (ended : Bool) (delivered sent : List ℕ) → length sent ≤ delivery_limit → delivered ≡ take (length delivered) sent →
+    (ended ≡ true → delivered ≡ sent) →
     ended || nat_le delivery_limit (length delivered) ≡ true → delivered ≡ sent
 taken_at true delivered sent short front whole taken = whole refl
 taken_at false delivered sent short front whole taken =
@@ -38,20 +40,24 @@ taken_at false delivered sent short front whole taken =
     front ∙ take_all (length delivered) sent (omega (arith, far, short))
 
 -- a message that fits is delivered whole
-pub delivered_whole : (e : Carried) (r : TsRequest) → fits r ≡ true → e.sent ≡ spelled r → Delivers (Some e.sent) e → is_taken e ≡ true → e.delivered ≡ spelled r
+pub delivered_whole : (e : Carried) (r : TsRequest) → fits r ≡ true → e.sent ≡ spelled r → Delivers (Some e.sent) e → is_taken e ≡ true →
+    e.delivered ≡ spelled r
 delivered_whole e r fit is delivers taken =
     taken_at e.ended e.delivered e.sent (omega (arith, ap length is, spelled_short r fit)) delivers.0 delivers.1 taken ∙ is
 
-sent_is : (message : Option TsRequest) (r : TsRequest) (sent : List ℕ) → message ≡ Some r → IsSent message sent → (fits r ≡ true) × (sent ≡ spelled r)
+sent_is : (message : Option TsRequest) (r : TsRequest) (sent : List ℕ) → message ≡ Some r → IsSent message sent → (fits r ≡ true) ×
+    (sent ≡ spelled r)
 sent_is message r sent is h = subst (λ (m : Option TsRequest). IsSent m sent) is h
 
-head_whole : (t : Turn) (e : Carried) (log : List Carried) (r : TsRequest) → message_of t.outcome ≡ Some r → IsEntry t e → FollowsEdits [] (e ∷ log) → is_taken e ≡ true →
+head_whole : (t : Turn) (e : Carried) (log : List Carried) (r : TsRequest) → message_of t.outcome ≡ Some r → IsEntry t e →
+    FollowsEdits [] (e ∷ log) → is_taken e ≡ true →
     (fits r ≡ true) × (e.delivered ≡ spelled r)
 head_whole t e log r is entry follows taken =
     let sent = sent_is (message_of t.outcome) r e.sent is entry.1 in (sent.0, delivered_whole e r sent.0 sent.1 follows.0 taken)
 
 -- and is read as what is carried of it
-pub request_is : (t : Turn) (past : List Turn) (e : Carried) (log : List Carried) (r request : TsRequest) → message_of t.outcome ≡ Some r → IsRequestValue r → IsEntry t e →
+pub request_is : (t : Turn) (past : List Turn) (e : Carried) (log : List Carried) (r request : TsRequest) →
+    message_of t.outcome ≡ Some r → IsRequestValue r → IsEntry t e →
     FollowsEdits [] (e ∷ log) → IsDelivered (t ∷ past) (e ∷ log) request → request ≡ carried r
 request_is t past e log r request is value entry follows delivered =
     let whole = head_whole t e log r is entry follows delivered.0 in
@@ -69,24 +75,30 @@ fault_never bytes WriteFault none h = h
 fault_never bytes InsufficientMemory none h = h
 
 -- so it is never unreadable
-pub never_unreadable : (t : Turn) (past : List Turn) (e : Carried) (log : List Carried) (r : TsRequest) (kind : WireKind) → message_of t.outcome ≡ Some r → IsRequestValue r →
+pub never_unreadable : (t : Turn) (past : List Turn) (e : Carried) (log : List Carried) (r : TsRequest) (kind : WireKind) →
+    message_of t.outcome ≡ Some r → IsRequestValue r →
     IsEntry t e → FollowsEdits [] (e ∷ log) → IsUnreadable (t ∷ past) (e ∷ log) kind → ⊥
 never_unreadable t past e log r kind is value entry follows unreadable =
     let whole = head_whole t e log r is entry follows unreadable.0 in
     let bad = subst (λ (bytes : List ℕ). IsFault bytes kind) whole.1 unreadable.1 in
     fault_never (spelled r) kind (no_fault (spelled r) (carried r) (length (spelled r)) (spelled_whole r value whole.0)) bad
 
-pub never_too_long : (t : Turn) (past : List Turn) (r : TsRequest) → message_of t.outcome ≡ Some r → fits r ≡ true → NewestFits (t ∷ past) false → ⊥
+pub never_too_long : (t : Turn) (past : List Turn) (r : TsRequest) → message_of t.outcome ≡ Some r → fits r ≡ true →
+    NewestFits (t ∷ past) false → ⊥
 never_too_long t past r is fit unfit =
     let at : fits r ≡ false = subst (λ (m : Option TsRequest). MessageFits m false) is unfit in cc
 
 -- the request of a turn after a message
-pub next_request : (base : List Carried) (t : Turn) (past : List Turn) (log : List Carried) (r request : TsRequest) → message_of t.outcome ≡ Some r → IsRequestValue r →
+pub next_request : (base : List Carried) (t : Turn) (past : List Turn) (log : List Carried) (r request : TsRequest) →
+    message_of t.outcome ≡ Some r → IsRequestValue r →
     Logged base (t ∷ past) log → FollowsEdits [] log → IsDelivered (t ∷ past) log request → request ≡ carried r
 next_request base t past [] r request is value entries follows delivered = absurd entries
-next_request base t past (e ∷ log) r request is value entries follows delivered = request_is t past e log r request is value entries.0 follows delivered
+next_request base t past (e ∷ log) r request is value entries follows delivered =
+    request_is t past e log r request is value entries.0 follows delivered
 
-pub always_readable : (base : List Carried) (t : Turn) (past : List Turn) (log : List Carried) (r : TsRequest) (kind : WireKind) → message_of t.outcome ≡ Some r → IsRequestValue r →
+pub always_readable : (base : List Carried) (t : Turn) (past : List Turn) (log : List Carried) (r : TsRequest) (kind : WireKind) →
+    message_of t.outcome ≡ Some r → IsRequestValue r →
     Logged base (t ∷ past) log → FollowsEdits [] log → IsUnreadable (t ∷ past) log kind → ⊥
 always_readable base t past [] r kind is value entries follows unreadable = absurd entries
-always_readable base t past (e ∷ log) r kind is value entries follows unreadable = never_unreadable t past e log r kind is value entries.0 follows unreadable
+always_readable base t past (e ∷ log) r kind is value entries follows unreadable =
+    never_unreadable t past e log r kind is value entries.0 follows unreadable

@@ -1,5 +1,6 @@
 -- What the ends of an undisturbed exchange are between two turns, whatever their security contexts mean.
-use Rattle.std.proofs.Common.{◌≡◌, ◌≢◌, ℕ, ◌-◌, ◌≤◌, ◌<◌, ◌^◌, List, [], length, Bool, true, false, Option, None, Some, refl, ap, sym, ◌∙◌, subst, arith, eq-eqb, nat_lt}
+use Rattle.std.proofs.Common.{◌≡◌, ◌≢◌, ℕ, ◌-◌, ◌≤◌, ◌<◌, ◌^◌, List, [], length, Bool, true, false, Option, None, Some, refl, ap, sym}
+use Rattle.std.proofs.Common.{◌∙◌, subst, arith, eq-eqb, nat_lt}
 use Rattle.sspi_types.specs.declared.error_kind.ErrorKind.{ErrorKind}
 use Rattle.sspi_types.specs.declared.error_kind.ErrorKind.TheVariants.{InsufficientMemory}
 use Rattle.sspi_tsreq.specs.declared.request.TsRequest.{TsRequest}
@@ -47,10 +48,10 @@ is_false false never = refl
 pub stops_later : (test : Bool) (here kind : ErrorKind) (Later : Type 0) → test ≡ false → StopsIf test here kind Later → Later
 stops_later test here kind Later unmet h = subst (λ (b : Bool). StopsIf b here kind Later) unmet h
 
-pub made_past : {C : Type 0} (old new : Option C) (Cause Later : Type 0) → (Cause → ⊥) → MadeOr old new Cause Later → Later
+pub made_past : {C : Type 0} (old new : Option C) (Cause Later : Type 0) → (old ≡ None → Cause → ⊥) → MadeOr old new Cause Later → Later
 made_past (Some m) new Cause Later never h = h
 made_past None (Some m) Cause Later never h = h
-made_past None None Cause Later never h = absurd (never h)
+made_past None None Cause Later never h = absurd (never refl h)
 
 count_few : (b : Bool) → count_of b ≤ 1
 count_few true = omega arith
@@ -82,7 +83,8 @@ module _ {C : Type 0} (c : Meaning ContextSetting C) where
   -- by which messages the context x seals texts
   pub record IsMaker (x : C) (blob : ℕ → List ℕ → List ℕ) : Type 0 where
     pub made : (m : C) (n : ℕ) (text sealed : List ℕ) → cleared c m ≡ x → c.seals m n text sealed → sealed ≡ blob n text
-    pub never : (m : C) (text : List ℕ) (kind : ErrorKind) → cleared c m ≡ x → (c.counts m).sealed < 2 ^ 64 - 1 → c.refuses m (ToSeal text) kind → ⊥
+    pub never : (m : C) (text : List ℕ) (kind : ErrorKind) → cleared c m ≡ x → (c.counts m).sealed < 2 ^ 64 - 1 →
+        c.refuses m (ToSeal text) kind → ⊥
 
   -- which messages the context x opens
   pub record IsTaker (x : C) (blob : ℕ → List ℕ → List ℕ) : Type 0 where
@@ -98,7 +100,8 @@ module _ {C : Type 0} (c : Meaning ContextSetting C) where
       at None none = absurd none
       at (Some m) e = record { held = m; there = refl; same = e ∙ h.same }
 
-  pub sealed_field : (o : Option C) (x : C) (blob : ℕ → List ℕ → List ℕ) (n : ℕ) (text : List ℕ) (field : Option (List ℕ)) → Holds o x → IsMaker x blob →
+  pub sealed_field : (o : Option C) (x : C) (blob : ℕ → List ℕ → List ℕ) (n : ℕ) (text : List ℕ) (field : Option (List ℕ)) → Holds o x →
+      IsMaker x blob →
       SealsIn c o n text field → field ≡ Some (blob n text)
   sealed_field o x blob n text field h maker seals = at field (subst (λ (y : Option C). SealsIn c y n text field) h.there seals)
     where
@@ -124,7 +127,16 @@ module _ {C : Type 0} (c : Meaning ContextSetting C) where
 
   pub fresh_client : (a : ClientView C) (w : ℕ) → IsFreshClient a → ClientIs a a w true NegoToken 0 0
   fresh_client a w fresh = record {
-    same = record { public_key = refl; credentials = refl; delegation = refl; version = refl; least = refl; mode = refl; target = refl; nonce = refl };
+    same = record {
+      public_key = refl;
+      credentials = refl;
+      delegation = refl;
+      version = refl;
+      least = refl;
+      mode = refl;
+      target = refl;
+      nonce = refl;
+    };
     state_is = fresh.state;
     idle = rw fresh.context refl;
     fits = rw fresh.context refl;
@@ -156,7 +168,8 @@ module _ {C : Type 0} (c : Meaning ContextSetting C) where
     notes = rw (there, none, takes) refl;
   }
 
-  pub takes_later : (v : ClientView C) (m : C) (first : Bool) (w w2 : ℕ) → (first ≡ false → w2 ≡ w) → nat_lt w2 v.least ≡ false → v.context ≡ Some m →
+  pub takes_later : (v : ClientView C) (m : C) (first : Bool) (w w2 : ℕ) → (first ≡ false → w2 ≡ w) → nat_lt w2 v.least ≡ false →
+      v.context ≡ Some m →
       v.noted ≡ noted_at first w → Takes v w2
   takes_later v m true w w2 same takes there noted = takes_first v m w2 takes there noted
   takes_later v m false w w2 same takes there noted = takes_noted v m w2 there (noted ∙ ap Some (sym (same refl)))
@@ -208,7 +221,8 @@ module _ {C : Type 0} (c : Meaning ContextSetting C) where
       unsealed_is = rw fresh.context refl;
     }
 
-    pub server_emptied : (b v : ServerView C P) (w : ℕ) (state : CredSspState) (sealed unsealed : ℕ) → ServerIs b v w state sealed unsealed →
+    pub server_emptied : (b v : ServerView C P) (w : ℕ) (state : CredSspState) (sealed unsealed : ℕ) →
+        ServerIs b v w state sealed unsealed →
         ServerIs b (record v { output = [] }) w state sealed unsealed
     server_emptied b v w state sealed unsealed is = record {
       same = record { public_key = is.same.public_key; version = is.same.version; least = is.same.least; mode = is.same.mode };
@@ -228,4 +242,5 @@ module _ {C : Type 0} (c : Meaning ContextSetting C) where
 
     pub held_is : (o : Option C) (x : C) → Holds o x → sealed_in c o ≡ 0 → unsealed_in c o ≡ 0 → o ≡ Some x
     held_is o x h sealed unsealed =
-        h.there ∙ ap Some (unused_is h.held x h.same (sym (ap (sealed_in c) h.there) ∙ sealed) (sym (ap (unsealed_in c) h.there) ∙ unsealed))
+        h.there ∙ ap Some (unused_is h.held x h.same (sym (ap (sealed_in c) h.there) ∙ sealed)
+        (sym (ap (unsealed_in c) h.there) ∙ unsealed))

@@ -1,5 +1,6 @@
 -- What messages of an exchange fit, and the proofs of the key in them.
-use Rattle.std.proofs.Common.{◌≡◌, ℕ, zero, suc, ◌+◌, ◌/◌, ◌^◌, ◌≤◌, ◌<◌, Bool, true, false, List, ◌++◌, length, Option, None, Some, IfSome, refl, ap, arith, nat_lt, if◌then◌else◌, inl, inr}
+use Rattle.std.proofs.Common.{◌≡◌, ℕ, zero, suc, ◌+◌, ◌/◌, ◌^◌, ◌≤◌, ◌<◌, Bool, true, false, List, ◌++◌, length, Option, None, Some}
+use Rattle.std.proofs.Common.{IfSome, refl, ap, arith, nat_lt, if◌then◌else◌, inl, inr}
 use Rattle.std.proofs.lemmas.Bool.{cases_lt, lt-ltb, le-leb}
 use Rattle.sha2.specs.Sha256.{sha256}
 use Rattle.sha2.proofs.Facts256.{length-sha256}
@@ -29,7 +30,8 @@ shorter_of : (b : Bool) (x y : List ℕ) (n : ℕ) → length x ≤ n → length
 shorter_of true x y n p q = p
 shorter_of false x y n p q = q
 
-pub prescribed_length : (end : EndpointType) (version : ℕ) (nonce key : List ℕ) → length key ≤ 262144 → length (prescribed end version nonce key) ≤ 262144
+pub prescribed_length : (end : EndpointType) (version : ℕ) (nonce key : List ℕ) → length key ≤ 262144 →
+    length (prescribed end version nonce key) ≤ 262144
 unfolding prescribed
 prescribed_length end version nonce key short =
     shorter_of (nat_lt version 5) (echo end key) (sha256 (magic end ++ nonce ++ key)) 262144

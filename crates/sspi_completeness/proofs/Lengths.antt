@@ -1,5 +1,6 @@
 -- How long the messages of an exchange are at most.
-use Rattle.std.proofs.Common.{◌≡◌, ℕ, ◌+◌, ◌*◌, ◌/◌, ◌%◌, ◌≤◌, List, [], ◌∷◌, ◌++◌, length, Option, None, Some, true, Bool, Ok, refl, arith, if◌then◌else◌, nat_lt, false}
+use Rattle.std.proofs.Common.{◌≡◌, ℕ, ◌+◌, ◌*◌, ◌/◌, ◌%◌, ◌≤◌, List, [], ◌∷◌, ◌++◌, length, Option, None, Some, true, Bool, Ok, refl}
+use Rattle.std.proofs.Common.{arith, if◌then◌else◌, nat_lt, false}
 use Rattle.std.proofs.lemmas.Bool.{le-leb}
 use Rattle.std.proofs.lemmas.List.{length-append}
 use Rattle.sspi_types.specs.declared.nstatus.NStatusCode.{NStatusCode}
@@ -11,7 +12,8 @@ use Rattle.sspi_names.specs.declared.identity.AuthIdentityBuffers.{AuthIdentityB
 use Rattle.sspi_tsreq.specs.declared.request.TsRequest.{TsRequest}
 use Rattle.sspi_tsreq.specs.Creds.{buffers_text, creds_body, spelled_if_fits}
 use Rattle.sspi_tsreq.specs.CredsSizes.{password_fields_size, body_size}
-use Rattle.sspi_tsreq.specs.Spelling.{carried, carries_nonce, version_field, token_item, token_list, nego_field, octets_field, code_field, last_fields, later_fields, fields, fits}
+use Rattle.sspi_tsreq.specs.Spelling.{carried, carries_nonce, version_field, token_item, token_list, nego_field, octets_field}
+use Rattle.sspi_tsreq.specs.Spelling.{code_field, last_fields, later_fields, fields, fits}
 use Rattle.sspi_tsreq.proofs.Room.{length-creds_body}
 
 -- the bytes of a field that may be absent
@@ -118,7 +120,8 @@ pub record HasText (b : AuthIdentityBuffers) : Type 0 where
   pub is : buffers_text b ≡ Ok text
   pub short : length text ≤ 2 * (length b.user + length b.domain + length b.password.value) + 60
 
-pub short_credentials : (b : AuthIdentityBuffers) → length b.user ≤ 8192 → length b.domain ≤ 8192 → length b.password.value ≤ 131072 → HasText b
+pub short_credentials : (b : AuthIdentityBuffers) → length b.user ≤ 8192 → length b.domain ≤ 8192 → length b.password.value ≤ 131072 →
+    HasText b
 unfolding buffers_text
 short_credentials b user domain password =
     let d = bytes_le b.domain in

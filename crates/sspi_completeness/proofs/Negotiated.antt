@@ -1,5 +1,6 @@
 -- The rounds of an undisturbed exchange whose authentication is evaluated: what each end makes of each of its turns.
-use Rattle.std.proofs.Common.{◌≡◌, ◌∷◌, ◌-◌, ◌≢◌, ℕ, zero, suc, ◌+◌, ◌≤◌, ◌<◌, ◌^◌, Bool, true, false, List, [], Option, None, Some, refl, ap, sym, ◌∙◌, subst, arith}
+use Rattle.std.proofs.Common.{◌≡◌, ◌∷◌, ◌-◌, ◌≢◌, ℕ, zero, suc, ◌+◌, ◌≤◌, ◌<◌, ◌^◌, Bool, true, false, List, [], Option, None, Some}
+use Rattle.std.proofs.Common.{refl, ap, sym, ◌∙◌, subst, arith}
 use Rattle.sspi_names.specs.declared.identity.AuthIdentity.{AuthIdentity}
 use Rattle.sspi_tsreq.specs.declared.request.TsRequest.{TsRequest}
 use Rattle.sspi_tsreq.specs.Spelling.{carried, carries_code}
@@ -13,45 +14,34 @@ use Rattle.sspi_credssp.specs.declared.state.CredSspState.TheVariants.{NegoToken
 use Rattle.sspi_credssp.specs.Client.{ClientView, IsFreshClient}
 use Rattle.sspi_credssp.specs.Context.{ContextSetting}
 use Rattle.sspi_credssp.specs.PublicKey.{prescribed}
-use Rattle.sspi_credssp.specs.Requests.{is_code, nonce_of, unless_empty}
+use Rattle.sspi_credssp.specs.Requests.{nonce_of, unless_empty}
 use Rattle.sspi_credssp.specs.Proxy.{ProxyMeaning, ProxyTells}
 use Rattle.sspi_credssp.specs.Server.{ServerView, IsFreshServer}
 use Rattle.sspi_credssp.specs.ServerTurn.{HoldsIdentity}
 use Rattle.sspi_credssp.specs.Shown.{IsOver}
 use Rattle.sspi_credssp.specs.declared.turn.Outcome.{Outcome}
-use Rattle.sspi_credssp.specs.declared.turn.Outcome.TheVariants.{Reply, Final, Finished, Refused}
 use Rattle.sspi_delegate.specs.Asking.{KdcCalls}
 use Rattle.sspi_delegate.specs.History.{ClientMakes, ServerMakes}
 use Rattle.sspi_completeness.proofs.Accepting.{IsPeer, Takes}
 use Rattle.sspi_completeness.proofs.ClientDelivery as client_last
 use Rattle.sspi_completeness.proofs.ClientTurns as client
-use Rattle.sspi_completeness.proofs.Ends.{Comes, Ends, Holds, held_is, ClientIs, ServerIs, fresh_client, fresh_server, client_emptied, server_emptied}
+use Rattle.sspi_completeness.proofs.Ends.{Comes, Ends, Holds, held_is, ClientIs, ServerIs, fresh_client, fresh_server, client_emptied}
+use Rattle.sspi_completeness.proofs.Ends.{server_emptied}
 use Rattle.sspi_completeness.proofs.Fits.{IsMessage, same_proof, carried_nonce, nonce_there}
 use Rattle.sspi_completeness.proofs.Lengths.{no_code}
-use Rattle.sspi_completeness.proofs.Negotiation.{AreAlike, IsNegotiation, last_step, given_token, up_token, down_token, proof_message, sent_nonce, answer_message, last_message, given_only, taken_only, up_fits, down_fits, proof_fits, answer_code, answer_fits, last_fits}
+use Rattle.sspi_completeness.proofs.Negotiation.{AreAlike, IsNegotiation, last_step, given_token, up_token, down_token, proof_message}
+use Rattle.sspi_completeness.proofs.Negotiation.{sent_nonce, answer_message, last_message, given_only, taken_only, up_fits, down_fits}
+use Rattle.sspi_completeness.proofs.Negotiation.{proof_fits, answer_code, answer_fits, last_fits}
 use Rattle.sspi_completeness.proofs.Points.{IsKnown}
+use Rattle.sspi_completeness.proofs.Rounds.{Round, Token, Proof, Last, comes_map, is_no_code}
 use Rattle.sspi_completeness.proofs.ServerDelivery as server_last
 use Rattle.sspi_completeness.proofs.ServerProofs as proofs
 use Rattle.sspi_completeness.proofs.ServerTurns as server
 
--- The round of a token that asks for more, with the number of those that follow it, of the client's proof, and the last.
-pub data Round (j : ℕ) : Type 0 where
-  Token : (n rest : ℕ) → n + rest ≡ j → Round j
-  Proof : Round j
-  Last : Round j
-
-comes_map : (out : Outcome) (Q R : TsRequest → Type 0) → ((r : TsRequest) → Q r → R r) → Comes out Q → Comes out R
-comes_map (Reply r) Q R more h = more r h
-comes_map (Final r) Q R more h = more r h
-comes_map Finished Q R more h = h
-comes_map (Refused kind reply) Q R more h = h
-
-is_no_code : (d : TsRequest) → d.error_code ≡ None → is_code d.error_code ≡ false
-is_no_code d none = rw none refl
-
 module _ {C D P : Type 0} (c : Meaning ContextSetting C) (laws : IsContext c) (k : KdcCalls D) (p : ProxyMeaning P)
     (a : ClientView C) (b : ServerView C P) (kdc_first : D) (j : ℕ) (early : Bool) (it : IsNegotiation c laws k p a b kdc_first j early)
-    (text : List ℕ) (identity : AuthIdentity) (alike : AreAlike a b text identity) (client_new : IsFreshClient a) (server_new : IsFreshServer b) where
+    (text : List ℕ) (identity : AuthIdentity) (alike : AreAlike a b text identity) (client_new : IsFreshClient a)
+    (server_new : IsFreshServer b) where
   abbrev CView : Type 0
   CView = ClientView C
 
@@ -214,10 +204,12 @@ module _ {C D P : Type 0} (c : Meaning ContextSetting C) (laws : IsContext c) (k
   walks_at : (n : ℕ) (x : CView) (kdc : D) (d : TsRequest) → n ≤ suc j → ClientNego n x kdc → d.nego_tokens ≡ (given_of n).nego_tokens →
       client.Walks c laws k x kdc d.nego_tokens (it.client_step n) (it.client_context (suc n)) it.client_handle (it.KdcAt (suc n))
   walks_at zero x kdc d less at token =
-      subst (λ (t : Option (List ℕ)). client.Walks c laws k x kdc t (it.client_step 0) (it.client_context 1) it.client_handle (it.KdcAt 1)) (sym token)
+      subst (λ (t : Option (List ℕ)). client.Walks c laws k x kdc t (it.client_step 0) (it.client_context 1) it.client_handle
+      (it.KdcAt 1)) (sym token)
       (it.walks_first x kdc at.is.same at.has at.kdc_at)
   walks_at (suc n) x kdc d less at token =
-      subst (λ (t : Option (List ℕ)). client.Walks c laws k x kdc t (it.client_step (suc n)) (it.client_context (suc (suc n))) it.client_handle (it.KdcAt (suc (suc n))))
+      subst (λ (t : Option (List ℕ)). client.Walks c laws k x kdc t (it.client_step (suc n))
+      (it.client_context (suc (suc n))) it.client_handle (it.KdcAt (suc (suc n))))
       (sym token) (it.walks n x kdc (omega (arith, less)) at.is.same at.has.0 at.has.1 at.kdc_at)
 
   version_given : (n : ℕ) → (given_of n).version ≡ peer_version n
@@ -229,12 +221,14 @@ module _ {C D P : Type 0} (c : Meaning ContextSetting C) (laws : IsContext c) (k
   peer_speaks (suc n) first = refl
 
   client_given : (n : ℕ) (x : CView) (kdc : D) (d : TsRequest) → n ≤ suc j → ClientNego n x kdc → d ≡ given_of n →
-      client.NegoGiven c laws k a x (peer_version n) (is_first n) kdc d (it.client_step n) (it.client_context (suc n)) it.client_handle (it.KdcAt (suc n))
+      client.NegoGiven c laws k a x (peer_version n) (is_first n) kdc d (it.client_step n) (it.client_context (suc n)) it.client_handle
+      (it.KdcAt (suc n))
   client_given n x kdc d less at is = record {
     is = at.is;
     walks = walks_at n x kdc d less at (ap (λ (r : TsRequest). r.nego_tokens) is);
     version = ap (λ (r : TsRequest). r.version) is ∙ version_given n;
-    code = is_no_code d (ap (λ (r : TsRequest). r.error_code) is ∙ (given_only c laws k p a b kdc_first j early it text identity alike n).code);
+    code = is_no_code d (ap (λ (r : TsRequest). r.error_code) is ∙
+        (given_only c laws k p a b kdc_first j early it text identity alike n).code);
     begins = it.client_begins;
   }
 
@@ -250,8 +244,10 @@ module _ {C D P : Type 0} (c : Meaning ContextSetting C) (laws : IsContext c) (k
           kdc_at = h.4;
         },
       ))
-      (client.token_turn c laws k a x (peer_version n) (is_first n) kdc d (it.client_step n) (it.client_context (suc n)) it.client_handle (it.KdcAt (suc n))
-      (client_given n x kdc d (omega (arith, less)) at is) b.version out mid kdc2 (it.client_goes n less) (peer_speaks n) alike.client_takes makes)
+      (client.token_turn c laws k a x (peer_version n) (is_first n) kdc d (it.client_step n) (it.client_context (suc n)) it.client_handle
+      (it.KdcAt (suc n))
+      (client_given n x kdc d (omega (arith, less)) at is) b.version out mid kdc2 (it.client_goes n less)
+      (peer_speaks n) alike.client_takes makes)
 
   client_proof : (x mid : CView) (kdc kdc2 : D) (d : TsRequest) (out : Outcome) → ClientNego (suc j) x kdc → d ≡ carried (down_of j) →
       ClientMakes c k x kdc d out mid kdc2 → Comes out (λ r. (r ≡ proof_of) × ClientLast (record mid { output = [] }))
@@ -269,11 +265,13 @@ module _ {C D P : Type 0} (c : Meaning ContextSetting C) (laws : IsContext c) (k
           holds = record { held = h.2.held; there = h.2.there; same = h.2.same };
         },
       ))
-      (client.proof_turn c laws k a x b.version false kdc d (it.client_step (suc j)) (it.client_context (suc (suc j))) it.client_handle (it.KdcAt (suc (suc j)))
+      (client.proof_turn c laws k a x b.version false kdc d (it.client_step (suc j)) (it.client_context (suc (suc j))) it.client_handle
+      (it.KdcAt (suc (suc j)))
       (client_given (suc j) x kdc d (omega arith) at is) it.ups it.client_maker refl out mid kdc2 it.client_ends makes)
 
   -- both ends owe the same proofs
-  same_text : (end : EndpointType) → prescribed end b.version a.nonce a.public_key ≡ prescribed end a.version (nonce_of nonce_sent) b.public_key
+  same_text : (end : EndpointType) → prescribed end b.version a.nonce a.public_key ≡ prescribed end a.version
+      (nonce_of nonce_sent) b.public_key
   same_text end =
       sym (same_proof end a.version b.version (nonce_of nonce_sent) a.nonce a.public_key alike.versions (carried_nonce a.version a.nonce))
       ∙ ap (prescribed end a.version (nonce_of nonce_sent)) (sym alike.key_same)
@@ -282,7 +280,12 @@ module _ {C D P : Type 0} (c : Meaning ContextSetting C) (laws : IsContext c) (k
       ClientMakes c k x kdc d out mid kdc2 → Comes out (λ r. r ≡ last_of)
   client_delivery x mid kdc kdc2 d out at is makes =
       comes_map out _ _
-      (λ r h. h ∙ ap (λ (q : TsRequest). record q { version = a.version; nego_tokens = None; pub_key_auth = None; auth_info = Some (it.ups 1 text) }) is)
+      (λ r h. h ∙ ap (λ (q : TsRequest). record q {
+        version = a.version;
+        nego_tokens = None;
+        pub_key_auth = None;
+        auth_info = Some (it.ups 1 text);
+      }) is)
       (client_last.last_turn c k a x b.version d (it.client_context (suc (suc j))) it.ups it.downs text (record {
         is = at.is;
         holds = at.holds;
@@ -297,27 +300,34 @@ module _ {C D P : Type 0} (c : Meaning ContextSetting C) (laws : IsContext c) (k
       }) kdc out mid kdc2 makes)
 
   client_goes : (i : Round j) (x mid : CView) (kdc kdc2 : D) (d : TsRequest) (out : Outcome) → ClientAt i x kdc → d ≡ given i →
-      ClientMakes c k x kdc d out mid kdc2 → Comes out (λ r. (r ≡ up i) × (is_last i ≡ false → ClientAt (next i) (record mid { output = [] }) kdc2))
+      ClientMakes c k x kdc d out mid kdc2 → Comes out (λ r. (r ≡ up i) ×
+      (is_last i ≡ false → ClientAt (next i) (record mid { output = [] }) kdc2))
   client_goes (Token n zero e) x mid kdc kdc2 d out at is makes =
       comes_map out _ _ (λ r h. (h.0, λ later. subst (λ (m : ℕ). ClientNego (suc m) (record mid { output = [] }) kdc2) (is_j n e) h.1))
       (client_token n x mid kdc kdc2 d out (within n zero e) at is makes)
   client_goes (Token n (suc rest) e) x mid kdc kdc2 d out at is makes =
       comes_map out _ _ (λ r h. (h.0, λ later. h.1)) (client_token n x mid kdc kdc2 d out (within n (suc rest) e) at is makes)
-  client_goes Proof x mid kdc kdc2 d out at is makes = comes_map out _ _ (λ r h. (h.0, λ later. h.1)) (client_proof x mid kdc kdc2 d out at is makes)
-  client_goes Last x mid kdc kdc2 d out at is makes = comes_map out _ _ (λ r h. (h, λ later. absurd cc)) (client_delivery x mid kdc kdc2 d out at is makes)
+  client_goes Proof x mid kdc kdc2 d out at is makes = comes_map out _ _ (λ r h. (h.0, λ later. h.1))
+      (client_proof x mid kdc kdc2 d out at is makes)
+  client_goes Last x mid kdc kdc2 d out at is makes = comes_map out _ _ (λ r h. (h, λ later. absurd cc))
+      (client_delivery x mid kdc kdc2 d out at is makes)
 
   -- ---- the server's turns
 
-  takes_at : (n : ℕ) (y : SView) (d : TsRequest) → n ≤ last_step early j → ServerNego n y → d.nego_tokens ≡ Some (it.client_step n).output →
+  takes_at : (n : ℕ) (y : SView) (d : TsRequest) → n ≤ last_step early j → ServerNego n y → p.told y.proxy ≡ p.told b.proxy →
+      d.nego_tokens ≡ Some (it.client_step n).output →
       Takes c laws p y d.nego_tokens (it.server_step n) (it.server_context (suc n)) it.server_handle
-  takes_at zero y d less at token =
-      subst (λ (t : Option (List ℕ)). Takes c laws p y t (it.server_step 0) (it.server_context 1) it.server_handle) (sym token) (it.takes_first y at.is.same at.has)
-  takes_at (suc n) y d less at token =
-      subst (λ (t : Option (List ℕ)). Takes c laws p y t (it.server_step (suc n)) (it.server_context (suc (suc n))) it.server_handle) (sym token)
+  takes_at zero y d less at tells token =
+      subst (λ (t : Option (List ℕ)). Takes c laws p y t (it.server_step 0) (it.server_context 1) it.server_handle) (sym token)
+      (it.takes_first y at.is.same tells at.has)
+  takes_at (suc n) y d less at tells token =
+      subst (λ (t : Option (List ℕ)). Takes c laws p y t (it.server_step (suc n)) (it.server_context (suc (suc n))) it.server_handle)
+      (sym token)
       (it.takes n y less at.is.same at.has.0 at.has.1)
 
   -- a token that may be left out where it is empty
-  takes_some : (y : SView) (step : Step) (z : C) (handle : _) (token : List ℕ) → Takes c laws p y (Some token) step z handle → Takes c laws p y (unless_empty token) step z handle
+  takes_some : (y : SView) (step : Step) (z : C) (handle : _) (token : List ℕ) → Takes c laws p y (Some token) step z handle →
+      Takes c laws p y (unless_empty token) step z handle
   takes_some y step z handle [] takes = record { done = takes.done; never = takes.never }
   takes_some y step z handle (x ∷ token) takes = takes
 
@@ -327,8 +337,9 @@ module _ {C D P : Type 0} (c : Meaning ContextSetting C) (laws : IsContext c) (k
   server_given n y d at version takes = record { is = at.is; takes = takes; version = version; begins = it.server_begins }
 
   server_token : (n : ℕ) (y mid : SView) (d : TsRequest) (out : Outcome) → n < last_step early j → ServerNego n y → d ≡ carried (up_of n) →
+      p.told y.proxy ≡ p.told b.proxy → p.faults mid.proxy ≡ p.faults y.proxy → p.faults y.proxy < 2 ^ 64 - 1 →
       ServerMakes c p y d out mid → Comes out (λ r. (r ≡ down_of n) × ServerNego (suc n) (record mid { output = [] }))
-  server_token n y mid d out less at is makes =
+  server_token n y mid d out less at is tells still calm makes =
       comes_map out _ _
       (λ r h. (
         h.0 ∙ ap (λ (q : TsRequest). record q { version = b.version; nego_tokens = Some (it.server_step n).output }) is,
@@ -338,8 +349,9 @@ module _ {C D P : Type 0} (c : Meaning ContextSetting C) (laws : IsContext c) (k
         },
       ))
       (server.token_turn c laws p b y a.version d (it.server_step n) (it.server_context (suc n)) it.server_handle
-      (server_given n y d at (ap (λ (r : TsRequest). r.version) is) (takes_at n y d (omega (arith, less)) at (ap (λ (r : TsRequest). r.nego_tokens) is)))
-      out mid (it.server_goes n less) makes)
+      (server_given n y d at (ap (λ (r : TsRequest). r.version) is)
+      (takes_at n y d (omega (arith, less)) at tells (ap (λ (r : TsRequest). r.nego_tokens) is)))
+      out mid (it.server_goes n less) still calm makes)
 
   proof_given : (d : TsRequest) → d ≡ carried proof_of → proofs.ProofGiven c laws p b a.version d it.peer_context it.downs it.ups
   proof_given d is =
@@ -348,7 +360,8 @@ module _ {C D P : Type 0} (c : Meaning ContextSetting C) (laws : IsContext c) (k
         maker = it.server_maker;
         taker = it.server_taker;
         proof = ap (λ (r : TsRequest). r.pub_key_auth) is
-            ∙ ap (λ (p : List ℕ). Some (it.ups 0 p)) (same_text endpoint.Client ∙ ap (λ (n : Option (List ℕ)). prescribed endpoint.Client a.version (nonce_of n) b.public_key) (sym nonce));
+            ∙ ap (λ (p : List ℕ). Some (it.ups 0 p)) (same_text endpoint.Client ∙ ap
+            (λ (n : Option (List ℕ)). prescribed endpoint.Client a.version (nonce_of n) b.public_key) (sym nonce));
         nonce = rw nonce (nonce_there a.version a.nonce);
       }
 
@@ -359,14 +372,16 @@ module _ {C D P : Type 0} (c : Meaning ContextSetting C) (laws : IsContext c) (k
     pub_key_auth = Some (it.downs 0 (prescribed endpoint.Server a.version (nonce_of d.client_nonce) b.public_key));
   }
 
-  keyed_last : (mid : SView) → ServerIs c b mid a.version AuthInfo 1 1 → Holds c mid.context it.peer_context → ServerLast (record mid { output = [] })
+  keyed_last : (mid : SView) → ServerIs c b mid a.version AuthInfo 1 1 → Holds c mid.context it.peer_context →
+      ServerLast (record mid { output = [] })
   keyed_last mid is holds = record {
     is = server_emptied c b mid a.version AuthInfo 1 1 is;
     holds = record { held = holds.held; there = holds.there; same = holds.same };
   }
 
   -- what a server that has its peer's name makes of a proof
-  answer_more : (mid : SView) (d r : TsRequest) → d ≡ carried proof_of → (r ≡ answered d) × ServerIs c b mid a.version AuthInfo 1 1 × Holds c mid.context it.peer_context →
+  answer_more : (mid : SView) (d r : TsRequest) → d ≡ carried proof_of → (r ≡ answered d) × ServerIs c b mid a.version AuthInfo 1 1 ×
+      Holds c mid.context it.peer_context →
       (r ≡ answer_of) × ServerLast (record mid { output = [] })
   answer_more mid d r is h = (h.0 ∙ ap answered is, keyed_last mid h.1 h.2)
 
@@ -374,7 +389,8 @@ module _ {C D P : Type 0} (c : Meaning ContextSetting C) (laws : IsContext c) (k
   less_last true n less = less
   less_last false n less = omega (arith, less)
 
-  peer_at : (y : SView) (m : ℕ) → last_step early j ≡ m → p.told y.proxy ≡ p.told b.proxy → IsPeer c laws (p.told y.proxy) (it.server_context (suc m)) it.peer_context
+  peer_at : (y : SView) (m : ℕ) → last_step early j ≡ m → p.told y.proxy ≡ p.told b.proxy →
+      IsPeer c laws (p.told y.proxy) (it.server_context (suc m)) it.peer_context
   peer_at y m is tells =
       subst (λ (t : ProxyTells). IsPeer c laws t (it.server_context (suc m)) it.peer_context) (sym tells)
       (subst (λ (n : ℕ). IsPeer c laws (p.told b.proxy) (it.server_context (suc n)) it.peer_context) is it.peer)
@@ -383,8 +399,10 @@ module _ {C D P : Type 0} (c : Meaning ContextSetting C) (laws : IsContext c) (k
   over_at m is = subst (λ (n : ℕ). IsOver (Some (it.server_step n).status)) is it.server_ends
 
   -- the last token of the server, after which its authentication may be over
-  last_token : (early2 : Bool) → early ≡ early2 → (n : ℕ) (y mid : SView) (d : TsRequest) (out : Outcome) → n ≡ j → ServerNego n y → d ≡ carried (up_of n) →
-      p.told y.proxy ≡ p.told b.proxy → p.faults mid.proxy ≡ p.faults y.proxy → p.faults y.proxy < 2 ^ 64 - 1 → ServerMakes c p y d out mid →
+  last_token : (early2 : Bool) → early ≡ early2 → (n : ℕ) (y mid : SView) (d : TsRequest) (out : Outcome) → n ≡ j → ServerNego n y →
+      d ≡ carried (up_of n) →
+      p.told y.proxy ≡ p.told b.proxy → p.faults mid.proxy ≡ p.faults y.proxy → p.faults y.proxy < 2 ^ 64 - 1 →
+      ServerMakes c p y d out mid →
       Comes out (λ r. (r ≡ down_of n) × BeforeProof early2 (record mid { output = [] }))
   last_token true when n y mid d out is_last at is tells still calm makes =
       let m : last_step early j ≡ n = ap (λ (x : Bool). last_step x j) when ∙ sym is_last in
@@ -397,43 +415,53 @@ module _ {C D P : Type 0} (c : Meaning ContextSetting C) (laws : IsContext c) (k
         },
       ))
       (proofs.over_turn c laws p b y a.version d (it.server_step n) (it.server_context (suc n)) it.peer_context it.server_handle
-      (server_given n y d at (ap (λ (r : TsRequest). r.version) is) (takes_at n y d (omega (arith, m)) at (ap (λ (r : TsRequest). r.nego_tokens) is)))
+      (server_given n y d at (ap (λ (r : TsRequest). r.version) is)
+      (takes_at n y d (omega (arith, m)) at tells (ap (λ (r : TsRequest). r.nego_tokens) is)))
       (peer_at y n m tells) (over_at n m)
       (ap (λ (r : TsRequest). r.pub_key_auth) is ∙ (taken_only c laws k p a b kdc_first j early it text identity alike n).proof)
       (subst (λ (x : ℕ). (it.server_step x).output ≢ []) (sym is_last) (it.server_speaks when)) out mid still calm makes)
   last_token false when n y mid d out is_last at is tells still calm makes =
       let m : last_step early j ≡ suc j = ap (λ (x : Bool). last_step x j) when in
       comes_map out _ _ (λ r h. (h.0, subst (λ (x : ℕ). ServerNego (suc x) (record mid { output = [] })) is_last h.1))
-      (server_token n y mid d out (omega (arith, m, is_last)) at is makes)
+      (server_token n y mid d out (omega (arith, m, is_last)) at is tells still calm makes)
 
-  answers_proof : (early2 : Bool) → early ≡ early2 → (y mid : SView) (d : TsRequest) (out : Outcome) → BeforeProof early2 y → d ≡ carried proof_of →
-      p.told y.proxy ≡ p.told b.proxy → p.faults mid.proxy ≡ p.faults y.proxy → p.faults y.proxy < 2 ^ 64 - 1 → ServerMakes c p y d out mid →
+  answers_proof : (early2 : Bool) → early ≡ early2 → (y mid : SView) (d : TsRequest) (out : Outcome) → BeforeProof early2 y →
+      d ≡ carried proof_of →
+      p.told y.proxy ≡ p.told b.proxy → p.faults mid.proxy ≡ p.faults y.proxy → p.faults y.proxy < 2 ^ 64 - 1 →
+      ServerMakes c p y d out mid →
       Comes out (λ r. (r ≡ answer_of) × ServerLast (record mid { output = [] }))
   answers_proof true when y mid d out at is tells still calm makes =
       comes_map out _ _ (λ r h. answer_more mid d r is h)
-      (proofs.proof_turn c laws p b y a.version d it.peer_context it.downs it.ups (proof_given d is) at.is at.holds (ap (λ (r : TsRequest). r.version) is)
-      it.server_begins out mid makes)
+      (proofs.proof_turn c laws p b y a.version d it.peer_context it.downs it.ups (proof_given d is) at.is at.holds
+      (ap (λ (r : TsRequest). r.version) is)
+      out mid makes)
   answers_proof false when y mid d out at is tells still calm makes =
       let m : last_step early j ≡ suc j = ap (λ (x : Bool). last_step x j) when in
       let token : d.nego_tokens ≡ unless_empty (it.client_step (suc j)).output = ap (λ (r : TsRequest). r.nego_tokens) is in
-      let takes = subst (λ (t : Option (List ℕ)). Takes c laws p y t (it.server_step (suc j)) (it.server_context (suc (suc j))) it.server_handle) (sym token)
+      let takes = subst (λ (t : Option (List ℕ)). Takes c laws p y t (it.server_step (suc j))
+      (it.server_context (suc (suc j))) it.server_handle) (sym token)
       (takes_some y _ _ it.server_handle (it.client_step (suc j)).output (it.takes j y (omega (arith, m)) at.is.same at.has.0 at.has.1)) in
       comes_map out _ _ (λ r h. answer_more mid d r is h)
-      (proofs.exchange_turn c laws p b y a.version d (it.server_step (suc j)) (it.server_context (suc (suc j))) it.peer_context it.server_handle
-      (server_given (suc j) y d at (ap (λ (r : TsRequest). r.version) is) takes) (peer_at y (suc j) m tells) (over_at (suc j) m) it.downs it.ups (proof_given d is)
+      (proofs.exchange_turn c laws p b y a.version d (it.server_step (suc j))
+      (it.server_context (suc (suc j))) it.peer_context it.server_handle
+      (server_given (suc j) y d at (ap (λ (r : TsRequest). r.version) is) takes) (peer_at y (suc j) m tells)
+      (over_at (suc j) m) it.downs it.ups (proof_given d is)
       out mid still calm makes)
 
-  server_goes : (i : Round j) (y mid : SView) (d : TsRequest) (out : Outcome) → is_last i ≡ false → ServerAt i y → d ≡ carried (up i) → p.told y.proxy ≡ p.told b.proxy →
+  server_goes : (i : Round j) (y mid : SView) (d : TsRequest) (out : Outcome) → is_last i ≡ false → ServerAt i y → d ≡ carried (up i) →
+      p.told y.proxy ≡ p.told b.proxy →
       p.faults mid.proxy ≡ p.faults y.proxy → p.faults y.proxy < 2 ^ 64 - 1 → ServerMakes c p y d out mid →
       Comes out (λ r. (r ≡ down i) × ServerAt (next i) (record mid { output = [] }))
-  server_goes (Token n zero e) y mid d out goes at is tells still calm makes = last_token early refl n y mid d out (is_j n e) at is tells still calm makes
+  server_goes (Token n zero e) y mid d out goes at is tells still calm makes =
+      last_token early refl n y mid d out (is_j n e) at is tells still calm makes
   server_goes (Token n (suc rest) e) y mid d out goes at is tells still calm makes =
-      server_token n y mid d out (less_last early n (omega (arith, e))) at is makes
+      server_token n y mid d out (less_last early n (omega (arith, e))) at is tells still calm makes
   server_goes Proof y mid d out goes at is tells still calm makes = answers_proof early refl y mid d out at is tells still calm makes
   server_goes Last y mid d out goes at is tells still calm makes = absurd cc
 
   server_ends : (i : Round j) (y mid : SView) (d : TsRequest) (out : Outcome) → is_last i ≡ true → ServerAt i y → d ≡ carried (up i) →
-      ServerMakes c p y d out mid → Ends out ((identity2 : AuthIdentity) → HoldsIdentity c mid.context d.auth_info identity2 → identity2 ≡ identity)
+      ServerMakes c p y d out mid → Ends out ((identity2 : AuthIdentity) → HoldsIdentity c mid.context d.auth_info identity2 →
+      identity2 ≡ identity)
   server_ends (Token n rest e) y mid d out last at is makes = absurd cc
   server_ends Proof y mid d out last at is makes = absurd cc
   server_ends Last y mid d out last at is makes =
@@ -444,7 +472,6 @@ module _ {C D P : Type 0} (c : Meaning ContextSetting C) (laws : IsContext c) (k
         version = ap (λ (r : TsRequest). r.version) is;
         field = ap (λ (r : TsRequest). r.auth_info) is;
         delegates = alike.delegates;
-        begins = it.server_begins;
       }) out mid makes
 
   none_before : 0 + j ≡ j

@@ -1,5 +1,6 @@
 -- What a mode supplies of its authentication, and the messages of an undisturbed exchange, which follow of it.
-use Rattle.std.proofs.Common.{◌≡◌, ◌≢◌, ℕ, zero, suc, ◌+◌, ◌≤◌, ◌<◌, ◌^◌, Bool, true, false, List, [], ◌∷◌, length, Option, None, Some, Ok, refl, ap, arith, nat_lt, if◌then◌else◌}
+use Rattle.std.proofs.Common.{◌≡◌, ◌≢◌, ℕ, zero, suc, ◌+◌, ◌≤◌, ◌<◌, ◌-◌, ◌^◌, Bool, true, false, List, [], ◌∷◌, length, Option, None}
+use Rattle.std.proofs.Common.{Some, Ok, refl, ap, arith, nat_lt, if◌then◌else◌}
 use Rattle.sspi_types.specs.declared.credential_use.CredentialUse.TheVariants.{Outbound}
 use Rattle.sspi_types.specs.declared.error_kind.ErrorKind.{ErrorKind}
 use Rattle.sspi_types.specs.declared.security_status.SecurityStatus.TheVariants as statuses
@@ -68,16 +69,20 @@ module _ {C D P : Type 0} (c : Meaning ContextSetting C) (laws : IsContext c) (k
     pub ups : ℕ → List ℕ → List ℕ
     pub downs : ℕ → List ℕ → List ℕ
     pub client_begins : (kind : ErrorKind) → BeginCause c (ForClient a.mode) Outbound (Some a.credentials) kind → ⊥
-    pub server_begins : (before now : P) (kind : ErrorKind) → MakeCause c p b.mode before now kind → ⊥
+    pub server_begins : (before now : P) (kind : ErrorKind) → p.faults now ≡ p.faults before → p.faults before < 2 ^ 64 - 1 →
+        MakeCause c p b.mode before now kind → ⊥
     pub kdc_start : KdcAt 0 kdc_first
     pub walks_first : (old : ClientView C) (kdc : D) → SameClient c a old → old.context ≡ None → KdcAt 0 kdc →
         Walks c laws k old kdc None (client_step 0) (client_context 1) client_handle (KdcAt 1)
-    pub walks : (n : ℕ) (old : ClientView C) (kdc : D) → n ≤ j → SameClient c a old → old.context ≡ Some (client_context (suc n)) → old.handle ≡ client_handle →
+    pub walks : (n : ℕ) (old : ClientView C) (kdc : D) → n ≤ j → SameClient c a old → old.context ≡ Some (client_context (suc n)) →
+        old.handle ≡ client_handle →
         KdcAt (suc n) kdc →
-        Walks c laws k old kdc (Some (server_step n).output) (client_step (suc n)) (client_context (suc (suc n))) client_handle (KdcAt (suc (suc n)))
-    pub takes_first : (old : ServerView C P) → SameServer c b old → old.context ≡ None →
+        Walks c laws k old kdc (Some (server_step n).output) (client_step (suc n)) (client_context (suc (suc n))) client_handle
+        (KdcAt (suc (suc n)))
+    pub takes_first : (old : ServerView C P) → SameServer c b old → p.told old.proxy ≡ p.told b.proxy → old.context ≡ None →
         Takes c laws p old (Some (client_step 0).output) (server_step 0) (server_context 1) server_handle
-    pub takes : (n : ℕ) (old : ServerView C P) → suc n ≤ last_step early j → SameServer c b old → old.context ≡ Some (server_context (suc n)) →
+    pub takes : (n : ℕ) (old : ServerView C P) → suc n ≤ last_step early j → SameServer c b old →
+        old.context ≡ Some (server_context (suc n)) →
         old.handle ≡ server_handle →
         Takes c laws p old (Some (client_step (suc n)).output) (server_step (suc n)) (server_context (suc (suc n))) server_handle
     pub client_goes : (n : ℕ) → n ≤ j → (client_step n).status ≡ statuses.ContinueNeeded
@@ -125,7 +130,8 @@ token_fits d version token only small short =
     let credentials = none_size d.auth_info only.credentials in
     let proof = none_size d.pub_key_auth only.proof in
     let nonce = none_size d.client_nonce only.nonce in
-    is_message (record d { version = version; nego_tokens = Some token }) small only.code (rw only.nonce tt) (omega (arith, short, credentials, proof, nonce))
+    is_message (record d { version = version; nego_tokens = Some token }) small only.code (rw only.nonce tt)
+    (omega (arith, short, credentials, proof, nonce))
 
 unless_size : (token : List ℕ) → size_of (unless_empty token) ≤ length token
 unless_size [] = omega arith
@@ -139,10 +145,11 @@ module _ {C D P : Type 0} (c : Meaning ContextSetting C) (laws : IsContext c) (k
   -- what the client is given before its token of a number
   abbrev pub given_token : ℕ → TsRequest
   given_token zero = first_request
-  given_token (suc n) = carried (record (carried (record (given_token n) { version = a.version; nego_tokens = Some (it.client_step n).output })) {
-    version = b.version;
-    nego_tokens = Some (it.server_step n).output;
-  })
+  given_token (suc n) = carried (record (carried (record (given_token n)
+      { version = a.version; nego_tokens = Some (it.client_step n).output })) {
+        version = b.version;
+        nego_tokens = Some (it.server_step n).output;
+      })
 
   -- the client's token of a number and the server's answer
   abbrev pub up_token : ℕ → TsRequest
@@ -181,21 +188,33 @@ module _ {C D P : Type 0} (c : Meaning ContextSetting C) (laws : IsContext c) (k
   given_only zero = record { credentials = refl; proof = refl; nonce = refl; code = refl }
   given_only (suc n) =
       let before = given_only n in
-      let sent : IsTokenOnly (up_token n) = record { credentials = before.credentials; proof = before.proof; nonce = before.nonce; code = before.code } in
+      let sent : IsTokenOnly (up_token n) = record {
+        credentials = before.credentials;
+        proof = before.proof;
+        nonce = before.nonce;
+        code = before.code;
+      } in
       let taken = carried_only (up_token n) sent in
       carried_only (down_token n) (record { credentials = taken.credentials; proof = taken.proof; nonce = taken.nonce; code = taken.code })
 
   pub up_only : (n : ℕ) → IsTokenOnly (up_token n)
-  up_only n = let before = given_only n in record { credentials = before.credentials; proof = before.proof; nonce = before.nonce; code = before.code }
+  up_only n = let before = given_only n in record {
+    credentials = before.credentials;
+    proof = before.proof;
+    nonce = before.nonce;
+    code = before.code;
+  }
 
   pub taken_only : (n : ℕ) → IsTokenOnly (carried (up_token n))
   taken_only n = carried_only (up_token n) (up_only n)
 
   pub up_fits : (n : ℕ) → n ≤ j → IsMessage (up_token n)
-  up_fits n within = token_fits (given_token n) a.version (it.client_step n).output (given_only n) alike.client_version (it.client_short n (omega (arith, within)))
+  up_fits n within = token_fits (given_token n) a.version (it.client_step n).output (given_only n) alike.client_version
+      (it.client_short n (omega (arith, within)))
 
   pub down_fits : (n : ℕ) → n ≤ j → IsMessage (down_token n)
-  down_fits n within = token_fits (carried (up_token n)) b.version (it.server_step n).output (taken_only n) alike.server_version (it.server_short n within)
+  down_fits n within = token_fits (carried (up_token n)) b.version (it.server_step n).output (taken_only n) alike.server_version
+      (it.server_short n within)
 
   proof_code : proof_message.error_code ≡ None
   proof_code = (given_only (suc j)).code
@@ -208,7 +227,8 @@ module _ {C D P : Type 0} (c : Meaning ContextSetting C) (laws : IsContext c) (k
       let blob = it.ups_short 0 (prescribed endpoint.Client b.version a.nonce a.public_key) in
       let proof = prescribed_length endpoint.Client b.version a.nonce a.public_key alike.key_short in
       let credentials = none_size proof_message.auth_info only.credentials in
-      is_message proof_message alike.client_version proof_code alike.nonce (omega (arith, token, short, blob, proof, credentials, alike.nonce))
+      is_message proof_message alike.client_version proof_code alike.nonce
+      (omega (arith, token, short, blob, proof, credentials, alike.nonce))
 
   answer_nonce : IsNonce answer_message.client_nonce
   answer_nonce = nonce_kept (carries_nonce a.version) (Some a.nonce) alike.nonce

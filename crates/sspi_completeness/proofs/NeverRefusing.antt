@@ -1,12 +1,14 @@
 -- With which kinds a context of plain NTLM refuses.
-use Rattle.std.proofs.Common.{◌≡◌, ◌≢◌, ℕ, ◌==◌, ◌^◌, ◌-◌, List, [], length, Bool, true, false, Option, None, Some, Result, Ok, Err, inl, inr, ◌⊎◌, nat_lt, refl, subst, filter, take, if◌then◌else◌}
+use Rattle.std.proofs.Common.{◌≡◌, ◌≢◌, ℕ, ◌==◌, ◌^◌, ◌-◌, List, [], length, Bool, true, false, Option, None, Some, Result, Ok, Err}
+use Rattle.std.proofs.Common.{inl, inr, ◌⊎◌, nat_lt, refl, subst, filter, take, if◌then◌else◌}
 use Rattle.std.specs.List.{list_any}
 use Rattle.std.specs.Result.{result_err}
 use Rattle.std.specs.Str.{is_utf8}
 use Rattle.sspi_types.specs.declared.credential_use.CredentialUse.{CredentialUse}
 use Rattle.sspi_types.specs.declared.credential_use.CredentialUse.TheVariants as purposes
 use Rattle.sspi_types.specs.declared.error_kind.ErrorKind.{ErrorKind}
-use Rattle.sspi_types.specs.declared.error_kind.ErrorKind.TheVariants.{DowngradeDetected, InsufficientMemory, NoCredentials, InvalidToken, MessageAltered, ContextExpired}
+use Rattle.sspi_types.specs.declared.error_kind.ErrorKind.TheVariants.{DowngradeDetected, InsufficientMemory, NoCredentials}
+use Rattle.sspi_types.specs.declared.error_kind.ErrorKind.TheVariants.{InvalidToken, MessageAltered, ContextExpired}
 use Rattle.sspi_names.specs.Name.{Name, inner_of}
 use Rattle.sspi_names.specs.declared.credentials.Credentials.{Credentials}
 use Rattle.sspi_names.specs.declared.credentials.Credentials.TheVariants as credentials
@@ -16,7 +18,8 @@ use Rattle.sspi_mech.specs.declared.ntlm.login.Login.{Login}
 use Rattle.sspi_mech.specs.declared.ntlm.stage.Claim.{Claim}
 use Rattle.sspi_mech.specs.declared.ntlm.stage.Stage.{Stage}
 use Rattle.sspi_mech.specs.declared.ntlm.stage.Stage.TheVariants.{Unused, NegotiateSent, AuthenticateSent, ChallengeSent, Claimed}
-use Rattle.sspi_mech.specs.Calls.{Call, ToAcquire, ToName, ToIdentify, ToComplete, ToSeal, ToUnseal, ToSign, ToVerify, ToDescribe, ToShowKey}
+use Rattle.sspi_mech.specs.Calls.{Call, ToAcquire, ToName, ToIdentify, ToComplete, ToSeal, ToUnseal, ToSign, ToVerify, ToDescribe}
+use Rattle.sspi_mech.specs.Calls.{ToShowKey}
 use Rattle.sspi_mech.specs.Meaning.{Meaning}
 use Rattle.sspi_mech.specs.Ntlm.{ntlm_meaning, ntlm_refusal, absence}
 use Rattle.sspi_mech.specs.NtlmAcquire.{acquired}
@@ -26,7 +29,8 @@ use Rattle.sspi_mech.specs.NtlmIdentities as ntlm
 use Rattle.sspi_mech.specs.Named.{Named}
 use Rattle.sspi_mech.specs.NtlmMessages.{read_challenge, is_negotiate}
 use Rattle.sspi_mech.specs.NtlmStage.{NtlmState, peer_direction, name_at}
-use Rattle.sspi_mech.specs.NtlmSteps.{Outcome, Goes, Stops, login_by, login_of, authenticates, authenticates_as, challenges, claims, client_step, server_step}
+use Rattle.sspi_mech.specs.NtlmSteps.{Outcome, Goes, Stops, login_by, login_of, authenticates, authenticates_as, challenges, claims}
+use Rattle.sspi_mech.specs.NtlmSteps.{client_step, server_step}
 use Rattle.sspi_mech.specs.declared.protection.Direction.{Direction}
 use Rattle.sspi_mech.specs.Protection.{unless_spent, making_refusal, unseal_refusal, verify_refusal}
 use Rattle.sspi_mech.specs.Settings.{Setting}
@@ -69,7 +73,8 @@ other_unseal (Some key) direction n blob =
     other_spent n _ (other_if (nat_lt (length blob) 16) (Some InvalidToken) _ (λ e. absurd (cc (e)))
     (other_if _ None (Some MessageAltered) tt (λ e. absurd (cc (e)))))
 
-other_verify : (key : Option (List ℕ)) (direction : Direction) (n : ℕ) (mic text : List ℕ) → IsOther (verify_refusal key direction n mic text)
+other_verify : (key : Option (List ℕ)) (direction : Direction) (n : ℕ) (mic text : List ℕ) →
+    IsOther (verify_refusal key direction n mic text)
 other_verify None direction n mic text = λ e. absurd (cc (e))
 other_verify (Some key) direction n mic text = other_spent n _ (other_if _ None (Some MessageAltered) tt (λ e. absurd (cc (e))))
 
@@ -114,7 +119,8 @@ other_refusal : (m : NtlmState) (call : Call) → IsOther (ntlm_refusal m call)
 other_refusal m (ToAcquire use_of asked) = other_result (acquired use_of asked) (other_acquired use_of asked)
 other_refusal m ToName = other_absence (name_at m.stage)
 other_refusal m (ToIdentify identities) =
-    other_result (identified m identities) (other_with_key m (key_at m.stage m.challenge identities) (other_key_at m.stage m.challenge identities))
+    other_result (identified m identities) (other_with_key m (key_at m.stage m.challenge identities)
+    (other_key_at m.stage m.challenge identities))
 other_refusal m ToComplete = other_absence m.protection.key
 other_refusal m (ToSeal text) = other_making m.protection.key m.protection.sealed
 other_refusal m (ToUnseal blob) = other_unseal m.protection.key (peer_direction m.stage) m.protection.unsealed blob
@@ -142,11 +148,13 @@ stops_as : (m : NtlmState) (challenge : List ℕ) (r : Result Login ErrorKind) �
 stops_as m challenge (Ok login) h = tt
 stops_as m challenge (Err kind) h = h
 
-stops_authenticates : (m : NtlmState) (challenge : Option (List ℕ)) (handle : Option CredentialsBuffers) → StopsOther (authenticates m challenge handle)
+stops_authenticates : (m : NtlmState) (challenge : Option (List ℕ)) (handle : Option CredentialsBuffers) →
+    StopsOther (authenticates m challenge handle)
 stops_authenticates m None handle = λ e. absurd (cc (e))
 stops_authenticates m (Some challenge) handle = stops_as m challenge (login_of handle) (other_login handle)
 
-stops_client : (stage : Stage) (m : NtlmState) (handle : Option CredentialsBuffers) (input : List ℕ) → StopsOther (client_step stage m handle input)
+stops_client : (stage : Stage) (m : NtlmState) (handle : Option CredentialsBuffers) (input : List ℕ) →
+    StopsOther (client_step stage m handle input)
 stops_client Unused m handle input = tt
 stops_client NegotiateSent m handle input = stops_authenticates m (read_challenge input) handle
 stops_client (AuthenticateSent name) m handle input = λ e. absurd (cc (e))
@@ -180,7 +188,8 @@ stops_server (AuthenticateSent name) m input = λ e. absurd (cc (e))
 stops_server ChallengeSent m input = stops_claims m (claim_of input) (other_claim _)
 stops_server (Claimed claim) m input = λ e. absurd (cc (e))
 
-stopped_other : (out : Outcome) (kind : ErrorKind) → StopsOther out → (kind ≢ InsufficientMemory → out ≡ Stops kind) → kind ≢ DowngradeDetected
+stopped_other : (out : Outcome) (kind : ErrorKind) → StopsOther out → (kind ≢ InsufficientMemory → out ≡ Stops kind) →
+    kind ≢ DowngradeDetected
 stopped_other out kind other stops = λ is.
     subst StopsOther (stops (λ memory. absurd (cc (is, memory)))) other is
 
@@ -191,7 +200,8 @@ pub ntlm_never : NeverRefuses ntlm_meaning DowngradeDetected
 ntlm_never = record {
   makes = λ s never. never;
   calls = λ m call is. refused_other (ntlm_refusal m call) (other_refusal m call) is;
-  steps = λ m m2 a error h. stopped_other (client_step m.stage m a.handle a.input) error.error_type (stops_client m.stage m a.handle a.input) h.0;
+  steps = λ m m2 a error h. stopped_other (client_step m.stage m a.handle a.input) error.error_type
+      (stops_client m.stage m a.handle a.input) h.0;
   resumes = λ m m2 reply error h. λ is. let kind = h.0 in absurd (cc (kind, is));
   accepts = λ m m2 a error h. stopped_other (server_step m.stage m a.input) error.error_type (stops_server m.stage m a.input) h.0;
 }
@@ -199,37 +209,45 @@ ntlm_never = record {
 -- ---- what chooses among contexts
 
 -- by the one in hand
-in_hand_never : {A B : Type 0} (P : A → Type 0) (Q : B → Type 0) → ((x : A) → P x → ⊥) → ((y : B) → Q y → ⊥) → (m : A ⊎ B) → in_hand P Q m → ⊥
+in_hand_never : {A B : Type 0} (P : A → Type 0) (Q : B → Type 0) → ((x : A) → P x → ⊥) → ((y : B) → Q y → ⊥) → (m : A ⊎ B) →
+    in_hand P Q m → ⊥
 in_hand_never P Q first second (inl x) h = first x h
 in_hand_never P Q first second (inr y) h = second y h
 
-both_other : {S T A B : Type 0} (P : S → A → Type 0) (Q : T → B → Type 0) (R : Type 0) → ((s : S) (x : A) → P s x → R) → ((t : T) (y : B) → Q t y → R) →
+both_other : {S T A B : Type 0} (P : S → A → Type 0) (Q : T → B → Type 0) (R : Type 0) → ((s : S) (x : A) → P s x → R) →
+    ((t : T) (y : B) → Q t y → R) →
     (m : S ⊎ T) (m2 : A ⊎ B) → Both P Q m m2 → R
 both_other P Q R first second (inl s) (inl x) h = first s x h
 both_other P Q R first second (inl s) (inr y) h = absurd h
 both_other P Q R first second (inr t) (inl x) h = absurd h
 both_other P Q R first second (inr t) (inr y) h = second t y h
 
-module _ {S T A B : Type 0} (n : Meaning S A) (k : Meaning T B) (kind : ErrorKind) (first : NeverRefuses n kind) (second : NeverRefuses k kind) where
-  sum_never : NeverRefuses (sum n k) kind
+module _ {S T A B : Type 0} (n : Meaning S A) (k : Meaning T B) (kind : ErrorKind) (first : NeverRefuses n kind)
+    (second : NeverRefuses k kind) where
+  pub sum_never : NeverRefuses (sum n k) kind
   sum_never = record {
     makes = λ s h. in_hand_never (λ x. n.unmade x kind) (λ y. k.unmade y kind) first.makes second.makes s (hand_at n.unmade k.unmade s h);
-    calls = λ m call h. in_hand_never (λ x. n.refuses x call kind) (λ y. k.refuses y call kind) (λ x. first.calls x call) (λ y. second.calls y call) m
+    calls = λ m call h. in_hand_never (λ x. n.refuses x call kind) (λ y. k.refuses y call kind) (λ x. first.calls x call)
+        (λ y. second.calls y call) m
         (call_at m call h);
     steps = λ m m2 a error h. both_other _ _ _ (λ x x2. first.steps x x2 a error) (λ y y2. second.steps y y2 a error) m m2 h;
-    resumes = λ m m2 reply error h. both_other _ _ _ (λ x x2. first.resumes x x2 reply error) (λ y y2. second.resumes y y2 reply error) m m2 h;
+    resumes = λ m m2 reply error h. both_other _ _ _ (λ x x2. first.resumes x x2 reply error)
+        (λ y y2. second.resumes y y2 reply error) m m2 h;
     accepts = λ m m2 a error h. both_other _ _ _ (λ x x2. first.accepts x x2 a error) (λ y y2. second.accepts y y2 a error) m m2 h;
   }
     where
-      hand_at : (f : S → ErrorKind → Type 0) (g : T → ErrorKind → Type 0) (s : S ⊎ T) → in_hand f g s kind → in_hand (λ x. f x kind) (λ y. g y kind) s
+      hand_at : (f : S → ErrorKind → Type 0) (g : T → ErrorKind → Type 0) (s : S ⊎ T) → in_hand f g s kind →
+          in_hand (λ x. f x kind) (λ y. g y kind) s
       hand_at f g (inl x) h = h
       hand_at f g (inr y) h = h
 
-      call_at : (m : A ⊎ B) (call : Call) → in_hand n.refuses k.refuses m call kind → in_hand (λ x. n.refuses x call kind) (λ y. k.refuses y call kind) m
+      call_at : (m : A ⊎ B) (call : Call) → in_hand n.refuses k.refuses m call kind →
+          in_hand (λ x. n.refuses x call kind) (λ y. k.refuses y call kind) m
       call_at (inl x) call h = h
       call_at (inr y) call h = h
 
-taking_never : {S C : Type 0} (some : List Credentials → List Credentials) (c : Meaning S C) (kind : ErrorKind) → NeverRefuses c kind → NeverRefuses (taking some c) kind
+pub taking_never : {S C : Type 0} (some : List Credentials → List Credentials) (c : Meaning S C) (kind : ErrorKind) →
+    NeverRefuses c kind → NeverRefuses (taking some c) kind
 taking_never some c kind never = record {
   makes = never.makes;
   calls = λ m call h. never.calls m (taken some call) h;
@@ -238,7 +256,8 @@ taking_never some c kind never = record {
   accepts = never.accepts;
 }
 
-seen_never : {R S C D : Type 0} (parts : R → S) (view : C → D) (back : D → C) (c : Meaning S D) (kind : ErrorKind) → NeverRefuses c kind →
+pub seen_never : {R S C D : Type 0} (parts : R → S) (view : C → D) (back : D → C) (c : Meaning S D) (kind : ErrorKind) →
+    NeverRefuses c kind →
     NeverRefuses (seen parts view back c) kind
 seen_never parts view back c kind never = record {
   makes = λ s h. never.makes (parts s) h;
@@ -248,7 +267,8 @@ seen_never parts view back c kind never = record {
   accepts = λ m m2 a error h. never.accepts (view m) (view m2) a error h;
 }
 
-knowing_never : {M : Type 0} (c : Meaning NegotiateSetting (Negotiation M)) (kind : ErrorKind) → NeverRefuses c kind → NeverRefuses (knowing c) kind
+knowing_never : {M : Type 0} (c : Meaning NegotiateSetting (Negotiation M)) (kind : ErrorKind) → NeverRefuses c kind →
+    NeverRefuses (knowing c) kind
 knowing_never c kind never = record {
   makes = λ s h. never.makes (listed_setting s []) h;
   calls = never.calls;
@@ -257,10 +277,12 @@ knowing_never c kind never = record {
   accepts = never.accepts;
 }
 
-pub either_never : {N K : Type 0} (requests : ℕ) (n : Meaning Setting N) (k : Meaning Setting K) (kind : ErrorKind) → NeverRefuses n kind → NeverRefuses k kind →
+pub either_never : {N K : Type 0} (requests : ℕ) (n : Meaning Setting N) (k : Meaning Setting K) (kind : ErrorKind) →
+    NeverRefuses n kind → NeverRefuses k kind →
     NeverRefuses (negotiate requests n k) kind → NeverRefuses (either requests n k) kind
 either_never requests n k kind first second third =
-    seen_never made_of as_sum of_sum (sum (sum (taking (filter has_password) n) (taking (take 1) k)) (knowing (negotiate requests n k))) kind
+    seen_never made_of as_sum of_sum (sum (sum (taking (filter has_password) n) (taking (take 1) k)) (knowing (negotiate requests n k)))
+    kind
     (sum_never (sum (taking (filter has_password) n) (taking (take 1) k)) (knowing (negotiate requests n k)) kind
     (sum_never (taking (filter has_password) n) (taking (take 1) k) kind
     (taking_never (filter has_password) n kind first) (taking_never (take 1) k kind second))

@@ -39,7 +39,8 @@ module _ {K : Type 0} (k : Meaning Setting K) where
   meaning = either 0 ntlm_meaning k
 
   -- a context that is this object at rest
-  pub as_ntlm : (m : SspiContext NtlmState K) (x : NtlmState) → cleared meaning m ≡ Ntlm x → (y : NtlmState) × (m ≡ Ntlm y) × (at_rest y ≡ x)
+  pub as_ntlm : (m : SspiContext NtlmState K) (x : NtlmState) → cleared meaning m ≡ Ntlm x → (y : NtlmState) × (m ≡ Ntlm y) ×
+      (at_rest y ≡ x)
   as_ntlm (Ntlm y) x same = (y, refl, let e : at_rest y ≡ x = cc in e)
   as_ntlm (Kerberos y) x same = absurd cc
   as_ntlm (Negotiate y) x same = absurd cc
@@ -51,8 +52,10 @@ module _ {K : Type 0} (k : Meaning Setting K) where
   IfNtlm (Kerberos m) Q = ⊥
   IfNtlm (Negotiate m) Q = ⊥
 
-  pub client_first : (config : NtlmConfig) (cr : Credentials) (context : Option (SspiContext NtlmState K)) (had handle : Option CredentialsBuffers)
-      (m0 : SspiContext NtlmState K) → context ≡ None → Begun meaning context had (ForClient (client.Ntlm config)) Outbound (Some cr) handle m0 →
+  pub client_first : (config : NtlmConfig) (cr : Credentials) (context : Option (SspiContext NtlmState K))
+      (had handle : Option CredentialsBuffers)
+      (m0 : SspiContext NtlmState K) → context ≡ None → Begun meaning context had (ForClient (client.Ntlm config)) Outbound
+      (Some cr) handle m0 →
       IfNtlm m0 (λ m. (m ≡ ntlm_of config) × (acquired Outbound (Some cr) ≡ Ok handle))
   client_first config cr context had handle m0 none (goes_on is same) = absurd (cc (is, none))
   client_first config cr context had handle (Ntlm m0) none (is_new (Ntlm m) is made acquires) = (acquires.1 ∙ made, acquires.0)
@@ -61,8 +64,10 @@ module _ {K : Type 0} (k : Meaning Setting K) where
   client_first config cr context had handle m0 none (is_new (Kerberos m) is made acquires) = absurd made
   client_first config cr context had handle m0 none (is_new (Negotiate m) is made acquires) = absurd made
 
-  pub server_first : (config : NtlmConfig) (told : Option (List AuthIdentity)) (context : Option (SspiContext NtlmState K)) (had handle : Option CredentialsBuffers)
-      (m0 : SspiContext NtlmState K) → context ≡ None → Begun meaning context had (ForServer (server.Ntlm config) told) Inbound None handle m0 →
+  pub server_first : (config : NtlmConfig) (told : Option (List AuthIdentity)) (context : Option (SspiContext NtlmState K))
+      (had handle : Option CredentialsBuffers)
+      (m0 : SspiContext NtlmState K) → context ≡ None → Begun meaning context had
+      (ForServer (server.Ntlm config) told) Inbound None handle m0 →
       IfNtlm m0 (λ m. (m ≡ ntlm_of config) × (handle ≡ None))
   server_first config told context had handle m0 none (goes_on is same) = absurd (cc (is, none))
   server_first config told context had handle (Ntlm m0) none (is_new (Ntlm m) is made acquires) =
@@ -73,7 +78,8 @@ module _ {K : Type 0} (k : Meaning Setting K) where
   server_first config told context had handle m0 none (is_new (Negotiate m) is made acquires) = absurd made
 
   pub goes_on_as : (setting : ContextSetting) (context : Option (SspiContext NtlmState K)) (asked : Option Credentials)
-      (had handle : Option CredentialsBuffers) (m0 : SspiContext NtlmState K) (m : NtlmState) (purpose : CredentialUse) → context ≡ Some (Ntlm m) →
+      (had handle : Option CredentialsBuffers) (m0 : SspiContext NtlmState K) (m : NtlmState) (purpose : CredentialUse) →
+      context ≡ Some (Ntlm m) →
       Begun meaning context had setting purpose asked handle m0 → IfNtlm m0 (λ x. (x ≡ m) × (handle ≡ had))
   goes_on_as setting context asked had handle m0 m purpose there (goes_on is same) =
       let here : m0 ≡ Ntlm m = (let e : Some m0 ≡ Some (Ntlm m) = sym is ∙ there in cc) in
@@ -97,9 +103,11 @@ module _ {K : Type 0} (k : Meaning Setting K) where
   step_at begun args answer (Kerberos a) m h steps = absurd h
   step_at begun args answer (Negotiate a) m h steps = absurd h
 
-  pub stepped_once : (laws : IsContext meaning) (begun : NtlmState → Type 0) (start : ClientView (SspiContext NtlmState K)) (handle : Option CredentialsBuffers)
+  pub stepped_once : (laws : IsContext meaning) (begun : NtlmState → Type 0) (start : ClientView (SspiContext NtlmState K))
+      (handle : Option CredentialsBuffers)
       (token : Option (List ℕ)) (tries : ℕ) (log : List Asked) (answer : Answer) (m : SspiContext NtlmState K) →
-      ((m0 : SspiContext NtlmState K) → Begun meaning start.context start.handle (ForClient start.mode) Outbound (Some start.credentials) handle m0 → IfNtlm m0 begun) →
+      ((m0 : SspiContext NtlmState K) → Begun meaning start.context start.handle (ForClient start.mode) Outbound
+      (Some start.credentials) handle m0 → IfNtlm m0 begun) →
       Walked meaning start handle token tries log answer m → Stepped begun (client_args handle start.target token) answer m
   stepped_once laws begun start handle token tries log answer m begins (stepped m0 m1 a b steps) =
       step_at begun (client_args handle start.target token) answer m0 m (begins m0 b) steps
@@ -109,31 +117,43 @@ module _ {K : Type 0} (k : Meaning Setting K) where
       absurd (stepped_once laws begun start handle token tried before (Ask q) m1 begins walked).steps
   stepped_once laws begun start handle token tries log answer m begins (walk_recounted m1 m2 n tried before a walked counted quiet) =
       let s = stepped_once laws begun start handle token tried log answer m1 begins walked in
-      record { before = s.before; after = s.after; begins = s.begins; steps = s.steps; same = bare_after meaning laws m1 m n counted quiet ∙ s.same }
+      record {
+        before = s.before;
+        after = s.after;
+        begins = s.begins;
+        steps = s.steps;
+        same = bare_after meaning laws m1 m n counted quiet ∙ s.same;
+      }
 
   -- ---- the messages of an object with a key
 
-  module _ (x : NtlmState) (key : List ℕ) (own peers : Direction) (keyed : x.protection.key ≡ Some key) (own_is : own_direction x.stage ≡ own)
+  module _ (x : NtlmState) (key : List ℕ) (own peers : Direction) (keyed : x.protection.key ≡ Some key)
+      (own_is : own_direction x.stage ≡ own)
       (peers_are : peer_direction x.stage ≡ peers) where
-    key_of_rest : (y : NtlmState) → at_rest y ≡ x → (y.protection.key ≡ Some key) × (own_direction y.stage ≡ own) × (peer_direction y.stage ≡ peers)
+    pub key_of_rest : (y : NtlmState) → at_rest y ≡ x → (y.protection.key ≡ Some key) × (own_direction y.stage ≡ own) ×
+        (peer_direction y.stage ≡ peers)
     key_of_rest y same = (
       ap (λ (z : NtlmState). z.protection.key) same ∙ keyed,
       ap (λ (z : NtlmState). own_direction z.stage) same ∙ own_is,
       ap (λ (z : NtlmState). peer_direction z.stage) same ∙ peers_are,
     )
 
-    made : (y : NtlmState) (n : ℕ) (text sealed : List ℕ) → at_rest y ≡ x → ntlm_meaning.seals y n text sealed → sealed ≡ blob_of key own n text
+    pub made : (y : NtlmState) (n : ℕ) (text sealed : List ℕ) → at_rest y ≡ x → ntlm_meaning.seals y n text sealed →
+        sealed ≡ blob_of key own n text
     made y n text sealed same seals =
         let rest = key_of_rest y same in
-        subst (λ (d : Direction). SealsBy (Some key) d n text sealed) rest.1 (subst (λ (e : Option (List ℕ)). SealsBy e (own_direction y.stage) n text sealed) rest.0 seals)
+        subst (λ (d : Direction). SealsBy (Some key) d n text sealed) rest.1
+        (subst (λ (e : Option (List ℕ)). SealsBy e (own_direction y.stage) n text sealed) rest.0 seals)
 
     pub maker : IsMaker meaning (Ntlm x) (blob_of key own)
     maker = record {
       made = λ m n text sealed same seals.
-          let at = as_ntlm m x same in made at.0 n text sealed at.2 (subst (λ (z : SspiContext NtlmState K). meaning.seals z n text sealed) at.1 seals);
+          let at = as_ntlm m x same in made at.0 n text sealed at.2
+          (subst (λ (z : SspiContext NtlmState K). meaning.seals z n text sealed) at.1 seals);
       never = λ m text kind same few refuses.
           let at = as_ntlm m x same in
-          never_unsealed k at.0 key text kind (key_of_rest at.0 at.2).0 (subst (λ (z : SspiContext NtlmState K). (meaning.counts z).sealed < 2 ^ 64 - 1) at.1 few)
+          never_unsealed k at.0 key text kind (key_of_rest at.0 at.2).0
+          (subst (λ (z : SspiContext NtlmState K). (meaning.counts z).sealed < 2 ^ 64 - 1) at.1 few)
           (subst (λ (z : SspiContext NtlmState K). meaning.refuses z (ToSeal text) kind) at.1 refuses);
     }
 
@@ -141,11 +161,13 @@ module _ {K : Type 0} (k : Meaning Setting K) where
     taker = record {
       opened = λ m n i text text2 same opens.
           let at = as_ntlm m x same in
-          one_text at.0 key peers n i text text2 (subst (λ (z : SspiContext NtlmState K). meaning.opens z i (blob_of key peers n text) text2) at.1 opens);
+          one_text at.0 key peers n i text text2 (subst (λ (z : SspiContext NtlmState K). meaning.opens z i
+          (blob_of key peers n text) text2) at.1 opens);
       never = λ m n text kind same next few refuses.
           let at = as_ntlm m x same in
           let rest = key_of_rest at.0 at.2 in
-          never_unopened at.0 key peers n text kind rest.0 rest.2 (subst (λ (z : SspiContext NtlmState K). (meaning.counts z).unsealed ≡ n) at.1 next) few
+          never_unopened at.0 key peers n text kind rest.0 rest.2
+          (subst (λ (z : SspiContext NtlmState K). (meaning.counts z).unsealed ≡ n) at.1 next) few
           (subst (λ (z : SspiContext NtlmState K). meaning.refuses z (ToUnseal (blob_of key peers n text)) kind) at.1 refuses);
       long = λ n text. blob_long key peers n text;
     }

@@ -1,5 +1,6 @@
 -- What the steps of plain NTLM come to, where each end is given the other's message.
-use Rattle.std.proofs.Common.{◌≡◌, ℕ, ◌+◌, ◌≤◌, ◌<◌, ◌^◌, List, [], ◌∷◌, length, map, filter, find, Bool, true, false, Option, None, Some, Ok, option_map, refl, ap, sym, ◌∙◌, arith}
+use Rattle.std.proofs.Common.{◌≡◌, ℕ, ◌+◌, ◌≤◌, ◌<◌, ◌^◌, List, [], ◌∷◌, length, map, filter, find, Bool, true, false, Option, None}
+use Rattle.std.proofs.Common.{Some, Ok, option_map, refl, ap, sym, ◌∙◌, arith}
 use Rattle.std.proofs.lemmas.Bool.{le-ltb}
 use Rattle.std.proofs.lemmas.List.{length-append}
 use Rattle.std.proofs.lemmas.Str.{is_utf8-from_IsUtf8}
@@ -26,7 +27,8 @@ abbrev pub last_token : AuthIdentity → List ℕ → List ℕ
 last_token i challenge = authenticate_message (inner_of i.username) (proof_of challenge (inner_of i.username) i.password.value)
 
 -- a name is as long as its parts and what joins them
-shown_length : (format : UserNameFormat) (account domain : List ℕ) → length (shown format account domain) ≤ length account + length domain + 1
+shown_length : (format : UserNameFormat) (account domain : List ℕ) →
+    length (shown format account domain) ≤ length account + length domain + 1
 shown_length UserPrincipalName account domain = let e = length-append account (64 ∷ domain) in omega arith
 shown_length DownLevelLogonName account [] = omega arith
 shown_length DownLevelLogonName account (b ∷ domain) = let e = length-append (b ∷ domain) (92 ∷ account) in omega arith
@@ -77,18 +79,21 @@ claimed n proof is short long =
 -- ---- the identity that the server finds
 
 -- what passes a test begins with the first that does
-pub first_found : {A : Type 0} (test : A → Bool) (xs : List A) (x : A) → find test xs ≡ Some x → (rest : List A) × (filter test xs ≡ x ∷ rest)
+pub first_found : {A : Type 0} (test : A → Bool) (xs : List A) (x : A) → find test xs ≡ Some x → (rest : List A) ×
+    (filter test xs ≡ x ∷ rest)
 first_found test [] x found = absurd cc
 first_found test (y ∷ ys) x found = at test y ys x (test y) refl found (first_found test ys x)
   where
     at : {A : Type 0} (test : A → Bool) (y : A) (ys : List A) (x : A) (b : Bool) → test y ≡ b → find test (y ∷ ys) ≡ Some x →
         (find test ys ≡ Some x → (rest : List A) × (filter test ys ≡ x ∷ rest)) → (rest : List A) × (filter test (y ∷ ys) ≡ x ∷ rest)
-    at test y ys x true is found later = let here : Some y ≡ Some x = rw is at found in let same : y ≡ x = cc in (filter test ys, rw (is, same) refl)
+    at test y ys x true is found later = let here : Some y ≡ Some x = rw is at found in let same : y ≡ x =
+        cc in (filter test ys, rw (is, same) refl)
     at test y ys x false is found later = let there : find test ys ≡ Some x = rw is at found in let e = later there in (e.0, rw is e.1)
 
 key_found : (challenge : List ℕ) (claim : Claim) (e : AuthIdentity) (rest : List AuthIdentity) →
     proves challenge claim (credentials.AuthIdentity e) ≡ true →
-    claimed_key challenge claim (filter has_password (map credentials.AuthIdentity (e ∷ rest))) ≡ Ok (key_of challenge claim.text e.password.value)
+    claimed_key challenge claim (filter has_password (map credentials.AuthIdentity (e ∷ rest))) ≡ Ok
+    (key_of challenge claim.text e.password.value)
 key_found challenge claim e rest right = rw right refl
 
 -- the key of the claim, where the first candidate has the client's password

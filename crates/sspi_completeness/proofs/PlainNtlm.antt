@@ -1,6 +1,6 @@
 -- The authentication of matching ends by plain NTLM, evaluated: two messages of the client and two steps of the server.
-use Rattle.std.proofs.Common.{◌≡◌, ◌≢◌, ℕ, zero, suc, ◌-◌, ◌≤◌, ◌<◌, ◌^◌, List, [], ◌∷◌, length, map, filter, false, Option, None, Some, Ok, Err, refl, ap, sym, ◌∙◌, subst, arith}
-use Rattle.std.proofs.lemmas.Bool.{le-ltb}
+use Rattle.std.proofs.Common.{◌≡◌, ◌≢◌, ℕ, zero, suc, ◌-◌, ◌≤◌, ◌<◌, ◌^◌, List, [], ◌∷◌, length, map, filter, false, Option, None}
+use Rattle.std.proofs.Common.{Some, Ok, Err, refl, ap, sym, ◌∙◌, subst, arith}
 use Rattle.sspi_types.specs.declared.credential_use.CredentialUse.TheVariants.{Inbound, Outbound}
 use Rattle.sspi_types.specs.declared.error.Error.{Error}
 use Rattle.sspi_types.specs.declared.error_kind.ErrorKind.{ErrorKind}
@@ -11,12 +11,10 @@ use Rattle.sspi_names.specs.declared.credentials.Credentials.TheVariants as cred
 use Rattle.sspi_names.specs.declared.credentials.CredentialsBuffers.{CredentialsBuffers}
 use Rattle.sspi_names.specs.declared.credentials.CredentialsBuffers.TheVariants as buffers
 use Rattle.sspi_names.specs.declared.identity.AuthIdentity.{AuthIdentity}
-use Rattle.sspi_names.specs.Identity.{IsIdentity, buffers_of}
+use Rattle.sspi_names.specs.Identity.{buffers_of}
 use Rattle.sspi_names.specs.Name.{Name, inner_of}
 use Rattle.sspi_mech.specs.declared.config.NtlmConfig.{NtlmConfig}
-use Rattle.sspi_mech.specs.declared.ntlm.stage.Claim.{Claim}
-use Rattle.sspi_mech.specs.declared.ntlm.stage.Stage.{Stage}
-use Rattle.sspi_mech.specs.declared.ntlm.stage.Stage.TheVariants.{NegotiateSent, AuthenticateSent, ChallengeSent, Claimed}
+use Rattle.sspi_mech.specs.declared.ntlm.stage.Stage.TheVariants.{NegotiateSent, ChallengeSent, Claimed}
 use Rattle.sspi_mech.specs.declared.protection.Direction.TheVariants.{FromClient, FromServer}
 use Rattle.sspi_mech.specs.declared.step.Answer.TheVariants.{Done, Refused}
 use Rattle.sspi_mech.specs.declared.step.Step.{Step}
@@ -25,12 +23,11 @@ use Rattle.sspi_mech.specs.Context.{IsContext}
 use Rattle.sspi_mech.specs.Meaning.{Meaning}
 use Rattle.sspi_mech.specs.Ntlm.{ntlm_meaning, ntlm_of}
 use Rattle.sspi_mech.specs.NtlmAcquire.{acquired}
-use Rattle.sspi_mech.specs.NtlmIdentities.{identified, with_key, key_at}
-use Rattle.sspi_mech.specs.NtlmMessages.{negotiate_message, challenge_message, proof_of, key_of}
+use Rattle.sspi_mech.specs.NtlmIdentities.{identified}
+use Rattle.sspi_mech.specs.NtlmMessages.{negotiate_message, challenge_message}
 use Rattle.sspi_mech.specs.NtlmStage.{NtlmState, name_at}
 use Rattle.sspi_mech.specs.NtlmSteps.{Goes, client_step, server_step}
 use Rattle.sspi_mech.specs.Settings.{Setting}
-use Rattle.sspi_mech.proofs.Messages.{challenge_is_read}
 use Rattle.sspi_credssp.specs.declared.context.SspiContext.{SspiContext}
 use Rattle.sspi_credssp.specs.declared.context.SspiContext.TheVariants.{Negotiate, Ntlm, Kerberos}
 use Rattle.sspi_credssp.specs.declared.mode.ClientMode.{ClientMode}
@@ -42,84 +39,27 @@ use Rattle.sspi_credssp.specs.Client.{ClientView}
 use Rattle.sspi_credssp.specs.ClientTurn.{SameClient}
 use Rattle.sspi_credssp.specs.Context.{ContextSetting, ForClient, ForServer, either, has_password}
 use Rattle.sspi_credssp.specs.Counts.{cleared}
-use Rattle.sspi_credssp.specs.Credentials.{delegated_text}
-use Rattle.sspi_credssp.specs.Proxy.{ProxyMeaning, AreFound, AreCandidates, candidates_of, entry_of, is_named}
+use Rattle.sspi_credssp.specs.Proxy.{ProxyMeaning, AreFound}
 use Rattle.sspi_credssp.specs.Requests.{token_of}
 use Rattle.sspi_credssp.specs.Server.{ServerView}
-use Rattle.sspi_credssp.specs.ServerCause.{MakeCause, unlisted, unbegun, ListRefused, LookUpRefused, failed, nobody, IdentifyCause, nameless, looked, unset}
+use Rattle.sspi_credssp.specs.ServerCause.{MakeCause, unlisted, unbegun, ListRefused, LookUpRefused, IdentifyCause}
+use Rattle.sspi_credssp.specs.ServerCause.{nameless, looked, unset}
 use Rattle.sspi_credssp.specs.ServerStep.{IsIdentified, is_identified, server_args, server_setting}
 use Rattle.sspi_credssp.specs.ServerTurn.{SameServer}
 use Rattle.sspi_delegate.specs.Asking.{KdcCalls}
-use Rattle.sspi_completeness.specs.Matching.{IsPlainClient, IsPlainServer, HasChallenge, HasEntry, AreMatching, delegated_as}
+use Rattle.sspi_completeness.specs.Matching.{AreMatching}
 use Rattle.sspi_completeness.proofs.Accepting.{IsPeer, Takes}
 use Rattle.sspi_completeness.proofs.Blobs.{blob_of, blob_length}
 use Rattle.sspi_completeness.proofs.ClientTurns.{Walks}
-use Rattle.sspi_completeness.proofs.Negotiation.{IsNegotiation, AreAlike}
+use Rattle.sspi_completeness.proofs.Negotiation.{IsNegotiation}
 use Rattle.sspi_completeness.proofs.NtlmEnds.{at_rest, as_ntlm, IfNtlm, client_first, server_first, goes_on_as, stepped_once, maker, taker}
-use Rattle.sspi_completeness.proofs.NtlmRound.{last_token, logs_on, claimed, first_found, key_is, proof_length, token_length}
+use Rattle.sspi_completeness.proofs.NtlmOutcomes.{claim_by, key_for, keyed_by, logged_on, client_outcome, server_outcome, acquires_buffers}
+use Rattle.sspi_completeness.proofs.NtlmOutcomes as outcomes
+use Rattle.sspi_completeness.proofs.NtlmRound.{last_token, token_length}
 use Rattle.sspi_completeness.proofs.Shortness.{short_name}
-use Rattle.sspi_completeness.proofs.Texts.{HasDelegated, delegates}
 
--- ---- what the steps come to
-
-abbrev pub claim_by : AuthIdentity → List ℕ → Claim
-claim_by i challenge = record { name = i.username; text = inner_of i.username; proof = proof_of challenge (inner_of i.username) i.password.value }
-
-abbrev pub key_for : AuthIdentity → List ℕ → List ℕ
-key_for i challenge = key_of challenge (inner_of i.username) i.password.value
-
-abbrev keyed_by : List ℕ → NtlmState → NtlmState
-keyed_by key m = record m { protection = record m.protection { key = Some key } }
-
-abbrev logged_on : AuthIdentity → List ℕ → NtlmState → NtlmState
-logged_on i challenge m = record m {
-  stage = AuthenticateSent i.username;
-  protection = record m.protection { key = Some (key_for i challenge) };
-}
-
-client_outcome : (m : NtlmState) (stage : Stage) (handle : Option CredentialsBuffers) (input challenge : List ℕ) (i : AuthIdentity) → IsIdentity i →
-    length (inner_of i.username) ≤ 65535 → length challenge ≡ 8 → stage ≡ NegotiateSent → input ≡ challenge_message challenge →
-    handle ≡ Some (buffers.AuthIdentity (buffers_of i)) →
-    client_step stage m handle input ≡ Goes (logged_on i challenge m) (record { status = statuses.Ok; output = last_token i challenge })
-client_outcome m stage handle input challenge i is short eight sent given had =
-    rw (sent, given, had, challenge_is_read challenge eight, logs_on i is short) refl
-
-server_outcome : (m : NtlmState) (stage : Stage) (input challenge : List ℕ) (i : AuthIdentity) → IsIdentity i → length (inner_of i.username) < 2 ^ 16 →
-    stage ≡ ChallengeSent → input ≡ last_token i challenge →
-    server_step stage m input ≡ Goes (record m { stage = Claimed (claim_by i challenge) }) (record { status = statuses.CompleteNeeded; output = [] })
-server_outcome m stage input challenge i is short sent given =
-    rw (sent, given, claimed i.username (proof_of challenge (inner_of i.username) i.password.value) is.name short (proof_length challenge (inner_of i.username) i.password.value)) refl
-
-some_candidates : (entries : List AuthIdentity) (i : AuthIdentity) (has : HasEntry entries i) → (rest : List AuthIdentity) × (candidates_of entries i.username ≡ has.entry ∷ rest)
-unfolding entry_of candidates_of
-some_candidates entries i has = first_found (is_named i.username) entries has.entry has.found
-
--- an object with the client's claim takes its key
-keyed : (m : NtlmState) (identities entries : List AuthIdentity) (i : AuthIdentity) (challenge : List ℕ) → HasEntry entries i →
-    m.stage ≡ Claimed (claim_by i challenge) → m.challenge ≡ challenge → identities ≡ candidates_of entries i.username →
-    identified m (filter has_password (map credentials.AuthIdentity identities)) ≡ Ok (keyed_by (key_for i challenge) m)
-keyed m identities entries i challenge has stage_is challenge_is candidates =
-    let some = some_candidates entries i has in
-    let list : identities ≡ has.entry ∷ some.0 = candidates ∙ some.1 in
-    let key = key_is challenge (claim_by i challenge) i.password.value has.entry some.0 refl has.password in
-    let at : key_at m.stage m.challenge (filter has_password (map credentials.AuthIdentity identities)) ≡ Ok (key_for i challenge) =
-    (rw (stage_is, challenge_is, list) refl) ∙ key in
-    ap (with_key m) at
-
-acquires_buffers : (cr : Credentials) (i : AuthIdentity) (handle : Option CredentialsBuffers) → cr ≡ credentials.AuthIdentity i → acquired Outbound (Some cr) ≡ Ok handle →
-    handle ≡ Some (buffers.AuthIdentity (buffers_of i))
-acquires_buffers cr i handle is h =
-    let e : acquired Outbound (Some (credentials.AuthIdentity i)) ≡ Ok handle = subst (λ (x : Credentials). acquired Outbound (Some x) ≡ Ok handle) is h in cc
-
-plain_client : (mode : ClientMode) → IsPlainClient mode → (config : NtlmConfig) × (mode ≡ client_mode.Ntlm config)
-plain_client (client_mode.Ntlm config) plain = (config, refl)
-plain_client (client_mode.Negotiate config) plain = absurd plain
-
-plain_server : (mode : ServerMode) → IsPlainServer mode → (config : NtlmConfig) × (mode ≡ server_mode.Ntlm config)
-plain_server (server_mode.Ntlm config) plain = (config, refl)
-plain_server (server_mode.Negotiate config) plain = absurd plain
-
-module _ {K D P : Type 0} (k : Meaning Setting K) (laws : IsContext (either 0 ntlm_meaning k)) (calls : KdcCalls D) (p : ProxyMeaning P) where
+module _ {K D P : Type 0} (k : Meaning Setting K) (laws : IsContext (either 0 ntlm_meaning k)) (calls : KdcCalls D)
+    (p : ProxyMeaning P) where
   abbrev C : Type 0
   C = SspiContext NtlmState K
 
@@ -130,11 +70,14 @@ module _ {K D P : Type 0} (k : Meaning Setting K) (laws : IsContext (either 0 nt
   NoKdc kdc = Unit {0}
 
   -- a walk that begins at an object whose outcome is known
-  walks_by : (old : ClientView C) (kdc : D) (token : Option (List ℕ)) (begun : Option CredentialsBuffers → NtlmState → Type 0) (y : NtlmState) (step : Step)
+  walks_by : (old : ClientView C) (kdc : D) (token : Option (List ℕ)) (begun : Option CredentialsBuffers → NtlmState → Type 0)
+      (y : NtlmState) (step : Step)
       (handle : Option CredentialsBuffers) →
-      ((h : Option CredentialsBuffers) (m0 : C) → Begun c old.context old.handle (ForClient old.mode) Outbound (Some old.credentials) h m0 → IfNtlm k m0 (begun h)) →
+      ((h : Option CredentialsBuffers) (m0 : C) → Begun c old.context old.handle (ForClient old.mode) Outbound
+      (Some old.credentials) h m0 → IfNtlm k m0 (begun h)) →
       ((h : Option CredentialsBuffers) (m : NtlmState) → begun h m → client_step m.stage m h (token_of token) ≡ Goes y step) →
-      ((h : Option CredentialsBuffers) (m : NtlmState) → begun h m → h ≡ handle) → Walks c laws calls old kdc token step (Ntlm (at_rest y)) handle NoKdc
+      ((h : Option CredentialsBuffers) (m : NtlmState) → begun h m → h ≡ handle) →
+      Walks c laws calls old kdc token step (Ntlm (at_rest y)) handle NoKdc
   walks_by old kdc token begun y step handle begins outcome had = record {
     done = λ h log kdc2 s m replied walked.
         let w = stepped_once k laws (begun h) old h token 0 log (Done s) m (begins h) walked in
@@ -148,7 +91,8 @@ module _ {K D P : Type 0} (k : Meaning Setting K) (laws : IsContext (either 0 nt
         let stops = w.steps.0 others in cc;
   }
 
-  took : (begun : NtlmState → Type 0) (h : Option CredentialsBuffers) (token : Option (List ℕ)) (y : NtlmState) (step s : Step) (m0 m : C) → IfNtlm k m0 begun →
+  took : (begun : NtlmState → Type 0) (h : Option CredentialsBuffers) (token : Option (List ℕ)) (y : NtlmState) (step s : Step)
+      (m0 m : C) → IfNtlm k m0 begun →
       ((x : NtlmState) → begun x → server_step x.stage x (token_of token) ≡ Goes y step) → c.accepts m0 (server_args h token) (Ok s) m →
       (s ≡ step) × (cleared c m ≡ Ntlm (at_rest y))
   took begun h token y step s (Ntlm x) (Ntlm z) begins outcome accepts =
@@ -161,10 +105,12 @@ module _ {K D P : Type 0} (k : Meaning Setting K) (laws : IsContext (either 0 nt
   took begun h token y step s (Kerberos x) m begins outcome accepts = absurd begins
   took begun h token y step s (Negotiate x) m begins outcome accepts = absurd begins
 
-  took_never : (begun : NtlmState → Type 0) (h : Option CredentialsBuffers) (token : Option (List ℕ)) (y : NtlmState) (step : Step) (error : Error) (m0 m : C) → IfNtlm k m0 begun →
+  took_never : (begun : NtlmState → Type 0) (h : Option CredentialsBuffers) (token : Option (List ℕ)) (y : NtlmState) (step : Step)
+      (error : Error) (m0 m : C) → IfNtlm k m0 begun →
       ((x : NtlmState) → begun x → server_step x.stage x (token_of token) ≡ Goes y step) → error.error_type ≢ InsufficientMemory →
       c.accepts m0 (server_args h token) (Err error) m → ⊥
-  took_never begun h token y step error (Ntlm x) (Ntlm z) begins outcome others accepts = let goes = outcome x begins in let stops = accepts.0 others in cc
+  took_never begun h token y step error (Ntlm x) (Ntlm z) begins outcome others accepts = let goes = outcome x begins in let stops =
+      accepts.0 others in cc
   took_never begun h token y step error (Ntlm x) (Kerberos z) begins outcome others accepts = accepts
   took_never begun h token y step error (Ntlm x) (Negotiate z) begins outcome others accepts = accepts
   took_never begun h token y step error (Kerberos x) m begins outcome others accepts = begins
@@ -175,36 +121,26 @@ module _ {K D P : Type 0} (k : Meaning Setting K) (laws : IsContext (either 0 nt
   in_both (Kerberos x) Q R more h = absurd h
   in_both (Negotiate x) Q R more h = absurd h
 
-  takes_by : (old : ServerView C P) (token : Option (List ℕ)) (begun : Option CredentialsBuffers → NtlmState → Type 0) (y : NtlmState) (step : Step)
+  takes_by : (old : ServerView C P) (token : Option (List ℕ)) (begun : Option CredentialsBuffers → NtlmState → Type 0) (y : NtlmState)
+      (step : Step)
       (handle : Option CredentialsBuffers) →
-      ((h : Option CredentialsBuffers) (m0 : C) → Begun c old.context old.handle (server_setting p old) Inbound None h m0 → IfNtlm k m0 (begun h)) →
+      ((h : Option CredentialsBuffers) (m0 : C) → Begun c old.context old.handle (server_setting p old) Inbound None h m0 →
+      IfNtlm k m0 (begun h)) →
       ((h : Option CredentialsBuffers) (m : NtlmState) → begun h m → server_step m.stage m (token_of token) ≡ Goes y step) →
       ((h : Option CredentialsBuffers) (m : NtlmState) → begun h m → h ≡ handle) → Takes c laws p old token step (Ntlm (at_rest y)) handle
   takes_by old token begun y step handle begins outcome had = record {
     done = λ h m0 m s start accepts.
         let t = took (begun h) h token y step s m0 m (begins h m0 start) (outcome h) accepts in
         (t.0, t.1, in_both m0 (begun h) (h ≡ handle) (had h) (begins h m0 start));
-    never = λ h m0 m error others start accepts. took_never (begun h) h token y step error m0 m (begins h m0 start) (outcome h) others accepts;
+    never = λ h m0 m error others start accepts. took_never (begun h) h token y step error m0 m (begins h m0 start)
+        (outcome h) others accepts;
   }
 
-  module _ (a : ClientView C) (b : ServerView C P) (kdc_first : D) (matching : AreMatching p a b) where
+  module _ (a : ClientView C) (b : ServerView C P) (kdc_first : D) (matching : AreMatching p a b) (client_config server_config : NtlmConfig)
+      (client_is : a.mode ≡ client_mode.Ntlm client_config) (server_is : b.mode ≡ server_mode.Ntlm server_config)
+      (challenge_length : length server_config.challenge ≡ 8) where
     abbrev i : AuthIdentity
     i = matching.identity
-
-    abbrev client_config : NtlmConfig
-    client_config = (plain_client a.mode matching.client_plain).0
-
-    client_is : a.mode ≡ client_mode.Ntlm client_config
-    client_is = (plain_client a.mode matching.client_plain).1
-
-    abbrev server_config : NtlmConfig
-    server_config = (plain_server b.mode matching.server_plain).0
-
-    server_is : b.mode ≡ server_mode.Ntlm server_config
-    server_is = (plain_server b.mode matching.server_plain).1
-
-    challenge_length : length server_config.challenge ≡ 8
-    challenge_length = subst HasChallenge server_is matching.challenge
 
     abbrev challenge : List ℕ
     challenge = server_config.challenge
@@ -271,20 +207,27 @@ module _ {K D P : Type 0} (k : Meaning Setting K) (laws : IsContext (either 0 nt
     walks_first : (old : ClientView C) (kdc : D) → SameClient c a old → old.context ≡ None → NoKdc kdc →
         Walks c laws calls old kdc None (client_steps 0) (client_context 1) handle NoKdc
     walks_first old kdc same none at =
-        walks_by old kdc None (λ h m. (m ≡ client_new) × (acquired Outbound (Some a.credentials) ≡ Ok h)) client_sent (client_steps 0) handle
+        walks_by old kdc None (λ h m. (m ≡ client_new) × (acquired Outbound (Some a.credentials) ≡ Ok h)) client_sent
+        (client_steps 0) handle
         (λ h m0 start. client_first k client_config a.credentials old.context old.handle h m0 none
-        (subst (λ (mode : ClientMode). Begun c old.context old.handle (ForClient mode) Outbound (Some a.credentials) h m0) (same.mode ∙ client_is)
+        (subst (λ (mode : ClientMode). Begun c old.context old.handle (ForClient mode) Outbound (Some a.credentials) h m0)
+        (same.mode ∙ client_is)
         (subst (λ (cr : Credentials). Begun c old.context old.handle (ForClient old.mode) Outbound (Some cr) h m0) same.credentials start)))
         (λ h m begun. subst (λ (x : NtlmState). client_step x.stage x h [] ≡ Goes client_sent (client_steps 0)) (sym begun.0) refl)
         (λ h m begun. acquires_buffers a.credentials i h matching.credentials_are begun.1)
 
-    walks : (n : ℕ) (old : ClientView C) (kdc : D) → n ≤ 0 → SameClient c a old → old.context ≡ Some (client_context (suc n)) → old.handle ≡ handle → NoKdc kdc →
+    walks : (n : ℕ) (old : ClientView C) (kdc : D) → n ≤ 0 → SameClient c a old → old.context ≡ Some (client_context (suc n)) →
+        old.handle ≡ handle → NoKdc kdc →
         Walks c laws calls old kdc (Some (server_steps n).output) (client_steps (suc n)) (client_context (suc (suc n))) handle NoKdc
     walks zero old kdc less same there had at =
-        walks_by old kdc (Some (challenge_message challenge)) (λ h m. (m ≡ client_sent) × (h ≡ old.handle)) client_on (client_steps 1) handle
-        (λ h m0 start. goes_on_as k (ForClient old.mode) old.context (Some old.credentials) old.handle h m0 client_sent Outbound there start)
-        (λ h m begun. subst (λ (x : NtlmState). client_step x.stage x h (challenge_message challenge) ≡ Goes client_on (client_steps 1)) (sym begun.0)
-        (client_outcome client_sent NegotiateSent h (challenge_message challenge) challenge i matching.identity_is (omega (arith, short)) challenge_length refl refl (begun.1 ∙ had)))
+        walks_by old kdc (Some (challenge_message challenge)) (λ h m. (m ≡ client_sent) × (h ≡ old.handle)) client_on
+        (client_steps 1) handle
+        (λ h m0 start. goes_on_as k (ForClient old.mode) old.context
+        (Some old.credentials) old.handle h m0 client_sent Outbound there start)
+        (λ h m begun. subst (λ (x : NtlmState). client_step x.stage x h (challenge_message challenge) ≡ Goes client_on (client_steps 1))
+        (sym begun.0)
+        (client_outcome client_sent NegotiateSent h (challenge_message challenge) challenge i matching.identity_is
+        (omega (arith, short)) challenge_length refl refl (begun.1 ∙ had)))
         (λ h m begun. begun.1 ∙ had)
     walks (suc n) old kdc less same there had at = absurd (omega (arith, less))
 
@@ -297,60 +240,68 @@ module _ {K D P : Type 0} (k : Meaning Setting K) (laws : IsContext (either 0 nt
     never_acquires config told kind (unacquired (Kerberos m) made refuses) = made
     never_acquires config told kind (unacquired (Negotiate m) made refuses) = made
 
-    server_never : (mode : ServerMode) (before now : P) (kind : ErrorKind) → mode ≡ server_mode.Ntlm server_config → MakeCause c p mode before now kind → ⊥
+    server_never : (mode : ServerMode) (before now : P) (kind : ErrorKind) → mode ≡ server_mode.Ntlm server_config →
+        MakeCause c p mode before now kind → ⊥
     server_never mode before now kind is (unlisted h) = subst (λ (x : ServerMode). ListRefused x (p.faults before) (p.faults now) kind) is h
     server_never mode before now kind is (unbegun h) = never_acquires server_config _ kind
         (subst (λ (x : ServerMode). BeginCause c (ForServer x (p.told before).entries) Inbound None kind) is h)
 
-    takes_first : (old : ServerView C P) → SameServer c b old → old.context ≡ None → Takes c laws p old (Some negotiate_message) (server_steps 0) (server_context 1) None
-    takes_first old same none =
+    takes_first : (old : ServerView C P) → SameServer c b old → p.told old.proxy ≡ p.told b.proxy → old.context ≡ None →
+        Takes c laws p old (Some negotiate_message) (server_steps 0) (server_context 1) None
+    takes_first old same tells none =
         takes_by old (Some negotiate_message) (λ h m. (m ≡ server_new) × (h ≡ None)) server_sent (server_steps 0) None
         (λ h m0 start. server_first k server_config _ old.context old.handle h m0 none
         (subst (λ (mode : ServerMode). Begun c old.context old.handle (ForServer mode (p.told old.proxy).entries) Inbound None h m0)
         (same.mode ∙ server_is) start))
-        (λ h m begun. subst (λ (x : NtlmState). server_step x.stage x negotiate_message ≡ Goes server_sent (server_steps 0)) (sym begun.0) refl)
+        (λ h m begun. subst (λ (x : NtlmState). server_step x.stage x negotiate_message ≡ Goes server_sent (server_steps 0))
+        (sym begun.0) refl)
         (λ h m begun. begun.1)
 
-    takes : (n : ℕ) (old : ServerView C P) → suc n ≤ 1 → SameServer c b old → old.context ≡ Some (server_context (suc n)) → old.handle ≡ None →
+    takes : (n : ℕ) (old : ServerView C P) → suc n ≤ 1 → SameServer c b old → old.context ≡ Some (server_context (suc n)) →
+        old.handle ≡ None →
         Takes c laws p old (Some (client_steps (suc n)).output) (server_steps (suc n)) (server_context (suc (suc n))) None
     takes zero old less same there had =
         takes_by old (Some (last_token i challenge)) (λ h m. (m ≡ server_sent) × (h ≡ old.handle)) server_claimed (server_steps 1) None
         (λ h m0 start. goes_on_as k (server_setting p old) old.context None old.handle h m0 server_sent Inbound there start)
-        (λ h m begun. subst (λ (x : NtlmState). server_step x.stage x (last_token i challenge) ≡ Goes server_claimed (server_steps 1)) (sym begun.0)
-        (server_outcome server_sent ChallengeSent (last_token i challenge) challenge i matching.identity_is (omega (arith, short)) refl refl))
+        (λ h m begun. subst (λ (x : NtlmState). server_step x.stage x (last_token i challenge) ≡ Goes server_claimed (server_steps 1))
+        (sym begun.0)
+        (server_outcome server_sent ChallengeSent (last_token i challenge) challenge i matching.identity_is
+        (omega (arith, short)) refl refl))
         (λ h m begun. begun.1 ∙ had)
     takes (suc n) old less same there had = absurd (omega (arith, less))
 
     -- ---- the peer
 
+    claim_of : (y : NtlmState) → at_rest y ≡ server_claimed → y.stage ≡ Claimed (claim_by i challenge)
+    claim_of y rest = ap (λ (x : NtlmState). x.stage) rest
+
+    sent_of : (y : NtlmState) → at_rest y ≡ server_claimed → y.challenge ≡ challenge
+    sent_of y rest = ap (λ (x : NtlmState). x.challenge) rest
+
     name_is : (y : NtlmState) (name : Name) → at_rest y ≡ server_claimed → name_at y.stage ≡ Some name → name ≡ i.username
-    name_is y name rest named = let e : Some i.username ≡ Some name = ap (λ (x : NtlmState). name_at x.stage) (sym rest) ∙ named in cc
+    name_is y name rest named =
+        outcomes.name_is (p.told b.proxy) matching.entries i challenge matching.tells matching.entry y (claim_of y rest)
+        (sent_of y rest) name named
 
-    found : (name : Name) (identities : List AuthIdentity) → name ≡ i.username → AreFound (p.told b.proxy) name identities → identities ≡ candidates_of matching.entries i.username
-    found name identities same candidates =
-        let here : identities ≡ candidates_of matching.entries name = subst (λ (x : Option (List AuthIdentity)). AreCandidates x name identities) matching.tells candidates.candidates in
-        here ∙ ap (candidates_of matching.entries) same
-
-    takes_key : (y : NtlmState) (identities : List AuthIdentity) → at_rest y ≡ server_claimed → identities ≡ candidates_of matching.entries i.username →
+    takes_key : (y : NtlmState) (name : Name) (identities : List AuthIdentity) → at_rest y ≡ server_claimed → name_at y.stage ≡ Some name →
+        AreFound (p.told b.proxy) name identities →
         identified y (filter has_password (map credentials.AuthIdentity identities)) ≡ Ok (keyed_by key y)
-    takes_key y identities rest list =
-        keyed y identities matching.entries i challenge matching.entry (ap (λ (x : NtlmState). x.stage) rest) (ap (λ (x : NtlmState). x.challenge) rest) list
+    takes_key y name identities rest named candidates =
+        let tells = p.told b.proxy in
+        outcomes.takes_key tells matching.entries i challenge matching.tells matching.entry y (claim_of y rest) (sent_of y rest) identities
+        (outcomes.found tells matching.entries i challenge matching.tells matching.entry y (claim_of y rest)
+        (sent_of y rest) name identities
+        (name_is y name rest named) candidates)
 
-    named_as : (y : NtlmState) (m2 : C) → at_rest y ≡ server_claimed → IsIdentified c (p.told b.proxy) (Ntlm y) m2 → cleared c m2 ≡ Ntlm server_keyed
+    named_as : (y : NtlmState) (m2 : C) → at_rest y ≡ server_claimed → IsIdentified c (p.told b.proxy) (Ntlm y) m2 →
+        cleared c m2 ≡ Ntlm server_keyed
     named_as y (Ntlm z) rest (is_identified name identities named candidates some sets) =
-        let takes_it = takes_key y identities rest (found name identities (name_is y name rest named) candidates) in
+        let takes_it = takes_key y name identities rest named candidates in
         let both : Ok z ≡ Ok (keyed_by key y) = sym sets ∙ takes_it in
         let last : z ≡ keyed_by key y = cc in
         ap (λ (x : NtlmState). Ntlm (at_rest x)) last ∙ ap (λ (x : NtlmState). Ntlm (keyed_by key x)) rest
     named_as y (Kerberos z) rest (is_identified name identities named candidates some sets) = absurd sets
     named_as y (Negotiate z) rest (is_identified name identities named candidates some sets) = absurd sets
-
-    look_never : (before now : ℕ) (kind : ErrorKind) → now ≡ before → before < 2 ^ 64 - 1 → LookUpRefused (p.told b.proxy) i.username before now kind → ⊥
-    look_never before now kind still few (failed more is) = omega (arith, more, still, few)
-    look_never before now kind still few (nobody none is) =
-        let some = some_candidates matching.entries i matching.entry in
-        let empty : [] ≡ candidates_of matching.entries i.username = subst (λ (x : Option (List AuthIdentity)). AreCandidates x i.username []) matching.tells none.candidates in
-        let never : [] ≡ matching.entry.entry ∷ some.0 = empty ∙ some.1 in cc
 
     identify_never : (y : NtlmState) (before now : ℕ) (kind : ErrorKind) → at_rest y ≡ server_claimed → now ≡ before → before < 2 ^ 64 - 1 →
         IdentifyCause c (Ntlm y) (p.told b.proxy) before now kind → ⊥
@@ -358,9 +309,11 @@ module _ {K D P : Type 0} (k : Meaning Setting K) (laws : IsContext (either 0 nt
         let stage : y.stage ≡ Claimed (claim_by i challenge) = ap (λ (x : NtlmState). x.stage) rest in
         let never : None ≡ Some kind = rw stage at refuses in cc
     identify_never y before now kind rest still few (looked name named refused) =
-        look_never before now kind still few (subst (λ (n : Name). LookUpRefused (p.told b.proxy) n before now kind) (name_is y name rest named) refused)
+        outcomes.look_never (p.told b.proxy) matching.entries i challenge matching.tells matching.entry y (claim_of y rest)
+        (sent_of y rest) before now kind still few
+        (subst (λ (n : Name). LookUpRefused (p.told b.proxy) n before now kind) (name_is y name rest named) refused)
     identify_never y before now kind rest still few (unset name identities named candidates some refuses) =
-        let sets = takes_key y identities rest (found name identities (name_is y name rest named) candidates) in
+        let sets = takes_key y name identities rest named candidates in
         let never : None ≡ Some kind = rw sets at refuses in cc
 
     complete_never : (y : NtlmState) (kind : ErrorKind) → at_rest y ≡ server_keyed → c.refuses (Ntlm y) ToComplete kind → ⊥
@@ -371,12 +324,15 @@ module _ {K D P : Type 0} (k : Meaning Setting K) (laws : IsContext (either 0 nt
     peer : IsPeer c laws (p.told b.proxy) (Ntlm server_claimed) (Ntlm server_keyed)
     peer = record {
       identified = λ m m2 same names.
-          let at = as_ntlm k m server_claimed same in named_as at.0 m2 at.2 (subst (λ (x : C). IsIdentified c (p.told b.proxy) x m2) at.1 names);
+          let at = as_ntlm k m server_claimed same in named_as at.0 m2 at.2
+          (subst (λ (x : C). IsIdentified c (p.told b.proxy) x m2) at.1 names);
       never = λ m before now kind same still few cause.
           let at = as_ntlm k m server_claimed same in
-          identify_never at.0 before now kind at.2 still few (subst (λ (x : C). IdentifyCause c x (p.told b.proxy) before now kind) at.1 cause);
+          identify_never at.0 before now kind at.2 still few
+          (subst (λ (x : C). IdentifyCause c x (p.told b.proxy) before now kind) at.1 cause);
       completes = λ m kind same refuses.
-          let at = as_ntlm k m server_keyed same in complete_never at.0 kind at.2 (subst (λ (x : C). c.refuses x ToComplete kind) at.1 refuses);
+          let at = as_ntlm k m server_keyed same in complete_never at.0 kind at.2
+          (subst (λ (x : C). c.refuses x ToComplete kind) at.1 refuses);
     }
 
     -- ---- all of it
@@ -411,7 +367,7 @@ module _ {K D P : Type 0} (k : Meaning Setting K) (laws : IsContext (either 0 nt
       downs = blob_of key FromServer;
       client_begins = λ kind cause. never_begins client_config a.credentials kind matching.credentials_are
           (subst (λ (mode : ClientMode). BeginCause c (ForClient mode) Outbound (Some a.credentials) kind) client_is cause);
-      server_begins = λ before now kind. server_never b.mode before now kind server_is;
+      server_begins = λ before now kind still calm. server_never b.mode before now kind server_is;
       kdc_start = tt;
       walks_first = walks_first;
       walks = walks;
@@ -431,22 +387,4 @@ module _ {K D P : Type 0} (k : Meaning Setting K) (laws : IsContext (either 0 nt
       server_short = server_short;
       ups_short = λ n text. let e = blob_length key FromClient n text in omega (arith, e);
       downs_short = λ n text. let e = blob_length key FromServer n text in omega (arith, e);
-    }
-
-    pub delegated : HasDelegated a.delegation i
-    delegated = delegates a.delegation i matching.identity_is matching.short
-
-    pub alike : AreAlike a b delegated.text (delegated_as a.delegation i)
-    alike = record {
-      key_same = matching.key_same;
-      key_short = matching.key_short;
-      versions = matching.versions;
-      client_takes = le-ltb b.version a.least matching.client_takes;
-      server_takes = le-ltb a.version b.least matching.server_takes;
-      client_version = matching.client_version;
-      server_version = matching.server_version;
-      nonce = matching.nonce;
-      text_is = ap (λ (cr : Credentials). delegated_text cr a.delegation) matching.credentials_are ∙ delegated.is;
-      text_short = delegated.short;
-      delegates = delegated.holds;
     }

@@ -1,5 +1,5 @@
 -- The last turn of a server in an undisturbed exchange: it opens the client's credentials.
-use Rattle.std.proofs.Common.{◌≡◌, ◌≢◌, ℕ, List, Bool, true, false, Option, None, Some, Ok, Err, refl, ap, sym, ◌∙◌, subst, arith}
+use Rattle.std.proofs.Common.{◌≡◌, ◌≢◌, ℕ, List, Bool, true, false, Option, Some, Ok, Err, refl, ap, sym, ◌∙◌, subst, arith}
 use Rattle.sspi_types.specs.declared.error_kind.ErrorKind.{ErrorKind}
 use Rattle.sspi_types.specs.declared.error_kind.ErrorKind.TheVariants.{InvalidToken, InsufficientMemory}
 use Rattle.sspi_names.specs.declared.identity.AuthIdentity.{AuthIdentity}
@@ -15,7 +15,7 @@ use Rattle.sspi_credssp.specs.Credentials.{delegated_identity}
 use Rattle.sspi_credssp.specs.Exchange.{OpensIdentity, opens_identity, BlobStops}
 use Rattle.sspi_credssp.specs.Proxy.{ProxyMeaning}
 use Rattle.sspi_credssp.specs.Server.{ServerView}
-use Rattle.sspi_credssp.specs.ServerCause.{MakeCause, UnreadCause, unread, OpenedCause}
+use Rattle.sspi_credssp.specs.ServerCause.{UnreadCause, unread, OpenedCause}
 use Rattle.sspi_credssp.specs.ServerTurn.{StartsUnused, OnceNegotiated, HoldsIdentity, server_frame, server_turn}
 use Rattle.sspi_credssp.specs.Shown.{MayCheck, ShowsStateBack, server_shown}
 use Rattle.sspi_credssp.specs.declared.turn.Outcome.{Outcome}
@@ -29,14 +29,14 @@ module _ {C P : Type 0} (c : Meaning ContextSetting C) (laws : IsContext c) (p :
   View = ServerView C P
 
   -- what the turn is given: the client's credentials, sealed as its second message
-  pub record DeliveryGiven (b old : View) (w : ℕ) (d : TsRequest) (z : C) (peers : ℕ → List ℕ → List ℕ) (text : List ℕ) (identity : AuthIdentity) : Type 0 where
+  pub record DeliveryGiven (b old : View) (w : ℕ) (d : TsRequest) (z : C) (peers : ℕ → List ℕ → List ℕ) (text : List ℕ)
+      (identity : AuthIdentity) : Type 0 where
     pub is : ServerIs c b old w AuthInfo 1 1
     pub holds : Holds c old.context z
     pub taker : IsTaker c z peers
     pub version : d.version ≡ w
     pub field : d.auth_info ≡ Some (peers 1 text)
     pub delegates : delegated_identity text ≡ Ok identity
-    pub begins : (before now : P) (kind : ErrorKind) → MakeCause c p b.mode before now kind → ⊥
 
   bare_at : (state : CredSspState) (Q : Type 0) → state ≡ AuthInfo → OnceNegotiated state Q → Q
   bare_at state Q auth h = subst (λ (s : CredSspState). OnceNegotiated s Q) auth h
@@ -45,7 +45,8 @@ module _ {C P : Type 0} (c : Meaning ContextSetting C) (laws : IsContext c) (p :
       (given : DeliveryGiven b old w d z peers text identity) where
     never_replies : (mid : View) (r : TsRequest) → ServerMakes c p old d (outcome.Reply r) mid → ⊥
     never_replies mid r makes =
-        subst (λ (s : CredSspState). ShowsStateBack (server_shown (server_frame c old mid)) (server_turn c d (outcome.Reply r) mid) s r) given.is.state_is makes.0.turn.shown.reply
+        subst (λ (s : CredSspState). ShowsStateBack (server_shown (server_frame c old mid)) (server_turn c d (outcome.Reply r) mid) s r)
+        given.is.state_is makes.0.turn.shown.reply
 
     held_now : (mid : View) → OnceNegotiated old.state (SameBut c old.context mid.context) → Holds c mid.context z
     held_now mid bare = holds_still c old.context mid.context z (bare_at old.state _ given.is.state_is bare) given.holds
@@ -55,7 +56,8 @@ module _ {C P : Type 0} (c : Meaning ContextSetting C) (laws : IsContext c) (p :
         let one : text2 ≡ text = given.taker.opened m 1 _ text text2 same opens in
         let both : Ok identity2 ≡ Ok identity = sym is ∙ ap delegated_identity one ∙ given.delegates in cc
 
-    gives : (mid : View) (identity2 : AuthIdentity) → ServerMakes c p old d outcome.Finished mid → HoldsIdentity c mid.context d.auth_info identity2 → identity2 ≡ identity
+    gives : (mid : View) (identity2 : AuthIdentity) → ServerMakes c p old d outcome.Finished mid →
+        HoldsIdentity c mid.context d.auth_info identity2 → identity2 ≡ identity
     gives mid identity2 makes holds =
         let h = held_now mid makes.0.moves.bare in
         identity_of h.held identity2 h.same
@@ -72,13 +74,16 @@ module _ {C P : Type 0} (c : Meaning ContextSetting C) (laws : IsContext c) (p :
     opened_never false m kind same next h = given.taker.never m 1 text kind same (next refl) (omega arith) h
     opened_never true m kind same next h = unread_never m kind same h
 
-    delivery_refused : (mid : View) (kind : ErrorKind) (reply : Option TsRequest) → ServerMakes c p old d (outcome.Refused kind reply) mid → kind ≢ InsufficientMemory → ⊥
+    delivery_refused : (mid : View) (kind : ErrorKind) (reply : Option TsRequest) →
+        ServerMakes c p old d (outcome.Refused kind reply) mid → kind ≢ InsufficientMemory → ⊥
     delivery_refused mid kind reply makes others =
         let error = makes.0 in
         let turn = makes.2 in
         let others2 : error.error_type ≢ InsufficientMemory = λ memory. others (sym makes.1 ∙ memory) in
-        let cause = cause_past c laws p b old mid w d AuthInfo 1 1 error.error_type given.is given.version given.begins (makes.3.cause others2) in
-        let at_blob = subst (λ (f : Option (List ℕ)). BlobStops f error.error_type (λ blob. OpenedCause c mid.acts.opened mid.context blob error.error_type)) given.field cause in
+        let cause = cause_past c laws p b old mid w d AuthInfo 1 1 error.error_type given.is given.version
+        (λ none. absurd (cc (none, given.holds.there))) (makes.3.cause others2) in
+        let at_blob = subst (λ (f : Option (List ℕ)). BlobStops f error.error_type
+        (λ blob. OpenedCause c mid.acts.opened mid.context blob error.error_type)) given.field cause in
         let later = stops_later _ InvalidToken error.error_type _ (given.taker.long 1 text) at_blob in
         let h = held_now mid turn.moves.bare in
         let at = subst (λ (o : Option C). OpenedCause c mid.acts.opened o (peers 1 text) error.error_type) h.there later in

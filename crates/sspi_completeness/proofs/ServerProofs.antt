@@ -1,6 +1,7 @@
 -- The turns of a server in an undisturbed exchange that end its authentication, and that answer the client's proof, in one
 -- turn or in two.
-use Rattle.std.proofs.Common.{◌≡◌, ◌≢◌, ℕ, ◌-◌, ◌<◌, ◌^◌, List, [], Bool, true, false, Option, None, Some, IsSome, refl, ap, sym, ◌∙◌, subst, arith, nat_lt}
+use Rattle.std.proofs.Common.{◌≡◌, ◌≢◌, ℕ, ◌-◌, ◌<◌, ◌^◌, List, [], Bool, true, false, Option, None, Some, IsSome, refl, ap, sym, ◌∙◌}
+use Rattle.std.proofs.Common.{subst, arith, nat_lt}
 use Rattle.sspi_types.specs.declared.error_kind.ErrorKind.{ErrorKind}
 use Rattle.sspi_types.specs.declared.error_kind.ErrorKind.TheVariants.{InvalidToken, InsufficientMemory}
 use Rattle.sspi_types.specs.declared.security_status.SecurityStatus.{SecurityStatus}
@@ -22,7 +23,8 @@ use Rattle.sspi_credssp.specs.PublicKey.{prescribed}
 use Rattle.sspi_credssp.specs.Requests.{nonce_of, IsLong}
 use Rattle.sspi_credssp.specs.Proxy.{ProxyMeaning}
 use Rattle.sspi_credssp.specs.Server.{ServerView}
-use Rattle.sspi_credssp.specs.ServerCause.{MakeCause, IdentifyCause, OverCause, unknown, incomplete, known, AfterCause, ExchangeCause, BlobCause, ProofCause, AnswerCause, altered, unsealed, lacks_nonce}
+use Rattle.sspi_credssp.specs.ServerCause.{IdentifyCause, OverCause, unknown, incomplete, known, AfterCause, ExchangeCause}
+use Rattle.sspi_credssp.specs.ServerCause.{BlobCause, ProofCause, AnswerCause, altered, unsealed, lacks_nonce}
 use Rattle.sspi_credssp.specs.ServerStep.{Unknown, Identified, Completed}
 use Rattle.sspi_credssp.specs.Noted.{noted_with}
 use Rattle.sspi_credssp.specs.ServerTurn.{StartsUnused, OnceNegotiated, ServerTurn, after_status, server_frame, server_turn}
@@ -34,8 +36,10 @@ use Rattle.sspi_credssp.specs.declared.turn.Outcome.TheVariants as outcome
 use Rattle.sspi_credssp.specs.Held.{HoldsProofBack}
 use Rattle.sspi_delegate.specs.History.{ServerMakes}
 use Rattle.sspi_completeness.proofs.Accepting.{IsPeer, named_is, come_at}
-use Rattle.sspi_completeness.proofs.Ends.{Comes, is_false, stops_later, sealed_few, Holds, IsMaker, IsTaker, holds_still, sealed_field, ServerIs}
-use Rattle.sspi_completeness.proofs.ServerTurns.{NegoGiven, nego_acts, same_on, stands_noted, cause_past, over_answer, over_cause, unused, noted_now, replies, over_left, never_finishes, refusal}
+use Rattle.sspi_completeness.proofs.Ends.{Comes, is_false, stops_later, sealed_few, Holds, IsMaker, IsTaker, holds_still, sealed_field}
+use Rattle.sspi_completeness.proofs.Ends.{ServerIs}
+use Rattle.sspi_completeness.proofs.ServerTurns.{NegoGiven, nego_acts, same_on, stands_noted, cause_past, over_answer, over_cause}
+use Rattle.sspi_completeness.proofs.ServerTurns.{unused, noted_now, replies, over_left, never_finishes, refusal}
 use Rattle.sspi_completeness.proofs.Replies.{proof_back_is, token_back_is}
 
 asks_proof : (st : SecurityStatus) → IsOver (Some st) → after_status (Some st) ≡ PubKeyInfo
@@ -60,7 +64,8 @@ module _ {C P : Type 0} (c : Meaning ContextSetting C) (laws : IsContext c) (p :
     pub proof : d.pub_key_auth ≡ Some (peers 0 (prescribed Client w (nonce_of d.client_nonce) b.public_key))
     pub nonce : lacks_nonce (nat_lt w 5) d.client_nonce ≡ false
 
-  module _ (b old : View) (w : ℕ) (d : TsRequest) (z : C) (own peers : ℕ → List ℕ → List ℕ) (proof_given : ProofGiven b w d z own peers) where
+  module _ (b old : View) (w : ℕ) (d : TsRequest) (z : C) (own peers : ℕ → List ℕ → List ℕ)
+      (proof_given : ProofGiven b w d z own peers) where
     abbrev client_text : List ℕ
     client_text = prescribed Client w (nonce_of d.client_nonce) b.public_key
 
@@ -71,18 +76,22 @@ module _ {C P : Type 0} (c : Meaning ContextSetting C) (laws : IsContext c) (p :
       pub_key_auth = Some (own 0 (prescribed Server w (nonce_of d.client_nonce) b.public_key));
     }
 
-    answered : (mid : View) (r : TsRequest) → ShowsProofBack (server_shown (server_frame c old mid)) (server_turn c d (outcome.Reply r) mid) r → HoldsProofBack c (server_frame c old mid) d r → Holds c mid.context z → mid.noted ≡ Some w →
+    answered : (mid : View) (r : TsRequest) → ShowsProofBack (server_shown (server_frame c old mid))
+        (server_turn c d (outcome.Reply r) mid) r → HoldsProofBack c (server_frame c old mid) d r → Holds c mid.context z →
+        mid.noted ≡ Some w →
         mid.public_key ≡ b.public_key → mid.version ≡ b.version → sealed_in c mid.context ≡ 1 → r ≡ answer
     answered mid r proof held holds noted public_key version one =
         let seals = subst (λ (x : Option ℕ). AtNoted x (λ n. SealsIn c mid.context (sealed_in c mid.context - 1)
         (prescribed Server n (nonce_of d.client_nonce) mid.public_key) r.pub_key_auth)) noted held in
         let field = sealed_field c mid.context z own _ _ r.pub_key_auth holds proof_given.maker seals in
-        let field_is : r.pub_key_auth ≡ Some (own 0 (prescribed Server w (nonce_of d.client_nonce) b.public_key)) = field ∙ (rw (one, public_key) refl) in
+        let field_is : r.pub_key_auth ≡ Some (own 0 (prescribed Server w (nonce_of d.client_nonce) b.public_key)) =
+        field ∙ (rw (one, public_key) refl) in
         proof_back_is (server_frame c old mid) (server_turn c d (outcome.Reply r) mid) r proof ∙ (rw (version, field_is) refl)
 
     answer_never : (m : C) (text : List ℕ) (kind : ErrorKind) → cleared c m ≡ z → (c.counts m).sealed < 2 ^ 64 - 1 →
         AnswerCause c m (peers 0 client_text) client_text text kind → ⊥
-    answer_never m text kind same few (altered (opens_other text2 opens differs) is) = differs (proof_given.taker.opened m 0 _ client_text text2 same opens)
+    answer_never m text kind same few (altered (opens_other text2 opens differs) is) =
+        differs (proof_given.taker.opened m 0 _ client_text text2 same opens)
     answer_never m text kind same few (unsealed opens refuses) = proof_given.maker.never m text kind same few refuses
 
     proof_never : (checked : Bool) (m : C) (text : List ℕ) (kind : ErrorKind) → cleared c m ≡ z → (c.counts m).sealed < 2 ^ 64 - 1 →
@@ -90,13 +99,15 @@ module _ {C P : Type 0} (c : Meaning ContextSetting C) (laws : IsContext c) (p :
     proof_never false m text kind same few next h = proof_given.taker.never m 0 client_text kind same (next refl) (omega arith) h
     proof_never true m text kind same few next h = answer_never m text kind same few h
 
-    exchange_never : (mid : View) (kind : ErrorKind) → Holds c mid.context z → mid.noted ≡ Some w → mid.public_key ≡ b.public_key → sealed_in c mid.context < 2 ^ 64 - 1 →
+    exchange_never : (mid : View) (kind : ErrorKind) → Holds c mid.context z → mid.noted ≡ Some w → mid.public_key ≡ b.public_key →
+        sealed_in c mid.context < 2 ^ 64 - 1 →
         (mid.acts.checked ≡ false → unsealed_in c mid.context ≡ 0) → ExchangeCause c d.pub_key_auth mid.noted d.client_nonce mid kind → ⊥
     exchange_never mid kind holds noted public_key few next cause =
         let blob = peers 0 client_text in
         let at_noted = subst (λ (n : Option ℕ). ExchangeCause c (Some blob) n d.client_nonce mid kind) noted
         (subst (λ (f : Option (List ℕ)). ExchangeCause c f mid.noted d.client_nonce mid kind) proof_given.proof cause) in
-        let later = stops_later _ InvalidToken kind _ (proof_given.taker.long 0 client_text) (stops_later _ InvalidToken kind _ proof_given.nonce at_noted) in
+        let later = stops_later _ InvalidToken kind _ (proof_given.taker.long 0 client_text)
+        (stops_later _ InvalidToken kind _ proof_given.nonce at_noted) in
         let at = subst (λ (x : Option C). BlobCause c w x d.client_nonce blob mid kind) holds.there later in
         let exact = subst (λ (p : List ℕ). ProofCause c mid.acts.checked holds.held blob (prescribed Client w (nonce_of d.client_nonce) p)
         (prescribed Server w (nonce_of d.client_nonce) p) kind) public_key at in
@@ -107,8 +118,7 @@ module _ {C P : Type 0} (c : Meaning ContextSetting C) (laws : IsContext c) (p :
 
     -- ---- the proof alone
 
-    module _ (is : ServerIs c b old w PubKeyInfo 0 0) (holds : Holds c old.context z) (version : d.version ≡ w)
-        (begins : (before now : P) (kind : ErrorKind) → MakeCause c p b.mode before now kind → ⊥) where
+    module _ (is : ServerIs c b old w PubKeyInfo 0 0) (holds : Holds c old.context z) (version : d.version ≡ w) where
       unstarted : StartsUnused c old
       unstarted = λ nego. let at = is.state_is in absurd cc
 
@@ -118,7 +128,8 @@ module _ {C P : Type 0} (c : Meaning ContextSetting C) (laws : IsContext c) (p :
       held_now : (mid : View) → OnceNegotiated old.state (SameBut c old.context mid.context) → Holds c mid.context z
       held_now mid bare = holds_still c old.context mid.context z (bare_at old.state _ is.state_is bare) holds
 
-      noted_at : (mid : View) (m : C) → mid.context ≡ Some m → (IsSome mid.context → mid.noted ≡ noted_with old.least old.noted d.version) → mid.noted ≡ Some w
+      noted_at : (mid : View) (m : C) → mid.context ≡ Some m →
+          (IsSome mid.context → mid.noted ≡ noted_with old.least old.noted d.version) → mid.noted ≡ Some w
       noted_at mid m there noted = noted (rw there refl) ∙ ap (noted_with old.least old.noted) version ∙ is.notes
 
       unopened : (mid : View) (out : Outcome) → ServerTurn c old d out mid → mid.acts.opened ≡ false
@@ -129,7 +140,8 @@ module _ {C P : Type 0} (c : Meaning ContextSetting C) (laws : IsContext c) (p :
       proof_replied mid r makes =
           let turn = makes.0 in
           let proof : ShowsProofBack (server_shown (server_frame c old mid)) (server_turn c d (outcome.Reply r) mid) r =
-          subst (λ (s : CredSspState). ShowsStateBack (server_shown (server_frame c old mid)) (server_turn c d (outcome.Reply r) mid) s r) is.state_is turn.turn.shown.reply in
+          subst (λ (s : CredSspState). ShowsStateBack (server_shown (server_frame c old mid)) (server_turn c d (outcome.Reply r) mid) s r)
+          is.state_is turn.turn.shown.reply in
           let h = held_now mid turn.moves.bare in
           let one : sealed_by mid.acts ≡ 1 = rw (proof.proved, turn.turn.shown.acts.sealed) refl in
           let opened_one : unsealed_by mid.acts ≡ 1 = rw (proof.checked, unopened mid _ turn) refl in
@@ -150,20 +162,24 @@ module _ {C P : Type 0} (c : Meaning ContextSetting C) (laws : IsContext c) (p :
             h,
           )
 
-      proof_refused : (mid : View) (kind : ErrorKind) (reply : Option TsRequest) → ServerMakes c p old d (outcome.Refused kind reply) mid → kind ≢ InsufficientMemory → ⊥
+      proof_refused : (mid : View) (kind : ErrorKind) (reply : Option TsRequest) →
+          ServerMakes c p old d (outcome.Refused kind reply) mid → kind ≢ InsufficientMemory → ⊥
       proof_refused mid kind reply makes others =
           let turn = makes.2 in
           let others2 : makes.0.error_type ≢ InsufficientMemory = λ memory. others (sym makes.1 ∙ memory) in
-          let cause = cause_past c laws p b old mid w d PubKeyInfo 0 0 makes.0.error_type is version begins (makes.3.cause others2) in
+          let cause = cause_past c laws p b old mid w d PubKeyInfo 0 0 makes.0.error_type is version
+          (λ none. absurd (cc (none, holds.there))) (makes.3.cause others2) in
           let h = held_now mid turn.moves.bare in
           let sealed = turn.moves.sealed unstarted in
           let opened = turn.moves.unsealed unstarted in
           let sealed_before = is.sealed_is in
           let opened_before = is.unsealed_is in
           let two = sealed_few mid.acts in
-          exchange_never mid makes.0.error_type h (noted_at mid h.held h.there turn.moves.noted) (turn.moves.same.public_key ∙ is.same.public_key)
+          exchange_never mid makes.0.error_type h (noted_at mid h.held h.there turn.moves.noted)
+          (turn.moves.same.public_key ∙ is.same.public_key)
           (omega (arith, sealed, sealed_before, two))
-          (λ unchecked. let none : unsealed_by mid.acts ≡ 0 = rw (unchecked, unopened mid _ turn) refl in omega (arith, opened, opened_before, none)) cause
+          (λ unchecked. let none : unsealed_by mid.acts ≡ 0 =
+          rw (unchecked, unopened mid _ turn) refl in omega (arith, opened, opened_before, none)) cause
 
       proof_ends : (mid : View) → ServerMakes c p old d outcome.Finished mid → ⊥
       proof_ends mid makes = let auth = makes.0.turn.shown.reply.0 in let at = is.state_is in cc
@@ -177,22 +193,28 @@ module _ {C P : Type 0} (c : Meaning ContextSetting C) (laws : IsContext c) (p :
 
   -- ---- the end of the authentication
 
-  module _ (b old : View) (w : ℕ) (d : TsRequest) (step : Step) (y z : C) (handle : Option CredentialsBuffers) (given : NegoGiven c laws p b old w d step y handle)
+  module _ (b old : View) (w : ℕ) (d : TsRequest) (step : Step) (y z : C) (handle : Option CredentialsBuffers)
+      (given : NegoGiven c laws p b old w d step y handle)
       (peer : IsPeer c laws (p.told old.proxy) y z) (over : IsOver (Some step.status)) where
     -- a refusal is past the peer's name and the context's end
-    over_after : (mid : View) (kind : ErrorKind) → p.faults mid.proxy ≡ p.faults old.proxy → p.faults old.proxy < 2 ^ 64 - 1 → OverCause c p step.status old d mid kind →
+    over_after : (mid : View) (kind : ErrorKind) → p.faults mid.proxy ≡ p.faults old.proxy → p.faults old.proxy < 2 ^ 64 - 1 →
+        OverCause c p step.status old d mid kind →
         Holds c mid.context z × (mid.output ≡ step.output) × AfterCause c d.pub_key_auth d.client_nonce mid kind
     over_after mid kind still calm (unknown unchecked come h) =
         let left = (come_at c laws p old d.nego_tokens step y handle given.takes mid Unknown step.status come).1 in
         absurd (peer.never left.held (p.faults old.proxy) (p.faults mid.proxy) kind left.comes still calm
-        (subst (λ (o : Option C). IfContext o (λ m. IdentifyCause c m (p.told old.proxy) (p.faults old.proxy) (p.faults mid.proxy) kind)) left.there h))
+        (subst (λ (o : Option C). IfContext o (λ m. IdentifyCause c m (p.told old.proxy) (p.faults old.proxy) (p.faults mid.proxy) kind))
+        left.there h))
     over_after mid kind still calm (incomplete unchecked come h) =
         let left = (come_at c laws p old d.nego_tokens step y handle given.takes mid Identified step.status come).1 in
         absurd (peer.completes left.held kind (named_is c laws (p.told old.proxy) y z left.held peer left.comes)
         (subst (λ (o : Option C). IfContext o (λ m. c.refuses m ToComplete kind)) left.there h))
     over_after mid kind still calm (known come after) =
-        let left = (come_at c laws p old d.nego_tokens step y handle given.takes mid Completed step.status come).1 in
-        (record { held = left.held; there = left.there; same = named_is c laws (p.told old.proxy) y z left.held peer left.comes }, left.output_is, after)
+        let left = (come_at c laws p old d.nego_tokens step y handle given.takes mid Completed step.status come).1 in (
+          record { held = left.held; there = left.there; same = named_is c laws (p.told old.proxy) y z left.held peer left.comes },
+          left.output_is,
+          after,
+        )
 
     -- ---- with the client's proof
 
@@ -204,10 +226,15 @@ module _ {C P : Type 0} (c : Meaning ContextSetting C) (laws : IsContext c) (p :
           let frame = server_frame c old mid in
           let t = server_turn c d (outcome.Reply r) mid in
           let s = replies c laws p b old w d step y handle given mid r makes in
-          let proof : ShowsProofBack (server_shown frame) t r = subst (λ (x : Option (List ℕ)). ShowsOver (server_shown frame) t x r) proof_given.proof
+          let proof : ShowsProofBack (server_shown frame) t r =
+          subst (λ (x : Option (List ℕ)). ShowsOver (server_shown frame) t x r) proof_given.proof
           (over_answer c laws p step.status frame t r over s.answer) in
           let left = over_left c laws p b old w d step y handle given mid over s.done in
-          let h : Holds c mid.context z = record { held = left.held; there = left.there; same = named_is c laws (p.told old.proxy) y z left.held peer left.comes } in
+          let h : Holds c mid.context z = record {
+            held = left.held;
+            there = left.there;
+            same = named_is c laws (p.told old.proxy) y z left.held peer left.comes;
+          } in
           let quiet = nego_acts c laws p frame t turn.turn.shown.acts given.is.state_is in
           let start = unused c laws p b old w d step y handle given in
           let one : sealed_by mid.acts ≡ 1 = rw (proof.proved, quiet.0) refl in
@@ -216,7 +243,8 @@ module _ {C P : Type 0} (c : Meaning ContextSetting C) (laws : IsContext c) (p :
           let noted = noted_now c laws p b old w d step y handle given mid h.held h.there turn.moves.noted in
           let same = same_on c laws p b old mid given.is.same turn.moves.same in
           let still = stands_noted c laws p mid.least mid.noted w noted in (
-            answered b old w d z own peers proof_given mid r proof (turn.turn.held.reply proof.proved) h noted same.public_key same.version sealed_now,
+            answered b old w d z own peers proof_given mid r proof
+                (turn.turn.held.reply proof.proved) h noted same.public_key same.version sealed_now,
             record {
               same = same;
               state_is = turn.moves.state ∙ (rw proof.proved refl);
@@ -229,18 +257,21 @@ module _ {C P : Type 0} (c : Meaning ContextSetting C) (laws : IsContext c) (p :
             h,
           )
 
-      exchange_at : (field : Option (List ℕ)) (blob : List ℕ) (mid : View) (kind : ErrorKind) → field ≡ Some blob → AfterCause c field d.client_nonce mid kind →
+      exchange_at : (field : Option (List ℕ)) (blob : List ℕ) (mid : View) (kind : ErrorKind) → field ≡ Some blob →
+          AfterCause c field d.client_nonce mid kind →
           ExchangeCause c field mid.noted d.client_nonce mid kind
       exchange_at None blob mid kind is h = absurd (cc (is))
       exchange_at (Some x) blob mid kind is h = h
 
-      exchange_refused : (mid : View) (kind : ErrorKind) (reply : Option TsRequest) → p.faults mid.proxy ≡ p.faults old.proxy → p.faults old.proxy < 2 ^ 64 - 1 →
+      exchange_refused : (mid : View) (kind : ErrorKind) (reply : Option TsRequest) → p.faults mid.proxy ≡ p.faults old.proxy →
+          p.faults old.proxy < 2 ^ 64 - 1 →
           ServerMakes c p old d (outcome.Refused kind reply) mid → kind ≢ InsufficientMemory → ⊥
       exchange_refused mid kind reply still calm makes others =
-          let x = refusal c laws p b old w d step y handle given mid kind reply makes others in
+          let x = refusal c laws p b old w d step y handle given mid kind reply still calm makes others in
           let after = over_after mid kind still calm (over_cause c laws p step.status old d mid kind over x.cause) in
           let start = unused c laws p b old w d step y handle given in
-          let quiet = nego_acts c laws p (server_frame c old mid) (server_turn c d (outcome.Refused kind reply) mid) x.turn.turn.shown.acts given.is.state_is in
+          let quiet = nego_acts c laws p (server_frame c old mid)
+          (server_turn c d (outcome.Refused kind reply) mid) x.turn.turn.shown.acts given.is.state_is in
           let sealed = x.turn.moves.sealed start in
           let opened = x.turn.moves.unsealed start in
           let sealed_before = given.is.sealed_is in
@@ -252,7 +283,8 @@ module _ {C P : Type 0} (c : Meaning ContextSetting C) (laws : IsContext c) (p :
           (λ unchecked. let none : unsealed_by mid.acts ≡ 0 = rw (unchecked, quiet.1) refl in omega (arith, opened, opened_before, none))
           (exchange_at d.pub_key_auth _ mid kind proof_given.proof after.2)
 
-      pub exchange_turn : (out : Outcome) (mid : View) → p.faults mid.proxy ≡ p.faults old.proxy → p.faults old.proxy < 2 ^ 64 - 1 → ServerMakes c p old d out mid →
+      pub exchange_turn : (out : Outcome) (mid : View) → p.faults mid.proxy ≡ p.faults old.proxy → p.faults old.proxy < 2 ^ 64 - 1 →
+          ServerMakes c p old d out mid →
           Comes out (λ r. (r ≡ answer b old w d z own peers proof_given) × ServerIs c b mid w AuthInfo 1 1 × Holds c mid.context z)
       exchange_turn (outcome.Reply r) mid still calm makes = exchange_replied mid r makes
       exchange_turn (outcome.Final r) mid still calm makes = absurd makes
@@ -272,14 +304,20 @@ module _ {C P : Type 0} (c : Meaning ContextSetting C) (laws : IsContext c) (p :
           let token : ShowsOver (server_shown frame) t None r = subst (λ (x : Option (List ℕ)). ShowsOver (server_shown frame) t x r) absent
           (over_answer c laws p step.status frame t r over s.answer) in
           let left = over_left c laws p b old w d step y handle given mid over s.done in
-          let h : Holds c mid.context z = record { held = left.held; there = left.there; same = named_is c laws (p.told old.proxy) y z left.held peer left.comes } in
+          let h : Holds c mid.context z = record {
+            held = left.held;
+            there = left.there;
+            same = named_is c laws (p.told old.proxy) y z left.held peer left.comes;
+          } in
           let quiet = nego_acts c laws p frame t turn.turn.shown.acts given.is.state_is in
           let start = unused c laws p b old w d step y handle given in
-          let unchecked : mid.acts.checked ≡ false = is_false mid.acts.checked (λ was. subst IsLong absent (turn.turn.shown.acts.checked was).1) in
+          let unchecked : mid.acts.checked ≡ false = is_false mid.acts.checked
+          (λ was. subst IsLong absent (turn.turn.shown.acts.checked was).1) in
           let none_sealed : sealed_by mid.acts ≡ 0 = rw (token.0.unproved, quiet.0) refl in
           let none_opened : unsealed_by mid.acts ≡ 0 = rw (unchecked, quiet.1) refl in
           let same = same_on c laws p b old mid given.is.same turn.moves.same in
-          let still = stands_noted c laws p mid.least mid.noted w (noted_now c laws p b old w d step y handle given mid h.held h.there turn.moves.noted) in (
+          let still = stands_noted c laws p mid.least mid.noted w
+          (noted_now c laws p b old w d step y handle given mid h.held h.there turn.moves.noted) in (
             token_back_is frame t r token.0 ∙ (rw (same.version, left.output_is) refl),
             record {
               same = same;
@@ -293,16 +331,20 @@ module _ {C P : Type 0} (c : Meaning ContextSetting C) (laws : IsContext c) (p :
             h,
           )
 
-      over_refused : (mid : View) (kind : ErrorKind) (reply : Option TsRequest) → p.faults mid.proxy ≡ p.faults old.proxy → p.faults old.proxy < 2 ^ 64 - 1 →
+      over_refused : (mid : View) (kind : ErrorKind) (reply : Option TsRequest) → p.faults mid.proxy ≡ p.faults old.proxy →
+          p.faults old.proxy < 2 ^ 64 - 1 →
           ServerMakes c p old d (outcome.Refused kind reply) mid → kind ≢ InsufficientMemory → ⊥
       over_refused mid kind reply still calm makes others =
-          let x = refusal c laws p b old w d step y handle given mid kind reply makes others in
+          let x = refusal c laws p b old w d step y handle given mid kind reply still calm makes others in
           let after = over_after mid kind still calm (over_cause c laws p step.status old d mid kind over x.cause) in
-          let empty : (mid.output ≡ []) × (kind ≡ InvalidToken) = subst (λ (f : Option (List ℕ)). AfterCause c f d.client_nonce mid kind) absent after.2 in
+          let empty : (mid.output ≡ []) × (kind ≡ InvalidToken) =
+          subst (λ (f : Option (List ℕ)). AfterCause c f d.client_nonce mid kind) absent after.2 in
           speaks (sym after.1 ∙ empty.0)
 
-      pub over_turn : (out : Outcome) (mid : View) → p.faults mid.proxy ≡ p.faults old.proxy → p.faults old.proxy < 2 ^ 64 - 1 → ServerMakes c p old d out mid →
-          Comes out (λ r. (r ≡ record d { version = b.version; nego_tokens = Some step.output }) × ServerIs c b mid w PubKeyInfo 0 0 × Holds c mid.context z)
+      pub over_turn : (out : Outcome) (mid : View) → p.faults mid.proxy ≡ p.faults old.proxy → p.faults old.proxy < 2 ^ 64 - 1 →
+          ServerMakes c p old d out mid →
+          Comes out (λ r. (r ≡ record d { version = b.version; nego_tokens = Some step.output }) × ServerIs c b mid w PubKeyInfo 0 0 ×
+          Holds c mid.context z)
       over_turn (outcome.Reply r) mid still calm makes = over_replied mid r makes
       over_turn (outcome.Final r) mid still calm makes = absurd makes
       over_turn outcome.Finished mid still calm makes = never_finishes c laws p b old w d step y handle given mid makes

@@ -1,6 +1,6 @@
 -- The turns of a server's authentication in an undisturbed exchange that send a token: each but the last asks for more, and
 -- the last one asks for the client's proof where that did not come yet.
-use Rattle.std.proofs.Common.{◌≡◌, ◌≢◌, ℕ, List, true, false, Option, None, Some, IsSome, refl, ap, sym, ◌∙◌, subst}
+use Rattle.std.proofs.Common.{◌≡◌, ◌<◌, ◌-◌, ◌^◌, ◌≢◌, ℕ, true, false, Option, None, Some, IsSome, refl, ap, sym, ◌∙◌, subst}
 use Rattle.sspi_types.specs.declared.error_kind.ErrorKind.{ErrorKind}
 use Rattle.sspi_types.specs.declared.error_kind.ErrorKind.TheVariants.{MessageAltered, DowngradeDetected, InsufficientMemory}
 use Rattle.sspi_types.specs.declared.security_status.SecurityStatus.{SecurityStatus}
@@ -35,12 +35,18 @@ module _ {C P : Type 0} (c : Meaning ContextSetting C) (laws : IsContext c) (p :
   View = ServerView C P
 
   -- a turn of the authentication seals and opens no credentials
-  pub nego_acts : (frame : ServerFrame C) (t : Turn) → ShowsServerActs (server_shown frame) t → frame.state ≡ NegoToken → (t.acts.sealed ≡ false) × (t.acts.opened ≡ false)
+  pub nego_acts : (frame : ServerFrame C) (t : Turn) → ShowsServerActs (server_shown frame) t → frame.state ≡ NegoToken →
+      (t.acts.sealed ≡ false) × (t.acts.opened ≡ false)
   nego_acts frame t acts nego = (acts.sealed, is_false t.acts.opened (λ was. let s = (acts.opened was).0 in cc (s, nego)))
 
   pub same_on : (b old mid : View) → SameServer c b old → SameServer c old mid → SameServer c b mid
   same_on b old mid one two =
-      record { public_key = two.public_key ∙ one.public_key; version = two.version ∙ one.version; least = two.least ∙ one.least; mode = two.mode ∙ one.mode }
+      record {
+        public_key = two.public_key ∙ one.public_key;
+        version = two.version ∙ one.version;
+        least = two.least ∙ one.least;
+        mode = two.mode ∙ one.mode;
+      }
 
   -- the version stays noted
   pub stands_noted : (least : ℕ) (noted : Option ℕ) (w : ℕ) → noted ≡ Some w →
@@ -49,16 +55,17 @@ module _ {C P : Type 0} (c : Meaning ContextSetting C) (laws : IsContext c) (p :
 
   -- a refusal is past what a turn looks at first
   pub cause_past : (b old mid : View) (w : ℕ) (d : TsRequest) (state : CredSspState) (sealed unsealed : ℕ) (kind : ErrorKind) →
-      ServerIs c b old w state sealed unsealed → d.version ≡ w → ((before now : P) (kind : ErrorKind) → MakeCause c p b.mode before now kind → ⊥) →
+      ServerIs c b old w state sealed unsealed → d.version ≡ w → (old.context ≡ None → MakeCause c p b.mode old.proxy mid.proxy kind → ⊥) →
       ServerCause c p old d mid kind → StateCause c p state old d mid kind
   cause_past b old mid w d state sealed unsealed kind is version begins cause =
-      let never : MakeCause c p old.mode old.proxy mid.proxy kind → ⊥ =
-      λ h. begins old.proxy mid.proxy kind (subst (λ x. MakeCause c p x old.proxy mid.proxy kind) is.same.mode h) in
+      let never : old.context ≡ None → MakeCause c p old.mode old.proxy mid.proxy kind → ⊥ =
+      λ none h. begins none (subst (λ x. MakeCause c p x old.proxy mid.proxy kind) is.same.mode h) in
       subst (λ (s : CredSspState). StateCause c p s old d mid kind) is.state_is
       (stops_later _ MessageAltered kind _ (rw version is.fits)
       (stops_later _ DowngradeDetected kind _ (rw version is.young) (made_past old.context mid.context _ _ never cause)))
 
-  over_done : (st : SecurityStatus) (old : View) (d : TsRequest) (mid : View) → IsOver (Some st) → DoneStep c p (Some st) old d mid → HasCome c p Completed st old d mid
+  over_done : (st : SecurityStatus) (old : View) (d : TsRequest) (mid : View) → IsOver (Some st) → DoneStep c p (Some st) old d mid →
+      HasCome c p Completed st old d mid
   over_done statuses.Ok old d mid over h = h
   over_done statuses.ContinueNeeded old d mid over h = absurd over
   over_done statuses.CompleteNeeded old d mid over h = h
@@ -69,7 +76,8 @@ module _ {C P : Type 0} (c : Meaning ContextSetting C) (laws : IsContext c) (p :
   over_done statuses.Renegotiate old d mid over h = absurd over
   over_done statuses.NoLsaContext old d mid over h = absurd over
 
-  pub over_answer : (st : SecurityStatus) (f : ServerFrame C) (t : Turn) (r : TsRequest) → IsOver (Some st) → ShowsNegoBack (server_shown f) t (Some st) r → ShowsOver (server_shown f) t t.delivered.pub_key_auth r
+  pub over_answer : (st : SecurityStatus) (f : ServerFrame C) (t : Turn) (r : TsRequest) → IsOver (Some st) →
+      ShowsNegoBack (server_shown f) t (Some st) r → ShowsOver (server_shown f) t t.delivered.pub_key_auth r
   over_answer statuses.Ok f t r over h = h
   over_answer statuses.ContinueNeeded f t r over h = absurd over
   over_answer statuses.CompleteNeeded f t r over h = h
@@ -97,19 +105,23 @@ module _ {C P : Type 0} (c : Meaning ContextSetting C) (laws : IsContext c) (p :
     pub is : ServerIs c b old w NegoToken 0 0
     pub takes : Takes c laws p old d.nego_tokens step y handle
     pub version : d.version ≡ w
-    pub begins : (before now : P) (kind : ErrorKind) → MakeCause c p b.mode before now kind → ⊥
+    pub begins : (before now : P) (kind : ErrorKind) → p.faults now ≡ p.faults before → p.faults before < 2 ^ 64 - 1 →
+        MakeCause c p b.mode before now kind → ⊥
 
-  module _ (b old : View) (w : ℕ) (d : TsRequest) (step : Step) (y : C) (handle : Option CredentialsBuffers) (given : NegoGiven b old w d step y handle) where
+  module _ (b old : View) (w : ℕ) (d : TsRequest) (step : Step) (y : C) (handle : Option CredentialsBuffers)
+      (given : NegoGiven b old w d step y handle) where
     abbrev pub Leaves : View → Knowing → Type 0
     Leaves = Left c laws p old d.nego_tokens step y handle given.takes
 
     pub unused : StartsUnused c old
     unused = λ nego. unused_in c old.context given.is.sealed_is given.is.unsealed_is
 
-    pub noted_now : (mid : View) (m : C) → mid.context ≡ Some m → (IsSome mid.context → mid.noted ≡ noted_with old.least old.noted d.version) → mid.noted ≡ Some w
+    pub noted_now : (mid : View) (m : C) → mid.context ≡ Some m →
+        (IsSome mid.context → mid.noted ≡ noted_with old.least old.noted d.version) → mid.noted ≡ Some w
     noted_now mid m there noted = noted (rw there refl) ∙ ap (noted_with old.least old.noted) given.version ∙ given.is.notes
 
-    out : (mid : View) (status : Option SecurityStatus) (r : TsRequest) → ShowsNegoBack (server_shown (server_frame c old mid)) (server_turn c d (outcome.Reply r) mid) status r →
+    out : (mid : View) (status : Option SecurityStatus) (r : TsRequest) →
+        ShowsNegoBack (server_shown (server_frame c old mid)) (server_turn c d (outcome.Reply r) mid) status r →
         DoneStep c p status old d mid → status ≡ Some step.status
     out mid None r h done = absurd h
     out mid (Some st) r h done = ap Some (come_at c laws p old d.nego_tokens step y handle given.takes mid (known_at c p st) st done).0
@@ -133,12 +145,14 @@ module _ {C P : Type 0} (c : Meaning ContextSetting C) (laws : IsContext c) (p :
         }
 
     pub over_left : (mid : View) → IsOver (Some step.status) → DoneStep c p (Some step.status) old d mid → Leaves mid Completed
-    over_left mid over done = (come_at c laws p old d.nego_tokens step y handle given.takes mid Completed step.status (over_done step.status old d mid over done)).1
+    over_left mid over done = (come_at c laws p old d.nego_tokens step y handle given.takes mid Completed step.status
+        (over_done step.status old d mid over done)).1
 
     pub never_finishes : (mid : View) → ServerMakes c p old d outcome.Finished mid → ⊥
     never_finishes mid makes = let auth = makes.0.turn.shown.reply.0 in let nego = given.is.state_is in cc
 
-    began : (status : Option SecurityStatus) (mid : View) (kind : ErrorKind) → mid.acts.status ≡ status → (IsSome mid.acts.status → mid.acts.negotiated ≡ true) →
+    began : (status : Option SecurityStatus) (mid : View) (kind : ErrorKind) → mid.acts.status ≡ status →
+        (IsSome mid.acts.status → mid.acts.negotiated ≡ true) →
         NegoCause c p status old d mid kind → mid.acts.negotiated ≡ true
     began None mid kind is answered h = h
     began (Some status) mid kind is answered h = answered (rw is refl)
@@ -148,15 +162,18 @@ module _ {C P : Type 0} (c : Meaning ContextSetting C) (laws : IsContext c) (p :
       pub turn : ServerTurn c old d (outcome.Refused kind reply) mid
       pub cause : NegoCause c p (Some step.status) old d mid kind
 
-    pub refusal : (mid : View) (kind : ErrorKind) (reply : Option TsRequest) → ServerMakes c p old d (outcome.Refused kind reply) mid → kind ≢ InsufficientMemory →
-        Refusal mid kind reply
-    refusal mid kind reply makes others =
+    pub refusal : (mid : View) (kind : ErrorKind) (reply : Option TsRequest) → p.faults mid.proxy ≡ p.faults old.proxy →
+        p.faults old.proxy < 2 ^ 64 - 1 →
+        ServerMakes c p old d (outcome.Refused kind reply) mid → kind ≢ InsufficientMemory → Refusal mid kind reply
+    refusal mid kind reply still calm makes others =
         let error = makes.0 in
         let turn = makes.2 in
         let others2 : error.error_type ≢ InsufficientMemory = λ memory. others (sym makes.1 ∙ memory) in
-        let cause = cause_past b old mid w d NegoToken 0 0 error.error_type given.is given.version given.begins (makes.3.cause others2) in
+        let cause = cause_past b old mid w d NegoToken 0 0 error.error_type given.is given.version
+        (λ none h. given.begins old.proxy mid.proxy error.error_type still calm h) (makes.3.cause others2) in
         let was = began mid.acts.status mid error.error_type refl turn.turn.shown.acts.answered cause in
-        let status = refused_at c laws p old d.nego_tokens step y handle given.takes mid mid.acts.status mid.acts.negotiated error was others2 makes.3.step in
+        let status = refused_at c laws p old d.nego_tokens step y handle given.takes mid mid.acts.status mid.acts.negotiated error was
+        others2 makes.3.step in
         record {
           turn = turn;
           cause = subst (λ (x : ErrorKind). NegoCause c p (Some step.status) old d mid x) makes.1
@@ -166,11 +183,13 @@ module _ {C P : Type 0} (c : Meaning ContextSetting C) (laws : IsContext c) (p :
     -- ---- a token, and more to come
 
     token_replied : (mid : View) (r : TsRequest) → step.status ≡ statuses.ContinueNeeded → ServerMakes c p old d (outcome.Reply r) mid →
-        (r ≡ record d { version = b.version; nego_tokens = Some step.output }) × ServerIs c b mid w NegoToken 0 0 × Holds c mid.context y × (mid.handle ≡ handle)
+        (r ≡ record d { version = b.version; nego_tokens = Some step.output }) × ServerIs c b mid w NegoToken 0 0 ×
+        Holds c mid.context y × (mid.handle ≡ handle)
     token_replied mid r goes makes =
         let turn = makes.0 in
         let s = replies mid r makes in
-        let answer = subst (λ (x : SecurityStatus). ShowsNegoBack (server_shown (server_frame c old mid)) (server_turn c d (outcome.Reply r) mid) (Some x) r) goes s.answer in
+        let answer = subst (λ (x : SecurityStatus). ShowsNegoBack (server_shown (server_frame c old mid))
+        (server_turn c d (outcome.Reply r) mid) (Some x) r) goes s.answer in
         let done = subst (λ (x : SecurityStatus). DoneStep c p (Some x) old d mid) goes s.done in
         let left = (come_at c laws p old d.nego_tokens step y handle given.takes mid Unknown statuses.ContinueNeeded done).1 in
         let status : mid.acts.status ≡ Some statuses.ContinueNeeded = s.status_is ∙ ap Some goes in
@@ -183,7 +202,8 @@ module _ {C P : Type 0} (c : Meaning ContextSetting C) (laws : IsContext c) (p :
         let none_opened : unsealed_by mid.acts ≡ 0 = rw (unchecked, quiet.1) refl in
         let noted = stands_noted mid.least mid.noted w (noted_now mid left.held left.there turn.moves.noted) in
         let same = same_on b old mid given.is.same turn.moves.same in (
-          token_back_is (server_frame c old mid) (server_turn c d (outcome.Reply r) mid) r answer ∙ (rw (same.version, left.output_is) refl),
+          token_back_is (server_frame c old mid) (server_turn c d (outcome.Reply r) mid) r answer ∙
+              (rw (same.version, left.output_is) refl),
           record {
             same = same;
             state_is = turn.moves.state ∙ (rw (given.is.state_is, unproved, status) refl);
@@ -197,10 +217,13 @@ module _ {C P : Type 0} (c : Meaning ContextSetting C) (laws : IsContext c) (p :
           left.handle_is,
         )
 
-    pub token_turn : (out : Outcome) (mid : View) → step.status ≡ statuses.ContinueNeeded → ServerMakes c p old d out mid →
-        Comes out (λ r. (r ≡ record d { version = b.version; nego_tokens = Some step.output }) × ServerIs c b mid w NegoToken 0 0 × Holds c mid.context y × (mid.handle ≡ handle))
-    token_turn (outcome.Reply r) mid goes makes = token_replied mid r goes makes
-    token_turn (outcome.Final r) mid goes makes = absurd makes
-    token_turn outcome.Finished mid goes makes = never_finishes mid makes
-    token_turn (outcome.Refused kind reply) mid goes makes =
-        λ others. subst (λ (x : SecurityStatus). NegoCause c p (Some x) old d mid kind) goes (refusal mid kind reply makes others).cause
+    pub token_turn : (out : Outcome) (mid : View) → step.status ≡ statuses.ContinueNeeded → p.faults mid.proxy ≡ p.faults old.proxy →
+        p.faults old.proxy < 2 ^ 64 - 1 → ServerMakes c p old d out mid →
+        Comes out (λ r. (r ≡ record d { version = b.version; nego_tokens = Some step.output }) × ServerIs c b mid w NegoToken 0 0 ×
+        Holds c mid.context y × (mid.handle ≡ handle))
+    token_turn (outcome.Reply r) mid goes still calm makes = token_replied mid r goes makes
+    token_turn (outcome.Final r) mid goes still calm makes = absurd makes
+    token_turn outcome.Finished mid goes still calm makes = never_finishes mid makes
+    token_turn (outcome.Refused kind reply) mid goes still calm makes =
+        λ others. subst (λ (x : SecurityStatus). NegoCause c p (Some x) old d mid kind) goes
+        (refusal mid kind reply still calm makes others).cause

@@ -23,7 +23,8 @@ use Rattle.sspi_credssp.specs.declared.turn.Outcome.{Outcome}
 use Rattle.sspi_credssp.specs.declared.turn.Outcome.TheVariants.{Reply, Final, Finished, Refused}
 use Rattle.sspi_credssp.specs.declared.turn.Turn.{Turn}
 use Rattle.sspi_delegate.specs.Asking.{KdcCalls}
-use Rattle.sspi_delegate.specs.Causes.{Cause, RunEnds, Given, carried, too_long, link_failed, no_memory, turns_of, IsClientRefusal, IsServerRefusal, IsFinished}
+use Rattle.sspi_delegate.specs.Causes.{Cause, RunEnds, Given, carried, too_long, link_failed, no_memory, turns_of, IsClientRefusal}
+use Rattle.sspi_delegate.specs.Causes.{IsServerRefusal, IsFinished}
 use Rattle.sspi_delegate.specs.Edits.{FollowsEdits}
 use Rattle.sspi_delegate.specs.EndTurns.{onto_server, client_turns, server_turns}
 use Rattle.sspi_delegate.proofs.Histories.{client_stopped_history}
@@ -37,7 +38,8 @@ use Rattle.sspi_completeness.specs.Matching.{AreWhole, IsUndisturbed, unedited, 
 use Rattle.sspi_completeness.proofs.Deliveries.{always_readable, never_too_long}
 use Rattle.sspi_completeness.proofs.Ends.{Comes, Ends}
 use Rattle.sspi_completeness.proofs.Fits.{IsMessage}
-use Rattle.sspi_completeness.proofs.Points.{IsKnown, IsCalmAt, wrong_end, server_none, Stands, client_next, server_next, TurnIs, client_turn, server_turn, server_end as ends_here, stands, stands_on, newest_turn}
+use Rattle.sspi_completeness.proofs.Points.{IsKnown, IsCalmAt, wrong_end, server_none, Stands, client_next, server_next, TurnIs}
+use Rattle.sspi_completeness.proofs.Points.{client_turn, server_turn, server_end as ends_here, stands, stands_on, newest_turn}
 use Rattle.sspi_credssp.specs.Turn.{message_of}
 
 -- what an undisturbed exchange is settled by: Ok after this many messages of the client, or it may not make as many, or
@@ -48,7 +50,8 @@ Settled count limit identity (Err errors.TurnsSpent) = limit < count
 Settled count limit identity (Err errors.InsufficientMemory) = Unit {0}
 Settled count limit identity (Err error) = ⊥
 
-pub calm_by : (failing : Option (List ℕ)) (before now : ℕ) → NoneFailed failing before now → (failing ≡ Some [] → now ≡ before) → IsCalm before now
+pub calm_by : (failing : Option (List ℕ)) (before now : ℕ) → NoneFailed failing before now → (failing ≡ Some [] → now ≡ before) →
+    IsCalm before now
 calm_by failing before now (none_told none counted) stays = record { still = stays none; counted = counted }
 calm_by failing before now (none_counted calm) stays = calm
 
@@ -69,7 +72,8 @@ NoLinkFault (Err errors.LinkFault) = ⊥
 NoLinkFault (Err errors.TurnsSpent) = Unit {0}
 NoLinkFault (Err errors.InsufficientMemory) = Unit {0}
 
-told_calm : (result : Result Delegation DelegateError) (start now : ℕ) (log : List Carried) (message : Option TsRequest) → AnswerTold (Some []) start now result log message → NoLinkFault result
+told_calm : (result : Result Delegation DelegateError) (start now : ℕ) (log : List Carried) (message : Option TsRequest) →
+    AnswerTold (Some []) start now result log message → NoLinkFault result
 told_calm (Ok delegation) start now log message told = tt
 told_calm (Err (errors.Client error)) start now log message told = tt
 told_calm (Err (errors.Server error)) start now log message told = tt
@@ -79,7 +83,8 @@ told_calm (Err errors.LinkFault) start now log message told = carry_never log me
 told_calm (Err errors.TurnsSpent) start now log message told = tt
 told_calm (Err errors.InsufficientMemory) start now log message told = tt
 
-ends_calm : (base log : List Carried) (limit start now : ℕ) (result : Result Delegation DelegateError) (turns : List Turn) → IsCalm start now →
+ends_calm : (base log : List Carried) (limit start now : ℕ) (result : Result Delegation DelegateError) (turns : List Turn) →
+    IsCalm start now →
     RunEnds base start limit result turns log now → NoLinkFault result
 ends_calm base log limit start now (Ok delegation) turns calm ends = tt
 ends_calm base log limit start now (Err (errors.Client error)) turns calm ends = tt
@@ -95,13 +100,15 @@ whole_log [] whole = tt
 whole_log (e ∷ log) whole = (whole.0, whole_log log whole.1)
 
 -- the log of a link without edits follows none
-unedited_log : (edits edits2 : Option (List Edit)) (log log2 : List Carried) → edits ≡ Some [] → log ≡ [] → StaysTold edits edits2 log log2 → FollowsEdits [] log2
+unedited_log : (edits edits2 : Option (List Edit)) (log log2 : List Carried) → edits ≡ Some [] → log ≡ [] →
+    StaysTold edits edits2 log log2 → FollowsEdits [] log2
 unedited_log edits edits2 log log2 none empty stays =
     let told_now : edits2 ≡ Some [] = stays.same ∙ none in
     let before : FollowsTold edits log = rw (none, empty) tt in
     subst (λ (e : Option (List Edit)). FollowsTold e log2) told_now (stays.follows before)
 
-pub undisturbed_is : (edits edits2 : Option (List Edit)) (log log2 : List Carried) (limit start now : ℕ) (result : Result Delegation DelegateError) (turns : List Turn) →
+pub undisturbed_is : (edits edits2 : Option (List Edit)) (log log2 : List Carried) (limit start now : ℕ)
+    (result : Result Delegation DelegateError) (turns : List Turn) →
     IsUndisturbed edits log log2 start now → RunEnds log start limit result turns log2 now → StaysTold edits edits2 log log2 →
     AnswerTold edits start now result log2 (newest_message turns) → FollowsEdits [] log2 × NoLinkFault result
 undisturbed_is edits edits2 log log2 limit start now result turns (unedited none empty) ends stays still = (
@@ -114,14 +121,16 @@ undisturbed_is edits edits2 log log2 limit start now result turns (shown whole c
 
 -- ---- by how the newest turn ended
 
-client_refusal : (out : Outcome) (kind : ErrorKind) (Q : TsRequest → Type 0) → IsClientRefusal kind out → kind ≢ InsufficientMemory → Comes out Q → ⊥
+client_refusal : (out : Outcome) (kind : ErrorKind) (Q : TsRequest → Type 0) → IsClientRefusal kind out → kind ≢ InsufficientMemory →
+    Comes out Q → ⊥
 client_refusal (Reply r) kind Q is others comes = is
 client_refusal (Final r) kind Q is others comes = is
 client_refusal Finished kind Q is others comes = is
 client_refusal (Refused refused None) kind Q is others comes = comes (λ memory. others (sym is ∙ memory))
 client_refusal (Refused refused (Some r)) kind Q is others comes = is
 
-server_refusal : (out : Outcome) (kind : ErrorKind) (Q : TsRequest → Type 0) → IsServerRefusal kind out → kind ≢ InsufficientMemory → Comes out Q → ⊥
+server_refusal : (out : Outcome) (kind : ErrorKind) (Q : TsRequest → Type 0) → IsServerRefusal kind out → kind ≢ InsufficientMemory →
+    Comes out Q → ⊥
 server_refusal (Reply r) kind Q is others comes = is
 server_refusal (Final r) kind Q is others comes = is
 server_refusal Finished kind Q is others comes = is
@@ -164,42 +173,55 @@ module _ {C D P : Type 0} (c : Meaning ContextSetting C) (k : KdcCalls D) (p : P
     TurnSo t past = TurnIs c k p a b kdc_first last identity known t past x kdc y
 
     held_by : (e : End) (t : Turn) (past : List Turn) (identity2 : AuthIdentity) → e ≡ Server →
-        GivesNewest c (server_end y) (onto_server e t (server_turns past)) identity2 → HoldsIdentity c y.context t.delivered.auth_info identity2
+        GivesNewest c (server_end y) (onto_server e t (server_turns past)) identity2 →
+        HoldsIdentity c y.context t.delivered.auth_info identity2
     held_by Client t past identity2 is gives = absurd cc
     held_by Server t past identity2 is gives = gives
 
     ok_by : (t : Turn) (past : List Turn) (delegation : Delegation) → TurnSo t past → t.end ≡ Server → IsFinished t.outcome →
         HoldsIdentity c y.context t.delivered.auth_info delegation.credentials → delegation.turns ≡ turns_of Client (t ∷ past) →
         (delegation.turns ≡ suc last) × (delegation.credentials ≡ identity)
-    ok_by t past delegation (client_turn i e count server comes) here finished holds turns = absurd (finished_never t.outcome _ finished comes)
-    ok_by t past delegation (server_turn i is e count client comes) here finished holds turns = absurd (finished_never t.outcome _ finished comes)
+    ok_by t past delegation (client_turn i e count server comes) here finished holds turns =
+        absurd (finished_never t.outcome _ finished comes)
+    ok_by t past delegation (server_turn i is e count client comes) here finished holds turns =
+        absurd (finished_never t.outcome _ finished comes)
     ok_by t past delegation (ends_here e count ends) here finished holds turns =
-        let none = server_none t.end e in (omega (arith, turns, count, none), finished_so t.outcome _ finished ends delegation.credentials holds)
+        let none = server_none t.end e in (
+          omega (arith, turns, count, none),
+          finished_so t.outcome _ finished ends delegation.credentials holds,
+        )
 
-    settle_ok : (delegation : Delegation) (turns : List Turn) (log : List Carried) → RunEnds base start limit (Ok delegation) turns log now → FollowsEdits [] log →
+    settle_ok : (delegation : Delegation) (turns : List Turn) (log : List Carried) →
+        RunEnds base start limit (Ok delegation) turns log now → FollowsEdits [] log →
         ClientHistory c k a kdc_first (client_turns turns) x kdc → ServerHistory c p b (server_turns turns) y →
-        GivesNewest c (server_end y) (server_turns turns) delegation.credentials → (delegation.turns ≡ suc last) × (delegation.credentials ≡ identity)
+        GivesNewest c (server_end y) (server_turns turns) delegation.credentials → (delegation.turns ≡ suc last) ×
+        (delegation.credentials ≡ identity)
     settle_ok delegation [] log ends follows clients servers gives = absurd ends.0.newest
     settle_ok delegation (t ∷ past) log ends follows clients servers gives =
         let done = ends.0 in
-        let turn = newest_turn c k p a b kdc_first last identity known base t past log x kdc y done.order done.entries.0 done.entries.1 follows clients servers calm in
+        let turn = newest_turn c k p a b kdc_first last identity known base t past log x kdc y done.order done.entries.0 done.entries.1
+        follows clients servers calm in
         ok_by t past delegation turn done.newest.0 done.newest.1 (held_by t.end t past delegation.credentials done.newest.0 gives) ends.1
 
-    client_never : (t : Turn) (past : List Turn) (kind : ErrorKind) → TurnSo t past → t.end ≡ Client → IsClientRefusal kind t.outcome → kind ≢ InsufficientMemory → ⊥
+    client_never : (t : Turn) (past : List Turn) (kind : ErrorKind) → TurnSo t past → t.end ≡ Client → IsClientRefusal kind t.outcome →
+        kind ≢ InsufficientMemory → ⊥
     client_never t past kind (client_turn i e count server comes) here is others = client_refusal t.outcome kind _ is others comes
     client_never t past kind (server_turn i last_is e count client comes) here is others = wrong_end t.end here e
     client_never t past kind (ends_here e count ends) here is others = wrong_end t.end here e
 
-    server_never : (t : Turn) (past : List Turn) (kind : ErrorKind) → TurnSo t past → t.end ≡ Server → IsServerRefusal kind t.outcome → kind ≢ InsufficientMemory → ⊥
+    server_never : (t : Turn) (past : List Turn) (kind : ErrorKind) → TurnSo t past → t.end ≡ Server → IsServerRefusal kind t.outcome →
+        kind ≢ InsufficientMemory → ⊥
     server_never t past kind (client_turn i e count server comes) here is others = wrong_end t.end e here
     server_never t past kind (server_turn i last_is e count client comes) here is others = server_refusal t.outcome kind _ is others comes
     server_never t past kind (ends_here e count ends) here is others = end_refusal t.outcome kind _ is others ends
 
-    settle_client : (error : Error) (turns : List Turn) (log : List Carried) → Alternates turns → Cause base start limit (errors.Client error) turns log now → FollowsEdits [] log →
+    settle_client : (error : Error) (turns : List Turn) (log : List Carried) → Alternates turns →
+        Cause base start limit (errors.Client error) turns log now → FollowsEdits [] log →
         ClientHistory c k a kdc_first (client_turns turns) x kdc → ServerHistory c p b (server_turns turns) y → ⊥
     settle_client error [] log order cause follows clients servers = cause.1
     settle_client error (t ∷ past) log order cause follows clients servers =
-        let turn = newest_turn c k p a b kdc_first last identity known base t past log x kdc y order cause.2.0 cause.2.1 follows clients servers calm in
+        let turn = newest_turn c k p a b kdc_first last identity known base t past log x kdc y order cause.2.0 cause.2.1 follows clients
+        servers calm in
         client_never t past error.error_type turn cause.1.0 cause.1.1 cause.0
 
     server_entries : (t : Turn) (past : List Turn) (log : List Carried) → FollowsEdits [] log → Given base start (t ∷ past) log now →
@@ -210,7 +232,8 @@ module _ {C D P : Type 0} (c : Meaning ContextSetting C) (k : KdcCalls D) (p : P
     server_entries t past log follows (link_failed entries fit counted) = (log, entries, follows)
     server_entries t past log follows (no_memory entries still) = (log, entries, follows)
 
-    settle_server : (error : Error) (turns : List Turn) (log : List Carried) → Alternates turns → Cause base start limit (errors.Server error) turns log now → FollowsEdits [] log →
+    settle_server : (error : Error) (turns : List Turn) (log : List Carried) → Alternates turns →
+        Cause base start limit (errors.Server error) turns log now → FollowsEdits [] log →
         ClientHistory c k a kdc_first (client_turns turns) x kdc → ServerHistory c p b (server_turns turns) y → ⊥
     settle_server error [] log order cause follows clients servers = cause.1
     settle_server error (t ∷ past) log order cause follows clients servers =
@@ -223,47 +246,64 @@ module _ {C D P : Type 0} (c : Meaning ContextSetting C) (k : KdcCalls D) (p : P
     newest_sent t past (client_next i client server next count sent) = (sent.0, sent.1, sent.2)
     newest_sent t past (server_next i client server next count sent) = (sent.0, sent.1, sent.2)
 
-    settle_read : (to : End) (kind : WireKind) (turns : List Turn) (log : List Carried) → Alternates turns → Cause base start limit (errors.Read to kind) turns log now →
+    settle_read : (to : End) (kind : WireKind) (turns : List Turn) (log : List Carried) → Alternates turns →
+        Cause base start limit (errors.Read to kind) turns log now →
         FollowsEdits [] log → ClientHistory c k a kdc_first (client_turns turns) x kdc → ServerHistory c p b (server_turns turns) y → ⊥
     settle_read to kind [] log order cause follows clients servers = cause.4
     settle_read to kind (t ∷ past) log order cause follows clients servers =
-        let s = stands c k p a b kdc_first last identity known base (t ∷ past) log x kdc y order cause.0 cause.3 follows clients servers calm in
+        let s = stands c k p a b kdc_first last identity known base
+        (t ∷ past) log x kdc y order cause.0 cause.3 follows clients servers calm in
         let m = newest_sent t past s in
         always_readable base t past log m.0 kind m.1 m.2.value cause.3 follows cause.4
 
-    settle_write : (from : End) (turns : List Turn) (log : List Carried) → Alternates turns → Cause base start limit (errors.Write from) turns log now → FollowsEdits [] log →
+    settle_write : (from : End) (turns : List Turn) (log : List Carried) → Alternates turns →
+        Cause base start limit (errors.Write from) turns log now → FollowsEdits [] log →
         ClientHistory c k a kdc_first (client_turns turns) x kdc → ServerHistory c p b (server_turns turns) y → ⊥
     settle_write from [] log order cause follows clients servers = cause.2
     settle_write from (t ∷ past) log order cause follows clients servers =
-        let turn = newest_turn c k p a b kdc_first last identity known base t past log x kdc y order cause.2.0 cause.2.1 follows clients servers calm in
+        let turn = newest_turn c k p a b kdc_first last identity known base t past log x kdc y order cause.2.0 cause.2.1 follows clients
+        servers calm in
         let m = newest_sent t past (stands_on c k p a b kdc_first last identity known t past x kdc y cause.0.0 turn) in
         never_too_long t past m.0 m.1 m.2.fit cause.3
 
     spent : (turns : List Turn) → StandsSo turns → next_end turns ≡ Client → turns_of Client turns ≡ limit → limit < suc last
-    spent turns (client_next i client server next count sent) here limit_is = let within = known.rank_within i in omega (arith, within, count, limit_is)
+    spent turns (client_next i client server next count sent) here limit_is = let within =
+        known.rank_within i in omega (arith, within, count, limit_is)
     spent turns (server_next i client server next count sent) here limit_is = absurd (wrong_end (next_end turns) here next)
 
-    settled_by : (result : Result Delegation DelegateError) (turns : List Turn) (log : List Carried) → RunEnds base start limit result turns log now → FollowsEdits [] log →
+    settled_by : (result : Result Delegation DelegateError) (turns : List Turn) (log : List Carried) →
+        RunEnds base start limit result turns log now → FollowsEdits [] log →
         NoLinkFault result → ClientPast c k a kdc_first result (client_turns turns) x kdc → ServerHistory c p b (server_turns turns) y →
-        IfOk result (λ delegation. GivesNewest c (server_end y) (server_turns turns) delegation.credentials) → Settled (suc last) limit identity result
-    settled_by (Ok delegation) turns log ends follows still clients servers gives = settle_ok delegation turns log ends follows clients servers gives
+        IfOk result (λ delegation. GivesNewest c (server_end y) (server_turns turns) delegation.credentials) →
+        Settled (suc last) limit identity result
+    settled_by (Ok delegation) turns log ends follows still clients servers gives =
+        settle_ok delegation turns log ends follows clients servers gives
     settled_by (Err (errors.Client error)) turns log ends follows still clients servers gives =
-        settle_client error turns log ends.order ends.cause follows (client_stopped_history c k a x kdc_first kdc error (client_turns turns) clients) servers
-    settled_by (Err (errors.Server error)) turns log ends follows still clients servers gives = settle_server error turns log ends.order ends.cause follows clients servers
-    settled_by (Err (errors.Read to kind)) turns log ends follows still clients servers gives = settle_read to kind turns log ends.order ends.cause follows clients servers
-    settled_by (Err (errors.Write from)) turns log ends follows still clients servers gives = settle_write from turns log ends.order ends.cause follows clients servers
+        settle_client error turns log ends.order ends.cause follows
+        (client_stopped_history c k a x kdc_first kdc error (client_turns turns) clients) servers
+    settled_by (Err (errors.Server error)) turns log ends follows still clients servers gives =
+        settle_server error turns log ends.order ends.cause follows clients servers
+    settled_by (Err (errors.Read to kind)) turns log ends follows still clients servers gives =
+        settle_read to kind turns log ends.order ends.cause follows clients servers
+    settled_by (Err (errors.Write from)) turns log ends follows still clients servers gives =
+        settle_write from turns log ends.order ends.cause follows clients servers
     settled_by (Err errors.LinkFault) turns log ends follows still clients servers gives = still
     settled_by (Err errors.TurnsSpent) turns log ends follows still clients servers gives =
-        spent turns (stands c k p a b kdc_first last identity known base turns log x kdc y ends.order ends.cause.0 ends.cause.3 follows clients servers calm)
+        spent turns (stands c k p a b kdc_first last identity known base turns log x kdc y ends.order ends.cause.0 ends.cause.3 follows
+        clients servers calm)
         ends.cause.1 ends.cause.2
     settled_by (Err errors.InsufficientMemory) turns log ends follows still clients servers gives = tt
 
   -- the ends of an undisturbed exchange come to what is known of them
-  pub settled : (base : List Carried) (start now limit : ℕ) (x : CView) (kdc : D) (y : SView) (edits edits2 : Option (List Edit)) (result : Result Delegation DelegateError)
-      (turns : List Turn) (log : List Carried) → IsUndisturbed edits base log start now → RunEnds base start limit result turns log now → StaysTold edits edits2 base log →
+  pub settled : (base : List Carried) (start now limit : ℕ) (x : CView) (kdc : D) (y : SView) (edits edits2 : Option (List Edit))
+      (result : Result Delegation DelegateError)
+      (turns : List Turn) (log : List Carried) → IsUndisturbed edits base log start now → RunEnds base start limit result turns log now →
+      StaysTold edits edits2 base log →
       AnswerTold edits start now result log (newest_message turns) → ClientPast c k a kdc_first result (client_turns turns) x kdc →
       ServerHistory c p b (server_turns turns) y → IsCalm (p.faults b.proxy) (p.faults y.proxy) →
-      IfOk result (λ delegation. GivesNewest c (server_end y) (server_turns turns) delegation.credentials) → Settled (suc last) limit identity result
+      IfOk result (λ delegation. GivesNewest c (server_end y) (server_turns turns) delegation.credentials) →
+      Settled (suc last) limit identity result
   settled base start now limit x kdc y edits edits2 result turns log undisturbed ends stays still clients servers calm gives =
       let quiet = undisturbed_is edits edits2 base log limit start now result turns undisturbed ends stays still in
-      settled_by base start now limit x kdc y (record { still = calm.still; few = calm.counted }) result turns log ends quiet.0 quiet.1 clients servers gives
+      settled_by base start now limit x kdc y (record { still = calm.still; few = calm.counted }) result turns log ends quiet.0 quiet.1
+      clients servers gives

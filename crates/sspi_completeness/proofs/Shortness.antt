@@ -22,8 +22,10 @@ use Rattle.sspi_completeness.proofs.NtlmRound.{inner_length}
 -- a character of one unit has three bytes at most, and one of two units four
 char_bytes : (c : ℕ) → length (encode c) ≤ 3 * length (encode_utf16 c)
 char_bytes c = elim (cases_lt c 0x1_0000) [
-  | inl small ↦ (let bytes = length-encode c in let few = short_char c small in let one = ap (λ (u : List ℕ). length u) (one_unit c small) in omega (arith, bytes, few, one))
-  | inr large ↦ (let bytes = length-encode c in let few = len_utf8_bounds c in let two = ap (λ (u : List ℕ). length u) (two_units c large) in omega (arith, bytes, few.1, two))
+  | inl small ↦ (let bytes = length-encode c in let few = short_char c small in let one =
+      ap (λ (u : List ℕ). length u) (one_unit c small) in omega (arith, bytes, few, one))
+  | inr large ↦ (let bytes = length-encode c in let few = len_utf8_bounds c in let two =
+      ap (λ (u : List ℕ). length u) (two_units c large) in omega (arith, bytes, few.1, two))
 ]
   where
     short_char : (c : ℕ) → c < 0x1_0000 → len_utf8 c ≤ 3
@@ -51,7 +53,8 @@ units_bound text utf8 =
     let bound = text_bytes (chars text) in
     omega (arith, same, bound)
 
-name_bound : (format : UserNameFormat) (n : Name) → IsName n → length (units_of (user_text format n)) ≤ 8192 → length (units_of (domain_text format n)) ≤ 8192 → length (inner_of n) ≤ 49153
+name_bound : (format : UserNameFormat) (n : Name) → IsName n → length (units_of (user_text format n)) ≤ 8192 →
+    length (units_of (domain_text format n)) ≤ 8192 → length (inner_of n) ≤ 49153
 name_bound UserPrincipalName n is user domain = let bound = units_bound (inner_of n) (inner_of-IsUtf8 n is) in omega (arith, bound, user)
 name_bound DownLevelLogonName n is user domain =
     let account = units_bound n.account is.account_text in

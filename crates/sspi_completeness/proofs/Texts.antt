@@ -32,16 +32,19 @@ no_units = rw chars-nil refl
 empty_back : identity_of (record { user = []; domain = []; password = record { value = [] } }) ≡ Some empty_identity
 empty_back = identity_by empty_identity [] [] [] empty_is no_units no_units no_units
 
-identity_back : (mode : CredSspMode) (i : AuthIdentity) → IsIdentity i → identity_of (delegated mode (buffers_of i)) ≡ Some (delegated_as mode i)
+identity_back : (mode : CredSspMode) (i : AuthIdentity) → IsIdentity i →
+    identity_of (delegated mode (buffers_of i)) ≡ Some (delegated_as mode i)
 identity_back WithCredentials i is = buffers_back i is
 identity_back CredentialLess i is = empty_back
 
 text_of_mode : (mode : CredSspMode) (i : AuthIdentity) → IsShort i → HasText (delegated mode (buffers_of i))
 text_of_mode WithCredentials i short = short_credentials (buffers_of i) short.user_units short.domain_units short.password_units
-text_of_mode CredentialLess i short = short_credentials (record { user = []; domain = []; password = record { value = [] } }) (omega arith) (omega arith) (omega arith)
+text_of_mode CredentialLess i short = short_credentials (record { user = []; domain = []; password = record { value = [] } })
+    (omega arith) (omega arith) (omega arith)
 
 mode_bound : (mode : CredSspMode) (i : AuthIdentity) → IsShort i →
-    length (delegated mode (buffers_of i)).user + length (delegated mode (buffers_of i)).domain + length (delegated mode (buffers_of i)).password.value ≤ 147456
+    length (delegated mode (buffers_of i)).user + length (delegated mode (buffers_of i)).domain + length
+    (delegated mode (buffers_of i)).password.value ≤ 147456
 mode_bound WithCredentials i short = omega (arith, short.user_units, short.domain_units, short.password_units)
 mode_bound CredentialLess i short = omega arith
 
@@ -52,11 +55,13 @@ pub record HasDelegated (mode : CredSspMode) (i : AuthIdentity) : Type 0 where
   pub short : length text ≤ 294972
   pub holds : delegated_identity text ≡ Ok (delegated_as mode i)
 
-text_is : (mode : CredSspMode) (i : AuthIdentity) (text : List ℕ) → buffers_text (delegated mode (buffers_of i)) ≡ Ok text → delegated_text (credentials.AuthIdentity i) mode ≡ Ok text
+text_is : (mode : CredSspMode) (i : AuthIdentity) (text : List ℕ) → buffers_text (delegated mode (buffers_of i)) ≡ Ok text →
+    delegated_text (credentials.AuthIdentity i) mode ≡ Ok text
 unfolding delegated_text
 text_is mode i text is = is
 
-text_holds : (mode : CredSspMode) (i : AuthIdentity) (text : List ℕ) → IsIdentity i → buffers_text (delegated mode (buffers_of i)) ≡ Ok text →
+text_holds : (mode : CredSspMode) (i : AuthIdentity) (text : List ℕ) → IsIdentity i →
+    buffers_text (delegated mode (buffers_of i)) ≡ Ok text →
     delegated_identity text ≡ Ok (delegated_as mode i)
 unfolding delegated_identity
 text_holds mode i text is spelled =

@@ -1,6 +1,7 @@
 -- A delegation needs three messages of the client: the server's first step only asks for more, it checks the client's
 -- proof in a later turn, and the credentials come in a turn after that.
-use Rattle.std.proofs.Common.{◌≡◌, ℕ, ◌+◌, ◌≤◌, ◌<◌, Bool, true, false, ◌&&◌, ◌||◌, List, [], ◌∷◌, length, Option, None, Some, Result, Ok, Err, refl, ap, sym, ◌∙◌, subst, arith, IfOk, OnOk, IsErr}
+use Rattle.std.proofs.Common.{◌≡◌, ℕ, ◌+◌, ◌≤◌, ◌<◌, Bool, true, false, ◌&&◌, ◌||◌, List, [], ◌∷◌, length, Option, None, Some, Result}
+use Rattle.std.proofs.Common.{Ok, Err, refl, ap, sym, ◌∙◌, subst, arith, IfOk, OnOk, IsErr}
 use Rattle.sspi_types.specs.declared.security_status.SecurityStatus.{SecurityStatus}
 use Rattle.sspi_types.specs.declared.security_status.SecurityStatus.TheVariants as statuses
 use Rattle.sspi_types.specs.declared.error.Error.{Error}
@@ -27,7 +28,8 @@ use Rattle.sspi_credssp.specs.Begun.{Begun, IfContext}
 use Rattle.sspi_credssp.specs.Context.{either, ForServer}
 use Rattle.sspi_credssp.specs.Proxy.{ProxyMeaning}
 use Rattle.sspi_credssp.specs.Server.{ServerView, IsFreshServer}
-use Rattle.sspi_credssp.specs.ServerStep.{DoneStep, Knowing, Unknown, Identified, Completed, Accepted, accepted, identified, completed, recounted, server_args}
+use Rattle.sspi_credssp.specs.ServerStep.{DoneStep, Knowing, Unknown, Identified, Completed, Accepted, accepted, identified, completed}
+use Rattle.sspi_credssp.specs.ServerStep.{recounted, server_args}
 use Rattle.sspi_credssp.specs.Shown.{IsOver, MayCheck}
 use Rattle.sspi_delegate.specs.declared.answer.Delegation.{Delegation}
 use Rattle.sspi_delegate.specs.declared.answer.DelegateError.{DelegateError}
@@ -53,7 +55,8 @@ asks_at true m m2 step e =
 asks_at false m m2 step e = absurd cc
 
 -- a new object asks for more
-pub first_asks : (config : NtlmConfig) (m m2 : NtlmState) (input : List ℕ) (step : Step) → m ≡ ntlm_of config → server_step m.stage m input ≡ Goes m2 step →
+pub first_asks : (config : NtlmConfig) (m m2 : NtlmState) (input : List ℕ) (step : Step) → m ≡ ntlm_of config →
+    server_step m.stage m input ≡ Goes m2 step →
     step.status ≡ statuses.ContinueNeeded
 first_asks config m m2 input step new e =
     asks_at (is_negotiate input) (ntlm_of config) m2 step (subst (λ (x : NtlmState). server_step x.stage x input ≡ Goes m2 step) new e)
@@ -61,15 +64,18 @@ first_asks config m m2 input step new e =
 -- ---- the server's turns
 
 module _ {K P : Type 0} (k : Meaning Setting K) (p : ProxyMeaning P) where
-  asks_first : (config : NtlmConfig) (handle : Option CredentialsBuffers) (m0 m : SspiContext NtlmState K) (args : AcceptArgs) (step : Step) →
-      IfNtlm k m0 (λ x. (x ≡ ntlm_of config) × (handle ≡ None)) → (either 0 ntlm_meaning k).accepts m0 args (Ok step) m → step.status ≡ statuses.ContinueNeeded
+  asks_first : (config : NtlmConfig) (handle : Option CredentialsBuffers) (m0 m : SspiContext NtlmState K) (args : AcceptArgs)
+      (step : Step) →
+      IfNtlm k m0 (λ x. (x ≡ ntlm_of config) × (handle ≡ None)) → (either 0 ntlm_meaning k).accepts m0 args (Ok step) m →
+      step.status ≡ statuses.ContinueNeeded
   asks_first config handle (Ntlm x) (Ntlm y) args step begun accepts = first_asks config x y args.input step begun.0 accepts
   asks_first config handle (Ntlm x) (Kerberos y) args step begun accepts = absurd accepts
   asks_first config handle (Ntlm x) (Negotiate y) args step begun accepts = absurd accepts
   asks_first config handle (Kerberos x) m args step begun accepts = absurd begun
   asks_first config handle (Negotiate x) m args step begun accepts = absurd begun
 
-  first_begun : (mode : ServerMode) (told : Option (List AuthIdentity)) (context : Option (SspiContext NtlmState K)) (had handle : Option CredentialsBuffers)
+  first_begun : (mode : ServerMode) (told : Option (List AuthIdentity)) (context : Option (SspiContext NtlmState K))
+      (had handle : Option CredentialsBuffers)
       (m0 m : SspiContext NtlmState K) (args : AcceptArgs) (step : Step) → IsPlainServer mode → context ≡ None →
       Begun (either 0 ntlm_meaning k) context had (ForServer mode told) Inbound None handle m0 →
       (either 0 ntlm_meaning k).accepts m0 args (Ok step) m → step.status ≡ statuses.ContinueNeeded
@@ -77,59 +83,74 @@ module _ {K P : Type 0} (k : Meaning Setting K) (p : ProxyMeaning P) where
       asks_first config handle m0 m args step (server_first k config told context had handle m0 none begun) accepts
   first_begun (server.Negotiate config) told context had handle m0 m args step plain none begun accepts = absurd plain
 
-  first_step : (start : ServerView (SspiContext NtlmState K) P) (handle : Option CredentialsBuffers) (token : Option (List ℕ)) (known : Knowing) (answer : Result Step Error)
-      (step : Step) (m : SspiContext NtlmState K) → IsPlainServer start.mode → start.context ≡ None → answer ≡ Ok step → Accepted (either 0 ntlm_meaning k) p start handle token known answer m →
+  first_step : (start : ServerView (SspiContext NtlmState K) P) (handle : Option CredentialsBuffers) (token : Option (List ℕ))
+      (known : Knowing) (answer : Result Step Error)
+      (step : Step) (m : SspiContext NtlmState K) → IsPlainServer start.mode → start.context ≡ None → answer ≡ Ok step →
+      Accepted (either 0 ntlm_meaning k) p start handle token known answer m →
       step.status ≡ statuses.ContinueNeeded
   first_step start handle token known answer step m plain none is (accepted m0 m1 a begun accepts) =
       first_begun start.mode _ start.context start.handle handle m0 m (server_args handle token) step plain none begun
       (subst (λ (x : Result Step Error). (either 0 ntlm_meaning k).accepts m0 (server_args handle token) x m) is accepts)
-  first_step start handle token known answer step m plain none is (identified m1 m2 a before names) = first_step start handle token Unknown answer step m1 plain none is before
-  first_step start handle token known answer step m plain none is (completed m1 a before permits) = first_step start handle token Identified answer step m plain none is before
-  first_step start handle token known answer step m plain none is (recounted m1 m2 n kn a before counted quiet) = first_step start handle token known answer step m1 plain none is before
+  first_step start handle token known answer step m plain none is (identified m1 m2 a before names) =
+      first_step start handle token Unknown answer step m1 plain none is before
+  first_step start handle token known answer step m plain none is (completed m1 a before permits) =
+      first_step start handle token Identified answer step m plain none is before
+  first_step start handle token known answer step m plain none is (recounted m1 m2 n kn a before counted quiet) =
+      first_step start handle token known answer step m1 plain none is before
 
-  first_goes_on : (start now : ServerView (SspiContext NtlmState K) P) (d : TsRequest) (status : SecurityStatus) → IsPlainServer start.mode → start.context ≡ None →
-      IfContext now.context (Accepted (either 0 ntlm_meaning k) p start now.handle d.nego_tokens Completed (Ok (record { status = status; output = now.output }))) →
+  first_goes_on : (start now : ServerView (SspiContext NtlmState K) P) (d : TsRequest) (status : SecurityStatus) →
+      IsPlainServer start.mode → start.context ≡ None →
+      IfContext now.context (Accepted (either 0 ntlm_meaning k) p start now.handle d.nego_tokens Completed
+      (Ok (record { status = status; output = now.output }))) →
       status ≡ statuses.ContinueNeeded
   first_goes_on start now d status plain none h =
       let there = in_context now.context _ h in first_step start now.handle d.nego_tokens Completed _ _ there.0 plain none refl there.2
 
   -- the first step of a server does not end the authentication
-  first_not_over : (start now : ServerView (SspiContext NtlmState K) P) (d : TsRequest) (status : Option SecurityStatus) → IsPlainServer start.mode → start.context ≡ None →
+  first_not_over : (start now : ServerView (SspiContext NtlmState K) P) (d : TsRequest) (status : Option SecurityStatus) →
+      IsPlainServer start.mode → start.context ≡ None →
       DoneStep (either 0 ntlm_meaning k) p status start d now → IsOver status → ⊥
   first_not_over start now d None plain none step over = over
   first_not_over start now d (Some statuses.Ok) plain none step over = let e = first_goes_on start now d statuses.Ok plain none step in cc
-  first_not_over start now d (Some statuses.CompleteNeeded) plain none step over = let e = first_goes_on start now d statuses.CompleteNeeded plain none step in cc
+  first_not_over start now d (Some statuses.CompleteNeeded) plain none step over = let e =
+      first_goes_on start now d statuses.CompleteNeeded plain none step in cc
   first_not_over start now d (Some other) plain none step over = over
 
   nego_check : (state : CredSspState) (status : Option SecurityStatus) → state ≡ NegoToken → MayCheck state status → IsOver status
   nego_check state status nego may = subst (λ (s : CredSspState). MayCheck s status) nego may
 
   -- a server checks no proof in its first turn
-  first_checks : (first mid : ServerView (SspiContext NtlmState K) P) (d : TsRequest) (out : Outcome) → IsPlainServer first.mode → IsFreshServer first → GoesOn out →
+  first_checks : (first mid : ServerView (SspiContext NtlmState K) P) (d : TsRequest) (out : Outcome) → IsPlainServer first.mode →
+      IsFreshServer first → GoesOn out →
       ServerMakes (either 0 ntlm_meaning k) p first d out mid → mid.acts.checked ≡ true → ⊥
   first_checks first mid d (outcome.Reply reply) plain fresh went makes checked =
-      first_not_over first mid d mid.acts.status plain fresh.context makes.1 (nego_check first.state mid.acts.status fresh.state (makes.0.turn.shown.acts.checked checked).0)
+      first_not_over first mid d mid.acts.status plain fresh.context makes.1
+      (nego_check first.state mid.acts.status fresh.state (makes.0.turn.shown.acts.checked checked).0)
   first_checks first mid d (outcome.Final reply) plain fresh went makes checked = makes
   first_checks first mid d outcome.Finished plain fresh went makes checked = went
   first_checks first mid d (outcome.Refused kind reply) plain fresh went makes checked = went
 
-  made_checks : (first old now : ServerView (SspiContext NtlmState K) P) (u : Turn) → old ≡ first → IsPlainServer first.mode → IsFreshServer first → GoesOn u.outcome →
+  made_checks : (first old now : ServerView (SspiContext NtlmState K) P) (u : Turn) → old ≡ first → IsPlainServer first.mode →
+      IsFreshServer first → GoesOn u.outcome →
       ServerMade (either 0 ntlm_meaning k) p old u now → u.acts.checked ≡ true → ⊥
   made_checks first old now u same plain fresh went made checked =
       first_checks first made.mid u.delivered u.outcome plain fresh went
-      (subst (λ (x : ServerView (SspiContext NtlmState K) P). ServerMakes (either 0 ntlm_meaning k) p x u.delivered u.outcome made.mid) same made.makes)
+      (subst (λ (x : ServerView (SspiContext NtlmState K) P). ServerMakes (either 0 ntlm_meaning k) p x u.delivered u.outcome made.mid)
+      same made.makes)
       (sym (ap (λ (t : Turn). t.acts.checked) made.turn) ∙ checked)
 
   exchange_alone : (checked proved : Bool) → (checked && proved) || false ≡ true → checked ≡ true
   exchange_alone true proved h = refl
   exchange_alone false proved h = absurd cc
 
-  pub three_of_server : (first now : ServerView (SspiContext NtlmState K) P) (turns : List Turn) → IsPlainServer first.mode → IsFreshServer first → OthersGoOn turns → HasExchanged turns →
+  pub three_of_server : (first now : ServerView (SspiContext NtlmState K) P) (turns : List Turn) → IsPlainServer first.mode →
+      IsFreshServer first → OthersGoOn turns → HasExchanged turns →
       ServerHistory (either 0 ntlm_meaning k) p first turns now → 3 ≤ length turns
   three_of_server first now [] plain fresh others has history = absurd has
   three_of_server first now (t ∷ []) plain fresh others has history = absurd (cc (has))
   three_of_server first now (t ∷ u ∷ []) plain fresh others has history =
-      absurd (made_checks first history.1.0 history.0 u history.1.1 plain fresh others.0 history.1.2 (exchange_alone u.acts.checked u.acts.proved has))
+      absurd (made_checks first history.1.0 history.0 u history.1.1 plain fresh others.0 history.1.2
+      (exchange_alone u.acts.checked u.acts.proved has))
   three_of_server first now (t ∷ u ∷ v ∷ past) plain fresh others has history = omega arith
 
 -- ---- as many turns of the client
@@ -138,7 +159,8 @@ abbrev ahead : End → ℕ
 ahead Client = 0
 ahead Server = 1
 
-one_more : (e : End) (t : Turn) (past : List Turn) (n : ℕ) → n ≡ length past + ahead e → n + one_of Client e ≡ length (onto_server e t past) + ahead (other e)
+one_more : (e : End) (t : Turn) (past : List Turn) (n : ℕ) → n ≡ length past + ahead e →
+    n + one_of Client e ≡ length (onto_server e t past) + ahead (other e)
 one_more Client t past n h = omega arith
 one_more Server t past n h = omega arith
 
@@ -146,9 +168,11 @@ pub client_count : (turns : List Turn) → Alternates turns → turns_of Client 
 client_count [] order = refl
 client_count (t ∷ past) order =
     let before = client_count past order.2 in
-    one_more t.end t (server_turns past) (turns_of Client past) (before ∙ ap (λ (e : End). length (server_turns past) + ahead e) (sym order.0))
+    one_more t.end t (server_turns past) (turns_of Client past)
+    (before ∙ ap (λ (e : End). length (server_turns past) + ahead e) (sym order.0))
 
-pub three_turns : (turns : List Turn) → Alternates turns → NewestIs Server IsFinished turns → 3 ≤ length (server_turns turns) → 3 ≤ turns_of Client turns
+pub three_turns : (turns : List Turn) → Alternates turns → NewestIs Server IsFinished turns → 3 ≤ length (server_turns turns) →
+    3 ≤ turns_of Client turns
 three_turns [] order newest three = absurd newest
 three_turns (t ∷ past) order newest three =
     let count = client_count (t ∷ past) order in
@@ -158,15 +182,18 @@ three_turns (t ∷ past) order newest three =
 module _ {K P : Type 0} (k : Meaning Setting K) (p : ProxyMeaning P) where
   -- an exchange that is Ok had three messages of the client
   pub ok_three : (base log : List Carried) (start now limit : ℕ) (result : Result Delegation DelegateError) (turns : List Turn)
-      (first server : ServerView (SspiContext NtlmState K) P) → RunEnds base start limit result turns log now → IsPlainServer first.mode → IsFreshServer first →
+      (first server : ServerView (SspiContext NtlmState K) P) → RunEnds base start limit result turns log now → IsPlainServer first.mode →
+      IsFreshServer first →
       OthersGoOn (server_turns turns) → OnOk result (HasExchanged (server_turns turns)) →
       ServerHistory (either 0 ntlm_meaning k) p first (server_turns turns) server → IfOk result (λ delegation. 3 ≤ delegation.turns)
   ok_three base log start now limit (Ok delegation) turns first server ends plain fresh others has history =
-      let three = three_turns turns ends.0.order ends.0.newest (three_of_server k p first server (server_turns turns) plain fresh others has history) in
+      let three = three_turns turns ends.0.order ends.0.newest
+      (three_of_server k p first server (server_turns turns) plain fresh others has history) in
       omega (arith, ends.1, three)
   ok_three base log start now limit (Err error) turns first server ends plain fresh others has history = tt
 
-pub too_few : (result : Result Delegation DelegateError) (limit : ℕ) → IfOk result (λ delegation. 3 ≤ delegation.turns) → IfOk result (λ delegation. delegation.turns ≤ limit) →
+pub too_few : (result : Result Delegation DelegateError) (limit : ℕ) → IfOk result (λ delegation. 3 ≤ delegation.turns) →
+    IfOk result (λ delegation. delegation.turns ≤ limit) →
     limit < 3 → IsErr result
 too_few (Ok delegation) limit three within few = absurd (omega (arith, three, within, few))
 too_few (Err error) limit three within few = refl

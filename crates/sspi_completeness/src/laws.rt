@@ -1,4 +1,4 @@
-//! What holds of a context of plain NTLM.
+//! What holds of a context of plain NTLM, and of one that negotiates it.
 ghost use Rattle.sspi_credssp.specs.Context.{either};
 ghost use Rattle.sspi_credssp.specs.Heeded.{NeverRefuses};
 ghost use Rattle.sspi_mech.specs.Ntlm.{ntlm_meaning};
@@ -7,10 +7,10 @@ ghost use Rattle.sspi_types.specs.declared.error_kind.ErrorKind.TheVariants.{Dow
 
 use sspi_mech::Mechanism;
 
-/// A context of plain NTLM refuses nothing as `DowngradeDetected`, if what stands beside it, the negotiation included, does not: so an end of it refuses so
-/// exactly where its peer is below the least version.
-pub fn plain_context_refuses_no_version<K: Mechanism>()
+/// A context of plain NTLM or of a negotiation refuses nothing as `DowngradeDetected`, if the other mechanism does not: so an end
+/// of it refuses so exactly where its peer is below the least version.
+pub fn contexts_refuse_no_version<K: Mechanism>()
     ensures ntlm { NeverRefuses ntlm_meaning DowngradeDetected }
-    ensures either { NeverRefuses K.meaning DowngradeDetected → NeverRefuses (negotiate 0 ntlm_meaning K.meaning) DowngradeDetected →
-        NeverRefuses (either 0 ntlm_meaning K.meaning) DowngradeDetected }
+    ensures negotiation { NeverRefuses K.meaning DowngradeDetected → NeverRefuses (negotiate 0 ntlm_meaning K.meaning) DowngradeDetected }
+    ensures either { NeverRefuses K.meaning DowngradeDetected → NeverRefuses (either 0 ntlm_meaning K.meaning) DowngradeDetected }
 {}

@@ -3,18 +3,20 @@ ghost use Rattle.sspi_credssp.specs.Context.{either};
 ghost use Rattle.sspi_delegate.specs.Delegates.{around_by, parties, Delegates, Accounts, Stays};
 ghost use Rattle.sspi_delegate.specs.Headline.{IsFresh};
 ghost use Rattle.sspi_mech.specs.Ntlm.{ntlm_meaning};
-ghost use Rattle.sspi_completeness.specs.Matching.{AreMatching, IsPlainServer, IsUndisturbed, NoneFailed, delegated_as, ComesToOk, IsCutShort};
+ghost use Rattle.sspi_completeness.specs.Matching.{AreMatching, IsPlainServer, messages_of, IsUndisturbed, NoneFailed, delegated_as};
+ghost use Rattle.sspi_completeness.specs.Matching.{ComesToOkIn, IsCutShort};
 
 use sspi_credssp::{CredSspClient, CredSspServer, CredentialsProxy};
 use sspi_delegate::{DelegateError, Delegation, Link, Transcript, delegate};
 use sspi_mech::{Kdc, Mechanism, Ntlm};
 use std::alloc::Global;
 
-/// `delegate` between two ends that authenticate by plain NTLM: its promises, and what is so of these ends alone.
+/// `delegate` between two ends whose NTLM is the plain one: its promises, and what is so of these ends alone.
 ///
-/// Where the server does not negotiate it is Ok only after three messages of the client, whatever the link delivers. Where the ends match, the link disturbs
-/// nothing and no look-up of the proxy fails, it is Ok after exactly three, with the client's identity, or there was no memory.
-/// Where the client may make fewer than three messages, that is then the reason, or want of memory.
+/// Where the server does not negotiate it is Ok only after three messages of the client, whatever the link delivers. Where the
+/// ends match, the link disturbs nothing and no look-up of the proxy fails, it is Ok after exactly three messages of the client,
+/// or four where both negotiate and come to NTLM at once, with the client's identity, or there was no memory. Where the client
+/// may make fewer messages, that is then the reason, or want of memory.
 pub fn delegate_plainly<K: Mechanism, C: CredentialsProxy, L: Link, D: Kdc>(
     alloc: Global,
     client: &mut CredSspClient<Ntlm, K>,
@@ -35,16 +37,18 @@ pub fn delegate_plainly<K: Mechanism, C: CredentialsProxy, L: Link, D: Kdc>(
     ensures stays { Stays (around_by C.meaning L.log L.edits L.faults D.told D.asked D.faults)
         (parties client.old server.old link.old kdc.old transcript.old.turns) turns result
         (parties client.new server.new link.new kdc.new transcript.new.turns) }
-    ensures three { IsPlainServer server.old.mode → IsFresh client.old server.old transcript.old.turns → IfOk result (λ delegation. 3 ≤ delegation.turns) }
+    ensures three { IsPlainServer server.old.mode → IsFresh client.old server.old transcript.old.turns →
+        IfOk result (λ delegation. 3 ≤ delegation.turns) }
     ensures few { IsPlainServer server.old.mode → IsFresh client.old server.old transcript.old.turns → turns < 3 → IsErr result }
     ensures comes { (matching : AreMatching C.meaning client.old server.old) → IsFresh client.old server.old transcript.old.turns →
         IsUndisturbed (L.edits link.old) (L.log link.old) (L.log link.new) (L.faults link.old) (L.faults link.new) →
         NoneFailed (C.meaning.told server.old.proxy).failing (C.meaning.faults server.old.proxy) (C.meaning.faults server.new.proxy) →
-        3 ≤ turns → ComesToOk (delegated_as client.old.delegation matching.identity) result }
+        messages_of client.old.mode ≤ turns →
+        ComesToOkIn (messages_of client.old.mode) (delegated_as client.old.delegation matching.identity) result }
     ensures short { AreMatching C.meaning client.old server.old → IsFresh client.old server.old transcript.old.turns →
         IsUndisturbed (L.edits link.old) (L.log link.old) (L.log link.new) (L.faults link.old) (L.faults link.new) →
         NoneFailed (C.meaning.told server.old.proxy).failing (C.meaning.faults server.old.proxy) (C.meaning.faults server.new.proxy) →
-        turns < 3 → IsCutShort result }
+        turns < messages_of client.old.mode → IsCutShort result }
 {
     delegate(alloc, client, server, link, kdc, turns, transcript)
 }

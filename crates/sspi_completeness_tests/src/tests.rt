@@ -3,7 +3,8 @@ ghost use Rattle.sspi_names.specs.declared.credentials.Credentials.TheVariants a
 ghost use Rattle.sspi_names.specs.Identity.{IsIdentity};
 ghost use Rattle.sspi_credssp.specs.Client.{IsFreshClient};
 ghost use Rattle.sspi_credssp.specs.Server.{IsFreshServer};
-ghost use Rattle.sspi_completeness.specs.Matching.{IsPlainClient, IsPlainServer, HasChallenge, IsShort, key_limit, delegated_as, ComesToOk, IsCutShort};
+ghost use Rattle.sspi_completeness.specs.Matching.{IsPlainClient, IsPlainServer, HasChallenge, IsShort, key_limit, delegated_as};
+ghost use Rattle.sspi_completeness.specs.Matching.{ComesToOk, IsCutShort};
 
 use sspi_completeness::delegate_plainly;
 use sspi_credssp::{ClientMode, CredSspClient, CredSspServer, ServerMode, TableProxy};
@@ -86,9 +87,11 @@ fn delegate_matched(
     server_version: u32,
     turns: u32,
 ) -> Result<Delegation, DelegateError>
-    ensures comes { IsIdentity identity.now → IsShort identity.now → length key.now ≤ key_limit → nat_lt client_version 5 ≡ nat_lt server_version 5 →
+    ensures comes { IsIdentity identity.now → IsShort identity.now → length key.now ≤ key_limit →
+        nat_lt client_version 5 ≡ nat_lt server_version 5 →
         3 ≤ turns → ComesToOk (delegated_as mode identity.now) result }
-    ensures short { IsIdentity identity.now → IsShort identity.now → length key.now ≤ key_limit → nat_lt client_version 5 ≡ nat_lt server_version 5 →
+    ensures short { IsIdentity identity.now → IsShort identity.now → length key.now ≤ key_limit →
+        nat_lt client_version 5 ≡ nat_lt server_version 5 →
         turns < 3 → IsCutShort result }
 {
     let Ok(mine) = identity.clone(alloc) else {

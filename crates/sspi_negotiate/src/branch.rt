@@ -10,7 +10,8 @@ use std::alloc::{AllocError, Global};
 
 /// Which client's step waits for a KDC, with what the rest of it needs.
 #[derive(Drop)]
-pub(crate) enum Branch {
+pub enum Branch {
+    /// No step waits.
     Idle,
     /// The first step, which another mechanism may make again.
     Opening(Opening),
@@ -20,10 +21,10 @@ pub(crate) enum Branch {
 
 /// What the first step was given, but for the credentials.
 #[derive(Drop)]
-pub(crate) struct Opening {
-    pub(crate) context_requirements: ClientRequestFlags,
-    pub(crate) target_name: Option<Text>,
-    pub(crate) input: Bytes,
+pub struct Opening {
+    pub context_requirements: ClientRequestFlags,
+    pub target_name: Option<Text>,
+    pub input: Bytes,
 }
 
 impl Opening {

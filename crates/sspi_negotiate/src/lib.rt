@@ -12,7 +12,7 @@
 
 mod acquire;
 mod answering;
-mod branch;
+pub mod branch;
 mod client;
 mod context;
 pub mod fallback;
@@ -28,7 +28,7 @@ pub mod negotiation_laws;
 mod new;
 mod opening;
 pub mod package_list;
-mod pick;
+pub mod pick;
 pub mod protocol;
 pub mod protocol_config;
 mod queries;

@@ -9,7 +9,7 @@ use std::alloc::{AllocError, Global};
 
 /// A mechanism that a server can pick, by its identifier.
 #[derive(Clone, Copy, Debug, PartialEq, Eq)]
-pub(crate) enum Choice {
+pub enum Choice {
     MsKerberos,
     Kerberos,
     Ntlm,
@@ -17,9 +17,9 @@ pub(crate) enum Choice {
 
 /// The mechanism that a server picked, and its first place in the client's list.
 #[derive(Clone, Copy)]
-pub(crate) struct Picked {
-    pub(crate) choice: Choice,
-    pub(crate) index: usize,
+pub struct Picked {
+    pub choice: Choice,
+    pub index: usize,
 }
 
 impl Choice {

@@ -11,7 +11,7 @@ pub enum NegotiatedProtocol<N, K> {
 
 /// Its name.
 #[derive(Clone, Copy, Debug, PartialEq, Eq)]
-pub(crate) enum Protocol {
+pub enum Protocol {
     Kerberos,
     Ntlm,
 }

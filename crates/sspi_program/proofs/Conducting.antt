@@ -12,7 +12,8 @@ use Rattle.sspi_program.specs.Words.{AreDelegate}
 pub conducts_read : {A : Type 0} (words : List (String A)) (left : Option (List ℕ)) (before now : ℕ) (text : Vec ℕ) (said : Said) →
     AreDelegate words → ReadsText left (Ok text) → CarriesOut text.items said → Conducts words left before now said
 conducts_read words None before now text (Exchanged kept) delegates read out = (delegates, out.0, tt)
-conducts_read words (Some bytes) before now text (Exchanged kept) delegates read out = (delegates, out.0, ap scenario_of (sym read.0) ∙ out.1)
+conducts_read words (Some bytes) before now text (Exchanged kept) delegates read out =
+    (delegates, out.0, ap scenario_of (sym read.0) ∙ out.1)
 conducts_read words None before now text (NoScenario line) delegates read out = (delegates, tt)
 conducts_read words (Some bytes) before now text (NoScenario line) delegates read out = (delegates, ap scenario_of (sym read.0) ∙ out)
 conducts_read words left before now text ReadFault delegates read out = absurd out

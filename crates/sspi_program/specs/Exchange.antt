@@ -65,5 +65,6 @@ pub record IsExchange (r : Record) : Type 0 where
   pub edits : r.link.edits ≡ r.scenario.edit
   pub follows : FollowsEdits r.scenario.edit r.link.log
   -- all that `delegate` promises of these ends
-  pub delegates : Delegates plain_meaning around (parties client server (link_in r.scenario) (kdc_in r.scenario) []) r.scenario.turns (answer_in r.outcome)
+  pub delegates : Delegates plain_meaning around (parties client server (link_in r.scenario) (kdc_in r.scenario) []) r.scenario.turns
+      (answer_in r.outcome)
       (parties r.client r.server r.link r.kdc r.transcript.turns)

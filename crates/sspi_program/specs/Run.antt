@@ -9,7 +9,7 @@ use Rattle.sspi_program.specs.declared.record.Record.{Record}
 use Rattle.sspi_program.specs.declared.said.Said.{Said}
 use Rattle.sspi_program.specs.declared.said.Said.TheVariants.{Exchanged, NoScenario, ReadFault, OtherWords, NoMemory}
 use Rattle.sspi_program.specs.Exchange.{IsExchange, answer_in}
-use Rattle.sspi_program.specs.Outcome.{IsPlain, IsOutcome}
+use Rattle.sspi_program.specs.Outcome.{messages_in, IsPlain, IsOutcome}
 use Rattle.sspi_program.specs.Said.{said_text, kept_in, line_text}
 use Rattle.sspi_program.specs.Words.{AreDelegate}
 
@@ -60,7 +60,8 @@ pub record WroteLine (left before after : Option (List ℕ)) : Type 0 where
   pub wrote : Wrote before after (line_text line)
 
 -- what was written is a front of the text that the words and the source owe
-pub record WroteOwed {A : Type 0} (words : List (String A)) (left : Option (List ℕ)) (faults faults2 : ℕ) (kept : Option Record) (before after : Option (List ℕ)) : Type 0 where
+pub record WroteOwed {A : Type 0} (words : List (String A)) (left : Option (List ℕ)) (faults faults2 : ℕ) (kept : Option Record)
+    (before after : Option (List ℕ)) : Type 0 where
   pub said : Said
   pub owed : Conducts words left faults faults2 said
   pub keeps : kept ≡ kept_in said
@@ -74,10 +75,11 @@ IsUnlessWrite own status = (status ≡ own) ⊎ ((status ≡ 4) ⊎ (status ≡ 
 abbrev pub IsUnlessFault : ℕ → ℕ → Type 0
 IsUnlessFault own status = (status ≡ 3) ⊎ IsUnlessWrite own status
 
--- three messages of the client are enough, and fewer are not
-abbrev pub EndsPlainly : ℕ → ℕ → Type 0
-EndsPlainly turns status = (3 ≤ turns → IsUnlessFault 0 status) × (turns < 3 → IsUnlessFault 1 status)
+-- so many messages of the client are enough, and fewer are not
+abbrev pub EndsPlainly : ℕ → ℕ → ℕ → Type 0
+EndsPlainly messages turns status = (messages ≤ turns → IsUnlessFault 0 status) × (turns < messages → IsUnlessFault 1 status)
 
 -- what the status is where the text is that of a plain scenario
 abbrev pub EndsText : List ℕ → ℕ → Type 0
-EndsText text status = (scenario : Scenario) → scenario_of text ≡ Ok scenario → IsPlain scenario → EndsPlainly scenario.turns status
+EndsText text status = (scenario : Scenario) → scenario_of text ≡ Ok scenario → IsPlain scenario →
+    EndsPlainly (messages_in scenario.mode) scenario.turns status

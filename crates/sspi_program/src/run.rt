@@ -1,7 +1,8 @@
 ghost use Rattle.std.specs.Prelude.{◌≡◌, ℕ, ◌+◌, ◌≤◌, Ok, Err, IfSome, IsSomeAnd};
 ghost use Rattle.sspi_ber.specs.Outside.{Rose, Wrote};
 ghost use Rattle.sspi_program.specs.Exchange.{answer_in};
-ghost use Rattle.sspi_program.specs.Run.{Conducts, IsJudged, CarriesOut, SaysOf, HasExchange, WroteLine, WroteOwed, IsUnlessWrite, IsUnlessFault, EndsText};
+ghost use Rattle.sspi_program.specs.Run.{Conducts, IsJudged, CarriesOut, SaysOf, HasExchange, WroteLine, WroteOwed, IsUnlessWrite};
+ghost use Rattle.sspi_program.specs.Run.{IsUnlessFault, EndsText};
 ghost use Rattle.sspi_program.specs.Said.{words_text, read_text, report_of, answer_status, said_status, said_text, kept_in, Written};
 ghost use Rattle.sspi_scenario.specs.declared.reading.TheConstants.{TEXT_LIMIT};
 ghost use Rattle.sspi_scenario.specs.Reading.{IsReadWhole, TakesAtMost};
@@ -38,15 +39,19 @@ pub fn run<S: Source, W: Sink>(
 ) -> Conducted
     ensures words { result.status ≡ 6 → (AreDelegate words.now → ⊥) × Wrote (W.written sink.old) (W.written sink.new) words_text }
     ensures unread { (AreDelegate words.now → ⊥) → (source.new ≡ source.old) × IsUnlessWrite 6 result.status }
-    ensures read { result.status ≡ 3 → Rose (S.faults source.old) (S.faults source.new) × Wrote (W.written sink.old) (W.written sink.new) read_text }
+    ensures read { result.status ≡ 3 → Rose (S.faults source.old) (S.faults source.new) ×
+        Wrote (W.written sink.old) (W.written sink.new) read_text }
     ensures line { result.status ≡ 2 → WroteLine (S.left source.old) (W.written sink.old) (W.written sink.new) }
-    ensures no_scenario { AreDelegate words.now → IfSome (S.left source.old) (λ text. (line : ℕ) → scenario_of text ≡ Err line → IsUnlessFault 2 result.status) }
+    ensures no_scenario { AreDelegate words.now → IfSome (S.left source.old)
+        (λ text. (line : ℕ) → scenario_of text ≡ Err line → IsUnlessFault 2 result.status) }
     ensures outcome { AreDelegate words.now → IfSome (S.left source.old) (λ text. EndsText text result.status) }
-    ensures kept { IfSome result.kept (λ kept. HasExchange kept × IfSome (S.left source.old) (λ text. scenario_of text ≡ Ok kept.scenario)) }
+    ensures kept { IfSome result.kept (λ kept. HasExchange kept ×
+        IfSome (S.left source.old) (λ text. scenario_of text ≡ Ok kept.scenario)) }
     ensures reported { result.status ≤ 1 → IsSomeAnd result.kept (λ kept.
         (result.status ≡ answer_status (answer_in kept.outcome)) × Wrote (W.written sink.old) (W.written sink.new) (report_of kept)) }
     ensures write { result.status ≡ 4 → Rose (W.faults sink.old) (W.faults sink.new) }
-    ensures owed { WroteOwed words.now (S.left source.old) (S.faults source.old) (S.faults source.new) result.kept (W.written sink.old) (W.written sink.new) }
+    ensures owed { WroteOwed words.now (S.left source.old) (S.faults source.old) (S.faults source.new) result.kept (W.written sink.old)
+        (W.written sink.new) }
     ensures whole { result.status ≤ 2 → IsReadWhole (S.left source.old) (S.left source.new) }
     ensures taken { TakesAtMost (TEXT_LIMIT + 1) (S.left source.old) (S.left source.new) }
     ensures statuses { result.status ≤ 6 }

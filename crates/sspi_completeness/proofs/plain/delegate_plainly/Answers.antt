@@ -18,17 +18,21 @@ returns-clause-three g c plain fresh =
     made.accounts.server_turns_are_its_calls)
 
 pub returns-clause-few : goal.returns-clause-few
-returns-clause-few g c plain fresh few = too_few _ _ (returns-clause-three g c plain fresh) c.delegate.ensures.stays.ok_comes_within_the_limit few
+returns-clause-few g c plain fresh few = too_few _ _ (returns-clause-three g c plain fresh)
+    c.delegate.ensures.stays.ok_comes_within_the_limit few
 
 pub returns-clause-comes : goal.returns-clause-comes
 returns-clause-comes g c matching fresh undisturbed none enough =
     let laws = lawful 0 _ ntlm_meaning g.K.Mechanism.meaning ntlm_laws g.met.K.Mechanism.laws in
     let made = c.delegate.ensures.delegates fresh in
     let stays = c.delegate.ensures.stays in
-    comes_to_ok _ _ _ enough
-    (settled_plainly g.K.Mechanism.meaning laws (kdc_calls g.D.Kdc.told g.D.Kdc.asked g.D.Kdc.faults) g.C.CredentialsProxy.meaning c.args.client.now c.args.server.now fresh.client_is fresh.server_is matching _ _ _ _ _ c.args.turns c.delegate.new.client
-    c.delegate.new.server _ _ _ _ _ undisturbed made.accounts.turns_and_log_show_the_answer stays.the_link_tells_what_it_told stays.the_link_fails_where_its_edits_say_so
-    made.accounts.client_turns_are_its_calls (server_past_history (either 0 ntlm_meaning g.K.Mechanism.meaning) g.C.CredentialsProxy.meaning _ _ _ _
+    comes_to_ok _ _ _ _ enough
+    (settled_plainly g.K.Mechanism.meaning laws (kdc_calls g.D.Kdc.told g.D.Kdc.asked g.D.Kdc.faults) g.C.CredentialsProxy.meaning
+    c.args.client.now c.args.server.now fresh.client_is fresh.server_is matching _ _ _ _ _ c.args.turns c.delegate.new.client
+    c.delegate.new.server _ _ _ _ _ undisturbed made.accounts.turns_and_log_show_the_answer stays.the_link_tells_what_it_told
+    stays.the_link_fails_where_its_edits_say_so
+    made.accounts.client_turns_are_its_calls (server_past_history
+    (either 0 ntlm_meaning g.K.Mechanism.meaning) g.C.CredentialsProxy.meaning _ _ _ _
     made.accounts.server_turns_are_its_calls)
     (calm_by _ _ _ none stays.the_proxy_tells_what_it_told.calm) made.the_identity_is_what_was_opened_last)
 
@@ -37,9 +41,12 @@ returns-clause-short g c matching fresh undisturbed none few =
     let laws = lawful 0 _ ntlm_meaning g.K.Mechanism.meaning ntlm_laws g.met.K.Mechanism.laws in
     let made = c.delegate.ensures.delegates fresh in
     let stays = c.delegate.ensures.stays in
-    cut_short _ _ _ few stays.ok_comes_within_the_limit
-    (settled_plainly g.K.Mechanism.meaning laws (kdc_calls g.D.Kdc.told g.D.Kdc.asked g.D.Kdc.faults) g.C.CredentialsProxy.meaning c.args.client.now c.args.server.now fresh.client_is fresh.server_is matching _ _ _ _ _ c.args.turns c.delegate.new.client
-    c.delegate.new.server _ _ _ _ _ undisturbed made.accounts.turns_and_log_show_the_answer stays.the_link_tells_what_it_told stays.the_link_fails_where_its_edits_say_so
-    made.accounts.client_turns_are_its_calls (server_past_history (either 0 ntlm_meaning g.K.Mechanism.meaning) g.C.CredentialsProxy.meaning _ _ _ _
+    cut_short _ _ _ _ few stays.ok_comes_within_the_limit
+    (settled_plainly g.K.Mechanism.meaning laws (kdc_calls g.D.Kdc.told g.D.Kdc.asked g.D.Kdc.faults) g.C.CredentialsProxy.meaning
+    c.args.client.now c.args.server.now fresh.client_is fresh.server_is matching _ _ _ _ _ c.args.turns c.delegate.new.client
+    c.delegate.new.server _ _ _ _ _ undisturbed made.accounts.turns_and_log_show_the_answer stays.the_link_tells_what_it_told
+    stays.the_link_fails_where_its_edits_say_so
+    made.accounts.client_turns_are_its_calls (server_past_history
+    (either 0 ntlm_meaning g.K.Mechanism.meaning) g.C.CredentialsProxy.meaning _ _ _ _
     made.accounts.server_turns_are_its_calls)
     (calm_by _ _ _ none stays.the_proxy_tells_what_it_told.calm) made.the_identity_is_what_was_opened_last)

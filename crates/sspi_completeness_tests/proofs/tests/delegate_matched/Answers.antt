@@ -10,7 +10,9 @@ use Rattle.sspi_credssp.specs.Server.{ServerView}
 use Rattle.sspi_credssp.specs.Table.{TableView, table_meaning}
 use Rattle.sspi_delegate.specs.declared.edit.Edit.{Edit}
 use Rattle.sspi_delegate.specs.Edits.{MemoryLinkView}
-use Rattle.sspi_completeness.specs.Matching.{IsPlainClient, IsPlainServer, HasChallenge, AreMatching, unedited, none_told, IsShort, key_limit, delegated_as, ComesToOk}
+use Rattle.sspi_completeness.specs.Matching.{IsPlainClient, IsPlainServer, HasChallenge, AreMatching, unedited, none_told, IsShort}
+use Rattle.sspi_completeness.specs.Matching.{key_limit, messages_of, delegated_as, ComesToOk, ComesToOkIn}
+use Rattle.sspi_completeness.proofs.Modes.{plain_modes, plain_messages}
 use Rattle.sspi_completeness_tests.proofs.tests.delegate_matched.Goals as goal
 
 alone : (i : AuthIdentity) → entry_of (i ∷ []) i.username ≡ Some i
@@ -18,8 +20,10 @@ unfolding entry_of
 alone i = rw (ignoring_case-equiv.refl i.username) refl
 
 -- how the two ends were made
-record AreMade {C D : Type 0} (client : ClientView C) (server : ServerView D TableView) (i mine known : AuthIdentity) (key : List ℕ) (mode : CredSspMode) (cv sv : ℕ) : Type 0 where
-  pub client_values : (client.public_key ≡ key) × (client.credentials ≡ credentials.AuthIdentity mine) × (client.delegation ≡ mode) × (client.version ≡ cv)
+record AreMade {C D : Type 0} (client : ClientView C) (server : ServerView D TableView) (i mine known : AuthIdentity) (key : List ℕ)
+    (mode : CredSspMode) (cv sv : ℕ) : Type 0 where
+  pub client_values : (client.public_key ≡ key) × (client.credentials ≡ credentials.AuthIdentity mine) × (client.delegation ≡ mode) ×
+      (client.version ≡ cv)
       × (length client.nonce ≡ 32) × (client.least ≡ 0) × IsPlainClient client.mode
   pub server_values : (server.public_key ≡ key) × (server.version ≡ sv) × IsPlainServer server.mode × HasChallenge server.mode
       × (server.proxy ≡ record { entries = known ∷ []; failing = []; calls = 0; faults = 0 }) × (server.least ≡ 0)
@@ -28,18 +32,18 @@ record AreMade {C D : Type 0} (client : ClientView C) (server : ServerView D Tab
   pub client_version : cv < 2 ^ 32
   pub server_version : sv < 2 ^ 32
 
-abbrev matched : {C D : Type 0} (client : ClientView C) (server : ServerView D TableView) (i mine known : AuthIdentity) (key : List ℕ) (mode : CredSspMode) (cv sv : ℕ) →
+abbrev matched : {C D : Type 0} (client : ClientView C) (server : ServerView D TableView) (i mine known : AuthIdentity) (key : List ℕ)
+    (mode : CredSspMode) (cv sv : ℕ) →
     AreMade client server i mine known key mode cv sv → IsIdentity i → IsShort i → length key ≤ key_limit → nat_lt cv 5 ≡ nat_lt sv 5 →
     AreMatching table_meaning client server
 matched client server i mine known key mode cv sv made is short few versions = record {
-  client_plain = made.client_values.6;
-  server_plain = made.server_values.2;
+  identity = i;
+  modes = plain_modes client.target i client.mode server.mode made.client_values.6 made.server_values.2 made.server_values.3;
   key_same = made.server_values.0 ∙ sym made.client_values.0;
   key_short = omega (arith, ap length made.client_values.0, few);
   versions = rw (made.client_values.3, made.server_values.1) versions;
   client_takes = omega (arith, made.client_values.5);
   server_takes = omega (arith, made.server_values.5);
-  identity = i;
   credentials_are = made.client_values.1 ∙ ap credentials.AuthIdentity made.mine_is;
   short = short;
   entries = i ∷ [];
@@ -49,21 +53,23 @@ matched client server i mine known key mode cv sv made is short few versions = r
   client_version = omega (arith, made.client_values.3, made.client_version);
   server_version = omega (arith, made.server_values.1, made.server_version);
   nonce = made.client_values.4;
-  challenge = made.server_values.3;
 }
 
-no_look_up_fails : {D : Type 0} (server : ServerView D TableView) (known : AuthIdentity) → server.proxy ≡ record { entries = known ∷ []; failing = []; calls = 0; faults = 0 } →
+no_look_up_fails : {D : Type 0} (server : ServerView D TableView) (known : AuthIdentity) →
+    server.proxy ≡ record { entries = known ∷ []; failing = []; calls = 0; faults = 0 } →
     (Some server.proxy.failing ≡ Some []) × (server.proxy.faults < 2 ^ 64 - 1)
 no_look_up_fails server known is =
     let none : server.proxy.faults ≡ 0 = ap (λ (p : TableView). p.faults) is in
     (ap (λ (p : TableView). Some p.failing) is, omega (arith, none))
 
-no_edit : (link : MemoryLinkView) (edits : List Edit) → link ≡ record { log = []; edits = edits; faults = 0 } → edits ≡ [] → (Some link.edits ≡ Some []) × (link.log ≡ [])
+no_edit : (link : MemoryLinkView) (edits : List Edit) → link ≡ record { log = []; edits = edits; faults = 0 } → edits ≡ [] →
+    (Some link.edits ≡ Some []) × (link.log ≡ [])
 no_edit link edits is empty = (ap (λ (l : MemoryLinkView). Some l.edits) is ∙ ap Some empty, ap (λ (l : MemoryLinkView). l.log) is)
 
 pub returns-clause-comes : goal.returns-clause-comes
 returns-clause-comes c is short few versions enough =
-    let made : AreMade c.in-Ok-client_of.client c.in-Ok-server_of.server c.args.identity.now c.in-Ok.mine c.in-Ok-clone.known c.args.key.now c.args.mode c.args.client_version c.args.server_version =
+    let made : AreMade c.in-Ok-client_of.client c.in-Ok-server_of.server c.args.identity.now c.in-Ok.mine c.in-Ok-clone.known
+        c.args.key.now c.args.mode c.args.client_version c.args.server_version =
     record {
       client_values = c.in-Ok-client_of.ensures.values;
       server_values = c.in-Ok-server_of.ensures.values;
@@ -74,16 +80,21 @@ returns-clause-comes c is short few versions enough =
     } in
     let proxy = no_look_up_fails c.in-Ok-server_of.server _ c.in-Ok-server_of.ensures.values.4 in
     let link = no_edit c.new-link.result _ c.new-link.ensures c.new.ensures.items in
+    let three = plain_messages c.in-Ok-client_of.client.mode made.client_values.6 in
     let comes = c.delegate_plainly.ensures.comes
-    (matched c.in-Ok-client_of.client c.in-Ok-server_of.server c.args.identity.now c.in-Ok.mine c.in-Ok-clone.known c.args.key.now c.args.mode c.args.client_version
+    (matched c.in-Ok-client_of.client c.in-Ok-server_of.server c.args.identity.now c.in-Ok.mine c.in-Ok-clone.known c.args.key.now
+        c.args.mode c.args.client_version
     c.args.server_version made is short few versions)
     (record { client_is = c.in-Ok-client_of.ensures.fresh; server_is = c.in-Ok-server_of.ensures.fresh; empty = c.new-transcript.ensures })
-    (unedited link.0 link.1) (none_told proxy.0 proxy.1) enough in
-    subst (λ (m : CredSspMode). ComesToOk (delegated_as m c.args.identity.now) c.delegate_plainly.result) c.in-Ok-client_of.ensures.values.2 comes
+    (unedited link.0 link.1) (none_told proxy.0 proxy.1) (omega (arith, three, enough)) in
+    subst (λ (m : CredSspMode). ComesToOk (delegated_as m c.args.identity.now) c.delegate_plainly.result) c.in-Ok-client_of.ensures.values.2
+    (subst (λ (n : ℕ). ComesToOkIn n (delegated_as c.in-Ok-client_of.client.delegation c.args.identity.now) c.delegate_plainly.result)
+        three comes)
 
 pub returns-clause-short : goal.returns-clause-short
 returns-clause-short c is short few versions less =
-    let made : AreMade c.in-Ok-client_of.client c.in-Ok-server_of.server c.args.identity.now c.in-Ok.mine c.in-Ok-clone.known c.args.key.now c.args.mode c.args.client_version c.args.server_version =
+    let made : AreMade c.in-Ok-client_of.client c.in-Ok-server_of.server c.args.identity.now c.in-Ok.mine c.in-Ok-clone.known
+        c.args.key.now c.args.mode c.args.client_version c.args.server_version =
     record {
       client_values = c.in-Ok-client_of.ensures.values;
       server_values = c.in-Ok-server_of.ensures.values;
@@ -94,8 +105,10 @@ returns-clause-short c is short few versions less =
     } in
     let proxy = no_look_up_fails c.in-Ok-server_of.server _ c.in-Ok-server_of.ensures.values.4 in
     let link = no_edit c.new-link.result _ c.new-link.ensures c.new.ensures.items in
+    let three = plain_messages c.in-Ok-client_of.client.mode made.client_values.6 in
     c.delegate_plainly.ensures.short
-    (matched c.in-Ok-client_of.client c.in-Ok-server_of.server c.args.identity.now c.in-Ok.mine c.in-Ok-clone.known c.args.key.now c.args.mode c.args.client_version
+    (matched c.in-Ok-client_of.client c.in-Ok-server_of.server c.args.identity.now c.in-Ok.mine c.in-Ok-clone.known c.args.key.now
+        c.args.mode c.args.client_version
     c.args.server_version made is short few versions)
     (record { client_is = c.in-Ok-client_of.ensures.fresh; server_is = c.in-Ok-server_of.ensures.fresh; empty = c.new-transcript.ensures })
-    (unedited link.0 link.1) (none_told proxy.0 proxy.1) less
+    (unedited link.0 link.1) (none_told proxy.0 proxy.1) (omega (arith, three, less))

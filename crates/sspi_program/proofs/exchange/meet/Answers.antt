@@ -1,4 +1,4 @@
-use Rattle.std.proofs.Common.{◌≡◌, List, [], Some, refl, subst}
+use Rattle.std.proofs.Common.{◌≡◌, ℕ, List, [], Some, refl, subst}
 use Rattle.sspi_delegate.specs.Delegates.{calls_of_kdc}
 use Rattle.sspi_delegate.specs.Edits.{MemoryLinkView, FollowsEdits}
 use Rattle.sspi_delegate.specs.declared.edit.Edit.{Edit}
@@ -12,13 +12,13 @@ use Rattle.sspi_mech.specs.NtlmLaws.{ntlm_laws}
 use Rattle.sspi_credssp.proofs.ContextLaws.{lawful}
 use Rattle.sspi_tsreq.specs.declared.mode.CredSspMode.{CredSspMode}
 use Rattle.sspi_credssp.specs.Table.{table_meaning}
-use Rattle.sspi_completeness.specs.Matching.{delegated_as, ComesToOk}
+use Rattle.sspi_completeness.specs.Matching.{delegated_as, ComesToOkIn}
 use Rattle.sspi_completeness.proofs.ThreeTurns.{ok_three}
 use Rattle.sspi_completeness.proofs.PlainSettled.{comes_to_ok, cut_short, settled_plainly}
 use Rattle.sspi_completeness.proofs.Settling.{calm_by, Settled}
 use Rattle.sspi_program.specs.Exchange.{plain_meaning, around}
-use Rattle.sspi_program.specs.Outcome.{user_identity, IsPlain}
-use Rattle.sspi_program.proofs.Plainly.{plain_match, plain_server, plain_link, plain_proxy}
+use Rattle.sspi_program.specs.Outcome.{user_identity, messages_in, IsPlain}
+use Rattle.sspi_program.proofs.Plainly.{plain_match, plain_messages, plain_server, plain_link, plain_proxy}
 use Rattle.sspi_program.proofs.exchange.meet.Goals as goal
 
 some_edits : (edits edits2 : List Edit) → Some edits ≡ Some edits2 → edits ≡ edits2
@@ -34,7 +34,8 @@ returns-clause-exchange c ends =
     let fresh : IsFresh client server c.new-transcript.result.turns =
     record { client_is = ends.client_fresh; server_is = ends.server_fresh; empty = c.new-transcript.ensures } in
     let told : StaysTold (Some edits) (Some made.link.edits) [] made.link.log =
-    subst (λ (link : MemoryLinkView). StaysTold (Some link.edits) (Some made.link.edits) link.log made.link.log) ends.link ensures.stays.the_link_tells_what_it_told in
+    subst (λ (link : MemoryLinkView). StaysTold (Some link.edits) (Some made.link.edits) link.log made.link.log) ends.link
+    ensures.stays.the_link_tells_what_it_told in
     let same : made.link.edits ≡ edits = some_edits made.link.edits edits told.same in
     record {
       client = client;
@@ -60,21 +61,27 @@ returns-clause-outcome c ends held =
     record { client_is = ends.client_fresh; server_is = ends.server_fresh; empty = empty } in
     let delegates = ensures.delegates fresh in
     let stays = ensures.stays in
-    let server_history = server_past_history plain_meaning table_meaning server made.server _ answer delegates.accounts.server_turns_are_its_calls in
+    let server_history = server_past_history plain_meaning table_meaning server made.server _ answer
+    delegates.accounts.server_turns_are_its_calls in
     let laws = lawful 0 2 ntlm_meaning kerberos_meaning ntlm_laws kerberos_laws in
-    let settles : (plain : IsPlain s) → Settled 3 s.turns (delegated_as client.delegation (user_identity s)) answer =
-    λ plain. settled_plainly kerberos_meaning laws (calls_of_kdc around) table_meaning client server ends.client_fresh ends.server_fresh
+    let settles : (plain : IsPlain s) → Settled (messages_in s.mode) s.turns (delegated_as client.delegation (user_identity s)) answer =
+    λ plain. subst (λ (n : ℕ). Settled n s.turns (delegated_as client.delegation (user_identity s)) answer)
+    (plain_messages s client ends.client_named)
+    (settled_plainly kerberos_meaning laws (calls_of_kdc around) table_meaning client server ends.client_fresh ends.server_fresh
     (plain_match s client server ends.client_named ends.server_named held plain) _ _ _ _ _ s.turns made.client made.server _ _ _ _ _
     (plain_link s c.args.ends.link made.link.log made.link.faults ends.link plain)
     delegates.accounts.turns_and_log_show_the_answer stays.the_link_tells_what_it_told stays.the_link_fails_where_its_edits_say_so
     delegates.accounts.client_turns_are_its_calls server_history
     (calm_by _ _ _ (plain_proxy s server made.server.proxy.faults ends.server_named plain) stays.the_proxy_tells_what_it_told.calm)
-    delegates.the_identity_is_what_was_opened_last in
+    delegates.the_identity_is_what_was_opened_last) in
     record {
       three = λ plain. ok_three kerberos_meaning table_meaning _ _ _ _ _ _ _ _ _
-          delegates.accounts.turns_and_log_show_the_answer (plain_server s server ends.server_named plain) fresh.server_is delegates.the_turns_are_a_run.server_ran.others
+          delegates.accounts.turns_and_log_show_the_answer (plain_server s server ends.server_named plain) fresh.server_is
+          delegates.the_turns_are_a_run.server_ran.others
           delegates.both_proofs_came_before_ok server_history;
-      comes = λ plain enough. subst (λ (mode : CredSspMode). ComesToOk (delegated_as mode (user_identity s)) answer) ends.client_named.delegation
-          (comes_to_ok s.turns (delegated_as client.delegation (user_identity s)) answer enough (settles plain));
-      short = λ plain few. cut_short s.turns (delegated_as client.delegation (user_identity s)) answer few stays.ok_comes_within_the_limit (settles plain);
+      comes = λ plain enough. subst (λ (mode : CredSspMode). ComesToOkIn (messages_in s.mode)
+          (delegated_as mode (user_identity s)) answer) ends.client_named.delegation
+          (comes_to_ok (messages_in s.mode) s.turns (delegated_as client.delegation (user_identity s)) answer enough (settles plain));
+      short = λ plain few. cut_short (messages_in s.mode) s.turns
+          (delegated_as client.delegation (user_identity s)) answer few stays.ok_comes_within_the_limit (settles plain);
     }

@@ -1,4 +1,5 @@
-use Rattle.sspi_program.proofs.Running.{status_words, status_unread, status_read, status_line, status_no_scenario, status_plain, keeps_exchange, status_reported, write_rose, owes, status_whole, status_most}
+use Rattle.sspi_program.proofs.Running.{status_words, status_unread, status_read, status_line, status_no_scenario, status_plain}
+use Rattle.sspi_program.proofs.Running.{keeps_exchange, status_reported, write_rose, owes, status_whole, status_most}
 use Rattle.sspi_program.proofs.run.run.Goals as goal
 
 pub returns-clause-words : goal.returns-clause-words
@@ -33,7 +34,8 @@ pub returns-clause-owed : goal.returns-clause-owed
 returns-clause-owed g c = owes _ _ _ _ _ _ _ _ _ _ _ c.tell.ensures.kept c.conduct-said.ensures.conducts c.tell.ensures.written
 
 pub returns-clause-whole : goal.returns-clause-whole
-returns-clause-whole g c = status_whole _ _ _ _ _ _ c.conduct-said.result c.tell.result.status c.conduct-said.ensures.judged c.tell.ensures.written
+returns-clause-whole g c = status_whole _ _ _ _ _ _ c.conduct-said.result c.tell.result.status c.conduct-said.ensures.judged
+    c.tell.ensures.written
 
 pub returns-clause-statuses : goal.returns-clause-statuses
 returns-clause-statuses g c = status_most _ _ _ _ c.conduct-said.result c.tell.result.status c.tell.ensures.written
