@@ -1,6 +1,7 @@
 -- Agreement, by the order of the turns: a client that seals has opened the server's proof, so the server sealed it before; then the
 -- server had opened the client's, so the client had sealed that before; and equal proofs are made over equal keys.
-use Rattle.std.proofs.Common.{◌≡◌, ◌≤◌, ℕ, ◌⊎◌, inl, inr, Bool, true, false, List, [], ◌∷◌, ◌++◌, length, Option, None, Some, Ok, sym, ◌∙◌, ap, subst, refl, append_assoc, nat_lt}
+use Rattle.std.proofs.Common.{◌≡◌, ◌≤◌, ℕ, ◌⊎◌, inl, inr, Bool, true, false, List, [], ◌∷◌, ◌++◌, length, Option, None, Some, Ok, sym}
+use Rattle.std.proofs.Common.{◌∙◌, ap, subst, refl, append_assoc, nat_lt}
 use Rattle.std.proofs.lemmas.Bool.{le-ltb}
 use Rattle.sha2.specs.Sha256.{sha256}
 use Rattle.sspi_mech.specs.Meaning.{Meaning}
@@ -26,19 +27,25 @@ use Rattle.sspi_credssp.specs.Shown.{HasNonce, ShowsAnswer, server_shown}
 use Rattle.sspi_credssp.specs.Turn.{ServerFrame, AtNoted}
 use Rattle.sspi_delegate.specs.Causes.{IsFinished}
 use Rattle.sspi_delegate.specs.ClientRun.{ClientEnd, client_noted, EachClientTurn}
-use Rattle.sspi_delegate.specs.EndTurns.{onto_client, onto_server, client_turns, server_turns, any_proved, opened_in, OthersGoOn, OthersUnrefused}
+use Rattle.sspi_delegate.specs.EndTurns.{onto_client, onto_server, client_turns, server_turns, any_proved, opened_in, OthersGoOn}
+use Rattle.sspi_delegate.specs.EndTurns.{OthersUnrefused}
 use Rattle.sspi_delegate.specs.ServerRun.{ServerEnd, server_state, server_noted, server_frame_at, EachServerTurn}
 use Rattle.sspi_delegate.specs.Turns.{AllGoOn, NoneRefused}
-use Rattle.sspi_play.specs.Agreement.{TurnOf, OpensBehindTag, NoEcho, AreAlike, HasProved, HasExchanged, HasSealed, Agrees, HoldsSealed, Agreement}
-use Rattle.sspi_play.specs.Faithful.{behind_tag, client_sealed, server_sealed, opened_texts, AreFirstOf, IsHashed, by_client, by_server, IsFaithful}
+use Rattle.sspi_play.specs.Agreement.{TurnOf, OpensBehindTag, NoEcho, AreAlike, HasProved, HasExchanged, HasSealed, Agrees}
+use Rattle.sspi_play.specs.Agreement.{HoldsSealed, Agreement}
+use Rattle.sspi_play.specs.Faithful.{behind_tag, client_sealed, server_sealed, opened_texts, AreFirstOf, IsHashed, by_client}
+use Rattle.sspi_play.specs.Faithful.{by_server, IsFaithful}
 use Rattle.sspi_play.specs.History.{GaveIn}
 use Rattle.sspi_play.proofs.ClientSeals.{ClientProof, ClientProofIn, client_proof, seals_once_opened, sealed_in, second_seal}
 use Rattle.sspi_play.proofs.Lists.{last_same, none_last}
-use Rattle.sspi_play.proofs.Parts.{server_more, server_split, ServerPlace, server_place, client_noted_later, server_noted_later, AllTurns, all_before}
+use Rattle.sspi_play.proofs.Parts.{server_more, server_split, ServerPlace, server_place, client_noted_later, server_noted_later}
+use Rattle.sspi_play.proofs.Parts.{AllTurns, all_before}
 use Rattle.sspi_play.proofs.SameTexts.{Same, same_texts, no_client_echo, no_server_echo}
-use Rattle.sspi_play.proofs.ServerSeals.{at_some, at_version, nonce_length, opens_text, ServerProof, ServerProofIn, server_proof, opened_by_proof, one_opened, opened_at_end}
+use Rattle.sspi_play.proofs.ServerSeals.{at_some, at_version, nonce_length, opens_text, ServerProof, ServerProofIn, server_proof}
+use Rattle.sspi_play.proofs.ServerSeals.{opened_by_proof, one_opened, opened_at_end}
 
-alike : (noted other : Option ℕ) (version other_version : ℕ) → noted ≡ Some version → other ≡ Some other_version → nat_lt version 5 ≡ nat_lt other_version 5 → AreAlike noted other
+alike : (noted other : Option ℕ) (version other_version : ℕ) → noted ≡ Some version → other ≡ Some other_version →
+    nat_lt version 5 ≡ nat_lt other_version 5 → AreAlike noted other
 alike noted other version other_version is other_is same = rw (is, other_is) same
 
 some_one : (a b : ℕ) → Some a ≡ Some b → a ≡ b
@@ -55,8 +62,10 @@ module _ {C : Type 0} (c : Meaning ContextSetting C) (kept : Option C → List (
         subst (λ (e : End). EachClientTurn c client (onto_client e t (client_turns past))) is all.client_each in each,
     let others : OthersGoOn (onto_client Client t (client_turns past)) =
         subst (λ (e : End). OthersGoOn (onto_client e t (client_turns past))) is all.client_others in others,
-    let first : AreFirstOf (opened_texts (onto_client Client t (client_turns past))) (server_sealed server (onto_server Client t (server_turns past))) =
-        subst (λ (e : End). AreFirstOf (opened_texts (onto_client e t (client_turns past))) (server_sealed server (onto_server e t (server_turns past)))) is all.opens.0 in first,
+    let first : AreFirstOf (opened_texts (onto_client Client t (client_turns past)))
+        (server_sealed server (onto_server Client t (server_turns past))) =
+        subst (λ (e : End). AreFirstOf (opened_texts (onto_client e t (client_turns past)))
+            (server_sealed server (onto_server e t (server_turns past)))) is all.opens.0 in first,
   )
 
   server_at : (t : Turn) (past : List Turn) → t.end ≡ Server → AllTurns c kept client server (t ∷ past) →
@@ -67,8 +76,10 @@ module _ {C : Type 0} (c : Meaning ContextSetting C) (kept : Option C → List (
         subst (λ (e : End). EachServerTurn c server (onto_server e t (server_turns past))) is all.server_each in each,
     let others : OthersUnrefused (onto_server Server t (server_turns past)) =
         subst (λ (e : End). OthersUnrefused (onto_server e t (server_turns past))) is all.server_others in others,
-    let first : AreFirstOf (opened_texts (onto_server Server t (server_turns past))) (client_sealed client (onto_client Server t (client_turns past))) =
-        subst (λ (e : End). AreFirstOf (opened_texts (onto_server e t (server_turns past))) (client_sealed client (onto_client e t (client_turns past)))) is all.opens.1 in first,
+    let first : AreFirstOf (opened_texts (onto_server Server t (server_turns past)))
+        (client_sealed client (onto_client Server t (client_turns past))) =
+        subst (λ (e : End). AreFirstOf (opened_texts (onto_server e t (server_turns past)))
+            (client_sealed client (onto_client e t (client_turns past)))) is all.opens.1 in first,
   )
 
   -- ---- the server's proof came before, and the client's before that
@@ -99,14 +110,16 @@ module _ {C : Type 0} (c : Meaning ContextSetting C) (kept : Option C → List (
         server_noted server.least (t ∷ past) ≡ Some version →
         behind_tag t.delivered.pub_key_auth ≡ prescribed whose.Client version (nonce_of t.delivered.client_nonce) server.public_key ∷ []
     proven_text t past version each was noted =
-        let proven = at_version (server_noted server.least (t ∷ past)) version (Proven c server.context (opened_in past) server.public_key t.delivered) noted (each.0.held.proved was) in
+        let proven = at_version (server_noted server.least (t ∷ past)) version
+            (Proven c server.context (opened_in past) server.public_key t.delivered) noted (each.0.held.proved was) in
         opens_text c tags server.context (opened_in past) t.delivered.pub_key_auth
         (prescribed whose.Client version (nonce_of t.delivered.client_nonce) server.public_key) proven.opens
 
     proven_nonce : (t : Turn) (past : List Turn) (version : ℕ) → EachServerTurn c server (t ∷ past) → t.acts.proved ≡ true →
         server_noted server.least (t ∷ past) ≡ Some version → nat_lt version 5 ≡ false → length (nonce_of t.delivered.client_nonce) ≡ 32
     proven_nonce t past version each was noted old =
-        let proven = at_version (server_noted server.least (t ∷ past)) version (Proven c server.context (opened_in past) server.public_key t.delivered) noted (each.0.held.proved was) in
+        let proven = at_version (server_noted server.least (t ∷ past)) version
+            (Proven c server.context (opened_in past) server.public_key t.delivered) noted (each.0.held.proved was) in
         nonce_length (nat_lt version 5) t.delivered.client_nonce old proven.nonce
 
     -- the text that a client opened that seals
@@ -114,9 +127,11 @@ module _ {C : Type 0} (c : Meaning ContextSetting C) (kept : Option C → List (
         client_noted client.least (t ∷ past) ≡ Some version →
         behind_tag t.delivered.pub_key_auth ≡ prescribed whose.Server version client.nonce client.public_key ∷ []
     sealing_text t past version each was noted =
-        opens_text c tags client.context (opened_in past) t.delivered.pub_key_auth (prescribed whose.Server version client.nonce client.public_key)
+        opens_text c tags client.context (opened_in past) t.delivered.pub_key_auth
+            (prescribed whose.Server version client.nonce client.public_key)
         (at_version (client_noted client.least (t ∷ past)) version
-        (λ v. OpensIn c client.context (opened_in past) t.delivered.pub_key_auth (prescribed whose.Server v client.nonce client.public_key)) noted (each.0.held.sealed was))
+        (λ v. OpensIn c client.context (opened_in past) t.delivered.pub_key_auth
+            (prescribed whose.Server v client.nonce client.public_key)) noted (each.0.held.sealed was))
 
     agreed_by : (turns later past : List Turn) (t : Turn) → turns ≡ later ++ (t ∷ past) → t.end ≡ Client → (seen : ℕ) →
         client_noted client.least (t ∷ client_turns past) ≡ Some seen →
@@ -124,20 +139,24 @@ module _ {C : Type 0} (c : Meaning ContextSetting C) (kept : Option C → List (
         AllTurns c kept client server past → ServerProof c server past → Agrees client server turns past
     agreed_by turns later past t parts is seen noted all faithful echo long before s =
         let u = s.at.turn in
-        let there = all_before c kept client server s.at.later (u ∷ s.at.before) (subst (λ (l : List Turn). AllTurns c kept client server l) s.at.parts before) in
+        let there = all_before c kept client server s.at.later (u ∷ s.at.before)
+            (subst (λ (l : List Turn). AllTurns c kept client server l) s.at.parts before) in
         let peer = server_at u s.at.before s.end there in
-        let opened : opened_texts (u ∷ server_turns s.at.before) ≡ prescribed whose.Client s.version (nonce_of u.delivered.client_nonce) server.public_key ∷ [] =
+        let opened : opened_texts (u ∷ server_turns s.at.before) ≡ prescribed whose.Client s.version
+            (nonce_of u.delivered.client_nonce) server.public_key ∷ [] =
         opened_by_proof c server (server_turns s.at.before) u peer.0 peer.1 s.none s.proved
         ∙ proven_text u (server_turns s.at.before) s.version peer.0 s.proved s.noted in
         let first = all_before c kept client server (u ∷ []) s.at.before there in
-        let p = client_proved s.at.before _ (opened_texts (u ∷ server_turns s.at.before)) opened peer.2 (client_proof c client s.at.before first.client_each) in
+        let p = client_proved s.at.before _ (opened_texts (u ∷ server_turns s.at.before)) opened peer.2
+            (client_proof c client s.at.before first.client_each) in
         let whole : turns ≡ (later ++ (t ∷ s.at.later)) ++ (u ∷ s.at.before) =
         parts ∙ ap (λ (l : List Turn). later ++ (t ∷ l)) s.at.parts ∙ sym (append_assoc later (t ∷ s.at.later) (u ∷ s.at.before)) in
         let servers : server_turns turns ≡ server_turns (later ++ (t ∷ s.at.later)) ++ (u ∷ server_turns s.at.before) =
         ap server_turns whole ∙ server_split (later ++ (t ∷ s.at.later)) (u ∷ s.at.before)
         ∙ ap (λ (l : List Turn). server_turns (later ++ (t ∷ s.at.later)) ++ l) (server_more u s.at.before s.end) in
         let client_seen : client_noted client.least (client_turns turns) ≡ Some p.0.version =
-        subst (λ (l : List Turn). client_noted client.least (client_turns l) ≡ Some p.0.version) (sym (whole ∙ sym (append_assoc (later ++ (t ∷ s.at.later)) (u ∷ []) s.at.before)))
+        subst (λ (l : List Turn). client_noted client.least (client_turns l) ≡ Some p.0.version)
+            (sym (whole ∙ sym (append_assoc (later ++ (t ∷ s.at.later)) (u ∷ []) s.at.before)))
         (client_noted_later client.least ((later ++ (t ∷ s.at.later)) ++ (u ∷ [])) s.at.before p.0.version p.0.noted) in
         let server_seen : server_noted server.least (server_turns turns) ≡ Some s.version =
         subst (λ (l : List Turn). server_noted server.least (server_turns l) ≡ Some s.version) (sym whole)
@@ -169,7 +188,8 @@ module _ {C : Type 0} (c : Meaning ContextSetting C) (kept : Option C → List (
         AllTurns c kept client server turns → IsFaithful c kept client server turns → NoEcho client server → length client.nonce ≡ 32 →
         Agrees client server turns past
     agreed turns later past t parts is was all faithful echo long =
-        let here = all_before c kept client server later (t ∷ past) (subst (λ (l : List Turn). AllTurns c kept client server l) parts all) in
+        let here = all_before c kept client server later (t ∷ past)
+            (subst (λ (l : List Turn). AllTurns c kept client server l) parts all) in
         let own = client_at t past is here in
         let seen = at_some (client_noted client.least (t ∷ client_turns past)) _ (own.0.0.held.sealed was) in
         let opened : opened_texts (t ∷ client_turns past) ≡ prescribed whose.Server seen.0 client.nonce client.public_key ∷ [] =
@@ -184,9 +204,11 @@ module _ {C : Type 0} (c : Meaning ContextSetting C) (kept : Option C → List (
         (text : List ℕ) × (behind_tag field ≡ text ∷ []) × (delegated_identity text ≡ Ok identity)
     identity_text None field identity h = absurd h
     identity_text (Some m) None identity h = absurd h
-    identity_text (Some m) (Some blob) identity (opens_identity text opens is) = (text, ap (λ (x : List ℕ). x ∷ []) (sym (tags m _ blob text opens)), is)
+    identity_text (Some m) (Some blob) identity (opens_identity text opens is) =
+        (text, ap (λ (x : List ℕ). x ∷ []) (sym (tags m _ blob text opens)), is)
 
-    finished_shows : (f : ServerFrame C) (t : Turn) (out : Outcome) → IsFinished out → ShowsAnswer (server_shown f) t out → (f.state ≡ AuthInfo) × (t.acts.opened ≡ true)
+    finished_shows : (f : ServerFrame C) (t : Turn) (out : Outcome) → IsFinished out → ShowsAnswer (server_shown f) t out →
+        (f.state ≡ AuthInfo) × (t.acts.opened ≡ true)
     finished_shows f t (outcome.Reply reply) is h = absurd is
     finished_shows f t (outcome.Final reply) is h = absurd is
     finished_shows f t outcome.Finished is h = h
@@ -197,7 +219,8 @@ module _ {C : Type 0} (c : Meaning ContextSetting C) (kept : Option C → List (
     held p first identity turns gave all =
         let t = gave.turn in
         let place = server_place turns gave.later t gave.before gave.parts in
-        let here = all_before c kept client server place.later (t ∷ place.past) (subst (λ (l : List Turn). AllTurns c kept client server l) place.parts all) in
+        let here = all_before c kept client server place.later (t ∷ place.past)
+            (subst (λ (l : List Turn). AllTurns c kept client server l) place.parts all) in
         let own = server_at t place.past place.end here in
         let shows = finished_shows (server_frame_at server (server_turns place.past) t) t t.outcome gave.finished own.0.0.shown.reply in
         let one = one_opened c server (server_turns place.past) own.0.1 own.1 shows.0 in
@@ -207,7 +230,8 @@ module _ {C : Type 0} (c : Meaning ContextSetting C) (kept : Option C → List (
         ∙ ap (λ (l : List (List ℕ)). l ++ opened_texts (server_turns place.past)) text.1
         ∙ ap (λ (l : List (List ℕ)). text.0 ∷ l) one.1 in
         let before = all_before c kept client server (t ∷ []) place.past here in
-        let sealed = second_seal c client place.past text.0 one.0 own.2.0 (sealed_in c client place.past before.client_each before.client_others)
+        let sealed = second_seal c client place.past text.0 one.0 own.2.0
+            (sealed_in c client place.past before.client_each before.client_others)
         (own.2.1 ∙ ap (λ (l : List (List ℕ)). own.2.0 ++ l) opened) in
         record {
           at = record { later = place.later; turn = t; before = place.past; parts = place.parts };
@@ -220,7 +244,8 @@ module _ {C : Type 0} (c : Meaning ContextSetting C) (kept : Option C → List (
         }
 
     pub agreement : {P : Type 0} (p : ProxyMeaning P) (first : ServerView C P) (turns : List Turn) (identity : Option AuthIdentity) →
-        ((given : AuthIdentity) → identity ≡ Some given → GaveIn c p first given (server_turns turns)) → AllTurns c kept client server turns →
+        ((given : AuthIdentity) → identity ≡ Some given → GaveIn c p first given (server_turns turns)) →
+            AllTurns c kept client server turns →
         length client.nonce ≡ 32 → IsFaithful c kept client server turns → NoEcho client server → Agreement client server turns identity
     agreement p first turns identity gave all long faithful echo = record {
       a_client_that_sealed = λ at end sealed. agreed turns at.later at.before at.turn at.parts end sealed all faithful echo long;

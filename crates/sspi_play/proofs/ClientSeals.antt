@@ -1,5 +1,7 @@
 -- What a client sealed and opened, turn by turn.
-use Rattle.std.proofs.Common.{◌≡◌, ◌≤◌, ℕ, ◌+◌, ◌⊎◌, inl, inr, Bool, true, false, ◌&&◌, ◌||◌, List, [], ◌∷◌, ◌++◌, length, drop, Option, None, Some, IsSome, Result, Ok, Err, sym, ◌∙◌, ap, subst, refl, arith, append_assoc, length-append, if◌then◌else◌}
+use Rattle.std.proofs.Common.{◌≡◌, ◌≤◌, ℕ, ◌+◌, ◌⊎◌, inl, inr, Bool, true, false, ◌&&◌, ◌||◌, List, [], ◌∷◌, ◌++◌, length, drop}
+use Rattle.std.proofs.Common.{Option, None, Some, IsSome, Result, Ok, Err, sym, ◌∙◌, ap, subst, refl, arith, append_assoc}
+use Rattle.std.proofs.Common.{length-append, if◌then◌else◌}
 use Rattle.std.proofs.lemmas.List.{append-nil}
 use Rattle.sspi_types.specs.declared.error.Error.{Error}
 use Rattle.sspi_types.specs.declared.security_status.SecurityStatus.{SecurityStatus}
@@ -42,12 +44,14 @@ pub some_there : (o : Option ℕ) → IsSome o → (v : ℕ) × (o ≡ Some v)
 some_there None some = absurd (cc (some))
 some_there (Some v) some = (v, refl)
 
-state_auth : (ended proved : Bool) → (if ended then Final else (if proved then AuthInfo else NegoToken)) ≡ AuthInfo → (ended ≡ false) × (proved ≡ true)
+state_auth : (ended proved : Bool) → (if ended then Final else (if proved then AuthInfo else NegoToken)) ≡ AuthInfo → (ended ≡ false) ×
+    (proved ≡ true)
 state_auth true proved h = absurd (cc (h))
 state_auth false true h = (refl, refl)
 state_auth false false h = absurd (cc (h))
 
-state_nego : (ended proved : Bool) → (if ended then Final else (if proved then AuthInfo else NegoToken)) ≡ NegoToken → (ended ≡ false) × (proved ≡ false)
+state_nego : (ended proved : Bool) → (if ended then Final else (if proved then AuthInfo else NegoToken)) ≡ NegoToken → (ended ≡ false) ×
+    (proved ≡ false)
 state_nego true proved h = absurd (cc (h))
 state_nego false true h = absurd (cc (h))
 state_nego false false h = (refl, refl)
@@ -70,13 +74,15 @@ module _ {C : Type 0} (c : Meaning ContextSetting C) (e : ClientEnd C) where
   proved_nego f t acts was =
       let answered : IsSome t.acts.status = rw (acts.proved was).0 refl in acts.negotiated (acts.answered answered)
 
-  reply_nego : (f : ClientFrame C) (t : Turn) (status : Option SecurityStatus) (reply : TsRequest) → ShowsNego (client_shown f) t status reply → f.state ≡ NegoToken
+  reply_nego : (f : ClientFrame C) (t : Turn) (status : Option SecurityStatus) (reply : TsRequest) →
+      ShowsNego (client_shown f) t status reply → f.state ≡ NegoToken
   reply_nego f t None reply h = absurd h
   reply_nego f t (Some statuses.Ok) reply h = h.state
   reply_nego f t (Some other) reply h = h.state
 
   -- a turn that went on, and was not the last, was one of the authentication
-  went_nego : (f : ClientFrame C) (t : Turn) (out : Outcome) → ShowsReply (client_shown f) t out → GoesOn out → is_ended out ≡ false → f.state ≡ NegoToken
+  went_nego : (f : ClientFrame C) (t : Turn) (out : Outcome) → ShowsReply (client_shown f) t out → GoesOn out → is_ended out ≡ false →
+      f.state ≡ NegoToken
   went_nego f t (outcome.Reply reply) h went un = reply_nego f t t.acts.status reply h
   went_nego f t (outcome.Final reply) h went un = absurd (cc (un))
   went_nego f t outcome.Finished h went un = absurd went
@@ -106,23 +112,28 @@ module _ {C : Type 0} (c : Meaning ContextSetting C) (e : ClientEnd C) where
       rw (each.0.shown.acts.opened, unchecked f t each.0.shown.acts nego, nothing_opened past each.1 went.1 s.1) refl
 
   -- before it has proved it has sealed nothing
-  nothing_sealed : (past : List Turn) → EachClientTurn c e past → AllGoOn past → any_ended past ≡ false → any_proved past ≡ false → client_sealed e past ≡ []
+  nothing_sealed : (past : List Turn) → EachClientTurn c e past → AllGoOn past → any_ended past ≡ false → any_proved past ≡ false →
+      client_sealed e past ≡ []
   nothing_sealed [] each went un unproved = refl
   nothing_sealed (t ∷ past) each went un unproved =
       let s = or_false (is_ended t.outcome) (any_ended past) un in
       let p = or_false (is_replied t.outcome && t.acts.proved) (any_proved past) unproved in
       let f = client_frame_at e past t in
       let nego = went_nego f t t.outcome each.0.shown.reply went.0 s.0 in
-      rw (unsealed f t each.0.shown.acts nego, went_proved t.outcome t.acts.proved went.0 s.0 p.0, nothing_sealed past each.1 went.1 s.1 p.1) refl
+      rw (unsealed f t each.0.shown.acts nego, went_proved t.outcome t.acts.proved went.0 s.0 p.0,
+          nothing_sealed past each.1 went.1 s.1 p.1) refl
 
-  proof_first : (past : List Turn) (t : Turn) → EachClientTurn c e (t ∷ past) → AllGoOn past → t.acts.proved ≡ true → client_sealed e past ≡ []
+  proof_first : (past : List Turn) (t : Turn) → EachClientTurn c e (t ∷ past) → AllGoOn past → t.acts.proved ≡ true →
+      client_sealed e past ≡ []
   proof_first past t each went was =
       let s = state_nego (any_ended past) (any_proved past) (proved_nego (client_frame_at e past t) t each.0.shown.acts was) in
       nothing_sealed past each.1 went s.0 s.1
 
   -- before it has ended it has sealed its proof at most
-  one_more : (t : Turn) (past : List Turn) (proved : Bool) → (proved ≡ true → client_sealed e past ≡ []) → length (client_sealed e past) ≤ 1 →
-      length (where_done proved (proof_text whose.Client (client_noted e.least (t ∷ past)) e.nonce e.public_key) ++ client_sealed e past) ≤ 1
+  one_more : (t : Turn) (past : List Turn) (proved : Bool) → (proved ≡ true → client_sealed e past ≡ []) →
+      length (client_sealed e past) ≤ 1 →
+      length (where_done proved (proof_text whose.Client (client_noted e.least (t ∷ past)) e.nonce e.public_key) ++ client_sealed e past)
+          ≤ 1
   one_more t past true none few =
       rw (none refl, length-append (proof_text whose.Client (client_noted e.least (t ∷ past)) e.nonce e.public_key) [])
       (omega (arith, proof_few whose.Client (client_noted e.least (t ∷ past)) e.nonce e.public_key))
@@ -159,7 +170,8 @@ module _ {C : Type 0} (c : Meaning ContextSetting C) (e : ClientEnd C) where
   abbrev pub ClientProofIn : List Turn → Type 0
   ClientProofIn turns = (NoneProved (client_turns turns) × (client_sealed e (client_turns turns) ≡ [])) ⊎ ClientProof turns
 
-  noted_on : (least : ℕ) (x : Turn) (turns : List Turn) (version : ℕ) → client_noted least turns ≡ Some version → client_noted least (x ∷ turns) ≡ Some version
+  noted_on : (least : ℕ) (x : Turn) (turns : List Turn) (version : ℕ) → client_noted least turns ≡ Some version →
+      client_noted least (x ∷ turns) ≡ Some version
   noted_on least x [] version is = absurd (cc (is))
   noted_on least x (t ∷ []) version is = absurd (cc (is))
   noted_on least x (t ∷ u ∷ past) version is = is
@@ -254,7 +266,8 @@ module _ {C : Type 0} (c : Meaning ContextSetting C) (e : ClientEnd C) where
   sealed_on t past h = record { at = turn_on t past h.at; end = h.end; checked = h.checked; sealed = h.sealed }
 
   -- one more turn in which the client sealed nothing
-  silent_on : (t : Turn) (past : List Turn) → client_sealed e (client_turns (t ∷ past)) ≡ client_sealed e (client_turns past) → SealedIn past → SealedIn (t ∷ past)
+  silent_on : (t : Turn) (past : List Turn) → client_sealed e (client_turns (t ∷ past)) ≡ client_sealed e (client_turns past) →
+      SealedIn past → SealedIn (t ∷ past)
   silent_on t past same (inl few) = inl (rw same few)
   silent_on t past same (inr s) = inr (record {
     sealed = sealed_on t past s.sealed;
@@ -306,9 +319,12 @@ module _ {C : Type 0} (c : Meaning ContextSetting C) (e : ClientEnd C) where
   unsealed_of t past is each went un false was found = silent_on t past (rw (client_more t past is) (rw (un, was) refl)) found
 
   sealed_by : (t : Turn) (past : List Turn) (end : End) (sealed : Bool) → t.end ≡ end → t.acts.sealed ≡ sealed →
-      EachClientTurn c e (onto_client end t (client_turns past)) → OthersGoOn (onto_client end t (client_turns past)) → SealedIn past → SealedIn (t ∷ past)
-  sealed_by t past Server sealed is was each others found = silent_on t past (ap (λ (l : List Turn). client_sealed e l) (client_skip t past is)) found
-  sealed_by t past Client true is was each others found = sealed_of t past is each others was (delegated_text e.credentials e.delegation) refl
+      EachClientTurn c e (onto_client end t (client_turns past)) → OthersGoOn (onto_client end t (client_turns past)) → SealedIn past →
+          SealedIn (t ∷ past)
+  sealed_by t past Server sealed is was each others found = silent_on t past
+      (ap (λ (l : List Turn). client_sealed e l) (client_skip t past is)) found
+  sealed_by t past Client true is was each others found = sealed_of t past is each others was
+      (delegated_text e.credentials e.delegation) refl
   sealed_by t past Client false is was each others found = unsealed_of t past is each others was t.acts.proved refl found
 
   others_before : (end : End) (t : Turn) (past : List Turn) → OthersGoOn (onto_client end t past) → OthersGoOn past

@@ -16,14 +16,16 @@ use Rattle.sspi_delegate.proofs.Histories.{client_stopped_history}
 use Rattle.sspi_play.specs.History.{ClientPlayed}
 
 module _ {C D : Type 0} (c : Meaning ContextSetting C) (k : KdcCalls D) where
-  made_goes : (old mid : ClientView C) (kdc kdc2 : D) (d : TsRequest) (out : Outcome) → ClientMakes c k old kdc d out mid kdc2 → IsUnrefused out → GoesOn out
+  made_goes : (old mid : ClientView C) (kdc kdc2 : D) (d : TsRequest) (out : Outcome) → ClientMakes c k old kdc d out mid kdc2 →
+      IsUnrefused out → GoesOn out
   made_goes old mid kdc kdc2 d (outcome.Reply reply) makes un = tt
   made_goes old mid kdc kdc2 d (outcome.Final reply) makes un = tt
   made_goes old mid kdc kdc2 d outcome.Finished makes un = absurd makes
   made_goes old mid kdc kdc2 d (outcome.Refused kind reply) makes un = absurd un
 
   -- a client never finishes: its turns that were not refused all went on
-  pub history_goes : (first now : ClientView C) (kdc kdc2 : D) (turns : List Turn) → NoneRefused turns → ClientHistory c k first kdc turns now kdc2 → AllGoOn turns
+  pub history_goes : (first now : ClientView C) (kdc kdc2 : D) (turns : List Turn) → NoneRefused turns →
+      ClientHistory c k first kdc turns now kdc2 → AllGoOn turns
   history_goes first now kdc kdc2 [] un h = tt
   history_goes first now kdc kdc2 (t ∷ past) un h =
       (made_goes h.0 h.3.mid h.1 kdc2 t.delivered t.outcome h.3.makes un.0, history_goes first h.0 kdc h.1 past un.1 h.2)
@@ -33,7 +35,8 @@ module _ {C D : Type 0} (c : Meaning ContextSetting C) (k : KdcCalls D) where
   history_played (Ok done) first now kdc kdc2 turns h = h
   history_played (Err error) first now kdc kdc2 turns h = between h
 
-  pub stopped_played : {X : Type 0} (result : Result X DelegateError) (first now : ClientView C) (kdc kdc2 : D) (error : Error) (turns : List Turn) →
+  pub stopped_played : {X : Type 0} (result : Result X DelegateError) (first now : ClientView C) (kdc kdc2 : D) (error : Error)
+      (turns : List Turn) →
       ClientStopped c k first kdc error turns now kdc2 → ClientPlayed c k first kdc result turns now kdc2
   stopped_played result first now kdc kdc2 error turns s =
       history_played result first now kdc kdc2 turns (client_stopped_history c k first now kdc kdc2 error turns s)

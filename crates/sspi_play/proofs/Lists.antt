@@ -1,5 +1,6 @@
 -- The first of the elements of a list whose newest stands at its head, and the parts of equal lists.
-use Rattle.std.proofs.Common.{◌≡◌, ℕ, ◌+◌, ◌≤◌, suc, List, [], ◌∷◌, ◌++◌, length, take, drop, Option, None, Some, sym, ◌∙◌, ap, refl, arith, append_assoc, length-append}
+use Rattle.std.proofs.Common.{◌≡◌, ℕ, ◌+◌, ◌≤◌, suc, List, [], ◌∷◌, ◌++◌, length, take, drop, Option, None, Some, sym, ◌∙◌, ap, refl}
+use Rattle.std.proofs.Common.{arith, append_assoc, length-append}
 use Rattle.std.proofs.Math.Seq.{take-append_seam, drop-append_seam}
 
 or_first : {A : Type 0} → Option A → A → A
@@ -43,7 +44,8 @@ tail_same x y xs ys e = cc (e)
 pub head_of_two : {A : Type 0} (x z y : A) (rest later : List A) → length rest ≤ 1 → x ∷ rest ≡ later ++ (z ∷ (y ∷ [])) → x ≡ z
 head_of_two x z y rest [] few e = head_same x z rest (y ∷ []) e
 head_of_two x z y rest (w ∷ later) few e =
-    let long : length rest ≡ length later + 2 = ap length (tail_same x w rest (later ++ (z ∷ (y ∷ []))) e) ∙ length-append later (z ∷ (y ∷ [])) in
+    let long : length rest ≡ length later + 2 = ap length (tail_same x w rest (later ++ (z ∷ (y ∷ []))) e) ∙ length-append later
+        (z ∷ (y ∷ [])) in
     absurd (omega (arith, few, long))
 
 pub two_are_more : {A : Type 0} {P : Type 0} (z y : A) (all later : List A) → length all ≤ 1 → all ≡ later ++ (z ∷ (y ∷ [])) → P

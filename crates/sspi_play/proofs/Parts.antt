@@ -1,5 +1,6 @@
 -- The turns of both ends among all turns, and what holds of the turns before one of them.
-use Rattle.std.proofs.Common.{◌≡◌, ◌<◌, ◌≤◌, ℕ, ◌⊎◌, inl, inr, Bool, true, false, List, [], ◌∷◌, ◌++◌, Option, None, Some, IsSome, sym, ◌∙◌, ap, subst, refl, arith, nat_lt, if◌then◌else◌}
+use Rattle.std.proofs.Common.{◌≡◌, ◌<◌, ◌≤◌, ℕ, ◌⊎◌, inl, inr, Bool, true, false, List, [], ◌∷◌, ◌++◌, Option, None, Some, IsSome, sym}
+use Rattle.std.proofs.Common.{◌∙◌, ap, subst, refl, arith, nat_lt, if◌then◌else◌}
 use Rattle.sspi_mech.specs.Meaning.{Meaning}
 use Rattle.sspi_credssp.specs.Context.{ContextSetting}
 use Rattle.sspi_credssp.specs.Noted.{noted_with}
@@ -34,7 +35,8 @@ onto_server_more Server t a b = refl
 pub server_split : (later rest : List Turn) → server_turns (later ++ rest) ≡ server_turns later ++ server_turns rest
 server_split [] rest = refl
 server_split (t ∷ later) rest =
-    ap (λ (l : List Turn). onto_server t.end t l) (server_split later rest) ∙ onto_server_more t.end t (server_turns later) (server_turns rest)
+    ap (λ (l : List Turn). onto_server t.end t l) (server_split later rest) ∙ onto_server_more t.end t (server_turns later)
+        (server_turns rest)
 
 -- a turn of the server has its place among all turns
 pub record ServerPlace (turns : List Turn) (t : Turn) (before : List Turn) : Type 0 where
@@ -55,7 +57,8 @@ place_on x turns t before p = record {
 
 place_by : (u : Turn) (turns : List Turn) (t : Turn) (before : List Turn) →
     ((later : List Turn) → server_turns turns ≡ later ++ (t ∷ before) → ServerPlace turns t before) →
-    (end : End) (later : List Turn) → u.end ≡ end → onto_server end u (server_turns turns) ≡ later ++ (t ∷ before) → ServerPlace (u ∷ turns) t before
+    (end : End) (later : List Turn) → u.end ≡ end → onto_server end u (server_turns turns) ≡ later ++ (t ∷ before) →
+        ServerPlace (u ∷ turns) t before
 place_by u turns t before place Client later is e = place_on u turns t before (place later e)
 place_by u turns t before place Server [] is e =
     subst (λ (x : Turn). ServerPlace (u ∷ turns) x before) (head_same u t (server_turns turns) before e)
@@ -63,14 +66,16 @@ place_by u turns t before place Server [] is e =
 place_by u turns t before place Server (x ∷ later) is e =
     place_on u turns t before (place later (tail_same u x (server_turns turns) (later ++ (t ∷ before)) e))
 
-pub server_place : (turns later : List Turn) (t : Turn) (before : List Turn) → server_turns turns ≡ later ++ (t ∷ before) → ServerPlace turns t before
+pub server_place : (turns later : List Turn) (t : Turn) (before : List Turn) → server_turns turns ≡ later ++ (t ∷ before) →
+    ServerPlace turns t before
 server_place [] [] t before e = absurd (cc (e))
 server_place [] (x ∷ later) t before e = absurd (cc (e))
 server_place (u ∷ turns) later t before e = place_by u turns t before (λ l h. server_place turns l t before h) u.end later refl e
 
 -- ---- the version that an end noted stays
 
-client_noted_more : (least : ℕ) (x : Turn) (turns : List Turn) (version : ℕ) → client_noted least turns ≡ Some version → client_noted least (x ∷ turns) ≡ Some version
+client_noted_more : (least : ℕ) (x : Turn) (turns : List Turn) (version : ℕ) → client_noted least turns ≡ Some version →
+    client_noted least (x ∷ turns) ≡ Some version
 client_noted_more least x [] version is = absurd (cc (is))
 client_noted_more least x (t ∷ []) version is = absurd (cc (is))
 client_noted_more least x (t ∷ u ∷ past) version is = is
@@ -86,7 +91,8 @@ client_noted_later least [] rest version is = is
 client_noted_later least (x ∷ later) rest version is =
     client_noted_onto least x.end x (client_turns (later ++ rest)) version (client_noted_later least later rest version is)
 
-server_noted_more : (least : ℕ) (x : Turn) (turns : List Turn) (version : ℕ) → server_noted least turns ≡ Some version → server_noted least (x ∷ turns) ≡ Some version
+server_noted_more : (least : ℕ) (x : Turn) (turns : List Turn) (version : ℕ) → server_noted least turns ≡ Some version →
+    server_noted least (x ∷ turns) ≡ Some version
 server_noted_more least x [] version is = absurd (cc (is))
 server_noted_more least x (t ∷ past) version is = is
 
@@ -102,17 +108,20 @@ server_noted_later least (x ∷ later) rest version is =
     server_noted_onto least x.end x (server_turns (later ++ rest)) version (server_noted_later least later rest version is)
 
 -- and is at least the least that the end takes
-noted_least : (least v version : ℕ) (old : Bool) → nat_lt v least ≡ old → (if old then None else Some v) ≡ Some version → nat_lt version least ≡ false
+noted_least : (least v version : ℕ) (old : Bool) → nat_lt v least ≡ old → (if old then None else Some v) ≡ Some version →
+    nat_lt version least ≡ false
 noted_least least v version true is e = absurd (cc (e))
 noted_least least v version false is e = let same : v ≡ version = cc (e) in subst (λ (n : ℕ). nat_lt n least ≡ false) same is
 
-pub client_noted_least : (least : ℕ) (turns : List Turn) (version : ℕ) → client_noted least turns ≡ Some version → nat_lt version least ≡ false
+pub client_noted_least : (least : ℕ) (turns : List Turn) (version : ℕ) → client_noted least turns ≡ Some version →
+    nat_lt version least ≡ false
 client_noted_least least [] version e = absurd (cc (e))
 client_noted_least least (t ∷ []) version e = absurd (cc (e))
 client_noted_least least (t ∷ u ∷ []) version e = noted_least least t.delivered.version version (nat_lt t.delivered.version least) refl e
 client_noted_least least (t ∷ u ∷ v ∷ past) version e = client_noted_least least (u ∷ v ∷ past) version e
 
-pub server_noted_least : (least : ℕ) (turns : List Turn) (version : ℕ) → server_noted least turns ≡ Some version → nat_lt version least ≡ false
+pub server_noted_least : (least : ℕ) (turns : List Turn) (version : ℕ) → server_noted least turns ≡ Some version →
+    nat_lt version least ≡ false
 server_noted_least least [] version e = absurd (cc (e))
 server_noted_least least (t ∷ []) version e = noted_least least t.delivered.version version (nat_lt t.delivered.version least) refl e
 server_noted_least least (t ∷ u ∷ past) version e = server_noted_least least (u ∷ past) version e
@@ -127,11 +136,13 @@ module _ {C : Type 0} (c : Meaning ContextSetting C) (kept : Option C → List (
     pub server_others : OthersUnrefused (server_turns turns)
     pub opens : OpensWhatWasSealed c kept client server turns
 
-  client_each_before : (end : End) (t : Turn) (past : List Turn) → EachClientTurn c client (onto_client end t past) → EachClientTurn c client past
+  client_each_before : (end : End) (t : Turn) (past : List Turn) → EachClientTurn c client (onto_client end t past) →
+      EachClientTurn c client past
   client_each_before Client t past each = each.1
   client_each_before Server t past each = each
 
-  server_each_before : (end : End) (t : Turn) (past : List Turn) → EachServerTurn c server (onto_server end t past) → EachServerTurn c server past
+  server_each_before : (end : End) (t : Turn) (past : List Turn) → EachServerTurn c server (onto_server end t past) →
+      EachServerTurn c server past
   server_each_before Client t past each = each
   server_each_before Server t past each = each.1
 

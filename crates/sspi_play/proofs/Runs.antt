@@ -1,5 +1,6 @@
 -- What the accounts of a play tell of it where both ends were fresh.
-use Rattle.std.proofs.Common.{◌≡◌, ◌≤◌, ℕ, List, [], ◌∷◌, length, reverse, take, Option, None, Some, Result, Ok, Err, sym, ◌∙◌, ap, subst, refl}
+use Rattle.std.proofs.Common.{◌≡◌, ◌≤◌, ℕ, List, [], ◌∷◌, length, reverse, take, Option, None, Some, Result, Ok, Err, sym, ◌∙◌, ap}
+use Rattle.std.proofs.Common.{subst, refl}
 use Rattle.sspi_mech.specs.Context.{IsContext}
 use Rattle.sspi_mech.specs.Meaning.{Meaning}
 use Rattle.sspi_names.specs.declared.identity.AuthIdentity.{AuthIdentity}
@@ -42,11 +43,13 @@ going_others [] going = tt
 going_others (t ∷ past) going = going.1
 
 module _ {C D : Type 0} (c : Meaning ContextSetting C) (k : KdcCalls D) where
-  history_others : (first now : ClientView C) (kdc kdc2 : D) (turns : List Turn) → OthersUnrefused turns → ClientHistory c k first kdc turns now kdc2 → OthersGoOn turns
+  history_others : (first now : ClientView C) (kdc kdc2 : D) (turns : List Turn) → OthersUnrefused turns →
+      ClientHistory c k first kdc turns now kdc2 → OthersGoOn turns
   history_others first now kdc kdc2 [] un h = tt
   history_others first now kdc kdc2 (t ∷ past) un h = history_goes c k first h.0 kdc h.1 past un h.2
 
-  left_others : (first now : ClientView C) (kdc kdc2 : D) (turns : List Turn) → OthersUnrefused turns → ClientLeft c k first kdc turns now kdc2 → OthersGoOn turns
+  left_others : (first now : ClientView C) (kdc kdc2 : D) (turns : List Turn) → OthersUnrefused turns →
+      ClientLeft c k first kdc turns now kdc2 → OthersGoOn turns
   left_others first now kdc kdc2 turns un (between h) = history_others first now kdc kdc2 turns un h
   left_others first now kdc kdc2 turns un (waiting old kdc1 d went h way) = going_others turns went
 
@@ -56,24 +59,31 @@ module _ {C D : Type 0} (c : Meaning ContextSetting C) (k : KdcCalls D) where
   played_left (Err error) first now kdc kdc2 turns h = h
 
 module _ {C P D : Type 0} (c : Meaning ContextSetting C) (law : IsContext c) (p : ProxyMeaning P) (k : KdcCalls D) where
-  pub is_play : (schedule : List Delivery) (old new : Both C P D) (result : Result Played DelegateError) → IsFreshClient old.client → IsFreshServer old.server →
+  pub is_play : (schedule : List Delivery) (old new : Both C P D) (result : Result Played DelegateError) → IsFreshClient old.client →
+      IsFreshServer old.server →
       Accounts c p k schedule old result new → IsPlay c old new
   is_play schedule old new result client_fresh server_fresh accounts =
       let plays = played_some schedule result new.turns accounts.the_turns_are_those_of_the_deliveries in
-      let left = played_left c k result old.client new.client old.kdc new.kdc (client_turns new.turns) accounts.client_turns_are_its_calls in
-      let client_others = left_others c k old.client new.client old.kdc new.kdc (client_turns new.turns) (others_of Client plays.0 new.turns plays.1) left in
+      let left = played_left c k result old.client new.client old.kdc new.kdc
+          (client_turns new.turns) accounts.client_turns_are_its_calls in
+      let client_others = left_others c k old.client new.client old.kdc new.kdc (client_turns new.turns)
+          (others_of Client plays.0 new.turns plays.1) left in
       let server_others = others_of Server plays.0 new.turns plays.1 in
-      let client = client_past_ran c law k old.client new.client old.kdc new.kdc (client_turns new.turns) (Err errors.InsufficientMemory) client_fresh client_others left in
-      let server = server_past_ran c law p old.server new.server (server_turns new.turns) (Err errors.InsufficientMemory) server_fresh server_others
+      let client = client_past_ran c law k old.client new.client old.kdc new.kdc (client_turns new.turns)
+          (Err errors.InsufficientMemory) client_fresh client_others left in
+      let server = server_past_ran c law p old.server new.server (server_turns new.turns)
+          (Err errors.InsufficientMemory) server_fresh server_others
       accounts.server_turns_are_its_calls in
       record {
         client_ran = client;
         server_ran = server;
-        client_heeds = client_past_heeds c law k old.client new.client old.kdc new.kdc (client_turns new.turns) (Err errors.InsufficientMemory)
+        client_heeds = client_past_heeds c law k old.client new.client old.kdc new.kdc (client_turns new.turns)
+            (Err errors.InsufficientMemory)
             client_fresh client_others left;
         server_heeds = server_past_heeds c law p old.server new.server (server_turns new.turns) (Err errors.InsufficientMemory)
             server_fresh server_others accounts.server_turns_are_its_calls;
-        credentials_are_sealed_at_most_once = sealed_once c (client_end new.client) (server_end new.server) new.turns client.each client_others server.each;
+        credentials_are_sealed_at_most_once = sealed_once c (client_end new.client)
+            (server_end new.server) new.turns client.each client_others server.each;
       }
 
   given_in : (first : ServerView C P) (identity : Option AuthIdentity) (given : AuthIdentity) (turns : List Turn) → identity ≡ Some given →
@@ -81,13 +91,15 @@ module _ {C P D : Type 0} (c : Meaning ContextSetting C) (law : IsContext c) (p 
   given_in first identity given turns is gave =
       let at : Gave c p first (Some given) turns = subst (λ (o : Option AuthIdentity). Gave c p first o turns) is gave in at
 
-  identity_gave : (schedule : List Delivery) (old new : Both C P D) (result : Result Played DelegateError) → Accounts c p k schedule old result new →
+  identity_gave : (schedule : List Delivery) (old new : Both C P D) (result : Result Played DelegateError) →
+      Accounts c p k schedule old result new →
       (given : AuthIdentity) → identity_of result ≡ Some given → GaveIn c p old.server given (server_turns new.turns)
   identity_gave schedule old new (Ok played) accounts given is =
       given_in old.server played.identity given (server_turns new.turns) is accounts.the_identity_is_that_of_the_turn_that_finished
   identity_gave schedule old new (Err error) accounts given is = absurd (cc (is))
 
-  pub agrees_if_faithful : (kept : Option C → List (List ℕ)) (schedule : List Delivery) (old new : Both C P D) (result : Result Played DelegateError) →
+  pub agrees_if_faithful : (kept : Option C → List (List ℕ)) (schedule : List Delivery) (old new : Both C P D)
+      (result : Result Played DelegateError) →
       IsPlay c old new → Accounts c p k schedule old result new →
       AgreesIfFaithful c kept (client_end new.client) (server_end new.server) new.turns (identity_of result)
   agrees_if_faithful kept schedule old new result play accounts = λ faithful tags echo long.

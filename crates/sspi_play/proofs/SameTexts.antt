@@ -1,5 +1,6 @@
 -- What equal proofs of a client are made over: equal keys, in one form, and from version 5 on equal nonces.
-use Rattle.std.proofs.Common.{◌≡◌, ◌+◌, ◌<◌, ◌≤◌, ℕ, Bool, true, false, List, ◌++◌, length, Some, sym, ◌∙◌, ap, refl, arith, length-append, nat_lt, if◌then◌else◌}
+use Rattle.std.proofs.Common.{◌≡◌, ◌+◌, ◌<◌, ◌≤◌, ℕ, Bool, true, false, List, ◌++◌, length, Some, sym, ◌∙◌, ap, refl, arith}
+use Rattle.std.proofs.Common.{length-append, nat_lt, if◌then◌else◌}
 use Rattle.std.proofs.lemmas.Bool.{ltb-true, ltb-false}
 use Rattle.std.proofs.lemmas.List.{append_cancel_left}
 use Rattle.sha2.proofs.Facts256.{length-sha256}
@@ -25,7 +26,8 @@ pub record Same (client_key server_key client_nonce server_nonce : List ℕ) (cl
   pub nonces : server_young ≡ false → server_nonce ≡ client_nonce
 
 same_by : (kc ks nc ns : List ℕ) (young_c young_s : Bool) →
-    (sha256 (magic whose.Client ++ nc ++ kc) ≡ sha256 (magic whose.Client ++ ns ++ ks) → magic whose.Client ++ nc ++ kc ≡ magic whose.Client ++ ns ++ ks) →
+    (sha256 (magic whose.Client ++ nc ++ kc) ≡ sha256 (magic whose.Client ++ ns ++ ks) →
+        magic whose.Client ++ nc ++ kc ≡ magic whose.Client ++ ns ++ ks) →
     length nc ≡ 32 → (young_s ≡ false → length ns ≡ 32) →
     (young_c ≡ true → young_s ≡ false → length kc ≡ 32 → ⊥) → (young_c ≡ false → young_s ≡ true → length ks ≡ 32 → ⊥) →
     by_version young_c nc kc ≡ by_version young_s ns ks → Same kc ks nc ns young_c young_s
@@ -37,20 +39,24 @@ same_by kc ks nc ns false true apart c_long s_long echo_c echo_s e =
 same_by kc ks nc ns false false apart c_long s_long echo_c echo_s e =
     let texts = apart e in
     let long : length (magic whose.Client ++ nc) ≡ length (magic whose.Client ++ ns) =
-    length-append (magic whose.Client) nc ∙ ap (λ (n : ℕ). length (magic whose.Client) + n) (c_long ∙ sym (s_long refl)) ∙ sym (length-append (magic whose.Client) ns) in
+    length-append (magic whose.Client) nc ∙ ap (λ (n : ℕ). length (magic whose.Client) + n) (c_long ∙ sym (s_long refl)) ∙ sym
+        (length-append (magic whose.Client) ns) in
     record {
       keys = rests_same (magic whose.Client ++ nc) (magic whose.Client ++ ns) kc ks long texts;
       forms = refl;
-      nonces = λ no. sym (append_cancel_left (magic whose.Client) nc ns (fronts_same (magic whose.Client ++ nc) (magic whose.Client ++ ns) kc ks long texts));
+      nonces = λ no. sym (append_cancel_left (magic whose.Client) nc ns
+          (fronts_same (magic whose.Client ++ nc) (magic whose.Client ++ ns) kc ks long texts));
     }
 
 pub same_texts : (kc ks nc ns : List ℕ) (vc vs : ℕ) →
-    (sha256 (magic whose.Client ++ nc ++ kc) ≡ sha256 (magic whose.Client ++ ns ++ ks) → magic whose.Client ++ nc ++ kc ≡ magic whose.Client ++ ns ++ ks) →
+    (sha256 (magic whose.Client ++ nc ++ kc) ≡ sha256 (magic whose.Client ++ ns ++ ks) →
+        magic whose.Client ++ nc ++ kc ≡ magic whose.Client ++ ns ++ ks) →
     length nc ≡ 32 → (nat_lt vs 5 ≡ false → length ns ≡ 32) →
     (nat_lt vc 5 ≡ true → nat_lt vs 5 ≡ false → length kc ≡ 32 → ⊥) → (nat_lt vc 5 ≡ false → nat_lt vs 5 ≡ true → length ks ≡ 32 → ⊥) →
     prescribed whose.Client vc nc kc ≡ prescribed whose.Client vs ns ks → Same kc ks nc ns (nat_lt vc 5) (nat_lt vs 5)
 unfolding prescribed
-same_texts kc ks nc ns vc vs apart c_long s_long echo_c echo_s e = same_by kc ks nc ns (nat_lt vc 5) (nat_lt vs 5) apart c_long s_long echo_c echo_s e
+same_texts kc ks nc ns vc vs apart c_long s_long echo_c echo_s e =
+    same_by kc ks nc ns (nat_lt vc 5) (nat_lt vs 5) apart c_long s_long echo_c echo_s e
 
 -- ---- no hash is taken for an echo
 

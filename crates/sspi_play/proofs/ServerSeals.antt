@@ -1,5 +1,6 @@
 -- What a server sealed and opened, turn by turn.
-use Rattle.std.proofs.Common.{◌≡◌, ◌≤◌, ℕ, ◌⊎◌, inl, inr, Bool, true, false, ◌&&◌, ◌||◌, List, [], ◌∷◌, ◌++◌, length, drop, Option, None, Some, IsSome, sym, ◌∙◌, ap, subst, refl, append_assoc, if◌then◌else◌, nat_lt}
+use Rattle.std.proofs.Common.{◌≡◌, ◌≤◌, ℕ, ◌⊎◌, inl, inr, Bool, true, false, ◌&&◌, ◌||◌, List, [], ◌∷◌, ◌++◌, length, drop, Option}
+use Rattle.std.proofs.Common.{None, Some, IsSome, sym, ◌∙◌, ap, subst, refl, append_assoc, if◌then◌else◌, nat_lt}
 use Rattle.std.proofs.lemmas.List.{append-nil}
 use Rattle.sspi_types.specs.declared.security_status.SecurityStatus.{SecurityStatus}
 use Rattle.sspi_types.specs.declared.security_status.SecurityStatus.TheVariants as statuses
@@ -18,7 +19,8 @@ use Rattle.sspi_credssp.specs.Counts.{OpensIn}
 use Rattle.sspi_credssp.specs.Held.{Proven}
 use Rattle.sspi_credssp.specs.PublicKey.{prescribed}
 use Rattle.sspi_credssp.specs.Requests.{nonce_of, IsLong}
-use Rattle.sspi_credssp.specs.Shown.{server_shown, IsOver, MayCheck, HasNonce, ShowsServerActs, ShowsOver, ShowsNegoBack, ShowsStateBack, ShowsAnswer}
+use Rattle.sspi_credssp.specs.Shown.{server_shown, IsOver, MayCheck, HasNonce, ShowsServerActs, ShowsOver, ShowsNegoBack}
+use Rattle.sspi_credssp.specs.Shown.{ShowsStateBack, ShowsAnswer}
 use Rattle.sspi_credssp.specs.Turn.{ServerFrame, AtNoted}
 use Rattle.sspi_delegate.specs.EndTurns.{onto_server, server_turns, is_replied, is_finished, any_proved, any_finished, OthersUnrefused}
 use Rattle.sspi_delegate.specs.ServerRun.{any_over, server_state, server_noted, ServerEnd, server_frame_at, EachServerTurn}
@@ -29,7 +31,8 @@ use Rattle.sspi_play.proofs.ClientSeals.{is_false, or_false, and_not}
 use Rattle.sspi_play.proofs.Parts.{server_more, server_skip}
 
 state_auth : (finished proved over : Bool) →
-    (if finished then Final else (if proved then AuthInfo else (if over then PubKeyInfo else NegoToken))) ≡ AuthInfo → (finished ≡ false) × (proved ≡ true)
+    (if finished then Final else (if proved then AuthInfo else (if over then PubKeyInfo else NegoToken))) ≡ AuthInfo →
+        (finished ≡ false) × (proved ≡ true)
 state_auth true proved over h = absurd (cc (h))
 state_auth false true over h = (refl, refl)
 state_auth false false true h = absurd (cc (h))
@@ -51,7 +54,8 @@ nonce_length false (Some nonce) is h = h
 
 module _ {C : Type 0} (c : Meaning ContextSetting C) where
   -- what a blob opens to is what stands behind its tag
-  pub opens_text : OpensBehindTag c → (context : Option C) (n : ℕ) (blob : Option (List ℕ)) (text : List ℕ) → OpensIn c context n blob text → behind_tag blob ≡ text ∷ []
+  pub opens_text : OpensBehindTag c → (context : Option C) (n : ℕ) (blob : Option (List ℕ)) (text : List ℕ) →
+      OpensIn c context n blob text → behind_tag blob ≡ text ∷ []
   opens_text law None n blob text h = absurd h
   opens_text law (Some m) n None text h = absurd h
   opens_text law (Some m) n (Some blob) text h = ap (λ (x : List ℕ). x ∷ []) (sym (law m n blob text h))
@@ -60,18 +64,21 @@ module _ {C : Type 0} (c : Meaning ContextSetting C) (s : ServerEnd C) where
   -- ---- one turn
 
   -- a reply to a turn that checked has the server's proof
-  over_proves : (f : ServerFrame C) (t : Turn) (field : Option (List ℕ)) (reply : TsRequest) → IsLong field → ShowsOver (server_shown f) t field reply → t.acts.proved ≡ true
+  over_proves : (f : ServerFrame C) (t : Turn) (field : Option (List ℕ)) (reply : TsRequest) → IsLong field →
+      ShowsOver (server_shown f) t field reply → t.acts.proved ≡ true
   over_proves f t None reply long h = absurd long
   over_proves f t (Some blob) reply long h = h.proved
 
-  nego_proves : (f : ServerFrame C) (t : Turn) (status : Option SecurityStatus) (reply : TsRequest) → IsOver status → IsLong t.delivered.pub_key_auth →
+  nego_proves : (f : ServerFrame C) (t : Turn) (status : Option SecurityStatus) (reply : TsRequest) → IsOver status →
+      IsLong t.delivered.pub_key_auth →
       ShowsNegoBack (server_shown f) t status reply → t.acts.proved ≡ true
   nego_proves f t None reply over long h = absurd over
   nego_proves f t (Some statuses.Ok) reply over long h = over_proves f t t.delivered.pub_key_auth reply long h
   nego_proves f t (Some statuses.CompleteNeeded) reply over long h = over_proves f t t.delivered.pub_key_auth reply long h
   nego_proves f t (Some other) reply over long h = absurd over
 
-  state_proves : (f : ServerFrame C) (t : Turn) (state : CredSspState) (reply : TsRequest) → MayCheck state t.acts.status → IsLong t.delivered.pub_key_auth →
+  state_proves : (f : ServerFrame C) (t : Turn) (state : CredSspState) (reply : TsRequest) → MayCheck state t.acts.status →
+      IsLong t.delivered.pub_key_auth →
       ShowsStateBack (server_shown f) t state reply → t.acts.proved ≡ true
   state_proves f t NegoToken reply may long h = nego_proves f t t.acts.status reply may long h
   state_proves f t PubKeyInfo reply may long h = h.proved
@@ -91,7 +98,8 @@ module _ {C : Type 0} (c : Meaning ContextSetting C) (s : ServerEnd C) where
       subst (λ (state : CredSspState). MayCheck state t.acts.status) auth (acts.checked checked).0)
 
   -- a turn that was not refused, and sent no proof, checked none
-  unproved_unchecked : (f : ServerFrame C) (t : Turn) (out : Outcome) → ShowsServerActs (server_shown f) t → ShowsAnswer (server_shown f) t out → IsUnrefused out →
+  unproved_unchecked : (f : ServerFrame C) (t : Turn) (out : Outcome) → ShowsServerActs (server_shown f) t →
+      ShowsAnswer (server_shown f) t out → IsUnrefused out →
       is_replied out && t.acts.proved ≡ false → t.acts.checked ≡ false
   unproved_unchecked f t (outcome.Reply reply) acts h un unproved = is_false t.acts.checked (λ was.
       let p = state_proves f t f.state reply (acts.checked was).0 (acts.checked was).1 h in absurd (cc (p, unproved)))
@@ -112,15 +120,18 @@ module _ {C : Type 0} (c : Meaning ContextSetting C) (s : ServerEnd C) where
       let p = or_false (is_replied t.outcome && t.acts.proved) (any_proved past) none in
       let f = server_frame_at s past t in
       let unopened : t.acts.opened ≡ false = is_false t.acts.opened (λ was. unauthorized past p.1 (each.0.shown.acts.opened was).0) in
-      rw (unopened, unproved_unchecked f t t.outcome each.0.shown.acts each.0.shown.reply un.0 p.0, nothing_opened past each.1 un.1 p.1) refl
+      rw (unopened, unproved_unchecked f t t.outcome each.0.shown.acts each.0.shown.reply un.0 p.0, nothing_opened past each.1 un.1 p.1)
+          refl
 
   -- the turn that proved opened the client's proof, and nothing else was opened before
-  pub opened_by_proof : (past : List Turn) (t : Turn) → EachServerTurn c s (t ∷ past) → NoneRefused past → any_proved past ≡ false → t.acts.proved ≡ true →
+  pub opened_by_proof : (past : List Turn) (t : Turn) → EachServerTurn c s (t ∷ past) → NoneRefused past → any_proved past ≡ false →
+      t.acts.proved ≡ true →
       opened_texts (t ∷ past) ≡ behind_tag t.delivered.pub_key_auth
   opened_by_proof past t each un none was =
       let f = server_frame_at s past t in
       let checked = (each.0.shown.acts.proved was).0 in
-      rw (check_alone f t each.0.shown.acts checked, checked, nothing_opened past each.1 un none) (append-nil (behind_tag t.delivered.pub_key_auth))
+      rw (check_alone f t each.0.shown.acts checked, checked, nothing_opened past each.1 un none)
+          (append-nil (behind_tag t.delivered.pub_key_auth))
 
   -- ---- the first text that a server sealed
 
@@ -180,7 +191,8 @@ module _ {C : Type 0} (c : Meaning ContextSetting C) (s : ServerEnd C) where
       server_sealed s (t ∷ past) ≡ prescribed whose.Server version (nonce_of t.delivered.client_nonce) s.public_key ∷ []
   proof_alone t past version was noted nothing = rw (was, noted, nothing) refl
 
-  proof_of : (t : Turn) (past : List Turn) (proved : Bool) → t.end ≡ Server → EachServerTurn c s (t ∷ server_turns past) → NoneProved (server_turns past) →
+  proof_of : (t : Turn) (past : List Turn) (proved : Bool) → t.end ≡ Server → EachServerTurn c s (t ∷ server_turns past) →
+      NoneProved (server_turns past) →
       server_sealed s (server_turns past) ≡ [] → t.acts.proved ≡ proved → ServerProofIn (t ∷ past)
   proof_of t past true is each none nothing was =
       let v = at_some (server_noted s.least (t ∷ server_turns past)) _ (each.0.shown.acts.proved was).1 in
@@ -214,16 +226,19 @@ module _ {C : Type 0} (c : Meaning ContextSetting C) (s : ServerEnd C) where
   -- ---- a server that finishes
 
   -- the turn before the one that finished is the one that proved
-  unproved_yet : (past : List Turn) (state : CredSspState) → server_state past ≡ state → (state ≡ AuthInfo → ⊥) → any_finished past ≡ false → any_proved past ≡ false
+  unproved_yet : (past : List Turn) (state : CredSspState) → server_state past ≡ state → (state ≡ AuthInfo → ⊥) →
+      any_finished past ≡ false → any_proved past ≡ false
   unproved_yet past state is never finished = is_false (any_proved past) (λ was. never (sym is ∙ (rw (finished, was) refl)))
 
-  not_auth : (f : ServerFrame C) (t : Turn) (state : CredSspState) (reply : TsRequest) → ShowsStateBack (server_shown f) t state reply → state ≡ AuthInfo → ⊥
+  not_auth : (f : ServerFrame C) (t : Turn) (state : CredSspState) (reply : TsRequest) → ShowsStateBack (server_shown f) t state reply →
+      state ≡ AuthInfo → ⊥
   not_auth f t NegoToken reply h is = absurd (cc (is))
   not_auth f t PubKeyInfo reply h is = absurd (cc (is))
   not_auth f t AuthInfo reply h is = absurd h
   not_auth f t Final reply h is = absurd (cc (is))
 
-  before_reply : (past : List Turn) (t : Turn) (out : Outcome) → ShowsAnswer (server_shown (server_frame_at s past t)) t out → IsUnrefused out → is_finished out ≡ false →
+  before_reply : (past : List Turn) (t : Turn) (out : Outcome) → ShowsAnswer (server_shown (server_frame_at s past t)) t out →
+      IsUnrefused out → is_finished out ≡ false →
       any_finished past ≡ false → any_proved past ≡ false
   before_reply past t (outcome.Reply reply) h un unfinished finished =
       unproved_yet past (server_state past) refl (not_auth (server_frame_at s past t) t (server_state past) reply h) finished
@@ -241,7 +256,8 @@ module _ {C : Type 0} (c : Meaning ContextSetting C) (s : ServerEnd C) where
   long_text (Some blob) long = (drop 16 blob, refl)
 
   -- it opened one text, the client's proof
-  pub one_opened : (past : List Turn) → EachServerTurn c s past → NoneRefused past → server_state past ≡ AuthInfo → (y : List ℕ) × (opened_texts past ≡ y ∷ [])
+  pub one_opened : (past : List Turn) → EachServerTurn c s past → NoneRefused past → server_state past ≡ AuthInfo → (y : List ℕ) ×
+      (opened_texts past ≡ y ∷ [])
   one_opened [] each un auth = absurd (cc (auth))
   one_opened (t ∷ past) each un auth =
       let k = state_auth (any_finished (t ∷ past)) (any_proved (t ∷ past)) (any_over (t ∷ past)) auth in
@@ -256,4 +272,5 @@ module _ {C : Type 0} (c : Meaning ContextSetting C) (s : ServerEnd C) where
   pub opened_at_end : (past : List Turn) (t : Turn) → EachServerTurn c s (t ∷ past) → t.acts.opened ≡ true →
       opened_texts (t ∷ past) ≡ behind_tag t.delivered.auth_info ++ opened_texts past
   opened_at_end past t each was =
-      rw (was, open_alone (server_frame_at s past t) t each.0.shown.acts was) (ap (λ (l : List (List ℕ)). l ++ opened_texts past) (append-nil (behind_tag t.delivered.auth_info)))
+      rw (was, open_alone (server_frame_at s past t) t each.0.shown.acts was)
+          (ap (λ (l : List (List ℕ)). l ++ opened_texts past) (append-nil (behind_tag t.delivered.auth_info)))

@@ -1,5 +1,6 @@
 -- How a play stands after one more delivery.
-use Rattle.std.proofs.Common.{◌≡◌, ◌≢◌, ◌<◌, ◌≤◌, ◌+◌, ℕ, length, take, reverse, get_or, arith, ◌⊎◌, inl, inr, List, [], ◌∷◌, Option, None, Some, Result, Ok, Err, Bool, true, false, ◌||◌, not, sym, ◌∙◌, ap, subst, refl}
+use Rattle.std.proofs.Common.{◌≡◌, ◌≢◌, ◌<◌, ◌≤◌, ◌+◌, ℕ, length, take, reverse, get_or, arith, ◌⊎◌, inl, inr, List, [], ◌∷◌, Option}
+use Rattle.std.proofs.Common.{None, Some, Result, Ok, Err, Bool, true, false, ◌||◌, not, sym, ◌∙◌, ap, subst, refl}
 use Rattle.sspi_types.specs.declared.error_kind.ErrorKind.{ErrorKind}
 use Rattle.sspi_types.specs.declared.error_kind.ErrorKind.TheVariants as kinds
 use Rattle.sspi_names.specs.declared.identity.AuthIdentity.{AuthIdentity}
@@ -23,9 +24,11 @@ use Rattle.sspi_play.specs.declared.played.Delivery.{Delivery}
 use Rattle.sspi_play.specs.declared.played.Ending.{Ending}
 use Rattle.sspi_play.specs.declared.played.Ending.TheVariants.{Running, Refused, Unread}
 use Rattle.sspi_play.specs.Hands.{RequestIs, EndsBy, HasTurn, TurnsSo, EndsSo, LacksSo, ClientHands, ServerHands, IsNoWant, Stands, StopsAt}
-use Rattle.sspi_play.specs.Plays.{is_for, any_for, is_start, unread_kind, refusal_in, ending_by, ending_of, IsGiven, Plays, begins, takes, passes}
+use Rattle.sspi_play.specs.Plays.{is_for, any_for, is_start, unread_kind, refusal_in, ending_by, ending_of, IsGiven, Plays, begins}
+use Rattle.sspi_play.specs.Plays.{takes, passes}
 use Rattle.sspi_play.specs.Played.{PlaysFront}
-use Rattle.sspi_play.proofs.Order.{reverse_more, reverse_all, still_runs, is_unread, stays, server_apart, client_apart, client_after, server_after, server_beside, client_beside}
+use Rattle.sspi_play.proofs.Order.{reverse_more, reverse_all, still_runs, is_unread, stays, server_apart, client_apart, client_after}
+use Rattle.sspi_play.proofs.Order.{server_after, server_beside, client_beside}
 
 -- ---- the request of a delivery
 
@@ -45,7 +48,8 @@ pushed_turn end start bytes request P old (t ∷ past) given pushed =
     (given.1, (pushed.0, pushed.1, subst (λ (r : TsRequest). IsGiven start bytes r) (sym pushed.2) given.0, pushed.3))
 
 -- an end that refused, by what is answered
-pub client_ended : (start : Bool) (bytes : List ℕ) (kind : ErrorKind) (answer : Result Ending DelegateError) (old new : List Turn) → EndsBy kind answer →
+pub client_ended : (start : Bool) (bytes : List ℕ) (kind : ErrorKind) (answer : Result Ending DelegateError) (old new : List Turn) →
+    EndsBy kind answer →
     TurnsSo Client start bytes (IsClientRefusal kind) old new → ClientHands start bytes answer old new
 client_ended start bytes kind (Ok ending) old new by turns = rw by.0 (by.1, turns)
 client_ended start bytes kind (Err error) old new by turns = record {
@@ -94,7 +98,8 @@ server_refused_ending kind (outcome.Refused refused (Some reply)) is = ap Refuse
 
 -- ---- one more turn
 
-turn_plays : (end : End) (d : Delivery) (past : List Delivery) (t : Turn) (before turns : List Turn) → d.to ≡ end → before ≡ turns → t.end ≡ end →
+turn_plays : (end : End) (d : Delivery) (past : List Delivery) (t : Turn) (before turns : List Turn) → d.to ≡ end → before ≡ turns →
+    t.end ≡ end →
     ending_of end past turns ≡ Running → unread_kind (is_start end past) d.bytes ≡ None → IsGiven (is_start end past) d.bytes t.delivered →
     Plays past turns → Plays (d ∷ past) (t ∷ before)
 turn_plays end d past t before turns to same is runs read given plays =
@@ -104,12 +109,14 @@ turn_plays end d past t before turns to same is runs read given plays =
     (is ∙ sym to)
     (subst (λ (e : End). IsGiven (is_start e past) d.bytes t.delivered) (sym to) given))
 
-no_turn_plays : (end : End) (d : Delivery) (past : List Delivery) (turns : List Turn) → d.to ≡ end → ending_of end (d ∷ past) turns ≢ Running →
+no_turn_plays : (end : End) (d : Delivery) (past : List Delivery) (turns : List Turn) → d.to ≡ end →
+    ending_of end (d ∷ past) turns ≢ Running →
     Plays past turns → Plays (d ∷ past) turns
 no_turn_plays end d past turns to stops plays =
     passes d past turns plays (subst (λ (e : End). ending_of e (d ∷ past) turns ≢ Running) (sym to) stops)
 
-has_plays : (end : End) (d : Delivery) (past : List Delivery) (P : Outcome → Type 0) (turns new : List Turn) → d.to ≡ end → ending_of end past turns ≡ Running →
+has_plays : (end : End) (d : Delivery) (past : List Delivery) (P : Outcome → Type 0) (turns new : List Turn) → d.to ≡ end →
+    ending_of end past turns ≡ Running →
     TurnsSo end (is_start end past) d.bytes P turns new → Plays past turns → Plays (d ∷ past) new
 has_plays end d past P turns [] to runs h plays = absurd h.1
 has_plays end d past P turns (t ∷ before) to runs h plays = turn_plays end d past t before turns to h.1.0 h.1.1 runs h.0 h.1.2 plays
@@ -128,7 +135,8 @@ begun_apart d past to = rw to refl
 
 -- ---- a delivery to the client
 
-client_turned : (d : Delivery) (past : List Delivery) (P : Outcome → Type 0) (ending : Ending) (turns new : List Turn) (standing : Standing) → d.to ≡ Client →
+client_turned : (d : Delivery) (past : List Delivery) (P : Outcome → Type 0) (ending : Ending) (turns new : List Turn)
+    (standing : Standing) → d.to ≡ Client →
     standing.played.client ≡ Running → IsNoWant ending → ((out : Outcome) → P out → ending_by (refusal_in out) None ≡ ending) →
     TurnsSo Client (is_start Client past) d.bytes P turns new → Stands past turns standing →
     Stands (d ∷ past) new (record { begun = true; played = record standing.played { client = ending } })
@@ -147,7 +155,8 @@ client_turned d past P ending turns (t ∷ before) standing to running want by h
       server_kind = stands.server_kind;
     }
 
-pub client_stands : (d : Delivery) (past : List Delivery) (start : Bool) (ending : Ending) (turns new : List Turn) (standing : Standing) → d.to ≡ Client →
+pub client_stands : (d : Delivery) (past : List Delivery) (start : Bool) (ending : Ending) (turns new : List Turn) (standing : Standing) →
+    d.to ≡ Client →
     start ≡ not standing.begun → standing.played.client ≡ Running → EndsSo Client IsClientRefusal start d.bytes ending turns new →
     Stands past turns standing → Stands (d ∷ past) new (record { begun = true; played = record standing.played { client = ending } })
 client_stands d past start Running turns new standing to started running h stands =
@@ -160,7 +169,8 @@ client_stands d past start (Unread kind) turns new standing to started running h
     let read : unread_kind (is_start Client past) d.bytes ≡ Some kind =
     subst (λ (s : Bool). unread_kind s d.bytes ≡ Some kind) (started ∙ ap not stands.begun) h.0 in
     let ending = is_unread Client d past turns kind to (sym stands.client ∙ running) read in
-    subst (λ (l : List Turn). Stands (d ∷ past) l (record { begun = true; played = record standing.played { client = Unread kind } })) (sym h.1)
+    subst (λ (l : List Turn). Stands (d ∷ past) l (record { begun = true; played = record standing.played { client = Unread kind } }))
+        (sym h.1)
     (record {
       plays = no_turn_plays Client d past turns to (unread_stops _ kind ending) stands.plays;
       begun = begun_more d past to;
@@ -171,7 +181,8 @@ client_stands d past start (Unread kind) turns new standing to started running h
     })
 
 -- a client that stands no more
-pub client_passed : (d : Delivery) (past : List Delivery) (turns : List Turn) (standing : Standing) → d.to ≡ Client → standing.played.client ≢ Running →
+pub client_passed : (d : Delivery) (past : List Delivery) (turns : List Turn) (standing : Standing) → d.to ≡ Client →
+    standing.played.client ≢ Running →
     Stands past turns standing → Stands (d ∷ past) turns (record standing { begun = true })
 client_passed d past turns standing to stopped stands =
     let stops : ending_of Client past turns ≢ Running = λ runs. stopped (stands.client ∙ runs) in
@@ -185,18 +196,21 @@ client_passed d past turns standing to stopped stands =
       server_kind = stands.server_kind;
     }
 
-pub client_stops : (d : Delivery) (past : List Delivery) (start : Bool) (error : DelegateError) (turns new : List Turn) (standing : Standing) → d.to ≡ Client →
+pub client_stops : (d : Delivery) (past : List Delivery) (start : Bool) (error : DelegateError) (turns new : List Turn)
+    (standing : Standing) → d.to ≡ Client →
     start ≡ not standing.begun → standing.played.client ≡ Running → LacksSo Client IsClientRefusal start d.bytes error turns new →
     Stands past turns standing → StopsAt d past new
 client_stops d past start error turns new standing to started running h stands = elim h.turns [
   | inl none ↦ inl (subst (λ (l : List Turn). Plays past l) (sym none) stands.plays)
   | inr turn ↦ inr (has_plays Client d past (IsClientRefusal kinds.InsufficientMemory) turns new to (sym stands.client ∙ running)
-      (subst (λ (s : Bool). TurnsSo Client s d.bytes (IsClientRefusal kinds.InsufficientMemory) turns new) (started ∙ ap not stands.begun) turn) stands.plays)
+      (subst (λ (s : Bool). TurnsSo Client s d.bytes (IsClientRefusal kinds.InsufficientMemory) turns new)
+          (started ∙ ap not stands.begun) turn) stands.plays)
 ]
 
 -- ---- a delivery to the server
 
-server_turned : (d : Delivery) (past : List Delivery) (P : Outcome → Type 0) (ending : Ending) (turns new : List Turn) (standing : Standing) → d.to ≡ Server →
+server_turned : (d : Delivery) (past : List Delivery) (P : Outcome → Type 0) (ending : Ending) (turns new : List Turn)
+    (standing : Standing) → d.to ≡ Server →
     standing.played.server ≡ Running → IsNoWant ending → ((out : Outcome) → P out → ending_by (refusal_in out) None ≡ ending) →
     TurnsSo Server false d.bytes P turns new → Stands past turns standing →
     Stands (d ∷ past) new (record standing { played = record standing.played { server = ending } })
@@ -235,7 +249,8 @@ server_stands d past (Unread kind) turns new standing to running h stands =
     })
 
 -- a server that has finished still runs
-pub server_finishes : (d : Delivery) (past : List Delivery) (identity : Option AuthIdentity) (turns new : List Turn) (standing : Standing) → d.to ≡ Server →
+pub server_finishes : (d : Delivery) (past : List Delivery) (identity : Option AuthIdentity) (turns new : List Turn)
+    (standing : Standing) → d.to ≡ Server →
     standing.played.server ≡ Running → TurnsSo Server false d.bytes IsFinished turns new → Stands past turns standing →
     Stands (d ∷ past) new (record standing { played = record standing.played { identity = identity } })
 server_finishes d past identity turns new standing to running h stands =
@@ -249,7 +264,8 @@ server_finishes d past identity turns new standing to running h stands =
       server_kind = stands.server_kind;
     }
 
-pub server_passed : (d : Delivery) (past : List Delivery) (turns : List Turn) (standing : Standing) → d.to ≡ Server → standing.played.server ≢ Running →
+pub server_passed : (d : Delivery) (past : List Delivery) (turns : List Turn) (standing : Standing) → d.to ≡ Server →
+    standing.played.server ≢ Running →
     Stands past turns standing → Stands (d ∷ past) turns standing
 server_passed d past turns standing to stopped stands =
     let stops : ending_of Server past turns ≢ Running = λ runs. stopped (stands.server ∙ runs) in
@@ -263,11 +279,14 @@ server_passed d past turns standing to stopped stands =
       server_kind = stands.server_kind;
     }
 
-pub server_stops : (d : Delivery) (past : List Delivery) (error : DelegateError) (turns new : List Turn) (standing : Standing) → d.to ≡ Server →
-    standing.played.server ≡ Running → LacksSo Server IsServerRefusal false d.bytes error turns new → Stands past turns standing → StopsAt d past new
+pub server_stops : (d : Delivery) (past : List Delivery) (error : DelegateError) (turns new : List Turn) (standing : Standing) →
+    d.to ≡ Server →
+    standing.played.server ≡ Running → LacksSo Server IsServerRefusal false d.bytes error turns new → Stands past turns standing →
+        StopsAt d past new
 server_stops d past error turns new standing to running h stands = elim h.turns [
   | inl none ↦ inl (subst (λ (l : List Turn). Plays past l) (sym none) stands.plays)
-  | inr turn ↦ inr (has_plays Server d past (IsServerRefusal kinds.InsufficientMemory) turns new to (sym stands.server ∙ running) turn stands.plays)
+  | inr turn ↦ inr (has_plays Server d past (IsServerRefusal kinds.InsufficientMemory) turns new to
+      (sym stands.server ∙ running) turn stands.plays)
 ]
 
 -- ---- from the first delivery to the last
@@ -275,7 +294,8 @@ server_stops d past error turns new standing to running h stands = elim h.turns 
 pub first_stands : (turns : List Turn) → turns ≡ [] →
     Stands [] turns (record { begun = false; played = record { client = Running; server = Running; identity = None } })
 first_stands turns empty =
-    subst (λ (l : List Turn). Stands [] l (record { begun = false; played = record { client = Running; server = Running; identity = None } })) (sym empty)
+    subst (λ (l : List Turn). Stands [] l (record { begun = false;
+        played = record { client = Running; server = Running; identity = None } })) (sym empty)
     (record { plays = begins; begun = refl; client = refl; server = refl; client_kind = tt; server_kind = tt })
 
 pub front_of : (schedule : List Delivery) (n : ℕ) (d : Delivery) (turns : List Turn) → n < length schedule → d ≡ get_or schedule n d →
@@ -289,4 +309,5 @@ front_of schedule n d turns here is (inr plays) = record {
 
 pub all_stands : (schedule : List Delivery) (n : ℕ) (turns : List Turn) (standing : Standing) → length schedule ≤ n →
     Stands (reverse (take n schedule)) turns standing → Stands (reverse schedule) turns standing
-all_stands schedule n turns standing most stands = subst (λ (l : List Delivery). Stands l turns standing) (reverse_all schedule n most) stands
+all_stands schedule n turns standing most stands = subst (λ (l : List Delivery). Stands l turns standing)
+    (reverse_all schedule n most) stands

@@ -56,7 +56,8 @@ module _ {C : Type 0} where
 
 -- an end opens the proof of its peer, and a server the credentials
 abbrev pub texts_opened : Turn → List (List ℕ)
-texts_opened t = where_done t.acts.opened (behind_tag t.delivered.auth_info) ++ where_done t.acts.checked (behind_tag t.delivered.pub_key_auth)
+texts_opened t = where_done t.acts.opened (behind_tag t.delivered.auth_info) ++ where_done t.acts.checked
+    (behind_tag t.delivered.pub_key_auth)
 
 abbrev pub opened_texts : List Turn → List (List ℕ)
 opened_texts [] = []

@@ -46,11 +46,13 @@ TurnsSo end start bytes P old new = (unread_kind start bytes ≡ None) × HasTur
 
 abbrev pub EndsSo : End → (ErrorKind → Outcome → Type 0) → Bool → List ℕ → Ending → List Turn → List Turn → Type 0
 EndsSo end IsRefusal start bytes Running old new = TurnsSo end start bytes GoesOn old new
-EndsSo end IsRefusal start bytes (Refused kind) old new = (kind ≢ kinds.InsufficientMemory) × TurnsSo end start bytes (IsRefusal kind) old new
+EndsSo end IsRefusal start bytes (Refused kind) old new = (kind ≢ kinds.InsufficientMemory) ×
+    TurnsSo end start bytes (IsRefusal kind) old new
 EndsSo end IsRefusal start bytes (Unread kind) old new = (unread_kind start bytes ≡ Some kind) × (new ≡ old)
 
 -- want of memory: no turn was made, or it was refused with that
-pub record LacksSo (end : End) (IsRefusal : ErrorKind → Outcome → Type 0) (start : Bool) (bytes : List ℕ) (error : DelegateError) (old new : List Turn) : Type 0 where
+pub record LacksSo (end : End) (IsRefusal : ErrorKind → Outcome → Type 0) (start : Bool) (bytes : List ℕ) (error : DelegateError)
+    (old new : List Turn) : Type 0 where
   pub error_is : error ≡ errors.InsufficientMemory
   pub turns : (new ≡ old) ⊎ TurnsSo end start bytes (IsRefusal kinds.InsufficientMemory) old new
 

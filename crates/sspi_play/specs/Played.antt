@@ -52,14 +52,16 @@ pub record Standings (schedule : List Delivery) (played : Played) (turns : List 
 
 module _ {C P D : Type 0} (c : Meaning ContextSetting C) where
   -- of a play whose transcript was empty
-  pub record Accounts (p : ProxyMeaning P) (k : KdcCalls D) (schedule : List Delivery) (old : Both C P D) (result : Result Played DelegateError)
+  pub record Accounts (p : ProxyMeaning P) (k : KdcCalls D) (schedule : List Delivery) (old : Both C P D)
+      (result : Result Played DelegateError)
       (new : Both C P D) : Type 0 where
     pub the_turns_are_those_of_the_deliveries : PlaysBy schedule result new.turns
     pub deliveries_and_turns_say_how_the_ends_stand : IfOk result (λ played. Standings schedule played new.turns)
     -- each turn of an end was one of its calls, and nothing moved it between two of them
     pub client_turns_are_its_calls : ClientPlayed c k {X = Played} old.client old.kdc result (client_turns new.turns) new.client new.kdc
     pub server_turns_are_its_calls : ServerHistory c p old.server (server_turns new.turns) new.server
-    pub the_identity_is_that_of_the_turn_that_finished : IfOk result (λ played. Gave c p old.server played.identity (server_turns new.turns))
+    pub the_identity_is_that_of_the_turn_that_finished : IfOk result
+        (λ played. Gave c p old.server played.identity (server_turns new.turns))
 
   -- Of a play between two fresh ends: each turn is one of its end, over the context that the play left, which sealed and opened
   -- exactly what the turns say. A peer that is too old is refused as that, and no other. No more is sealed than once.

@@ -69,7 +69,7 @@ no_edit link edits is empty = (ap (λ (l : MemoryLinkView). Some l.edits) is ∙
 pub returns-clause-comes : goal.returns-clause-comes
 returns-clause-comes c is short few versions enough =
     let made : AreMade c.in-Ok-client_of.client c.in-Ok-server_of.server c.args.identity.now c.in-Ok.mine c.in-Ok-clone.known
-        c.args.key.now c.args.mode c.args.client_version c.args.server_version =
+    c.args.key.now c.args.mode c.args.client_version c.args.server_version =
     record {
       client_values = c.in-Ok-client_of.ensures.values;
       server_values = c.in-Ok-server_of.ensures.values;
@@ -83,18 +83,18 @@ returns-clause-comes c is short few versions enough =
     let three = plain_messages c.in-Ok-client_of.client.mode made.client_values.6 in
     let comes = c.delegate_plainly.ensures.comes
     (matched c.in-Ok-client_of.client c.in-Ok-server_of.server c.args.identity.now c.in-Ok.mine c.in-Ok-clone.known c.args.key.now
-        c.args.mode c.args.client_version
+    c.args.mode c.args.client_version
     c.args.server_version made is short few versions)
     (record { client_is = c.in-Ok-client_of.ensures.fresh; server_is = c.in-Ok-server_of.ensures.fresh; empty = c.new-transcript.ensures })
     (unedited link.0 link.1) (none_told proxy.0 proxy.1) (omega (arith, three, enough)) in
     subst (λ (m : CredSspMode). ComesToOk (delegated_as m c.args.identity.now) c.delegate_plainly.result) c.in-Ok-client_of.ensures.values.2
     (subst (λ (n : ℕ). ComesToOkIn n (delegated_as c.in-Ok-client_of.client.delegation c.args.identity.now) c.delegate_plainly.result)
-        three comes)
+    three comes)
 
 pub returns-clause-short : goal.returns-clause-short
 returns-clause-short c is short few versions less =
     let made : AreMade c.in-Ok-client_of.client c.in-Ok-server_of.server c.args.identity.now c.in-Ok.mine c.in-Ok-clone.known
-        c.args.key.now c.args.mode c.args.client_version c.args.server_version =
+    c.args.key.now c.args.mode c.args.client_version c.args.server_version =
     record {
       client_values = c.in-Ok-client_of.ensures.values;
       server_values = c.in-Ok-server_of.ensures.values;
@@ -108,7 +108,7 @@ returns-clause-short c is short few versions less =
     let three = plain_messages c.in-Ok-client_of.client.mode made.client_values.6 in
     c.delegate_plainly.ensures.short
     (matched c.in-Ok-client_of.client c.in-Ok-server_of.server c.args.identity.now c.in-Ok.mine c.in-Ok-clone.known c.args.key.now
-        c.args.mode c.args.client_version
+    c.args.mode c.args.client_version
     c.args.server_version made is short few versions)
     (record { client_is = c.in-Ok-client_of.ensures.fresh; server_is = c.in-Ok-server_of.ensures.fresh; empty = c.new-transcript.ensures })
     (unedited link.0 link.1) (none_told proxy.0 proxy.1) (omega (arith, three, less))
