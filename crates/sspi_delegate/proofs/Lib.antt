@@ -1,4 +1,4 @@
-mod Alternating
+pub mod Alternating
 pub mod Asking
 pub mod Chained
 mod ClientOver

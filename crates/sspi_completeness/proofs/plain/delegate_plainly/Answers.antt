@@ -3,6 +3,7 @@ use Rattle.sspi_mech.specs.NtlmLaws.{ntlm_laws}
 use Rattle.sspi_credssp.proofs.ContextLaws.{lawful}
 use Rattle.sspi_credssp.specs.Context.{either}
 use Rattle.sspi_delegate.specs.Asking.{kdc_calls}
+use Rattle.sspi_delegate.proofs.Alternating.{servers_others}
 use Rattle.sspi_delegate.proofs.Histories.{server_past_history}
 use Rattle.sspi_completeness.proofs.PlainSettled.{comes_to_ok, cut_short, settled_plainly}
 use Rattle.sspi_completeness.proofs.Settling.{calm_by}
@@ -13,7 +14,8 @@ pub returns-clause-three : goal.returns-clause-three
 returns-clause-three g c plain fresh =
     let made = c.delegate.ensures.delegates fresh in
     ok_three g.K.Mechanism.meaning g.C.CredentialsProxy.meaning _ _ _ _ _ _ _ _ _
-    made.accounts.turns_and_log_show_the_answer plain fresh.server_is made.the_turns_are_a_run.server_ran.others
+    made.accounts.turns_and_log_show_the_answer plain fresh.server_is
+    (servers_others _ made.the_turns_are_a_run.order)
     made.both_proofs_came_before_ok (server_past_history (either 0 ntlm_meaning g.K.Mechanism.meaning) g.C.CredentialsProxy.meaning _ _ _ _
     made.accounts.server_turns_are_its_calls)
 

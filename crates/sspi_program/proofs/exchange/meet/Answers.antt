@@ -4,6 +4,7 @@ use Rattle.sspi_delegate.specs.Edits.{MemoryLinkView, FollowsEdits}
 use Rattle.sspi_delegate.specs.declared.edit.Edit.{Edit}
 use Rattle.sspi_delegate.specs.Headline.{IsFresh}
 use Rattle.sspi_delegate.specs.Link.{StaysTold}
+use Rattle.sspi_delegate.proofs.Alternating.{servers_others}
 use Rattle.sspi_delegate.proofs.Histories.{server_past_history}
 use Rattle.sspi_mech.specs.Kerberos.{kerberos_meaning}
 use Rattle.sspi_mech.specs.KerberosLaws.{kerberos_laws}
@@ -77,7 +78,7 @@ returns-clause-outcome c ends held =
     record {
       three = λ plain. ok_three kerberos_meaning table_meaning _ _ _ _ _ _ _ _ _
           delegates.accounts.turns_and_log_show_the_answer (plain_server s server ends.server_named plain) fresh.server_is
-          delegates.the_turns_are_a_run.server_ran.others
+          (servers_others _ delegates.the_turns_are_a_run.order)
           delegates.both_proofs_came_before_ok server_history;
       comes = λ plain enough. subst (λ (mode : CredSspMode). ComesToOkIn (messages_in s.mode)
           (delegated_as mode (user_identity s)) answer) ends.client_named.delegation
