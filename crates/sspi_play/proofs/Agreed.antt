@@ -65,7 +65,7 @@ module _ {C : Type 0} (c : Meaning ContextSetting C) (kept : Option C → List (
     let first : AreFirstOf (opened_texts (onto_client Client t (client_turns past)))
         (server_sealed server (onto_server Client t (server_turns past))) =
         subst (λ (e : End). AreFirstOf (opened_texts (onto_client e t (client_turns past)))
-            (server_sealed server (onto_server e t (server_turns past)))) is all.opens.0 in first,
+        (server_sealed server (onto_server e t (server_turns past)))) is all.opens.0 in first,
   )
 
   server_at : (t : Turn) (past : List Turn) → t.end ≡ Server → AllTurns c kept client server (t ∷ past) →
@@ -79,7 +79,7 @@ module _ {C : Type 0} (c : Meaning ContextSetting C) (kept : Option C → List (
     let first : AreFirstOf (opened_texts (onto_server Server t (server_turns past)))
         (client_sealed client (onto_client Server t (client_turns past))) =
         subst (λ (e : End). AreFirstOf (opened_texts (onto_server e t (server_turns past)))
-            (client_sealed client (onto_client e t (client_turns past)))) is all.opens.1 in first,
+        (client_sealed client (onto_client e t (client_turns past)))) is all.opens.1 in first,
   )
 
   -- ---- the server's proof came before, and the client's before that
@@ -111,7 +111,7 @@ module _ {C : Type 0} (c : Meaning ContextSetting C) (kept : Option C → List (
         behind_tag t.delivered.pub_key_auth ≡ prescribed whose.Client version (nonce_of t.delivered.client_nonce) server.public_key ∷ []
     proven_text t past version each was noted =
         let proven = at_version (server_noted server.least (t ∷ past)) version
-            (Proven c server.context (opened_in past) server.public_key t.delivered) noted (each.0.held.proved was) in
+        (Proven c server.context (opened_in past) server.public_key t.delivered) noted (each.0.held.proved was) in
         opens_text c tags server.context (opened_in past) t.delivered.pub_key_auth
         (prescribed whose.Client version (nonce_of t.delivered.client_nonce) server.public_key) proven.opens
 
@@ -119,7 +119,7 @@ module _ {C : Type 0} (c : Meaning ContextSetting C) (kept : Option C → List (
         server_noted server.least (t ∷ past) ≡ Some version → nat_lt version 5 ≡ false → length (nonce_of t.delivered.client_nonce) ≡ 32
     proven_nonce t past version each was noted old =
         let proven = at_version (server_noted server.least (t ∷ past)) version
-            (Proven c server.context (opened_in past) server.public_key t.delivered) noted (each.0.held.proved was) in
+        (Proven c server.context (opened_in past) server.public_key t.delivered) noted (each.0.held.proved was) in
         nonce_length (nat_lt version 5) t.delivered.client_nonce old proven.nonce
 
     -- the text that a client opened that seals
@@ -128,10 +128,10 @@ module _ {C : Type 0} (c : Meaning ContextSetting C) (kept : Option C → List (
         behind_tag t.delivered.pub_key_auth ≡ prescribed whose.Server version client.nonce client.public_key ∷ []
     sealing_text t past version each was noted =
         opens_text c tags client.context (opened_in past) t.delivered.pub_key_auth
-            (prescribed whose.Server version client.nonce client.public_key)
+        (prescribed whose.Server version client.nonce client.public_key)
         (at_version (client_noted client.least (t ∷ past)) version
         (λ v. OpensIn c client.context (opened_in past) t.delivered.pub_key_auth
-            (prescribed whose.Server v client.nonce client.public_key)) noted (each.0.held.sealed was))
+        (prescribed whose.Server v client.nonce client.public_key)) noted (each.0.held.sealed was))
 
     agreed_by : (turns later past : List Turn) (t : Turn) → turns ≡ later ++ (t ∷ past) → t.end ≡ Client → (seen : ℕ) →
         client_noted client.least (t ∷ client_turns past) ≡ Some seen →
@@ -140,15 +140,15 @@ module _ {C : Type 0} (c : Meaning ContextSetting C) (kept : Option C → List (
     agreed_by turns later past t parts is seen noted all faithful echo long before s =
         let u = s.at.turn in
         let there = all_before c kept client server s.at.later (u ∷ s.at.before)
-            (subst (λ (l : List Turn). AllTurns c kept client server l) s.at.parts before) in
+        (subst (λ (l : List Turn). AllTurns c kept client server l) s.at.parts before) in
         let peer = server_at u s.at.before s.end there in
         let opened : opened_texts (u ∷ server_turns s.at.before) ≡ prescribed whose.Client s.version
-            (nonce_of u.delivered.client_nonce) server.public_key ∷ [] =
+        (nonce_of u.delivered.client_nonce) server.public_key ∷ [] =
         opened_by_proof c server (server_turns s.at.before) u peer.0 peer.1 s.none s.proved
         ∙ proven_text u (server_turns s.at.before) s.version peer.0 s.proved s.noted in
         let first = all_before c kept client server (u ∷ []) s.at.before there in
         let p = client_proved s.at.before _ (opened_texts (u ∷ server_turns s.at.before)) opened peer.2
-            (client_proof c client s.at.before first.client_each) in
+        (client_proof c client s.at.before first.client_each) in
         let whole : turns ≡ (later ++ (t ∷ s.at.later)) ++ (u ∷ s.at.before) =
         parts ∙ ap (λ (l : List Turn). later ++ (t ∷ l)) s.at.parts ∙ sym (append_assoc later (t ∷ s.at.later) (u ∷ s.at.before)) in
         let servers : server_turns turns ≡ server_turns (later ++ (t ∷ s.at.later)) ++ (u ∷ server_turns s.at.before) =
@@ -156,7 +156,7 @@ module _ {C : Type 0} (c : Meaning ContextSetting C) (kept : Option C → List (
         ∙ ap (λ (l : List Turn). server_turns (later ++ (t ∷ s.at.later)) ++ l) (server_more u s.at.before s.end) in
         let client_seen : client_noted client.least (client_turns turns) ≡ Some p.0.version =
         subst (λ (l : List Turn). client_noted client.least (client_turns l) ≡ Some p.0.version)
-            (sym (whole ∙ sym (append_assoc (later ++ (t ∷ s.at.later)) (u ∷ []) s.at.before)))
+        (sym (whole ∙ sym (append_assoc (later ++ (t ∷ s.at.later)) (u ∷ []) s.at.before)))
         (client_noted_later client.least ((later ++ (t ∷ s.at.later)) ++ (u ∷ [])) s.at.before p.0.version p.0.noted) in
         let server_seen : server_noted server.least (server_turns turns) ≡ Some s.version =
         subst (λ (l : List Turn). server_noted server.least (server_turns l) ≡ Some s.version) (sym whole)
@@ -189,7 +189,7 @@ module _ {C : Type 0} (c : Meaning ContextSetting C) (kept : Option C → List (
         Agrees client server turns past
     agreed turns later past t parts is was all faithful echo long =
         let here = all_before c kept client server later (t ∷ past)
-            (subst (λ (l : List Turn). AllTurns c kept client server l) parts all) in
+        (subst (λ (l : List Turn). AllTurns c kept client server l) parts all) in
         let own = client_at t past is here in
         let seen = at_some (client_noted client.least (t ∷ client_turns past)) _ (own.0.0.held.sealed was) in
         let opened : opened_texts (t ∷ client_turns past) ≡ prescribed whose.Server seen.0 client.nonce client.public_key ∷ [] =
@@ -220,7 +220,7 @@ module _ {C : Type 0} (c : Meaning ContextSetting C) (kept : Option C → List (
         let t = gave.turn in
         let place = server_place turns gave.later t gave.before gave.parts in
         let here = all_before c kept client server place.later (t ∷ place.past)
-            (subst (λ (l : List Turn). AllTurns c kept client server l) place.parts all) in
+        (subst (λ (l : List Turn). AllTurns c kept client server l) place.parts all) in
         let own = server_at t place.past place.end here in
         let shows = finished_shows (server_frame_at server (server_turns place.past) t) t t.outcome gave.finished own.0.0.shown.reply in
         let one = one_opened c server (server_turns place.past) own.0.1 own.1 shows.0 in
@@ -231,7 +231,7 @@ module _ {C : Type 0} (c : Meaning ContextSetting C) (kept : Option C → List (
         ∙ ap (λ (l : List (List ℕ)). text.0 ∷ l) one.1 in
         let before = all_before c kept client server (t ∷ []) place.past here in
         let sealed = second_seal c client place.past text.0 one.0 own.2.0
-            (sealed_in c client place.past before.client_each before.client_others)
+        (sealed_in c client place.past before.client_each before.client_others)
         (own.2.1 ∙ ap (λ (l : List (List ℕ)). own.2.0 ++ l) opened) in
         record {
           at = record { later = place.later; turn = t; before = place.past; parts = place.parts };
@@ -245,7 +245,7 @@ module _ {C : Type 0} (c : Meaning ContextSetting C) (kept : Option C → List (
 
     pub agreement : {P : Type 0} (p : ProxyMeaning P) (first : ServerView C P) (turns : List Turn) (identity : Option AuthIdentity) →
         ((given : AuthIdentity) → identity ≡ Some given → GaveIn c p first given (server_turns turns)) →
-            AllTurns c kept client server turns →
+        AllTurns c kept client server turns →
         length client.nonce ≡ 32 → IsFaithful c kept client server turns → NoEcho client server → Agreement client server turns identity
     agreement p first turns identity gave all long faithful echo = record {
       a_client_that_sealed = λ at end sealed. agreed turns at.later at.before at.turn at.parts end sealed all faithful echo long;

@@ -120,8 +120,11 @@ module _ {C : Type 0} (c : Meaning ContextSetting C) (e : ClientEnd C) where
       let p = or_false (is_replied t.outcome && t.acts.proved) (any_proved past) unproved in
       let f = client_frame_at e past t in
       let nego = went_nego f t t.outcome each.0.shown.reply went.0 s.0 in
-      rw (unsealed f t each.0.shown.acts nego, went_proved t.outcome t.acts.proved went.0 s.0 p.0,
-          nothing_sealed past each.1 went.1 s.1 p.1) refl
+      rw (
+        unsealed f t each.0.shown.acts nego,
+        went_proved t.outcome t.acts.proved went.0 s.0 p.0,
+        nothing_sealed past each.1 went.1 s.1 p.1,
+      ) refl
 
   proof_first : (past : List Turn) (t : Turn) → EachClientTurn c e (t ∷ past) → AllGoOn past → t.acts.proved ≡ true →
       client_sealed e past ≡ []
@@ -133,7 +136,7 @@ module _ {C : Type 0} (c : Meaning ContextSetting C) (e : ClientEnd C) where
   one_more : (t : Turn) (past : List Turn) (proved : Bool) → (proved ≡ true → client_sealed e past ≡ []) →
       length (client_sealed e past) ≤ 1 →
       length (where_done proved (proof_text whose.Client (client_noted e.least (t ∷ past)) e.nonce e.public_key) ++ client_sealed e past)
-          ≤ 1
+      ≤ 1
   one_more t past true none few =
       rw (none refl, length-append (proof_text whose.Client (client_noted e.least (t ∷ past)) e.nonce e.public_key) [])
       (omega (arith, proof_few whose.Client (client_noted e.least (t ∷ past)) e.nonce e.public_key))
@@ -320,7 +323,7 @@ module _ {C : Type 0} (c : Meaning ContextSetting C) (e : ClientEnd C) where
 
   sealed_by : (t : Turn) (past : List Turn) (end : End) (sealed : Bool) → t.end ≡ end → t.acts.sealed ≡ sealed →
       EachClientTurn c e (onto_client end t (client_turns past)) → OthersGoOn (onto_client end t (client_turns past)) → SealedIn past →
-          SealedIn (t ∷ past)
+      SealedIn (t ∷ past)
   sealed_by t past Server sealed is was each others found = silent_on t past
       (ap (λ (l : List Turn). client_sealed e l) (client_skip t past is)) found
   sealed_by t past Client true is was each others found = sealed_of t past is each others was

@@ -48,7 +48,7 @@ module _ {C P : Type 0} (c : Meaning ContextSetting C) (p : ProxyMeaning P) wher
 
   gave_turn : (first : ServerView C P) (identity : Option AuthIdentity) (P2 : Outcome → Type 0) (bytes : _) (turns new : List Turn) →
       ((out : Outcome) → P2 out → is_finished out ≡ false) → TurnsSo Server false bytes P2 turns new →
-          Gave c p first identity (server_turns turns) →
+      Gave c p first identity (server_turns turns) →
       Gave c p first identity (server_turns new)
   gave_turn first identity P2 bytes turns [] un h gave = absurd h.1
   gave_turn first identity P2 bytes turns (t ∷ before) un h gave =
@@ -58,7 +58,7 @@ module _ {C P : Type 0} (c : Meaning ContextSetting C) (p : ProxyMeaning P) wher
 
   pub gave_on : (first : ServerView C P) (identity : Option AuthIdentity) (ending : Ending) (bytes : _) (turns new : List Turn) →
       EndsSo Server IsServerRefusal false bytes ending turns new → Gave c p first identity (server_turns turns) →
-          Gave c p first identity (server_turns new)
+      Gave c p first identity (server_turns new)
   gave_on first identity Running bytes turns new h gave = gave_turn first identity GoesOn bytes turns new went_unfinished h gave
   gave_on first identity (Refused kind) bytes turns new h gave =
       gave_turn first identity (IsServerRefusal kind) bytes turns new (refused_unfinished kind) h.1 gave
@@ -67,7 +67,7 @@ module _ {C P : Type 0} (c : Meaning ContextSetting C) (p : ProxyMeaning P) wher
   -- the turn that finishes
   pub gave_now : (first now : ServerView C P) (identity : AuthIdentity) (bytes : _) (turns new : List Turn) →
       TurnsSo Server false bytes IsFinished turns new → ServerGave c p first identity (server_turns new) now →
-          Gave c p first (Some identity) (server_turns new)
+      Gave c p first (Some identity) (server_turns new)
   gave_now first now identity bytes turns [] h gave = absurd h.1
   gave_now first now identity bytes turns (t ∷ before) h gave =
       subst (λ (l : List Turn). Gave c p first (Some identity) l) (sym (server_more t before h.1.1)) (record {

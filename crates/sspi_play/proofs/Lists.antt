@@ -45,7 +45,7 @@ pub head_of_two : {A : Type 0} (x z y : A) (rest later : List A) → length rest
 head_of_two x z y rest [] few e = head_same x z rest (y ∷ []) e
 head_of_two x z y rest (w ∷ later) few e =
     let long : length rest ≡ length later + 2 = ap length (tail_same x w rest (later ++ (z ∷ (y ∷ []))) e) ∙ length-append later
-        (z ∷ (y ∷ [])) in
+    (z ∷ (y ∷ [])) in
     absurd (omega (arith, few, long))
 
 pub two_are_more : {A : Type 0} {P : Type 0} (z y : A) (all later : List A) → length all ≤ 1 → all ≡ later ++ (z ∷ (y ∷ [])) → P

@@ -36,7 +36,7 @@ pub server_split : (later rest : List Turn) → server_turns (later ++ rest) ≡
 server_split [] rest = refl
 server_split (t ∷ later) rest =
     ap (λ (l : List Turn). onto_server t.end t l) (server_split later rest) ∙ onto_server_more t.end t (server_turns later)
-        (server_turns rest)
+    (server_turns rest)
 
 -- a turn of the server has its place among all turns
 pub record ServerPlace (turns : List Turn) (t : Turn) (before : List Turn) : Type 0 where
@@ -58,7 +58,7 @@ place_on x turns t before p = record {
 place_by : (u : Turn) (turns : List Turn) (t : Turn) (before : List Turn) →
     ((later : List Turn) → server_turns turns ≡ later ++ (t ∷ before) → ServerPlace turns t before) →
     (end : End) (later : List Turn) → u.end ≡ end → onto_server end u (server_turns turns) ≡ later ++ (t ∷ before) →
-        ServerPlace (u ∷ turns) t before
+    ServerPlace (u ∷ turns) t before
 place_by u turns t before place Client later is e = place_on u turns t before (place later e)
 place_by u turns t before place Server [] is e =
     subst (λ (x : Turn). ServerPlace (u ∷ turns) x before) (head_same u t (server_turns turns) before e)

@@ -65,14 +65,14 @@ module _ {C P D : Type 0} (c : Meaning ContextSetting C) (law : IsContext c) (p 
   is_play schedule old new result client_fresh server_fresh accounts =
       let plays = played_some schedule result new.turns accounts.the_turns_are_those_of_the_deliveries in
       let left = played_left c k result old.client new.client old.kdc new.kdc
-          (client_turns new.turns) accounts.client_turns_are_its_calls in
+      (client_turns new.turns) accounts.client_turns_are_its_calls in
       let client_others = left_others c k old.client new.client old.kdc new.kdc (client_turns new.turns)
-          (others_of Client plays.0 new.turns plays.1) left in
+      (others_of Client plays.0 new.turns plays.1) left in
       let server_others = others_of Server plays.0 new.turns plays.1 in
       let client = client_past_ran c law k old.client new.client old.kdc new.kdc (client_turns new.turns)
-          (Err errors.InsufficientMemory) client_fresh client_others left in
+      (Err errors.InsufficientMemory) client_fresh client_others left in
       let server = server_past_ran c law p old.server new.server (server_turns new.turns)
-          (Err errors.InsufficientMemory) server_fresh server_others
+      (Err errors.InsufficientMemory) server_fresh server_others
       accounts.server_turns_are_its_calls in
       record {
         client_ran = client;

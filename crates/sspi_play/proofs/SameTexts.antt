@@ -27,7 +27,7 @@ pub record Same (client_key server_key client_nonce server_nonce : List ℕ) (cl
 
 same_by : (kc ks nc ns : List ℕ) (young_c young_s : Bool) →
     (sha256 (magic whose.Client ++ nc ++ kc) ≡ sha256 (magic whose.Client ++ ns ++ ks) →
-        magic whose.Client ++ nc ++ kc ≡ magic whose.Client ++ ns ++ ks) →
+    magic whose.Client ++ nc ++ kc ≡ magic whose.Client ++ ns ++ ks) →
     length nc ≡ 32 → (young_s ≡ false → length ns ≡ 32) →
     (young_c ≡ true → young_s ≡ false → length kc ≡ 32 → ⊥) → (young_c ≡ false → young_s ≡ true → length ks ≡ 32 → ⊥) →
     by_version young_c nc kc ≡ by_version young_s ns ks → Same kc ks nc ns young_c young_s
@@ -40,7 +40,7 @@ same_by kc ks nc ns false false apart c_long s_long echo_c echo_s e =
     let texts = apart e in
     let long : length (magic whose.Client ++ nc) ≡ length (magic whose.Client ++ ns) =
     length-append (magic whose.Client) nc ∙ ap (λ (n : ℕ). length (magic whose.Client) + n) (c_long ∙ sym (s_long refl)) ∙ sym
-        (length-append (magic whose.Client) ns) in
+    (length-append (magic whose.Client) ns) in
     record {
       keys = rests_same (magic whose.Client ++ nc) (magic whose.Client ++ ns) kc ks long texts;
       forms = refl;
@@ -50,7 +50,7 @@ same_by kc ks nc ns false false apart c_long s_long echo_c echo_s e =
 
 pub same_texts : (kc ks nc ns : List ℕ) (vc vs : ℕ) →
     (sha256 (magic whose.Client ++ nc ++ kc) ≡ sha256 (magic whose.Client ++ ns ++ ks) →
-        magic whose.Client ++ nc ++ kc ≡ magic whose.Client ++ ns ++ ks) →
+    magic whose.Client ++ nc ++ kc ≡ magic whose.Client ++ ns ++ ks) →
     length nc ≡ 32 → (nat_lt vs 5 ≡ false → length ns ≡ 32) →
     (nat_lt vc 5 ≡ true → nat_lt vs 5 ≡ false → length kc ≡ 32 → ⊥) → (nat_lt vc 5 ≡ false → nat_lt vs 5 ≡ true → length ks ≡ 32 → ⊥) →
     prescribed whose.Client vc nc kc ≡ prescribed whose.Client vs ns ks → Same kc ks nc ns (nat_lt vc 5) (nat_lt vs 5)

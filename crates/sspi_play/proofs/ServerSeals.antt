@@ -32,7 +32,7 @@ use Rattle.sspi_play.proofs.Parts.{server_more, server_skip}
 
 state_auth : (finished proved over : Bool) →
     (if finished then Final else (if proved then AuthInfo else (if over then PubKeyInfo else NegoToken))) ≡ AuthInfo →
-        (finished ≡ false) × (proved ≡ true)
+    (finished ≡ false) × (proved ≡ true)
 state_auth true proved over h = absurd (cc (h))
 state_auth false true over h = (refl, refl)
 state_auth false false true h = absurd (cc (h))
@@ -121,7 +121,7 @@ module _ {C : Type 0} (c : Meaning ContextSetting C) (s : ServerEnd C) where
       let f = server_frame_at s past t in
       let unopened : t.acts.opened ≡ false = is_false t.acts.opened (λ was. unauthorized past p.1 (each.0.shown.acts.opened was).0) in
       rw (unopened, unproved_unchecked f t t.outcome each.0.shown.acts each.0.shown.reply un.0 p.0, nothing_opened past each.1 un.1 p.1)
-          refl
+      refl
 
   -- the turn that proved opened the client's proof, and nothing else was opened before
   pub opened_by_proof : (past : List Turn) (t : Turn) → EachServerTurn c s (t ∷ past) → NoneRefused past → any_proved past ≡ false →
@@ -131,7 +131,7 @@ module _ {C : Type 0} (c : Meaning ContextSetting C) (s : ServerEnd C) where
       let f = server_frame_at s past t in
       let checked = (each.0.shown.acts.proved was).0 in
       rw (check_alone f t each.0.shown.acts checked, checked, nothing_opened past each.1 un none)
-          (append-nil (behind_tag t.delivered.pub_key_auth))
+      (append-nil (behind_tag t.delivered.pub_key_auth))
 
   -- ---- the first text that a server sealed
 
@@ -273,4 +273,4 @@ module _ {C : Type 0} (c : Meaning ContextSetting C) (s : ServerEnd C) where
       opened_texts (t ∷ past) ≡ behind_tag t.delivered.auth_info ++ opened_texts past
   opened_at_end past t each was =
       rw (was, open_alone (server_frame_at s past t) t each.0.shown.acts was)
-          (ap (λ (l : List (List ℕ)). l ++ opened_texts past) (append-nil (behind_tag t.delivered.auth_info)))
+      (ap (λ (l : List (List ℕ)). l ++ opened_texts past) (append-nil (behind_tag t.delivered.auth_info)))

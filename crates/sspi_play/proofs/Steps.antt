@@ -170,7 +170,7 @@ client_stands d past start (Unread kind) turns new standing to started running h
     subst (λ (s : Bool). unread_kind s d.bytes ≡ Some kind) (started ∙ ap not stands.begun) h.0 in
     let ending = is_unread Client d past turns kind to (sym stands.client ∙ running) read in
     subst (λ (l : List Turn). Stands (d ∷ past) l (record { begun = true; played = record standing.played { client = Unread kind } }))
-        (sym h.1)
+    (sym h.1)
     (record {
       plays = no_turn_plays Client d past turns to (unread_stops _ kind ending) stands.plays;
       begun = begun_more d past to;
@@ -204,7 +204,7 @@ client_stops d past start error turns new standing to started running h stands =
   | inl none ↦ inl (subst (λ (l : List Turn). Plays past l) (sym none) stands.plays)
   | inr turn ↦ inr (has_plays Client d past (IsClientRefusal kinds.InsufficientMemory) turns new to (sym stands.client ∙ running)
       (subst (λ (s : Bool). TurnsSo Client s d.bytes (IsClientRefusal kinds.InsufficientMemory) turns new)
-          (started ∙ ap not stands.begun) turn) stands.plays)
+      (started ∙ ap not stands.begun) turn) stands.plays)
 ]
 
 -- ---- a delivery to the server
@@ -282,7 +282,7 @@ server_passed d past turns standing to stopped stands =
 pub server_stops : (d : Delivery) (past : List Delivery) (error : DelegateError) (turns new : List Turn) (standing : Standing) →
     d.to ≡ Server →
     standing.played.server ≡ Running → LacksSo Server IsServerRefusal false d.bytes error turns new → Stands past turns standing →
-        StopsAt d past new
+    StopsAt d past new
 server_stops d past error turns new standing to running h stands = elim h.turns [
   | inl none ↦ inl (subst (λ (l : List Turn). Plays past l) (sym none) stands.plays)
   | inr turn ↦ inr (has_plays Server d past (IsServerRefusal kinds.InsufficientMemory) turns new to
@@ -294,8 +294,10 @@ server_stops d past error turns new standing to running h stands = elim h.turns 
 pub first_stands : (turns : List Turn) → turns ≡ [] →
     Stands [] turns (record { begun = false; played = record { client = Running; server = Running; identity = None } })
 first_stands turns empty =
-    subst (λ (l : List Turn). Stands [] l (record { begun = false;
-        played = record { client = Running; server = Running; identity = None } })) (sym empty)
+    subst (λ (l : List Turn). Stands [] l (record {
+      begun = false;
+      played = record { client = Running; server = Running; identity = None };
+    })) (sym empty)
     (record { plays = begins; begun = refl; client = refl; server = refl; client_kind = tt; server_kind = tt })
 
 pub front_of : (schedule : List Delivery) (n : ℕ) (d : Delivery) (turns : List Turn) → n < length schedule → d ≡ get_or schedule n d →

@@ -12,25 +12,25 @@ use Rattle.sspi_play.proofs.hand.hand.Goals as goal
 pub returns-in-Ok-clause-stands : goal.returns-in-Ok-clause-stands
 returns-in-Ok-clause-stands g c past stands =
     client_stands c.args.delivery.now past _ c.in-Ok.ending _ _ c.args.standing.now c.in-Client.is refl c.in-Running.is
-        c.in-Ok.ensures.hands stands
+    c.in-Ok.ensures.hands stands
 
 pub returns-in-Ok-clause-client_history : goal.returns-in-Ok-clause-client_history
 returns-in-Ok-clause-client_history g c first kdc_first past stands history =
     c.in-Ok.ensures.history first kdc_first
     (history_goes (either g.N.Mechanism.REQUESTS g.N.Mechanism.meaning g.K.Mechanism.meaning)
-        (kdc_calls g.D.Kdc.told g.D.Kdc.asked g.D.Kdc.faults) _ _ _ _ _
+    (kdc_calls g.D.Kdc.told g.D.Kdc.asked g.D.Kdc.faults) _ _ _ _ _
     (running_unrefused Client past _ stands.plays (sym stands.client ∙ c.in-Running.is)) history) history
 
 pub returns-in-Err-clause-stops : goal.returns-in-Err-clause-stops
 returns-in-Err-clause-stops g c past stands =
     client_stops c.args.delivery.now past _ c.in-Err.error _ _ c.args.standing.now c.in-Client.is refl c.in-Running.is
-        c.in-Err.ensures.hands stands
+    c.in-Err.ensures.hands stands
 
 pub returns-in-Err-clause-client_history : goal.returns-in-Err-clause-client_history
 returns-in-Err-clause-client_history g c first kdc_first past stands history =
     c.in-Err.ensures.history first kdc_first
     (history_goes (either g.N.Mechanism.REQUESTS g.N.Mechanism.meaning g.K.Mechanism.meaning)
-        (kdc_calls g.D.Kdc.told g.D.Kdc.asked g.D.Kdc.faults) _ _ _ _ _
+    (kdc_calls g.D.Kdc.told g.D.Kdc.asked g.D.Kdc.faults) _ _ _ _ _
     (running_unrefused Client past _ stands.plays (sym stands.client ∙ c.in-Running.is)) history) history
 
 pub returns-in-Refused-clause-stands : goal.returns-in-Refused-clause-stands

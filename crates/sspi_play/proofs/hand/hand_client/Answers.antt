@@ -19,11 +19,11 @@ pub returns-in-Refused-clause-hands : goal.returns-in-Refused-clause-hands
 returns-in-Refused-clause-hands g c =
     client_ended c.args.start c.args.bytes.now c.in-Refused.error.error_type c.ending_by.result _ _ c.ending_by.ensures
     (pushed_turn Client c.args.start c.args.bytes.now c.in-Ok.request
-        (IsClientRefusal c.in-Refused.error.error_type) _ _ c.in-Ok.ensures c.in-Refused.ensures.turn)
+    (IsClientRefusal c.in-Refused.error.error_type) _ _ c.in-Ok.ensures c.in-Refused.ensures.turn)
 
 pub returns-in-Refused-clause-history : goal.returns-in-Refused-clause-history
 returns-in-Refused-clause-history g c first kdc_first going history =
     stopped_played (either g.N.Mechanism.REQUESTS g.N.Mechanism.meaning g.K.Mechanism.meaning)
-        (kdc_calls g.D.Kdc.told g.D.Kdc.asked g.D.Kdc.faults)
+    (kdc_calls g.D.Kdc.told g.D.Kdc.asked g.D.Kdc.faults)
     c.ending_by.result first c.client_round.new.client kdc_first c.client_round.new.kdc c.in-Refused.error _
     (c.in-Refused.ensures.client_history first kdc_first going history)

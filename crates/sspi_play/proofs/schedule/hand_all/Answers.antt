@@ -24,7 +24,7 @@ loop-delivery-preserved g c =
       stands = λ empty.
           subst (λ (l : List Delivery). Stands l c.hand.new.transcript.turns c.hand.new.standing)
           (sym (reverse_more c.args.schedule.now c.loop-delivery.delivery-index c.delivery-item.result c.loop-delivery-test.true
-              c.delivery-item.is))
+          c.delivery-item.is))
           (c.in-Ok.ensures.stands _ (at.stands empty));
       client_history = λ empty. c.in-Ok.ensures.client_history _ _ _ (at.stands empty) (at.client_history empty);
       server_history = λ empty. c.in-Ok.ensures.server_history _ (at.server_history empty);

@@ -13,7 +13,7 @@ invariant-loop-delivery g l = record {
   stands : l.fn.transcript.turns ≡ [] → Stands (reverse (take l.delivery-index l.schedule)) l.transcript.turns l.standing;
   client_history : l.fn.transcript.turns ≡ [] →
       ClientHistory (either g.N.Mechanism.REQUESTS g.N.Mechanism.meaning g.K.Mechanism.meaning)
-          (kdc_calls g.D.Kdc.told g.D.Kdc.asked g.D.Kdc.faults)
+      (kdc_calls g.D.Kdc.told g.D.Kdc.asked g.D.Kdc.faults)
       l.fn.client l.fn.kdc (client_turns l.transcript.turns) l.client l.kdc;
   server_history : l.fn.transcript.turns ≡ [] →
       ServerHistory (either g.N.Mechanism.REQUESTS g.N.Mechanism.meaning g.K.Mechanism.meaning) g.C.CredentialsProxy.meaning
