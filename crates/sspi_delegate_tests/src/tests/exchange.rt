@@ -382,6 +382,20 @@ fn exchange_over_a_carrier(rt: HostRuntime) -> Result<(), Fail> {
     Ok(())
 }
 
+/// Pieces change neither the answer nor the log.
+#[test]
+fn exchanges_over_short_pieces(rt: HostRuntime) -> Result<(), Fail> {
+    for most in [1, 2, 3, 7] {
+        let mut link = memory_link(rt.alloc(), &PLAIN)?;
+        link.set_piece(most);
+        let exchanged = exchange(rt.alloc(), &PLAIN, &mut link)?;
+        assert!(rt; is_wanted(&exchanged.answer, Wanted::Credentials(3)));
+        assert_log(&rt, link.log(), &plain_messages(), 104);
+        assert!(rt; link.log().iter().all(|entry| is_whole(entry)));
+    }
+    Ok(())
+}
+
 /// The second message is not sent, or nothing of the first one is received: a call that is tried again would succeed.
 #[test]
 fn a_fault_of_the_carrier_ends_the_exchange(rt: HostRuntime) -> Result<(), Fail> {
