@@ -1,11 +1,12 @@
 //! Decodes or encodes one message many times, so that a counter of instructions can say what one costs.
 //!
 //! Words: `decode`, `encode` or `both`, how many times, and any of `request` (a TSRequest), `init` and `targ` (the tokens of
-//! SPNEGO); without such a word, `request`. For each of these a line of hex comes on standard input. It is parsed before the
-//! loop, and one checksum is printed, so that no result goes unused. docs/PERFORMANCE.md says how it is measured.
+//! SPNEGO); without such a word, `request`. For each of these a line of hex comes on standard input. Or `feed`, how many times,
+//! and a size: one line, a TSRequest, is decoded from pieces of that many bytes. Each line is parsed before its loop, and one
+//! checksum is printed, so that no result goes unused. docs/PERFORMANCE.md says how it is measured.
 #![tactic(auto)]
 
-use crate::work::{Message, Work, message_of, work_of};
+use crate::work::{Job, Message, Work, message_of, work_of};
 use anyhow::{Context, Result, bail};
 use sspi_types::Error;
 use std::alloc::Global;
@@ -31,14 +32,19 @@ fn repeat(
     }
 }
 
-/// The work, how many times, and with which messages.
-fn words<R: Env + Alloc<A = Global>>(rt: &R) -> Result<(Work, u32, Vec<Message>)> {
+/// What is done, and how many times.
+fn words<R: Env + Alloc<A = Global>>(rt: &R) -> Result<(Job, u32)> {
     let mut args = env::args(rt)?;
     let _ = args.next();
     let word = args.next().context("a word is wanted")?;
     let times = args.next().context("a number is wanted")?;
+    let times = times.as_str().parse::<u32>()?;
+    if word.as_str() == "feed" {
+        let size = args.next().context("a size is wanted")?;
+        return Ok((Job::Feed(size.as_str().parse::<usize>()?), times));
+    }
     let Some(work) = work_of(word.as_str()) else {
-        bail!("decode, encode or both is wanted");
+        bail!("decode, encode, both or feed is wanted");
     };
     let mut messages = Vec::new(rt.alloc());
     for word in args {
@@ -50,19 +56,44 @@ fn words<R: Env + Alloc<A = Global>>(rt: &R) -> Result<(Work, u32, Vec<Message>)
     if messages.is_empty() {
         messages.push(Message::Request)?;
     }
-    Ok((work, times.as_str().parse::<u32>()?, messages))
+    Ok((Job::Repeat(work, messages), times))
 }
 
-fn main(rt: HostRuntime) -> Result<()> {
-    let (work, times, messages) = words(&rt)?;
-    for message in &messages {
-        let mut line = String::new(rt.alloc());
-        let _ = rt.read_line(&mut line)?;
-        let bytes = hex::decode(rt.alloc(), line.as_str().trim())?;
+/// The bytes that the next line of standard input spells in hex.
+fn next_message(rt: &HostRuntime) -> Result<Vec<u8>> {
+    let mut line = String::new(rt.alloc());
+    let _ = rt.read_line(&mut line)?;
+    Ok(hex::decode(rt.alloc(), line.as_str().trim())?)
+}
+
+/// One line and one checksum for each message.
+fn repeat_all(rt: &HostRuntime, work: Work, messages: &[Message], times: u32) -> Result<()> {
+    for message in messages {
+        let bytes = next_message(rt)?;
         match repeat(rt.alloc(), work, *message, &bytes, times) {
             Ok(sum) => println!(rt; "{sum}")?,
             Err(_) => bail!("the message cannot be read or written"),
         }
     }
     Ok(())
+}
+
+fn feed(rt: &HostRuntime, size: usize, times: u32) -> Result<()> {
+    if size == 0 {
+        bail!("a size of at least 1 is wanted");
+    }
+    let bytes = next_message(rt)?;
+    match request::repeat_fed(rt.alloc(), size, &bytes, times) {
+        Ok(sum) => println!(rt; "{sum}")?,
+        Err(_) => bail!("the message cannot be read"),
+    }
+    Ok(())
+}
+
+fn main(rt: HostRuntime) -> Result<()> {
+    let (job, times) = words(&rt)?;
+    match job {
+        Job::Repeat(work, messages) => repeat_all(&rt, work, &messages, times),
+        Job::Feed(size) => feed(&rt, size, times),
+    }
 }

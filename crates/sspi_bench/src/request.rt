@@ -1,7 +1,9 @@
+ghost use Rattle.std.specs.Prelude.{◌<◌};
+
 use crate::sums::{len_of, sum_of_text};
 use crate::work::Work;
 use sspi_ber::{VecSink, WireKind};
-use sspi_tsreq::TsRequest;
+use sspi_tsreq::{TsReader, TsRequest};
 use std::alloc::Global;
 
 /// A number to which each field of the request adds.
@@ -42,6 +44,27 @@ pub fn repeat(alloc: Global, work: Work, bytes: &[u8], times: u32) -> Result<u64
             Work::Both => encode(alloc, &request)?.wrapping_add(decode(alloc, bytes)?),
         };
         sum = sum.wrapping_add(one);
+    }
+    Ok(sum)
+}
+
+fn feed(alloc: Global, bytes: &[u8], size: usize) -> Result<u64, WireKind>
+    requires { 0 < size }
+{
+    let mut reader = TsReader::new(alloc);
+    for piece in bytes.chunks(size) {
+        reader.feed(piece)?;
+    }
+    Ok(sum_of(&reader.finish()?))
+}
+
+/// So many times the TSRequest that the bytes begin with, from pieces of `size` bytes.
+pub fn repeat_fed(alloc: Global, size: usize, bytes: &[u8], times: u32) -> Result<u64, WireKind>
+    requires { 0 < size }
+{
+    let mut sum = 0u64;
+    for _ in 0..times {
+        sum = sum.wrapping_add(feed(alloc, bytes, size)?);
     }
     Ok(sum)
 }

@@ -14,6 +14,15 @@ pub enum Message {
     Targ,
 }
 
+/// What the program does so many times.
+#[derive(Drop)]
+pub enum Job {
+    /// This work with a line for each of these messages.
+    Repeat(Work, Vec<Message>),
+    /// A TSRequest is fed in pieces of this many bytes.
+    Feed(usize),
+}
+
 pub fn work_of(word: &str) -> Option<Work> {
     match word {
         "decode" => Some(Work::Decode),

@@ -1,5 +1,5 @@
 -- What half a round makes of the histories of both ends, whatever the error.
-use Rattle.std.proofs.Common.{ℕ, inl, inr, List, Option}
+use Rattle.std.proofs.Common.{inl, inr, List}
 use Rattle.sspi_types.specs.declared.error.Error.{Error}
 use Rattle.sspi_mech.specs.Meaning.{Meaning}
 use Rattle.sspi_credssp.specs.Client.{ClientView}

@@ -1,5 +1,5 @@
 -- One more turn in the history of an end.
-use Rattle.std.proofs.Common.{◌≡◌, ap, refl, List, [], ◌∷◌, ℕ, Option, None, Result, Ok, Err}
+use Rattle.std.proofs.Common.{◌≡◌, ap, refl, List, [], ◌∷◌, Option, None, Result, Ok, Err}
 use Rattle.sspi_types.specs.declared.error.Error.{Error}
 use Rattle.sspi_mech.specs.Meaning.{Meaning}
 use Rattle.sspi_names.specs.declared.identity.AuthIdentity.{AuthIdentity}

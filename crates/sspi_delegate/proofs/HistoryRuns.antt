@@ -1,5 +1,5 @@
 -- What the history of a fresh end tells of its run, and of what it gave.
-use Rattle.std.proofs.Common.{ℕ, sym, refl, subst, arith, List, [], ◌∷◌, Option, None, Some, Result, Ok, Err, IfOk}
+use Rattle.std.proofs.Common.{sym, refl, subst, arith, List, [], ◌∷◌, None, Some, Result, Ok, Err, IfOk}
 use Rattle.sspi_mech.specs.Context.{IsContext}
 use Rattle.sspi_mech.specs.Meaning.{Meaning}
 use Rattle.sspi_tsreq.specs.declared.request.TsRequest.{TsRequest}

@@ -1,11 +1,16 @@
 -- One more turn, and what it makes of the log of an exchange.
 use Rattle.std.proofs.Common.{◌≡◌, ℕ, ◌≤◌, ◌<◌, ◌⊎◌, inl, inr, List, [], ◌∷◌, length, sym, ◌∙◌, ap, subst, refl, None, Some, IsSome}
-use Rattle.std.proofs.Common.{Ok, slice_get}
+use Rattle.std.proofs.Common.{Ok, Err, slice_get}
 use Rattle.sspi_types.specs.declared.error.Error.{Error}
 use Rattle.sspi_types.specs.declared.error_kind.ErrorKind.{ErrorKind}
 use Rattle.sspi_types.specs.declared.error_kind.ErrorKind.TheVariants as kinds
-use Rattle.sspi_ber.specs.Outside.{Counts}
+use Rattle.sspi_ber.specs.declared.wire_kind.WireKind.{WireKind}
+use Rattle.sspi_ber.specs.declared.wire_kind.WireKind.TheVariants.{UnexpectedEof, InvalidData, ReadFault, WriteFault, InsufficientMemory}
+use Rattle.sspi_ber.specs.Outside.{Counts, NeedsNoMemory}
+use Rattle.sspi_tsreq.specs.declared.reader.TsReader.{TsReader}
 use Rattle.sspi_tsreq.specs.declared.request.TsRequest.{TsRequest}
+use Rattle.sspi_tsreq.specs.Answer.{IsAnswer}
+use Rattle.sspi_tsreq.specs.Feeding.{Stands}
 use Rattle.sspi_delegate.specs.declared.answer.DelegateError.{DelegateError}
 use Rattle.sspi_delegate.specs.declared.answer.DelegateError.TheVariants as errors
 use Rattle.sspi_delegate.specs.declared.carried.Carried.{Carried}
@@ -17,9 +22,10 @@ use Rattle.sspi_credssp.specs.declared.turn.Turn.{Turn}
 use Rattle.sspi_delegate.specs.Causes.{Between, Asked, Turned, Finishes, Stopped, NewestIs, IsClientRefusal, IsServerRefusal}
 use Rattle.sspi_delegate.specs.Causes.{IsFinished, IsAnswerTo, MayLackAfter, MayLack, TurnLeft, HasMessage, Given, carried, too_long}
 use Rattle.sspi_delegate.specs.Causes.{link_failed, no_memory, turns_of}
-use Rattle.sspi_delegate.specs.Deliveries.{delivery_limit, IsUnread, Fed, HeadTaken, Takes}
+use Rattle.sspi_delegate.specs.Deliveries.{delivery_limit, IsUnread, Fed, HeadTaken, HeadWithin}
+use Rattle.sspi_delegate.specs.Readers.{TakesIn}
 use Rattle.sspi_delegate.specs.Recorded.{PushedSuch}
-use Rattle.sspi_delegate.specs.Run.{Logged, LoggedButLast, HasLog, IsDelivered, IsRead, IsSent}
+use Rattle.sspi_delegate.specs.Run.{Logged, LoggedButLast, HasLog, IsDelivered, IsRead, IsSent, IsFault, IsUnreadable}
 use Rattle.sspi_delegate.specs.Turns.{next_end, GoesOn, AllGoOn, Alternates}
 use Rattle.sspi_credssp.specs.Turn.{message_of}
 
@@ -227,33 +233,60 @@ spent base start turns log now turn limit at all = record {
 }
 
 -- the request that was read of the newest delivery
-pub read_asked : (base : List Carried) (start : ℕ) (turns : List Turn) (log log2 : List Carried) (now now2 : ℕ) (text : List ℕ)
+pub read_asked : (base : List Carried) (start : ℕ) (turns : List Turn) (log log2 : List Carried) (now now2 : ℕ) (reader : TsReader)
     (request : TsRequest) (newest : Turn) →
-    Some newest ≡ slice_get turns 0 → Between base start turns log now → (IsUnread log → Takes log log2 (Ok text)) → now2 ≡ now →
-    IsRead text request →
+    Some newest ≡ slice_get turns 0 → Between base start turns log now → (IsUnread log → TakesIn log log2 (Ok reader)) → now2 ≡ now →
+    ((bytes : List ℕ) → Stands reader bytes → IsAnswer bytes (Ok request)) →
     Asked base start turns log2 now2 request
-read_asked base start [] log log2 now now2 text request newest there between takes later read = absurd (cc (there))
-read_asked base start (t ∷ past) log log2 now now2 text request newest there between takes later read =
+read_asked base start [] log log2 now now2 reader request newest there between takes later answer = absurd (cc (there))
+read_asked base start (t ∷ past) log log2 now now2 reader request newest there between takes later answer =
     let took = takes between.unread in record {
       order = between.order;
       going = between.going;
-      entries = fed_logged base t past log log2 took.0 between.entries;
-      delivered = head_delivered t past log2 text request took.1 read;
+      entries = fed_logged base t past log log2 took.1.0 between.entries;
+      delivered = head_delivered t past log2 took.0 request took.1.1 (answer took.0 took.2).0;
       calm = later ∙ between.calm;
     }
 
--- no memory for the request that was read of the newest delivery
-pub read_lacks : (base : List Carried) (start limit : ℕ) (turns : List Turn) (log log2 : List Carried) (now now2 : ℕ) (text : List ℕ)
-    (newest : Turn) →
-    Some newest ≡ slice_get turns 0 → Between base start turns log now → (IsUnread log → Takes log log2 (Ok text)) → now2 ≡ now →
-    Stopped base start limit errors.InsufficientMemory turns log2 now2
-read_lacks base start limit [] log log2 now now2 text newest there between takes later = absurd (cc (there))
-read_lacks base start limit (t ∷ past) log log2 now now2 text newest there between takes later =
+-- a reader tells no want of memory, so what it tells is the fault of the bytes
+told_fault : (bytes : List ℕ) (kind : WireKind) → IsAnswer bytes (Err kind) → NeedsNoMemory {X = TsRequest} (Err kind) → IsFault bytes kind
+told_fault bytes UnexpectedEof answer memory = answer
+told_fault bytes InvalidData answer memory = answer
+told_fault bytes ReadFault answer memory = answer
+told_fault bytes WriteFault answer memory = answer
+told_fault bytes InsufficientMemory answer memory = memory
+
+head_unreadable : (t : Turn) (past : List Turn) (log : List Carried) (text : List ℕ) (kind : WireKind) → HeadTaken log text →
+    IsFault text kind → IsUnreadable (t ∷ past) log kind
+head_unreadable t past [] text kind head fault = absurd head
+head_unreadable t past (e ∷ log) text kind head fault = (
+  head.0,
+  subst (λ (bytes : List ℕ). IsFault bytes kind) (sym head.1) fault,
+)
+
+head_within : (log : List Carried) (text : List ℕ) → HeadTaken log text → HeadWithin log
+head_within [] text head = head
+head_within (e ∷ log) text head = subst (λ (bytes : List ℕ). length bytes ≤ delivery_limit) (sym head.1) head.2
+
+-- the newest delivery is no request
+pub read_fails : (base : List Carried) (start limit : ℕ) (turns : List Turn) (log log2 : List Carried) (now now2 : ℕ) (reader : TsReader)
+    (to : End) (kind : WireKind) (newest : Turn) →
+    Some newest ≡ slice_get turns 0 → next_end turns ≡ to → TurnLeft limit turns → Between base start turns log now →
+    (IsUnread log → TakesIn log log2 (Ok reader)) → now2 ≡ now →
+    ((bytes : List ℕ) → Stands reader bytes → IsAnswer bytes (Err kind)) → NeedsNoMemory {X = TsRequest} (Err kind) →
+    Stopped base start limit (errors.Read to kind) turns log2 now2
+read_fails base start limit [] log log2 now now2 reader to kind newest there next left between takes later answer memory =
+    absurd (cc (there))
+read_fails base start limit (t ∷ past) log log2 now now2 reader to kind newest there next left between takes later answer memory =
     let took = takes between.unread in record {
       order = between.order;
       cause = (
-        going_may_lack (t ∷ past) between.going,
-        inl (fed_logged base t past log log2 took.0 between.entries),
-        inl (later ∙ between.calm),
+        between.going,
+        next,
+        left,
+        fed_logged base t past log log2 took.1.0 between.entries,
+        head_unreadable t past log2 took.0 kind took.1.1 (told_fault took.0 kind (answer took.0 took.2) memory),
+        head_within log2 took.0 took.1.1,
+        later ∙ between.calm,
       );
     }

@@ -1,5 +1,5 @@
 -- How often a server has asked its proxy: for the list with its context, and for the peer at the end of the authentication.
-use Rattle.std.proofs.Common.{◌≡◌, ◌∙◌, ℕ, ◌+◌, List, [], ◌∷◌, Option, None, Some, IsSome, Result, Ok, Err, OnOk, Bool, true, false}
+use Rattle.std.proofs.Common.{◌≡◌, ◌∙◌, ℕ, ◌+◌, List, [], ◌∷◌, Option, None, Some, IsSome, Result, Ok, Err, OnOk, Bool}
 use Rattle.std.proofs.Common.{refl, sym, ap, subst, arith}
 use Rattle.sspi_types.specs.declared.security_status.SecurityStatus.{SecurityStatus}
 use Rattle.sspi_types.specs.declared.security_status.SecurityStatus.TheVariants as statuses
@@ -17,7 +17,7 @@ use Rattle.sspi_credssp.specs.Context.{ContextSetting}
 use Rattle.sspi_credssp.specs.Peers.{list_calls, lists_in}
 use Rattle.sspi_credssp.specs.Proxy.{ProxyMeaning, HasAsked}
 use Rattle.sspi_credssp.specs.Server.{ServerView, IsFreshServer}
-use Rattle.sspi_credssp.specs.ServerAsks.{look_ups_at, calls_in}
+use Rattle.sspi_credssp.specs.ServerAsks.{look_ups_at}
 use Rattle.sspi_credssp.specs.ServerTurn.{ServerTurn, after_reply, after_status, server_state_after, server_frame, server_turn}
 use Rattle.sspi_credssp.specs.Turn.{UnlessRefused, ServerFrame}
 use Rattle.sspi_credssp.proofs.Asked.{has_not_asked, has_asked_on, has_asked_as}

@@ -1,6 +1,6 @@
 -- Reading the newest delivery of a log, piece by piece.
 use Rattle.std.proofs.Common.{◌≡◌, ℕ, ◌⊎◌, inl, inr, List, [], ◌∷◌, false, Option, None, Some, Result, Ok, Err, OnErr, ◌∙◌, sym, subst}
-use Rattle.std.proofs.Common.{refl}
+use Rattle.std.proofs.Common.{refl, length}
 use Rattle.sspi_types.specs.declared.error.Error.{Error}
 use Rattle.sspi_ber.specs.Outside.{Counts}
 use Rattle.sspi_delegate.specs.declared.carried.Carried.{Carried}
@@ -10,12 +10,21 @@ use Rattle.sspi_delegate.specs.declared.edit.Edit.{Edit}
 use Rattle.sspi_delegate.specs.Link.{StaysTold}
 use Rattle.sspi_delegate.specs.Causes.{IsAnswerTo}
 use Rattle.sspi_delegate.specs.Messages.{CarryFails, HasFailed, GiveTold, AnswerTold, RequestTold}
+use Rattle.sspi_tsreq.specs.declared.reader.TsReader.{TsReader}
 use Rattle.sspi_tsreq.specs.declared.request.TsRequest.{TsRequest}
+use Rattle.sspi_tsreq.specs.Feeding.{Stands}
 
 -- so much was read of the newest delivery, and it has not ended
 abbrev pub IsSoFar : List Carried → List Carried → List ℕ → Type 0
 IsSoFar [] now text = ⊥
 IsSoFar (e ∷ log) now text = now ≡ record e { delivered = text; ended = false } ∷ log
+
+-- so many bytes were read of the newest delivery, which has not ended, and the reader was fed with them
+pub record IsFedSoFar (old now : List Carried) (reader : TsReader) (taken : ℕ) : Type 0 where
+  pub text : List ℕ
+  pub so_far : IsSoFar old now text
+  pub stands : Stands reader text
+  pub counted : length text ≡ taken
 
 -- where the edits are told, no fault was counted
 abbrev pub IsStill : Option (List Edit) → ℕ → ℕ → Type 0

@@ -1,5 +1,5 @@
 -- What the history of a fresh end tells of its refusal.
-use Rattle.std.proofs.Common.{ℕ, subst, List, Option, Result, Ok, Err}
+use Rattle.std.proofs.Common.{subst, List, Result, Ok, Err}
 use Rattle.sspi_types.specs.declared.error.Error.{Error}
 use Rattle.sspi_mech.specs.Context.{IsContext}
 use Rattle.sspi_mech.specs.Meaning.{Meaning}

@@ -1,6 +1,6 @@
 -- Why a turn was refused that asked a KDC.
-use Rattle.std.proofs.Common.{◌≡◌, ◌≢◌, ℕ, ◌==◌, Bool, true, false, not, List, Option, None, Some, IsSome, Err, sym, ◌∙◌, ap, subst}
-use Rattle.std.proofs.Common.{refl, arith, eq-eqb}
+use Rattle.std.proofs.Common.{◌≡◌, ◌≢◌, ℕ, Bool, true, false, not, List, Option, None, Some, IsSome, Err, sym, ◌∙◌, ap, subst}
+use Rattle.std.proofs.Common.{refl, arith}
 use Rattle.std.proofs.lemmas.Bool.{true≢false}
 use Rattle.sspi_types.specs.declared.error.Error.{Error}
 use Rattle.sspi_types.specs.declared.error_kind.ErrorKind.{ErrorKind}

@@ -4,6 +4,7 @@ pub mod Chain
 pub mod ClientRun
 pub mod Delegates
 pub mod Deliveries
+pub mod Readers
 pub mod Edits
 pub mod EndTurns
 pub mod Exactly

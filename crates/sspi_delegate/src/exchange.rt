@@ -22,7 +22,6 @@ use crate::ends::{ClientRound, ServerRound, client_round, server_round};
 use crate::link::{Link, LinkError};
 use crate::messages::{send, take_delivery};
 use crate::transcript::Transcript;
-use sspi_ber::WireKind;
 use sspi_credssp::{CredSspClient, CredSspServer, CredentialsProxy, End, SspiContext};
 use sspi_mech::{Kdc, Mechanism};
 use sspi_names::AuthIdentity;
@@ -223,14 +222,13 @@ fn next_request<L: Link>(
     if let None = transcript.newest() {
         return Ok(TsRequest::default());
     }
-    let text = match take_delivery(alloc, link) {
-        Ok(text) => text,
+    let reader = match take_delivery(alloc, link) {
+        Ok(reader) => reader,
         Err(LinkError::Failed) => return Err(DelegateError::LinkFault),
         Err(LinkError::InsufficientMemory) => return Err(DelegateError::InsufficientMemory),
     };
-    match TsRequest::from_buffer(alloc, text.as_slice()) {
+    match reader.finish() {
         Ok(request) => Ok(request),
-        Err(WireKind::InsufficientMemory) => Err(DelegateError::InsufficientMemory),
         Err(kind) => Err(DelegateError::Read(to, kind)),
     }
 }

@@ -59,10 +59,17 @@ impl Log {
         }
     }
 
-    /// Hands out the next bytes of `text`, of which the newest entry has had some already.
-    pub fn hand_out(&mut self, text: &[u8], into: &mut [u8]) -> Result<usize, LinkError>
-        requires { NewestDelivers text.now self.old.entries }
+    /// Hands out the next bytes of `text`, at most so many, of which the newest entry has had some already.
+    pub fn hand_out(
+        &mut self,
+        text: &[u8],
+        most: usize,
+        into: &mut [u8],
+    ) -> Result<usize, LinkError>
+        requires newest { NewestDelivers text.now self.old.entries }
+        requires some { 0 < most }
         ensures gives { PieceGives self.old.entries self.new.entries result into.new }
+        ensures within { IfOk result (λ n. n ≤ most) }
         ensures delivers { NewestDelivers text.now self.new.entries }
         ensures memory { IfErr result (λ error. error ≡ LinkError.InsufficientMemory) }
         ensures none { self.old.entries ≡ [] → (result ≡ Ok 0) × (self.new ≡ self.old) }
@@ -70,7 +77,7 @@ impl Log {
         let Some(last) = self.entries.len().checked_sub(1) else {
             return Ok(0);
         };
-        hand_out(&mut self.entries[last], text, into)
+        hand_out(&mut self.entries[last], text, most, into)
     }
 
     /// Asks the carrier for the next bytes of the newest delivery.
@@ -90,15 +97,22 @@ impl Log {
     }
 }
 
-fn hand_out(entry: &mut Carried, text: &[u8], into: &mut [u8]) -> Result<usize, LinkError>
-    requires { Delivers (Some text.now) entry.old }
+fn hand_out(
+    entry: &mut Carried,
+    text: &[u8],
+    most: usize,
+    into: &mut [u8],
+) -> Result<usize, LinkError>
+    requires delivers { Delivers (Some text.now) entry.old }
+    requires some { 0 < most }
     ensures ok { IfOk result (λ n. (n ≤ length into.new) × (entry.old.ended ≡ true → n ≡ 0) × (entry.new ≡ grown entry.old n into.new)) }
     ensures err { OnErr result (entry.new ≡ entry.old) }
+    ensures within { IfOk result (λ n. n ≤ most) }
     ensures delivers { Delivers (Some text.now) entry.new }
     ensures memory { IfErr result (λ error. error ≡ LinkError.InsufficientMemory) }
 {
     let (_, rest) = text.split_at(entry.delivered.len());
-    let count = rest.len().min(into.len());
+    let count = rest.len().min(into.len()).min(most);
     let (piece, _) = rest.split_at(count);
     entry.delivered.push_slice(piece)?;
     into[..count].copy_from_slice(piece);

@@ -20,6 +20,8 @@ pub struct MemoryLink {
     /// What the edits give of the newest entry.
     text: Bytes,
     faults: u64,
+    /// A piece has at most so many bytes, or one where this is 0.
+    most: usize,
 }
 
 impl Model for MemoryLink {
@@ -43,7 +45,15 @@ impl MemoryLink {
             log: Log::new(alloc),
             text: Bytes::new(alloc),
             faults: 0,
+            most: usize::MAX,
         }
+    }
+
+    /// Limits each piece to `most` bytes from here on; 0 counts as 1. What is delivered stays the same.
+    pub fn set_piece(&mut self, most: usize)
+        ensures { self.new ≡ self.old }
+    {
+        self.most = most;
     }
 
     /// The log, the first entry first. Takes no memory.
@@ -81,6 +91,7 @@ impl Link for MemoryLink {
     }
 
     fn piece(&mut self, into: &mut [u8]) -> Result<usize, LinkError> {
-        self.log.hand_out(self.text.as_slice(), into)
+        self.log
+            .hand_out(self.text.as_slice(), self.most.max(1), into)
     }
 }

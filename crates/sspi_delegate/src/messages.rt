@@ -1,5 +1,6 @@
 ghost use Rattle.std.specs.Prelude.{◌≡◌, ◌+◌, ◌<◌, ◌≤◌, length};
-ghost use Rattle.sspi_delegate.specs.Deliveries.{IsUnread, Takes};
+ghost use Rattle.sspi_delegate.specs.Deliveries.{IsUnread};
+ghost use Rattle.sspi_delegate.specs.Readers.{TakesIn};
 ghost use Rattle.sspi_delegate.specs.Link.{LinkCause, NeverFails, StaysTold};
 ghost use Rattle.sspi_delegate.specs.Messages.{Encodes, Sends, SendTold};
 
@@ -7,8 +8,7 @@ use crate::answer::DelegateError;
 use crate::link::{Link, LinkError};
 use sspi_ber::{MAX_CONTENT, VecSink, WireKind};
 use sspi_credssp::End;
-use sspi_tsreq::TsRequest;
-use sspi_types::Bytes;
+use sspi_tsreq::{TsReader, TsRequest};
 use std::alloc::Global;
 
 /// At most so many bytes of one delivery are read: the longest message, whose header has five.
@@ -16,29 +16,31 @@ pub const DELIVERY_LIMIT: usize = 5 + MAX_CONTENT;
 
 const PIECE_LENGTH: usize = 2048;
 
-/// The newest delivery, read to its end or to the limit.
-pub(crate) fn take_delivery<L: Link>(alloc: Global, link: &mut L) -> Result<Bytes, LinkError>
-    ensures takes { IsUnread (L.log link.old) → Takes (L.log link.old) (L.log link.new) result }
+/// A reader that was fed with the newest delivery, piece by piece as the link gives it, to its end or to the limit.
+pub(crate) fn take_delivery<L: Link>(alloc: Global, link: &mut L) -> Result<TsReader, LinkError>
+    ensures takes { IsUnread (L.log link.old) → TakesIn (L.log link.old) (L.log link.new) result }
     ensures cause { LinkCause (L.faults link.old) (L.faults link.new) result }
     ensures told { StaysTold (L.edits link.old) (L.edits link.new) (L.log link.old) (L.log link.new) }
     ensures still { NeverFails (L.edits link.old) (L.faults link.old) (L.faults link.new) result }
 {
-    let mut text = Bytes::new(alloc);
+    let mut reader = TsReader::new(alloc);
     let mut room = [0u8; PIECE_LENGTH];
-    while text.len() < DELIVERY_LIMIT {
-        let most = most_at(text.len());
+    let mut taken = 0;
+    while taken < DELIVERY_LIMIT {
+        let most = most_at(taken);
         let count = match link.piece(&mut room[..most]) {
             Ok(count) => count,
             Err(error) => return Err(error),
         };
         if count == 0 {
-            return Ok(text);
+            return Ok(reader);
         }
-        let Ok(()) = text.push_slice(&room[..count]) else {
+        let Ok(()) = reader.feed(&room[..count]) else {
             return Err(LinkError::InsufficientMemory);
         };
+        taken += count;
     }
-    Ok(text)
+    Ok(reader)
 }
 
 /// How many bytes are asked for, once so many were taken.

@@ -47,6 +47,8 @@ struct Setting {
     least: u32,
     turns: u32,
     edit: Option<(u32, Kind)>,
+    /// A piece has at most so many bytes.
+    piece: usize,
 }
 
 /// What an exchange is to answer.
@@ -142,7 +144,9 @@ fn memory_link(alloc: Global, setting: &Setting) -> Result<MemoryLink, AllocErro
     if let Some((entry, kind)) = setting.edit {
         edits.push(edit(alloc, entry, kind)?)?;
     }
-    Ok(MemoryLink::new(alloc, edits))
+    let mut link = MemoryLink::new(alloc, edits);
+    link.set_piece(setting.piece);
+    Ok(link)
 }
 
 fn exchange<L: Link>(alloc: Global, setting: &Setting, link: &mut L) -> Result<Exchanged, Fail> {
@@ -245,6 +249,7 @@ const PLAIN: Setting = Setting {
     least: 5,
     turns: 5,
     edit: None,
+    piece: usize::MAX,
 };
 
 fn edited(
@@ -280,7 +285,18 @@ fn limited(limit: u32, wanted: Wanted, turns: usize, sent: usize, delivered: usi
     }
 }
 
-fn rows() -> [Row; 12] {
+/// Pieces change neither the answer nor the log.
+fn in_pieces(piece: usize) -> Row {
+    Row {
+        setting: Setting { piece, ..PLAIN },
+        wanted: Wanted::Credentials(3),
+        turns: 6,
+        sent: 5,
+        delivered: 104,
+    }
+}
+
+fn rows() -> [Row; 16] {
     let altered = Wanted::Client(ErrorKind::MessageAltered, None);
     let old = Wanted::Client(ErrorKind::DowngradeDetected, None);
     let malformed = Wanted::Client(ErrorKind::InvalidToken, None);
@@ -310,6 +326,10 @@ fn rows() -> [Row; 12] {
         edited(1, error_code(), told, 3, 2, 15),
         edited(0, Kind::Drop, unread, 1, 1, 0),
         edited(0, Kind::Fail, fault, 1, 0, 0),
+        in_pieces(1),
+        in_pieces(2),
+        in_pieces(3),
+        in_pieces(7),
     ]
 }
 

@@ -111,6 +111,32 @@ fn edits_change_what_is_delivered(rt: HostRuntime) -> Result<(), Fail> {
     Ok(())
 }
 
+/// The lengths of the pieces in which `abc` comes where four bytes are asked for at once.
+fn piece_lengths(link: &mut MemoryLink) -> [usize; 4] {
+    let mut lengths = [9; 4];
+    if link.carry(End::Client, b"abc").is_ok() {
+        for length in lengths.iter_mut() {
+            *length = link.piece(&mut [0u8; 4]).unwrap_or(9);
+        }
+    }
+    lengths
+}
+
+#[test]
+fn pieces_are_limited(rt: HostRuntime) {
+    let mut link = MemoryLink::new(rt.alloc(), Vec::new(rt.alloc()));
+    assert_eq!(rt; piece_lengths(&mut link), [3, 0, 0, 0]);
+    for (most, lengths) in [
+        (0, [1, 1, 1, 0]),
+        (1, [1, 1, 1, 0]),
+        (2, [2, 1, 0, 0]),
+        (4, [3, 0, 0, 0]),
+    ] {
+        link.set_piece(most);
+        assert_eq!(rt; piece_lengths(&mut link), lengths);
+    }
+}
+
 #[test]
 fn an_edit_fails_the_carry(rt: HostRuntime) -> Result<(), Fail> {
     for edits in [
