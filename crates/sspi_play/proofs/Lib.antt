@@ -4,6 +4,7 @@ pub mod Gives
 pub mod Histories
 pub mod Lists
 pub mod Order
+pub mod OwnIdentity
 pub mod Parts
 pub mod Runs
 pub mod SameTexts
