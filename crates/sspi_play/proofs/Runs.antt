@@ -53,7 +53,7 @@ module _ {C D : Type 0} (c : Meaning ContextSetting C) (k : KdcCalls D) where
   left_others first now kdc kdc2 turns un (between h) = history_others first now kdc kdc2 turns un h
   left_others first now kdc kdc2 turns un (waiting old kdc1 d went h way) = going_others turns went
 
-  played_left : (result : Result Played DelegateError) (first now : ClientView C) (kdc kdc2 : D) (turns : List Turn) →
+  pub played_left : (result : Result Played DelegateError) (first now : ClientView C) (kdc kdc2 : D) (turns : List Turn) →
       ClientPlayed c k {X = Played} first kdc result turns now kdc2 → ClientLeft c k first kdc turns now kdc2
   played_left (Ok played) first now kdc kdc2 turns h = between h
   played_left (Err error) first now kdc kdc2 turns h = h
