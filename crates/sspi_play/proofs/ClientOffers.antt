@@ -1,9 +1,8 @@
 -- A client's context, after its turns: once it has made or taken a MIC, it keeps the list that it offered in one of them.
-use Rattle.std.proofs.Common.{◌≡◌, ◌≢◌, ◌+◌, ℕ, ◌⊎◌, inl, inr, Bool, true, false, List, [], ◌∷◌, ◌++◌, Option, None, Some, Result, Ok, Err}
+use Rattle.std.proofs.Common.{◌≡◌, ◌≢◌, ℕ, ◌⊎◌, inl, inr, Bool, true, false, List, [], ◌∷◌, Option, None, Some, Result, Ok, Err}
 use Rattle.std.proofs.Common.{refl, sym, ◌∙◌, ap, subst, arith}
 use Rattle.std.proofs.lemmas.Bool.{false≢true}
 use Rattle.sspi_types.specs.declared.credential_use.CredentialUse.TheVariants.{Outbound}
-use Rattle.sspi_types.specs.declared.error.Error.{Error}
 use Rattle.sspi_types.specs.declared.error_kind.ErrorKind.{ErrorKind}
 use Rattle.sspi_types.specs.declared.error_kind.ErrorKind.TheVariants.{InsufficientMemory}
 use Rattle.sspi_types.specs.declared.security_status.SecurityStatus.{SecurityStatus}
@@ -13,12 +12,10 @@ use Rattle.sspi_names.specs.declared.kdc_table.KdcEntry.{KdcEntry}
 use Rattle.sspi_mech.specs.declared.step.Answer.{Answer}
 use Rattle.sspi_mech.specs.declared.step.Answer.TheVariants.{Done, Ask, Refused}
 use Rattle.sspi_mech.specs.declared.step.Reply.{Reply}
-use Rattle.sspi_mech.specs.declared.step.Step.{Step}
-use Rattle.sspi_mech.specs.Calls.{StepArgs, Counts, no_counts}
+use Rattle.sspi_mech.specs.Calls.{StepArgs, no_counts}
 use Rattle.sspi_mech.specs.Laws.{IsMechanism}
 use Rattle.sspi_mech.specs.Meaning.{Meaning}
 use Rattle.sspi_mech.specs.Settings.{Setting}
-use Rattle.sspi_negotiate.specs.declared.branch.Branch.{Branch}
 use Rattle.sspi_negotiate.specs.declared.negotiate_config.NegotiateConfig.{NegotiateConfig}
 use Rattle.sspi_negotiate.specs.declared.protocol.NegotiatedProtocol.{NegotiatedProtocol}
 use Rattle.sspi_negotiate.specs.declared.state.NegotiateState.{NegotiateState}
@@ -45,15 +42,14 @@ use Rattle.sspi_credssp.specs.Begun.{Begun, IfContext, goes_on, is_new}
 use Rattle.sspi_credssp.specs.Client.{ClientView}
 use Rattle.sspi_credssp.specs.ClientStep.{Asked, Walked, stepped, resumed, still_asked, recounted}
 use Rattle.sspi_credssp.specs.Context.{either, ForClient}
-use Rattle.sspi_credssp.specs.Counts.{silent}
 use Rattle.sspi_delegate.specs.Asking.{KdcCalls}
-use Rattle.sspi_delegate.specs.Chain.{ClientStage, client_at, ClientStepped, ClientMovedBy, ClientChain, ClientChainLeft, at_rest, waiting}
+use Rattle.sspi_delegate.specs.Chain.{ClientStage, client_at, ClientMovedBy, ClientChain, ClientChainLeft, at_rest, waiting}
 use Rattle.sspi_delegate.specs.EndTurns.{OthersGoOn}
 use Rattle.sspi_delegate.specs.Turns.{GoesOn, AllGoOn}
 use Rattle.sspi_play.specs.Negotiated.{IsOffer, HasOffered}
 use Rattle.sspi_play.specs.Plays.{refusal_in, last_refusal}
 use Rattle.sspi_play.proofs.Contexts.{HoldsOf, holds_map, IsOfMics, holds_recounted, holds_same_but, holds_stepped, holds_resumed}
-use Rattle.sspi_play.proofs.Marks.{is_marked, KeepsCounts, hand_keeps, QuietEnds, quiet_all, quiet_marks}
+use Rattle.sspi_play.proofs.Marks.{is_marked, hand_keeps, QuietEnds, quiet_all, quiet_marks}
 use Rattle.sspi_play.proofs.Offering.{is_answering, Still, OffersAt, client_quiet, resumed_quiet, HasThatList, client_later, resumed_later}
 
 offered_more : (t : Turn) (turns : List Turn) (list : List (List ℕ)) → HasOffered turns list → HasOffered (t ∷ turns) list
@@ -189,7 +185,8 @@ module _ {N K : Type 0} (r q : ℕ) (n : Meaning Setting N) (k : Meaning Setting
       (negotiate r n k).acquires s Outbound asked buffers s2 → OffersBy n k Has s2
   fresh_offers Has config asked buffers s s2 made same got =
       let state : s2.state ≡ states.Initial =
-      ap (λ (x : Negotiation (NegotiatedProtocol N K)). x.state) got.kept ∙ ap (λ (x : Negotiation (NegotiatedProtocol N K)). x.state) same in
+      ap (λ (x : Negotiation (NegotiatedProtocol N K)). x.state) got.kept
+      ∙ ap (λ (x : Negotiation (NegotiatedProtocol N K)). x.state) same in
       let branch : is_answering s2.branch ≡ false =
       ap (λ (x : Negotiation (NegotiatedProtocol N K)). is_answering x.branch) got.kept
       ∙ ap (λ (x : Negotiation (NegotiatedProtocol N K)). is_answering x.branch) same in
@@ -233,7 +230,8 @@ module _ {N K : Type 0} (r q : ℕ) (n : Meaning Setting N) (k : Meaning Setting
       HoldsOf n k (OffersBy n k Has) start.context →
       Walked (either r n k) start handle token tries log x m → HoldsOf n k (Next n k x Has) (Some m)
   walks_next Has start handle token tries log x m none h (stepped m0 m1 y begun steps) =
-      holds_stepped r q n k ln lk (OffersBy n k Has) (Next n k x Has) m0 m _ x (λ s s2 moves offers. steps_next Has s s2 _ x moves offers) steps
+      holds_stepped r q n k ln lk (OffersBy n k Has) (Next n k x Has) m0 m _ x
+      (λ s s2 moves offers. steps_next Has s s2 _ x moves offers) steps
       (begun_offers Has start.context start.handle handle start.mode (Some start.credentials) m0 h begun)
   walks_next Has start handle token tries log x m none h (resumed m1 m2 tried before question reply y walked goes) =
       holds_resumed r q n k ln lk (OffersBy n k Has) (Next n k x Has) m1 m reply x
@@ -308,5 +306,5 @@ module _ {N K : Type 0} (r q : ℕ) (n : Meaning Setting N) (k : Meaning Setting
         ClientChainLeft (either r n k) kdcs first kdc turns now → Offers n k turns now.context
     left_offers kdc turns now none others had (at_rest chain) = rest_offers kdc turns now none others had chain
     left_offers kdc turns now none others had (waiting stage token question asked going chain step lost) =
-        stepped_next turns stage (record now { kdc = asked }) token (Ask question) now.context (chain_offers kdc turns stage none going chain)
-        step.asked step.walked
+        stepped_next turns stage (record now { kdc = asked }) token (Ask question) now.context
+        (chain_offers kdc turns stage none going chain) step.asked step.walked

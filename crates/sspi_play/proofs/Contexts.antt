@@ -1,5 +1,5 @@
 -- A fact of a negotiation, through what a context does beside its steps. A context that negotiates nothing makes and takes no MIC.
-use Rattle.std.proofs.Common.{◌≡◌, ℕ, Bool, true, false, List, Option, None, Some, Result, refl, sym, ◌∙◌, ap, subst}
+use Rattle.std.proofs.Common.{◌≡◌, ℕ, false, List, Option, None, Some, Result, refl, sym, ◌∙◌, ap, subst}
 use Rattle.sspi_types.specs.declared.error.Error.{Error}
 use Rattle.sspi_types.specs.declared.credential_use.CredentialUse.{CredentialUse}
 use Rattle.sspi_names.specs.declared.credentials.Credentials.{Credentials}
@@ -22,7 +22,7 @@ use Rattle.sspi_credssp.specs.declared.context.SspiContext.TheVariants as contex
 use Rattle.sspi_credssp.specs.Context.{either}
 use Rattle.sspi_credssp.specs.Counts.{silent, cleared, SameBut}
 use Rattle.sspi_credssp.proofs.ContextLaws.{lawful}
-use Rattle.sspi_play.proofs.Marks.{is_marked, marked_same, KeepsCounts, hand_keeps}
+use Rattle.sspi_play.proofs.Marks.{is_marked, marked_same, hand_keeps}
 
 module _ {N K : Type 0} (n : Meaning Setting N) (k : Meaning Setting K) where
   abbrev pub HoldsOf : (Negotiation (NegotiatedProtocol N K) → Type 0) → Option (SspiContext N K) → Type 0
@@ -76,13 +76,15 @@ module _ {N K : Type 0} (r q : ℕ) (n : Meaning Setting N) (k : Meaning Setting
   holds_cleared Q of_mics m m2 same h =
       let law : IsContext (either r n k) = lawful r q n k ln lk in
       let clear = holds_recounted Q of_mics m (silent ((either r n k).counts m)) refl h in
-      let other : HoldsOf n k Q (Some (cleared (either r n k) m2)) = subst (λ (x : SspiContext N K). HoldsOf n k Q (Some x)) (sym same) clear in
+      let other : HoldsOf n k Q (Some (cleared (either r n k) m2)) =
+      subst (λ (x : SspiContext N K). HoldsOf n k Q (Some x)) (sym same) clear in
       subst (λ (x : SspiContext N K). HoldsOf n k Q (Some x))
       (law.counted_counted m2 (silent ((either r n k).counts m2)) ((either r n k).counts m2) ∙ law.counted_counts m2)
       (holds_recounted Q of_mics (cleared (either r n k) m2) ((either r n k).counts m2)
       (sym (ap silent (law.counts_counted m2 (silent ((either r n k).counts m2))))) other)
 
-  pub holds_same_but : (Q : Negotiation (NegotiatedProtocol N K) → Type 0) → IsOfMics n k Q → (context context2 : Option (SspiContext N K)) →
+  pub holds_same_but : (Q : Negotiation (NegotiatedProtocol N K) → Type 0) → IsOfMics n k Q →
+      (context context2 : Option (SspiContext N K)) →
       SameBut (either r n k) context context2 → HoldsOf n k Q context → HoldsOf n k Q context2
   holds_same_but Q of_mics None None same h = h
   holds_same_but Q of_mics None (Some m2) same h = absurd same

@@ -14,6 +14,7 @@ pub mod Parts
 pub mod Picking
 pub mod Runs
 pub mod SameTexts
+pub mod ServerChains
 pub mod ServerPicks
 pub mod ServerSeals
 pub mod Steps

@@ -1,5 +1,5 @@
 -- Before a negotiation has its list of mechanisms it makes and takes no MIC.
-use Rattle.std.proofs.Common.{◌≡◌, ◌||◌, ℕ, Bool, true, false, cond, List, Option, Result, Ok, Err, subst, ap, ◌∙◌, sym, refl, nat_lt}
+use Rattle.std.proofs.Common.{◌≡◌, ◌||◌, ℕ, Bool, true, false, cond, List, Option, Result, Ok, Err, subst, ap, nat_lt}
 use Rattle.std.proofs.lemmas.Bool.{false≢true}
 use Rattle.sspi_types.specs.declared.credential_use.CredentialUse.{CredentialUse}
 use Rattle.sspi_types.specs.declared.error.Error.{Error}
@@ -92,9 +92,11 @@ module _ (R : Answer → Values → Type 0) where
   QuietEnds (Stops v kind) = AtRefusal R v
   QuietEnds (Takes origin p) = QuietEnds p
   QuietEnds (Steps args v go fall) =
-      ((request : NetworkRequest) → R (Ask request) v) × ((step : Step) → QuietEnds (go step)) × ((kind : ErrorKind) → QuietEnds (fall kind))
+      ((request : NetworkRequest) → R (Ask request) v) × ((step : Step) → QuietEnds (go step))
+      × ((kind : ErrorKind) → QuietEnds (fall kind))
   QuietEnds (Resumes reply v go fall) =
-      ((request : NetworkRequest) → R (Ask request) v) × ((step : Step) → QuietEnds (go step)) × ((kind : ErrorKind) → QuietEnds (fall kind))
+      ((request : NetworkRequest) → R (Ask request) v) × ((step : Step) → QuietEnds (go step))
+      × ((kind : ErrorKind) → QuietEnds (fall kind))
   QuietEnds (Accepts args v go) = AtRefusal R v × ((step : Step) → QuietEnds (go step))
   QuietEnds (Pairs go) = (pairs : Bool) → QuietEnds (go pairs)
   QuietEnds (Names v go) = ⊥

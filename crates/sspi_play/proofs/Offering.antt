@@ -2,7 +2,6 @@
 -- makes the offer. Its later steps leave the list alone.
 use Rattle.std.proofs.Common.{◌≡◌, ◌≢◌, ◌&&◌, ℕ, Bool, true, false, List, Option, None, Some, refl, sym, ◌∙◌, ap}
 use Rattle.std.proofs.lemmas.Bool.{false≢true}
-use Rattle.sspi_types.specs.declared.error.Error.{Error}
 use Rattle.sspi_types.specs.declared.error_kind.ErrorKind.{ErrorKind}
 use Rattle.sspi_types.specs.declared.security_status.SecurityStatus.TheVariants as statuses
 use Rattle.sspi_names.specs.Identity.{identity_of}
@@ -23,16 +22,16 @@ use Rattle.sspi_negotiate.specs.declared.state.NegotiateState.{NegotiateState}
 use Rattle.sspi_negotiate.specs.declared.state.NegotiateState.TheVariants as states
 use Rattle.sspi_negotiate.specs.Client.{offers, begun, has_begun, steps_again, falls_back, falls, first_step, at_initial, client_at, ruled}
 use Rattle.sspi_negotiate.specs.Client.{keeps, converts, passwords_of, with_handle, by_target, is_closed, spnego_client}
-use Rattle.sspi_negotiate.specs.Client.{resumes_opening, resumes_answering, resumed_at, spnego_resumed}
+use Rattle.sspi_negotiate.specs.Client.{resumes_opening, resumed_at, spnego_resumed}
 use Rattle.sspi_negotiate.specs.Fallback.{is_fallback}
 use Rattle.sspi_negotiate.specs.Hand.{is_kerberos_hand}
 use Rattle.sspi_negotiate.specs.Pick.{offered}
 use Rattle.sspi_negotiate.specs.Plan.{Plan}
 use Rattle.sspi_negotiate.specs.Rows.{written, in_ntlm}
-use Rattle.sspi_negotiate.specs.Rule.{rule_url, ruled_values}
+use Rattle.sspi_negotiate.specs.Rule.{rule_url}
 use Rattle.sspi_negotiate.specs.Values.{Values}
 use Rattle.sspi_negotiate.proofs.ClientEnds.{client_ends, resumed_ends}
-use Rattle.sspi_negotiate.proofs.Ends.{AtRefusal, AllEnds}
+use Rattle.sspi_negotiate.proofs.Ends.{AllEnds}
 use Rattle.sspi_negotiate.proofs.Kept.{IsKept}
 use Rattle.sspi_play.specs.Negotiated.{IsOffer}
 use Rattle.sspi_play.proofs.Marks.{QuietEnds, quiet_either}

@@ -1,15 +1,13 @@
 -- Agreement on the mechanism, from what each end's turns leave: a MIC that one end verified the other had made, over the list that
 -- both keep; so the client had offered that list, and the server had read it and picked of it.
-use Rattle.std.proofs.Common.{◌≡◌, ◌≢◌, ◌≤◌, ◌||◌, ℕ, Bool, true, false, List, Option, None, Some, Result, Err, refl, sym, ◌∙◌, ap, subst, arith}
-use Rattle.std.proofs.Common.{nat_lt}
+use Rattle.std.proofs.Common.{◌≡◌, ◌≤◌, ◌||◌, ℕ, Bool, true, false, List, Option, None, Some, Result, Err, refl, sym, ◌∙◌, ap, subst}
+use Rattle.std.proofs.Common.{arith, nat_lt}
 use Rattle.std.proofs.lemmas.Bool.{false≢true, lt-ltb}
-use Rattle.sspi_types.specs.declared.error_kind.ErrorKind.TheVariants as kinds
 use Rattle.sspi_mech.specs.Calls.{Counts}
 use Rattle.sspi_mech.specs.Laws.{IsMechanism}
 use Rattle.sspi_mech.specs.Meaning.{Meaning}
 use Rattle.sspi_mech.specs.Settings.{Setting}
 use Rattle.sspi_negotiate.specs.Hand.{hand_of}
-use Rattle.sspi_negotiate.specs.declared.protocol.Protocol.{Protocol}
 use Rattle.sspi_credssp.specs.declared.context.SspiContext.{SspiContext}
 use Rattle.sspi_credssp.specs.declared.context.SspiContext.TheVariants as contexts
 use Rattle.sspi_credssp.specs.declared.mode.ServerMode.{ServerMode}
@@ -32,12 +30,13 @@ use Rattle.sspi_play.specs.declared.played.Delivery.{Delivery}
 use Rattle.sspi_play.specs.declared.played.Played.{Played}
 use Rattle.sspi_play.specs.Faithful.{signed_in, verified_in}
 use Rattle.sspi_play.specs.Kept.{kept_list}
-use Rattle.sspi_play.specs.Negotiated.{HasOffered, HasRead, in_hand, picked_by, IsPickOf, NegotiatesIfFaithful}
+use Rattle.sspi_play.specs.Negotiated.{HasOffered, HasRead, IsPickOf, NegotiatesIfFaithful}
 use Rattle.sspi_play.specs.Played.{Both, Accounts, IsPlay}
 use Rattle.sspi_play.proofs.ClientOffers.{Offers, left_offers}
 use Rattle.sspi_play.proofs.Marks.{is_marked}
 use Rattle.sspi_play.proofs.Runs.{played_left}
-use Rattle.sspi_play.proofs.ServerPicks.{Shows, chain_shows}
+use Rattle.sspi_play.proofs.ServerChains.{chain_shows}
+use Rattle.sspi_play.proofs.ServerPicks.{Shows}
 
 first_holds : (a b : Bool) → a ≡ true → a || b ≡ true
 first_holds a b h = ap (λ (x : Bool). x || b) h
@@ -120,7 +119,8 @@ module _ {N K : Type 0} (r q : ℕ) (n : Meaning Setting N) (k : Meaning Setting
               let lists = faithful.server_verifies.lists some in
               let signed : 1 ≤ signed_in (either r n k) new.client.context = omega (arith, some, faithful.server_verifies.count) in (
                 subst (λ (l : List (List ℕ)). IsPickOf new.server.context old.server.mode l) lists
-                    (picked_mechanism old.server.mode (server_turns new.turns) new.server.context (verified_is new.server.context some) shows),
+                    (picked_mechanism old.server.mode (server_turns new.turns) new.server.context
+                    (verified_is new.server.context some) shows),
                 offered_list (client_turns new.turns) new.client.context (signed_is new.client.context signed) offers,
               );
           a_client_that_verified = λ some.

@@ -1,9 +1,8 @@
 -- A server's steps until it has read the client's list: they make and take no MIC, and the one that ends has picked a mechanism of the
 -- list. Its later steps leave the list and the mechanism alone.
-use Rattle.std.proofs.Common.{◌≡◌, ◌≢◌, ◌&&◌, ◌==◌, ℕ, Bool, true, false, List, Option, None, Some, length, map, refl, sym, subst}
-use Rattle.sspi_types.specs.declared.error.Error.{Error}
+use Rattle.std.proofs.Common.{◌≡◌, ◌≢◌, ◌&&◌, ◌==◌, ℕ, Bool, true, false, List, Option, None, Some, refl}
 use Rattle.sspi_types.specs.declared.security_status.SecurityStatus.{SecurityStatus}
-use Rattle.sspi_names.specs.Name.{Name, inner_of}
+use Rattle.sspi_names.specs.Name.{inner_of}
 use Rattle.sspi_mech.specs.declared.step.Answer.{Answer}
 use Rattle.sspi_mech.specs.declared.step.Answer.TheVariants.{Done, Ask, Refused}
 use Rattle.sspi_mech.specs.declared.step.Step.{Step}
@@ -28,11 +27,11 @@ use Rattle.sspi_negotiate.specs.Plan.{Plan}
 use Rattle.sspi_negotiate.specs.Rows.{is_over, is_complete, is_guest_text, completes, written, writes, in_ntlm}
 use Rattle.sspi_negotiate.specs.Server.{drops, waits_for_token, goes_on, awaits_mic, ends_at_once, opens, needs_mic}
 use Rattle.sspi_negotiate.specs.Server.{first_token, placed, takes_pick, picks, reads_list, at_initial, without_mic}
-use Rattle.sspi_negotiate.specs.Server.{settles, accepted, at_progress, last_mic, at_verify_mic, server_at, spnego_server}
+use Rattle.sspi_negotiate.specs.Server.{settles, at_progress, last_mic, at_verify_mic, server_at, spnego_server}
 use Rattle.sspi_negotiate.specs.Values.{Values}
-use Rattle.sspi_negotiate.proofs.Ends.{AtRefusal, AllEnds, either_ends}
+use Rattle.sspi_negotiate.proofs.Ends.{AllEnds, either_ends}
 use Rattle.sspi_negotiate.proofs.Kept.{and_last}
-use Rattle.sspi_negotiate.proofs.RowEnds.{writes_ends, checks_ends, completes_ends, answers_signed_ends, carries_on_ends}
+use Rattle.sspi_negotiate.proofs.RowEnds.{writes_ends, checks_ends, answers_signed_ends, carries_on_ends}
 use Rattle.sspi_play.specs.Negotiated.{IsReadAs, protocol_of}
 use Rattle.sspi_play.proofs.Marks.{QuietEnds, quiet_either}
 

@@ -1,22 +1,18 @@
--- A server's context, after its turns: once it has made or taken a MIC, it keeps a list that it was handed, and has the mechanism in
--- hand that it picks of it.
-use Rattle.std.proofs.Common.{◌≡◌, ◌≢◌, ℕ, Bool, true, false, List, [], ◌∷◌, ◌++◌, map, option_map, Option, None, Some, Result, Ok, Err}
+-- A server's context through one step: until it has read the client's list it makes and takes no MIC; then it has the mechanism in hand
+-- that it picks of the list, and keeps both.
+use Rattle.std.proofs.Common.{◌≡◌, ◌≢◌, ℕ, true, false, List, [], ◌∷◌, option_map, Option, None, Some, Result, Ok, Err}
 use Rattle.std.proofs.Common.{refl, sym, ◌∙◌, ap, subst}
 use Rattle.std.proofs.lemmas.Bool.{false≢true}
 use Rattle.sspi_types.specs.declared.credential_use.CredentialUse.TheVariants.{Inbound}
 use Rattle.sspi_types.specs.declared.error.Error.{Error}
 use Rattle.sspi_types.specs.declared.error_kind.ErrorKind.{ErrorKind}
 use Rattle.sspi_types.specs.declared.error_kind.ErrorKind.TheVariants.{InsufficientMemory}
-use Rattle.sspi_types.specs.declared.security_status.SecurityStatus.{SecurityStatus}
-use Rattle.sspi_types.specs.declared.security_status.SecurityStatus.TheVariants as statuses
 use Rattle.sspi_names.specs.declared.credentials.Credentials.{Credentials}
-use Rattle.sspi_names.specs.declared.credentials.Credentials.TheVariants as credentials
 use Rattle.sspi_names.specs.declared.credentials.CredentialsBuffers.{CredentialsBuffers}
 use Rattle.sspi_names.specs.declared.identity.AuthIdentity.{AuthIdentity}
 use Rattle.sspi_mech.specs.declared.step.Answer.TheVariants.{Done, Refused}
 use Rattle.sspi_mech.specs.declared.step.Step.{Step}
 use Rattle.sspi_mech.specs.Calls.{AcceptArgs, Counts, no_counts}
-use Rattle.sspi_mech.specs.Context.{IsContext}
 use Rattle.sspi_mech.specs.Laws.{IsMechanism}
 use Rattle.sspi_mech.specs.Meaning.{Meaning}
 use Rattle.sspi_mech.specs.Settings.{Setting}
@@ -32,7 +28,6 @@ use Rattle.sspi_negotiate.specs.declared.state.NegotiateState.TheVariants as sta
 use Rattle.sspi_negotiate.specs.declared.state.Role.{Role}
 use Rattle.sspi_negotiate.specs.declared.state.Role.TheVariants as roles
 use Rattle.sspi_negotiate.specs.Acquire.{acquired_url}
-use Rattle.sspi_negotiate.specs.Does.{told}
 use Rattle.sspi_negotiate.specs.Hand.{Origin, Configured, InPlaceOfNtlm, hand, hand_of}
 use Rattle.sspi_negotiate.specs.Negotiate.{negotiate}
 use Rattle.sspi_negotiate.specs.New.{first_in_hand, packages_in, IsFirst, fresh}
@@ -45,24 +40,13 @@ use Rattle.sspi_credssp.specs.declared.context.SspiContext.{SspiContext}
 use Rattle.sspi_credssp.specs.declared.context.SspiContext.TheVariants as contexts
 use Rattle.sspi_credssp.specs.declared.mode.ServerMode.{ServerMode}
 use Rattle.sspi_credssp.specs.declared.mode.ServerMode.TheVariants as modes
-use Rattle.sspi_credssp.specs.declared.turn.Outcome.{Outcome}
-use Rattle.sspi_credssp.specs.declared.turn.Outcome.TheVariants as outcome
 use Rattle.sspi_credssp.specs.declared.turn.Turn.{Turn}
-use Rattle.sspi_credssp.specs.Begun.{Begun, IfContext, goes_on, is_new}
+use Rattle.sspi_credssp.specs.Begun.{Begun, goes_on, is_new}
 use Rattle.sspi_credssp.specs.Context.{either, ForServer}
 use Rattle.sspi_credssp.specs.Counts.{silent}
-use Rattle.sspi_credssp.specs.Proxy.{ProxyMeaning}
 use Rattle.sspi_credssp.specs.Requests.{token_of}
-use Rattle.sspi_credssp.specs.Server.{ServerView}
-use Rattle.sspi_credssp.specs.ServerStep as accept
-use Rattle.sspi_credssp.specs.ServerTurn.{UnlessMade}
-use Rattle.sspi_delegate.specs.Chain.{ServerStage, server_stage, server_at, ServerMovedBy, ServerRested, ServerLink, ServerChain}
-use Rattle.sspi_delegate.specs.EndTurns.{OthersUnrefused}
-use Rattle.sspi_delegate.specs.Turns.{IsUnrefused, NoneRefused}
-use Rattle.sspi_play.specs.Agreement.{TurnOf}
 use Rattle.sspi_play.specs.Negotiated.{HasRead, IsReadAs, protocol_of, protocol_from, picks_with, picked_by}
-use Rattle.sspi_play.specs.Plays.{refusal_in, last_refusal}
-use Rattle.sspi_play.proofs.Contexts.{HoldsOf, holds_map, IsOfMics, acquired_hand, holds_recounted, holds_cleared, holds_identified}
+use Rattle.sspi_play.proofs.Contexts.{HoldsOf, holds_map, IsOfMics, acquired_hand, holds_recounted, holds_identified}
 use Rattle.sspi_play.proofs.Contexts.{holds_accepted}
 use Rattle.sspi_play.proofs.Marks.{is_marked, hand_keeps, quiet_all, quiet_marks}
 use Rattle.sspi_play.proofs.Picking.{PicksOne, PicksAt, server_quiet, StaysChosen, StaysAt, server_stays}
@@ -109,7 +93,7 @@ module _ {N K : Type 0} (n : Meaning Setting N) (k : Meaning Setting K) (mode : 
   by_state Goal states.VerifyMic first later = later (λ e. cc (e))
   by_state Goal states.Ok first later = later (λ e. cc (e))
 
-  keeps_of_mics : (turns : List Turn) → IsOfMics n k (KeepsPick turns)
+  pub keeps_of_mics : (turns : List Turn) → IsOfMics n k (KeepsPick turns)
   keeps_of_mics turns = λ s mech named marks h. record {
     config = h.config;
     mode_is = h.mode_is;
@@ -126,7 +110,7 @@ module _ {N K : Type 0} (n : Meaning Setting N) (k : Meaning Setting K) (mode : 
     picked = λ marked. subst (λ (x : Protocol). WasChosen h.config turns s.list x) (sym named) (h.picked (sym marks ∙ marked));
   }
 
-  keeps_more : (t : Turn) (turns : List Turn) (s : Negotiation (NegotiatedProtocol N K)) → KeepsPick turns s → KeepsPick (t ∷ turns) s
+  pub keeps_more : (t : Turn) (turns : List Turn) (s : Negotiation (NegotiatedProtocol N K)) → KeepsPick turns s → KeepsPick (t ∷ turns) s
   keeps_more t turns s h = record {
     config = h.config;
     mode_is = h.mode_is;
@@ -190,7 +174,8 @@ module _ {N K : Type 0} (r q : ℕ) (n : Meaning Setting N) (k : Meaning Setting
     step_done step moves = by_state n k mode (KeepsPick n k mode (t ∷ past) s2) s.state
         (λ at. after_first at (ends (PicksAt (values_of s) args.input) (hand n k) (spnego_server (values_of s) args) s.mech s2.mech
         (Done step) (values_of s2)
-        (quiet_all (PicksAt (values_of s) args.input) (spnego_server (values_of s) args) (server_quiet (values_of s) args at)) moves.follows.as_planned))
+        (quiet_all (PicksAt (values_of s) args.input) (spnego_server (values_of s) args) (server_quiet (values_of s) args at))
+        moves.follows.as_planned))
         (λ late. after_later late (ends (StaysAt (values_of s)) (hand n k) (spnego_server (values_of s) args) s.mech s2.mech
         (Done step) (values_of s2)
         (server_stays (values_of s) args late) moves.follows.as_planned))
@@ -212,21 +197,21 @@ module _ {N K : Type 0} (r q : ℕ) (n : Meaning Setting N) (k : Meaning Setting
 
   -- ---- the context
 
-  abbrev Keeps : List Turn → Option (SspiContext N K) → Type 0
+  abbrev pub Keeps : List Turn → Option (SspiContext N K) → Type 0
   Keeps turns context = HoldsOf n k (KeepsPick n k mode turns) context
 
   abbrev pub Shows : List Turn → Option (SspiContext N K) → Type 0
   Shows turns context = HoldsOf n k (ShowsPick n k mode turns) context
 
-  full_shows : (turns : List Turn) (context : Option (SspiContext N K)) → Keeps turns context → Shows turns context
+  pub full_shows : (turns : List Turn) (context : Option (SspiContext N K)) → Keeps turns context → Shows turns context
   full_shows turns context h = holds_map n k (KeepsPick n k mode turns) (ShowsPick n k mode turns) (keeps_show n k mode turns) context h
 
   -- what a step leaves, by its answer
-  abbrev After : Result Step Error → List Turn → SspiContext N K → Type 0
+  abbrev pub After : Result Step Error → List Turn → SspiContext N K → Type 0
   After (Ok step) turns m = Keeps turns (Some m)
   After (Err error) turns m = error.error_type ≢ InsufficientMemory → Shows turns (Some m)
 
-  stepped : (t : Turn) (past : List Turn) (m m2 : SspiContext N K) (args : AcceptArgs) (x : Result Step Error) →
+  pub stepped : (t : Turn) (past : List Turn) (m m2 : SspiContext N K) (args : AcceptArgs) (x : Result Step Error) →
       args.input ≡ token_of t.delivered.nego_tokens →
       (either r n k).accepts m args x m2 → Keeps past (Some m) → After x (t ∷ past) m2
   stepped t past m m2 args (Ok step) token a h = holds_accepted r q n k ln lk (KeepsPick n k mode past) (KeepsPick n k mode (t ∷ past))
@@ -235,14 +220,15 @@ module _ {N K : Type 0} (r q : ℕ) (n : Meaning Setting N) (k : Meaning Setting
       holds_accepted r q n k ln lk (KeepsPick n k mode past) (ShowsPick n k mode (t ∷ past))
       m m2 args (Err error) (λ s s2 moves keeps. step_refused t past s s2 args token keeps error other moves) a h
 
-  after_recounted : (turns : List Turn) (m : SspiContext N K) (i : Counts) (x : Result Step Error) → After x turns m →
+  pub after_recounted : (turns : List Turn) (m : SspiContext N K) (i : Counts) (x : Result Step Error) → After x turns m →
       silent i ≡ silent ((either r n k).counts m) →
       After x turns ((either r n k).counted m i)
-  after_recounted turns m i (Ok step) h same = holds_recounted r q n k ln lk (KeepsPick n k mode turns) (keeps_of_mics n k mode turns) m i same h
+  after_recounted turns m i (Ok step) h same =
+      holds_recounted r q n k ln lk (KeepsPick n k mode turns) (keeps_of_mics n k mode turns) m i same h
   after_recounted turns m i (Err error) h same = λ other.
       holds_recounted r q n k ln lk (ShowsPick n k mode turns) (shows_of_mics n k mode turns) m i same (h other)
 
-  after_identified : (turns : List Turn) (m m2 : SspiContext N K) (ids : List Credentials) (x : Result Step Error) → After x turns m →
+  pub after_identified : (turns : List Turn) (m m2 : SspiContext N K) (ids : List Credentials) (x : Result Step Error) → After x turns m →
       (either r n k).identifies m ids m2 → After x turns m2
   after_identified turns m m2 ids (Ok step) h found =
       holds_identified r q n k ln lk (KeepsPick n k mode turns) (keeps_of_mics n k mode turns) m m2 ids found h
@@ -277,7 +263,8 @@ module _ {N K : Type 0} (r q : ℕ) (n : Meaning Setting N) (k : Meaning Setting
       let taken : got.mech ≡ s.mech = subst (λ (x : Option (List ℕ)). TakenBy (hand n k) x s.kdcs s.computer s.mech got.mech)
       (no_url s.role (values_of s)) got.taken in
       let state : s2.state ≡ states.Initial =
-      ap (λ (x : Negotiation (NegotiatedProtocol N K)). x.state) got.kept ∙ ap (λ (x : Negotiation (NegotiatedProtocol N K)). x.state) same in
+      ap (λ (x : Negotiation (NegotiatedProtocol N K)). x.state) got.kept
+      ∙ ap (λ (x : Negotiation (NegotiatedProtocol N K)). x.state) same in
       let packages : s2.packages ≡ packages_in config =
       ap (λ (x : Negotiation (NegotiatedProtocol N K)). x.packages) got.kept
       ∙ ap (λ (x : Negotiation (NegotiatedProtocol N K)). x.packages) same in
@@ -311,149 +298,8 @@ module _ {N K : Type 0} (r q : ℕ) (n : Meaning Setting N) (k : Meaning Setting
   made_keeps (modes.Ntlm config) entries buffers turns (contexts.Negotiate s) m2 is made got = absurd made
   made_keeps (modes.Ntlm config) entries buffers turns (contexts.Kerberos m) m2 is made got = absurd made
 
-  begun_keeps : (context : Option (SspiContext N K)) (had handle : Option CredentialsBuffers) (entries : Option (List AuthIdentity))
+  pub begun_keeps : (context : Option (SspiContext N K)) (had handle : Option CredentialsBuffers) (entries : Option (List AuthIdentity))
       (turns : List Turn) (m : SspiContext N K) → Keeps turns context →
       Begun (either r n k) context had (ForServer mode entries) Inbound None handle m → Keeps turns (Some m)
   begun_keeps context had handle entries turns m h (goes_on is same) = subst (λ (o : Option (SspiContext N K)). Keeps turns o) is h
   begun_keeps context had handle entries turns m h (is_new m0 none made got) = made_keeps mode entries handle turns m0 m refl made got
-
--- ---- the turns
-
-module _ {N K P : Type 0} (r q : ℕ) (n : Meaning Setting N) (k : Meaning Setting K) (ln : IsMechanism r n) (lk : IsMechanism q k)
-    (p : ProxyMeaning P) (first : ServerView (SspiContext N K) P) where
-  accepts_keep : (stage : ServerStage (SspiContext N K)) (t : Turn) (past : List Turn) (handle : Option CredentialsBuffers)
-      (token : Option (List ℕ)) (known : accept.Knowing) (x : Result Step Error) (m : SspiContext N K) →
-      token ≡ t.delivered.nego_tokens → Keeps r q n k ln lk first.mode past stage.context →
-      accept.Accepted (either r n k) p (server_at (either r n k) p first stage) handle token known x m →
-      After r q n k ln lk first.mode x (t ∷ past) m
-  accepts_keep stage t past handle token known x m is h (accept.accepted m0 m1 y begun accepts) =
-      stepped r q n k ln lk first.mode t past m0 m _ x (ap token_of is) accepts
-      (begun_keeps r q n k ln lk first.mode stage.context stage.handle handle _ past m0 h begun)
-  accepts_keep stage t past handle token known x m is h (accept.identified m1 m2 y step (accept.is_identified name ids named found some peer)) =
-      after_identified r q n k ln lk first.mode (t ∷ past) m1 m (map credentials.AuthIdentity ids) x
-      (accepts_keep stage t past handle token accept.Unknown x m1 is h step) peer
-  accepts_keep stage t past handle token known x m is h (accept.completed m1 y step permits) =
-      accepts_keep stage t past handle token accept.Identified x m is h step
-  accepts_keep stage t past handle token known x m is h (accept.recounted m1 m2 i so y step counted quiet) =
-      subst (λ (z : SspiContext N K). After r q n k ln lk first.mode x (t ∷ past) z) (sym counted)
-      (after_recounted r q n k ln lk first.mode (t ∷ past) m1 i x (accepts_keep stage t past handle token known x m1 is h step) quiet)
-
-  -- a turn that was refused after its step had come to a status
-  refused_keeps : (status : SecurityStatus) (stage : ServerStage (SspiContext N K)) (t : Turn) (past : List Turn)
-      (handle : Option CredentialsBuffers) (token : Option (List ℕ)) (x : Result Step Error) (m : SspiContext N K) →
-      token ≡ t.delivered.nego_tokens → Keeps r q n k ln lk first.mode past stage.context →
-      accept.RefusedAt (either r n k) p (Some status) (server_at (either r n k) p first stage) handle token x m →
-      After r q n k ln lk first.mode x (t ∷ past) m
-  refused_keeps statuses.Ok stage t past handle token x m is h (accept.so_far known step) =
-      accepts_keep stage t past handle token known x m is h step
-  refused_keeps statuses.CompleteNeeded stage t past handle token x m is h (accept.so_far known step) =
-      accepts_keep stage t past handle token known x m is h step
-  refused_keeps statuses.ContinueNeeded stage t past handle token x m is h step =
-      accepts_keep stage t past handle token accept.Unknown x m is h step
-  refused_keeps statuses.CompleteAndContinue stage t past handle token x m is h step =
-      accepts_keep stage t past handle token accept.Unknown x m is h step
-  refused_keeps statuses.LocalLogon stage t past handle token x m is h step =
-      accepts_keep stage t past handle token accept.Unknown x m is h step
-  refused_keeps statuses.ContextExpired stage t past handle token x m is h step =
-      accepts_keep stage t past handle token accept.Unknown x m is h step
-  refused_keeps statuses.IncompleteCredentials stage t past handle token x m is h step =
-      accepts_keep stage t past handle token accept.Unknown x m is h step
-  refused_keeps statuses.Renegotiate stage t past handle token x m is h step =
-      accepts_keep stage t past handle token accept.Unknown x m is h step
-  refused_keeps statuses.NoLsaContext stage t past handle token x m is h step =
-      accepts_keep stage t past handle token accept.Unknown x m is h step
-
-  -- what a turn leaves, by how it came out
-  abbrev Leaves : Outcome → List Turn → Option (SspiContext N K) → Type 0
-  Leaves (outcome.Reply reply) turns context = Keeps r q n k ln lk first.mode turns context
-  Leaves (outcome.Final reply) turns context = Keeps r q n k ln lk first.mode turns context
-  Leaves outcome.Finished turns context = Keeps r q n k ln lk first.mode turns context
-  Leaves (outcome.Refused kind reply) turns context = kind ≢ InsufficientMemory → Shows r q n k ln lk first.mode turns context
-
-  keeps_leave : (came : Outcome) (turns : List Turn) (context : Option (SspiContext N K)) → Keeps r q n k ln lk first.mode turns context →
-      Leaves came turns context
-  keeps_leave (outcome.Reply reply) turns context h = h
-  keeps_leave (outcome.Final reply) turns context h = h
-  keeps_leave outcome.Finished turns context h = h
-  keeps_leave (outcome.Refused kind reply) turns context h = λ other. full_shows r q n k ln lk first.mode turns context h
-
-  on_context : (context : Option (SspiContext N K)) (turns : List Turn) (Q : SspiContext N K → Type 0) →
-      ((m : SspiContext N K) → Q m → Keeps r q n k ln lk first.mode turns (Some m)) → IfContext context Q →
-      Keeps r q n k ln lk first.mode turns context
-  on_context None turns Q step h = absurd h
-  on_context (Some m) turns Q step h = step m h
-
-  on_refusal : (context : Option (SspiContext N K)) (turns : List Turn) (Q : SspiContext N K → Type 0) →
-      ((m : SspiContext N K) → Q m → Shows r q n k ln lk first.mode turns (Some m)) → IfContext context Q →
-      Shows r q n k ln lk first.mode turns context
-  on_refusal None turns Q step h = absurd h
-  on_refusal (Some m) turns Q step h = step m h
-
-  rested : (t : Turn) (past : List Turn) (stage next : ServerStage (SspiContext N K)) (x y : Option (SspiContext N K)) →
-      Keeps r q n k ln lk first.mode past x →
-      UnlessMade (either r n k) x y (Begun (either r n k) stage.context stage.handle (accept.server_setting p first) Inbound None next.handle) →
-      stage.context ≡ x → Keeps r q n k ln lk first.mode past y
-  rested t past stage next None None h made is = tt
-  rested t past stage next None (Some m) h made is =
-      begun_keeps r q n k ln lk first.mode stage.context stage.handle next.handle _ past m
-      (subst (λ (o : Option (SspiContext N K)). Keeps r q n k ln lk first.mode past o) (sym is) h) made
-  rested t past stage next (Some m) None h made is = absurd made
-  rested t past stage next (Some m) (Some m2) h made is =
-      holds_cleared r q n k ln lk (KeepsPick n k first.mode past) (keeps_of_mics n k first.mode past) m m2 made h
-
-  all_more : (t : Turn) (past : List Turn) (context : Option (SspiContext N K)) → Keeps r q n k ln lk first.mode past context →
-      Keeps r q n k ln lk first.mode (t ∷ past) context
-  all_more t past context h = holds_map n k (KeepsPick n k first.mode past) (KeepsPick n k first.mode (t ∷ past))
-      (keeps_more n k first.mode t past) context h
-
-  moved : (t : Turn) (past : List Turn) (stage next : ServerStage (SspiContext N K)) (negotiated : Bool) (status : Option SecurityStatus)
-      (came : Outcome) → Keeps r q n k ln lk first.mode past stage.context →
-      ServerMovedBy (either r n k) p first negotiated status came t.delivered.nego_tokens t.output stage next →
-      Leaves came (t ∷ past) next.context
-  moved t past stage next false status came h by = keeps_leave came (t ∷ past) next.context
-      (all_more t past next.context (rested t past stage next stage.context next.context h by.context refl))
-  moved t past stage next true (Some status) (outcome.Refused kind reply) h by = λ other.
-      full_shows r q n k ln lk first.mode (t ∷ past) next.context (on_context next.context (t ∷ past) _
-      (λ m at. refused_keeps status stage t past next.handle t.delivered.nego_tokens _ m refl h at) by)
-  moved t past stage next true (Some status) (outcome.Reply reply) h by = on_context next.context (t ∷ past) _
-      (λ m at. accepts_keep stage t past next.handle t.delivered.nego_tokens _ _ m refl h at) by
-  moved t past stage next true (Some status) (outcome.Final reply) h by = on_context next.context (t ∷ past) _
-      (λ m at. accepts_keep stage t past next.handle t.delivered.nego_tokens _ _ m refl h at) by
-  moved t past stage next true (Some status) outcome.Finished h by = on_context next.context (t ∷ past) _
-      (λ m at. accepts_keep stage t past next.handle t.delivered.nego_tokens _ _ m refl h at) by
-  moved t past stage next true None (outcome.Refused kind reply) h by = λ other.
-      on_refusal next.context (t ∷ past) _
-      (λ m at. accepts_keep stage t past next.handle t.delivered.nego_tokens accept.Unknown (Err by.0) m refl h at
-      (λ lacked. other (sym by.1 ∙ lacked))) by.2
-  moved t past stage next true None (outcome.Reply reply) h by = absurd by
-  moved t past stage next true None (outcome.Final reply) h by = absurd by
-  moved t past stage next true None outcome.Finished h by = absurd by
-
-  unrefused : (came : Outcome) (turns : List Turn) (context : Option (SspiContext N K)) → IsUnrefused came → Leaves came turns context →
-      Keeps r q n k ln lk first.mode turns context
-  unrefused (outcome.Reply reply) turns context un h = h
-  unrefused (outcome.Final reply) turns context un h = h
-  unrefused outcome.Finished turns context un h = h
-  unrefused (outcome.Refused kind reply) turns context un h = absurd un
-
-  with_memory : (came : Outcome) (turns : List Turn) (context : Option (SspiContext N K)) → refusal_in came ≢ Some InsufficientMemory →
-      Leaves came turns context → Shows r q n k ln lk first.mode turns context
-  with_memory (outcome.Reply reply) turns context had h = full_shows r q n k ln lk first.mode turns context h
-  with_memory (outcome.Final reply) turns context had h = full_shows r q n k ln lk first.mode turns context h
-  with_memory outcome.Finished turns context had h = full_shows r q n k ln lk first.mode turns context h
-  with_memory (outcome.Refused kind reply) turns context had h = h (λ lacked. had (ap (λ (x : ErrorKind). Some x) lacked))
-
-  chain_keeps : (turns : List Turn) (stage : ServerStage (SspiContext N K)) → first.context ≡ None → NoneRefused turns →
-      ServerChain (either r n k) p first turns stage → Keeps r q n k ln lk first.mode turns stage.context
-  chain_keeps [] stage none un chain =
-      subst (λ (o : Option (SspiContext N K)). Keeps r q n k ln lk first.mode [] o)
-      (sym (ap (λ (x : ServerStage (SspiContext N K)). x.context) chain ∙ none)) tt
-  chain_keeps (t ∷ past) stage none un chain = unrefused t.outcome (t ∷ past) stage.context un.0
-      (moved t past chain.0 stage t.acts.negotiated t.acts.status t.outcome (chain_keeps past chain.0 none un.1 chain.1) chain.2.moved)
-
-  pub chain_shows : (turns : List Turn) (stage : ServerStage (SspiContext N K)) → first.context ≡ None → OthersUnrefused turns →
-      last_refusal turns ≢ Some InsufficientMemory → ServerChain (either r n k) p first turns stage →
-      Shows r q n k ln lk first.mode turns stage.context
-  chain_shows [] stage none un had chain = full_shows r q n k ln lk first.mode [] stage.context (chain_keeps [] stage none tt chain)
-  chain_shows (t ∷ past) stage none un had chain = with_memory t.outcome (t ∷ past) stage.context had
-      (moved t past chain.0 stage t.acts.negotiated t.acts.status t.outcome (chain_keeps past chain.0 none un chain.1) chain.2.moved)

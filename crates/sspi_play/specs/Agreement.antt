@@ -2,7 +2,7 @@
 --
 -- Whatever is delivered to whom: a client that sealed its credentials sealed them for a server that had checked this client's proof
 -- over the same key, and what a finishing server holds is what this client sealed.
-use Rattle.std.specs.Prelude.{◌≡◌, ◌<◌, ◌≤◌, ℕ, List, [], ◌∷◌, ◌++◌, drop, length, Option, None, Some, Ok, Bool, true, false, nat_lt}
+use Rattle.std.specs.Prelude.{◌≡◌, ◌<◌, ◌≤◌, ℕ, List, [], ◌∷◌, ◌++◌, drop, length, Option, None, Some, Ok, true, nat_lt}
 use Rattle.sspi_mech.specs.Meaning.{Meaning}
 use Rattle.sspi_names.specs.declared.credentials.Credentials.TheVariants as credentials
 use Rattle.sspi_names.specs.declared.identity.AuthIdentity.{AuthIdentity}
@@ -10,7 +10,6 @@ use Rattle.sspi_names.specs.Identity.{IsIdentity}
 use Rattle.sspi_names.specs.Name.{down_level}
 use Rattle.sspi_tsreq.specs.declared.mode.CredSspMode.{CredSspMode}
 use Rattle.sspi_tsreq.specs.declared.mode.CredSspMode.TheVariants.{WithCredentials, CredentialLess}
-use Rattle.sspi_credssp.specs.declared.turn.End.{End}
 use Rattle.sspi_credssp.specs.declared.turn.End.TheVariants.{Client, Server}
 use Rattle.sspi_credssp.specs.declared.turn.Turn.{Turn}
 use Rattle.sspi_credssp.specs.Context.{ContextSetting}
@@ -108,9 +107,8 @@ module _ {C : Type 0} (client : ClientEnd C) (server : ServerEnd C) where
     pub a_client_that_sealed : (at : TurnOf turns) → at.turn.end ≡ Client → at.turn.acts.sealed ≡ true → Agrees turns at.before
     pub a_server_that_finished : (given : AuthIdentity) → identity ≡ Some given → HoldsSealed turns given
 
--- The theorem, of the ends as the play left them. The client's nonce has 32 octets, as that of every client has.
+-- The theorem, of the ends as the play left them.
 abbrev pub AgreesIfFaithful : {C : Type 0} → Meaning ContextSetting C → (Option C → List (List ℕ)) → ClientEnd C → ServerEnd C → List Turn →
     Option AuthIdentity → Type 0
 AgreesIfFaithful c kept client server turns identity =
-    IsFaithful c kept client server turns → OpensBehindTag c → NoEcho client server → length client.nonce ≡ 32 →
-    Agreement client server turns identity
+    IsFaithful c kept client server turns → OpensBehindTag c → NoEcho client server → Agreement client server turns identity

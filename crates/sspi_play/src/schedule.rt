@@ -53,6 +53,8 @@ pub fn play<N: Mechanism, K: Mechanism, C: CredentialsProxy, D: Kdc>(
     ensures kdc { KdcStays D.told D.faults kdc.old kdc.new }
     ensures proxy { ProxyStays C.meaning server.old.proxy server.new.proxy }
 {
+    // Its clause says that a nonce has 32 octets, so agreement need not suppose that.
+    let _nonce = client.client_nonce();
     hand_all(alloc, client, server, schedule, kdc, transcript)
 }
 

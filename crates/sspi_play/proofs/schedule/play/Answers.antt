@@ -19,7 +19,7 @@ returns-clause-agrees g c fresh =
     let law = lawful _ _ g.N.Mechanism.meaning g.K.Mechanism.meaning g.met.N.Mechanism.laws g.met.K.Mechanism.laws in
     let accounts = c.hand_all.ensures.accounts fresh.empty in
     agrees_if_faithful m law g.C.CredentialsProxy.meaning (kdc_calls g.D.Kdc.told g.D.Kdc.asked g.D.Kdc.faults) kept_list _ _ _
-    c.hand_all.result
+    c.hand_all.result c.client_nonce-nonce.ensures.size
     (is_play m law g.C.CredentialsProxy.meaning (kdc_calls g.D.Kdc.told g.D.Kdc.asked g.D.Kdc.faults) _ _ _ c.hand_all.result
     fresh.client_is fresh.server_is accounts) accounts
 
