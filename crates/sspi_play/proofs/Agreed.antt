@@ -1,9 +1,8 @@
 -- Agreement, by the order of the turns: a client that seals has opened the server's proof, so the server sealed it before; then the
 -- server had opened the client's, so the client had sealed that before; and equal proofs are made over equal keys.
-use Rattle.std.proofs.Common.{◌≡◌, ◌≤◌, ℕ, ◌⊎◌, inl, inr, Bool, true, false, List, [], ◌∷◌, ◌++◌, length, Option, None, Some, Ok, sym}
-use Rattle.std.proofs.Common.{◌∙◌, ap, subst, refl, append_assoc, nat_lt}
+use Rattle.std.proofs.Common.{◌≡◌, ℕ, inl, inr, true, false, List, [], ◌∷◌, ◌++◌, length, Option, None, Some, Ok, sym}
+use Rattle.std.proofs.Common.{◌∙◌, ap, subst, append_assoc, nat_lt}
 use Rattle.std.proofs.lemmas.Bool.{le-ltb}
-use Rattle.sha2.specs.Sha256.{sha256}
 use Rattle.sspi_mech.specs.Meaning.{Meaning}
 use Rattle.sspi_names.specs.declared.identity.AuthIdentity.{AuthIdentity}
 use Rattle.sspi_credssp.specs.declared.public_key.EndpointType.TheVariants as whose
@@ -15,32 +14,33 @@ use Rattle.sspi_credssp.specs.declared.turn.Outcome.TheVariants as outcome
 use Rattle.sspi_credssp.specs.declared.turn.Turn.{Turn}
 use Rattle.sspi_credssp.specs.Context.{ContextSetting}
 use Rattle.sspi_credssp.specs.Counts.{OpensIn}
-use Rattle.sspi_credssp.specs.Credentials.{delegated_text, delegated_identity}
-use Rattle.sspi_credssp.specs.Exchange.{OpensIdentity, opens_identity}
+use Rattle.sspi_credssp.specs.Credentials.{delegated_identity}
+use Rattle.sspi_credssp.specs.Exchange.{opens_identity}
 use Rattle.sspi_credssp.specs.Held.{Proven}
 use Rattle.sspi_credssp.specs.Proxy.{ProxyMeaning}
-use Rattle.sspi_credssp.specs.PublicKey.{magic, prescribed}
+use Rattle.sspi_credssp.specs.PublicKey.{prescribed}
 use Rattle.sspi_credssp.specs.Requests.{nonce_of}
 use Rattle.sspi_credssp.specs.Server.{ServerView}
 use Rattle.sspi_credssp.specs.ServerTurn.{HoldsIdentity}
-use Rattle.sspi_credssp.specs.Shown.{HasNonce, ShowsAnswer, server_shown}
-use Rattle.sspi_credssp.specs.Turn.{ServerFrame, AtNoted}
+use Rattle.sspi_credssp.specs.Shown.{ShowsAnswer, server_shown}
+use Rattle.sspi_credssp.specs.Turn.{ServerFrame}
 use Rattle.sspi_delegate.specs.Causes.{IsFinished}
 use Rattle.sspi_delegate.specs.ClientRun.{ClientEnd, client_noted, EachClientTurn}
-use Rattle.sspi_delegate.specs.EndTurns.{onto_client, onto_server, client_turns, server_turns, any_proved, opened_in, OthersGoOn}
+use Rattle.sspi_delegate.specs.EndTurns.{onto_client, onto_server, client_turns, server_turns, opened_in, OthersGoOn}
 use Rattle.sspi_delegate.specs.EndTurns.{OthersUnrefused}
-use Rattle.sspi_delegate.specs.ServerRun.{ServerEnd, server_state, server_noted, server_frame_at, EachServerTurn}
+use Rattle.sspi_delegate.specs.ServerRun.{ServerEnd, server_noted, server_frame_at, EachServerTurn}
 use Rattle.sspi_delegate.specs.Turns.{AllGoOn, NoneRefused}
-use Rattle.sspi_play.specs.Agreement.{TurnOf, OpensBehindTag, NoEcho, AreAlike, HasProved, HasExchanged, HasSealed, Agrees}
+use Rattle.sspi_play.specs.Agreement.{OpensBehindTag, NoEcho, AreAlike, Agrees}
 use Rattle.sspi_play.specs.Agreement.{HoldsSealed, Agreement}
-use Rattle.sspi_play.specs.Faithful.{behind_tag, client_sealed, server_sealed, opened_texts, AreFirstOf, IsHashed, by_client}
+use Rattle.sspi_play.specs.Faithful.{behind_tag, client_sealed, server_sealed, opened_texts, AreFirstOf, by_client}
 use Rattle.sspi_play.specs.Faithful.{by_server, IsFaithful}
 use Rattle.sspi_play.specs.History.{GaveIn}
 use Rattle.sspi_play.proofs.ClientSeals.{ClientProof, ClientProofIn, client_proof, seals_once_opened, sealed_in, second_seal}
 use Rattle.sspi_play.proofs.Lists.{last_same, none_last}
-use Rattle.sspi_play.proofs.Parts.{server_more, server_split, ServerPlace, server_place, client_noted_later, server_noted_later}
+use Rattle.sspi_play.proofs.OwnIdentity.{has_password, own_identity}
+use Rattle.sspi_play.proofs.Parts.{server_more, server_split, server_place, client_noted_later, server_noted_later}
 use Rattle.sspi_play.proofs.Parts.{AllTurns, all_before}
-use Rattle.sspi_play.proofs.SameTexts.{Same, same_texts, no_client_echo, no_server_echo}
+use Rattle.sspi_play.proofs.SameTexts.{same_texts, no_client_echo, no_server_echo}
 use Rattle.sspi_play.proofs.ServerSeals.{at_some, at_version, nonce_length, opens_text, ServerProof, ServerProofIn, server_proof}
 use Rattle.sspi_play.proofs.ServerSeals.{opened_by_proof, one_opened, opened_at_end}
 
@@ -221,18 +221,19 @@ module _ {C : Type 0} (c : Meaning ContextSetting C) (kept : Option C → List (
         let place = server_place turns gave.later t gave.before gave.parts in
         let here = all_before c kept client server place.later (t ∷ place.past)
         (subst (λ (l : List Turn). AllTurns c kept client server l) place.parts all) in
-        let own = server_at t place.past place.end here in
-        let shows = finished_shows (server_frame_at server (server_turns place.past) t) t t.outcome gave.finished own.0.0.shown.reply in
-        let one = one_opened c server (server_turns place.past) own.0.1 own.1 shows.0 in
+        let turn = server_at t place.past place.end here in
+        let shows = finished_shows (server_frame_at server (server_turns place.past) t) t t.outcome gave.finished turn.0.0.shown.reply in
+        let one = one_opened c server (server_turns place.past) turn.0.1 turn.1 shows.0 in
         let text = identity_text gave.server.context t.delivered.auth_info identity gave.gave.1 in
         let opened : opened_texts (t ∷ server_turns place.past) ≡ text.0 ∷ (one.0 ∷ []) =
-        opened_at_end c server (server_turns place.past) t own.0 shows.1
+        opened_at_end c server (server_turns place.past) t turn.0 shows.1
         ∙ ap (λ (l : List (List ℕ)). l ++ opened_texts (server_turns place.past)) text.1
         ∙ ap (λ (l : List (List ℕ)). text.0 ∷ l) one.1 in
         let before = all_before c kept client server (t ∷ []) place.past here in
-        let sealed = second_seal c client place.past text.0 one.0 own.2.0
+        let sealed = second_seal c client place.past text.0 one.0 turn.2.0
         (sealed_in c client place.past before.client_each before.client_others)
-        (own.2.1 ∙ ap (λ (l : List (List ℕ)). own.2.0 ++ l) opened) in
+        (turn.2.1 ∙ ap (λ (l : List (List ℕ)). turn.2.0 ++ l) opened) in
+        let own = has_password client.credentials client.delegation text.0 sealed.1 in
         record {
           at = record { later = place.later; turn = t; before = place.past; parts = place.parts };
           end = place.end;
@@ -241,6 +242,9 @@ module _ {C : Type 0} (c : Meaning ContextSetting C) (kept : Option C → List (
           text = text.0;
           delegated = sealed.1;
           read = text.2;
+          own = own.0;
+          credentials_are = own.1;
+          identity_is = own_identity client.credentials client.delegation own.0 identity text.0 own.1 sealed.1 text.2;
         }
 
     pub agreement : {P : Type 0} (p : ProxyMeaning P) (first : ServerView C P) (turns : List Turn) (identity : Option AuthIdentity) →

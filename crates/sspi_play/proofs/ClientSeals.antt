@@ -1,6 +1,6 @@
 -- What a client sealed and opened, turn by turn.
-use Rattle.std.proofs.Common.{◌≡◌, ◌≤◌, ℕ, ◌+◌, ◌⊎◌, inl, inr, Bool, true, false, ◌&&◌, ◌||◌, List, [], ◌∷◌, ◌++◌, length, drop}
-use Rattle.std.proofs.Common.{Option, None, Some, IsSome, Result, Ok, Err, sym, ◌∙◌, ap, subst, refl, arith, append_assoc}
+use Rattle.std.proofs.Common.{◌≡◌, ◌≤◌, ℕ, ◌⊎◌, inl, inr, Bool, true, false, ◌&&◌, ◌||◌, List, [], ◌∷◌, ◌++◌, length}
+use Rattle.std.proofs.Common.{Option, None, Some, IsSome, Result, Ok, Err, sym, ◌∙◌, ap, refl, arith, append_assoc}
 use Rattle.std.proofs.Common.{length-append, if◌then◌else◌}
 use Rattle.std.proofs.lemmas.List.{append-nil}
 use Rattle.sspi_types.specs.declared.error.Error.{Error}
@@ -20,11 +20,11 @@ use Rattle.sspi_credssp.specs.Credentials.{delegated_text}
 use Rattle.sspi_credssp.specs.PublicKey.{prescribed}
 use Rattle.sspi_credssp.specs.Shown.{client_shown, ShowsClientActs, ShowsNego, ShowsReply}
 use Rattle.sspi_credssp.specs.Turn.{ClientFrame}
-use Rattle.sspi_delegate.specs.ClientRun.{client_state, client_noted, ClientEnd, client_frame_at, EachClientTurn}
+use Rattle.sspi_delegate.specs.ClientRun.{client_noted, ClientEnd, client_frame_at, EachClientTurn}
 use Rattle.sspi_delegate.specs.EndTurns.{onto_client, client_turns, is_replied, is_ended, any_proved, any_ended, OthersGoOn}
 use Rattle.sspi_delegate.specs.Turns.{GoesOn, AllGoOn}
 use Rattle.sspi_play.specs.Agreement.{TurnOf, HasSealed}
-use Rattle.sspi_play.specs.Faithful.{where_done, proof_text, text_in, behind_tag, client_texts, client_sealed, texts_opened, opened_texts}
+use Rattle.sspi_play.specs.Faithful.{where_done, proof_text, behind_tag, client_texts, client_sealed, opened_texts}
 use Rattle.sspi_play.proofs.Lists.{head_of_two, two_are_more}
 use Rattle.sspi_play.proofs.Parts.{client_more, client_skip}
 

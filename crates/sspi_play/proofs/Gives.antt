@@ -1,5 +1,5 @@
 -- The identity that a play gives, after one more turn of the server.
-use Rattle.std.proofs.Common.{◌≡◌, ◌||◌, ◌∙◌, sym, subst, false, List, [], ◌∷◌, ◌++◌, Option, None, Some, ap, refl}
+use Rattle.std.proofs.Common.{◌≡◌, ◌∙◌, sym, subst, false, List, [], ◌∷◌, Option, None, Some, ap, refl}
 use Rattle.sspi_mech.specs.Meaning.{Meaning}
 use Rattle.sspi_names.specs.declared.identity.AuthIdentity.{AuthIdentity}
 use Rattle.sspi_credssp.specs.Context.{ContextSetting}
@@ -10,13 +10,13 @@ use Rattle.sspi_credssp.specs.declared.turn.Outcome.{Outcome}
 use Rattle.sspi_credssp.specs.declared.turn.Outcome.TheVariants as outcome
 use Rattle.sspi_credssp.specs.declared.turn.Turn.{Turn}
 use Rattle.sspi_delegate.specs.Causes.{IsServerRefusal, IsFinished}
-use Rattle.sspi_delegate.specs.EndTurns.{client_turns, server_turns, onto_server, is_finished, any_finished}
+use Rattle.sspi_delegate.specs.EndTurns.{server_turns, is_finished}
 use Rattle.sspi_delegate.specs.History.{ServerGave}
 use Rattle.sspi_delegate.specs.Turns.{GoesOn}
 use Rattle.sspi_play.specs.declared.played.Ending.{Ending}
 use Rattle.sspi_play.specs.declared.played.Ending.TheVariants.{Running, Refused, Unread}
-use Rattle.sspi_play.specs.Hands.{HasTurn, TurnsSo, EndsSo}
-use Rattle.sspi_play.specs.History.{Gave, GaveIn}
+use Rattle.sspi_play.specs.Hands.{TurnsSo, EndsSo}
+use Rattle.sspi_play.specs.History.{Gave}
 use Rattle.sspi_play.proofs.Parts.{server_more}
 
 went_unfinished : (out : Outcome) → GoesOn out → is_finished out ≡ false

@@ -1,5 +1,5 @@
 -- What one more delivery makes of the history of its end.
-use Rattle.std.proofs.Common.{List, [], ◌∷◌, Option, None, Some, Result, Ok, Err}
+use Rattle.std.proofs.Common.{List, [], ◌∷◌, Result, Ok, Err}
 use Rattle.sspi_mech.specs.Meaning.{Meaning}
 use Rattle.sspi_tsreq.specs.declared.request.TsRequest.{TsRequest}
 use Rattle.sspi_types.specs.declared.error.Error.{Error}
@@ -10,7 +10,7 @@ use Rattle.sspi_credssp.specs.declared.turn.Outcome.TheVariants as outcome
 use Rattle.sspi_credssp.specs.declared.turn.Turn.{Turn}
 use Rattle.sspi_delegate.specs.declared.answer.DelegateError.{DelegateError}
 use Rattle.sspi_delegate.specs.Asking.{KdcCalls}
-use Rattle.sspi_delegate.specs.History.{ClientMakes, ClientHistory, ClientStopped, ClientLeft, between}
+use Rattle.sspi_delegate.specs.History.{ClientMakes, ClientHistory, ClientStopped, between}
 use Rattle.sspi_delegate.specs.Turns.{GoesOn, AllGoOn, IsUnrefused, NoneRefused}
 use Rattle.sspi_delegate.proofs.Histories.{client_stopped_history}
 use Rattle.sspi_play.specs.History.{ClientPlayed}

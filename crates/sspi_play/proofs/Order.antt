@@ -1,6 +1,6 @@
 -- The turns of a schedule: how an end stands after one more delivery, and that at most its newest turn was refused.
-use Rattle.std.proofs.Common.{◌≡◌, ◌≢◌, ℕ, ◌+◌, ◌<◌, ◌≤◌, List, [], ◌∷◌, ◌++◌, length, take, reverse, get_or, Option, None, Some, Bool}
-use Rattle.std.proofs.Common.{true, false, ◌||◌, not, sym, ◌∙◌, ap, subst, refl, arith}
+use Rattle.std.proofs.Common.{◌≡◌, ◌≢◌, ℕ, ◌+◌, ◌<◌, ◌≤◌, List, [], ◌∷◌, ◌++◌, length, take, reverse, get_or, Option, None, Some}
+use Rattle.std.proofs.Common.{true, sym, ◌∙◌, ap, subst, refl}
 use Rattle.std.proofs.lemmas.List.{reverse-append, take_more, take_all}
 use Rattle.sspi_types.specs.declared.error_kind.ErrorKind.{ErrorKind}
 use Rattle.sspi_ber.specs.declared.wire_kind.WireKind.{WireKind}
@@ -13,8 +13,8 @@ use Rattle.sspi_delegate.specs.EndTurns.{onto_client, onto_server, client_turns,
 use Rattle.sspi_delegate.specs.Turns.{IsUnrefused, NoneRefused}
 use Rattle.sspi_play.specs.declared.played.Delivery.{Delivery}
 use Rattle.sspi_play.specs.declared.played.Ending.{Ending}
-use Rattle.sspi_play.specs.declared.played.Ending.TheVariants.{Running, Refused, Unread}
-use Rattle.sspi_play.specs.Plays.{is_for, any_for, is_start, unread_kind, unread_for, or_later, first_unread, refusal_in, last_refusal}
+use Rattle.sspi_play.specs.declared.played.Ending.TheVariants.{Running, Unread}
+use Rattle.sspi_play.specs.Plays.{is_for, is_start, unread_kind, unread_for, or_later, first_unread, refusal_in, last_refusal}
 use Rattle.sspi_play.specs.Plays.{turns_by, ending_by, ending_of, Plays, begins, takes, passes}
 
 -- one more of a list, read from its end

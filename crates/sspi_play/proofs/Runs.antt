@@ -1,6 +1,6 @@
 -- What the accounts of a play tell of it where both ends were fresh.
-use Rattle.std.proofs.Common.{◌≡◌, ◌≤◌, ℕ, List, [], ◌∷◌, length, reverse, take, Option, None, Some, Result, Ok, Err, sym, ◌∙◌, ap}
-use Rattle.std.proofs.Common.{subst, refl}
+use Rattle.std.proofs.Common.{◌≡◌, ℕ, List, [], ◌∷◌, length, reverse, take, Option, Some, Result, Ok, Err, ◌∙◌, ap}
+use Rattle.std.proofs.Common.{subst}
 use Rattle.sspi_mech.specs.Context.{IsContext}
 use Rattle.sspi_mech.specs.Meaning.{Meaning}
 use Rattle.sspi_names.specs.declared.identity.AuthIdentity.{AuthIdentity}
@@ -17,14 +17,13 @@ use Rattle.sspi_delegate.specs.ClientRun.{client_end}
 use Rattle.sspi_delegate.specs.EndTurns.{client_turns, server_turns, OthersGoOn, OthersUnrefused}
 use Rattle.sspi_delegate.specs.History.{ClientHistory, ClientLeft, between, waiting}
 use Rattle.sspi_delegate.specs.ServerRun.{server_end}
-use Rattle.sspi_delegate.specs.Turns.{AllGoOn, NoneRefused}
+use Rattle.sspi_delegate.specs.Turns.{AllGoOn}
 use Rattle.sspi_delegate.proofs.Headline.{sealed_once}
 use Rattle.sspi_delegate.proofs.Heeding.{client_past_heeds, server_past_heeds}
 use Rattle.sspi_delegate.proofs.HistoryRuns.{client_past_ran, server_past_ran}
 use Rattle.sspi_play.specs.declared.played.Delivery.{Delivery}
 use Rattle.sspi_play.specs.declared.played.Played.{Played}
-use Rattle.sspi_play.specs.Agreement.{OpensBehindTag, NoEcho, AgreesIfFaithful}
-use Rattle.sspi_play.specs.Faithful.{IsFaithful}
+use Rattle.sspi_play.specs.Agreement.{AgreesIfFaithful}
 use Rattle.sspi_play.specs.History.{ClientPlayed, Gave, GaveIn}
 use Rattle.sspi_play.specs.Kept.{identity_of}
 use Rattle.sspi_play.specs.Played.{Both, PlaysBy, Accounts, IsPlay}
@@ -53,7 +52,7 @@ module _ {C D : Type 0} (c : Meaning ContextSetting C) (k : KdcCalls D) where
   left_others first now kdc kdc2 turns un (between h) = history_others first now kdc kdc2 turns un h
   left_others first now kdc kdc2 turns un (waiting old kdc1 d went h way) = going_others turns went
 
-  played_left : (result : Result Played DelegateError) (first now : ClientView C) (kdc kdc2 : D) (turns : List Turn) →
+  pub played_left : (result : Result Played DelegateError) (first now : ClientView C) (kdc kdc2 : D) (turns : List Turn) →
       ClientPlayed c k {X = Played} first kdc result turns now kdc2 → ClientLeft c k first kdc turns now kdc2
   played_left (Ok played) first now kdc kdc2 turns h = between h
   played_left (Err error) first now kdc kdc2 turns h = h
@@ -99,10 +98,10 @@ module _ {C P D : Type 0} (c : Meaning ContextSetting C) (law : IsContext c) (p 
   identity_gave schedule old new (Err error) accounts given is = absurd (cc (is))
 
   pub agrees_if_faithful : (kept : Option C → List (List ℕ)) (schedule : List Delivery) (old new : Both C P D)
-      (result : Result Played DelegateError) →
+      (result : Result Played DelegateError) → length old.client.nonce ≡ 32 →
       IsPlay c old new → Accounts c p k schedule old result new →
       AgreesIfFaithful c kept (client_end new.client) (server_end new.server) new.turns (identity_of result)
-  agrees_if_faithful kept schedule old new result play accounts = λ faithful tags echo long.
+  agrees_if_faithful kept schedule old new result long play accounts = λ faithful tags echo.
       agreement c kept (client_end new.client) (server_end new.server) tags p old.server new.turns (identity_of result)
       (identity_gave schedule old new result accounts)
       (record {
@@ -111,4 +110,4 @@ module _ {C P D : Type 0} (c : Meaning ContextSetting C) (law : IsContext c) (p 
         server_each = play.server_ran.each;
         server_others = play.server_ran.others;
         opens = faithful.opens;
-      }) long faithful echo
+      }) (ap (λ (l : List ℕ). length l) play.client_ran.same.nonce ∙ long) faithful echo

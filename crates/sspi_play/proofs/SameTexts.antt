@@ -5,9 +5,8 @@ use Rattle.std.proofs.lemmas.Bool.{ltb-true, ltb-false}
 use Rattle.std.proofs.lemmas.List.{append_cancel_left}
 use Rattle.sha2.proofs.Facts256.{length-sha256}
 use Rattle.sha2.specs.Sha256.{sha256}
-use Rattle.sspi_credssp.specs.declared.public_key.EndpointType.{EndpointType}
 use Rattle.sspi_credssp.specs.declared.public_key.EndpointType.TheVariants as whose
-use Rattle.sspi_credssp.specs.PublicKey.{magic, echo, prescribed}
+use Rattle.sspi_credssp.specs.PublicKey.{magic, prescribed}
 use Rattle.sspi_delegate.specs.ClientRun.{ClientEnd, client_noted}
 use Rattle.sspi_delegate.specs.ServerRun.{ServerEnd, server_noted}
 use Rattle.sspi_credssp.specs.declared.turn.Turn.{Turn}

@@ -1,6 +1,6 @@
 -- What a server sealed and opened, turn by turn.
-use Rattle.std.proofs.Common.{◌≡◌, ◌≤◌, ℕ, ◌⊎◌, inl, inr, Bool, true, false, ◌&&◌, ◌||◌, List, [], ◌∷◌, ◌++◌, length, drop, Option}
-use Rattle.std.proofs.Common.{None, Some, IsSome, sym, ◌∙◌, ap, subst, refl, append_assoc, if◌then◌else◌, nat_lt}
+use Rattle.std.proofs.Common.{◌≡◌, ℕ, ◌⊎◌, inl, inr, Bool, true, false, ◌&&◌, ◌||◌, List, [], ◌∷◌, ◌++◌, length, drop, Option}
+use Rattle.std.proofs.Common.{None, Some, sym, ◌∙◌, ap, subst, refl, append_assoc, if◌then◌else◌}
 use Rattle.std.proofs.lemmas.List.{append-nil}
 use Rattle.sspi_types.specs.declared.security_status.SecurityStatus.{SecurityStatus}
 use Rattle.sspi_types.specs.declared.security_status.SecurityStatus.TheVariants as statuses
@@ -16,17 +16,16 @@ use Rattle.sspi_credssp.specs.declared.turn.Outcome.TheVariants as outcome
 use Rattle.sspi_credssp.specs.declared.turn.Turn.{Turn}
 use Rattle.sspi_credssp.specs.Context.{ContextSetting}
 use Rattle.sspi_credssp.specs.Counts.{OpensIn}
-use Rattle.sspi_credssp.specs.Held.{Proven}
 use Rattle.sspi_credssp.specs.PublicKey.{prescribed}
 use Rattle.sspi_credssp.specs.Requests.{nonce_of, IsLong}
 use Rattle.sspi_credssp.specs.Shown.{server_shown, IsOver, MayCheck, HasNonce, ShowsServerActs, ShowsOver, ShowsNegoBack}
 use Rattle.sspi_credssp.specs.Shown.{ShowsStateBack, ShowsAnswer}
 use Rattle.sspi_credssp.specs.Turn.{ServerFrame, AtNoted}
-use Rattle.sspi_delegate.specs.EndTurns.{onto_server, server_turns, is_replied, is_finished, any_proved, any_finished, OthersUnrefused}
+use Rattle.sspi_delegate.specs.EndTurns.{onto_server, server_turns, is_replied, is_finished, any_proved, any_finished}
 use Rattle.sspi_delegate.specs.ServerRun.{any_over, server_state, server_noted, ServerEnd, server_frame_at, EachServerTurn}
 use Rattle.sspi_delegate.specs.Turns.{IsUnrefused, NoneRefused}
 use Rattle.sspi_play.specs.Agreement.{TurnOf, OpensBehindTag}
-use Rattle.sspi_play.specs.Faithful.{where_done, proof_text, behind_tag, server_texts, server_sealed, texts_opened, opened_texts}
+use Rattle.sspi_play.specs.Faithful.{behind_tag, server_texts, server_sealed, opened_texts}
 use Rattle.sspi_play.proofs.ClientSeals.{is_false, or_false, and_not}
 use Rattle.sspi_play.proofs.Parts.{server_more, server_skip}
 

@@ -1,6 +1,6 @@
 -- How a play stands after one more delivery.
-use Rattle.std.proofs.Common.{◌≡◌, ◌≢◌, ◌<◌, ◌≤◌, ◌+◌, ℕ, length, take, reverse, get_or, arith, ◌⊎◌, inl, inr, List, [], ◌∷◌, Option}
-use Rattle.std.proofs.Common.{None, Some, Result, Ok, Err, Bool, true, false, ◌||◌, not, sym, ◌∙◌, ap, subst, refl}
+use Rattle.std.proofs.Common.{◌≡◌, ◌≢◌, ◌<◌, ◌≤◌, ◌+◌, ℕ, length, take, reverse, get_or, arith, inl, inr, List, [], ◌∷◌, Option}
+use Rattle.std.proofs.Common.{None, Some, Result, Ok, Err, Bool, true, false, not, sym, ◌∙◌, ap, subst, refl}
 use Rattle.sspi_types.specs.declared.error_kind.ErrorKind.{ErrorKind}
 use Rattle.sspi_types.specs.declared.error_kind.ErrorKind.TheVariants as kinds
 use Rattle.sspi_names.specs.declared.identity.AuthIdentity.{AuthIdentity}
@@ -13,18 +13,16 @@ use Rattle.sspi_credssp.specs.declared.turn.Outcome.{Outcome}
 use Rattle.sspi_credssp.specs.declared.turn.Outcome.TheVariants as outcome
 use Rattle.sspi_credssp.specs.declared.turn.Turn.{Turn}
 use Rattle.sspi_delegate.specs.declared.answer.DelegateError.{DelegateError}
-use Rattle.sspi_delegate.specs.declared.answer.DelegateError.TheVariants as errors
 use Rattle.sspi_delegate.specs.Causes.{IsClientRefusal, IsServerRefusal, IsFinished}
 use Rattle.sspi_delegate.specs.Recorded.{PushedSuch}
 use Rattle.sspi_delegate.specs.Turns.{GoesOn}
-use Rattle.sspi_play.specs.declared.hand.Handed.{Handed}
 use Rattle.sspi_play.specs.declared.hand.Handed.TheVariants as handed
 use Rattle.sspi_play.specs.declared.hand.Standing.{Standing}
 use Rattle.sspi_play.specs.declared.played.Delivery.{Delivery}
 use Rattle.sspi_play.specs.declared.played.Ending.{Ending}
 use Rattle.sspi_play.specs.declared.played.Ending.TheVariants.{Running, Refused, Unread}
-use Rattle.sspi_play.specs.Hands.{RequestIs, EndsBy, HasTurn, TurnsSo, EndsSo, LacksSo, ClientHands, ServerHands, IsNoWant, Stands, StopsAt}
-use Rattle.sspi_play.specs.Plays.{is_for, any_for, is_start, unread_kind, refusal_in, ending_by, ending_of, IsGiven, Plays, begins}
+use Rattle.sspi_play.specs.Hands.{RequestIs, EndsBy, TurnsSo, EndsSo, LacksSo, ClientHands, ServerHands, IsNoWant, Stands, StopsAt}
+use Rattle.sspi_play.specs.Plays.{any_for, is_start, unread_kind, refusal_in, ending_by, ending_of, IsGiven, Plays, begins}
 use Rattle.sspi_play.specs.Plays.{takes, passes}
 use Rattle.sspi_play.specs.Played.{PlaysFront}
 use Rattle.sspi_play.proofs.Order.{reverse_more, reverse_all, still_runs, is_unread, stays, server_apart, client_apart, client_after}

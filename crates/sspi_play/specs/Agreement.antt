@@ -2,10 +2,14 @@
 --
 -- Whatever is delivered to whom: a client that sealed its credentials sealed them for a server that had checked this client's proof
 -- over the same key, and what a finishing server holds is what this client sealed.
-use Rattle.std.specs.Prelude.{◌≡◌, ◌<◌, ◌≤◌, ℕ, List, ◌∷◌, ◌++◌, drop, length, Option, None, Some, Ok, Bool, true, false, nat_lt}
+use Rattle.std.specs.Prelude.{◌≡◌, ◌<◌, ◌≤◌, ℕ, List, [], ◌∷◌, ◌++◌, drop, length, Option, None, Some, Ok, true, nat_lt}
 use Rattle.sspi_mech.specs.Meaning.{Meaning}
+use Rattle.sspi_names.specs.declared.credentials.Credentials.TheVariants as credentials
 use Rattle.sspi_names.specs.declared.identity.AuthIdentity.{AuthIdentity}
-use Rattle.sspi_credssp.specs.declared.turn.End.{End}
+use Rattle.sspi_names.specs.Identity.{IsIdentity}
+use Rattle.sspi_names.specs.Name.{down_level}
+use Rattle.sspi_tsreq.specs.declared.mode.CredSspMode.{CredSspMode}
+use Rattle.sspi_tsreq.specs.declared.mode.CredSspMode.TheVariants.{WithCredentials, CredentialLess}
 use Rattle.sspi_credssp.specs.declared.turn.End.TheVariants.{Client, Server}
 use Rattle.sspi_credssp.specs.declared.turn.Turn.{Turn}
 use Rattle.sspi_credssp.specs.Context.{ContextSetting}
@@ -34,6 +38,17 @@ OpensBehindTag {C} c = (m : C) (n : ℕ) (blob text : List ℕ) → c.opens m n 
 pub data NoEcho {C : Type 0} (client : ClientEnd C) (server : ServerEnd C) : Type 0 where
   by_length : 32 < length client.public_key → 32 < length server.public_key → NoEcho client server
   by_least_versions : 5 ≤ client.least → 5 ≤ server.least → NoEcho client server
+
+-- ---- what is delegated
+
+-- without texts
+abbrev pub no_identity : AuthIdentity
+no_identity = record { username = down_level [] []; password = record { value = [] } }
+
+-- what comes of an identity that is delegated in this mode
+abbrev pub delegated_as : CredSspMode → AuthIdentity → AuthIdentity
+delegated_as WithCredentials own = own
+delegated_as CredentialLess own = no_identity
 
 -- ---- what both agree on
 
@@ -83,14 +98,17 @@ module _ {C : Type 0} (client : ClientEnd C) (server : ServerEnd C) where
     pub text : List ℕ
     pub delegated : delegated_text client.credentials client.delegation ≡ Ok text
     pub read : delegated_identity text ≡ Ok identity
+    -- so the client has a name and a password; and the identity is its own, unless it keeps its credentials
+    pub own : AuthIdentity
+    pub credentials_are : client.credentials ≡ credentials.AuthIdentity own
+    pub identity_is : IsIdentity own → identity ≡ delegated_as client.delegation own
 
   pub record Agreement (turns : List Turn) (identity : Option AuthIdentity) : Type 0 where
     pub a_client_that_sealed : (at : TurnOf turns) → at.turn.end ≡ Client → at.turn.acts.sealed ≡ true → Agrees turns at.before
     pub a_server_that_finished : (given : AuthIdentity) → identity ≡ Some given → HoldsSealed turns given
 
--- The theorem, of the ends as the play left them. The client's nonce has 32 octets, as that of every client has.
+-- The theorem, of the ends as the play left them.
 abbrev pub AgreesIfFaithful : {C : Type 0} → Meaning ContextSetting C → (Option C → List (List ℕ)) → ClientEnd C → ServerEnd C → List Turn →
     Option AuthIdentity → Type 0
 AgreesIfFaithful c kept client server turns identity =
-    IsFaithful c kept client server turns → OpensBehindTag c → NoEcho client server → length client.nonce ≡ 32 →
-    Agreement client server turns identity
+    IsFaithful c kept client server turns → OpensBehindTag c → NoEcho client server → Agreement client server turns identity

@@ -75,6 +75,16 @@ pub data IsHashed {C : Type 0} (client : ClientEnd C) (server : ServerEnd C) (tu
   by_server : (end : EndpointType) (later before : List Turn) (t : Turn) → server_turns turns ≡ later ++ (t ∷ before) →
       IsHashed client server turns (magic end ++ nonce_of t.delivered.client_nonce ++ server.public_key)
 
+-- how many MICs a context made and verified
+module _ {C : Type 0} (c : Meaning ContextSetting C) where
+  abbrev pub signed_in : Option C → ℕ
+  signed_in None = 0
+  signed_in (Some m) = (c.counts m).signed
+
+  abbrev pub verified_in : Option C → ℕ
+  verified_in None = 0
+  verified_in (Some m) = (c.counts m).verified
+
 module _ {C : Type 0} (c : Meaning ContextSetting C) (kept : Option C → List (List ℕ)) where
   -- after each turn what an end has opened so far is what its peer sealed first
   abbrev pub OpensWhatWasSealed : ClientEnd C → ServerEnd C → List Turn → Type 0
@@ -84,18 +94,10 @@ module _ {C : Type 0} (c : Meaning ContextSetting C) (kept : Option C → List (
       × AreFirstOf (opened_texts (server_turns (t ∷ past))) (client_sealed client (client_turns (t ∷ past)))
       × OpensWhatWasSealed client server past
 
-  abbrev pub signed_in : Option C → ℕ
-  signed_in None = 0
-  signed_in (Some m) = (c.counts m).signed
-
-  abbrev pub verified_in : Option C → ℕ
-  verified_in None = 0
-  verified_in (Some m) = (c.counts m).verified
-
   -- an end verified no more than its peer signed, and where it did both keep the same list of mechanisms
   pub record VerifiesWhatWasSigned (own peer : Option C) : Type 0 where
-    pub count : verified_in own ≤ signed_in peer
-    pub lists : 1 ≤ verified_in own → kept own ≡ kept peer
+    pub count : verified_in c own ≤ signed_in c peer
+    pub lists : 1 ≤ verified_in c own → kept own ≡ kept peer
 
   -- `kept` is the list that a context keeps
   pub record IsFaithful (client : ClientEnd C) (server : ServerEnd C) (turns : List Turn) : Type 0 where

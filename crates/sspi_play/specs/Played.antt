@@ -8,7 +8,6 @@ use Rattle.sspi_credssp.specs.Server.{ServerView}
 use Rattle.sspi_credssp.specs.declared.turn.End.TheVariants.{Client, Server}
 use Rattle.sspi_credssp.specs.declared.turn.Turn.{Turn}
 use Rattle.sspi_delegate.specs.declared.answer.DelegateError.{DelegateError}
-use Rattle.sspi_delegate.specs.declared.answer.DelegateError.TheVariants.{InsufficientMemory}
 use Rattle.sspi_delegate.specs.Asking.{KdcCalls}
 use Rattle.sspi_delegate.specs.ClientRun.{ClientRan}
 use Rattle.sspi_delegate.specs.EndTurns.{client_turns, server_turns}

@@ -7,6 +7,7 @@ ghost use Rattle.sspi_delegate.specs.ClientRun.{client_end};
 ghost use Rattle.sspi_delegate.specs.ServerRun.{server_end};
 ghost use Rattle.sspi_play.specs.Agreement.{AgreesIfFaithful};
 ghost use Rattle.sspi_play.specs.Kept.{kept_list, identity_of};
+ghost use Rattle.sspi_play.specs.Negotiated.{NegotiatesIfFaithful};
 ghost use Rattle.sspi_play.specs.Played.{both, Accounts, IsPlay};
 
 use crate::hand::{Standing, hand};
@@ -28,9 +29,9 @@ use std::alloc::Global;
 /// of the deliveries, and both ends are as their last turn left them; where there was no memory for a reply of the KDC, the
 /// client waits for it in one further turn, which has no record.
 ///
-/// `accounts` speaks of any ends and a transcript without turns, `plays` and `agrees` of ends to which nothing was delivered
-/// since they were made, by whatever version and least version; `agrees` has premises of its own, which
-/// `specs/Agreement.antt` and `specs/Faithful.antt` state.
+/// `accounts` speaks of any ends and a transcript without turns, `plays`, `agrees` and `negotiates` of ends to which nothing was delivered
+/// since they were made, by whatever version and least version; `agrees` and `negotiates` have premises of their own, which
+/// `specs/Agreement.antt`, `specs/Negotiated.antt` and `specs/Faithful.antt` state.
 pub fn play<N: Mechanism, K: Mechanism, C: CredentialsProxy, D: Kdc>(
     alloc: Global,
     client: &mut CredSspClient<N, K>,
@@ -47,9 +48,13 @@ pub fn play<N: Mechanism, K: Mechanism, C: CredentialsProxy, D: Kdc>(
         (both client.old server.old kdc.old transcript.old.turns) (both client.new server.new kdc.new transcript.new.turns) }
     ensures agrees { IsFresh client.old server.old transcript.old.turns → AgreesIfFaithful (either N.REQUESTS N.meaning K.meaning) kept_list
         (client_end client.new) (server_end server.new) transcript.new.turns (identity_of result) }
+    ensures negotiates { IsFresh client.old server.old transcript.old.turns → NegotiatesIfFaithful N.REQUESTS N.meaning K.meaning
+        (client_end client.new) (server_end server.new) server.old.mode transcript.new.turns }
     ensures kdc { KdcStays D.told D.faults kdc.old kdc.new }
     ensures proxy { ProxyStays C.meaning server.old.proxy server.new.proxy }
 {
+    // Its clause says that a nonce has 32 octets, so agreement need not suppose that.
+    let _nonce = client.client_nonce();
     hand_all(alloc, client, server, schedule, kdc, transcript)
 }
 

@@ -1,4 +1,5 @@
-//! Schedules of deliveries to two ends of plain NTLM.
+//! Schedules of deliveries to two ends of plain NTLM, which they negotiate or not.
 
 mod ends;
+mod negotiated;
 mod schedules;

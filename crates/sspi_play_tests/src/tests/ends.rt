@@ -24,7 +24,8 @@ pub fn given<T, E: Drop>(rt: &impl Abort, answer: Result<T, E>) -> T {
 }
 
 /// The messages of `DOM\ann` with the password `pw` and the key 010203 to a server of that key, by their numbers: two tokens,
-/// two proofs and the credentials. Other words are octets themselves.
+/// two proofs and the credentials. With an `n` the two proofs of a session with a nonce of octets 11, with a `k` those of one with
+/// the key 010204. Other words are octets themselves.
 fn octets_of(word: &str) -> &str {
     match word {
         "1" => "3011a003020106a10a30083006a00404024e31",
@@ -37,6 +38,18 @@ fn octets_of(word: &str) -> &str {
         }
         "5" => {
             "3066a003020106a23b0439a5410dbaf6a0ebe3683e10cab62877af3027a003020101a120041e301ca008040644004f004d00a108040661006e006e00a206040470007700a52204200000000000000000000000000000000000000000000000000000000000000000"
+        }
+        "3n" => {
+            "308192a003020106a1333031302fa02d042b4e330700444f4d5c616e6e34ddc90ba7ffb071634b466e4d8ecefc8e57189f71f0576ac2bb6e173cf15e3fa332043003805741e957ec9490fe14f35b140926bc247bcf014a3c46ebcc2c8795926751f0625093cd7060ee9a1a9ea38ccd2395a52204201111111111111111111111111111111111111111111111111111111111111111"
+        }
+        "4n" => {
+            "305da003020106a332043027c1279f6407d794c59347dad6f0fef984e36fc2d0ec4f007e7aaa26cd1f0d6d64712741010d4f6b7c266da3eb8a74fda52204201111111111111111111111111111111111111111111111111111111111111111"
+        }
+        "3k" => {
+            "308192a003020106a1333031302fa02d042b4e330700444f4d5c616e6e34ddc90ba7ffb071634b466e4d8ecefc8e57189f71f0576ac2bb6e173cf15e3fa3320430386f7bfb21b55e1321a58e558b45b8ead7e2eb14c75a00f5cee84f53e7cbd2e86f3e0df19d93f15da16d7504ad6f4e22a52204200000000000000000000000000000000000000000000000000000000000000000"
+        }
+        "4k" => {
+            "305da003020106a33204306ad9b21f48bfc7576f2d4231f1fd99d168b9e4f14231af7e1412dfbb61e3b2afe136dfe5367a065f7bd0ac7cd367c9d0a52204200000000000000000000000000000000000000000000000000000000000000000"
         }
         _ => word,
     }
@@ -53,7 +66,7 @@ fn delivery(rt: &impl Test, word: &str) -> Delivery {
     }
 }
 
-fn schedule(rt: &impl Test, words: &str) -> Vec<Delivery> {
+pub fn schedule(rt: &impl Test, words: &str) -> Vec<Delivery> {
     let mut schedule = Vec::new(rt.alloc());
     for word in words.split_whitespace() {
         given(rt, schedule.push(delivery(rt, word)));
@@ -67,7 +80,7 @@ fn identity(rt: &impl Test) -> AuthIdentity {
     AuthIdentity { username, password }
 }
 
-fn config(rt: &impl Test) -> NtlmConfig {
+pub fn config(rt: &impl Test) -> NtlmConfig {
     NtlmConfig::new(given(rt, Text::from_text(rt.alloc(), "CLIENT")))
 }
 
@@ -122,7 +135,8 @@ pub fn comes_to(
     stands(rt, played, words, wanted);
 }
 
-fn made_by(turns: &[Turn], ends: &str) -> bool {
+/// Whether the turns are those of these ends, in their order.
+pub fn made_by(turns: &[Turn], ends: &str) -> bool {
     let ends = if ends == "-" {
         [].as_slice()
     } else {
@@ -135,7 +149,8 @@ fn made_by(turns: &[Turn], ends: &str) -> bool {
             .all(|(turn, end)| (turn.end == End::Client) == (*end == b'c'))
 }
 
-fn stands(
+/// That a play came to this.
+pub fn stands(
     rt: &impl Abort,
     played: Result<Played, DelegateError>,
     words: &str,

@@ -89,6 +89,7 @@ c: s:1 c:2 s:3 c:4 s:5 s:3005a003020105 c:3005a003020105 = cscscssc altered alte
 c: s:1 c:30 s:300aa003020106a403020105 = css eof token -
 s:30 s:1 c: c:2 = cc running eof -
 s:3007a003020106a28a s:1 = - running data -
+c: s:1 c:30 c:2 = cs eof running -
 ";
 
 #[test]
@@ -96,12 +97,27 @@ fn invented(rt: HostRuntime) {
     plays(&rt, "010203", INVENTED);
 }
 
-/// A server of another key refuses the client's proof, so the client never seals.
-const IMPOSTOR: &str = r"
-c: s:1 c:2 s:3 = cscs running altered -
+/// Messages of another session of the same user, with another nonce: the server answers its proof, but this client takes no answer to
+/// another nonce, and never seals.
+const CROSSED: &str = r"
+c: s:1 c:2 s:3n c:4n = cscsc altered running -
+c: s:1 c:2 s:3 c:4n = cscsc altered running -
+s:1 s:3n c: c:2 c:4n = ssccc altered running -
 ";
 
 #[test]
-fn a_server_of_another_key(rt: HostRuntime) {
-    plays(&rt, "010204", IMPOSTOR);
+fn two_sessions_crossed(rt: HostRuntime) {
+    plays(&rt, "010203", CROSSED);
+}
+
+/// A relay with a key of its own to each end: the server refuses the client's proof, and the client takes no proof of the other key,
+/// which the server owes to another client. So the client never seals.
+const RELAYED: &str = r"
+c: s:1 c:2 s:3 = cscs running altered -
+c: s:1 c:2 s:3k c:4k = cscsc altered running -
+";
+
+#[test]
+fn a_relay_with_two_keys(rt: HostRuntime) {
+    plays(&rt, "010204", RELAYED);
 }

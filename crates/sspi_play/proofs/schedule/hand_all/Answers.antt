@@ -1,4 +1,4 @@
-use Rattle.std.proofs.Common.{◌≡◌, List, sym, subst, refl, arith}
+use Rattle.std.proofs.Common.{List, sym, subst, refl, arith}
 use Rattle.sspi_delegate.proofs.Asking.{kdc_on}
 use Rattle.sspi_delegate.proofs.Refusing.{proxy_on}
 use Rattle.sspi_play.specs.declared.played.Delivery.{Delivery}

@@ -1,0 +1,310 @@
+-- A client's context, after its turns: once it has made or taken a MIC, it keeps the list that it offered in one of them.
+use Rattle.std.proofs.Common.{◌≡◌, ◌≢◌, ℕ, ◌⊎◌, inl, inr, Bool, true, false, List, [], ◌∷◌, Option, None, Some, Result, Ok, Err}
+use Rattle.std.proofs.Common.{refl, sym, ◌∙◌, ap, subst, arith}
+use Rattle.std.proofs.lemmas.Bool.{false≢true}
+use Rattle.sspi_types.specs.declared.credential_use.CredentialUse.TheVariants.{Outbound}
+use Rattle.sspi_types.specs.declared.error_kind.ErrorKind.{ErrorKind}
+use Rattle.sspi_types.specs.declared.error_kind.ErrorKind.TheVariants.{InsufficientMemory}
+use Rattle.sspi_types.specs.declared.security_status.SecurityStatus.{SecurityStatus}
+use Rattle.sspi_names.specs.declared.credentials.Credentials.{Credentials}
+use Rattle.sspi_names.specs.declared.credentials.CredentialsBuffers.{CredentialsBuffers}
+use Rattle.sspi_names.specs.declared.kdc_table.KdcEntry.{KdcEntry}
+use Rattle.sspi_mech.specs.declared.step.Answer.{Answer}
+use Rattle.sspi_mech.specs.declared.step.Answer.TheVariants.{Done, Ask, Refused}
+use Rattle.sspi_mech.specs.declared.step.Reply.{Reply}
+use Rattle.sspi_mech.specs.Calls.{StepArgs, no_counts}
+use Rattle.sspi_mech.specs.Laws.{IsMechanism}
+use Rattle.sspi_mech.specs.Meaning.{Meaning}
+use Rattle.sspi_mech.specs.Settings.{Setting}
+use Rattle.sspi_negotiate.specs.declared.negotiate_config.NegotiateConfig.{NegotiateConfig}
+use Rattle.sspi_negotiate.specs.declared.protocol.NegotiatedProtocol.{NegotiatedProtocol}
+use Rattle.sspi_negotiate.specs.declared.state.NegotiateState.{NegotiateState}
+use Rattle.sspi_negotiate.specs.declared.state.NegotiateState.TheVariants as states
+use Rattle.sspi_negotiate.specs.declared.state.Role.TheVariants as roles
+use Rattle.sspi_negotiate.specs.Client.{spnego_client, spnego_resumed}
+use Rattle.sspi_negotiate.specs.Does.{UnlessMemory}
+use Rattle.sspi_negotiate.specs.Follows.{Follows}
+use Rattle.sspi_negotiate.specs.Hand.{Origin, InPlaceOfNtlm, hand}
+use Rattle.sspi_negotiate.specs.Negotiate.{negotiate}
+use Rattle.sspi_negotiate.specs.New.{first_in_hand, IsFirst, fresh}
+use Rattle.sspi_negotiate.specs.Plan.{Plan}
+use Rattle.sspi_negotiate.specs.Rule.{TakenBy}
+use Rattle.sspi_negotiate.specs.Values.{Negotiation, values_of}
+use Rattle.sspi_negotiate.proofs.Ends.{AllEnds, ends}
+use Rattle.sspi_credssp.specs.declared.context.SspiContext.{SspiContext}
+use Rattle.sspi_credssp.specs.declared.context.SspiContext.TheVariants as contexts
+use Rattle.sspi_credssp.specs.declared.mode.ClientMode.{ClientMode}
+use Rattle.sspi_credssp.specs.declared.mode.ClientMode.TheVariants as modes
+use Rattle.sspi_credssp.specs.declared.turn.Outcome.{Outcome}
+use Rattle.sspi_credssp.specs.declared.turn.Outcome.TheVariants as outcome
+use Rattle.sspi_credssp.specs.declared.turn.Turn.{Turn}
+use Rattle.sspi_credssp.specs.Begun.{Begun, IfContext, goes_on, is_new}
+use Rattle.sspi_credssp.specs.Client.{ClientView}
+use Rattle.sspi_credssp.specs.ClientStep.{Asked, Walked, stepped, resumed, still_asked, recounted}
+use Rattle.sspi_credssp.specs.Context.{either, ForClient}
+use Rattle.sspi_delegate.specs.Asking.{KdcCalls}
+use Rattle.sspi_delegate.specs.Chain.{ClientStage, client_at, ClientMovedBy, ClientChain, ClientChainLeft, at_rest, waiting}
+use Rattle.sspi_delegate.specs.EndTurns.{OthersGoOn}
+use Rattle.sspi_delegate.specs.Turns.{GoesOn, AllGoOn}
+use Rattle.sspi_play.specs.Negotiated.{IsOffer, HasOffered}
+use Rattle.sspi_play.specs.Plays.{refusal_in, last_refusal}
+use Rattle.sspi_play.proofs.Contexts.{HoldsOf, holds_map, IsOfMics, holds_recounted, holds_same_but, holds_stepped, holds_resumed}
+use Rattle.sspi_play.proofs.Marks.{is_marked, hand_keeps, QuietEnds, quiet_all, quiet_marks}
+use Rattle.sspi_play.proofs.Offering.{is_answering, Still, OffersAt, client_quiet, resumed_quiet, HasThatList, client_later, resumed_later}
+
+offered_more : (t : Turn) (turns : List Turn) (list : List (List ℕ)) → HasOffered turns list → HasOffered (t ∷ turns) list
+offered_more t turns list was = record {
+  at = record {
+    later = t ∷ was.at.later;
+    turn = was.at.turn;
+    before = was.at.before;
+    parts = ap (λ (l : List Turn). t ∷ l) was.at.parts;
+  };
+  offer = was.offer;
+}
+
+offered_by : (t : Turn) (turns : List Turn) (list : List (List ℕ)) → HasOffered turns list ⊎ IsOffer t.output list →
+    HasOffered (t ∷ turns) list
+offered_by t turns list (inl was) = offered_more t turns list was
+offered_by t turns list (inr offer) = record { at = record { later = []; turn = t; before = turns; parts = refl }; offer = offer }
+
+module _ {N K : Type 0} (n : Meaning Setting N) (k : Meaning Setting K) where
+  -- once a negotiation is past its first step, or has made or taken a MIC, its list is one of those
+  pub record OffersBy (Has : List (List ℕ) → Type 0) (s : Negotiation (NegotiatedProtocol N K)) : Type 0 where
+    pub begun : s.state ≢ states.Initial → Has s.list
+    pub answering : is_answering s.branch ≡ true → Has s.list
+    pub marked : is_marked ((hand n k).counts s.mech) ≡ true → Has s.list
+
+  offers_of_mics : (Has : List (List ℕ) → Type 0) → IsOfMics n k (OffersBy Has)
+  offers_of_mics Has = λ s mech named marks h.
+      record { begun = h.begun; answering = h.answering; marked = λ marked. h.marked (sym marks ∙ marked) }
+
+  offers_map : (Has Had : List (List ℕ) → Type 0) → ((list : List (List ℕ)) → Had list → Has list) →
+      (s : Negotiation (NegotiatedProtocol N K)) → OffersBy Had s → OffersBy Has s
+  offers_map Has Had map s h = record {
+    begun = λ late. map s.list (h.begun late);
+    answering = λ at. map s.list (h.answering at);
+    marked = λ marked. map s.list (h.marked marked);
+  }
+
+  -- its list was offered in one of these turns
+  abbrev pub Offers : List Turn → Option (SspiContext N K) → Type 0
+  Offers turns context = HoldsOf n k (OffersBy (λ (list : List (List ℕ)). HasOffered turns list)) context
+
+  -- what a step leaves, by its answer
+  abbrev Next : Answer → (List (List ℕ) → Type 0) → Negotiation (NegotiatedProtocol N K) → Type 0
+  Next (Done step) Has s = OffersBy (λ (list : List (List ℕ)). Has list ⊎ IsOffer step.output list) s
+  Next (Ask request) Has s = OffersBy Has s
+  Next (Refused error) Has s = error.error_type ≢ InsufficientMemory → OffersBy Has s
+
+  next_of_mics : (x : Answer) (Has : List (List ℕ) → Type 0) → IsOfMics n k (Next x Has)
+  next_of_mics (Done step) Has = offers_of_mics (λ (list : List (List ℕ)). Has list ⊎ IsOffer step.output list)
+  next_of_mics (Ask request) Has = offers_of_mics Has
+  next_of_mics (Refused error) Has = λ s mech named marks h other. offers_of_mics Has s mech named marks (h other)
+
+module _ {N K : Type 0} (r q : ℕ) (n : Meaning Setting N) (k : Meaning Setting K) (ln : IsMechanism r n) (lk : IsMechanism q k) where
+  module _ (Has : List (List ℕ) → Type 0) (s s2 : Negotiation (NegotiatedProtocol N K)) where
+    -- a step that left the list alone
+    same_list : s2.list ≡ s.list → Has s.list → OffersBy n k Has s2
+    same_list same has = let there : Has s2.list = subst Has (sym same) has in
+        record { begun = λ late. there; answering = λ at. there; marked = λ marked. there }
+
+    later_next : (x : Answer) (p : Plan) → AllEnds (HasThatList s.list) p →
+        UnlessMemory x (Follows (hand n k) p s.mech x (values_of s2) s2.mech) → Has s.list → Next n k x Has s2
+    later_next (Done step) p all f has = offers_map n k (λ (list : List (List ℕ)). Has list ⊎ IsOffer step.output list) Has
+        (λ list h. inl h) s2
+        (same_list (ends (HasThatList s.list) (hand n k) p s.mech s2.mech (Done step) (values_of s2) all f) has)
+    later_next (Ask request) p all f has =
+        same_list (ends (HasThatList s.list) (hand n k) p s.mech s2.mech (Ask request) (values_of s2) all f) has
+    later_next (Refused error) p all f has = λ other.
+        same_list (ends (HasThatList s.list) (hand n k) p s.mech s2.mech (Refused error) (values_of s2) all (f other)) has
+
+    still_next : Still (values_of s) (values_of s2) →
+        (is_marked ((hand n k).counts s2.mech) ≡ true → is_marked ((hand n k).counts s.mech) ≡ true) → OffersBy n k Has s →
+        OffersBy n k Has s2
+    still_next still marks h = record {
+      begun = λ late. subst Has (sym still.list) (h.begun (λ at. late (still.state ∙ at)));
+      answering = λ at. subst Has (sym still.list) (h.answering (still.answering at));
+      marked = λ marked. subst Has (sym still.list) (h.marked (marks marked));
+    }
+
+    quiet_next : (x : Answer) (p : Plan) → QuietEnds (OffersAt (values_of s)) p →
+        UnlessMemory x (Follows (hand n k) p s.mech x (values_of s2) s2.mech) → OffersBy n k Has s → Next n k x Has s2
+    quiet_next (Done step) p quiet f h =
+        let offer = ends (OffersAt (values_of s)) (hand n k) p s.mech s2.mech (Done step) (values_of s2)
+        (quiet_all (OffersAt (values_of s)) p quiet) f in
+        record { begun = λ late. inr offer; answering = λ at. inr offer; marked = λ marked. inr offer }
+    quiet_next (Ask request) p quiet f h = still_next
+        (ends (OffersAt (values_of s)) (hand n k) p s.mech s2.mech (Ask request) (values_of s2)
+        (quiet_all (OffersAt (values_of s)) p quiet) f)
+        (quiet_marks (hand n k) (hand_keeps r q n k ln lk) (OffersAt (values_of s)) p s.mech s2.mech (Ask request) (values_of s2) quiet f) h
+    quiet_next (Refused error) p quiet f h = λ other. still_next
+        (ends (OffersAt (values_of s)) (hand n k) p s.mech s2.mech (Refused error) (values_of s2)
+        (quiet_all (OffersAt (values_of s)) p quiet) (f other))
+        (quiet_marks (hand n k) (hand_keeps r q n k ln lk) (OffersAt (values_of s)) p s.mech s2.mech (Refused error) (values_of s2) quiet
+        (f other)) h
+
+    by_state : (Goal : Type 0) (state : NegotiateState) → (state ≡ states.Initial → Goal) → (state ≢ states.Initial → Goal) → Goal
+    by_state Goal states.Initial first later = first refl
+    by_state Goal states.InProgress first later = later (λ e. cc (e))
+    by_state Goal states.VerifyMic first later = later (λ e. cc (e))
+    by_state Goal states.Ok first later = later (λ e. cc (e))
+
+    by_branch : (Goal : Type 0) (b : Bool) → (b ≡ true → Goal) → (b ≡ false → Goal) → Goal
+    by_branch Goal true answers other = answers refl
+    by_branch Goal false answers other = other refl
+
+    steps_next : (args : StepArgs) (x : Answer) → (negotiate r n k).steps s args x s2 → OffersBy n k Has s → Next n k x Has s2
+    steps_next args x moves h = by_state (Next n k x Has s2) s.state
+        (λ at. quiet_next x (spnego_client moves.ip (values_of s) args) (client_quiet moves.ip (values_of s) args at)
+        moves.moves.follows.as_planned h)
+        (λ late. later_next x (spnego_client moves.ip (values_of s) args) (client_later moves.ip (values_of s) args late)
+        moves.moves.follows.as_planned (h.begun late))
+
+    resumes_next : (reply : Reply) (x : Answer) → (negotiate r n k).resumes s reply x s2 → OffersBy n k Has s → Next n k x Has s2
+    resumes_next reply x moves h = by_branch (Next n k x Has s2) (is_answering s.branch)
+        (λ at. later_next x (spnego_resumed (values_of s) reply) (resumed_later (values_of s) reply at) moves.follows.as_planned
+        (h.answering at))
+        (λ other. quiet_next x (spnego_resumed (values_of s) reply) (resumed_quiet (values_of s) reply other) moves.follows.as_planned h)
+
+  -- ---- a context that was just made
+
+  taken_counts : (url : Option (List ℕ)) (kdcs : List KdcEntry) (computer : List ℕ) (m m2 : NegotiatedProtocol N K) →
+      (hand n k).counts m ≡ no_counts → TakenBy (hand n k) url kdcs computer m m2 → (hand n k).counts m2 ≡ no_counts
+  taken_counts None kdcs computer m m2 none same = ap (λ (x : NegotiatedProtocol N K). (hand n k).counts x) same ∙ none
+  taken_counts (Some url) kdcs computer m m2 none made = (hand_keeps r q n k ln lk).made (InPlaceOfNtlm (Some url) kdcs computer) m2 made
+
+  first_counts : (o : Result Origin ErrorKind) (m : NegotiatedProtocol N K) → IsFirst (hand n k) o m → (hand n k).counts m ≡ no_counts
+  first_counts (Ok origin) m h = (hand_keeps r q n k ln lk).made origin m h
+  first_counts (Err kind) m h = absurd h
+
+  fresh_offers : (Has : List (List ℕ) → Type 0) (config : NegotiateConfig) (asked : Option Credentials)
+      (buffers : Option CredentialsBuffers)
+      (s s2 : Negotiation (NegotiatedProtocol N K)) →
+      IsFirst (hand n k) (first_in_hand roles.Client config) s.mech → s ≡ fresh roles.Client config [] s.mech →
+      (negotiate r n k).acquires s Outbound asked buffers s2 → OffersBy n k Has s2
+  fresh_offers Has config asked buffers s s2 made same got =
+      let state : s2.state ≡ states.Initial =
+      ap (λ (x : Negotiation (NegotiatedProtocol N K)). x.state) got.kept
+      ∙ ap (λ (x : Negotiation (NegotiatedProtocol N K)). x.state) same in
+      let branch : is_answering s2.branch ≡ false =
+      ap (λ (x : Negotiation (NegotiatedProtocol N K)). is_answering x.branch) got.kept
+      ∙ ap (λ (x : Negotiation (NegotiatedProtocol N K)). is_answering x.branch) same in
+      let counts : (hand n k).counts s2.mech ≡ no_counts =
+      (hand_keeps r q n k ln lk).acquired got.mech s2.mech Outbound asked buffers got.acquired
+      ∙ taken_counts _ s.kdcs s.computer s.mech got.mech (first_counts _ s.mech made) got.taken in
+      record {
+        begun = λ late. absurd (late state);
+        answering = λ at. absurd (false≢true (sym branch ∙ at));
+        marked = λ marked. absurd (false≢true (sym (ap is_marked counts) ∙ marked));
+      }
+
+  made_offers : (Has : List (List ℕ) → Type 0) (mode : ClientMode) (asked : Option Credentials) (buffers : Option CredentialsBuffers)
+      (m m2 : SspiContext N K) →
+      (either r n k).made (ForClient mode) m → (either r n k).acquires m Outbound asked buffers m2 →
+      HoldsOf n k (OffersBy n k Has) (Some m2)
+  made_offers Has (modes.Negotiate config) asked buffers (contexts.Negotiate s) (contexts.Negotiate s2) made got =
+      fresh_offers Has config asked buffers s s2 made.1.0 made.1.1 got
+  made_offers Has (modes.Ntlm config) asked buffers (contexts.Ntlm m) (contexts.Ntlm m2) made got =
+      ap is_marked (ln.acquire_counts m m2 _ _ _ got) ∙ ap is_marked (ln.made_fresh _ m made)
+  made_offers Has (modes.Negotiate config) asked buffers (contexts.Negotiate s) (contexts.Ntlm m2) made got = absurd got
+  made_offers Has (modes.Negotiate config) asked buffers (contexts.Negotiate s) (contexts.Kerberos m2) made got = absurd got
+  made_offers Has (modes.Negotiate config) asked buffers (contexts.Ntlm m) m2 made got = absurd made
+  made_offers Has (modes.Negotiate config) asked buffers (contexts.Kerberos m) m2 made got = absurd made
+  made_offers Has (modes.Ntlm config) asked buffers (contexts.Ntlm m) (contexts.Negotiate s2) made got = absurd got
+  made_offers Has (modes.Ntlm config) asked buffers (contexts.Ntlm m) (contexts.Kerberos m2) made got = absurd got
+  made_offers Has (modes.Ntlm config) asked buffers (contexts.Negotiate s) m2 made got = absurd made
+  made_offers Has (modes.Ntlm config) asked buffers (contexts.Kerberos m) m2 made got = absurd made
+
+  begun_offers : (Has : List (List ℕ) → Type 0) (context : Option (SspiContext N K)) (had handle : Option CredentialsBuffers)
+      (mode : ClientMode) (asked : Option Credentials) (m : SspiContext N K) → HoldsOf n k (OffersBy n k Has) context →
+      Begun (either r n k) context had (ForClient mode) Outbound asked handle m → HoldsOf n k (OffersBy n k Has) (Some m)
+  begun_offers Has context had handle mode asked m h (goes_on is same) =
+      subst (λ (o : Option (SspiContext N K)). HoldsOf n k (OffersBy n k Has) o) is h
+  begun_offers Has context had handle mode asked m h (is_new m0 none made got) = made_offers Has mode asked handle m0 m made got
+
+  -- ---- the turns
+
+  walks_next : (Has : List (List ℕ) → Type 0) (start : ClientView (SspiContext N K)) (handle : Option CredentialsBuffers)
+      (token : Option (List ℕ)) (tries : ℕ) (log : List Asked) (x : Answer) (m : SspiContext N K) → tries ≡ 0 →
+      HoldsOf n k (OffersBy n k Has) start.context →
+      Walked (either r n k) start handle token tries log x m → HoldsOf n k (Next n k x Has) (Some m)
+  walks_next Has start handle token tries log x m none h (stepped m0 m1 y begun steps) =
+      holds_stepped r q n k ln lk (OffersBy n k Has) (Next n k x Has) m0 m _ x
+      (λ s s2 moves offers. steps_next Has s s2 _ x moves offers) steps
+      (begun_offers Has start.context start.handle handle start.mode (Some start.credentials) m0 h begun)
+  walks_next Has start handle token tries log x m none h (resumed m1 m2 tried before question reply y walked goes) =
+      holds_resumed r q n k ln lk (OffersBy n k Has) (Next n k x Has) m1 m reply x
+      (λ s s2 moves offers. resumes_next Has s s2 reply x moves offers) goes
+      (walks_next Has start handle token tried before (Ask question) m1 none h walked)
+  walks_next Has start handle token tries log x m none h (still_asked m1 m2 tried before question reply error walked goes waits) =
+      let never : ⊥ = omega (arith, none) in absurd never
+  walks_next Has start handle token tries log x m none h (recounted m1 m2 i tried before y walked counted quiet) =
+      subst (λ (z : SspiContext N K). HoldsOf n k (Next n k x Has) (Some z)) (sym counted)
+      (holds_recounted r q n k ln lk (Next n k x Has) (next_of_mics n k x Has) m1 i quiet
+      (walks_next Has start handle token tried before x m1 none h walked))
+
+  module _ {D : Type 0} (kdcs : KdcCalls D) (first : ClientView (SspiContext N K)) where
+    all_more : (t : Turn) (past : List Turn) (context : Option (SspiContext N K)) → Offers n k past context → Offers n k (t ∷ past) context
+    all_more t past context h = holds_map n k _ _
+        (offers_map n k (λ (list : List (List ℕ)). HasOffered (t ∷ past) list) (λ (list : List (List ℕ)). HasOffered past list)
+        (λ list was. offered_more t past list was)) context h
+
+    stepped_next : (past : List Turn) (stage next : ClientStage (SspiContext N K) D) (token : Option (List ℕ)) (x : Answer)
+        (context : Option (SspiContext N K)) → Offers n k past stage.context → (asked : List Asked) →
+        IfContext context (Walked (either r n k) (client_at (either r n k) kdcs first stage) next.handle token 0 asked x) →
+        HoldsOf n k (Next n k x (λ (list : List (List ℕ)). HasOffered past list)) context
+    stepped_next past stage next token x None h asked walked = absurd walked
+    stepped_next past stage next token x (Some m) h asked walked =
+        walks_next (λ (list : List (List ℕ)). HasOffered past list) _ next.handle token 0 asked x m refl h walked
+
+    moved : (t : Turn) (past : List Turn) (stage next : ClientStage (SspiContext N K) D) (negotiated : Bool)
+        (status : Option SecurityStatus) (came : Outcome) → refusal_in came ≢ Some InsufficientMemory → Offers n k past stage.context →
+        ClientMovedBy (either r n k) kdcs first negotiated status came t.delivered.nego_tokens t.output stage next →
+        Offers n k (t ∷ past) next.context
+    moved t past stage next false status came had h by = all_more t past next.context
+        (holds_same_but r q n k ln lk _ (offers_of_mics n k (λ (list : List (List ℕ)). HasOffered past list)) stage.context next.context
+        by.context h)
+    moved t past stage next true (Some status) came had h by = holds_map n k _ _
+        (offers_map n k (λ (list : List (List ℕ)). HasOffered (t ∷ past) list)
+        (λ (list : List (List ℕ)). HasOffered past list ⊎ IsOffer t.output list) (λ list was. offered_by t past list was)) next.context
+        (stepped_next past stage next t.delivered.nego_tokens (Done (record { status = status; output = t.output })) next.context h by.asked
+        by.walked)
+    moved t past stage next true None (outcome.Refused kind reply) had h by = all_more t past next.context
+        (holds_map n k (Next n k (Refused by.0) (λ (list : List (List ℕ)). HasOffered past list))
+        (OffersBy n k (λ (list : List (List ℕ)). HasOffered past list))
+        (λ s offers. offers (λ lacked. had (ap (λ (x : ErrorKind). Some x) (sym by.1 ∙ lacked)))) next.context
+        (stepped_next past stage next t.delivered.nego_tokens (Refused by.0) next.context h by.2.asked by.2.walked))
+    moved t past stage next true None (outcome.Reply reply) had h by = absurd by
+    moved t past stage next true None (outcome.Final reply) had h by = absurd by
+    moved t past stage next true None outcome.Finished had h by = absurd by
+
+    gone_on : (came : Outcome) → GoesOn came → refusal_in came ≢ Some InsufficientMemory
+    gone_on (outcome.Reply reply) goes = λ e. cc (e)
+    gone_on (outcome.Final reply) goes = λ e. cc (e)
+    gone_on outcome.Finished goes = absurd goes
+    gone_on (outcome.Refused kind reply) goes = absurd goes
+
+    chain_offers : (kdc : D) (turns : List Turn) (stage : ClientStage (SspiContext N K) D) → first.context ≡ None → AllGoOn turns →
+        ClientChain (either r n k) kdcs first kdc turns stage → Offers n k turns stage.context
+    chain_offers kdc [] stage none going chain = subst (λ (o : Option (SspiContext N K)). Offers n k [] o)
+        (sym (ap (λ (x : ClientStage (SspiContext N K) D). x.context) chain ∙ none)) tt
+    chain_offers kdc (t ∷ past) stage none going chain =
+        moved t past chain.0 stage t.acts.negotiated t.acts.status t.outcome (gone_on t.outcome going.0)
+        (chain_offers kdc past chain.0 none going.1 chain.1) chain.2.moved
+
+    rest_offers : (kdc : D) (turns : List Turn) (stage : ClientStage (SspiContext N K) D) → first.context ≡ None → OthersGoOn turns →
+        last_refusal turns ≢ Some InsufficientMemory →
+        ClientChain (either r n k) kdcs first kdc turns stage → Offers n k turns stage.context
+    rest_offers kdc [] stage none others had chain = chain_offers kdc [] stage none tt chain
+    rest_offers kdc (t ∷ past) stage none others had chain =
+        moved t past chain.0 stage t.acts.negotiated t.acts.status t.outcome had
+        (chain_offers kdc past chain.0 none others chain.1) chain.2.moved
+
+    pub left_offers : (kdc : D) (turns : List Turn) (now : ClientStage (SspiContext N K) D) → first.context ≡ None → OthersGoOn turns →
+        last_refusal turns ≢ Some InsufficientMemory →
+        ClientChainLeft (either r n k) kdcs first kdc turns now → Offers n k turns now.context
+    left_offers kdc turns now none others had (at_rest chain) = rest_offers kdc turns now none others had chain
+    left_offers kdc turns now none others had (waiting stage token question asked going chain step lost) =
+        stepped_next turns stage (record now { kdc = asked }) token (Ask question) now.context
+        (chain_offers kdc turns stage none going chain) step.asked step.walked

@@ -1,0 +1,122 @@
+-- Agreement on the mechanism that a negotiation chose, between a client and a server whose messages an attacker carries, if the
+-- mechanism is faithful (RFC 4178, section 5).
+--
+-- A server that verified a MIC of the client has the mechanism in hand that it picks, by its own configuration, of the list that
+-- the client offered; and a client that verified a MIC of the server keeps the list that the server read.
+use Rattle.std.specs.Prelude.{◌≡◌, ◌≢◌, ◌≤◌, ℕ, List, option_map, Option, None, Some, Result, Ok, Err}
+use Rattle.sspi_types.specs.declared.error_kind.ErrorKind.{ErrorKind}
+use Rattle.sspi_types.specs.declared.error_kind.ErrorKind.TheVariants as kinds
+use Rattle.sspi_mech.specs.Meaning.{Meaning}
+use Rattle.sspi_mech.specs.Settings.{Setting}
+use Rattle.sspi_tokens.specs.declared.neg_token_init.NegTokenInit.{NegTokenInit}
+use Rattle.sspi_tokens.specs.Reading.{init_of}
+use Rattle.sspi_tokens.specs.Spelling.{spelled_init}
+use Rattle.sspi_negotiate.specs.declared.negotiate_config.NegotiateConfig.{NegotiateConfig}
+use Rattle.sspi_negotiate.specs.declared.pick.Choice.{Choice}
+use Rattle.sspi_negotiate.specs.declared.pick.Choice.TheVariants as choices
+use Rattle.sspi_negotiate.specs.declared.pick.Picked.{Picked}
+use Rattle.sspi_negotiate.specs.declared.protocol.Protocol.{Protocol}
+use Rattle.sspi_negotiate.specs.declared.protocol.Protocol.TheVariants.{Kerberos, Ntlm}
+use Rattle.sspi_negotiate.specs.declared.protocol_config.ProtocolConfig.TheVariants as configs
+use Rattle.sspi_negotiate.specs.declared.state.Role.TheVariants as roles
+use Rattle.sspi_negotiate.specs.Hand.{Origin, Configured, InPlaceOfNtlm, hand_of}
+use Rattle.sspi_negotiate.specs.New.{first_in_hand, packages_in}
+use Rattle.sspi_negotiate.specs.Pick.{pick}
+use Rattle.sspi_credssp.specs.declared.context.SspiContext.{SspiContext}
+use Rattle.sspi_credssp.specs.declared.context.SspiContext.TheVariants as contexts
+use Rattle.sspi_credssp.specs.declared.mode.ServerMode.{ServerMode}
+use Rattle.sspi_credssp.specs.declared.mode.ServerMode.TheVariants as modes
+use Rattle.sspi_credssp.specs.declared.turn.End.{End}
+use Rattle.sspi_credssp.specs.declared.turn.Turn.{Turn}
+use Rattle.sspi_credssp.specs.Context.{either}
+use Rattle.sspi_credssp.specs.Requests.{token_of}
+use Rattle.sspi_delegate.specs.ClientRun.{ClientEnd}
+use Rattle.sspi_delegate.specs.EndTurns.{client_turns, server_turns}
+use Rattle.sspi_delegate.specs.ServerRun.{ServerEnd}
+use Rattle.sspi_play.specs.Agreement.{TurnOf}
+use Rattle.sspi_play.specs.Faithful.{verified_in, IsFaithful}
+use Rattle.sspi_play.specs.Kept.{kept_list}
+use Rattle.sspi_play.specs.Plays.{turns_by, last_refusal}
+
+-- ---- the list on its way
+
+-- the text is a NegTokenInit that offers this list
+pub record IsOffer (text : List ℕ) (list : List (List ℕ)) : Type 0 where
+  pub mech_token : Option (List ℕ)
+  pub spelled : spelled_init (record { mech_types = Some list; mech_token = mech_token }) ≡ Some text
+
+-- the text begins with a NegTokenInit that offers this list
+pub record IsReadAs (text : List ℕ) (list : List (List ℕ)) : Type 0 where
+  pub token : NegTokenInit
+  pub read : init_of text ≡ Some token
+  pub listed : token.mech_types ≡ Some list
+
+-- the client made the offer of this list in one of its turns
+pub record HasOffered (turns : List Turn) (list : List (List ℕ)) : Type 0 where
+  pub at : TurnOf turns
+  pub offer : IsOffer at.turn.output list
+
+-- the server was handed an offer of this list in one of its turns
+pub record HasRead (turns : List Turn) (list : List (List ℕ)) : Type 0 where
+  pub at : TurnOf turns
+  pub read : IsReadAs (token_of at.turn.delivered.nego_tokens) list
+
+-- ---- the mechanism in hand
+
+abbrev pub protocol_of : Choice → Protocol
+protocol_of choices.MsKerberos = Kerberos
+protocol_of choices.Kerberos = Kerberos
+protocol_of choices.Ntlm = Ntlm
+
+-- the mechanism of what is taken in hand; a refusal takes none
+abbrev pub protocol_from : Result Origin ErrorKind → Option Protocol
+protocol_from (Ok (Configured (configs.Ntlm config))) = Some Ntlm
+protocol_from (Ok (Configured (configs.Kerberos config))) = Some Kerberos
+protocol_from (Ok (Configured (configs.KerberosServer config server))) = Some Kerberos
+protocol_from (Ok (InPlaceOfNtlm url kdcs computer)) = Some Kerberos
+protocol_from (Err kind) = None
+
+-- what a server with this mechanism in hand picks of a list, by its configuration
+abbrev pub picks_with : NegotiateConfig → Option Protocol → List (List ℕ) → Option Protocol
+picks_with config None list = None
+picks_with config (Some first) list = option_map (λ (picked : Picked). protocol_of picked.choice) (pick list (packages_in config) first)
+
+-- what a server that was made of this configuration picks of a list
+abbrev pub picked_by : NegotiateConfig → List (List ℕ) → Option Protocol
+picked_by config list = picks_with config (protocol_from (first_in_hand roles.Server config)) list
+
+-- the mechanism that a negotiation has in hand
+abbrev pub in_hand : {N K : Type 0} → Option (SspiContext N K) → Option Protocol
+in_hand None = None
+in_hand (Some (contexts.Negotiate s)) = Some (hand_of s.mech)
+in_hand (Some (contexts.Ntlm m)) = None
+in_hand (Some (contexts.Kerberos m)) = None
+
+-- the mechanism in hand is what a server of this mode picks of the list
+pub record IsPickOf {N K : Type 0} (context : Option (SspiContext N K)) (mode : ServerMode) (list : List (List ℕ)) : Type 0 where
+  pub config : NegotiateConfig
+  pub mode_is : mode ≡ modes.Negotiate config
+  pub protocol : Protocol
+  pub held : in_hand context ≡ Some protocol
+  pub picked : picked_by config list ≡ Some protocol
+
+-- ---- what both agree on
+
+-- no turn of either end was refused for want of memory
+abbrev pub HadMemory : List Turn → Type 0
+HadMemory turns = (end : End) → last_refusal (turns_by end turns) ≢ Some kinds.InsufficientMemory
+
+module _ {N K : Type 0} (requests : ℕ) (n : Meaning Setting N) (k : Meaning Setting K) where
+  -- of a server that was made in this mode
+  pub record AgreesOnMechanism (client : ClientEnd (SspiContext N K)) (server : ServerEnd (SspiContext N K)) (mode : ServerMode)
+      (turns : List Turn) : Type 0 where
+    pub a_server_that_verified : 1 ≤ verified_in (either requests n k) server.context →
+        IsPickOf server.context mode (kept_list client.context) × HasOffered (client_turns turns) (kept_list client.context)
+    pub a_client_that_verified : 1 ≤ verified_in (either requests n k) client.context →
+        HasRead (server_turns turns) (kept_list client.context)
+
+  -- The theorem, of the ends as the play left them.
+  abbrev pub NegotiatesIfFaithful : ClientEnd (SspiContext N K) → ServerEnd (SspiContext N K) → ServerMode → List Turn → Type 0
+  NegotiatesIfFaithful client server mode turns =
+      IsFaithful (either requests n k) kept_list client server turns → HadMemory turns →
+      AgreesOnMechanism client server mode turns
