@@ -25,10 +25,12 @@ pub mod NtlmEnds
 pub mod NtlmOutcomes
 pub mod PlainNtlm
 pub mod SpnegoTokens
-pub mod SpnegoSteps
+pub mod NtlmSteps
+pub mod KerberosSteps
 pub mod SpnegoEnds
 pub mod SpnegoBegins
-pub mod SpnegoNtlm
+pub mod Courses
+pub mod Rows
 pub mod PlainSettled
 pub mod Modes
 pub mod ThreeTurns
