@@ -1,7 +1,10 @@
--- The name of the package in hand.
+-- The package in hand: its name, and which mechanism it authenticates by.
 use Rattle.std.specs.Prelude.{ℕ, List}
 use Rattle.sspi_types.specs.declared.package.SecurityPackageType.TheVariants as packages
 use Rattle.sspi_types.specs.PackageNames.{package_text}
+use Rattle.sspi_negotiate.specs.declared.protocol.Protocol.{Protocol}
+use Rattle.sspi_negotiate.specs.declared.protocol.Protocol.TheVariants as protocols
+use Rattle.sspi_negotiate.specs.Hand.{hand_of}
 use Rattle.sspi_credssp.specs.declared.context.SspiContext.{SspiContext}
 use Rattle.sspi_credssp.specs.declared.context.SspiContext.TheVariants as hands
 
@@ -9,3 +12,9 @@ abbrev pub package_name_of : {N K : Type 0} → SspiContext N K → List ℕ
 package_name_of (hands.Negotiate it) = package_text packages.Negotiate
 package_name_of (hands.Ntlm it) = package_text packages.Ntlm
 package_name_of (hands.Kerberos it) = package_text packages.Kerberos
+
+-- the mechanism in hand, also where it was negotiated
+abbrev pub protocol_of : {N K : Type 0} → SspiContext N K → Protocol
+protocol_of (hands.Negotiate it) = hand_of it.mech
+protocol_of (hands.Ntlm it) = protocols.Ntlm
+protocol_of (hands.Kerberos it) = protocols.Kerberos

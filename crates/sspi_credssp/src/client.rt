@@ -1,5 +1,5 @@
 ghost use Rattle.std.specs.Prelude.{◌≡◌, ◌≢◌, ◌<◌, ◌+◌, ℕ, List, [], ◌∷◌, None, Some, true, false, IsSome, IsErr, IfErr, OnOk, OnErr};
-ghost use Rattle.std.specs.Prelude.{string_bytes};
+ghost use Rattle.std.specs.Prelude.{length, string_bytes};
 ghost use Rattle.sspi_types.specs.declared.credential_use.CredentialUse.TheVariants as purposes;
 ghost use Rattle.sspi_names.specs.declared.network.NetworkRequest.{NetworkRequest};
 ghost use Rattle.sspi_mech.specs.declared.step.Answer.TheVariants as answers;
@@ -153,6 +153,14 @@ impl<N, K> CredSspClient<N, K> {
         let mut client = self;
         client.least_version = least;
         client
+    }
+
+    /// The nonce that goes into the proofs from version 5 on: the 32 bytes that the client was made with.
+    pub fn client_nonce(&self) -> &[u8; 32]
+        ensures nonce { result.now ≡ self.now.nonce }
+        ensures size { length self.now.nonce ≡ 32 }
+    {
+        &self.client_nonce
     }
 
     /// What the last call did on the security context, also where it was refused.

@@ -1,4 +1,5 @@
-ghost use Rattle.std.specs.Prelude.{List, Option, ◌≡◌, ◌≢◌, ◌-◌, IfOk, IfErr, OnOk, OnErr, option_copied, filter, take};
+ghost use Rattle.std.specs.Prelude.{List, [], ◌∷◌, Option, ◌≡◌, ◌≢◌, ◌-◌, true, false, IsTrue, IsErr, IfOk, IfErr, OnOk, OnErr};
+ghost use Rattle.std.specs.Prelude.{option_copied, filter, take};
 ghost use Rattle.sspi_types.specs.Memory.{memory_error};
 ghost use Rattle.sspi_mech.specs.Calls.{step_args, accept_args, no_counts, one_sealed, one_unsealed};
 ghost use Rattle.sspi_mech.specs.Calls.{ToAcquire, ToName, ToIdentify, ToComplete, ToSeal, ToUnseal};
@@ -7,7 +8,8 @@ ghost use Rattle.sspi_names.specs.declared.identity.AuthIdentity.{AuthIdentity};
 ghost use Rattle.sspi_credssp.specs.Context.{either, has_password, ForClient, ForServer};
 ghost use Rattle.sspi_credssp.specs.Peers.{IsListed};
 ghost use Rattle.sspi_mech.specs.Context.{IsUnused, IsContext};
-ghost use Rattle.sspi_credssp.specs.PackageName.{package_name_of};
+ghost use Rattle.sspi_negotiate.specs.Identity.{is_refused_identity};
+ghost use Rattle.sspi_credssp.specs.PackageName.{package_name_of, protocol_of};
 
 use crate::mode::{ClientMode, ServerMode};
 use sspi_mech::{
@@ -16,8 +18,9 @@ use sspi_mech::{
 };
 use sspi_names::{AuthIdentity, ContextNames, Credentials, CredentialsBuffers};
 use sspi_negotiate::Negotiate;
-use sspi_types::{CredentialUse, Error, ErrorKind, SecurityStatus};
+use sspi_types::{CredentialUse, Error, ErrorKind, Reason, SecurityStatus};
 use std::alloc::Global;
+use std::slice::from_ref;
 
 /// A security context by one of two mechanisms, which need not be those that the variants are named after, or by a negotiation
 /// that agrees on one of them.
@@ -215,6 +218,32 @@ impl<N: Mechanism, K: Mechanism> SspiContext<N, K> {
         }
     }
 
+    /// Tells a server which identity its peer may have. `IncompleteCredentials` exactly for a keytab with NTLM in hand, also
+    /// where it was negotiated; else as `custom_set_auth_identities` of this one. Refused, the context is as it was.
+    pub fn custom_set_auth_identity(&mut self, identity: Credentials) -> Result<(), Error>
+        ensures identified { OnOk result ((either N.REQUESTS N.meaning K.meaning).identifies self.old (identity ∷ []) self.new) }
+        ensures count { (either N.REQUESTS N.meaning K.meaning).counts self.new ≡ (either N.REQUESTS N.meaning K.meaning).counts self.old }
+        ensures err { OnErr result (self.new ≡ self.old) }
+        ensures plain { IfErr result (λ error. error.nstatus ≡ None) }
+        ensures keytab { is_refused_identity (protocol_of self.old) identity ≡ true →
+            IfErr result (λ error. error.error_type ≡ ErrorKind.IncompleteCredentials) × IsErr result }
+        ensures cause { is_refused_identity (protocol_of self.old) identity ≡ false →
+            IfErr result (λ error. error.error_type ≢ ErrorKind.InsufficientMemory →
+            (either N.REQUESTS N.meaning K.meaning).refuses self.old (ToIdentify (identity ∷ [])) error.error_type) }
+    {
+        match self {
+            SspiContext::Negotiate(negotiation) => negotiation.custom_set_auth_identity(identity),
+            SspiContext::Ntlm(mechanism) => match identity {
+                Credentials::AuthIdentity(_) => mechanism.set_identities(from_ref(&identity)),
+                Credentials::Keytab(_) => Err(Error::new(
+                    ErrorKind::IncompleteCredentials,
+                    Reason::NotPassword,
+                )),
+            },
+            SspiContext::Kerberos(mechanism) => mechanism.set_identities(from_ref(&identity)),
+        }
+    }
+
     /// Tells a server which identities its peer may have. NTLM takes those with a password, Kerberos the first, also where
     /// it was negotiated.
     ///
@@ -240,6 +269,7 @@ impl<N: Mechanism, K: Mechanism> SspiContext<N, K> {
     /// Completes the authentication (CompleteAuthToken). `OutOfSequence` before there is a key.
     pub fn complete_auth_token(&mut self) -> Result<SecurityStatus, Error>
         ensures same { self.new ≡ self.old }
+        ensures keyed { IsTrue ((either N.REQUESTS N.meaning K.meaning).keyed self.old) → result ≡ Ok SecurityStatus.Ok }
         ensures permitted { OnOk result ((either N.REQUESTS N.meaning K.meaning).permits self.old ToComplete) }
         ensures plain { IfErr result (λ error. error.nstatus ≡ None) }
         ensures cause { IfErr result (λ error. error.error_type ≢ ErrorKind.InsufficientMemory →
