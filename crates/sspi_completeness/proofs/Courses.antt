@@ -90,11 +90,27 @@ present : {A : Type 0} (o : Option A) (x : A) (kind : ErrorKind) → o ≡ Some 
 present None x kind is absent = absurd (cc (is))
 present (Some y) x kind is absent = cc (absent)
 
-module _ {D P : Type 0} (told : D → Option (ℕ → NetworkRequest → Reply)) (calls faults : D → ℕ) (laws : IsContext c) (p : ProxyMeaning P)
-    (a : ClientView C) (b : ServerView C P) (kdc_first : D) (matching : AreMatching p (told kdc_first) (calls kdc_first) a b)
-    (client_config server_config : NegotiateConfig) (client_is : a.mode ≡ client_mode.Negotiate client_config)
-    (server_is : b.mode ≡ server_mode.Negotiate server_config)
-    (come : AreNegotiating (told kdc_first) (calls kdc_first) client_config server_config a.target matching.identity) where
+-- Two ends that match and negotiate, with the KDC of the client.
+pub record Meeting (D P : Type 0) : Type 0 where
+  pub told : D → Option (ℕ → NetworkRequest → Reply)
+  pub calls : D → ℕ
+  pub faults : D → ℕ
+  pub laws : IsContext c
+  pub proxy : ProxyMeaning P
+  pub client : ClientView C
+  pub server : ServerView C P
+  pub kdc : D
+  pub matching : AreMatching proxy (told kdc) (calls kdc) client server
+  pub client_config : NegotiateConfig
+  pub server_config : NegotiateConfig
+  pub client_is : client.mode ≡ client_mode.Negotiate client_config
+  pub server_is : server.mode ≡ server_mode.Negotiate server_config
+  pub come : AreNegotiating (told kdc) (calls kdc) client_config server_config client.target matching.identity
+
+module _ {D P : Type 0} (meet : Meeting D P) where
+  open meet use {told, calls, faults, laws, proxy as p, client as a, server as b, kdc as kdc_first, matching, client_config, server_config}
+  open meet use {client_is, server_is, come}
+
   abbrev i : AuthIdentity
   i = matching.identity
 

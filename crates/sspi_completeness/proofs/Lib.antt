@@ -31,6 +31,10 @@ pub mod SpnegoEnds
 pub mod SpnegoBegins
 pub mod Courses
 pub mod Rows
+pub mod NtlmRow
+pub mod KerberosStart
+pub mod ChangedRow
+pub mod KerberosRow
 pub mod PlainSettled
 pub mod Modes
 pub mod ThreeTurns

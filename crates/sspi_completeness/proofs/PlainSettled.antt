@@ -42,8 +42,11 @@ use Rattle.sspi_completeness.proofs.Negotiation.{AreAlike, IsNegotiation}
 use Rattle.sspi_completeness.proofs.PlainNtlm as plain
 use Rattle.sspi_completeness.proofs.Points.{IsKnown}
 use Rattle.sspi_completeness.proofs.Settling.{Settled, settled}
-use Rattle.sspi_completeness.proofs.Courses.{negotiation}
-use Rattle.sspi_completeness.proofs.Rows.{ntlm_course, changed_course, kerberos_course, kerberos_picked, never_second}
+use Rattle.sspi_completeness.proofs.Courses.{Meeting, IsCourse, negotiation}
+use Rattle.sspi_completeness.proofs.NtlmRow.{ntlm_course}
+use Rattle.sspi_completeness.proofs.ChangedRow.{changed_course}
+use Rattle.sspi_completeness.proofs.KerberosRow.{kerberos_course}
+use Rattle.sspi_completeness.proofs.Rows.{kerberos_picked, never_second}
 use Rattle.sspi_completeness.proofs.SpnegoEnds.{C, c}
 use Rattle.sspi_completeness.proofs.Texts.{HasDelegated, delegates}
 
@@ -110,23 +113,15 @@ module _ {D P : Type 0} (told : D → Option (ℕ → NetworkRequest → Reply))
   last_by Kerberos choices.Kerberos = 3
   last_by Kerberos choices.MsKerberos = 3
 
-  negotiated : (config config2 : NegotiateConfig) (client_is : a.mode ≡ client_mode.Negotiate config)
-      (server_is : b.mode ≡ server_mode.Negotiate config2) (come : AreNegotiating (told kdc) (calls kdc) config config2 a.target matching.identity)
-      (begins : Protocol) (choice : Choice) → come.begins ≡ begins → come.picked.choice ≡ choice →
-      Needs (told kdc) (calls kdc) begins choice (kdc_url config come.client_hand matching.identity.username) come.server_hand matching.identity →
-      Known (last_by begins choice)
-  negotiated config config2 client_is server_is come Ntlm choice by picks needs =
-      known_so 1 true (negotiation told calls faults laws p a b kdc matching config config2 client_is server_is come 1 true
-      (ntlm_course told calls faults laws p a b kdc matching config config2 client_is server_is come by needs))
-  negotiated config config2 client_is server_is come Kerberos choices.Ntlm by picks needs =
-      known_so 2 true (negotiation told calls faults laws p a b kdc matching config config2 client_is server_is come 2 true
-      (changed_course told calls faults laws p a b kdc matching config config2 client_is server_is come by needs.0 picks needs.1))
-  negotiated config config2 client_is server_is come Kerberos choices.MsKerberos by picks needs =
-      known_so 1 false (negotiation told calls faults laws p a b kdc matching config config2 client_is server_is come 1 false
-      (kerberos_course told calls faults laws p a b kdc matching config config2 client_is server_is come by
-      (kerberos_picked told calls faults laws p a b kdc matching config config2 client_is server_is come by picks) needs))
-  negotiated config config2 client_is server_is come Kerberos choices.Kerberos by picks needs =
-      absurd (never_second told calls faults laws p a b kdc matching config config2 client_is server_is come by picks)
+  negotiated : (meet : Meeting D P) (begins : Protocol) (choice : Choice) → meet.come.begins ≡ begins → meet.come.picked.choice ≡ choice →
+      Needs (meet.told meet.kdc) (meet.calls meet.kdc) begins choice
+      (kdc_url meet.client_config meet.come.client_hand meet.matching.identity.username) meet.come.server_hand meet.matching.identity →
+      (j : ℕ) × (early : Bool) × IsCourse meet j early × (suc (suc j) ≡ last_by begins choice)
+  negotiated meet Ntlm choice by picks needs = (1, true, ntlm_course meet by needs, refl)
+  negotiated meet Kerberos choices.Ntlm by picks needs = (2, true, changed_course meet by needs.0 picks needs.1, refl)
+  negotiated meet Kerberos choices.MsKerberos by picks needs =
+      (1, false, kerberos_course meet by (kerberos_picked meet by picks) needs, refl)
+  negotiated meet Kerberos choices.Kerberos by picks needs = absurd (never_second meet by picks)
 
   counted : (begins : Protocol) (choice : Choice) → suc (last_by begins choice) ≡ messages_by begins choice
   counted Ntlm choice = refl
@@ -143,11 +138,28 @@ module _ {D P : Type 0} (told : D → Option (ℕ → NetworkRequest → Reply))
         client_is server_is eight),
     refl,
   )
-  known_by (client_mode.Negotiate config) (server_mode.Negotiate config2) client_is server_is come = (
-    last_by come.begins come.picked.choice,
-    negotiated config config2 client_is server_is come come.begins come.picked.choice refl refl come.needs,
-    counted come.begins come.picked.choice,
-  )
+  known_by (client_mode.Negotiate config) (server_mode.Negotiate config2) client_is server_is come =
+      let meet : Meeting D P = record {
+        told = told;
+        calls = calls;
+        faults = faults;
+        laws = laws;
+        proxy = p;
+        client = a;
+        server = b;
+        kdc = kdc;
+        matching = matching;
+        client_config = config;
+        server_config = config2;
+        client_is = client_is;
+        server_is = server_is;
+        come = come;
+      } in
+      let course = negotiated meet come.begins come.picked.choice refl refl come.needs in (
+        suc (suc course.0),
+        known_so course.0 course.1 (negotiation meet course.0 course.1 course.2),
+        ap suc course.3 ∙ counted come.begins come.picked.choice,
+      )
   known_by (client_mode.Ntlm config) (server_mode.Negotiate config2) client_is server_is never = absurd never
   known_by (client_mode.Negotiate config) (server_mode.Ntlm config2) client_is server_is never = absurd never
 
