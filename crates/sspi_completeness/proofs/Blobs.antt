@@ -1,5 +1,5 @@
 -- What a plain mechanism seals and opens.
-use Rattle.std.proofs.Common.{◌≡◌, ◌+◌, ℕ, ◌<◌, ◌^◌, ◌++◌, length, List, false, Option, None, Some, sym, ◌∙◌, subst, arith, refl, ◌-◌}
+use Rattle.std.proofs.Common.{◌≡◌, ◌+◌, ℕ, ◌<◌, ◌^◌, ◌++◌, length, List, false, Option, None, Some, sym, ◌∙◌, arith, refl, ◌-◌}
 use Rattle.std.proofs.Common.{nat_eq, nat_lt}
 use Rattle.std.proofs.lemmas.Bool.{ne_eqb, le-ltb}
 use Rattle.std.proofs.lemmas.List.{length-append}

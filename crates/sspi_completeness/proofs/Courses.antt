@@ -11,12 +11,11 @@ use Rattle.sspi_names.specs.declared.credentials.Credentials.TheVariants as cred
 use Rattle.sspi_names.specs.declared.credentials.CredentialsBuffers.{CredentialsBuffers}
 use Rattle.sspi_names.specs.declared.identity.AuthIdentity.{AuthIdentity}
 use Rattle.sspi_names.specs.declared.network.NetworkRequest.{NetworkRequest}
-use Rattle.sspi_names.specs.Identity.{IsIdentity}
-use Rattle.sspi_names.specs.Name.{Name, domain_of, inner_of}
+use Rattle.sspi_names.specs.Name.{Name, domain_of}
 use Rattle.sspi_mech.specs.declared.protection.Direction.TheVariants.{FromClient, FromServer}
 use Rattle.sspi_mech.specs.declared.step.Reply.{Reply}
 use Rattle.sspi_mech.specs.declared.step.Step.{Step}
-use Rattle.sspi_mech.specs.Calls.{StepArgs, ToAcquire, ToComplete, ToIdentify, ToName}
+use Rattle.sspi_mech.specs.Calls.{StepArgs, ToAcquire, ToComplete, ToName}
 use Rattle.sspi_mech.specs.Context.{IsContext}
 use Rattle.sspi_mech.specs.Kerberos.{kerberos_meaning}
 use Rattle.sspi_mech.specs.Ntlm.{ntlm_meaning, absence}
@@ -28,11 +27,11 @@ use Rattle.sspi_negotiate.specs.declared.state.Role.TheVariants.{Client, Server}
 use Rattle.sspi_negotiate.specs.Acquire.{Acquires}
 use Rattle.sspi_negotiate.specs.Client.{spnego_client}
 use Rattle.sspi_negotiate.specs.Hand.{Origin, hand_of}
-use Rattle.sspi_negotiate.specs.New.{fresh, packages_in, IsUnmade, UnmadeOf, first_in_hand}
+use Rattle.sspi_negotiate.specs.New.{fresh, packages_in, IsUnmade}
 use Rattle.sspi_negotiate.specs.Rule.{url_for, TakenBy}
 use Rattle.sspi_negotiate.specs.Server.{spnego_server}
 use Rattle.sspi_negotiate.specs.Target.{IsNamedByIp}
-use Rattle.sspi_negotiate.specs.Values.{Values, Negotiation, values_of}
+use Rattle.sspi_negotiate.specs.Values.{Values, Negotiation}
 use Rattle.sspi_credssp.specs.declared.context.SspiContext.TheVariants as contexts
 use Rattle.sspi_credssp.specs.declared.mode.ClientMode.{ClientMode}
 use Rattle.sspi_credssp.specs.declared.mode.ClientMode.TheVariants as client_mode
@@ -44,14 +43,14 @@ use Rattle.sspi_credssp.specs.ClientStep.{client_args}
 use Rattle.sspi_credssp.specs.ClientTurn.{SameClient}
 use Rattle.sspi_credssp.specs.Context.{ContextSetting, ForClient, ForServer}
 use Rattle.sspi_credssp.specs.Counts.{cleared}
-use Rattle.sspi_credssp.specs.Proxy.{ProxyMeaning, ProxyTells, AreFound, AreCandidates, IsTold, candidates_of, counted_on}
+use Rattle.sspi_credssp.specs.Proxy.{ProxyMeaning, ProxyTells, AreFound, AreCandidates, IsTold, candidates_of}
 use Rattle.sspi_credssp.specs.Server.{ServerView}
-use Rattle.sspi_credssp.specs.ServerCause.{MakeCause, unlisted, unbegun, ListRefused, LookUpRefused, failed, nobody, IdentifyCause, nameless, looked, unset}
+use Rattle.sspi_credssp.specs.ServerCause.{MakeCause, unlisted, unbegun, ListRefused, failed, nobody, IdentifyCause, nameless, looked, unset}
 use Rattle.sspi_credssp.specs.ServerStep.{IsIdentified, is_identified, server_args, server_setting}
 use Rattle.sspi_credssp.specs.ServerTurn.{SameServer}
 use Rattle.sspi_credssp.specs.Shown.{IsOver}
 use Rattle.sspi_delegate.specs.Asking.{kdc_calls}
-use Rattle.sspi_completeness.specs.Matching.{HasEntry, AreMatching}
+use Rattle.sspi_completeness.specs.Matching.{AreMatching}
 use Rattle.sspi_completeness.specs.Negotiating.{protocol_of, AreNegotiating}
 use Rattle.sspi_completeness.proofs.Accepting.{IsPeer, Takes}
 use Rattle.sspi_completeness.proofs.Blobs.{blob_of, blob_length}
@@ -59,7 +58,7 @@ use Rattle.sspi_completeness.proofs.ClientTurns.{Walks}
 use Rattle.sspi_completeness.proofs.Negotiation.{IsNegotiation, last_step}
 use Rattle.sspi_completeness.proofs.NtlmOutcomes.{some_candidates}
 use Rattle.sspi_completeness.proofs.NtlmSteps.{server_values}
-use Rattle.sspi_completeness.proofs.Runs.{M, h, End, Ends, runs, made_of, identified, identified_so, unidentified, used, protection_of}
+use Rattle.sspi_completeness.proofs.Runs.{M, h, Ends, runs, made_of, identified, identified_so, unidentified, protection_of}
 use Rattle.sspi_completeness.proofs.SpnegoBegins.{client_values, handle_of, taken, served, taken_is, first_is, hand_is, acquires_so}
 use Rattle.sspi_completeness.proofs.SpnegoBegins.{acquires_none, never_unacquired, never_unserved}
 use Rattle.sspi_completeness.proofs.SpnegoEnds.{C, c, holding, named_by, at_rest, as_holding, IsKeyed, maker, taker, Leads, KdcIs}

@@ -1,74 +1,44 @@
 -- A negotiation of matching ends in which the client begins with Kerberos, and the server picks it: four messages of the client.
-use Rattle.std.proofs.Common.{◌≡◌, ◌≢◌, ◌&&◌, ℕ, zero, suc, ◌≤◌, ◌<◌, Bool, true, false, List, [], ◌∷◌, length, map, take, filter, Option, None, Some}
-use Rattle.std.proofs.Common.{Ok, refl, ap, sym, ◌∙◌, subst, arith}
+use Rattle.std.proofs.Common.{◌≡◌, ℕ, zero, suc, ◌≤◌, ◌<◌, Bool, true, false, List, [], length, None, Some}
+use Rattle.std.proofs.Common.{refl, ap, sym, ◌∙◌, arith}
 use Rattle.sspi_types.specs.declared.security_status.SecurityStatus.TheVariants as statuses
-use Rattle.sspi_names.specs.declared.credentials.Credentials.{Credentials}
-use Rattle.sspi_names.specs.declared.credentials.Credentials.TheVariants as credentials
 use Rattle.sspi_names.specs.declared.identity.AuthIdentity.{AuthIdentity}
-use Rattle.sspi_names.specs.declared.network.NetworkRequest.{NetworkRequest}
-use Rattle.sspi_names.specs.Name.{domain_of, inner_of}
 use Rattle.sspi_mech.specs.declared.kerberos.realms.Realms.{Realms}
-use Rattle.sspi_mech.specs.declared.kerberos.stage.Stage.{Stage}
-use Rattle.sspi_mech.specs.declared.kerberos.stage.Stage.TheVariants.{Accepted}
-use Rattle.sspi_mech.specs.declared.kerberos.stage.Peer.{Peer}
-use Rattle.sspi_mech.specs.declared.ntlm.stage.Stage.TheVariants.{Claimed}
-use Rattle.sspi_mech.specs.declared.step.Reply.{Reply}
 use Rattle.sspi_mech.specs.declared.step.Step.{Step}
 use Rattle.sspi_mech.specs.Asking.{counted_on}
 use Rattle.sspi_mech.specs.Calls.{StepArgs}
-use Rattle.sspi_mech.specs.Context.{IsContext}
-use Rattle.sspi_mech.specs.Kerberos as kerberos
 use Rattle.sspi_mech.specs.Kerberos.{kerberos_with}
 use Rattle.sspi_mech.specs.KerberosLogon.{url_by}
-use Rattle.sspi_mech.specs.KerberosMessages.{as_reply, tgs_reply}
+use Rattle.sspi_mech.specs.KerberosMessages.{tgs_reply}
 use Rattle.sspi_mech.specs.KerberosStage.{KerberosState}
-use Rattle.sspi_mech.specs.Ntlm.{ntlm_with}
-use Rattle.sspi_mech.specs.NtlmIdentities as ntlm
-use Rattle.sspi_mech.specs.NtlmStage.{NtlmState}
-use Rattle.sspi_tokens.specs.Oids.{ntlm_ssp, kind_of}
-use Rattle.sspi_negotiate.specs.declared.negotiate_config.NegotiateConfig.{NegotiateConfig}
 use Rattle.sspi_negotiate.specs.declared.package_list.PackageListConfig.{PackageListConfig}
-use Rattle.sspi_negotiate.specs.declared.pick.Choice.{Choice}
 use Rattle.sspi_negotiate.specs.declared.pick.Choice.TheVariants as choices
-use Rattle.sspi_negotiate.specs.declared.pick.Picked.{Picked}
 use Rattle.sspi_negotiate.specs.declared.protocol.NegotiatedProtocol.TheVariants as hands
 use Rattle.sspi_negotiate.specs.declared.protocol.Protocol.{Protocol}
-use Rattle.sspi_negotiate.specs.declared.protocol.Protocol.TheVariants.{Ntlm, Kerberos}
-use Rattle.sspi_negotiate.specs.declared.state.NegotiateState.{NegotiateState}
+use Rattle.sspi_negotiate.specs.declared.protocol.Protocol.TheVariants.{Kerberos}
 use Rattle.sspi_negotiate.specs.declared.state.NegotiateState.TheVariants as states
-use Rattle.sspi_negotiate.specs.Client.{client_at, spnego_client}
-use Rattle.sspi_negotiate.specs.Hand.{Origin, hand_of, is_kerberos_hand, in_place_of_kerberos}
+use Rattle.sspi_negotiate.specs.Client.{spnego_client}
+use Rattle.sspi_negotiate.specs.Hand.{hand_of}
 use Rattle.sspi_negotiate.specs.New.{packages_in}
-use Rattle.sspi_negotiate.specs.Pick.{pick, picked_or}
-use Rattle.sspi_negotiate.specs.Rule.{url_for}
+use Rattle.sspi_negotiate.specs.Pick.{pick}
 use Rattle.sspi_negotiate.specs.Server.{spnego_server}
 use Rattle.sspi_negotiate.specs.Values.{Values}
-use Rattle.sspi_credssp.specs.declared.mode.ClientMode.TheVariants as client_mode
-use Rattle.sspi_credssp.specs.declared.mode.ServerMode.TheVariants as server_mode
-use Rattle.sspi_credssp.specs.Client.{ClientView}
 use Rattle.sspi_credssp.specs.ClientStep.{client_args}
-use Rattle.sspi_credssp.specs.Proxy.{ProxyMeaning, candidates_of}
-use Rattle.sspi_credssp.specs.Server.{ServerView}
 use Rattle.sspi_credssp.specs.ServerStep.{server_args}
-use Rattle.sspi_completeness.specs.Matching.{AreMatching, HasEntry}
-use Rattle.sspi_completeness.specs.Negotiating.{AreNegotiating, SuitNtlm, HasFirstKey, HasSessionKey, protocol_of, begins_with, kdc_url, challenge_of}
+use Rattle.sspi_completeness.specs.Negotiating.{HasSessionKey, kdc_url}
 use Rattle.sspi_completeness.specs.Negotiating.{ticket_of}
-use Rattle.sspi_completeness.proofs.Courses.{Meeting, IsCourse, client_origin}
-use Rattle.sspi_completeness.proofs.Negotiation.{last_step}
+use Rattle.sspi_completeness.proofs.Courses.{Meeting, IsCourse}
 use Rattle.sspi_completeness.proofs.KerberosSteps as by_kerberos
-use Rattle.sspi_completeness.proofs.NtlmOutcomes.{key_for, some_candidates, keyed, claim_by}
-use Rattle.sspi_completeness.proofs.NtlmRound.{token_length}
 use Rattle.sspi_completeness.proofs.NtlmSteps as by_ntlm
-use Rattle.sspi_completeness.proofs.Runs.{M, End, Ends, Waits, runs, made_of, identified, with_kerberos, with_ntlm, used}
-use Rattle.sspi_completeness.proofs.Shortness.{short_name}
-use Rattle.sspi_completeness.proofs.SpnegoBegins.{client_values, handle_of, hand_is, hand_first, packages_first, object_first, begins_same}
-use Rattle.sspi_completeness.proofs.SpnegoBegins.{ntlm_begins, kerberos_begins, BeginsByKerberos, begins_allowed, with_ticket, served, led}
-use Rattle.sspi_completeness.proofs.SpnegoBegins.{led_ntlm, led_kerberos, never_again}
-use Rattle.sspi_completeness.proofs.SpnegoEnds.{C, c, named_by, at_rest, IsKeyed, Leads, at_once, asking}
-use Rattle.sspi_completeness.proofs.SpnegoTokens.{offer, list_text, init_text, init_text_short, targ_text, targ_text_short, targ_text_speaks}
-use Rattle.sspi_completeness.proofs.Rows.{IsPick, OfKerberos, ntlm_knows, kerberos_knows, and_false, short, mine, url, origin, new, aside, v_of}
-use Rattle.sspi_completeness.proofs.Rows.{first_args, picked, begun, served_none, led_first, server_picks, key}
-use Rattle.sspi_completeness.proofs.KerberosStart.{start, found, offering, paired, first_leads, told_token}
+use Rattle.sspi_completeness.proofs.Runs.{M, Ends, runs, made_of, used}
+use Rattle.sspi_completeness.proofs.SpnegoBegins.{handle_of}
+use Rattle.sspi_completeness.proofs.SpnegoBegins.{BeginsByKerberos, with_ticket}
+use Rattle.sspi_completeness.proofs.SpnegoBegins.{led_kerberos}
+use Rattle.sspi_completeness.proofs.SpnegoEnds.{named_by, at_rest, Leads, at_once, asking}
+use Rattle.sspi_completeness.proofs.SpnegoTokens.{offer, list_text, init_text, init_text_short, targ_text, targ_text_short}
+use Rattle.sspi_completeness.proofs.Rows.{kerberos_knows, and_false, short, mine, new, aside, v_of}
+use Rattle.sspi_completeness.proofs.Rows.{server_picks}
+use Rattle.sspi_completeness.proofs.KerberosStart.{start, found, offering, paired, first_leads}
 
 module _ {D P : Type 0} (meet : Meeting D P) where
   open meet use {told, calls, faults, laws, proxy as p, client as a, server as b, kdc as kdc_first, matching, client_config, server_config}

@@ -1,17 +1,15 @@
 -- The steps of a negotiation that comes to Kerberos, evaluated.
-use Rattle.std.proofs.Common.{◌≡◌, ◌&&◌, ◌==◌, ℕ, ◌+◌, ◌≤◌, ◌<◌, ◌^◌, length, map, take, Bool, true, false, List, [], ◌∷◌, Option, None, Some, Result}
-use Rattle.std.proofs.Common.{Ok, refl, ap, sym, ◌∙◌, arith, if◌then◌else◌, option_map}
+use Rattle.std.proofs.Common.{◌≡◌, ◌==◌, ℕ, ◌≤◌, length, map, Bool, true, false, List, [], ◌∷◌, Option, None, Some, Result}
+use Rattle.std.proofs.Common.{Ok, refl, ap, ◌∙◌, arith, if◌then◌else◌, option_map}
 use Rattle.std.proofs.lemmas.Bool.{ne_eqb, le-ltb}
 use Rattle.std.proofs.lemmas.List.{length-append}
 use Rattle.sspi_types.specs.declared.error_kind.ErrorKind.{ErrorKind}
 use Rattle.sspi_types.specs.declared.error_kind.ErrorKind.TheVariants.{NoCredentials}
 use Rattle.sspi_types.specs.declared.security_status.SecurityStatus.TheVariants as statuses
 use Rattle.sspi_names.specs.declared.credentials.Credentials.TheVariants as credentials
-use Rattle.sspi_names.specs.declared.credentials.CredentialsBuffers.{CredentialsBuffers}
-use Rattle.sspi_names.specs.declared.credentials.CredentialsBuffers.TheVariants as buffers
 use Rattle.sspi_names.specs.declared.identity.AuthIdentity.{AuthIdentity}
 use Rattle.sspi_names.specs.declared.network.NetworkRequest.{NetworkRequest}
-use Rattle.sspi_names.specs.Identity.{IsIdentity, buffers_of, identity_of}
+use Rattle.sspi_names.specs.Identity.{IsIdentity, identity_of}
 use Rattle.sspi_names.specs.Name.{Name, inner_of}
 use Rattle.sspi_names.proofs.Identities.{buffers_back}
 use Rattle.sspi_mech.specs.declared.kerberos.logon.Logon.{Logon}
@@ -19,11 +17,10 @@ use Rattle.sspi_mech.specs.declared.kerberos.realms.Realms.{Realms}
 use Rattle.sspi_mech.specs.declared.kerberos.stage.Stage.{Stage}
 use Rattle.sspi_mech.specs.declared.kerberos.stage.Stage.TheVariants as stages
 use Rattle.sspi_mech.specs.declared.protection.Direction.TheVariants.{FromClient, FromServer}
-use Rattle.sspi_mech.specs.declared.step.Reply.{Reply}
 use Rattle.sspi_mech.specs.declared.step.Reply.TheVariants.{Answered}
 use Rattle.sspi_mech.specs.Calls.{StepArgs}
 use Rattle.sspi_mech.specs.Kerberos.{kerberos_with}
-use Rattle.sspi_mech.specs.KerberosLogon.{name_in, name_or, logon_of, logon_at, logon_as, url_by, request_at}
+use Rattle.sspi_mech.specs.KerberosLogon.{name_in, name_or, logon_of, url_by, request_at}
 use Rattle.sspi_mech.specs.KerberosMessages.{ticket_request, ticket_reply, ap_request, ap_reply, as_request, as_reply, tgs_request, tgs_reply}
 use Rattle.sspi_mech.specs.KerberosMessages.{read_ticket}
 use Rattle.sspi_mech.specs.KerberosReplies.{first_key_in, session_key_in}
@@ -50,8 +47,8 @@ use Rattle.sspi_negotiate.specs.declared.state.NegotiateState.TheVariants as sta
 use Rattle.sspi_negotiate.specs.Client.{first_step_of, client_at, at_initial, first_step, begun, offers, at_progress, chosen, chooses_kerberos}
 use Rattle.sspi_negotiate.specs.Client.{answers, stepped, spnego_resumed, resumes_opening, resumes_answering}
 use Rattle.sspi_negotiate.specs.Known.{named}
-use Rattle.sspi_negotiate.specs.Plan.{Plan, Goes, Stops, Identifies}
-use Rattle.sspi_negotiate.specs.Rows.{targ, written, writes, signs_text, answers_signed, carries_on, completes_signed, hands_mic, verifies}
+use Rattle.sspi_negotiate.specs.Plan.{Goes, Stops, Identifies}
+use Rattle.sspi_negotiate.specs.Rows.{targ, written, writes, signs_text, answers_signed, carries_on, completes_signed, verifies}
 use Rattle.sspi_negotiate.specs.Rows.{verifies_text, identifies_among}
 use Rattle.sspi_negotiate.specs.New.{packages_in}
 use Rattle.sspi_negotiate.specs.Pick.{pick}
@@ -63,8 +60,8 @@ use Rattle.sspi_credssp.specs.Proxy.{candidates_of}
 use Rattle.sspi_credssp.specs.ServerStep.{server_args}
 use Rattle.sspi_completeness.specs.Matching.{HasEntry}
 use Rattle.sspi_completeness.proofs.NtlmOutcomes.{some_candidates}
-use Rattle.sspi_completeness.proofs.NtlmSteps.{wanted, verified_mic, server_values}
-use Rattle.sspi_completeness.proofs.Runs.{M, End, Ends, Waits, runs, on_move, kerberos_move, unless_refused, used}
+use Rattle.sspi_completeness.proofs.NtlmSteps.{verified_mic, server_values}
+use Rattle.sspi_completeness.proofs.Runs.{Ends, Waits, runs, on_move, kerberos_move, unless_refused, used}
 use Rattle.sspi_completeness.proofs.SpnegoBegins.{client_values, handle_of}
 use Rattle.sspi_completeness.proofs.SpnegoTokens.{offer, list_text, list_spelled, init_text, init_spelled, init_is, targ_text, targ_spelled, targ_is}
 use Rattle.sspi_completeness.proofs.SpnegoTokens.{IsLittle, mic_length}

@@ -38,3 +38,4 @@ pub mod KerberosRow
 pub mod PlainSettled
 pub mod Modes
 pub mod ThreeTurns
+pub mod Examples

@@ -1,6 +1,6 @@
 -- The steps of a negotiation that comes to NTLM, evaluated: the mechanism that the client begins with, or one that the server picks in
 -- its place.
-use Rattle.std.proofs.Common.{◌≡◌, ◌==◌, not, ℕ, ◌+◌, ◌≤◌, length, map, filter, Bool, true, false, List, [], ◌∷◌, Option, None, Some, Result, Ok}
+use Rattle.std.proofs.Common.{◌≡◌, ◌==◌, not, ℕ, ◌≤◌, length, map, filter, Bool, true, false, List, [], ◌∷◌, Option, None, Some, Result}
 use Rattle.std.proofs.Common.{refl, ap, sym, ◌∙◌, arith, if◌then◌else◌}
 use Rattle.std.proofs.lemmas.Bool.{ne_eqb}
 use Rattle.sspi_types.specs.declared.error_kind.ErrorKind.{ErrorKind}
@@ -8,12 +8,11 @@ use Rattle.sspi_types.specs.declared.error_kind.ErrorKind.TheVariants.{MessageAl
 use Rattle.sspi_types.specs.declared.security_status.SecurityStatus.TheVariants as statuses
 use Rattle.sspi_names.specs.declared.credentials.Credentials.{Credentials}
 use Rattle.sspi_names.specs.declared.credentials.Credentials.TheVariants as credentials
-use Rattle.sspi_names.specs.declared.credentials.CredentialsBuffers.{CredentialsBuffers}
 use Rattle.sspi_names.specs.declared.identity.AuthIdentity.{AuthIdentity}
 use Rattle.sspi_names.specs.Identity.{IsIdentity, buffers_of}
 use Rattle.sspi_names.specs.Name.{inner_of}
 use Rattle.sspi_names.specs.Utf16.{text_of}
-use Rattle.sspi_mech.specs.declared.ntlm.stage.Stage.TheVariants.{Unused, NegotiateSent, AuthenticateSent, ChallengeSent, Claimed}
+use Rattle.sspi_mech.specs.declared.ntlm.stage.Stage.TheVariants.{NegotiateSent, AuthenticateSent, ChallengeSent, Claimed}
 use Rattle.sspi_mech.specs.declared.protection.Direction.{Direction}
 use Rattle.sspi_mech.specs.declared.protection.Direction.TheVariants.{FromClient, FromServer}
 use Rattle.sspi_mech.specs.Calls.{StepArgs}
@@ -43,14 +42,14 @@ use Rattle.sspi_negotiate.specs.declared.protocol.Protocol.TheVariants as protoc
 use Rattle.sspi_negotiate.specs.declared.state.NegotiateState.{NegotiateState}
 use Rattle.sspi_negotiate.specs.declared.state.NegotiateState.TheVariants as states
 use Rattle.sspi_negotiate.specs.declared.state.Role.TheVariants.{Server}
-use Rattle.sspi_negotiate.specs.Client.{is_guest, client_at, at_initial, first_step, offers, at_progress, chosen, chooses_ntlm, answers, stepped}
+use Rattle.sspi_negotiate.specs.Client.{client_at, at_initial, first_step, offers, at_progress, chosen, chooses_ntlm, answers, stepped}
 use Rattle.sspi_negotiate.specs.Client.{at_verify_mic}
 use Rattle.sspi_negotiate.specs.Hand.{Origin, hand_of, has_password as hand_password, in_place_of_kerberos}
 use Rattle.sspi_negotiate.specs.Known.{named}
 use Rattle.sspi_negotiate.specs.New.{packages_in}
 use Rattle.sspi_negotiate.specs.Pick.{pick}
-use Rattle.sspi_negotiate.specs.Plan.{Plan, Goes, Stops, Identifies}
-use Rattle.sspi_negotiate.specs.Rows.{targ, client_wants_mic, is_guest_text, in_ntlm, written, writes, signs_text, answers_signed, carries_on}
+use Rattle.sspi_negotiate.specs.Plan.{Goes, Stops, Identifies}
+use Rattle.sspi_negotiate.specs.Rows.{targ, client_wants_mic, is_guest_text, written, writes, signs_text, answers_signed, carries_on}
 use Rattle.sspi_negotiate.specs.Rows.{completes_signed, verifies, verifies_text, identifies_among}
 use Rattle.sspi_negotiate.specs.Server.{spnego_server, reads_list, picks, placed, first_token as first_accepted, goes_on, drops, accepted}
 use Rattle.sspi_negotiate.specs.Server as server
@@ -60,12 +59,12 @@ use Rattle.sspi_credssp.specs.Context.{has_password}
 use Rattle.sspi_credssp.specs.Proxy.{candidates_of}
 use Rattle.sspi_credssp.specs.ServerStep.{server_args}
 use Rattle.sspi_completeness.specs.Matching.{HasEntry}
-use Rattle.sspi_completeness.specs.Negotiating.{challenge_of, protocol_of}
+use Rattle.sspi_completeness.specs.Negotiating.{challenge_of}
 use Rattle.sspi_completeness.proofs.NtlmOutcomes.{claim_by, key_for, logged_on, client_outcome, server_outcome, some_candidates, keyed}
 use Rattle.sspi_completeness.proofs.NtlmRound.{last_token, token_length}
 use Rattle.sspi_completeness.proofs.Runs.{M, Ends, runs, on_move, ntlm_move, on_made, with_ntlm, unless_refused, made_of}
 use Rattle.sspi_completeness.proofs.SpnegoBegins.{client_values, handle_of, ntlm_taken}
-use Rattle.sspi_completeness.proofs.SpnegoTokens.{offer, list_text, list_spelled, init_text, first_init, init_spelled, init_is, targ_text}
+use Rattle.sspi_completeness.proofs.SpnegoTokens.{offer, list_text, list_spelled, init_text, init_spelled, init_is, targ_text}
 use Rattle.sspi_completeness.proofs.SpnegoTokens.{targ_spelled, targ_is, IsLittle, mic_length}
 
 -- ---- the tokens

@@ -7,7 +7,6 @@ use Rattle.sspi_names.specs.declared.network.NetworkRequest.{NetworkRequest}
 use Rattle.sspi_mech.specs.declared.step.Reply.{Reply}
 use Rattle.sspi_mech.specs.Context.{IsContext}
 use Rattle.sspi_mech.specs.Kerberos.{kerberos_meaning}
-use Rattle.sspi_negotiate.specs.declared.negotiate_config.NegotiateConfig.{NegotiateConfig}
 use Rattle.sspi_negotiate.specs.declared.pick.Choice.{Choice}
 use Rattle.sspi_negotiate.specs.declared.pick.Choice.TheVariants as choices
 use Rattle.sspi_negotiate.specs.declared.protocol.Protocol.{Protocol}
@@ -35,7 +34,7 @@ use Rattle.sspi_delegate.specs.Messages.{newest_message, AnswerTold}
 use Rattle.sspi_delegate.specs.ServerRun.{server_end, GivesNewest}
 use Rattle.sspi_completeness.specs.Matching.{MatchModes, messages_of, messages_in, AreMatching, IsUndisturbed, IsCalm, delegated_as}
 use Rattle.sspi_completeness.specs.Matching.{ComesToOkIn}
-use Rattle.sspi_completeness.specs.Negotiating.{AreNegotiating, Needs, messages_by, kdc_url}
+use Rattle.sspi_completeness.specs.Negotiating.{Needs, messages_by, kdc_url}
 use Rattle.sspi_completeness.specs.Matching.{IsCutShort}
 use Rattle.sspi_completeness.proofs.Negotiated.{known}
 use Rattle.sspi_completeness.proofs.Negotiation.{AreAlike, IsNegotiation}

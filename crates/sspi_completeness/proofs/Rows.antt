@@ -1,32 +1,20 @@
 -- The negotiations of matching ends: what the server picks, what it is told again, and how the client begins.
-use Rattle.std.proofs.Common.{◌≡◌, ◌≢◌, ◌&&◌, ℕ, zero, suc, ◌≤◌, ◌<◌, Bool, true, false, List, [], ◌∷◌, length, map, take, filter, Option, None, Some}
-use Rattle.std.proofs.Common.{Ok, refl, ap, sym, ◌∙◌, subst, arith}
-use Rattle.sspi_types.specs.declared.security_status.SecurityStatus.TheVariants as statuses
-use Rattle.sspi_names.specs.declared.credentials.Credentials.{Credentials}
+use Rattle.std.proofs.Common.{◌≡◌, ◌&&◌, ℕ, ◌≤◌, Bool, true, false, List, [], ◌∷◌, length, map, take, Option, None, Some}
+use Rattle.std.proofs.Common.{Ok, refl, ap, sym, ◌∙◌, subst}
 use Rattle.sspi_names.specs.declared.credentials.Credentials.TheVariants as credentials
 use Rattle.sspi_names.specs.declared.identity.AuthIdentity.{AuthIdentity}
-use Rattle.sspi_names.specs.declared.network.NetworkRequest.{NetworkRequest}
 use Rattle.sspi_names.specs.Name.{domain_of, inner_of}
-use Rattle.sspi_mech.specs.declared.kerberos.realms.Realms.{Realms}
 use Rattle.sspi_mech.specs.declared.kerberos.stage.Stage.{Stage}
 use Rattle.sspi_mech.specs.declared.kerberos.stage.Stage.TheVariants.{Accepted}
 use Rattle.sspi_mech.specs.declared.kerberos.stage.Peer.{Peer}
 use Rattle.sspi_mech.specs.declared.ntlm.stage.Stage.TheVariants.{Claimed}
-use Rattle.sspi_mech.specs.declared.step.Reply.{Reply}
-use Rattle.sspi_mech.specs.declared.step.Step.{Step}
-use Rattle.sspi_mech.specs.Asking.{counted_on}
 use Rattle.sspi_mech.specs.Calls.{StepArgs}
-use Rattle.sspi_mech.specs.Context.{IsContext}
 use Rattle.sspi_mech.specs.Kerberos as kerberos
 use Rattle.sspi_mech.specs.Kerberos.{kerberos_with}
-use Rattle.sspi_mech.specs.KerberosLogon.{url_by}
-use Rattle.sspi_mech.specs.KerberosMessages.{as_reply, tgs_reply}
 use Rattle.sspi_mech.specs.KerberosStage.{KerberosState}
-use Rattle.sspi_mech.specs.Ntlm.{ntlm_with}
 use Rattle.sspi_mech.specs.NtlmIdentities as ntlm
 use Rattle.sspi_mech.specs.NtlmStage.{NtlmState}
-use Rattle.sspi_tokens.specs.Oids.{ntlm_ssp, kind_of}
-use Rattle.sspi_negotiate.specs.declared.negotiate_config.NegotiateConfig.{NegotiateConfig}
+use Rattle.sspi_tokens.specs.Oids.{kind_of}
 use Rattle.sspi_negotiate.specs.declared.package_list.PackageListConfig.{PackageListConfig}
 use Rattle.sspi_negotiate.specs.declared.pick.Choice.{Choice}
 use Rattle.sspi_negotiate.specs.declared.pick.Choice.TheVariants as choices
@@ -37,35 +25,25 @@ use Rattle.sspi_negotiate.specs.declared.protocol.Protocol.TheVariants.{Ntlm, Ke
 use Rattle.sspi_negotiate.specs.declared.state.NegotiateState.{NegotiateState}
 use Rattle.sspi_negotiate.specs.declared.state.NegotiateState.TheVariants as states
 use Rattle.sspi_negotiate.specs.Client.{client_at, spnego_client}
-use Rattle.sspi_negotiate.specs.Hand.{Origin, hand_of, is_kerberos_hand, in_place_of_kerberos}
+use Rattle.sspi_negotiate.specs.Hand.{Origin, hand_of, is_kerberos_hand}
 use Rattle.sspi_negotiate.specs.New.{packages_in}
 use Rattle.sspi_negotiate.specs.Pick.{pick, picked_or}
 use Rattle.sspi_negotiate.specs.Rule.{url_for}
-use Rattle.sspi_negotiate.specs.Server.{spnego_server}
 use Rattle.sspi_negotiate.specs.Values.{Values}
-use Rattle.sspi_credssp.specs.declared.mode.ClientMode.TheVariants as client_mode
-use Rattle.sspi_credssp.specs.declared.mode.ServerMode.TheVariants as server_mode
-use Rattle.sspi_credssp.specs.Client.{ClientView}
 use Rattle.sspi_credssp.specs.ClientStep.{client_args}
-use Rattle.sspi_credssp.specs.Proxy.{ProxyMeaning, candidates_of}
-use Rattle.sspi_credssp.specs.Server.{ServerView}
-use Rattle.sspi_credssp.specs.ServerStep.{server_args}
-use Rattle.sspi_completeness.specs.Matching.{AreMatching, HasEntry}
-use Rattle.sspi_completeness.specs.Negotiating.{AreNegotiating, SuitNtlm, HasFirstKey, HasSessionKey, protocol_of, begins_with, kdc_url, challenge_of}
-use Rattle.sspi_completeness.specs.Negotiating.{ticket_of}
-use Rattle.sspi_completeness.proofs.Courses.{Meeting, IsCourse, client_origin}
-use Rattle.sspi_completeness.proofs.Negotiation.{last_step}
-use Rattle.sspi_completeness.proofs.KerberosSteps as by_kerberos
+use Rattle.sspi_credssp.specs.Proxy.{candidates_of}
+use Rattle.sspi_completeness.specs.Matching.{HasEntry}
+use Rattle.sspi_completeness.specs.Negotiating.{protocol_of, challenge_of}
+use Rattle.sspi_completeness.proofs.Courses.{Meeting, client_origin}
 use Rattle.sspi_completeness.proofs.NtlmOutcomes.{key_for, some_candidates, keyed, claim_by}
-use Rattle.sspi_completeness.proofs.NtlmRound.{token_length}
 use Rattle.sspi_completeness.proofs.NtlmSteps as by_ntlm
-use Rattle.sspi_completeness.proofs.Runs.{M, End, Ends, Waits, runs, made_of, identified, with_kerberos, with_ntlm, used}
+use Rattle.sspi_completeness.proofs.Runs.{M, runs, made_of, identified, with_kerberos, with_ntlm, used}
 use Rattle.sspi_completeness.proofs.Shortness.{short_name}
 use Rattle.sspi_completeness.proofs.SpnegoBegins.{client_values, handle_of, hand_is, hand_first, packages_first, object_first, begins_same}
-use Rattle.sspi_completeness.proofs.SpnegoBegins.{ntlm_begins, kerberos_begins, BeginsByKerberos, begins_allowed, with_ticket, served, led}
-use Rattle.sspi_completeness.proofs.SpnegoBegins.{led_ntlm, led_kerberos, never_again}
-use Rattle.sspi_completeness.proofs.SpnegoEnds.{C, c, named_by, at_rest, IsKeyed, Leads, at_once, asking}
-use Rattle.sspi_completeness.proofs.SpnegoTokens.{offer, list_text, init_text, init_text_short, targ_text, targ_text_short, targ_text_speaks}
+use Rattle.sspi_completeness.proofs.SpnegoBegins.{served, led}
+use Rattle.sspi_completeness.proofs.SpnegoBegins.{never_again}
+use Rattle.sspi_completeness.proofs.SpnegoEnds.{at_rest}
+use Rattle.sspi_completeness.proofs.SpnegoTokens.{offer}
 
 -- ---- what a server picks
 

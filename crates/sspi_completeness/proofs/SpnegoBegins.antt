@@ -1,5 +1,5 @@
 -- How the contexts of negotiations begin: the mechanism in hand, and what comes before each step of a client.
-use Rattle.std.proofs.Common.{◌≡◌, ◌&&◌, ◌||◌, Bool, true, false, IsTrue, ◌↔◌, List, [], ◌∷◌, ℕ, Option, None, Some, Result, Ok, Err, refl, ap, sym}
+use Rattle.std.proofs.Common.{◌≡◌, ◌&&◌, ◌||◌, Bool, true, false, List, [], ℕ, Option, None, Some, Result, Ok, refl, ap}
 use Rattle.std.proofs.Common.{◌∙◌, subst, if◌then◌else◌, is_some, replicate}
 use Rattle.sspi_types.specs.declared.credential_use.CredentialUse.TheVariants.{Inbound, Outbound}
 use Rattle.sspi_types.specs.declared.error_kind.ErrorKind.{ErrorKind}
@@ -10,7 +10,6 @@ use Rattle.sspi_names.specs.declared.credentials.Credentials.TheVariants as cred
 use Rattle.sspi_names.specs.declared.credentials.CredentialsBuffers.{CredentialsBuffers}
 use Rattle.sspi_names.specs.declared.credentials.CredentialsBuffers.TheVariants as buffers
 use Rattle.sspi_names.specs.declared.identity.AuthIdentity.{AuthIdentity}
-use Rattle.sspi_names.specs.declared.kdc_table.KdcEntry.{KdcEntry}
 use Rattle.sspi_names.proofs.Identities.{buffers_back}
 use Rattle.sspi_mech.specs.declared.kerberos.realms.Realms.{Realms}
 use Rattle.sspi_mech.specs.Calls.{StepArgs, ToAcquire}
@@ -26,9 +25,8 @@ use Rattle.sspi_negotiate.specs.declared.protocol.Protocol.TheVariants.{Ntlm, Ke
 use Rattle.sspi_negotiate.specs.declared.protocol_config.ProtocolConfig.{ProtocolConfig}
 use Rattle.sspi_negotiate.specs.declared.protocol_config.ProtocolConfig.TheVariants as configs
 use Rattle.sspi_negotiate.specs.declared.state.NegotiateState.{NegotiateState}
-use Rattle.sspi_negotiate.specs.declared.state.NegotiateState.TheVariants as states
 use Rattle.sspi_negotiate.specs.declared.state.Role.{Role}
-use Rattle.sspi_negotiate.specs.declared.state.Role.TheVariants.{Client, Server}
+use Rattle.sspi_negotiate.specs.declared.state.Role.TheVariants.{Client}
 use Rattle.sspi_negotiate.specs.Client.{is_closed, spnego_client, by_target, with_handle, converts, passwords_of, keeps, ruled, client_at}
 use Rattle.sspi_negotiate.specs.Hand.{Origin, Configured, InPlaceOfNtlm, hand_of, is_ntlm_hand, is_kerberos_hand, in_place_of_kerberos}
 use Rattle.sspi_negotiate.specs.New.{IsFirst, first_in_hand, first_by, without_ntlm, without_kerberos, packages_in}
@@ -37,7 +35,7 @@ use Rattle.sspi_negotiate.specs.Rows.{in_ntlm}
 use Rattle.sspi_negotiate.specs.Rule.{url_for, TakenBy}
 use Rattle.sspi_negotiate.specs.Values.{Values}
 use Rattle.sspi_completeness.specs.Negotiating.{protocol_of, begins_with, kdc_url, challenge_of, ticket_of}
-use Rattle.sspi_completeness.proofs.Runs.{M, h, End, runs, made_of, made_is}
+use Rattle.sspi_completeness.proofs.Runs.{M, h, runs, made_of, made_is}
 
 -- ---- the mechanism in hand
 

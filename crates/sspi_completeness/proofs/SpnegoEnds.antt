@@ -1,5 +1,5 @@
 -- What the contexts of negotiations make of steps and messages, counts of these apart, whichever mechanism is in hand.
-use Rattle.std.proofs.Common.{◌≡◌, ◌≢◌, ◌↔◌, ℕ, suc, ◌<◌, ◌-◌, ◌+◌, ◌^◌, Bool, IsTrue, List, [], ◌∷◌, Option, None, Some, Result, Ok, Err}
+use Rattle.std.proofs.Common.{◌≡◌, ◌≢◌, ◌↔◌, ℕ, ◌<◌, ◌-◌, ◌^◌, Bool, IsTrue, List, [], ◌∷◌, Option, None, Some, Result, Ok, Err}
 use Rattle.std.proofs.Common.{refl, ap, sym, ◌∙◌, subst, arith}
 use Rattle.sspi_types.specs.declared.credential_use.CredentialUse.TheVariants.{Inbound, Outbound}
 use Rattle.sspi_types.specs.declared.error.Error.{Error}
@@ -26,7 +26,6 @@ use Rattle.sspi_negotiate.specs.declared.protocol.NegotiatedProtocol.TheVariants
 use Rattle.sspi_negotiate.specs.Client.{spnego_client, spnego_resumed}
 use Rattle.sspi_negotiate.specs.Does.{Does, UnlessMemory}
 use Rattle.sspi_negotiate.specs.Does as does
-use Rattle.sspi_negotiate.specs.Follows.{Follows}
 use Rattle.sspi_negotiate.specs.Plan.{Plan}
 use Rattle.sspi_negotiate.specs.Server.{spnego_server}
 use Rattle.sspi_negotiate.specs.Target.{IsNamedByIp}
@@ -263,7 +262,7 @@ module _ {D : Type 0} (told : D → Option (ℕ → NetworkRequest → Reply)) (
       HasReplied told calls faults before question reply now → (reply ≡ Answered bytes) × KdcIs first (counted_on call) now
   replied before now first replies call question reply bytes at tells given it = (
     is reply (subst (λ (n : ℕ). RepliesAsTold (Some replies) n question reply (faults before) (faults now)) at.called
-    (subst (λ (o : Option _). RepliesAsTold o (calls before) question reply (faults before) (faults now)) (at.same ∙ tells) it.as_told)),
+        (subst (λ (o : Option _). RepliesAsTold o (calls before) question reply (faults before) (faults now)) (at.same ∙ tells) it.as_told)),
     record { same = it.told_same ∙ at.same; called = it.called ∙ ap counted_on at.called },
   )
     where

@@ -1,11 +1,10 @@
 -- Two ends that match, with plain NTLM or a negotiation, over a link that disturbs nothing, and what comes of their exchange.
-use Rattle.std.specs.Prelude.{◌≡◌, ◌↔◌, ℕ, ◌-◌, ◌^◌, ◌<◌, ◌≤◌, Bool, true, false, IsTrue, List, [], ◌∷◌, length, Option, None, Some}
-use Rattle.std.specs.Prelude.{Result, Ok, Err, nat_lt, if◌then◌else◌}
+use Rattle.std.specs.Prelude.{◌≡◌, ℕ, ◌-◌, ◌^◌, ◌<◌, ◌≤◌, List, [], ◌∷◌, length, Option, Some}
+use Rattle.std.specs.Prelude.{Result, Ok, Err, nat_lt}
 use Rattle.sspi_names.specs.declared.credentials.Credentials.TheVariants as credentials
 use Rattle.sspi_names.specs.declared.identity.AuthIdentity.{AuthIdentity}
 use Rattle.sspi_names.specs.Identity.{IsIdentity, buffers_of}
-use Rattle.sspi_names.specs.Name.{domain_of, down_level}
-use Rattle.sspi_names.specs.Utf16.{text_of}
+use Rattle.sspi_names.specs.Name.{down_level}
 use Rattle.sspi_names.specs.declared.network.NetworkRequest.{NetworkRequest}
 use Rattle.sspi_mech.specs.declared.step.Reply.{Reply}
 use Rattle.sspi_tsreq.specs.declared.mode.CredSspMode.{CredSspMode}

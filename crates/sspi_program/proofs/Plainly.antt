@@ -25,12 +25,12 @@ pub plain_server : (s : Scenario) (server : ServerView PlainContext TableView) �
 plain_server s server named plain = subst IsPlainServer (sym (named.mode ∙ ap (λ (mode : Mode). server_mode_by mode s) plain)) tt
 
 -- the same of the ends and of the KDC that the scenario names, and as many messages
-record Modes (s : Scenario) (plain : IsPlain s) (told : Option (ℕ → NetworkRequest → Reply)) (call : ℕ) (target : List ℕ)
+pub record Modes (s : Scenario) (plain : IsPlain s) (told : Option (ℕ → NetworkRequest → Reply)) (call : ℕ) (target : List ℕ)
     (client : ClientMode) (server : ServerMode) : Type 0 where
   pub modes : MatchModes told call target (user_identity s) client server
   pub messages : messages_of told call target (user_identity s) client server modes ≡ messages_in s plain
 
-modes_at : (s : Scenario) (plain : IsPlain s) (client : ClientView PlainContext) (server : ServerView PlainContext TableView)
+pub modes_at : (s : Scenario) (plain : IsPlain s) (client : ClientView PlainContext) (server : ServerView PlainContext TableView)
     (kdc : PlainKdcState) → IsClientOf s client → IsServerOf s server → kdc ≡ kdc_in s →
     Modes s plain (Some (told_by kdc.users kdc.script)) kdc.asked client.target client.mode server.mode
 modes_at s plain client server kdc client_named server_named made =
