@@ -32,7 +32,7 @@ use Rattle.sspi_delegate.specs.Asking.{KdcCalls}
 use Rattle.sspi_delegate.specs.History.{ClientMakes}
 use Rattle.sspi_completeness.proofs.Ends.{Comes, is_false, stops_later, made_past, sealed_few, Holds, IsMaker, IsTaker, holds_still}
 use Rattle.sspi_completeness.proofs.Ends.{sealed_field, ClientIs}
-use Rattle.sspi_completeness.proofs.Replies.{final_is, proof_is}
+use Rattle.sspi_completeness.proofs.Replies.{final_is}
 use Rattle.sspi_credssp.specs.declared.turn.Turn.{Turn}
 use Rattle.sspi_credssp.specs.Shown.{ShowsNego, client_shown}
 

@@ -1,5 +1,5 @@
 -- The steps of a negotiation refuse nothing as `DowngradeDetected`, if its mechanisms do not.
-use Rattle.std.proofs.Common.{◌≡◌, ◌≢◌, ◌&&◌, ◌==◌, ◌⊎◌, ℕ, length, filter, take, map, Bool, true, false, List, Option, None, Some}
+use Rattle.std.proofs.Common.{◌≡◌, ◌≢◌, ◌&&◌, ◌==◌, ℕ, length, filter, take, map, Bool, true, false, List, Option, None, Some}
 use Rattle.std.proofs.Common.{Ok, refl, sym, subst, option_map, if◌then◌else◌}
 use Rattle.sspi_types.specs.declared.credential_use.CredentialUse.{CredentialUse}
 use Rattle.sspi_types.specs.declared.error.Error.{Error}

@@ -152,7 +152,7 @@ module _ {K : Type 0} (k : Meaning Setting K) where
           (subst (λ (z : SspiContext NtlmState K). meaning.seals z n text sealed) at.1 seals);
       never = λ m text kind same few refuses.
           let at = as_ntlm m x same in
-          never_unsealed k at.0 key text kind (key_of_rest at.0 at.2).0
+          never_unsealed at.0.protection.key key at.0.protection.sealed kind (key_of_rest at.0 at.2).0
           (subst (λ (z : SspiContext NtlmState K). (meaning.counts z).sealed < 2 ^ 64 - 1) at.1 few)
           (subst (λ (z : SspiContext NtlmState K). meaning.refuses z (ToSeal text) kind) at.1 refuses);
     }
@@ -161,12 +161,12 @@ module _ {K : Type 0} (k : Meaning Setting K) where
     taker = record {
       opened = λ m n i text text2 same opens.
           let at = as_ntlm m x same in
-          one_text at.0 key peers n i text text2 (subst (λ (z : SspiContext NtlmState K). meaning.opens z i
+          one_text at.0.protection.key (peer_direction at.0.stage) key peers n i text text2 (subst (λ (z : SspiContext NtlmState K). meaning.opens z i
           (blob_of key peers n text) text2) at.1 opens);
       never = λ m n text kind same next few refuses.
           let at = as_ntlm m x same in
           let rest = key_of_rest at.0 at.2 in
-          never_unopened at.0 key peers n text kind rest.0 rest.2
+          never_unopened at.0.protection.key (peer_direction at.0.stage) at.0.protection.unsealed key peers n text kind rest.0 rest.2
           (subst (λ (z : SspiContext NtlmState K). (meaning.counts z).unsealed ≡ n) at.1 next) few
           (subst (λ (z : SspiContext NtlmState K). meaning.refuses z (ToUnseal (blob_of key peers n text)) kind) at.1 refuses);
       long = λ n text. blob_long key peers n text;

@@ -1,5 +1,5 @@
 -- The authentication of matching ends by plain NTLM, evaluated: two messages of the client and two steps of the server.
-use Rattle.std.proofs.Common.{◌≡◌, ◌≢◌, ℕ, zero, suc, ◌-◌, ◌≤◌, ◌<◌, ◌^◌, List, [], ◌∷◌, length, map, filter, false, Option, None}
+use Rattle.std.proofs.Common.{◌≡◌, ◌≢◌, ℕ, zero, suc, ◌-◌, ◌≤◌, ◌<◌, ◌^◌, List, [], length, map, filter, false, Option, None}
 use Rattle.std.proofs.Common.{Some, Ok, Err, refl, ap, sym, ◌∙◌, subst, arith}
 use Rattle.sspi_types.specs.declared.credential_use.CredentialUse.TheVariants.{Inbound, Outbound}
 use Rattle.sspi_types.specs.declared.error.Error.{Error}
@@ -12,11 +12,13 @@ use Rattle.sspi_names.specs.declared.credentials.CredentialsBuffers.{Credentials
 use Rattle.sspi_names.specs.declared.credentials.CredentialsBuffers.TheVariants as buffers
 use Rattle.sspi_names.specs.declared.identity.AuthIdentity.{AuthIdentity}
 use Rattle.sspi_names.specs.Identity.{buffers_of}
+use Rattle.sspi_names.specs.declared.network.NetworkRequest.{NetworkRequest}
 use Rattle.sspi_names.specs.Name.{Name, inner_of}
 use Rattle.sspi_mech.specs.declared.config.NtlmConfig.{NtlmConfig}
 use Rattle.sspi_mech.specs.declared.ntlm.stage.Stage.TheVariants.{NegotiateSent, ChallengeSent, Claimed}
 use Rattle.sspi_mech.specs.declared.protection.Direction.TheVariants.{FromClient, FromServer}
 use Rattle.sspi_mech.specs.declared.step.Answer.TheVariants.{Done, Refused}
+use Rattle.sspi_mech.specs.declared.step.Reply.{Reply}
 use Rattle.sspi_mech.specs.declared.step.Step.{Step}
 use Rattle.sspi_mech.specs.Calls.{ToComplete}
 use Rattle.sspi_mech.specs.Context.{IsContext}
@@ -136,7 +138,8 @@ module _ {K D P : Type 0} (k : Meaning Setting K) (laws : IsContext (either 0 nt
         (outcome h) others accepts;
   }
 
-  module _ (a : ClientView C) (b : ServerView C P) (kdc_first : D) (matching : AreMatching p a b) (client_config server_config : NtlmConfig)
+  module _ (told : Option (ℕ → NetworkRequest → Reply)) (call : ℕ) (a : ClientView C) (b : ServerView C P) (kdc_first : D)
+      (matching : AreMatching p told call a b) (client_config server_config : NtlmConfig)
       (client_is : a.mode ≡ client_mode.Ntlm client_config) (server_is : b.mode ≡ server_mode.Ntlm server_config)
       (challenge_length : length server_config.challenge ≡ 8) where
     abbrev i : AuthIdentity

@@ -1,21 +1,19 @@
--- The tokens of a negotiation that comes to NTLM at once: each is short, is written, and is read again.
-use Rattle.std.proofs.Common.{◌≡◌, ◌≢◌, ℕ, ◌+◌, ◌≤◌, List, [], ◌∷◌, ◌++◌, length, Option, None, Some, refl, sym, ◌∙◌, option_map, arith}
+-- The tokens of a negotiation of matching ends: each is short, is written, and is read again.
+use Rattle.std.proofs.Common.{◌≡◌, ◌≢◌, ℕ, ◌+◌, ◌≤◌, Bool, true, false, List, [], ◌∷◌, ◌++◌, length, Option, None, Some, sym, option_map}
+use Rattle.std.proofs.Common.{arith}
 use Rattle.std.proofs.lemmas.List.{append-nil, length-take-le}
 use Rattle.std.specs.Int.{w64, to_le_bytes}
 use Rattle.sha2.proofs.Facts256.{length-sha256}
 use Rattle.sspi_ber.specs.Short.{element, header, len_short, element_size}
 use Rattle.sspi_ber.proofs.Written.{length-element, size_below}
 use Rattle.sspi_mech.specs.declared.protection.Direction.{Direction}
-use Rattle.sspi_mech.specs.declared.protection.Direction.TheVariants.{FromClient, FromServer}
-use Rattle.sspi_mech.specs.NtlmMessages.{negotiate_message, challenge_message}
+use Rattle.sspi_mech.specs.KerberosMessages.{ticket_request}
+use Rattle.sspi_mech.specs.NtlmMessages.{negotiate_message}
 use Rattle.sspi_mech.specs.Protection.{direction_byte, mic_label, mic_of}
-use Rattle.sspi_names.specs.declared.identity.AuthIdentity.{AuthIdentity}
 use Rattle.sspi_tokens.specs.declared.neg_result.NegResult.{NegResult}
-use Rattle.sspi_tokens.specs.declared.neg_result.NegResult.TheVariants.{AcceptComplete, AcceptIncomplete}
 use Rattle.sspi_tokens.specs.declared.neg_token_init.NegTokenInit.{NegTokenInit}
 use Rattle.sspi_tokens.specs.declared.neg_token_targ.NegTokenTarg.{NegTokenTarg}
 use Rattle.sspi_tokens.specs.Grammar.{IsInit, IsTarg}
-use Rattle.sspi_tokens.specs.Oids.{ntlm_ssp}
 use Rattle.sspi_tokens.specs.Reading.{init_of, targ_of, init_at, targ_at}
 use Rattle.sspi_tokens.specs.Spelling.{field, oids_text, mech_types_text, init_fields, init_content, result_text, targ_fields}
 use Rattle.sspi_tokens.specs.Spelling.{targ_content, spelled_list, spelled_init, spelled_targ}
@@ -23,54 +21,71 @@ use Rattle.sspi_tokens.proofs.Encode.{whole_some}
 use Rattle.sspi_tokens.proofs.GrammarMatch.{of_begins, init_match, targ_match}
 use Rattle.sspi_tokens.proofs.Lengths.{length-octets, length-oid, length-result, length-targ_fields, length-targ_content}
 use Rattle.sspi_tokens.proofs.ReadBack.{init_short, targ_short}
-use Rattle.sspi_negotiate.specs.Rows.{targ}
+use Rattle.sspi_negotiate.specs.declared.protocol.Protocol.{Protocol}
+use Rattle.sspi_negotiate.specs.declared.protocol.Protocol.TheVariants.{Ntlm, Kerberos}
+use Rattle.sspi_negotiate.specs.Pick.{offered}
 use Rattle.sspi_completeness.proofs.Lengths.{size_of}
-use Rattle.sspi_completeness.proofs.NtlmRound.{last_token}
 
 -- ---- the list of mechanisms
 
-abbrev pub offer : List (List ℕ)
-offer = ntlm_ssp ∷ []
+-- what a client offers that begins with this mechanism, and may use NTLM or not
+abbrev pub offer : Protocol → Bool → List (List ℕ)
+offer protocol ntlm = offered protocol (record { ntlm = ntlm; kerberos = false })
 
-abbrev pub list_text : List ℕ
-list_text = element 0x30 (oids_text offer)
+abbrev pub list_text : Protocol → Bool → List ℕ
+list_text protocol ntlm = element 0x30 (oids_text (offer protocol ntlm))
 
-list_length : length (oids_text offer) ≡ 12
+list_short : (protocol : Protocol) (ntlm : Bool) → length (oids_text (offer protocol ntlm)) ≤ 34
 unfolding oids_text element header len_short
-list_length = refl
+list_short Ntlm true = omega arith
+list_short Ntlm false = omega arith
+list_short Kerberos true = omega arith
+list_short Kerberos false = omega arith
 
-pub list_spelled : spelled_list offer ≡ Some list_text
-list_spelled = whole_some 0x30 (oids_text offer) (omega (arith, list_length))
+pub list_spelled : (protocol : Protocol) (ntlm : Bool) → spelled_list (offer protocol ntlm) ≡ Some (list_text protocol ntlm)
+list_spelled protocol ntlm =
+    let s = list_short protocol ntlm in whole_some 0x30 (oids_text (offer protocol ntlm)) (omega (arith, s))
 
 -- ---- the client's first token
 
-abbrev pub first_init : NegTokenInit
-first_init = record { mech_types = Some offer; mech_token = Some negotiate_message }
+abbrev pub first_token : Protocol → List ℕ
+first_token Ntlm = negotiate_message
+first_token Kerberos = ticket_request
 
-abbrev pub init_text : List ℕ
-init_text = element 0x60 (init_content first_init)
+abbrev pub first_init : Protocol → Bool → NegTokenInit
+first_init protocol ntlm = record { mech_types = Some (offer protocol ntlm); mech_token = Some (first_token protocol) }
 
-init_length : length (init_content first_init) ≡ 34
+abbrev pub init_text : Protocol → Bool → List ℕ
+init_text protocol ntlm = element 0x60 (init_content (first_init protocol ntlm))
+
+init_few : (protocol : Protocol) (ntlm : Bool) → length (init_content (first_init protocol ntlm)) ≤ 60
 unfolding init_content init_fields field mech_types_text oids_text element header len_short
-init_length = refl
+init_few Ntlm true = omega arith
+init_few Ntlm false = omega arith
+init_few Kerberos true = omega arith
+init_few Kerberos false = omega arith
 
-pub init_spelled : spelled_init first_init ≡ Some init_text
-init_spelled = whole_some 0x60 (init_content first_init) (omega (arith, init_length))
+pub init_spelled : (protocol : Protocol) (ntlm : Bool) → spelled_init (first_init protocol ntlm) ≡ Some (init_text protocol ntlm)
+init_spelled protocol ntlm =
+    let s = init_few protocol ntlm in whole_some 0x60 (init_content (first_init protocol ntlm)) (omega (arith, s))
 
-pub init_is : init_of init_text ≡ Some first_init
-init_is = of_begins init_at IsInit init_match init_text first_init
+pub init_is : (protocol : Protocol) (ntlm : Bool) → init_of (init_text protocol ntlm) ≡ Some (first_init protocol ntlm)
+init_is protocol ntlm =
+    let s = init_few protocol ntlm in
+    of_begins init_at IsInit init_match (init_text protocol ntlm) (first_init protocol ntlm)
     (record {
-      text = init_text;
+      text = init_text protocol ntlm;
       rest = [];
-      parts = sym (append-nil init_text);
-      form = init_short first_init [] (omega (arith, init_length));
+      parts = sym (append-nil (init_text protocol ntlm));
+      form = init_short (first_init protocol ntlm) [] (omega (arith, s));
     })
 
-pub init_text_short : length init_text ≤ 65536
-init_text_short =
-    let e = length-element 0x60 (init_content first_init) in
-    let s = size_below (length (init_content first_init)) in
-    omega (arith, e, s, init_length)
+pub init_text_short : (protocol : Protocol) (ntlm : Bool) → length (init_text protocol ntlm) ≤ 65536
+init_text_short protocol ntlm =
+    let e = length-element 0x60 (init_content (first_init protocol ntlm)) in
+    let b = size_below (length (init_content (first_init protocol ntlm))) in
+    let s = init_few protocol ntlm in
+    omega (arith, e, b, s)
 
 -- ---- the tokens that follow
 
@@ -132,28 +147,8 @@ pub targ_text_speaks : (t : NegTokenTarg) → targ_text t ≢ []
 unfolding element header
 targ_text_speaks t = λ empty. absurd (cc (empty))
 
--- the server tells its pick and its challenge; the client proves its password and makes its MIC; the server makes its own
-abbrev pub picked_token : List ℕ → NegTokenTarg
-picked_token challenge = targ AcceptIncomplete (Some ntlm_ssp) (Some (challenge_message challenge)) None
-
-abbrev pub proved_token : AuthIdentity → List ℕ → List ℕ → NegTokenTarg
-proved_token i challenge key = targ AcceptIncomplete None (Some (last_token i challenge)) (Some (mic_of key FromClient 0 list_text))
-
-abbrev pub ended_token : List ℕ → NegTokenTarg
-ended_token key = targ AcceptComplete None None (Some (mic_of key FromServer 0 list_text))
-
-mic_length : (key : List ℕ) (direction : Direction) (n : ℕ) (text : List ℕ) → length (mic_of key direction n text) ≡ 16
+pub mic_length : (key : List ℕ) (direction : Direction) (n : ℕ) (text : List ℕ) → length (mic_of key direction n text) ≡ 16
 unfolding mic_of
 mic_length key direction n text =
     let whole = length-sha256 (mic_label ++ key ++ (direction_byte direction ∷ []) ++ to_le_bytes w64 n ++ text) in
     length-take-le 16 _ (omega (arith, whole))
-
-pub picked_little : (challenge : List ℕ) → length challenge ≡ 8 → IsLittle (picked_token challenge)
-picked_little challenge eight = omega (arith, eight)
-
-pub proved_little : (i : AuthIdentity) (challenge key : List ℕ) → length (last_token i challenge) ≤ 49189 →
-    IsLittle (proved_token i challenge key)
-proved_little i challenge key short = let mic = mic_length key FromClient 0 list_text in omega (arith, short, mic)
-
-pub ended_little : (key : List ℕ) → IsLittle (ended_token key)
-ended_little key = let mic = mic_length key FromServer 0 list_text in omega (arith, mic)

@@ -1,1 +1,3 @@
+pub mod Examples
 pub mod Matching
+pub mod Negotiating

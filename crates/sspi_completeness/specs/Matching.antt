@@ -1,24 +1,12 @@
--- Two ends that match and authenticate by plain NTLM, negotiated or not, over a link that disturbs nothing, and what comes of their
--- exchange.
-use Rattle.std.specs.Prelude.{◌≡◌, ◌↔◌, ℕ, ◌-◌, ◌^◌, ◌<◌, ◌≤◌, Bool, true, false, IsTrue, List, [], ◌∷◌, length, Option, None, Some}
-use Rattle.std.specs.Prelude.{Result, Ok, Err, nat_lt, if◌then◌else◌}
+-- Two ends that match, with plain NTLM or a negotiation, over a link that disturbs nothing, and what comes of their exchange.
+use Rattle.std.specs.Prelude.{◌≡◌, ℕ, ◌-◌, ◌^◌, ◌<◌, ◌≤◌, List, [], ◌∷◌, length, Option, Some}
+use Rattle.std.specs.Prelude.{Result, Ok, Err, nat_lt}
 use Rattle.sspi_names.specs.declared.credentials.Credentials.TheVariants as credentials
 use Rattle.sspi_names.specs.declared.identity.AuthIdentity.{AuthIdentity}
 use Rattle.sspi_names.specs.Identity.{IsIdentity, buffers_of}
-use Rattle.sspi_names.specs.Name.{domain_of, down_level}
-use Rattle.sspi_names.specs.Utf16.{text_of}
-use Rattle.sspi_mech.specs.declared.config.NtlmConfig.{NtlmConfig}
-use Rattle.sspi_negotiate.specs.declared.negotiate_config.NegotiateConfig.{NegotiateConfig}
-use Rattle.sspi_negotiate.specs.declared.pick.Choice.TheVariants as choices
-use Rattle.sspi_negotiate.specs.declared.protocol.Protocol.TheVariants as protocols
-use Rattle.sspi_negotiate.specs.declared.protocol_config.ProtocolConfig.TheVariants as configs
-use Rattle.sspi_negotiate.specs.declared.state.Role.TheVariants.{Client, Server}
-use Rattle.sspi_negotiate.specs.Hand.{Configured}
-use Rattle.sspi_negotiate.specs.New.{first_in_hand, packages_in}
-use Rattle.sspi_negotiate.specs.Pick.{pick, offered}
-use Rattle.sspi_negotiate.specs.Rows.{is_guest_text}
-use Rattle.sspi_negotiate.specs.Rule.{url_for}
-use Rattle.sspi_negotiate.specs.Target.{IsNamedByIp}
+use Rattle.sspi_names.specs.Name.{down_level}
+use Rattle.sspi_names.specs.declared.network.NetworkRequest.{NetworkRequest}
+use Rattle.sspi_mech.specs.declared.step.Reply.{Reply}
 use Rattle.sspi_tsreq.specs.declared.mode.CredSspMode.{CredSspMode}
 use Rattle.sspi_tsreq.specs.declared.mode.CredSspMode.TheVariants.{WithCredentials, CredentialLess}
 use Rattle.sspi_credssp.specs.declared.mode.ClientMode.{ClientMode}
@@ -34,6 +22,7 @@ use Rattle.sspi_delegate.specs.declared.answer.DelegateError.TheVariants as erro
 use Rattle.sspi_delegate.specs.declared.carried.Carried.{Carried}
 use Rattle.sspi_delegate.specs.declared.edit.Edit.{Edit}
 use Rattle.sspi_delegate.specs.Edits.{Delivers}
+use Rattle.sspi_completeness.specs.Negotiating.{AreNegotiating, messages_by}
 
 -- NTLM alone, without a negotiation
 abbrev pub IsPlainClient : ClientMode → Type 0
@@ -65,41 +54,30 @@ pub record IsShort (identity : AuthIdentity) : Type 0 where
   pub domain_units : length (buffers_of identity).domain ≤ 8192
   pub password_units : length (buffers_of identity).password.value ≤ 131072
 
--- Both ends negotiate and come to NTLM at once: each has an NTLM in hand at first, no KDC serves the domain of the client's name where the
--- client may use
--- Kerberos, and of what such a client offers the server picks NTLM. The client is no guest, whose negotiation would go unprotected.
-pub record ComeToNtlm (client server : NegotiateConfig) (target : List ℕ) (identity : AuthIdentity) : Type 0 where
-  pub client_ntlm : NtlmConfig
-  pub server_ntlm : NtlmConfig
-  pub client_first : first_in_hand Client client ≡ Ok (Configured (configs.Ntlm client_ntlm))
-  pub server_first : first_in_hand Server server ≡ Ok (Configured (configs.Ntlm server_ntlm))
-  pub unserved : (if (packages_in client).kerberos then url_for client.kdcs (domain_of identity.username) else None) ≡ None
-  -- whether the target is named by its IP address, which matters only where the client may use Kerberos
-  pub ip : Bool
-  pub ip_is : (packages_in client).kerberos ≡ true → (IsTrue ip ↔ IsNamedByIp (Some target))
-  pub picks : pick (offered protocols.Ntlm (packages_in client)) (packages_in server) protocols.Ntlm ≡ Some
-      (record { choice = choices.Ntlm; index = 0 })
-  pub no_guest : is_guest_text (text_of (buffers_of identity).user) ≡ false
-  -- the challenge that the server sends has 8 bytes
-  pub challenge : length server_ntlm.challenge ≡ 8
+-- both authenticate by plain NTLM alone, or both negotiate
+abbrev pub MatchModes : Option (ℕ → NetworkRequest → Reply) → ℕ → List ℕ → AuthIdentity → ClientMode → ServerMode → Type 0
+MatchModes told call target identity (client_mode.Ntlm config) (server_mode.Ntlm config2) = length config2.challenge ≡ 8
+MatchModes told call target identity (client_mode.Negotiate config) (server_mode.Negotiate config2) =
+    AreNegotiating told call config config2 target identity
+MatchModes told call target identity (client_mode.Ntlm config) (server_mode.Negotiate config2) = ⊥
+MatchModes told call target identity (client_mode.Negotiate config) (server_mode.Ntlm config2) = ⊥
 
--- both authenticate by plain NTLM alone, or both negotiate and come to it
-abbrev pub MatchModes : List ℕ → AuthIdentity → ClientMode → ServerMode → Type 0
-MatchModes target identity (client_mode.Ntlm config) (server_mode.Ntlm config2) = length config2.challenge ≡ 8
-MatchModes target identity (client_mode.Negotiate config) (server_mode.Negotiate config2) = ComeToNtlm config config2 target identity
-MatchModes target identity (client_mode.Ntlm config) (server_mode.Negotiate config2) = ⊥
-MatchModes target identity (client_mode.Negotiate config) (server_mode.Ntlm config2) = ⊥
+-- how many messages the client makes then
+abbrev pub messages_of : (told : Option (ℕ → NetworkRequest → Reply)) (call : ℕ) (target : List ℕ) (identity : AuthIdentity)
+    (client : ClientMode) (server : ServerMode) → MatchModes told call target identity client server → ℕ
+messages_of told call target identity (client_mode.Ntlm config) (server_mode.Ntlm config2) modes = 3
+messages_of told call target identity (client_mode.Negotiate config) (server_mode.Negotiate config2) modes =
+    messages_by modes.begins modes.picked.choice
+messages_of told call target identity (client_mode.Ntlm config) (server_mode.Negotiate config2) modes = absurd modes
+messages_of told call target identity (client_mode.Negotiate config) (server_mode.Ntlm config2) modes = absurd modes
 
--- how many messages a client makes that matches its server
-abbrev pub messages_of : ClientMode → ℕ
-messages_of (client_mode.Ntlm config) = 3
-messages_of (client_mode.Negotiate config) = 4
-
--- Both come to plain NTLM, with one key and one kind of proof, and each takes the other's version; the client has an identity
--- whose password the server's proxy tells. The last fields say what is so of every client and server that is made.
-pub record AreMatching {C D P : Type 0} (p : ProxyMeaning P) (client : ClientView C) (server : ServerView D P) : Type 0 where
+-- Both come to one plain mechanism, with one key and one kind of proof, and each takes the other's version; the client has an
+-- identity whose password the server's proxy tells. `told` and `call` are what the client's KDC tells of its replies, and the number of
+-- its next call. The last fields say what is so of every client and server that is made.
+pub record AreMatching {C D P : Type 0} (p : ProxyMeaning P) (told : Option (ℕ → NetworkRequest → Reply)) (call : ℕ)
+    (client : ClientView C) (server : ServerView D P) : Type 0 where
   pub identity : AuthIdentity
-  pub modes : MatchModes client.target identity client.mode server.mode
+  pub modes : MatchModes told call client.target identity client.mode server.mode
   pub key_same : server.public_key ≡ client.public_key
   pub key_short : length client.public_key ≤ key_limit
   pub versions : nat_lt client.version 5 ≡ nat_lt server.version 5
@@ -114,6 +92,12 @@ pub record AreMatching {C D P : Type 0} (p : ProxyMeaning P) (client : ClientVie
   pub client_version : client.version < 2 ^ 32
   pub server_version : server.version < 2 ^ 32
   pub nonce : length client.nonce ≡ 32
+
+-- how many messages the client of matching ends makes
+abbrev pub messages_in : {C D P : Type 0} {p : ProxyMeaning P} {told : Option (ℕ → NetworkRequest → Reply)} {call : ℕ}
+    {client : ClientView C} {server : ServerView D P} → AreMatching p told call client server → ℕ
+messages_in {C = C} {D = D} {P = P} {p = p} {told = told} {call = call} {client = client} {server = server} matching =
+    messages_of told call client.target matching.identity client.mode server.mode matching.modes
 
 -- a count of faults that did not rise, and that does not stand at its last value
 pub record IsCalm (before now : ℕ) : Type 0 where

@@ -1,4 +1,13 @@
-//! What holds of a context of plain NTLM, and of one that negotiates it.
+//! What holds of a context of plain NTLM, and of one that negotiates it; and that ends which negotiate can match.
+ghost use Rattle.std.specs.Prelude.{◌≡◌, ℕ, List, Option, length, false};
+ghost use Rattle.sspi_names.specs.declared.identity.AuthIdentity.{AuthIdentity};
+ghost use Rattle.sspi_names.specs.declared.network.NetworkRequest.{NetworkRequest};
+ghost use Rattle.sspi_names.specs.Identity.{buffers_of};
+ghost use Rattle.sspi_names.specs.Utf16.{text_of};
+ghost use Rattle.sspi_mech.specs.declared.step.Reply.{Reply};
+ghost use Rattle.sspi_negotiate.specs.Rows.{is_guest_text};
+ghost use Rattle.sspi_completeness.specs.Examples.{example_target, example_ntlm, example_kerberos, example_ticket, example_kdc};
+ghost use Rattle.sspi_completeness.specs.Negotiating.{AreNegotiating, messages_by};
 ghost use Rattle.sspi_credssp.specs.Context.{either};
 ghost use Rattle.sspi_credssp.specs.Heeded.{NeverRefuses};
 ghost use Rattle.sspi_mech.specs.Ntlm.{ntlm_meaning};
@@ -13,4 +22,19 @@ pub fn contexts_refuse_no_version<K: Mechanism>()
     ensures ntlm { NeverRefuses ntlm_meaning DowngradeDetected }
     ensures negotiation { NeverRefuses K.meaning DowngradeDetected → NeverRefuses (negotiate 0 ntlm_meaning K.meaning) DowngradeDetected }
     ensures either { NeverRefuses K.meaning DowngradeDetected → NeverRefuses (either 0 ntlm_meaning K.meaning) DowngradeDetected }
+{}
+
+/// Ends that negotiate and match, as examples have them: both with Kerberos in hand; the client with Kerberos and the server with
+/// NTLM; both with NTLM. What each pair needs is there, for every client but a guest of NTLM, and so many messages end it.
+pub fn negotiations_match()
+    ensures kerberos { (identity : AuthIdentity) → (url ticket computer : List ℕ) → length ticket ≡ 32 →
+        (ends : AreNegotiating (example_kdc identity) 0 (example_kerberos url computer) (example_ticket ticket computer)
+        example_target identity) × (messages_by ends.begins ends.picked.choice ≡ 4) }
+    ensures changed { (identity : AuthIdentity) → (url computer : List ℕ) → is_guest_text (text_of (buffers_of identity).user) ≡ false →
+        (ends : AreNegotiating (example_kdc identity) 0 (example_kerberos url computer) (example_ntlm computer)
+        example_target identity) × (messages_by ends.begins ends.picked.choice ≡ 5) }
+    ensures ntlm { (told : Option (ℕ → NetworkRequest → Reply)) → (call : ℕ) → (identity : AuthIdentity) → (computer : List ℕ) →
+        is_guest_text (text_of (buffers_of identity).user) ≡ false →
+        (ends : AreNegotiating told call (example_ntlm computer) (example_ntlm computer)
+        example_target identity) × (messages_by ends.begins ends.picked.choice ≡ 4) }
 {}

@@ -1,6 +1,7 @@
-//! Completeness: what comes of a CredSSP delegation that nothing disturbs (MS-CSSP 3.1.5), where both ends are plain NTLM.
+//! Completeness: what comes of a CredSSP delegation that nothing disturbs (MS-CSSP 3.1.5), between ends of the plain mechanisms.
 //!
-//! `specs/Matching.antt` says which ends match, and when a link disturbs nothing.
+//! `specs/Matching.antt` says which ends match, `specs/Negotiating.antt` which of them that negotiate (MS-SPNG 3.1.5), and when a
+//! link disturbs nothing.
 #![tactic(auto)]
 
 pub mod laws;

@@ -2,35 +2,38 @@ ghost use Rattle.std.specs.Prelude.{◌≡◌, ℕ, ◌≤◌, ◌<◌, [], IfOk
 ghost use Rattle.sspi_credssp.specs.Context.{either};
 ghost use Rattle.sspi_delegate.specs.Delegates.{around_by, parties, Delegates, Accounts, Stays};
 ghost use Rattle.sspi_delegate.specs.Headline.{IsFresh};
+ghost use Rattle.sspi_mech.specs.Kerberos.{kerberos_meaning};
 ghost use Rattle.sspi_mech.specs.Ntlm.{ntlm_meaning};
-ghost use Rattle.sspi_completeness.specs.Matching.{AreMatching, IsPlainServer, messages_of, IsUndisturbed, NoneFailed, delegated_as};
+ghost use Rattle.sspi_completeness.specs.Matching.{AreMatching, IsPlainServer, messages_in, IsUndisturbed, NoneFailed, delegated_as};
 ghost use Rattle.sspi_completeness.specs.Matching.{ComesToOkIn, IsCutShort};
 
 use sspi_credssp::{CredSspClient, CredSspServer, CredentialsProxy};
 use sspi_delegate::{DelegateError, Delegation, Link, Transcript, delegate};
-use sspi_mech::{Kdc, Mechanism, Ntlm};
+use sspi_mech::{Kdc, Kerberos, Ntlm};
 use std::alloc::Global;
 
-/// `delegate` between two ends whose NTLM is the plain one: its promises, and what is so of these ends alone.
+/// `delegate` between two ends whose mechanisms are the plain ones: its promises, and what is so of these ends alone.
 ///
-/// Where the server does not negotiate it is Ok only after three messages of the client, whatever the link delivers. Where the
-/// ends match, the link disturbs nothing and no look-up of the proxy fails, it is Ok after exactly three messages of the client,
-/// or four where both negotiate and come to NTLM at once, with the client's identity, or there was no memory. Where the client
-/// may make fewer messages, that is then the reason, or want of memory.
-pub fn delegate_plainly<K: Mechanism, C: CredentialsProxy, L: Link, D: Kdc>(
+/// Where the server does not negotiate it is Ok only after three messages of the client, whatever the link delivers.
+///
+/// Where the ends match, the link disturbs nothing and no look-up of the proxy fails, it is Ok with the client's identity, or
+/// there was no memory. The client then makes three messages without a negotiation. In a negotiation it makes four, where the
+/// server picks the mechanism that the client began with, be that NTLM or Kerberos, and five, where the client began with Kerberos
+/// and the server picks NTLM. Where the client may make fewer messages, that is then the reason, or want of memory.
+pub fn delegate_plainly<C: CredentialsProxy, L: Link, D: Kdc>(
     alloc: Global,
-    client: &mut CredSspClient<Ntlm, K>,
-    server: &mut CredSspServer<Ntlm, K, C>,
+    client: &mut CredSspClient<Ntlm, Kerberos>,
+    server: &mut CredSspServer<Ntlm, Kerberos, C>,
     link: &mut L,
     kdc: &mut D,
     turns: u32,
     transcript: &mut Transcript,
 ) -> Result<Delegation, DelegateError>
-    ensures delegates { IsFresh client.old server.old transcript.old.turns → Delegates (either 0 ntlm_meaning K.meaning)
+    ensures delegates { IsFresh client.old server.old transcript.old.turns → Delegates (either 0 ntlm_meaning kerberos_meaning)
         (around_by C.meaning L.log L.edits L.faults D.told D.asked D.faults)
         (parties client.old server.old link.old kdc.old transcript.old.turns) turns result
         (parties client.new server.new link.new kdc.new transcript.new.turns) }
-    ensures accounts { transcript.old.turns ≡ [] → Accounts (either 0 ntlm_meaning K.meaning)
+    ensures accounts { transcript.old.turns ≡ [] → Accounts (either 0 ntlm_meaning kerberos_meaning)
         (around_by C.meaning L.log L.edits L.faults D.told D.asked D.faults)
         (parties client.old server.old link.old kdc.old transcript.old.turns) turns result
         (parties client.new server.new link.new kdc.new transcript.new.turns) }
@@ -40,15 +43,16 @@ pub fn delegate_plainly<K: Mechanism, C: CredentialsProxy, L: Link, D: Kdc>(
     ensures three { IsPlainServer server.old.mode → IsFresh client.old server.old transcript.old.turns →
         IfOk result (λ delegation. 3 ≤ delegation.turns) }
     ensures few { IsPlainServer server.old.mode → IsFresh client.old server.old transcript.old.turns → turns < 3 → IsErr result }
-    ensures comes { (matching : AreMatching C.meaning client.old server.old) → IsFresh client.old server.old transcript.old.turns →
+    ensures comes { (matching : AreMatching C.meaning (D.told kdc.old) (D.asked kdc.old) client.old server.old) →
+        IsFresh client.old server.old transcript.old.turns →
         IsUndisturbed (L.edits link.old) (L.log link.old) (L.log link.new) (L.faults link.old) (L.faults link.new) →
         NoneFailed (C.meaning.told server.old.proxy).failing (C.meaning.faults server.old.proxy) (C.meaning.faults server.new.proxy) →
-        messages_of client.old.mode ≤ turns →
-        ComesToOkIn (messages_of client.old.mode) (delegated_as client.old.delegation matching.identity) result }
-    ensures short { AreMatching C.meaning client.old server.old → IsFresh client.old server.old transcript.old.turns →
+        messages_in matching ≤ turns → ComesToOkIn (messages_in matching) (delegated_as client.old.delegation matching.identity) result }
+    ensures short { (matching : AreMatching C.meaning (D.told kdc.old) (D.asked kdc.old) client.old server.old) →
+        IsFresh client.old server.old transcript.old.turns →
         IsUndisturbed (L.edits link.old) (L.log link.old) (L.log link.new) (L.faults link.old) (L.faults link.new) →
         NoneFailed (C.meaning.told server.old.proxy).failing (C.meaning.faults server.old.proxy) (C.meaning.faults server.new.proxy) →
-        turns < messages_of client.old.mode → IsCutShort result }
+        turns < messages_in matching → IsCutShort result }
 {
     delegate(alloc, client, server, link, kdc, turns, transcript)
 }

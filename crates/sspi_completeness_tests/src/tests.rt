@@ -9,7 +9,7 @@ ghost use Rattle.sspi_completeness.specs.Matching.{ComesToOk, IsCutShort};
 use sspi_completeness::delegate_plainly;
 use sspi_credssp::{ClientMode, CredSspClient, CredSspServer, ServerMode, TableProxy};
 use sspi_delegate::{DelegateError, Delegation, MemoryLink, Transcript};
-use sspi_mech::{FailingKdc, Ntlm, NtlmConfig};
+use sspi_mech::{FailingKdc, Kerberos, Ntlm, NtlmConfig};
 use sspi_names::{AuthIdentity, Credentials, Username};
 use sspi_tsreq::CredSspMode;
 use sspi_types::{Secret, Text};
@@ -29,7 +29,7 @@ fn client_of(
     key: &[u8],
     mode: CredSspMode,
     version: u32,
-) -> Result<CredSspClient<Ntlm, Ntlm>, AllocError>
+) -> Result<CredSspClient<Ntlm, Kerberos>, AllocError>
     ensures fresh { IfOk result IsFreshClient }
     ensures values { IfOk result (λ client. (client.public_key ≡ key.now) × (client.credentials ≡ credentials.AuthIdentity identity)
         × (client.delegation ≡ mode) × (client.version ≡ version) × (length client.nonce ≡ 32) × (client.least ≡ 0)
@@ -57,7 +57,7 @@ fn server_of(
     identity: AuthIdentity,
     key: &[u8],
     version: u32,
-) -> Result<CredSspServer<Ntlm, Ntlm, TableProxy>, AllocError>
+) -> Result<CredSspServer<Ntlm, Kerberos, TableProxy>, AllocError>
     ensures fresh { IfOk result IsFreshServer }
     ensures values { IfOk result (λ server. (server.public_key ≡ key.now) × (server.version ≡ version)
         × IsPlainServer server.mode × HasChallenge server.mode

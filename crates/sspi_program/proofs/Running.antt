@@ -228,8 +228,8 @@ module _ {A : Type 0} (words : List (String A)) (before now : ℕ) (w w2 : Optio
 
   -- an exchange of a plain scenario
   plain_exchange : (r : Record) (status : ℕ) → HasExchange r →
-      Written (answer_status (answer_in r.outcome)) (report_of r) w w2 f f2 status → IsPlain r.scenario →
-      EndsPlainly (messages_in r.scenario.mode) r.scenario.turns status
+      Written (answer_status (answer_in r.outcome)) (report_of r) w w2 f f2 status → (plain : IsPlain r.scenario) →
+      EndsPlainly (messages_in r.scenario plain) r.scenario.turns status
   plain_exchange r status has written plain =
       let own = unless_write w w2 f f2 (answer_status (answer_in r.outcome)) (report_of r) status written in (
         (λ enough. inr (subst (λ (n : ℕ). IsUnlessWrite n status)
@@ -242,8 +242,8 @@ module _ {A : Type 0} (words : List (String A)) (before now : ℕ) (w w2 : Optio
   status_plain None said status c written delegates = tt
   status_plain (Some text) (Exchanged r) status c written delegates = λ scenario is plain.
       let same : r.scenario ≡ scenario = same_scenario text r.scenario scenario c.2 is in
-      subst (λ (s : Scenario). EndsPlainly (messages_in s.mode) s.turns status) same
-      (plain_exchange r status c.1 written (subst IsPlain (sym same) plain))
+      subst (λ (s : Scenario). (it : IsPlain s) → EndsPlainly (messages_in s it) s.turns status) same
+      (λ it. plain_exchange r status c.1 written it) plain
   status_plain (Some text) (NoScenario n) status c written delegates = λ scenario is plain. absurd (both text scenario n is c.1)
   status_plain (Some text) ReadFault status c written delegates = λ scenario is plain.
       ((λ enough. unless_read w w2 f f2 0 read_text status written), (λ few. unless_read w w2 f f2 1 read_text status written))

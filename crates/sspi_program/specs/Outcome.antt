@@ -1,60 +1,29 @@
 -- What the exchange of a scenario comes to where nothing stands in its way.
-use Rattle.std.specs.Prelude.{◌≡◌, ◌↔◌, ℕ, ◌<◌, ◌≤◌, [], length, Bool, true, false, IsTrue, None, Some, IfOk, nat_lt, if◌then◌else◌}
+use Rattle.std.specs.Prelude.{◌≡◌, ℕ, ◌<◌, ◌≤◌, [], length, Option, None, Some, IfOk, nat_lt}
 use Rattle.sspi_names.specs.declared.identity.AuthIdentity.{AuthIdentity}
-use Rattle.sspi_names.specs.Identity.{buffers_of}
-use Rattle.sspi_names.specs.Name.{domain_of}
-use Rattle.sspi_names.specs.Utf16.{text_of}
-use Rattle.sspi_negotiate.specs.declared.package_list.PackageListConfig.{PackageListConfig}
-use Rattle.sspi_negotiate.specs.PackageList.{packages_of}
-use Rattle.sspi_negotiate.specs.Rows.{is_guest_text}
-use Rattle.sspi_negotiate.specs.Rule.{url_for}
-use Rattle.sspi_negotiate.specs.Target.{IsNamedByIp}
-use Rattle.sspi_completeness.specs.Matching.{HasEntry, IsShort, key_limit, delegated_as, ComesToOkIn, IsCutShort}
-use Rattle.sspi_scenario.specs.declared.scenario.Mode.{Mode}
-use Rattle.sspi_scenario.specs.declared.scenario.Mode.TheVariants.{Ntlm, Negotiate}
-use Rattle.sspi_scenario.specs.declared.scenario.Package.{Package}
-use Rattle.sspi_scenario.specs.declared.scenario.Package.TheVariants as packages
+use Rattle.sspi_names.specs.declared.network.NetworkRequest.{NetworkRequest}
+use Rattle.sspi_mech.specs.declared.step.Reply.{Reply}
+use Rattle.sspi_mech.specs.PlainKdc.{told_by}
+use Rattle.sspi_completeness.specs.Matching.{MatchModes, messages_of, HasEntry, IsShort, key_limit, delegated_as, ComesToOkIn, IsCutShort}
+use Rattle.sspi_scenario.specs.declared.scenario.Mode.TheVariants.{Ntlm}
 use Rattle.sspi_scenario.specs.declared.scenario.Scenario.{Scenario}
 use Rattle.sspi_scenario.specs.Scenario.{own_identity}
 use Rattle.sspi_program.specs.declared.record.Record.{Record}
+use Rattle.sspi_program.specs.Ends.{client_mode_in, server_mode_in}
 use Rattle.sspi_program.specs.Exchange.{answer_in}
 
 abbrev pub user_identity : Scenario → AuthIdentity
 user_identity scenario = own_identity scenario.user scenario.password
 
--- An end that begins with this package, and may use these, has an NTLM in hand at first: its own, or one in the place of a
--- Kerberos that it may not use.
-abbrev pub BeginsByNtlm : Package → PackageListConfig → Type 0
-BeginsByNtlm packages.Ntlm list = Unit {0}
-BeginsByNtlm packages.Kerberos list = list.kerberos ≡ false
+-- What the scenario's KDC replies, by the number of the call.
+abbrev pub kdc_told : Scenario → Option (ℕ → NetworkRequest → Reply)
+kdc_told scenario = Some (told_by scenario.kdc_user scenario.kdc_answer)
 
--- Both ends may use NTLM and begin with it, and no KDC serves the domain of the user where the client may use Kerberos. The user
--- is no guest, whose negotiation would go unprotected.
-pub record NegotiateNtlm (scenario : Scenario) : Type 0 where
-  pub client_may : (packages_of scenario.client_packages).ntlm ≡ true
-  pub server_may : (packages_of scenario.server_packages).ntlm ≡ true
-  pub client_begins : BeginsByNtlm scenario.client_protocol (packages_of scenario.client_packages)
-  pub server_begins : BeginsByNtlm scenario.server_protocol (packages_of scenario.server_packages)
-  pub unserved : (if (packages_of scenario.client_packages).kerberos then url_for scenario.kdc (domain_of scenario.user) else None) ≡ None
-  -- whether the target is named by its IP address, which matters only where the client may use Kerberos
-  pub ip : Bool
-  pub ip_is : (packages_of scenario.client_packages).kerberos ≡ true → (IsTrue ip ↔ IsNamedByIp (Some scenario.target))
-  pub no_guest : is_guest_text (text_of (buffers_of (user_identity scenario)).user) ≡ false
-
--- plain NTLM alone, or a negotiation that comes to it
-abbrev pub ComeToNtlm : Mode → Scenario → Type 0
-ComeToNtlm Ntlm scenario = Unit {0}
-ComeToNtlm Negotiate scenario = NegotiateNtlm scenario
-
--- the messages that the client makes then
-abbrev pub messages_in : Mode → ℕ
-messages_in Ntlm = 3
-messages_in Negotiate = 4
-
--- Both ends come to plain NTLM. Nothing is edited and no look-up fails; the client has the password that the server's table
--- knows, both ends have one key and one kind of proof, and each takes the other's version.
+-- The ends that the scenario names match: both authenticate by plain NTLM alone, or both negotiate and come to a mechanism. Nothing is
+-- edited and no look-up fails; the client has the password that the server's table knows, both ends have one key and one kind of
+-- proof, and each takes the other's version.
 pub record IsPlain (scenario : Scenario) : Type 0 where
-  pub mode : ComeToNtlm scenario.mode scenario
+  pub mode : MatchModes (kdc_told scenario) 0 scenario.target (user_identity scenario) (client_mode_in scenario) (server_mode_in scenario)
   pub no_edit : scenario.edit ≡ []
   pub no_failure : scenario.proxy_fail ≡ []
   pub no_keytab : scenario.keytab ≡ None
@@ -66,10 +35,15 @@ pub record IsPlain (scenario : Scenario) : Type 0 where
   pub entry : HasEntry scenario.account (user_identity scenario)
   pub short : IsShort (user_identity scenario)
 
+-- the messages that the client makes then
+abbrev pub messages_in : (scenario : Scenario) → IsPlain scenario → ℕ
+messages_in scenario plain =
+    messages_of (kdc_told scenario) 0 scenario.target (user_identity scenario) (client_mode_in scenario) (server_mode_in scenario) plain.mode
+
 -- Ok of plain NTLM alone takes three messages of the client. A plain scenario comes to Ok where the client may make as many
 -- messages as it takes, and else is cut short; but for want of memory.
 pub record IsOutcome (r : Record) : Type 0 where
   pub three : r.scenario.mode ≡ Ntlm → IfOk (answer_in r.outcome) (λ delegation. 3 ≤ delegation.turns)
-  pub comes : IsPlain r.scenario → messages_in r.scenario.mode ≤ r.scenario.turns →
-      ComesToOkIn (messages_in r.scenario.mode) (delegated_as r.scenario.delegation (user_identity r.scenario)) (answer_in r.outcome)
-  pub short : IsPlain r.scenario → r.scenario.turns < messages_in r.scenario.mode → IsCutShort (answer_in r.outcome)
+  pub comes : (plain : IsPlain r.scenario) → messages_in r.scenario plain ≤ r.scenario.turns →
+      ComesToOkIn (messages_in r.scenario plain) (delegated_as r.scenario.delegation (user_identity r.scenario)) (answer_in r.outcome)
+  pub short : (plain : IsPlain r.scenario) → r.scenario.turns < messages_in r.scenario plain → IsCutShort (answer_in r.outcome)

@@ -81,5 +81,5 @@ EndsPlainly messages turns status = (messages ≤ turns → IsUnlessFault 0 stat
 
 -- what the status is where the text is that of a plain scenario
 abbrev pub EndsText : List ℕ → ℕ → Type 0
-EndsText text status = (scenario : Scenario) → scenario_of text ≡ Ok scenario → IsPlain scenario →
-    EndsPlainly (messages_in scenario.mode) scenario.turns status
+EndsText text status = (scenario : Scenario) → scenario_of text ≡ Ok scenario → (plain : IsPlain scenario) →
+    EndsPlainly (messages_in scenario plain) scenario.turns status

@@ -1,8 +1,9 @@
+use Rattle.sspi_mech.specs.Kerberos.{kerberos_meaning}
+use Rattle.sspi_mech.specs.KerberosLaws.{kerberos_laws}
 use Rattle.sspi_mech.specs.Ntlm.{ntlm_meaning}
 use Rattle.sspi_mech.specs.NtlmLaws.{ntlm_laws}
 use Rattle.sspi_credssp.proofs.ContextLaws.{lawful}
 use Rattle.sspi_credssp.specs.Context.{either}
-use Rattle.sspi_delegate.specs.Asking.{kdc_calls}
 use Rattle.sspi_delegate.proofs.Alternating.{servers_others}
 use Rattle.sspi_delegate.proofs.Histories.{server_past_history}
 use Rattle.sspi_completeness.proofs.PlainSettled.{comes_to_ok, cut_short, settled_plainly}
@@ -13,10 +14,10 @@ use Rattle.sspi_completeness.proofs.plain.delegate_plainly.Goals as goal
 pub returns-clause-three : goal.returns-clause-three
 returns-clause-three g c plain fresh =
     let made = c.delegate.ensures.delegates fresh in
-    ok_three g.K.Mechanism.meaning g.C.CredentialsProxy.meaning _ _ _ _ _ _ _ _ _
+    ok_three kerberos_meaning g.C.CredentialsProxy.meaning _ _ _ _ _ _ _ _ _
     made.accounts.turns_and_log_show_the_answer plain fresh.server_is
     (servers_others _ made.the_turns_are_a_run.order)
-    made.both_proofs_came_before_ok (server_past_history (either 0 ntlm_meaning g.K.Mechanism.meaning) g.C.CredentialsProxy.meaning _ _ _ _
+    made.both_proofs_came_before_ok (server_past_history (either 0 ntlm_meaning kerberos_meaning) g.C.CredentialsProxy.meaning _ _ _ _
     made.accounts.server_turns_are_its_calls)
 
 pub returns-clause-few : goal.returns-clause-few
@@ -25,30 +26,30 @@ returns-clause-few g c plain fresh few = too_few _ _ (returns-clause-three g c p
 
 pub returns-clause-comes : goal.returns-clause-comes
 returns-clause-comes g c matching fresh undisturbed none enough =
-    let laws = lawful 0 _ ntlm_meaning g.K.Mechanism.meaning ntlm_laws g.met.K.Mechanism.laws in
+    let laws = lawful 0 2 ntlm_meaning kerberos_meaning ntlm_laws kerberos_laws in
     let made = c.delegate.ensures.delegates fresh in
     let stays = c.delegate.ensures.stays in
     comes_to_ok _ _ _ _ enough
-    (settled_plainly g.K.Mechanism.meaning laws (kdc_calls g.D.Kdc.told g.D.Kdc.asked g.D.Kdc.faults) g.C.CredentialsProxy.meaning
-    c.args.client.now c.args.server.now fresh.client_is fresh.server_is matching _ _ _ _ _ c.args.turns c.delegate.new.client
+    (settled_plainly g.D.Kdc.told g.D.Kdc.asked g.D.Kdc.faults laws g.C.CredentialsProxy.meaning
+    c.args.client.now c.args.server.now c.args.kdc.now fresh.client_is fresh.server_is matching _ _ _ _ c.args.turns c.delegate.new.client
     c.delegate.new.server _ _ _ _ _ undisturbed made.accounts.turns_and_log_show_the_answer stays.the_link_tells_what_it_told
     stays.the_link_fails_where_its_edits_say_so
     made.accounts.client_turns_are_its_calls (server_past_history
-    (either 0 ntlm_meaning g.K.Mechanism.meaning) g.C.CredentialsProxy.meaning _ _ _ _
+    (either 0 ntlm_meaning kerberos_meaning) g.C.CredentialsProxy.meaning _ _ _ _
     made.accounts.server_turns_are_its_calls)
     (calm_by _ _ _ none stays.the_proxy_tells_what_it_told.calm) made.the_identity_is_what_was_opened_last)
 
 pub returns-clause-short : goal.returns-clause-short
 returns-clause-short g c matching fresh undisturbed none few =
-    let laws = lawful 0 _ ntlm_meaning g.K.Mechanism.meaning ntlm_laws g.met.K.Mechanism.laws in
+    let laws = lawful 0 2 ntlm_meaning kerberos_meaning ntlm_laws kerberos_laws in
     let made = c.delegate.ensures.delegates fresh in
     let stays = c.delegate.ensures.stays in
     cut_short _ _ _ _ few stays.ok_comes_within_the_limit
-    (settled_plainly g.K.Mechanism.meaning laws (kdc_calls g.D.Kdc.told g.D.Kdc.asked g.D.Kdc.faults) g.C.CredentialsProxy.meaning
-    c.args.client.now c.args.server.now fresh.client_is fresh.server_is matching _ _ _ _ _ c.args.turns c.delegate.new.client
+    (settled_plainly g.D.Kdc.told g.D.Kdc.asked g.D.Kdc.faults laws g.C.CredentialsProxy.meaning
+    c.args.client.now c.args.server.now c.args.kdc.now fresh.client_is fresh.server_is matching _ _ _ _ c.args.turns c.delegate.new.client
     c.delegate.new.server _ _ _ _ _ undisturbed made.accounts.turns_and_log_show_the_answer stays.the_link_tells_what_it_told
     stays.the_link_fails_where_its_edits_say_so
     made.accounts.client_turns_are_its_calls (server_past_history
-    (either 0 ntlm_meaning g.K.Mechanism.meaning) g.C.CredentialsProxy.meaning _ _ _ _
+    (either 0 ntlm_meaning kerberos_meaning) g.C.CredentialsProxy.meaning _ _ _ _
     made.accounts.server_turns_are_its_calls)
     (calm_by _ _ _ none stays.the_proxy_tells_what_it_told.calm) made.the_identity_is_what_was_opened_last)

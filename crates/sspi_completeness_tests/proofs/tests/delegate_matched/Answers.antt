@@ -1,8 +1,11 @@
-use Rattle.std.proofs.Common.{◌≡◌, ℕ, ◌≤◌, ◌<◌, ◌-◌, ◌^◌, List, [], ◌∷◌, length, Some, nat_lt, refl, ap, sym, ◌∙◌, subst, arith}
+use Rattle.std.proofs.Common.{◌≡◌, ℕ, ◌≤◌, ◌<◌, ◌-◌, ◌^◌, List, [], ◌∷◌, length, Option, Some, nat_lt, refl, ap, sym, ◌∙◌, subst, arith}
 use Rattle.sspi_names.specs.declared.credentials.Credentials.TheVariants as credentials
 use Rattle.sspi_names.specs.declared.identity.AuthIdentity.{AuthIdentity}
 use Rattle.sspi_names.specs.Equality.{ignoring_case-equiv}
 use Rattle.sspi_names.specs.Identity.{IsIdentity}
+use Rattle.sspi_names.specs.declared.network.NetworkRequest.{NetworkRequest}
+use Rattle.sspi_mech.specs.declared.step.Reply.{Reply}
+use Rattle.sspi_mech.specs.declared.step.Reply.TheVariants.{Failed}
 use Rattle.sspi_tsreq.specs.declared.mode.CredSspMode.{CredSspMode}
 use Rattle.sspi_credssp.specs.Client.{ClientView}
 use Rattle.sspi_credssp.specs.Proxy.{entry_of}
@@ -11,9 +14,13 @@ use Rattle.sspi_credssp.specs.Table.{TableView, table_meaning}
 use Rattle.sspi_delegate.specs.declared.edit.Edit.{Edit}
 use Rattle.sspi_delegate.specs.Edits.{MemoryLinkView}
 use Rattle.sspi_completeness.specs.Matching.{IsPlainClient, IsPlainServer, HasChallenge, AreMatching, unedited, none_told, IsShort}
-use Rattle.sspi_completeness.specs.Matching.{key_limit, messages_of, delegated_as, ComesToOk, ComesToOkIn}
+use Rattle.sspi_completeness.specs.Matching.{key_limit, delegated_as, ComesToOk, ComesToOkIn}
 use Rattle.sspi_completeness.proofs.Modes.{plain_modes, plain_messages}
 use Rattle.sspi_completeness_tests.proofs.tests.delegate_matched.Goals as goal
+
+-- the KDC, which nothing is asked of
+abbrev failing : Option (ℕ → NetworkRequest → Reply)
+failing = Some (λ (n : ℕ) (q : NetworkRequest). Failed)
 
 alone : (i : AuthIdentity) → entry_of (i ∷ []) i.username ≡ Some i
 unfolding entry_of
@@ -35,10 +42,10 @@ record AreMade {C D : Type 0} (client : ClientView C) (server : ServerView D Tab
 abbrev matched : {C D : Type 0} (client : ClientView C) (server : ServerView D TableView) (i mine known : AuthIdentity) (key : List ℕ)
     (mode : CredSspMode) (cv sv : ℕ) →
     AreMade client server i mine known key mode cv sv → IsIdentity i → IsShort i → length key ≤ key_limit → nat_lt cv 5 ≡ nat_lt sv 5 →
-    AreMatching table_meaning client server
-matched client server i mine known key mode cv sv made is short few versions = record {
+    (told : Option (ℕ → NetworkRequest → Reply)) (call : ℕ) → AreMatching table_meaning told call client server
+matched client server i mine known key mode cv sv made is short few versions told call = record {
   identity = i;
-  modes = plain_modes client.target i client.mode server.mode made.client_values.6 made.server_values.2 made.server_values.3;
+  modes = plain_modes told call client.target i client.mode server.mode made.client_values.6 made.server_values.2 made.server_values.3;
   key_same = made.server_values.0 ∙ sym made.client_values.0;
   key_short = omega (arith, ap length made.client_values.0, few);
   versions = rw (made.client_values.3, made.server_values.1) versions;
@@ -80,11 +87,13 @@ returns-clause-comes c is short few versions enough =
     } in
     let proxy = no_look_up_fails c.in-Ok-server_of.server _ c.in-Ok-server_of.ensures.values.4 in
     let link = no_edit c.new-link.result _ c.new-link.ensures c.new.ensures.items in
-    let three = plain_messages c.in-Ok-client_of.client.mode made.client_values.6 in
+    let m : AreMatching table_meaning failing c.new-kdc.result c.in-Ok-client_of.client c.in-Ok-server_of.server =
+    matched c.in-Ok-client_of.client c.in-Ok-server_of.server c.args.identity.now c.in-Ok.mine c.in-Ok-clone.known c.args.key.now
+    c.args.mode c.args.client_version c.args.server_version made is short few versions failing c.new-kdc.result in
+    let three = plain_messages failing c.new-kdc.result c.in-Ok-client_of.client.target m.identity c.in-Ok-client_of.client.mode
+    c.in-Ok-server_of.server.mode m.modes made.client_values.6 in
     let comes = c.delegate_plainly.ensures.comes
-    (matched c.in-Ok-client_of.client c.in-Ok-server_of.server c.args.identity.now c.in-Ok.mine c.in-Ok-clone.known c.args.key.now
-    c.args.mode c.args.client_version
-    c.args.server_version made is short few versions)
+    m
     (record { client_is = c.in-Ok-client_of.ensures.fresh; server_is = c.in-Ok-server_of.ensures.fresh; empty = c.new-transcript.ensures })
     (unedited link.0 link.1) (none_told proxy.0 proxy.1) (omega (arith, three, enough)) in
     subst (λ (m : CredSspMode). ComesToOk (delegated_as m c.args.identity.now) c.delegate_plainly.result) c.in-Ok-client_of.ensures.values.2
@@ -105,10 +114,12 @@ returns-clause-short c is short few versions less =
     } in
     let proxy = no_look_up_fails c.in-Ok-server_of.server _ c.in-Ok-server_of.ensures.values.4 in
     let link = no_edit c.new-link.result _ c.new-link.ensures c.new.ensures.items in
-    let three = plain_messages c.in-Ok-client_of.client.mode made.client_values.6 in
+    let m : AreMatching table_meaning failing c.new-kdc.result c.in-Ok-client_of.client c.in-Ok-server_of.server =
+    matched c.in-Ok-client_of.client c.in-Ok-server_of.server c.args.identity.now c.in-Ok.mine c.in-Ok-clone.known c.args.key.now
+    c.args.mode c.args.client_version c.args.server_version made is short few versions failing c.new-kdc.result in
+    let three = plain_messages failing c.new-kdc.result c.in-Ok-client_of.client.target m.identity c.in-Ok-client_of.client.mode
+    c.in-Ok-server_of.server.mode m.modes made.client_values.6 in
     c.delegate_plainly.ensures.short
-    (matched c.in-Ok-client_of.client c.in-Ok-server_of.server c.args.identity.now c.in-Ok.mine c.in-Ok-clone.known c.args.key.now
-    c.args.mode c.args.client_version
-    c.args.server_version made is short few versions)
+    m
     (record { client_is = c.in-Ok-client_of.ensures.fresh; server_is = c.in-Ok-server_of.ensures.fresh; empty = c.new-transcript.ensures })
     (unedited link.0 link.1) (none_told proxy.0 proxy.1) (omega (arith, three, less))

@@ -1,5 +1,4 @@
 use Rattle.std.proofs.Common.{◌≡◌, ℕ, List, [], Some, refl, subst}
-use Rattle.sspi_delegate.specs.Delegates.{calls_of_kdc}
 use Rattle.sspi_delegate.specs.Edits.{MemoryLinkView, FollowsEdits}
 use Rattle.sspi_delegate.specs.declared.edit.Edit.{Edit}
 use Rattle.sspi_delegate.specs.Headline.{IsFresh}
@@ -17,7 +16,7 @@ use Rattle.sspi_completeness.specs.Matching.{delegated_as, ComesToOkIn}
 use Rattle.sspi_completeness.proofs.ThreeTurns.{ok_three}
 use Rattle.sspi_completeness.proofs.PlainSettled.{comes_to_ok, cut_short, settled_plainly}
 use Rattle.sspi_completeness.proofs.Settling.{calm_by, Settled}
-use Rattle.sspi_program.specs.Exchange.{plain_meaning, around}
+use Rattle.sspi_program.specs.Exchange.{plain_meaning, told_replies, kdc_asked, kdc_faults}
 use Rattle.sspi_program.specs.Outcome.{user_identity, messages_in, IsPlain}
 use Rattle.sspi_program.proofs.Plainly.{plain_match, plain_messages, plain_server, plain_link, plain_proxy}
 use Rattle.sspi_program.proofs.exchange.meet.Goals as goal
@@ -65,11 +64,12 @@ returns-clause-outcome c ends held =
     let server_history = server_past_history plain_meaning table_meaning server made.server _ answer
     delegates.accounts.server_turns_are_its_calls in
     let laws = lawful 0 2 ntlm_meaning kerberos_meaning ntlm_laws kerberos_laws in
-    let settles : (plain : IsPlain s) → Settled (messages_in s.mode) s.turns (delegated_as client.delegation (user_identity s)) answer =
+    let kdc = c.args.ends.kdc in
+    let settles : (plain : IsPlain s) → Settled (messages_in s plain) s.turns (delegated_as client.delegation (user_identity s)) answer =
     λ plain. subst (λ (n : ℕ). Settled n s.turns (delegated_as client.delegation (user_identity s)) answer)
-    (plain_messages s client ends.client_named)
-    (settled_plainly kerberos_meaning laws (calls_of_kdc around) table_meaning client server ends.client_fresh ends.server_fresh
-    (plain_match s client server ends.client_named ends.server_named held plain) _ _ _ _ _ s.turns made.client made.server _ _ _ _ _
+    (plain_messages s client server kdc ends.client_named ends.server_named ends.kdc held plain)
+    (settled_plainly told_replies kdc_asked kdc_faults laws table_meaning client server kdc ends.client_fresh ends.server_fresh
+    (plain_match s client server kdc ends.client_named ends.server_named ends.kdc held plain) _ _ _ _ s.turns made.client made.server _ _ _ _ _
     (plain_link s c.args.ends.link made.link.log made.link.faults ends.link plain)
     delegates.accounts.turns_and_log_show_the_answer stays.the_link_tells_what_it_told stays.the_link_fails_where_its_edits_say_so
     delegates.accounts.client_turns_are_its_calls server_history
@@ -80,9 +80,9 @@ returns-clause-outcome c ends held =
           delegates.accounts.turns_and_log_show_the_answer (plain_server s server ends.server_named plain) fresh.server_is
           (servers_others _ delegates.the_turns_are_a_run.order)
           delegates.both_proofs_came_before_ok server_history;
-      comes = λ plain enough. subst (λ (mode : CredSspMode). ComesToOkIn (messages_in s.mode)
+      comes = λ plain enough. subst (λ (mode : CredSspMode). ComesToOkIn (messages_in s plain)
           (delegated_as mode (user_identity s)) answer) ends.client_named.delegation
-          (comes_to_ok (messages_in s.mode) s.turns (delegated_as client.delegation (user_identity s)) answer enough (settles plain));
-      short = λ plain few. cut_short (messages_in s.mode) s.turns
+          (comes_to_ok (messages_in s plain) s.turns (delegated_as client.delegation (user_identity s)) answer enough (settles plain));
+      short = λ plain few. cut_short (messages_in s plain) s.turns
           (delegated_as client.delegation (user_identity s)) answer few stays.ok_comes_within_the_limit (settles plain);
     }

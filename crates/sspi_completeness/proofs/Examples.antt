@@ -1,0 +1,208 @@
+-- The ends of the examples match.
+use Rattle.std.proofs.Common.{◌≡◌, ◌↔◌, ◌||◌, ◌==◌, inl, inr, ℕ, ◌++◌, Bool, true, false, IsTrue, List, [], ◌∷◌, length, codes, replicate}
+use Rattle.std.proofs.Common.{Option, None, Some, refl, sym, ap, ◌∙◌, arith, option_map, if◌then◌else◌}
+use Rattle.std.proofs.lemmas.List.{length-append}
+use Rattle.sha2.proofs.Facts256.{length-sha256}
+use Rattle.sspi_names.specs.declared.identity.AuthIdentity.{AuthIdentity}
+use Rattle.sspi_names.specs.declared.network.NetworkRequest.{NetworkRequest}
+use Rattle.sspi_names.specs.Identity.{buffers_of}
+use Rattle.sspi_names.specs.Name.{domain_of, inner_of}
+use Rattle.sspi_names.specs.declared.kdc_table.KdcEntry.{KdcEntry}
+use Rattle.sspi_names.specs.Kdcs.{url_of}
+use Rattle.sspi_names.specs.Utf16.{text_of}
+use Rattle.sspi_mech.specs.declared.step.Reply.{Reply}
+use Rattle.sspi_mech.specs.declared.step.Reply.TheVariants.{Answered}
+use Rattle.sspi_mech.specs.KerberosLogon.{request_at}
+use Rattle.sspi_mech.specs.KerberosMessages.{as_request, as_reply, tgs_request, tgs_reply}
+use Rattle.sspi_mech.specs.PlainKdc.{first_key, session_key, told_by}
+use Rattle.sspi_mech.proofs.Opened.{same_bytes}
+use Rattle.sspi_tokens.specs.Oids.{kind_of}
+use Rattle.sspi_negotiate.specs.declared.pick.Choice.TheVariants as choices
+use Rattle.sspi_negotiate.specs.declared.protocol.Protocol.TheVariants as protocols
+use Rattle.sspi_negotiate.specs.declared.protocol_config.ProtocolConfig.TheVariants as configs
+use Rattle.sspi_negotiate.specs.Hand.{Origin, Configured}
+use Rattle.sspi_negotiate.specs.IpText.{IsIpText, IsTail}
+use Rattle.sspi_negotiate.specs.Pick.{pick, offered}
+use Rattle.sspi_negotiate.specs.Rows.{is_guest_text}
+use Rattle.sspi_negotiate.specs.Target.{IsNamedByIp}
+use Rattle.sspi_completeness.specs.Examples.{example_target, example_ntlm, example_kerberos, example_ticket, example_kdc}
+use Rattle.sspi_negotiate.specs.Rule.{url_for}
+use Rattle.sspi_completeness.specs.Negotiating.{AreNegotiating, HasFirstKey, begins_with, messages_by}
+
+-- ---- the target
+
+abbrev host : List ℕ
+host = codes "host.example.com"
+
+abbrev has_colon : List ℕ → Bool
+has_colon [] = false
+has_colon (b ∷ text) = (b == 58) || has_colon text
+
+colon_found : (head tail : List ℕ) → has_colon (head ++ 58 ∷ tail) ≡ true
+colon_found [] tail = refl
+colon_found (b ∷ head) tail = at (b == 58) (has_colon (head ++ 58 ∷ tail)) (colon_found head tail)
+  where
+    at : (x y : Bool) → y ≡ true → (x || y) ≡ true
+    at true y found = refl
+    at false y found = found
+
+never_tail : IsTail host 8 → ⊥
+never_tail (inl (inl none)) = omega (arith, none.1)
+never_tail (inl (inr groups)) = let n : 8 ≡ 1 = groups.counted in omega (arith, n)
+never_tail (inr ends) =
+    let n : 1 ≡ length (ends.front ++ ends.last ∷ []) = ap length ends.parts in
+    let m = length-append ends.front (ends.last ∷ []) in
+    omega (arith, n, m, ends.counted)
+
+never_ip : IsIpText host → ⊥
+never_ip (inl four) = let n : 3 ≡ 4 = four.four in omega (arith, n)
+never_ip (inr (inl tail)) = never_tail tail
+never_ip (inr (inr elided)) =
+    let never : false ≡ true = ap has_colon elided.parts ∙ colon_found elided.head (58 ∷ elided.tail) in cc
+
+not_named : IsTrue false ↔ IsNamedByIp (Some example_target)
+not_named = (λ is. absurd (cc (is)), λ named. absurd (never_ip named))
+
+-- ---- the KDC
+
+length-first_key : (name : List ℕ) → length (first_key name) ≡ 32
+unfolding first_key
+length-first_key name = length-sha256 _
+
+length-session_key : (both : List ℕ) → length (session_key both) ≡ 32
+unfolding session_key
+length-session_key both = length-sha256 _
+
+first_replied : (name url : List ℕ) (call : ℕ) →
+    told_by (name ∷ []) [] call (request_at url (as_request name)) ≡ Answered (as_reply (first_key name))
+first_replied name url call = rw (same_bytes name name refl) refl
+
+session_replied : (users : List (List ℕ)) (key ticket url : List ℕ) (call : ℕ) → length key ≡ 32 → length ticket ≡ 32 →
+    told_by users [] call (request_at url (tgs_request key ticket)) ≡ Answered (tgs_reply (session_key (key ++ ticket)))
+session_replied users key ticket url call one two =
+    let both : length (key ++ ticket) ≡ 64 = omega (arith, length-append key ticket, one, two) in rw both refl
+
+abbrev first_served : (identity : AuthIdentity) (url : List ℕ) → HasFirstKey (example_kdc identity) 0 (Some url) identity.username
+first_served identity url = record {
+  at = url;
+  url_is = refl;
+  replies = told_by (inner_of identity.username ∷ []) [];
+  tells = refl;
+  key = first_key (inner_of identity.username);
+  key_length = length-first_key (inner_of identity.username);
+  reply = first_replied (inner_of identity.username) url 0;
+}
+
+-- ---- the picks
+
+picked_kerberos : pick (offered protocols.Kerberos (record { ntlm = true; kerberos = true })) (record { ntlm = true; kerberos = true })
+    protocols.Kerberos ≡ Some (record { choice = choices.MsKerberos; index = 0 })
+unfolding kind_of
+picked_kerberos = refl
+
+picked_ntlm : pick (offered protocols.Kerberos (record { ntlm = true; kerberos = true })) (record { ntlm = true; kerberos = true })
+    protocols.Ntlm ≡ Some (record { choice = choices.Ntlm; index = 2 })
+unfolding kind_of
+picked_ntlm = refl
+
+picked_first : pick (offered protocols.Ntlm (record { ntlm = true; kerberos = true })) (record { ntlm = true; kerberos = true })
+    protocols.Ntlm ≡ Some (record { choice = choices.Ntlm; index = 0 })
+unfolding kind_of
+picked_first = refl
+
+-- ---- the ends
+
+-- an empty table serves no domain
+none_served : (domain : List ℕ) → url_of [] domain ≡ None
+unfolding url_of
+none_served domain = at (length domain == 0)
+  where
+    at : (b : Bool) → (if b then None else option_map (λ (entry : KdcEntry). entry.url) None) ≡ None
+    at true = refl
+    at false = refl
+
+never_served : (domain : Option (List ℕ)) → protocols.Ntlm ≡ begins_with false (record { ntlm = true; kerberos = true }) protocols.Ntlm
+    (url_for [] domain)
+never_served None = refl
+never_served (Some domain) =
+    ap (λ (url : Option (List ℕ)). begins_with false (record { ntlm = true; kerberos = true }) protocols.Ntlm url) (sym (none_served domain))
+
+abbrev ntlm_hand : List ℕ → Origin
+ntlm_hand computer = Configured (configs.Ntlm (record { client_computer_name = Some computer; challenge = replicate 8 0 }))
+
+abbrev kerberos_hand : List ℕ → List ℕ → Origin
+kerberos_hand url computer = Configured (configs.Kerberos (record { kdc_url = Some url; kdcs = []; client_computer_name = computer }))
+
+abbrev ticket_hand : List ℕ → List ℕ → Origin
+ticket_hand ticket computer = Configured
+    (configs.KerberosServer (record { kdc_url = None; kdcs = []; client_computer_name = computer }) (record { ticket = Some ticket }))
+
+pub kerberos_ends : (identity : AuthIdentity) (url ticket computer : List ℕ) → length ticket ≡ 32 →
+    (ends : AreNegotiating (example_kdc identity) 0 (example_kerberos url computer) (example_ticket ticket computer) example_target identity)
+    × (messages_by ends.begins ends.picked.choice ≡ 4)
+kerberos_ends identity url ticket computer long = (
+  record {
+    client_hand = kerberos_hand url computer;
+    server_hand = ticket_hand ticket computer;
+    client_first = refl;
+    server_first = refl;
+    ip = false;
+    ip_is = not_named;
+    begins = protocols.Kerberos;
+    begins_is = refl;
+    picked = record { choice = choices.MsKerberos; index = 0 };
+    picks = picked_kerberos;
+    needs = record {
+      first = first_served identity url;
+      sent = ticket;
+      ticket_is = refl;
+      ticket_length = long;
+      key = session_key (first_key (inner_of identity.username) ++ ticket);
+      key_length = length-session_key (first_key (inner_of identity.username) ++ ticket);
+      reply = session_replied (inner_of identity.username ∷ []) (first_key (inner_of identity.username)) ticket url 1
+          (length-first_key (inner_of identity.username)) long;
+    };
+  },
+  refl,
+)
+
+pub changed_ends : (identity : AuthIdentity) (url computer : List ℕ) → is_guest_text (text_of (buffers_of identity).user) ≡ false →
+    (ends : AreNegotiating (example_kdc identity) 0 (example_kerberos url computer) (example_ntlm computer) example_target identity)
+    × (messages_by ends.begins ends.picked.choice ≡ 5)
+changed_ends identity url computer no_guest = (
+  record {
+    client_hand = kerberos_hand url computer;
+    server_hand = ntlm_hand computer;
+    client_first = refl;
+    server_first = refl;
+    ip = false;
+    ip_is = not_named;
+    begins = protocols.Kerberos;
+    begins_is = refl;
+    picked = record { choice = choices.Ntlm; index = 2 };
+    picks = picked_ntlm;
+    needs = (first_served identity url, record { no_guest = no_guest; challenge = refl });
+  },
+  refl,
+)
+
+pub ntlm_ends : (told : Option (ℕ → NetworkRequest → Reply)) (call : ℕ) (identity : AuthIdentity) (computer : List ℕ) →
+    is_guest_text (text_of (buffers_of identity).user) ≡ false →
+    (ends : AreNegotiating told call (example_ntlm computer) (example_ntlm computer) example_target identity)
+    × (messages_by ends.begins ends.picked.choice ≡ 4)
+ntlm_ends told call identity computer no_guest = (
+  record {
+    client_hand = ntlm_hand computer;
+    server_hand = ntlm_hand computer;
+    client_first = refl;
+    server_first = refl;
+    ip = false;
+    ip_is = not_named;
+    begins = protocols.Ntlm;
+    begins_is = never_served (domain_of identity.username);
+    picked = record { choice = choices.Ntlm; index = 0 };
+    picks = picked_first;
+    needs = record { no_guest = no_guest; challenge = refl };
+  },
+  refl,
+)
