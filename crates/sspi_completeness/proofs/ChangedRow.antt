@@ -27,7 +27,8 @@ use Rattle.sspi_completeness.proofs.NtlmSteps as by_ntlm
 use Rattle.sspi_completeness.proofs.Runs.{M, Ends, runs, made_of}
 use Rattle.sspi_completeness.proofs.SpnegoBegins.{led_ntlm, led_kerberos}
 use Rattle.sspi_completeness.proofs.SpnegoEnds.{named_by, at_rest, Leads, at_once}
-use Rattle.sspi_completeness.proofs.SpnegoTokens.{offer, list_text, init_text, init_text_short, targ_text, targ_text_short, targ_text_speaks}
+use Rattle.sspi_completeness.proofs.SpnegoTokens.{offer, list_text, init_text, init_text_short, targ_text, targ_text_short}
+use Rattle.sspi_completeness.proofs.SpnegoTokens.{targ_text_speaks}
 use Rattle.sspi_completeness.proofs.Rows.{IsPick, OfKerberos, ntlm_knows, short, mine, new, v_of}
 use Rattle.sspi_completeness.proofs.Rows.{first_args, picked, server_picks, key}
 use Rattle.sspi_completeness.proofs.KerberosStart.{start, offering, paired, first_leads, told_token}
@@ -111,16 +112,19 @@ module _ {D P : Type 0} (meet : Meeting D P) where
     server_objects_c (suc (suc n)) = by_ntlm.keyed_by i challenge 1 1
 
     leads_c : (n : ℕ) → n ≤ 2 → Leads (told kdc_first) (counted_on (calls kdc_first))
-        (runs (spnego_client come.ip (named_by (client_values_at_c n) (client_objects_c n)) ((told_token meet by first) (server_steps_c n).output)) (client_objects_c n))
+        (runs (spnego_client come.ip (named_by (client_values_at_c n) (client_objects_c n))
+        ((told_token meet by first) (server_steps_c n).output)) (client_objects_c n))
         (client_values_at_c (suc n)) (client_steps_c (suc n)) (client_objects_c (suc n)) (counted_on (calls kdc_first))
     leads_c zero less = at_once
         (led_kerberos client_config i matching.identity_is come.ip (record { ntlm = true; kerberos = true }) states.InProgress
         (offer Kerberos true) true ((told_token meet by first) (server_steps_c 0).output) (paired meet by first) refl refl away
-        ∙ by_ntlm.changes client_config i matching.identity_is (short meet) suits.no_guest challenge suits.challenge Kerberos true a.target (paired meet by first))
+        ∙ by_ntlm.changes client_config i matching.identity_is (short meet) suits.no_guest challenge suits.challenge Kerberos true
+        a.target (paired meet by first))
     leads_c (suc zero) less = at_once
         (led_ntlm client_config i matching.identity_is come.ip states.InProgress (offer Kerberos true) true
         ((told_token meet by first) (server_steps_c 1).output) (client_objects_c 1) refl refl
-        ∙ by_ntlm.answers_challenge client_config i matching.identity_is (short meet) suits.no_guest challenge suits.challenge Kerberos a.target
+        ∙ by_ntlm.answers_challenge client_config i matching.identity_is (short meet) suits.no_guest challenge suits.challenge Kerberos
+        a.target
         zeros)
     leads_c (suc (suc zero)) less = at_once
         (led_ntlm client_config i matching.identity_is come.ip states.VerifyMic (offer Kerberos true) true
@@ -129,11 +133,14 @@ module _ {D P : Type 0} (meet : Meeting D P) where
     leads_c (suc (suc (suc n))) less = absurd (omega (arith, less))
 
     accepts_c : (n : ℕ) → suc n ≤ 2 →
-        runs (spnego_server (named_by (server_values_at_c n) (server_objects_c n)) (server_args None (Some (client_steps_c (suc n)).output))) (server_objects_c n) ≡
+        runs (spnego_server (named_by (server_values_at_c n) (server_objects_c n))
+        (server_args None (Some (client_steps_c (suc n)).output))) (server_objects_c n) ≡
         Ends (server_values_at_c (suc n)) (server_steps_c (suc n)) (server_objects_c (suc n))
-    accepts_c zero less = by_ntlm.server_challenges server_config matching.entries i matching.identity_is (short meet) challenge suits.challenge
+    accepts_c zero less = by_ntlm.server_challenges server_config matching.entries i matching.identity_is (short meet) challenge
+        suits.challenge
         matching.entry Kerberos
-    accepts_c (suc zero) less = by_ntlm.server_ends server_config matching.entries i matching.identity_is (short meet) challenge suits.challenge
+    accepts_c (suc zero) less = by_ntlm.server_ends server_config matching.entries i matching.identity_is (short meet) challenge
+        suits.challenge
         matching.entry Kerberos
     accepts_c (suc (suc n)) less = absurd (omega (arith, less))
 
@@ -177,7 +184,8 @@ module _ {D P : Type 0} (meet : Meeting D P) where
         (client_values_at_c 0) (client_steps_c 0) (client_objects_c 0) (counted_on (calls kdc_first))
     first_changes = subst (λ (n : Bool). Leads (told kdc_first) (calls kdc_first)
         (runs (spnego_client come.ip ((v_of meet) (hand_of (new meet)) (mine meet) states.Initial [] true) (first_args meet)) (new meet))
-        ((offering meet by first) n) (record { status = statuses.ContinueNeeded; output = init_text Kerberos n }) (paired meet by first) (counted_on (calls kdc_first)))
+        ((offering meet by first) n) (record { status = statuses.ContinueNeeded; output = init_text Kerberos n }) (paired meet by first)
+        (counted_on (calls kdc_first)))
         change_is.0 (first_leads meet by first)
 
     pub changed_course : Course 2 true

@@ -1,5 +1,6 @@
 -- From the evaluated steps of both ends of a negotiation to all that the exchange needs of it.
-use Rattle.std.proofs.Common.{◌≡◌, ◌≢◌, ◌↔◌, ℕ, zero, suc, ◌-◌, ◌≤◌, ◌<◌, ◌^◌, Bool, true, false, IsTrue, List, [], ◌∷◌, length, map, Option, None, Some}
+use Rattle.std.proofs.Common.{◌≡◌, ◌≢◌, ◌↔◌, ℕ, zero, suc, ◌-◌, ◌≤◌, ◌<◌, ◌^◌, Bool, true, false, IsTrue, List, [], ◌∷◌, length, map}
+use Rattle.std.proofs.Common.{Option, None, Some}
 use Rattle.std.proofs.Common.{Result, Ok, refl, ap, sym, ◌∙◌, subst, arith}
 use Rattle.std.specs.Result.{result_err}
 use Rattle.sspi_types.specs.declared.credential_use.CredentialUse.{CredentialUse}
@@ -45,7 +46,8 @@ use Rattle.sspi_credssp.specs.Context.{ContextSetting, ForClient, ForServer}
 use Rattle.sspi_credssp.specs.Counts.{cleared}
 use Rattle.sspi_credssp.specs.Proxy.{ProxyMeaning, ProxyTells, AreFound, AreCandidates, IsTold, candidates_of}
 use Rattle.sspi_credssp.specs.Server.{ServerView}
-use Rattle.sspi_credssp.specs.ServerCause.{MakeCause, unlisted, unbegun, ListRefused, failed, nobody, IdentifyCause, nameless, looked, unset}
+use Rattle.sspi_credssp.specs.ServerCause.{MakeCause, unlisted, unbegun, ListRefused, failed, nobody, IdentifyCause, nameless, looked}
+use Rattle.sspi_credssp.specs.ServerCause.{unset}
 use Rattle.sspi_credssp.specs.ServerStep.{IsIdentified, is_identified, server_args, server_setting}
 use Rattle.sspi_credssp.specs.ServerTurn.{SameServer}
 use Rattle.sspi_credssp.specs.Shown.{IsOver}
@@ -299,7 +301,8 @@ module _ {D P : Type 0} (meet : Meeting D P) where
         walks_by told calls faults laws old kdc_first kdc (Some (it.server_step n).output) (it.client_value n) (it.client_value (suc n))
         (it.client_object n) (it.client_object (suc n)) (it.client_step (suc n)) handle (it.call n) (it.call (suc n)) at
         (it.client_rests (suc n))
-        (λ g m begun. let w = went_on _ _ _ _ g m (holding (it.client_value n) (it.client_object n)) Outbound there begun in (w.0, w.1 ∙ had))
+        (λ g m begun. let w = went_on _ _ _ _ g m (holding (it.client_value n) (it.client_object n)) Outbound there begun in
+        (w.0, w.1 ∙ had))
         _ (it.leads n less)
         (λ ip is. ap (λ (x : Bool). runs (spnego_client x v (client_args handle old.target (Some (it.server_step n).output)))
         (it.client_object n))
@@ -320,7 +323,8 @@ module _ {D P : Type 0} (meet : Meeting D P) where
     takes n old less same there had =
         takes_by laws p old (Some (it.client_step (suc n)).output) (it.server_value n) (it.server_value (suc n)) (it.server_object n)
         (it.server_object (suc n)) (it.server_step (suc n)) (it.server_rests (suc n))
-        (λ g m begun. let w = went_on _ _ _ _ g m (holding (it.server_value n) (it.server_object n)) Inbound there begun in (w.0, w.1 ∙ had))
+        (λ g m begun. let w = went_on _ _ _ _ g m (holding (it.server_value n) (it.server_object n)) Inbound there begun in
+        (w.0, w.1 ∙ had))
         (it.accepts n less)
 
     -- ---- the peer, whom the server knows already
@@ -365,7 +369,8 @@ module _ {D P : Type 0} (meet : Meeting D P) where
         let never : [] ≡ matching.entry.entry ∷ some.0 = found_so name [] (sym named ∙ named_so y rest) none ∙ some.1 in cc
     identify_never y before now kind rest still few (unset name identities named found some refuses) =
         let never : None ≡ Some kind =
-        ap result_err (sym (knows_so y name identities rest named found)) ∙ unidentified y (map credentials.AuthIdentity identities) kind refuses
+        ap result_err (sym (knows_so y name identities rest named found)) ∙ unidentified y (map credentials.AuthIdentity identities)
+        kind refuses
         in cc
 
     peer : IsPeer c laws tells peer_context peer_context

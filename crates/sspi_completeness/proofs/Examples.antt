@@ -125,7 +125,8 @@ never_served : (domain : Option (List ℕ)) → protocols.Ntlm ≡ begins_with f
     (url_for [] domain)
 never_served None = refl
 never_served (Some domain) =
-    ap (λ (url : Option (List ℕ)). begins_with false (record { ntlm = true; kerberos = true }) protocols.Ntlm url) (sym (none_served domain))
+    ap (λ (url : Option (List ℕ)). begins_with false (record { ntlm = true; kerberos = true }) protocols.Ntlm url)
+    (sym (none_served domain))
 
 abbrev ntlm_hand : List ℕ → Origin
 ntlm_hand computer = Configured (configs.Ntlm (record { client_computer_name = Some computer; challenge = replicate 8 0 }))
@@ -138,7 +139,8 @@ ticket_hand ticket computer = Configured
     (configs.KerberosServer (record { kdc_url = None; kdcs = []; client_computer_name = computer }) (record { ticket = Some ticket }))
 
 pub kerberos_ends : (identity : AuthIdentity) (url ticket computer : List ℕ) → length ticket ≡ 32 →
-    (ends : AreNegotiating (example_kdc identity) 0 (example_kerberos url computer) (example_ticket ticket computer) example_target identity)
+    (ends : AreNegotiating (example_kdc identity) 0 (example_kerberos url computer) (example_ticket ticket computer) example_target
+    identity)
     × (messages_by ends.begins ends.picked.choice ≡ 4)
 kerberos_ends identity url ticket computer long = (
   record {

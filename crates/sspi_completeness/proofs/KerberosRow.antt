@@ -59,7 +59,8 @@ module _ {D P : Type 0} (meet : Meeting D P) where
     abbrev found_by : url_by start_by.realms.kdc_url start_by.realms.kdcs i.username ≡ Some session.first.at
     found_by = found meet by session.first
 
-    holds_ticket : (realms : Realms) × (made_of come.server_hand ≡ hands.Kerberos (kerberos_with realms.kdc_url realms.kdcs (Some session.sent)))
+    holds_ticket : (realms : Realms) × (made_of come.server_hand ≡ hands.Kerberos
+        (kerberos_with realms.kdc_url realms.kdcs (Some session.sent)))
     holds_ticket = with_ticket come.server_hand session.sent session.ticket_is
 
     abbrev realms : Realms
@@ -99,14 +100,16 @@ module _ {D P : Type 0} (meet : Meeting D P) where
     client_values_k (suc (suc n)) = (v_of meet) Kerberos only states.Ok list true
 
     abbrev sent_k : KerberosState
-    sent_k = by_kerberos.session_sent client_config i matching.identity_is (short meet) start_by.realms start_by.ticket session.first.at found_by
+    sent_k = by_kerberos.session_sent client_config i matching.identity_is (short meet) start_by.realms start_by.ticket session.first.at
+        found_by
         (mine meet).ntlm session.first.key session.first.key_length session.sent session.ticket_length session_key session.key_length
 
     abbrev client_objects_k : ℕ → M
     client_objects_k zero = paired meet by session.first
     client_objects_k (suc zero) = hands.Kerberos sent_k
     client_objects_k (suc (suc n)) = hands.Kerberos (by_kerberos.ended client_config i matching.identity_is (short meet) start_by.realms
-        start_by.ticket session.first.at found_by (mine meet).ntlm session.first.key session.first.key_length session.sent session.ticket_length
+        start_by.ticket session.first.at found_by (mine meet).ntlm session.first.key session.first.key_length session.sent
+        session.ticket_length
         session_key session.key_length 1 1)
 
     abbrev server_values_k : ℕ → Values
@@ -119,7 +122,8 @@ module _ {D P : Type 0} (meet : Meeting D P) where
         session.ticket_length session_key session.key_length (mine meet).ntlm
 
     abbrev server_objects_k : ℕ → M
-    server_objects_k zero = hands.Kerberos (by_kerberos.ticket_sent server_config matching.entries i matching.identity_is (short meet) matching.entry
+    server_objects_k zero = hands.Kerberos (by_kerberos.ticket_sent server_config matching.entries i matching.identity_is (short meet)
+        matching.entry
         realms session.sent session.ticket_length session_key session.key_length (mine meet).ntlm)
     server_objects_k (suc zero) = hands.Kerberos (admitted 1 0)
     server_objects_k (suc (suc n)) = hands.Kerberos (admitted 1 1)
@@ -138,17 +142,23 @@ module _ {D P : Type 0} (meet : Meeting D P) where
         asking session.first.replies
         (by_kerberos.answering client_config i matching.identity_is (short meet) start_by.realms start_by.ticket session.first.at found_by
         (mine meet).ntlm session.first.key session.first.key_length session.sent session.ticket_length session_key session.key_length)
-        (by_kerberos.second_question client_config i matching.identity_is (short meet) start_by.realms start_by.ticket session.first.at found_by
+        (by_kerberos.second_question client_config i matching.identity_is (short meet) start_by.realms start_by.ticket session.first.at
+        found_by
         (mine meet).ntlm session.first.key session.first.key_length session.sent session.ticket_length session_key session.key_length)
-        (by_kerberos.session_asked client_config i matching.identity_is (short meet) start_by.realms start_by.ticket session.first.at found_by
+        (by_kerberos.session_asked client_config i matching.identity_is (short meet) start_by.realms start_by.ticket session.first.at
+        found_by
         (mine meet).ntlm session.first.key session.first.key_length session.sent session.ticket_length session_key session.key_length)
         (tgs_reply session_key) (λ sealed unsealed. hands.Kerberos (used sent_k sealed unsealed)) session.first.tells
-        (led_kerberos client_config i matching.identity_is come.ip (record { ntlm = (mine meet).ntlm; kerberos = true }) states.InProgress list true
+        (led_kerberos client_config i matching.identity_is come.ip (record { ntlm = (mine meet).ntlm; kerberos = true })
+        states.InProgress list true
         (given_k 0) (client_objects_k 0) refl refl start_by.aside
-        ∙ by_kerberos.asks_session client_config i matching.identity_is (short meet) start_by.realms start_by.ticket session.first.at found_by
-        (mine meet).ntlm session.first.key session.first.key_length session.sent session.ticket_length session_key session.key_length a.target)
+        ∙ by_kerberos.asks_session client_config i matching.identity_is (short meet) start_by.realms start_by.ticket session.first.at
+        found_by
+        (mine meet).ntlm session.first.key session.first.key_length session.sent session.ticket_length session_key session.key_length
+        a.target)
         session.reply
-        (by_kerberos.sends_session client_config i matching.identity_is (short meet) start_by.realms start_by.ticket session.first.at found_by
+        (by_kerberos.sends_session client_config i matching.identity_is (short meet) start_by.realms start_by.ticket session.first.at
+        found_by
         (mine meet).ntlm session.first.key session.first.key_length session.sent session.ticket_length session_key session.key_length)
         (λ sealed unsealed. refl)
 
@@ -157,10 +167,12 @@ module _ {D P : Type 0} (meet : Meeting D P) where
         (client_values_k (suc n)) (client_steps_k (suc n)) (client_objects_k (suc n)) (calls_k (suc n))
     leads_k zero less = second_leads
     leads_k (suc zero) less = at_once
-        (led_kerberos client_config i matching.identity_is come.ip only states.InProgress list true (given_k 1) (client_objects_k 1) refl refl
+        (led_kerberos client_config i matching.identity_is come.ip only states.InProgress list true (given_k 1) (client_objects_k 1)
+        refl refl
         (and_false come.ip)
         ∙ by_kerberos.ends client_config i matching.identity_is (short meet) start_by.realms start_by.ticket session.first.at found_by
-        (mine meet).ntlm session.first.key session.first.key_length session.sent session.ticket_length session_key session.key_length a.target)
+        (mine meet).ntlm session.first.key session.first.key_length session.sent session.ticket_length session_key session.key_length
+        a.target)
     leads_k (suc (suc n)) less = absurd (omega (arith, less))
 
     accepts_first_k :
@@ -177,11 +189,13 @@ module _ {D P : Type 0} (meet : Meeting D P) where
         ∙ (server_picks meet) _ picks_it)
 
     accepts_k : (n : ℕ) → suc n ≤ 2 →
-        runs (spnego_server (named_by (server_values_k n) (server_objects_k n)) (server_args None (Some (client_steps_k (suc n)).output))) (server_objects_k n) ≡
+        runs (spnego_server (named_by (server_values_k n) (server_objects_k n))
+        (server_args None (Some (client_steps_k (suc n)).output))) (server_objects_k n) ≡
         Ends (server_values_k (suc n)) (server_steps_k (suc n)) (server_objects_k (suc n))
     accepts_k zero less = by_kerberos.server_shows server_config matching.entries i matching.identity_is (short meet) matching.entry realms
         session.sent session.ticket_length session_key session.key_length (mine meet).ntlm
-    accepts_k (suc zero) less = by_kerberos.server_ends server_config matching.entries i matching.identity_is (short meet) matching.entry realms
+    accepts_k (suc zero) less = by_kerberos.server_ends server_config matching.entries i matching.identity_is (short meet)
+        matching.entry realms
         session.sent session.ticket_length session_key session.key_length (mine meet).ntlm
     accepts_k (suc (suc n)) less = absurd (omega (arith, less))
 

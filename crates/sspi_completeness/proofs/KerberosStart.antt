@@ -52,31 +52,39 @@ module _ {D P : Type 0} (meet : Meeting D P) where
     offering ntlm = (v_of meet) Kerberos (record { ntlm = ntlm; kerberos = true }) states.InProgress (offer Kerberos ntlm) true
 
     abbrev pub paired : M
-    paired = hands.Kerberos (by_kerberos.paired client_config i matching.identity_is (short meet) start.realms start.ticket first.at found (mine meet).ntlm
+    paired = hands.Kerberos (by_kerberos.paired client_config i matching.identity_is (short meet) start.realms start.ticket first.at
+        found (mine meet).ntlm
         first.key first.key_length)
 
     abbrev pub asked : KerberosState
-    asked = by_kerberos.asked client_config i matching.identity_is (short meet) start.realms start.ticket first.at found (mine meet).ntlm first.key
+    asked = by_kerberos.asked client_config i matching.identity_is (short meet) start.realms start.ticket first.at found
+        (mine meet).ntlm first.key
         first.key_length
 
     abbrev pub opening : Values
-    opening = by_kerberos.opening client_config i matching.identity_is (short meet) start.realms start.ticket first.at found (mine meet).ntlm first.key
+    opening = by_kerberos.opening client_config i matching.identity_is (short meet) start.realms start.ticket first.at found
+        (mine meet).ntlm first.key
         first.key_length a.target
 
     abbrev pub first_question : NetworkRequest
-    first_question = by_kerberos.first_question client_config i matching.identity_is (short meet) start.realms start.ticket first.at found (mine meet).ntlm
+    first_question = by_kerberos.first_question client_config i matching.identity_is (short meet) start.realms start.ticket first.at
+        found (mine meet).ntlm
         first.key first.key_length
 
-    pub first_wait : runs (spnego_client come.ip ((v_of meet) (hand_of (new meet)) (mine meet) states.Initial [] true) (first_args meet)) (new meet) ≡
+    pub first_wait : runs (spnego_client come.ip ((v_of meet) (hand_of (new meet)) (mine meet) states.Initial [] true)
+        (first_args meet)) (new meet) ≡
         Waits opening first_question asked
     first_wait =
         (led_first meet)
-        ∙ ap (λ (x : Bool). runs (client_at states.Initial ((v_of meet) (hand_first x (hand_of (new meet))) (packages_first x (mine meet)) states.Initial [] true)
+        ∙ ap (λ (x : Bool). runs (client_at states.Initial
+        ((v_of meet) (hand_first x (hand_of (new meet))) (packages_first x (mine meet)) states.Initial [] true)
         (first_args meet)) (object_first x (hand_of (new meet)) client_config.client_computer_name (new meet))) start.aside
-        ∙ ap (λ (m : M). runs (client_at states.Initial ((v_of meet) (hand_of m) (mine meet) states.Initial [] true) (first_args meet)) m) start.object
+        ∙ ap (λ (m : M). runs (client_at states.Initial ((v_of meet) (hand_of m) (mine meet) states.Initial [] true) (first_args meet))
+        m) start.object
         ∙ ap (λ (k : PackageListConfig). runs (client_at states.Initial ((v_of meet) Kerberos k states.Initial [] true) (first_args meet))
         (hands.Kerberos (kerberos_with start.realms.kdc_url start.realms.kdcs start.ticket))) both_may
-        ∙ by_kerberos.begins client_config i matching.identity_is (short meet) start.realms start.ticket first.at found (mine meet).ntlm first.key
+        ∙ by_kerberos.begins client_config i matching.identity_is (short meet) start.realms start.ticket first.at found (mine meet).ntlm
+        first.key
         first.key_length a.target
 
     pub first_leads : Leads (told kdc_first) (calls kdc_first)
@@ -85,9 +93,11 @@ module _ {D P : Type 0} (meet : Meeting D P) where
         (counted_on (calls kdc_first))
     first_leads =
         asking first.replies opening first_question asked (as_reply first.key)
-        (λ sealed unsealed. hands.Kerberos (used (by_kerberos.paired client_config i matching.identity_is (short meet) start.realms start.ticket
+        (λ sealed unsealed. hands.Kerberos (used
+        (by_kerberos.paired client_config i matching.identity_is (short meet) start.realms start.ticket
         first.at found (mine meet).ntlm first.key first.key_length) sealed unsealed)) first.tells first_wait first.reply
-        (by_kerberos.offers_it client_config i matching.identity_is (short meet) start.realms start.ticket first.at found (mine meet).ntlm first.key
+        (by_kerberos.offers_it client_config i matching.identity_is (short meet) start.realms start.ticket first.at found
+        (mine meet).ntlm first.key
         first.key_length a.target)
         (λ sealed unsealed. refl)
 

@@ -21,7 +21,8 @@ use Rattle.sspi_mech.specs.declared.step.Reply.TheVariants.{Answered}
 use Rattle.sspi_mech.specs.Calls.{StepArgs}
 use Rattle.sspi_mech.specs.Kerberos.{kerberos_with}
 use Rattle.sspi_mech.specs.KerberosLogon.{name_in, name_or, logon_of, url_by, request_at}
-use Rattle.sspi_mech.specs.KerberosMessages.{ticket_request, ticket_reply, ap_request, ap_reply, as_request, as_reply, tgs_request, tgs_reply}
+use Rattle.sspi_mech.specs.KerberosMessages.{ticket_request, ticket_reply, ap_request, ap_reply, as_request, as_reply, tgs_request}
+use Rattle.sspi_mech.specs.KerberosMessages.{tgs_reply}
 use Rattle.sspi_mech.specs.KerberosMessages.{read_ticket}
 use Rattle.sspi_mech.specs.KerberosReplies.{first_key_in, session_key_in}
 use Rattle.sspi_mech.specs.KerberosStage.{KerberosState}
@@ -44,7 +45,8 @@ use Rattle.sspi_negotiate.specs.declared.protocol.NegotiatedProtocol.TheVariants
 use Rattle.sspi_negotiate.specs.declared.protocol.Protocol.TheVariants as protocols
 use Rattle.sspi_negotiate.specs.declared.state.NegotiateState.{NegotiateState}
 use Rattle.sspi_negotiate.specs.declared.state.NegotiateState.TheVariants as states
-use Rattle.sspi_negotiate.specs.Client.{first_step_of, client_at, at_initial, first_step, begun, offers, at_progress, chosen, chooses_kerberos}
+use Rattle.sspi_negotiate.specs.Client.{first_step_of, client_at, at_initial, first_step, begun, offers, at_progress, chosen}
+use Rattle.sspi_negotiate.specs.Client.{chooses_kerberos}
 use Rattle.sspi_negotiate.specs.Client.{answers, stepped, spnego_resumed, resumes_opening, resumes_answering}
 use Rattle.sspi_negotiate.specs.Known.{named}
 use Rattle.sspi_negotiate.specs.Plan.{Goes, Stops, Identifies}
@@ -52,7 +54,8 @@ use Rattle.sspi_negotiate.specs.Rows.{targ, written, writes, signs_text, answers
 use Rattle.sspi_negotiate.specs.Rows.{verifies_text, identifies_among}
 use Rattle.sspi_negotiate.specs.New.{packages_in}
 use Rattle.sspi_negotiate.specs.Pick.{pick}
-use Rattle.sspi_negotiate.specs.Server.{spnego_server, reads_list, picks, placed, first_token as first_accepted, goes_on, without_mic, accepted}
+use Rattle.sspi_negotiate.specs.Server.{spnego_server, reads_list, picks, placed, first_token as first_accepted, goes_on, without_mic}
+use Rattle.sspi_negotiate.specs.Server.{accepted}
 use Rattle.sspi_negotiate.specs.Server as server
 use Rattle.sspi_negotiate.specs.Values.{Values}
 use Rattle.sspi_credssp.specs.ClientStep.{client_args}
@@ -63,7 +66,8 @@ use Rattle.sspi_completeness.proofs.NtlmOutcomes.{some_candidates}
 use Rattle.sspi_completeness.proofs.NtlmSteps.{verified_mic, server_values}
 use Rattle.sspi_completeness.proofs.Runs.{Ends, Waits, runs, on_move, kerberos_move, unless_refused, used}
 use Rattle.sspi_completeness.proofs.SpnegoBegins.{client_values, handle_of}
-use Rattle.sspi_completeness.proofs.SpnegoTokens.{offer, list_text, list_spelled, init_text, init_spelled, init_is, targ_text, targ_spelled, targ_is}
+use Rattle.sspi_completeness.proofs.SpnegoTokens.{offer, list_text, list_spelled, init_text, init_spelled, init_is, targ_text}
+use Rattle.sspi_completeness.proofs.SpnegoTokens.{targ_spelled, targ_is}
 use Rattle.sspi_completeness.proofs.SpnegoTokens.{IsLittle, mic_length}
 
 -- ---- the tokens
@@ -188,7 +192,8 @@ module _ (config : NegotiateConfig) (i : AuthIdentity) (is : IsIdentity i) (shor
   pub offers_it : (target : List ℕ) (sealed unsealed : ℕ) →
       runs (spnego_resumed (opening target) (Answered (as_reply first))) (hands.Kerberos (used asked sealed unsealed)) ≡
       Ends (v_of both states.InProgress list true)
-      (record { status = statuses.ContinueNeeded; output = init_text protocols.Kerberos ntlm }) (hands.Kerberos (used paired sealed unsealed))
+      (record { status = statuses.ContinueNeeded; output = init_text protocols.Kerberos ntlm })
+      (hands.Kerberos (used paired sealed unsealed))
   unfolding resumes_opening offers
   offers_it target sealed unsealed =
       let v = v_of both states.Initial [] true in
@@ -225,7 +230,8 @@ module _ (config : NegotiateConfig) (i : AuthIdentity) (is : IsIdentity i) (shor
         let token = ticket_token ticket in
         let args = args_with target token in
         let v = v_of both states.InProgress list true in
-        ap (λ (o : Option NegTokenTarg). runs (at_progress o v args) (hands.Kerberos paired)) (targ_is token (ticket_little ticket ticket_long))
+        ap (λ (o : Option NegTokenTarg). runs (at_progress o v args) (hands.Kerberos paired))
+        (targ_is token (ticket_little ticket ticket_long))
         ∙ ap (λ (kind : MechKind). runs (chosen (Some kind) token v args) (hands.Kerberos paired)) ((ms_kerberos_is ms_krb5).1 refl)
         ∙ ap (λ (o : Option (List ℕ)). on_move (kerberos_move (steps.takes_ticket paired first o (handle_of i))) answering
         (λ n step. runs (stepped token going step) n)) (ticket_read ticket ticket_long)
@@ -257,7 +263,8 @@ module _ (config : NegotiateConfig) (i : AuthIdentity) (is : IsIdentity i) (shor
         let args = args_with target token in
         let over = v_of alone states.Ok list true in
         let later = completes_signed going [] in
-        ap (λ (o : Option NegTokenTarg). runs (at_progress o going args) (hands.Kerberos session_sent)) (targ_is token (shown_little key text))
+        ap (λ (o : Option NegTokenTarg). runs (at_progress o going args) (hands.Kerberos session_sent))
+        (targ_is token (shown_little key text))
         ∙ ap (λ (o : Result (Unit {0}) ErrorKind). on_move (kerberos_move (steps.ends session_sent i.username o))
         (record going { branch = Answering token }) (λ n step. runs (stepped token going step) n)) (is_shown key)
         ∙ ap (λ (o : Option (List ℕ)). runs (verifies_text (mic_of key FromServer 0 text) o going later) (hands.Kerberos (ended 0 0)))
@@ -315,9 +322,11 @@ module _ (config : NegotiateConfig) (entries : List AuthIdentity) (i : AuthIdent
       let token = name_token i.username key in
       let v = s_of states.InProgress kept_list in
       let later = s_of states.VerifyMic kept_list in
-      ap (λ (o : Option NegTokenTarg). runs (server.at_progress o v (server_args None (Some (targ_text token)))) (hands.Kerberos ticket_sent))
+      ap (λ (o : Option NegTokenTarg). runs (server.at_progress o v (server_args None (Some (targ_text token))))
+      (hands.Kerberos ticket_sent))
       (targ_is token (name_little i.username key short key_long))
-      ∙ ap (λ (o : Result _ ErrorKind). on_move (kerberos_move (steps.admits ticket_sent true o)) v (λ n step. runs (accepted token v step) n))
+      ∙ ap (λ (o : Result _ ErrorKind). on_move (kerberos_move (steps.admits ticket_sent true o)) v
+      (λ n step. runs (accepted token v step) n))
       (arrives i.username key is.name (omega (arith, short)) key_long)
       ∙ ap (λ (o : Option (List ℕ)). runs (signs_text o v (λ mic. written
       (spelled_targ (targ AcceptIncomplete None (Some (ap_reply key)) (Some mic))) v later statuses.ContinueNeeded))

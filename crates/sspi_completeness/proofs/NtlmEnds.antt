@@ -161,7 +161,8 @@ module _ {K : Type 0} (k : Meaning Setting K) where
     taker = record {
       opened = λ m n i text text2 same opens.
           let at = as_ntlm m x same in
-          one_text at.0.protection.key (peer_direction at.0.stage) key peers n i text text2 (subst (λ (z : SspiContext NtlmState K). meaning.opens z i
+          one_text at.0.protection.key (peer_direction at.0.stage) key peers n i text text2
+          (subst (λ (z : SspiContext NtlmState K). meaning.opens z i
           (blob_of key peers n text) text2) at.1 opens);
       never = λ m n text kind same next few refuses.
           let at = as_ntlm m x same in

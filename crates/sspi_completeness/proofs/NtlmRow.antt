@@ -30,7 +30,8 @@ use Rattle.sspi_completeness.proofs.SpnegoBegins.{handle_of, hand_first, package
 use Rattle.sspi_completeness.proofs.SpnegoBegins.{ntlm_begins, served, led}
 use Rattle.sspi_completeness.proofs.SpnegoBegins.{led_ntlm}
 use Rattle.sspi_completeness.proofs.SpnegoEnds.{named_by, at_rest, Leads, at_once}
-use Rattle.sspi_completeness.proofs.SpnegoTokens.{offer, list_text, init_text, init_text_short, targ_text, targ_text_short, targ_text_speaks}
+use Rattle.sspi_completeness.proofs.SpnegoTokens.{offer, list_text, init_text, init_text_short, targ_text, targ_text_short}
+use Rattle.sspi_completeness.proofs.SpnegoTokens.{targ_text_speaks}
 use Rattle.sspi_completeness.proofs.Rows.{IsPick, ntlm_knows, short, mine, url, origin, new, aside, v_of}
 use Rattle.sspi_completeness.proofs.Rows.{first_args, picked, begun, served_none, led_first, server_picks, key}
 
@@ -80,18 +81,22 @@ module _ {D P : Type 0} (meet : Meeting D P) where
     left_none true is none = absurd (cc (none))
     left_none false is none = subst (λ (q : Protocol). served q (mine meet) (url meet) ≡ None) is (served_none meet)
 
-    first_run : runs (spnego_client come.ip ((v_of meet) (hand_of (new meet)) (mine meet) states.Initial [] true) (first_args meet)) (new meet) ≡
+    first_run : runs (spnego_client come.ip ((v_of meet) (hand_of (new meet)) (mine meet) states.Initial [] true) (first_args meet))
+        (new meet) ≡
         Ends ((v_of meet) Ntlm (record { ntlm = true; kerberos = left }) states.InProgress (offer Ntlm true) true)
         (record { status = statuses.ContinueNeeded; output = init_text Ntlm true }) (by_ntlm.sent own)
     first_run =
         (led_first meet)
-        ∙ ap (λ (q : Protocol). runs (client_at states.Initial ((v_of meet) q (packages_first (aside meet) (mine meet)) states.Initial [] true) (first_args meet))
+        ∙ ap (λ (q : Protocol). runs (client_at states.Initial
+        ((v_of meet) q (packages_first (aside meet) (mine meet)) states.Initial [] true) (first_args meet))
         (object_first (aside meet) (hand_of (new meet)) client_config.client_computer_name (new meet))) hand_is_ntlm
         ∙ ap (λ (k : PackageListConfig). runs (client_at states.Initial ((v_of meet) Ntlm k states.Initial [] true) (first_args meet))
         (object_first (aside meet) (hand_of (new meet)) client_config.client_computer_name (new meet))) first_packages
-        ∙ ap (λ (m : M). runs (client_at states.Initial ((v_of meet) Ntlm (record { ntlm = true; kerberos = left }) states.Initial [] true) (first_args meet)) m)
+        ∙ ap (λ (m : M). runs (client_at states.Initial
+        ((v_of meet) Ntlm (record { ntlm = true; kerberos = left }) states.Initial [] true) (first_args meet)) m)
         first_object.1
-        ∙ by_ntlm.begins client_config i matching.identity_is (short meet) suits.no_guest (challenge_of come.server_hand) suits.challenge left
+        ∙ by_ntlm.begins client_config i matching.identity_is (short meet) suits.no_guest (challenge_of come.server_hand)
+        suits.challenge left
         a.target own
 
     abbrev given : List ℕ → StepArgs
@@ -136,7 +141,8 @@ module _ {D P : Type 0} (meet : Meeting D P) where
         let args = given (server_steps 0).output in
         let none : (come.ip && true) ≡ false → served Ntlm (record { ntlm = true; kerberos = left }) (url meet) ≡ None =
         λ away. left_none (aside meet) hand_is_ntlm (ap (λ (n : Bool). come.ip && n) may ∙ away) in
-        led client_config i matching.identity_is come.ip Ntlm (record { ntlm = true; kerberos = left }) states.InProgress (offer Ntlm true) true
+        led client_config i matching.identity_is come.ip Ntlm (record { ntlm = true; kerberos = left }) states.InProgress
+        (offer Ntlm true) true
         args (by_ntlm.sent own) refl refl none
         ∙ at (come.ip && true)
       where
@@ -162,9 +168,11 @@ module _ {D P : Type 0} (meet : Meeting D P) where
     leads (suc (suc n)) less = absurd (omega (arith, less))
 
     accepts : (n : ℕ) → suc n ≤ 1 →
-        runs (spnego_server (named_by (server_values_at n) (server_objects n)) (server_args None (Some (client_steps (suc n)).output))) (server_objects n) ≡
+        runs (spnego_server (named_by (server_values_at n) (server_objects n)) (server_args None (Some (client_steps (suc n)).output)))
+        (server_objects n) ≡
         Ends (server_values_at (suc n)) (server_steps (suc n)) (server_objects (suc n))
-    accepts zero less = by_ntlm.server_ends server_config matching.entries i matching.identity_is (short meet) (challenge_of come.server_hand)
+    accepts zero less = by_ntlm.server_ends server_config matching.entries i matching.identity_is (short meet)
+        (challenge_of come.server_hand)
         suits.challenge matching.entry Ntlm
     accepts (suc n) less = absurd (omega (arith, less))
 
@@ -189,13 +197,15 @@ module _ {D P : Type 0} (meet : Meeting D P) where
     client_short : (n : ℕ) → n ≤ 2 → length (client_steps n).output ≤ 65536
     client_short zero less = init_text_short Ntlm true
     client_short (suc zero) less = targ_text_short (by_ntlm.proof_token i (challenge_of come.server_hand) (key meet) (list_text Ntlm true))
-        (by_ntlm.proof_little i (challenge_of come.server_hand) (key meet) (list_text Ntlm true) (token_length i (challenge_of come.server_hand) (short meet)))
+        (by_ntlm.proof_little i (challenge_of come.server_hand) (key meet) (list_text Ntlm true)
+        (token_length i (challenge_of come.server_hand) (short meet)))
     client_short (suc (suc n)) less = omega arith
 
     server_short : (n : ℕ) → n ≤ 1 → length (server_steps n).output ≤ 65536
     server_short zero less = targ_text_short (by_ntlm.challenge_token (Some ntlm_ssp) (challenge_of come.server_hand))
         (by_ntlm.some_challenge_little (challenge_of come.server_hand) suits.challenge)
-    server_short (suc n) less = targ_text_short (by_ntlm.end_token (key meet) (list_text Ntlm true)) (by_ntlm.end_little (key meet) (list_text Ntlm true))
+    server_short (suc n) less = targ_text_short (by_ntlm.end_token (key meet) (list_text Ntlm true))
+        (by_ntlm.end_little (key meet) (list_text Ntlm true))
 
     pub ntlm_course : Course 1 true
     ntlm_course = record {

@@ -193,7 +193,8 @@ module _ (config : NegotiateConfig) (i : AuthIdentity) (is : IsIdentity i) (shor
     unfolding answers answers_signed writes
     proves choice target own =
         let token = challenge_token choice challenge in
-        ap (λ (o : Outcome). on_move (ntlm_move o) (record going { branch = Answering token }) (λ n step. runs (stepped token going step) n))
+        ap (λ (o : Outcome). on_move (ntlm_move o) (record going { branch = Answering token })
+        (λ n step. runs (stepped token going step) n))
         (client_outcome (record { challenge = own; stage = NegotiateSent; protection = no_protection }) NegotiateSent (handle_of i)
         (challenge_message challenge) challenge i is (omega (arith, short)) eight refl refl refl)
         ∙ ap (λ (o : Option (List ℕ)). runs (signs_text o going (λ mic. written
@@ -313,13 +314,15 @@ module _ (config : NegotiateConfig) (entries : List AuthIdentity) where
     some_found e rest = ne_eqb _ 0 (λ none. omega (arith, none))
 
     -- the client's MIC is verified, and the own one is made
-    closes : runs (verifies (mic_of (key i challenge) FromClient 0 kept_text) working (completes_signed working [])) (keyed_by i challenge 0 0) ≡
+    closes : runs (verifies (mic_of (key i challenge) FromClient 0 kept_text) working (completes_signed working []))
+        (keyed_by i challenge 0 0) ≡
         Ends (server_values protocols.Ntlm states.Ok kept_list)
         (record { status = statuses.Ok; output = targ_text (end_token (key i challenge) kept_text) }) (keyed_by i challenge 1 1)
     unfolding answers_signed writes
     closes =
         let over = server_values protocols.Ntlm states.Ok kept_list in
-        ap (λ (o : Option (List ℕ)). runs (verifies_text (mic_of (key i challenge) FromClient 0 kept_text) o working (completes_signed working []))
+        ap (λ (o : Option (List ℕ)). runs (verifies_text (mic_of (key i challenge) FromClient 0 kept_text) o working
+        (completes_signed working []))
         (keyed_by i challenge 0 0)) (list_spelled first true)
         ∙ ap (λ (o : Option ErrorKind). unless_refused o (runs (completes_signed working []) (keyed_by i challenge 0 1)))
         (verified_mic (key i challenge) FromClient kept_text)
@@ -348,7 +351,8 @@ module _ (config : NegotiateConfig) (entries : List AuthIdentity) where
         ∙ ap (λ (l : List AuthIdentity). runs (identifies_among (map credentials.AuthIdentity l) working checked)
         (hands.Ntlm (claimed i challenge))) (named_are ∙ some.1)
         ∙ ap (λ (b : Bool). runs (if b then Stops working NoCredentials
-        else Identifies (map credentials.AuthIdentity (e ∷ some.0)) working checked) (hands.Ntlm (claimed i challenge))) (some_found e some.0)
+        else Identifies (map credentials.AuthIdentity (e ∷ some.0)) working checked) (hands.Ntlm (claimed i challenge)))
+        (some_found e some.0)
         ∙ ap (λ (o : Result NtlmState ErrorKind). on_made (with_ntlm o) (λ n. runs checked n))
         (ap (ntlm.identified (claimed i challenge)) (all_have (e ∷ some.0))
         ∙ keyed (claimed i challenge) (e ∷ some.0) entries i challenge has refl refl (sym some.1))
@@ -367,45 +371,46 @@ module _ (config : NegotiateConfig) (entries : List AuthIdentity) where
         (targ_spelled (challenge_token None challenge) (challenge_little challenge eight))
 
 -- its first step, by what it has in hand at first
-module _ (config : NegotiateConfig) (entries : List AuthIdentity) (i : AuthIdentity) (o : Origin) (eight : length (challenge_of o) ≡ 8) where
-  -- it picks the mechanism that the client began with
-  pub server_begins :
-      pick (offer protocols.Ntlm true) (packages_in config) (hand_of (made_of o)) ≡ Some (record { choice = choices.Ntlm; index = 0 }) →
-      runs (spnego_server (server_values config entries (hand_of (made_of o)) states.Initial [])
-      (server_args None (Some (init_text protocols.Ntlm true)))) (made_of o) ≡
-      Ends (server_values config entries protocols.Ntlm states.InProgress (offer protocols.Ntlm true))
-      (record { status = statuses.ContinueNeeded; output = targ_text (challenge_token (Some ntlm_ssp) (challenge_of o)) })
-      (challenged i (challenge_of o))
-  unfolding reads_list picks placed first_accepted goes_on writes
-  server_begins picked =
-      let v = server_values config entries (hand_of (made_of o)) states.Initial in
-      let v2 = server_values config entries protocols.Ntlm in
-      let list = offer protocols.Ntlm true in
-      let args = server_args None (Some (init_text protocols.Ntlm true)) in
-      let p : Picked = record { choice = choices.Ntlm; index = 0 } in
-      ap (λ (x : Option NegTokenInit). runs (server.at_initial x (v []) args) (made_of o)) (init_is protocols.Ntlm true)
-      ∙ ap (λ (x : Option Picked). runs (picks x list (Some negotiate_message) (v []) args) (made_of o)) picked
-      ∙ ntlm_taken o config.client_computer_name (placed (Some negotiate_message) p (v2 states.Initial list) args)
-      ∙ ap (λ (x : Option (List ℕ)). runs (written x (v2 states.Initial list) (v2 states.InProgress list) statuses.ContinueNeeded)
-      (challenged i (challenge_of o)))
-      (targ_spelled (challenge_token (Some ntlm_ssp) (challenge_of o)) (some_challenge_little (challenge_of o) eight))
+module _ (config : NegotiateConfig) (entries : List AuthIdentity) (i : AuthIdentity) (o : Origin) (eight : length (challenge_of o) ≡ 8)
+  where
+    -- it picks the mechanism that the client began with
+    pub server_begins :
+        pick (offer protocols.Ntlm true) (packages_in config) (hand_of (made_of o)) ≡ Some (record { choice = choices.Ntlm; index = 0 }) →
+        runs (spnego_server (server_values config entries (hand_of (made_of o)) states.Initial [])
+        (server_args None (Some (init_text protocols.Ntlm true)))) (made_of o) ≡
+        Ends (server_values config entries protocols.Ntlm states.InProgress (offer protocols.Ntlm true))
+        (record { status = statuses.ContinueNeeded; output = targ_text (challenge_token (Some ntlm_ssp) (challenge_of o)) })
+        (challenged i (challenge_of o))
+    unfolding reads_list picks placed first_accepted goes_on writes
+    server_begins picked =
+        let v = server_values config entries (hand_of (made_of o)) states.Initial in
+        let v2 = server_values config entries protocols.Ntlm in
+        let list = offer protocols.Ntlm true in
+        let args = server_args None (Some (init_text protocols.Ntlm true)) in
+        let p : Picked = record { choice = choices.Ntlm; index = 0 } in
+        ap (λ (x : Option NegTokenInit). runs (server.at_initial x (v []) args) (made_of o)) (init_is protocols.Ntlm true)
+        ∙ ap (λ (x : Option Picked). runs (picks x list (Some negotiate_message) (v []) args) (made_of o)) picked
+        ∙ ntlm_taken o config.client_computer_name (placed (Some negotiate_message) p (v2 states.Initial list) args)
+        ∙ ap (λ (x : Option (List ℕ)). runs (written x (v2 states.Initial list) (v2 states.InProgress list) statuses.ContinueNeeded)
+        (challenged i (challenge_of o)))
+        (targ_spelled (challenge_token (Some ntlm_ssp) (challenge_of o)) (some_challenge_little (challenge_of o) eight))
 
-  -- it picks NTLM of what a client offers that began with Kerberos, and drops the token
-  pub server_changes :
-      pick (offer protocols.Kerberos true) (packages_in config) (hand_of (made_of o)) ≡ Some (record { choice = choices.Ntlm; index = 2 }) →
-      runs (spnego_server (server_values config entries (hand_of (made_of o)) states.Initial [])
-      (server_args None (Some (init_text protocols.Kerberos true)))) (made_of o) ≡
-      Ends (server_values config entries protocols.Ntlm states.InProgress (offer protocols.Kerberos true))
-      (record { status = statuses.ContinueNeeded; output = targ_text pick_token }) (hands.Ntlm (ntlm_with (challenge_of o)))
-  unfolding reads_list picks placed drops writes
-  server_changes picked =
-      let v = server_values config entries (hand_of (made_of o)) states.Initial in
-      let v2 = server_values config entries protocols.Ntlm in
-      let list = offer protocols.Kerberos true in
-      let args = server_args None (Some (init_text protocols.Kerberos true)) in
-      let p : Picked = record { choice = choices.Ntlm; index = 2 } in
-      ap (λ (x : Option NegTokenInit). runs (server.at_initial x (v []) args) (made_of o)) (init_is protocols.Kerberos true)
-      ∙ ap (λ (x : Option Picked). runs (picks x list (Some ticket_request) (v []) args) (made_of o)) picked
-      ∙ ntlm_taken o config.client_computer_name (placed (Some ticket_request) p (v2 states.Initial list) args)
-      ∙ ap (λ (x : Option (List ℕ)). runs (written x (v2 states.Initial list) (v2 states.InProgress list) statuses.ContinueNeeded)
-      (hands.Ntlm (ntlm_with (challenge_of o)))) (targ_spelled pick_token (omega arith))
+    -- it picks NTLM of what a client offers that began with Kerberos, and drops the token
+    pub server_changes :
+        pick (offer protocols.Kerberos true) (packages_in config) (hand_of (made_of o)) ≡ Some (record { choice = choices.Ntlm; index = 2 }) →
+        runs (spnego_server (server_values config entries (hand_of (made_of o)) states.Initial [])
+        (server_args None (Some (init_text protocols.Kerberos true)))) (made_of o) ≡
+        Ends (server_values config entries protocols.Ntlm states.InProgress (offer protocols.Kerberos true))
+        (record { status = statuses.ContinueNeeded; output = targ_text pick_token }) (hands.Ntlm (ntlm_with (challenge_of o)))
+    unfolding reads_list picks placed drops writes
+    server_changes picked =
+        let v = server_values config entries (hand_of (made_of o)) states.Initial in
+        let v2 = server_values config entries protocols.Ntlm in
+        let list = offer protocols.Kerberos true in
+        let args = server_args None (Some (init_text protocols.Kerberos true)) in
+        let p : Picked = record { choice = choices.Ntlm; index = 2 } in
+        ap (λ (x : Option NegTokenInit). runs (server.at_initial x (v []) args) (made_of o)) (init_is protocols.Kerberos true)
+        ∙ ap (λ (x : Option Picked). runs (picks x list (Some ticket_request) (v []) args) (made_of o)) picked
+        ∙ ntlm_taken o config.client_computer_name (placed (Some ticket_request) p (v2 states.Initial list) args)
+        ∙ ap (λ (x : Option (List ℕ)). runs (written x (v2 states.Initial list) (v2 states.InProgress list) statuses.ContinueNeeded)
+        (hands.Ntlm (ntlm_with (challenge_of o)))) (targ_spelled pick_token (omega arith))

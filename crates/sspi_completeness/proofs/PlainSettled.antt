@@ -133,7 +133,8 @@ module _ {D P : Type 0} (told : D → Option (ℕ → NetworkRequest → Reply))
       (last : ℕ) × Known last × (suc last ≡ messages_of (told kdc) (calls kdc) a.target matching.identity cm sm modes)
   known_by (client_mode.Ntlm config) (server_mode.Ntlm config2) client_is server_is eight = (
     2,
-    known_so 0 false (plain.negotiation kerberos_meaning laws (kdc_calls told calls faults) p (told kdc) (calls kdc) a b kdc matching config config2
+    known_so 0 false (plain.negotiation kerberos_meaning laws (kdc_calls told calls faults) p (told kdc) (calls kdc) a b kdc matching
+        config config2
         client_is server_is eight),
     refl,
   )

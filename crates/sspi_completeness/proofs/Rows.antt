@@ -169,7 +169,8 @@ module _ {D P : Type 0} (meet : Meeting D P) where
   led_first = led client_config i matching.identity_is come.ip (hand_of new) mine states.Initial [] true first_args new refl refl
       (λ _. served_none)
 
-  pub server_picks : (x : Picked) → come.picked ≡ x → pick (offer come.begins mine.ntlm) (packages_in server_config) (hand_of (made_of come.server_hand))
+  pub server_picks : (x : Picked) → come.picked ≡ x → pick (offer come.begins mine.ntlm) (packages_in server_config)
+      (hand_of (made_of come.server_hand))
       ≡ Some x
   server_picks x is =
       ap (λ (q : Protocol). pick (offer come.begins mine.ntlm) (packages_in server_config) q) (hand_is come.server_hand)

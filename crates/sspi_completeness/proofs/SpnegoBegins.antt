@@ -209,7 +209,8 @@ may_kerberos role config (configs.Kerberos kerberos) packages o first is = at pa
     at false false first = absurd cc
 may_kerberos role config (configs.KerberosServer kerberos server) packages o first is = at packages.kerberos packages.ntlm first
   where
-    at : (b d : Bool) → (if b then Ok (Configured (configs.KerberosServer kerberos server)) else without_kerberos config d) ≡ Ok o → b ≡ true
+    at : (b d : Bool) → (if b then Ok (Configured (configs.KerberosServer kerberos server)) else without_kerberos config d) ≡ Ok o → b ≡
+        true
     at true d first = refl
     at false true first = absurd (let e : in_place_of_kerberos config.client_computer_name ≡ o = cc in cc (e, is))
     at false false first = absurd cc
@@ -299,7 +300,8 @@ module _ (config : NegotiateConfig) (i : AuthIdentity) (is : IsIdentity i) where
       (args : StepArgs) (m : M) →
       is_closed Client state Idle ≡ false → args.handle ≡ handle_of i → ((ip && packages.ntlm) ≡ false → rule p packages ≡ None) →
       runs (spnego_client ip (client_values p packages state list need) args) m
-      ≡ runs (client_at state (client_values (hand_first (ip && packages.ntlm) p) (packages_first (ip && packages.ntlm) packages) state list need)
+      ≡ runs (client_at state (client_values (hand_first (ip && packages.ntlm) p) (packages_first (ip && packages.ntlm) packages) state
+      list need)
       args) (object_first (ip && packages.ntlm) p config.client_computer_name m)
   led ip p packages state list need args m begins had none =
       ap (λ (b : Bool). runs (if b then Stops (client_values p packages state list need) OutOfSequence
@@ -315,7 +317,8 @@ module _ (config : NegotiateConfig) (i : AuthIdentity) (is : IsIdentity i) where
       led ip Ntlm (record { ntlm = true; kerberos = false }) state list need args m begins had (λ b. refl) ∙ at (ip && true)
     where
       at : (b : Bool) → runs (client_at state (client_values (hand_first b Ntlm)
-          (packages_first b (record { ntlm = true; kerberos = false })) state list need) args) (object_first b Ntlm config.client_computer_name m)
+          (packages_first b (record { ntlm = true; kerberos = false })) state list need) args)
+          (object_first b Ntlm config.client_computer_name m)
           ≡ runs (client_at state (client_values Ntlm (record { ntlm = true; kerberos = false }) state list need) args) m
       at true = refl
       at false = refl

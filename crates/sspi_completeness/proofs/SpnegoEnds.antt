@@ -46,7 +46,8 @@ use Rattle.sspi_completeness.proofs.Accepting.{Takes}
 use Rattle.sspi_completeness.proofs.Blobs.{blob_of, blob_long, one_text, never_unopened, never_unsealed}
 use Rattle.sspi_completeness.proofs.ClientTurns.{Walks}
 use Rattle.sspi_completeness.proofs.Ends.{IsMaker, IsTaker}
-use Rattle.sspi_completeness.proofs.Runs.{M, h, End, Ends, Waits, Unsaid, runs, Is, IsDecided, planned, protection_of, own_direction, peer_direction}
+use Rattle.sspi_completeness.proofs.Runs.{M, h, End, Ends, Waits, Unsaid, runs, Is, IsDecided, planned, protection_of, own_direction}
+use Rattle.sspi_completeness.proofs.Runs.{peer_direction}
 use Rattle.sspi_completeness.proofs.Runs.{used}
 
 abbrev pub C : Type 0
@@ -247,8 +248,12 @@ as_used : (y : M) (x : KerberosState) → at_rest y ≡ at_rest (Kerberos x) →
     (sealed : ℕ) × (unsealed : ℕ) × (y ≡ Kerberos (used x sealed unsealed))
 as_used (Ntlm y) x rest = absurd cc
 as_used (Kerberos y) x rest =
-    let same : used y 0 0 ≡ used x 0 0 = cc in
-    (y.protection.sealed, y.protection.unsealed, ap (λ (z : KerberosState). Kerberos (used z y.protection.sealed y.protection.unsealed)) same)
+    let same : used y 0 0 ≡ used x 0 0 = cc in (
+      y.protection.sealed,
+      y.protection.unsealed,
+      ap (λ (z : KerberosState). Kerberos (used z y.protection.sealed y.protection.unsealed))
+          same,
+    )
 
 module _ {D : Type 0} (told : D → Option (ℕ → NetworkRequest → Reply)) (calls faults : D → ℕ) where
   -- the KDC tells what it told, and this is the number of its next call
@@ -262,7 +267,8 @@ module _ {D : Type 0} (told : D → Option (ℕ → NetworkRequest → Reply)) (
       HasReplied told calls faults before question reply now → (reply ≡ Answered bytes) × KdcIs first (counted_on call) now
   replied before now first replies call question reply bytes at tells given it = (
     is reply (subst (λ (n : ℕ). RepliesAsTold (Some replies) n question reply (faults before) (faults now)) at.called
-        (subst (λ (o : Option _). RepliesAsTold o (calls before) question reply (faults before) (faults now)) (at.same ∙ tells) it.as_told)),
+        (subst (λ (o : Option _). RepliesAsTold o (calls before) question reply (faults before) (faults now)) (at.same ∙ tells)
+        it.as_told)),
     record { same = it.told_same ∙ at.same; called = it.called ∙ ap counted_on at.called },
   )
     where

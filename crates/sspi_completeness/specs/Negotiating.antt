@@ -112,7 +112,8 @@ module _ (told : Option (ℕ → NetworkRequest → Reply)) (call : ℕ) where
     pub ip : Bool
     pub ip_is : IsTrue ip ↔ IsNamedByIp (Some target)
     pub begins : Protocol
-    pub begins_is : begins ≡ begins_with ip (packages_in client) (protocol_of client_hand) (url_for client.kdcs (domain_of identity.username))
+    pub begins_is : begins ≡ begins_with ip (packages_in client) (protocol_of client_hand)
+        (url_for client.kdcs (domain_of identity.username))
     pub picked : Picked
     pub picks : pick (offered begins (packages_in client)) (packages_in server) (protocol_of server_hand) ≡ Some picked
     pub needs : Needs begins picked.choice (kdc_url client client_hand identity.username) server_hand identity

@@ -1,6 +1,5 @@
 -- The ends of a plain scenario match, and nothing disturbs their exchange.
-use Rattle.std.proofs.Common.{◌≡◌, ℕ, List, length, replicate, Bool, true, false, Option, Some, Ok, refl, ap, sym, ◌∙◌, subst, arith}
-use Rattle.std.proofs.Common.{if◌then◌else◌}
+use Rattle.std.proofs.Common.{◌≡◌, ℕ, List, length, Option, Some, refl, ap, sym, ◌∙◌, subst, arith}
 use Rattle.sspi_names.specs.declared.network.NetworkRequest.{NetworkRequest}
 use Rattle.sspi_mech.specs.declared.step.Reply.{Reply}
 use Rattle.sspi_mech.specs.PlainKdc.{PlainKdcState, told_by}

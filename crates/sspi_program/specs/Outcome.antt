@@ -38,7 +38,8 @@ pub record IsPlain (scenario : Scenario) : Type 0 where
 -- the messages that the client makes then
 abbrev pub messages_in : (scenario : Scenario) → IsPlain scenario → ℕ
 messages_in scenario plain =
-    messages_of (kdc_told scenario) 0 scenario.target (user_identity scenario) (client_mode_in scenario) (server_mode_in scenario) plain.mode
+    messages_of (kdc_told scenario) 0 scenario.target (user_identity scenario) (client_mode_in scenario) (server_mode_in scenario)
+    plain.mode
 
 -- Ok of plain NTLM alone takes three messages of the client. A plain scenario comes to Ok where the client may make as many
 -- messages as it takes, and else is cut short; but for want of memory.
