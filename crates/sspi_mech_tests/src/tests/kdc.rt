@@ -4,7 +4,8 @@ ghost use Rattle.std.specs.Prelude.{◌≡◌, ◌≤◌, false, length, IfOk, O
 ghost use Rattle.sspi_mech.specs.Calls.{no_counts, one_sealed};
 
 use crate::tests::asks::Asks;
-use crate::tests::ends::{config, holds};
+use crate::tests::checks::holds;
+use crate::tests::scene::ntlm_config;
 use bitflags::Flags;
 use sspi_mech::{
     Answer, InitializeSecurityContext, MechConfig, Mechanism, Ntlm, NtlmConfig, Reply, Step,
@@ -137,7 +138,7 @@ fn do_not_seal(rt: &impl Abort, alloc: Global, config: &NtlmConfig, reply: &Repl
 #[test]
 fn a_mechanism_may_ask(rt: HostRuntime) {
     let reply = Reply::Answered(Bytes::new(rt.alloc()));
-    let config = config(&rt, rt.alloc());
+    let config = ntlm_config(&rt);
     seal(&rt, rt.alloc(), &config, &reply);
     do_not_seal(&rt, rt.alloc(), &config, &reply);
 }

@@ -1,76 +1,74 @@
-use crate::tests::ends::{given, holds, text};
-use crate::tests::kerberos_ends::{AS_REPLY, AS_REQUEST, TGS_REPLY, TGS_REQUEST, URL};
-use sspi_mech::{Kdc, KdcError, PlainKdc, Scripted};
+//! The plain KDC, and one that always fails. A line is a call, `REQUEST -> REPLY` in the words of `octets`, or `REQUEST -> fails`.
+
+use crate::tests::checks::{Test, given, holds, text};
+use crate::tests::octets::octets;
+use sspi_mech::{FailingKdc, Kdc, KdcError, PlainKdc, Scripted};
 use sspi_names::{NetworkProtocol, NetworkRequest};
 use sspi_types::{Bytes, Text};
-use std::alloc::Global;
-use std::process::Abort;
 
-fn users(rt: &impl Abort, alloc: Global) -> Vec<Text> {
-    let mut users = Vec::new(alloc);
-    let _ = users.push(text(rt, alloc, "bob"));
-    let _ = users.push(text(rt, alloc, "ann@example.com"));
+const TOKENS: &str = r"
+KA = 'KAann@example.com'
+KB = 'KB' d4260e4d04178ee096ed5e5e0046a4dd7c4f3947f0ea99e78ebd779f56c51124
+KT = 'KT' d4260e4d04178ee096ed5e5e0046a4dd7c4f3947f0ea99e78ebd779f56c51124
+  404142434445464748494a4b4c4d4e4f505152535455565758595a5b5c5d5e5f
+KS = 'KS' 39c283f8d904c44a2e4c2591cf7953ce8fd02b7d07437d4d2c317189cdba63a5
+";
+
+fn request(rt: &impl Test, words: &str) -> NetworkRequest {
+    NetworkRequest {
+        protocol: NetworkProtocol::Tcp,
+        url: text(rt, "tcp://kdc"),
+        payload: Bytes::from_vec(octets(rt, TOKENS, words)),
+    }
+}
+
+fn replies(rt: &impl Test, reply: Result<Vec<u8>, KdcError>, words: &str) -> bool {
+    match reply {
+        Ok(reply) => reply.as_slice() == octets(rt, TOKENS, words).as_slice(),
+        Err(error) => error == KdcError::Failed && words == "fails",
+    }
+}
+
+fn calls(rt: &impl Test, kdc: &mut impl Kdc, lines: &str) {
+    for line in lines.lines() {
+        if let Some((asked, words)) = line.split_once(" -> ") {
+            let request = request(rt, asked);
+            holds(rt, replies(rt, kdc.ask(&request), words), line);
+        }
+    }
+}
+
+fn users(rt: &impl Test) -> Vec<Text> {
+    let mut users = Vec::new(rt.alloc());
+    given(rt, users.push(text(rt, "bob")));
+    given(rt, users.push(text(rt, "ann@example.com")));
     users
 }
 
-fn kdc(rt: &impl Abort, alloc: Global, script: &[Scripted]) -> PlainKdc {
-    let script = given(rt, Vec::from_slice(alloc, script));
-    PlainKdc::new(alloc, users(rt, alloc), script)
+fn of_script(rt: &impl Test, script: &[Scripted], lines: &str) {
+    let script = given(rt, Vec::from_slice(rt.alloc(), script));
+    let mut kdc = PlainKdc::new(rt.alloc(), users(rt), script);
+    calls(rt, &mut kdc, lines);
 }
 
-fn request(rt: &impl Abort, alloc: Global, payload: &[u8]) -> NetworkRequest {
-    NetworkRequest {
-        protocol: NetworkProtocol::Tcp,
-        url: text(rt, alloc, URL),
-        payload: given(rt, Bytes::from_slice(alloc, payload)),
-    }
-}
-
-fn replies(rt: &impl Abort, alloc: Global, kdc: &mut PlainKdc, payload: &[u8], reply: &[u8]) {
-    let request = request(rt, alloc, payload);
-    let same = match kdc.ask(&request) {
-        Ok(given) => given.as_slice() == reply,
-        Err(_) => false,
-    };
-    holds(rt, same, "another reply");
-}
-
-fn fails(rt: &impl Abort, alloc: Global, kdc: &mut PlainKdc) {
-    let request = request(rt, alloc, AS_REQUEST);
-    holds(rt, kdc.ask(&request) == Err(KdcError::Failed), "replied");
-}
-
-/// Names that are not known, byte by byte, and requests of no form.
-const REFUSED: [(&[u8], &[u8]); 9] = [
-    (b"KAANN@example.com", b"KE\x04"),
-    (b"KAann@example.com.", b"KE\x04"),
-    (b"KA", b"KE\x04"),
-    (b"KT", b"KE\x05"),
-    (
-        b"KT012345678901234567890123456789012345678901234567890123456789012",
-        b"KE\x05",
-    ),
-    (
-        b"KT01234567890123456789012345678901234567890123456789012345678901234",
-        b"KE\x05",
-    ),
-    (
-        b"KB0123456789012345678901234567890123456789012345678901234567890123",
-        b"KE\x05",
-    ),
-    (b"K", b"KE\x05"),
-    (b"", b"KE\x05"),
-];
+/// The two replies; then names that are not known, byte by byte, and requests of no form.
+const USUAL: &str = r"
+KA -> KB
+KT -> KS
+'KAANN@example.com' -> 'KE' 04
+'KAann@example.com.' -> 'KE' 04
+'KA' -> 'KE' 04
+'KT' -> 'KE' 05
+'KT' 78*63 -> 'KE' 05
+'KT' 78*65 -> 'KE' 05
+'KB' 78*64 -> 'KE' 05
+'K' -> 'KE' 05
+ -> 'KE' 05
+";
 
 #[test]
 fn usual_calls(rt: HostRuntime) {
-    let mut kdc = kdc(&rt, rt.alloc(), &[]);
-    replies(&rt, rt.alloc(), &mut kdc, AS_REQUEST, &AS_REPLY);
-    replies(&rt, rt.alloc(), &mut kdc, &TGS_REQUEST, &TGS_REPLY);
-    for row in REFUSED.iter() {
-        let (payload, reply) = *row;
-        replies(&rt, rt.alloc(), &mut kdc, payload, reply);
-    }
+    of_script(&rt, &[], USUAL);
 }
 
 const SCRIPT: [Scripted; 5] = [
@@ -82,13 +80,26 @@ const SCRIPT: [Scripted; 5] = [
 ];
 
 /// Each call has its place in the script, one that fails too; calls past its end are usual.
+const SCRIPTED: &str = r"
+KA -> 'KE' 01
+KA -> fails
+KA -> KB
+KA -> 'KE' ff
+KA -> fails
+KT -> KS
+";
+
 #[test]
 fn a_script(rt: HostRuntime) {
-    let mut kdc = kdc(&rt, rt.alloc(), &SCRIPT);
-    replies(&rt, rt.alloc(), &mut kdc, AS_REQUEST, b"KE\x01");
-    fails(&rt, rt.alloc(), &mut kdc);
-    replies(&rt, rt.alloc(), &mut kdc, AS_REQUEST, &AS_REPLY);
-    replies(&rt, rt.alloc(), &mut kdc, AS_REQUEST, b"KE\xff");
-    fails(&rt, rt.alloc(), &mut kdc);
-    replies(&rt, rt.alloc(), &mut kdc, &TGS_REQUEST, &TGS_REPLY);
+    of_script(&rt, &SCRIPT, SCRIPTED);
+}
+
+const FAILING: &str = r"
+KA -> fails
+KT -> fails
+";
+
+#[test]
+fn a_kdc_that_fails(rt: HostRuntime) {
+    calls(&rt, &mut FailingKdc::new(), FAILING);
 }

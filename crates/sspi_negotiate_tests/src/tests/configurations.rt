@@ -1,5 +1,9 @@
-use crate::tests::ends::{Test, config, given, holds, kerberos, no_kdc};
-use sspi_mech::{KerberosServerConfig, Ntlm};
+//! Configurations, their copies, and the mechanisms that are made of them.
+
+use crate::tests::checks::{Test, given, holds};
+use crate::tests::scene::{config, protocol_config};
+use sspi_mech::Ntlm;
+use sspi_names::KdcTable;
 use sspi_negotiate::{NegotiateConfig, NegotiatedProtocol, ProtocolConfig};
 
 fn is_same(config: &NegotiateConfig, other: &NegotiateConfig) -> bool {
@@ -26,47 +30,40 @@ fn lacks_list(rt: &impl Test, config: &NegotiateConfig) {
     holds(rt, other.package_list.is_none(), "a list");
 }
 
+fn copies(rt: &impl Test, protocol: &str) {
+    let config = config(rt, protocol, Some("ntlm"));
+    is_copied(rt, &config);
+    lacks_list(rt, &config);
+}
+
 #[test]
 fn configurations(rt: HostRuntime) {
-    let config = config(&rt, Some("ntlm"));
-    is_copied(&rt, &config);
-    lacks_list(&rt, &config);
+    copies(&rt, "ntlm");
+    copies(&rt, "kerberos");
+    copies(&rt, "kerberos+ticket");
 }
 
-#[test]
-fn configurations_of_kerberos(rt: HostRuntime) {
-    let config = kerberos(&rt, Some("ntlm"));
-    is_copied(&rt, &config);
-    lacks_list(&rt, &config);
+fn is_named(made: &NegotiatedProtocol<Ntlm, Ntlm>, name: &str) -> bool {
+    made.protocol_name() == name
+        && made.is_ntlm() == (name == "NTLM")
+        && made.is_kerberos() == (name == "Kerberos")
 }
 
-fn is_ntlm(made: &NegotiatedProtocol<Ntlm, Ntlm>) -> bool {
-    made.is_ntlm() && !made.is_kerberos() && made.protocol_name() == "NTLM"
-}
-
-fn is_kerberos(made: &NegotiatedProtocol<Ntlm, Ntlm>) -> bool {
-    made.is_kerberos() && !made.is_ntlm() && made.protocol_name() == "Kerberos"
-}
-
-fn makes_ntlm(rt: &impl Test, config: &ProtocolConfig) {
-    let made = given(rt, config.new_instance(rt.alloc()));
-    holds(rt, is_ntlm(&made), "another mechanism");
-}
-
-fn makes_kerberos(rt: &impl Test, config: &ProtocolConfig) {
+fn makes(rt: &impl Test, config: &ProtocolConfig, name: &str) {
     let copy = given(rt, config.clone(rt.alloc()));
     holds(rt, copy == *config, "another copy");
     let made = given(rt, copy.new_instance(rt.alloc()));
-    holds(rt, is_kerberos(&made), "another mechanism");
+    holds(rt, is_named(&made, name), name);
+}
+
+fn instance(rt: &impl Test, protocol: &str, name: &str) {
+    let config = protocol_config(rt, protocol, None, &KdcTable::new(rt.alloc()));
+    makes(rt, &config, name);
 }
 
 #[test]
 fn instances(rt: HostRuntime) {
-    makes_ntlm(&rt, &config(&rt, None).protocol_config);
-    makes_kerberos(&rt, &kerberos(&rt, None).protocol_config);
-    let ticket = KerberosServerConfig {
-        ticket: Some([7; 32]),
-    };
-    let server = ProtocolConfig::KerberosServer(no_kdc(&rt), ticket);
-    makes_kerberos(&rt, &server);
+    instance(&rt, "ntlm", "NTLM");
+    instance(&rt, "kerberos", "Kerberos");
+    instance(&rt, "kerberos+ticket", "Kerberos");
 }

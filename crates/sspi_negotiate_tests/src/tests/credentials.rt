@@ -1,142 +1,174 @@
-use crate::tests::ends::{
-    End, Plain, Test, Wanted, ann, client, given, handle, holds, identity, initializes,
-    initializes_with, key_table, refused,
-};
-use crate::tests::tokens::{COMPLETE, OFFER, PICK, SIGNED};
-use bitflags::Flags;
-use sspi_names::{Credentials, CredentialsBuffers};
-use sspi_types::{ClientRequestFlags, CredentialUse, ErrorKind, Reason};
+//! Whose credentials a client over plain NTLM proves: those of a handle, or those that were acquired.
 
-/// The client steps so, without flags.
-fn steps(
-    rt: &impl Test,
-    client: &mut impl End,
-    handle: Option<&CredentialsBuffers>,
-    token: &str,
-    wanted: Wanted,
-) {
-    let none = ClientRequestFlags::from_bits_retain(0);
-    initializes_with(rt, client, handle, none, token, wanted);
-}
+use crate::tests::script::run_plain;
+use crate::tests::tokens::NTLM;
 
-const NOBODY: Wanted = Wanted::Refused(ErrorKind::NoCredentials, Reason::NoAuthData);
+const HANDLES: &str = r"
+# NTLM offers itself without credentials, and needs them for its proof; a step that is refused for that may come again.
+client ntlm ntlm
+initialize -> ContinueNeeded OFFER
+initialize PICK -> refuses NoCredentials NoAuthData
+handle DOM ann pw
+initialize PICK -> ContinueNeeded SIGNED
+handle none
+initialize COMPLETE -> Ok
 
-// ---- of a handle
+# The password of a handle is kept, until another one comes; a key table is none.
+handle DOM ann pw
+client ntlm ntlm
+initialize -> ContinueNeeded OFFER
+handle none
+initialize PICK -> ContinueNeeded SIGNED
+handle DOM bob other
+client ntlm ntlm
+initialize -> ContinueNeeded OFFER
+handle DOM ann pw
+initialize PICK -> ContinueNeeded SIGNED
+handle DOM ann pw
+client ntlm ntlm
+initialize -> ContinueNeeded OFFER
+handle key-table ann
+initialize PICK -> ContinueNeeded SIGNED
 
-/// NTLM offers itself without credentials, and needs them for its proof; a step that is refused for that may come again.
+# A key table alone.
+handle key-table ann
+client ntlm ntlm
+initialize -> ContinueNeeded OFFER
+initialize PICK -> refuses NoCredentials NoAuthData
+
+# A handle whose parts make no name is refused in each place before anything else, and the place stays.
+client ntlm ntlm
+handle D@M ann pw
+initialize -> refuses InvalidParameter UserName
+handle DOM ann pw
+initialize -> ContinueNeeded OFFER
+handle D@M ann pw
+initialize PICK -> refuses InvalidParameter UserName
+handle DOM ann pw
+initialize PICK -> ContinueNeeded SIGNED
+handle D@M ann pw
+initialize COMPLETE -> refuses InvalidParameter UserName
+handle none
+initialize COMPLETE -> Ok
+
+client ntlm ntlm
+handle DOM a\nn pw
+initialize -> refuses InvalidParameter UserName
+handle DOM ann pw
+initialize -> ContinueNeeded OFFER
+handle DOM a\nn pw
+initialize PICK -> refuses InvalidParameter UserName
+handle DOM ann pw
+initialize PICK -> ContinueNeeded SIGNED
+handle DOM a\nn pw
+initialize COMPLETE -> refuses InvalidParameter UserName
+handle none
+initialize COMPLETE -> Ok
+";
+
 #[test]
-fn no_handle(rt: HostRuntime) {
-    let ann = ann(&rt);
-    let mut client: Plain = client(&rt);
-    steps(&rt, &mut client, None, "", Wanted::Going(OFFER));
-    steps(&rt, &mut client, None, PICK, NOBODY);
-    steps(&rt, &mut client, Some(&ann), PICK, Wanted::Going(SIGNED));
-    steps(&rt, &mut client, None, COMPLETE, Wanted::Over(""));
+fn handles(rt: HostRuntime) {
+    run_plain(&rt, NTLM, HANDLES);
 }
 
-/// A client that is handed these credentials with its offer, and none or others later, proves that it is `DOM\ann`.
-fn proves(rt: &impl Test, first: Option<&CredentialsBuffers>, last: Option<&CredentialsBuffers>) {
-    let mut client: Plain = client(rt);
-    steps(rt, &mut client, first, "", Wanted::Going(OFFER));
-    steps(rt, &mut client, last, PICK, Wanted::Going(SIGNED));
-}
+const ACQUIRED: &str = r"
+# What is acquired is kept as the password of a handle is, over refusals too: NTLM has no use for a key table, which is told in two
+# ways.
+handle DOM ann pw
+client ntlm ntlm
+acquire outbound DOM\ann pw -> gives-handle
+acquire outbound none -> refuses NoCredentials NoAuthData
+acquire outbound key-table ann -> refuses NoCredentials NoAuthData
+acquire inbound key-table ann -> refuses UnknownCredentials Keytab
+handle none
+initialize -> ContinueNeeded OFFER
+initialize PICK -> ContinueNeeded SIGNED
 
-/// The password of a handle is kept, until another one comes; a key table is none.
-#[test]
-fn kept_handles(rt: HostRuntime) {
-    let ann = ann(&rt);
-    proves(&rt, Some(&ann), None);
-    proves(&rt, Some(&handle(&rt, "DOM", "bob", "other")), Some(&ann));
-    proves(
-        &rt,
-        Some(&ann),
-        Some(&CredentialsBuffers::Keytab(key_table(&rt))),
-    );
-}
+# Acquiring nothing leaves nothing kept.
+handle DOM ann pw
+client ntlm ntlm
+acquire outbound DOM\ann pw -> gives-handle
+acquire inbound none -> gives-none
+handle none
+initialize -> ContinueNeeded OFFER
+initialize PICK -> refuses NoCredentials NoAuthData
+";
 
 #[test]
-fn a_key_table_alone(rt: HostRuntime) {
-    let key_table = CredentialsBuffers::Keytab(key_table(&rt));
-    let mut client: Plain = client(&rt);
-    steps(&rt, &mut client, Some(&key_table), "", Wanted::Going(OFFER));
-    steps(&rt, &mut client, Some(&key_table), PICK, NOBODY);
+fn acquired(rt: HostRuntime) {
+    run_plain(&rt, NTLM, ACQUIRED);
 }
 
-const MIXED: Wanted = Wanted::Refused(ErrorKind::InvalidParameter, Reason::UserName);
+const LACKS: &str = r"
+# A client without a name, before its offer and after it: neither key, name nor identities.
+client ntlm ntlm
+complete -> refuses OutOfSequence Sequence
+seal 'text' -> refuses OutOfSequence Sequence
+unseal 'a-blob-of-sixteen' -> refuses OutOfSequence Sequence
+fail -> refuses OutOfSequence Sequence
+resume -> refuses OutOfSequence Sequence
+names -> refuses OutOfSequence Sequence
+identify none -> refuses OutOfSequence Sequence
+identify DOM\bob pw -> refuses OutOfSequence Sequence
+identify key-table ann -> refuses IncompleteCredentials NotPassword
+handle DOM ann pw
+initialize -> ContinueNeeded OFFER
+complete -> refuses OutOfSequence Sequence
+seal 'text' -> refuses OutOfSequence Sequence
+unseal 'a-blob-of-sixteen' -> refuses OutOfSequence Sequence
+fail -> refuses OutOfSequence Sequence
+resume -> refuses OutOfSequence Sequence
+names -> refuses OutOfSequence Sequence
+identify none -> refuses OutOfSequence Sequence
+identify DOM\bob pw -> refuses OutOfSequence Sequence
+identify key-table ann -> refuses IncompleteCredentials NotPassword
 
-fn mixed_in_turn(rt: &impl Test, mixed: &CredentialsBuffers, ann: &CredentialsBuffers) {
-    let mut client: Plain = client(rt);
-    initializes(rt, &mut client, mixed, "", MIXED);
-    initializes(rt, &mut client, ann, "", Wanted::Going(OFFER));
-    initializes(rt, &mut client, mixed, PICK, MIXED);
-    initializes(rt, &mut client, ann, PICK, Wanted::Going(SIGNED));
-    initializes(rt, &mut client, mixed, COMPLETE, MIXED);
-    steps(rt, &mut client, None, COMPLETE, Wanted::Over(""));
-}
+# The same of a server without its peer's name.
+known DOM\ann pw
+server ntlm ntlm
+complete -> refuses OutOfSequence Sequence
+seal 'text' -> refuses OutOfSequence Sequence
+unseal 'a-blob-of-sixteen' -> refuses OutOfSequence Sequence
+fail -> refuses OutOfSequence Sequence
+resume -> refuses OutOfSequence Sequence
+names -> refuses OutOfSequence Sequence
+identify none -> refuses OutOfSequence Sequence
+identify DOM\bob pw -> refuses OutOfSequence Sequence
+identify key-table ann -> refuses IncompleteCredentials NotPassword
+accept OFFER -> ContinueNeeded PICK
+complete -> refuses OutOfSequence Sequence
+seal 'text' -> refuses OutOfSequence Sequence
+unseal 'a-blob-of-sixteen' -> refuses OutOfSequence Sequence
+fail -> refuses OutOfSequence Sequence
+resume -> refuses OutOfSequence Sequence
+names -> refuses OutOfSequence Sequence
+identify none -> refuses OutOfSequence Sequence
+identify DOM\bob pw -> refuses OutOfSequence Sequence
+identify key-table ann -> refuses IncompleteCredentials NotPassword
+";
 
-/// A handle whose parts make no name is refused in each place before anything else, and the place stays.
 #[test]
-fn names_of_no_form(rt: HostRuntime) {
-    let ann = ann(&rt);
-    mixed_in_turn(&rt, &handle(&rt, "D@M", "ann", "pw"), &ann);
-    mixed_in_turn(&rt, &handle(&rt, "DOM", "a\\nn", "pw"), &ann);
+fn lacks(rt: HostRuntime) {
+    run_plain(&rt, NTLM, LACKS);
 }
 
-// ---- of acquiring
+const TOLD_IDENTITY: &str = r"
+# A server that has a name and not its MIC may be told the identity by its caller.
+known DOM\bob pw
+server ntlm ntlm
+accept OFFER -> ContinueNeeded PICK
+accept COMPLETE-NAME -> refuses InvalidToken NoMic
+identify none -> refuses NoCredentials NoCandidate
+identify DOM\ann other -> refuses LogonDenied Proof
+complete -> refuses OutOfSequence Sequence
+seal 'text' -> refuses OutOfSequence Sequence
+unseal 'a-blob-of-sixteen' -> refuses OutOfSequence Sequence
+fail -> refuses OutOfSequence Sequence
+identify DOM\ann pw -> takes
+complete -> Ok
+";
 
-/// Acquiring gives the buffers of `DOM\ann`.
-fn acquires(rt: &impl Test, client: &mut impl End, ann: &CredentialsBuffers) {
-    let credentials = Credentials::AuthIdentity(identity(rt, "DOM\\ann", "pw"));
-    let given = client.acquire(CredentialUse::Outbound, Some(&credentials));
-    match given {
-        Ok(Some(buffers)) => holds(rt, buffers == *ann, "other buffers"),
-        _ => holds(rt, false, "no buffers"),
-    }
-}
-
-fn acquires_nothing(rt: &impl Test, client: &mut impl End) {
-    let nothing = given(rt, client.acquire(CredentialUse::Inbound, None));
-    holds(rt, nothing.is_none(), "buffers of nobody");
-}
-
-fn acquires_no_key_table(
-    rt: &impl Test,
-    client: &mut impl End,
-    credential_use: CredentialUse,
-    kind: ErrorKind,
-    reason: Reason,
-) {
-    let key_table = Credentials::Keytab(key_table(rt));
-    let answer = client.acquire(credential_use, Some(&key_table));
-    refused(rt, answer, kind, reason);
-}
-
-/// NTLM has no use for a key table, which is told in two ways.
-fn is_refused(rt: &impl Test, client: &mut impl End) {
-    let (nobody, outbound) = (ErrorKind::NoCredentials, CredentialUse::Outbound);
-    let nothing = client.acquire(outbound, None);
-    refused(rt, nothing, nobody, Reason::NoAuthData);
-    acquires_no_key_table(rt, client, outbound, nobody, Reason::NoAuthData);
-    let unknown = ErrorKind::UnknownCredentials;
-    acquires_no_key_table(rt, client, CredentialUse::Inbound, unknown, Reason::Keytab);
-}
-
-/// What is acquired is kept as the password of a handle is, over refusals too.
 #[test]
-fn acquired_credentials(rt: HostRuntime) {
-    let mut client: Plain = client(&rt);
-    acquires(&rt, &mut client, &ann(&rt));
-    is_refused(&rt, &mut client);
-    steps(&rt, &mut client, None, "", Wanted::Going(OFFER));
-    steps(&rt, &mut client, None, PICK, Wanted::Going(SIGNED));
-}
-
-/// Acquiring nothing leaves nothing kept.
-#[test]
-fn nothing_acquired(rt: HostRuntime) {
-    let mut client: Plain = client(&rt);
-    acquires(&rt, &mut client, &ann(&rt));
-    acquires_nothing(&rt, &mut client);
-    steps(&rt, &mut client, None, "", Wanted::Going(OFFER));
-    steps(&rt, &mut client, None, PICK, NOBODY);
+fn told_identity(rt: HostRuntime) {
+    run_plain(&rt, NTLM, TOLD_IDENTITY);
 }

@@ -1,32 +1,145 @@
-use crate::tests::ends::{End, Plain, Test, config, holds, identities, kerberos};
-use sspi_negotiate::{FALLBACK_ERROR_KINDS, NegotiateConfig, PackageListConfig};
-use sspi_types::{Error, ErrorKind, Reason};
+//! Package lists, and what the ends that are made of them have in hand.
 
-#[test]
-fn package_lists(rt: HostRuntime) {
-    let cases = [
-        (None, true, true),
-        (Some(""), false, false),
-        (Some("!"), true, true),
-        (Some("ntlm,!ntlm"), false, false),
-        (Some("!ntlm,ntlm"), true, false),
-        (Some("!kerberos,ntlm"), true, false),
-        (Some("pku2u"), false, false),
-        (Some("!pku2u"), true, true),
-        (Some("!ntlm"), false, true),
-        (Some("kerberos,!ntlm"), false, true),
-        (Some("NTLM,!Kerberos"), true, false),
-        (Some(" ntlm"), false, false),
-        (Some("ntlm,"), true, false),
-        (Some("!!ntlm"), true, true),
-    ];
-    for (list, ntlm, kerberos) in cases {
-        let packages = PackageListConfig::parse(list);
-        assert_eq!(rt; packages.ntlm, ntlm, "NTLM in {list:?}");
-        assert_eq!(rt; packages.kerberos, kerberos, "Kerberos in {list:?}");
+use crate::tests::checks::{Test, given, halves, holds};
+use crate::tests::end::{End, Plain};
+use crate::tests::scene::{config, identities};
+use sspi_negotiate::{FALLBACK_ERROR_KINDS, PackageListConfig};
+use sspi_types::{Error, ErrorKind};
+
+/// Which packages each list allows, and the list in quotes, or `none`.
+const LISTS: &str = "
+both none
+neither ''
+both '!'
+neither 'ntlm,!ntlm'
+ntlm '!ntlm,ntlm'
+ntlm '!kerberos,ntlm'
+neither 'pku2u'
+both '!pku2u'
+kerberos '!ntlm'
+kerberos 'kerberos'
+kerberos 'kerberos,!ntlm'
+kerberos 'kerberos,!NTLM'
+ntlm 'ntlm'
+ntlm 'NTLM'
+ntlm 'NTLM,!Kerberos'
+ntlm '!kerberos'
+both 'ntlm,kerberos'
+both 'kerberos,ntlm'
+neither ' ntlm'
+ntlm 'ntlm,'
+both '!!ntlm'
+";
+
+fn list_of(text: &str) -> Option<&str> {
+    match text.strip_prefix("'") {
+        None => None,
+        Some(text) => text.strip_suffix("'"),
     }
 }
 
+fn allows(rt: &impl Test, line: &str, allowed: &str, list: Option<&str>) {
+    let packages = PackageListConfig::parse(list);
+    let ntlm = allowed == "both" || allowed == "ntlm";
+    let kerberos = allowed == "both" || allowed == "kerberos";
+    holds(rt, packages.ntlm == ntlm, line);
+    holds(rt, packages.kerberos == kerberos, line);
+}
+
+#[test]
+fn lists(rt: HostRuntime) {
+    for line in LISTS.lines() {
+        let (allowed, text) = halves(line);
+        if !allowed.is_empty() {
+            allows(&rt, line, allowed, list_of(text));
+        }
+    }
+}
+
+/// What a new end has in hand, with MICs needed, or how it is refused.
+fn begun<E: End>(rt: &impl Test, made: Result<E, Error>) -> String {
+    match made {
+        Ok(end) => {
+            let (hand, need) = (end.hand(), end.needs_mic());
+            given(rt, format!(in rt.alloc(); "{hand} {need}"))
+        }
+        Err(error) => {
+            let (kind, reason) = (error.error_type, error.description);
+            given(rt, format!(in rt.alloc(); "{kind:?} {reason:?}"))
+        }
+    }
+}
+
+fn is(rt: &impl Test, line: &str, begun: String, wanted: &str) {
+    assert!(rt; begun.as_str() == wanted, "{line}: {begun}");
+}
+
+/// A client and a server that begin with this mechanism come to that.
+fn begin<E: End>(
+    rt: &impl Test,
+    line: &str,
+    protocol: &str,
+    list: Option<&str>,
+    wanted: (&str, &str),
+) {
+    let config = config(rt, protocol, list);
+    is(
+        rt,
+        line,
+        begun(rt, E::client(rt.alloc(), &config)),
+        wanted.0,
+    );
+    let known = identities(rt, "DOM\\ann pw");
+    is(
+        rt,
+        line,
+        begun(rt, E::server(rt.alloc(), &config, known)),
+        wanted.1,
+    );
+}
+
+const NO_PACKAGE: &str = "NoCredentials NoPackage";
+
+/// An end that begins with NTLM has it in hand where its list allows it; else a client takes Kerberos, where that is allowed, and a
+/// server is not made.
+fn beginning_with_ntlm(allowed: &str) -> (&'static str, &'static str) {
+    match allowed {
+        "both" => ("NTLM true", "NTLM true"),
+        "ntlm" => ("NTLM true", "NTLM true"),
+        "kerberos" => ("Kerberos true", "InternalError Disabled"),
+        _ => (NO_PACKAGE, NO_PACKAGE),
+    }
+}
+
+/// One that begins with Kerberos has that in hand where its list allows it, and else NTLM, where that is allowed.
+fn beginning_with_kerberos(allowed: &str) -> (&'static str, &'static str) {
+    match allowed {
+        "both" => ("Kerberos true", "Kerberos true"),
+        "ntlm" => ("NTLM true", "NTLM true"),
+        "kerberos" => ("Kerberos true", "Kerberos true"),
+        _ => (NO_PACKAGE, NO_PACKAGE),
+    }
+}
+
+#[test]
+fn new_ends(rt: HostRuntime) {
+    for line in LISTS.lines() {
+        let (allowed, text) = halves(line);
+        let list = list_of(text);
+        if !allowed.is_empty() {
+            begin::<Plain>(&rt, line, "ntlm", list, beginning_with_ntlm(allowed));
+            begin::<Plain>(
+                &rt,
+                line,
+                "kerberos",
+                list,
+                beginning_with_kerberos(allowed),
+            );
+        }
+    }
+}
+
+/// SEC_E_TIME_SKEW, SEC_E_NO_AUTHENTICATING_AUTHORITY, SEC_E_CERT_UNKNOWN and SEC_E_UNKNOWN_CREDENTIALS.
 #[test]
 fn fallback_kinds(rt: HostRuntime) {
     let codes = [0x8009_0324, 0x8009_0311, 0x8009_0327, 0x8009_030d];
@@ -34,98 +147,4 @@ fn fallback_kinds(rt: HostRuntime) {
         assert_eq!(rt; *kind as u32, code);
     }
     assert!(rt; !FALLBACK_ERROR_KINDS.contains(&ErrorKind::LogonDenied));
-}
-
-/// What a new end has in hand, or how it is refused.
-#[derive(Clone, Copy)]
-enum Begun {
-    Ntlm,
-    Kerberos,
-    NoPackage,
-    Disabled,
-}
-
-/// A new end has that in hand and holds MICs for needed, or is refused so.
-fn begins<E: End>(made: Result<E, Error>, begun: Begun) -> bool {
-    match (made, begun) {
-        (Ok(end), Begun::Ntlm) => end.is_ntlm() && end.needs_mic(),
-        (Ok(end), Begun::Kerberos) => !end.is_ntlm() && end.needs_mic(),
-        (Err(error), Begun::NoPackage) => {
-            error == Error::new(ErrorKind::NoCredentials, Reason::NoPackage)
-        }
-        (Err(error), Begun::Disabled) => {
-            error == Error::new(ErrorKind::InternalError, Reason::Disabled)
-        }
-        _ => false,
-    }
-}
-
-fn new_client(rt: &impl Test, config: &NegotiateConfig) -> Result<Plain, Error> {
-    End::client(rt.alloc(), config)
-}
-
-fn new_server(rt: &impl Test, config: &NegotiateConfig) -> Result<Plain, Error> {
-    End::server(rt.alloc(), config, identities(rt, "DOM\\ann pw"))
-}
-
-fn are_made(rt: &impl Test, config: &NegotiateConfig, client: Begun, server: Begun) {
-    holds(rt, begins(new_client(rt, config), client), "a client");
-    holds(rt, begins(new_server(rt, config), server), "a server");
-}
-
-/// Lists that allow NTLM and whatever of Kerberos, Kerberos alone, both, and neither.
-const ALLOWING_NTLM: [&str; 6] = [
-    "!",
-    "!kerberos,ntlm",
-    "NTLM",
-    "ntlm,kerberos",
-    "!pku2u",
-    "ntlm,",
-];
-
-const KERBEROS_ALONE: [&str; 3] = ["!ntlm", "kerberos", "kerberos,!NTLM"];
-
-const ALLOWING_BOTH: [&str; 3] = ["!", "kerberos,ntlm", "!pku2u"];
-
-const NTLM_ALONE: [&str; 2] = ["ntlm", "!kerberos"];
-
-const NEITHER: [&str; 4] = ["", "ntlm,!ntlm", "pku2u", " ntlm"];
-
-/// An end that begins with NTLM has it in hand where its list allows it; else a client takes Kerberos, where that is allowed, and a
-/// server is not made.
-#[test]
-fn ends_that_begin_with_ntlm(rt: HostRuntime) {
-    are_made(&rt, &config(&rt, None), Begun::Ntlm, Begun::Ntlm);
-    for list in ALLOWING_NTLM {
-        are_made(&rt, &config(&rt, Some(list)), Begun::Ntlm, Begun::Ntlm);
-    }
-    for list in KERBEROS_ALONE {
-        let (client, server) = (Begun::Kerberos, Begun::Disabled);
-        are_made(&rt, &config(&rt, Some(list)), client, server);
-    }
-    for list in NEITHER {
-        let nothing = Begun::NoPackage;
-        are_made(&rt, &config(&rt, Some(list)), nothing, nothing);
-    }
-}
-
-/// One that begins with Kerberos has that in hand where its list allows it, and else NTLM, where that is allowed.
-#[test]
-fn ends_that_begin_with_kerberos(rt: HostRuntime) {
-    are_made(&rt, &kerberos(&rt, None), Begun::Kerberos, Begun::Kerberos);
-    for list in ALLOWING_BOTH {
-        let has = Begun::Kerberos;
-        are_made(&rt, &kerberos(&rt, Some(list)), has, has);
-    }
-    for list in KERBEROS_ALONE {
-        let has = Begun::Kerberos;
-        are_made(&rt, &kerberos(&rt, Some(list)), has, has);
-    }
-    for list in NTLM_ALONE {
-        are_made(&rt, &kerberos(&rt, Some(list)), Begun::Ntlm, Begun::Ntlm);
-    }
-    for list in NEITHER {
-        let nothing = Begun::NoPackage;
-        are_made(&rt, &kerberos(&rt, Some(list)), nothing, nothing);
-    }
 }

@@ -16,9 +16,9 @@ use sspi_types::{
 };
 use std::alloc::Global;
 
-/// A mechanism that does as its token tells: the first byte is the status or a refusal, and what follows is its own token. It protects nothing:
-/// a blob is sixteen zeros and the text, and the MIC of a text is the text, so that a token shows what was signed. Told to, a
-/// client asks a KDC, `TIMES` times at most; the reply then tells what follows.
+/// A mechanism that does as its token tells: the first byte is the status or a refusal, and what follows is its own token. It
+/// protects nothing: a blob is sixteen zeros and the text, and the MIC of a text is the text, so that a token shows what was
+/// signed. Told to, a client asks a KDC, `TIMES` times at most; the reply then tells what follows.
 #[derive(Drop)]
 pub struct Told<const TIMES: u32> {
     alloc: Global,
