@@ -1,0 +1,5 @@
+pub mod Headers
+pub mod Contents
+pub mod Judged
+pub mod Fronts
+pub mod Turns
