@@ -5,14 +5,14 @@ use Rattle.std.proofs.lemmas.List.{append-nil, length-append}
 use Rattle.std.proofs.KnownBytes.{Consumes-trans}
 use Rattle.std.specs.Io.KnownBytes.{Consumes, IsAtEnd}
 use Rattle.std.specs.Prelude.{IfSome}
-use Rattle.sspi_ber.specs.Fault.{Ended, Read, ◌>>=◌, as_ended, fault_of}
+use Rattle.sspi_ber.specs.Fault.{Ended}
 use Rattle.sspi_ber.specs.Outside.{LeavesRest}
 use Rattle.sspi_ber.specs.Pieces.{bytes_at, header_at}
 use Rattle.sspi_ber.specs.declared.wire_kind.WireKind.{WireKind}
 use Rattle.sspi_ber.specs.declared.wire_kind.WireKind.TheVariants.{UnexpectedEof, InvalidData, ReadFault, WriteFault, InsufficientMemory}
 use Rattle.sspi_ber.proofs.PiecesMatch.{header_match}
 use Rattle.sspi_tsreq.specs.Answer.{fault}
-use Rattle.sspi_tsreq.specs.Reading.{request_at, body_at}
+use Rattle.sspi_tsreq.specs.Reading.{request_at}
 use Rattle.sspi_gate.specs.Next.{IsBad}
 use Rattle.sspi_gate.specs.Taking.{IsHeaderOf, IsWhole, TakesBytes, TakesBody, TakesRequest}
 

@@ -1,22 +1,20 @@
 -- The header of a request, as the bytes of a stream come.
-use Rattle.std.proofs.Common.{◌≡◌, ℕ, ◌+◌, ◌-◌, ◌<◌, ◌≤◌, Bool, true, false, cond, eqb, ltb, leb, List, [], ◌∷◌, ◌++◌, length, take, drop, Option, None, Some, Result, Ok, Err, refl, sym, ap, ◌∙◌, subst, inl, inr, arith}
-use Rattle.std.proofs.lemmas.Bool.{le-ltb, leb-true}
-use Rattle.std.proofs.lemmas.List.{append-nil, length-append, length_push, take-append-drop, take-append-le, take_at, nil_from_length}
-use Rattle.std.proofs.KnownBytes.{Consumes-trans, Consumes-kept}
+use Rattle.std.proofs.Common.{◌≡◌, ℕ, ◌-◌, ◌≤◌, true, false, cond, eqb, ltb, leb, List, [], ◌∷◌, ◌++◌, length, take, drop, Option, None, Some, Ok, Err, refl, sym, ap, ◌∙◌, subst, inl, inr, arith}
+use Rattle.std.proofs.lemmas.Bool.{le-ltb}
+use Rattle.std.proofs.lemmas.List.{append-nil, length-append, length_push, take-append-drop, take-append-le, take_at}
+use Rattle.std.proofs.KnownBytes.{Consumes-trans}
 use Rattle.std.specs.Io.KnownBytes.{Consumes, IsAtEnd, Keeps}
-use Rattle.sspi_ber.specs.Fault.{Fault, Ended, Invalid, Read, ◌>>=◌, as_ended, fault_of}
+use Rattle.sspi_ber.specs.Fault.{Fault, Ended, Invalid, Read}
 use Rattle.sspi_ber.specs.Limit.{max_content}
 use Rattle.sspi_ber.specs.Forms.{IsHeader, big_endian}
 use Rattle.sspi_ber.specs.Outside.{LeavesRest}
 use Rattle.sspi_ber.specs.Pieces.{bytes_at, header_at, is_octet_count, length_at, limited_at, number_at}
 use Rattle.sspi_ber.specs.declared.wire_kind.WireKind.{WireKind}
 use Rattle.sspi_ber.specs.declared.wire_kind.WireKind.TheVariants.{UnexpectedEof, InvalidData, ReadFault, WriteFault, InsufficientMemory}
-use Rattle.sspi_ber.proofs.Match.{both_are}
 use Rattle.sspi_ber.proofs.PiecesMatch.{chosen, header_match}
 use Rattle.sspi_ber.proofs.Steady.{header_steady}
-use Rattle.sspi_tsreq.specs.declared.request.TsRequest.{TsRequest}
 use Rattle.sspi_tsreq.specs.Answer.{fault}
-use Rattle.sspi_tsreq.specs.Reading.{request_at, body_at}
+use Rattle.sspi_tsreq.specs.Reading.{request_at}
 use Rattle.sspi_gate.specs.Next.{IsBad}
 use Rattle.sspi_gate.specs.Taking.{Announces, IsHeaderOf, TakesHeader}
 

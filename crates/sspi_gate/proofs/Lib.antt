@@ -3,3 +3,4 @@ pub mod Contents
 pub mod Judged
 pub mod Fronts
 pub mod Turns
+pub mod Decided

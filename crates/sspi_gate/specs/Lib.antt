@@ -4,3 +4,4 @@ pub mod Next
 pub mod Taking
 pub mod Step
 pub mod Relay
+pub mod Decided

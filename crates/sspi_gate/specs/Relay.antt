@@ -12,7 +12,7 @@ use Rattle.sspi_gate.specs.declared.answer.GateFault.{GateFault}
 use Rattle.sspi_gate.specs.declared.answer.GateFault.TheVariants.{Bad, Version, ReadFault, WriteFault, TurnsSpent, InsufficientMemory}
 use Rattle.sspi_gate.specs.declared.answer.Relayed.{Relayed}
 use Rattle.sspi_gate.specs.Front.{AreCalm, HaveOneVersion, first_version, refusal}
-use Rattle.sspi_gate.specs.Next.{Fails, other_end}
+use Rattle.sspi_gate.specs.Next.{Fails}
 use Rattle.sspi_gate.specs.Way.{Way, HandsOn}
 
 -- of two, the one of this end
