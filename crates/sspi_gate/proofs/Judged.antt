@@ -14,7 +14,7 @@ use Rattle.sspi_tsreq.specs.Answer.{fault}
 use Rattle.sspi_tsreq.proofs.Faults.{framed}
 use Rattle.sspi_gate.specs.declared.answer.GateFault.{GateFault}
 use Rattle.sspi_gate.specs.declared.answer.GateFault.TheVariants.{Bad, Version, ReadFault, WriteFault, TurnsSpent, InsufficientMemory}
-use Rattle.sspi_gate.specs.declared.turn.End.{End}
+use Rattle.sspi_credssp.specs.declared.turn.End.{End}
 use Rattle.sspi_gate.specs.Next.{Fails, HasFault, IsBad, TakesOnly}
 use Rattle.sspi_gate.specs.Step.{Judges}
 use Rattle.sspi_gate.specs.Taking.{IsWhole}

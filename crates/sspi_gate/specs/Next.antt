@@ -5,8 +5,8 @@ use Rattle.sspi_ber.specs.Fault.{Ended, Invalid}
 use Rattle.sspi_ber.specs.Outside.{LeavesRest, Rose, WroteFront}
 use Rattle.sspi_ber.specs.declared.wire_kind.WireKind.{WireKind}
 use Rattle.sspi_ber.specs.declared.wire_kind.WireKind.TheVariants as kinds
-use Rattle.sspi_gate.specs.declared.turn.End.{End}
-use Rattle.sspi_gate.specs.declared.turn.End.TheVariants.{Client, Server}
+use Rattle.sspi_credssp.specs.declared.turn.End.{End}
+use Rattle.sspi_credssp.specs.declared.turn.End.TheVariants.{Client, Server}
 use Rattle.sspi_tsreq.specs.declared.request.TsRequest.{TsRequest}
 use Rattle.sspi_tsreq.specs.Answer.{fault}
 use Rattle.sspi_gate.specs.declared.answer.GateFault.{GateFault}

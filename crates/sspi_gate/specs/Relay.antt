@@ -2,8 +2,8 @@
 use Rattle.std.specs.Prelude.{◌≡◌, ◌<◌, ◌≤◌, ◌+◌, ℕ, List, [], ◌∷◌, ◌++◌, length, Some, Result, Ok, Err}
 use Rattle.std.specs.Io.KnownBytes.{IsAtEnd}
 use Rattle.sspi_types.specs.declared.nstatus.NStatusCode.{NStatusCode}
-use Rattle.sspi_gate.specs.declared.turn.End.{End}
-use Rattle.sspi_gate.specs.declared.turn.End.TheVariants.{Client, Server}
+use Rattle.sspi_credssp.specs.declared.turn.End.{End}
+use Rattle.sspi_credssp.specs.declared.turn.End.TheVariants.{Client, Server}
 use Rattle.sspi_tsreq.specs.declared.request.TsRequest.{TsRequest}
 use Rattle.sspi_gate.specs.declared.answer.Close.{Close}
 use Rattle.sspi_gate.specs.declared.answer.Close.TheVariants.{Ended, Refused}

@@ -1,7 +1,7 @@
 -- What comes of the request that is due from an end.
 use Rattle.std.specs.Prelude.{◌≡◌, ℕ, List, [], ◌∷◌, Option, Result, Ok, Err}
 use Rattle.std.specs.Io.KnownBytes.{IsAtEnd}
-use Rattle.sspi_gate.specs.declared.turn.End.{End}
+use Rattle.sspi_credssp.specs.declared.turn.End.{End}
 use Rattle.sspi_tsreq.specs.declared.request.TsRequest.{TsRequest}
 use Rattle.sspi_gate.specs.declared.answer.GateFault.TheVariants.{Bad, Version, ReadFault, WriteFault, TurnsSpent, InsufficientMemory}
 use Rattle.sspi_gate.specs.declared.answer.GateFault.{GateFault}

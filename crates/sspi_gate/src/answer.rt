@@ -1,5 +1,5 @@
 use sspi_ber::WireKind;
-use crate::turn::End;
+use sspi_credssp::End;
 use sspi_types::NStatusCode;
 
 /// What a relay did that came to an end.

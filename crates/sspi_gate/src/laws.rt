@@ -1,6 +1,11 @@
-//! Laws about the requests at the front of a stream, each on a function that does nothing.
+//! Laws about the requests at the front of a stream and about relays, each on a function that does nothing.
 
-ghost use Rattle.std.specs.Prelude.{◌≡◌, ℕ, ◌≤◌, List, ◌++◌, length};
+ghost use Rattle.std.specs.Prelude.{◌≡◌, ℕ, ◌≤◌, List, ◌++◌, length, Some, Result};
+ghost use Rattle.sspi_gate.specs.declared.answer.GateError.{GateError};
+ghost use Rattle.sspi_gate.specs.declared.answer.Relayed.{Relayed};
+ghost use Rattle.sspi_gate.specs.Decided.{IsDecided};
+ghost use Rattle.sspi_gate.specs.Relay.{IsRelay};
+ghost use Rattle.sspi_gate.specs.Way.{Way};
 ghost use Rattle.sspi_gate.specs.Front.{AreRequests, GivesFirst};
 ghost use Rattle.sspi_tsreq.specs.declared.request.TsRequest.{TsRequest};
 
@@ -21,4 +26,13 @@ pub fn one_front_is_read()
 /// Each request takes at least one byte.
 pub fn each_request_takes_bytes()
     ensures { (front : List ℕ) (requests : List TsRequest) → AreRequests front requests → length requests ≤ length front }
+{}
+
+/// Where both streams are told, they and the number of turns decide the answer, faults of a stream and want of memory apart:
+/// the causes of the other answers exclude each other, and each comes wherever its cause is there.
+pub fn the_streams_decide()
+    ensures { (turns : ℕ) (up down up_first down_first up_second down_second : Way) (client server : List ℕ)
+        (first second : Result Relayed GateError) → up.left ≡ Some client → down.left ≡ Some server →
+        IsRelay turns up down up_first down_first first → IsRelay turns up down up_second down_second second →
+        IsDecided first → IsDecided second → first ≡ second }
 {}

@@ -17,5 +17,4 @@ mod taking;
 
 pub use answer::{Close, GateError, GateFault, Relayed};
 pub use relaying::relay;
-pub mod turn;
-pub use turn::End;
+pub use sspi_credssp::End;

@@ -8,7 +8,7 @@ ghost use Rattle.sspi_gate.specs.Way.{way};
 use crate::answer::GateFault;
 use crate::taking::take_request;
 use sspi_ber::{Sink, Source, WireKind, write_all};
-use crate::turn::End;
+use sspi_credssp::End;
 use sspi_tsreq::TsRequest;
 use sspi_types::NStatusCode;
 use std::alloc::Global;

@@ -4,7 +4,7 @@ ghost use Rattle.sspi_gate.specs.Way.{way};
 use crate::answer::{Close, GateError, GateFault, Relayed};
 use crate::passing::{Step, pass_next};
 use sspi_ber::{Sink, Source};
-use crate::turn::End;
+use sspi_credssp::End;
 use std::alloc::Global;
 
 /// Hands the requests of a client on to a server and the server's on to the client, in turn, the client's first, at most
