@@ -52,9 +52,10 @@ pub body_cut : (size missing : ℕ) (before mid after : Option (List ℕ)) (old 
 body_cut size missing None mid after old new s c end lt = (tt, record { taken = []; consumed = tt })
 body_cut size missing (Some rest) None after old new s c end lt = absurd s.taken
 body_cut size missing (Some rest) (Some left) None old new s c end lt = absurd c
-body_cut size missing (Some rest) (Some left) (Some last) old new s c end lt =
-    (omega (arith, ap length s.taken, length-append s.body left, ap length c, ap length end, s.sized, lt),
-      body_rest size missing (Some rest) (Some left) (Some last) old new [] s c)
+body_cut size missing (Some rest) (Some left) (Some last) old new s c end lt = (
+  omega (arith, ap length s.taken, length-append s.body left, ap length c, ap length end, s.sized, lt),
+  body_rest size missing (Some rest) (Some left) (Some last) old new [] s c,
+)
 
 -- ---- header and content together
 

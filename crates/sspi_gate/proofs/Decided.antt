@@ -128,8 +128,7 @@ fault_verdict turns sent answered up down up_after down_after c s (Bad end kind)
   λ passed. ap (λ (who : End). Err (record { passed = passed; why = Bad who kind })) b.fails.0,
 )
 fault_verdict turns sent answered up down up_after down_after c s (Version end) e f b ok =
-    let t = b.fails.1 in
-    (
+    let t = b.fails.1 in (
       Due b.end Other,
       (
         b.goes_on,
@@ -137,7 +136,7 @@ fault_verdict turns sent answered up down up_after down_after c s (Version end) 
           t.request,
           length t.text,
           text_told (of b.end up down).left (of b.end up_after down_after).left t.text (of b.end c s) t.request (of_left b.end up down c s e f) t.taken
-          t.is_request,
+              t.is_request,
           t.differs,
         ),
       ),
@@ -280,6 +279,7 @@ no_later turns client server a b x y v e lt = stuck v (subst (IsVerdict turns x.
   where
     q : Placed turns y.sent y.answered
     q = placed turns y.sent y.answered y.c y.s y.verdict y.verdict_is
+
     stuck : (v : Verdict) → IsVerdict turns x.sent x.answered x.c x.s v → ⊥
     stuck (Due Client next) (goes, is) =
         no_more client x.c y.c x.sent y.sent next x.from_client y.from_client y.client_version is (omega (arith, goes.due, q.within, lt))

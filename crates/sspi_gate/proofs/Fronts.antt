@@ -21,8 +21,7 @@ given_first front more [] e = ap (λ (l : List ℕ). l ++ more) e
 given_first front more (r ∷ later) (text, rest, parts, is, later_are) =
     let whole : front ++ more ≡ text ++ (rest ++ more) = ap (λ (l : List ℕ). l ++ more) parts ∙ append_assoc text rest more in
     let behind : drop (length text) (front ++ more) ≡ rest ++ more =
-    ap (drop (length text)) whole ∙ drop_at text (rest ++ more) (length text) refl in
-    (
+    ap (drop (length text)) whole ∙ drop_at text (rest ++ more) (length text) refl in (
       length text,
       subst (λ (l : List ℕ). IsRequest l r (length text)) (sym whole) (more_request text r (length text) (rest ++ more) is),
       subst (λ (l : List ℕ). GivesFirst l later more) (sym behind) (given_first rest more later later_are),
@@ -36,8 +35,7 @@ pub front_of : (stream rest : List ℕ) (requests : List TsRequest) → GivesFir
     (front : List ℕ) × (stream ≡ front ++ rest) × AreRequests front requests
 front_of stream rest [] e = ([], e, refl)
 front_of stream rest (r ∷ later) (count, is, gives) =
-    let tail = front_of (drop count stream) rest later gives in
-    (
+    let tail = front_of (drop count stream) rest later gives in (
       take count stream ++ tail.0,
       sym (take-append-drop count stream) ∙ ap (λ (l : List ℕ). take count stream ++ l) tail.1 ∙ sym (append_assoc (take count stream) tail.0 rest),
       (take count stream, tail.0, refl, taken_text stream r count is, tail.2),

@@ -118,9 +118,10 @@ pub bad_header : (before after : Option (List ℕ)) (p : List ℕ) → Consumes 
     IsBad before UnexpectedEof × LeavesRest before after
 bad_header None after p c h n = (tt, record { taken = p; consumed = tt })
 bad_header (Some bytes) None p c h n = absurd c
-bad_header (Some bytes) (Some left) p c h n =
-    ((λ e. some_byte p left n (sym c ∙ e), ap fault c ∙ header_fault (p ++ left) Invalid ((header_steady 0x30).stays p left h)),
-      record { taken = p; consumed = c })
+bad_header (Some bytes) (Some left) p c h n = (
+  (λ e. some_byte p left n (sym c ∙ e), ap fault c ∙ header_fault (p ++ left) Invalid ((header_steady 0x30).stays p left h)),
+  record { taken = p; consumed = c },
+)
 
 -- the stream was at its end
 pub no_header : (before mid after : Option (List ℕ)) (p : List ℕ) → Consumes before mid p → Keeps mid after → IsAtEnd after → p ≡ [] →

@@ -239,11 +239,11 @@ client_stopped turns done count up down up_now down_now up_next client_version s
   stops = (
     omega (arith, e, s.all_sent, s.all_answered),
     gives_up turns s.sent s.answered up_now down_now up_next down_now why (record {
-        end = Client;
-        goes_on = record { due = omega (arith, s.all_sent, s.all_answered); within = omega (arith, s.all_answered, lt); calm = s.calm };
-        fails = rw s.client_first at f;
-        other = refl;
-      }),
+      end = Client;
+      goes_on = record { due = omega (arith, s.all_sent, s.all_answered); within = omega (arith, s.all_answered, lt); calm = s.calm };
+      fails = rw s.client_first at f;
+      other = refl;
+    }),
   );
 }
 
@@ -259,11 +259,11 @@ server_stopped turns done count up down up_now down_now down_next client_version
   stops = (
     omega (arith, e, s.all_sent, s.all_answered),
     gives_up turns s.sent s.answered up_now down_now up_now down_next why (record {
-        end = Server;
-        goes_on = record { due = omega (arith, s.all_sent, s.all_answered); within = omega (arith, s.all_answered, lt); calm = s.calm };
-        fails = rw s.server_first at f;
-        other = refl;
-      }),
+      end = Server;
+      goes_on = record { due = omega (arith, s.all_sent, s.all_answered); within = omega (arith, s.all_answered, lt); calm = s.calm };
+      fails = rw s.server_first at f;
+      other = refl;
+    }),
   );
 }
 

@@ -43,22 +43,34 @@ pub fn relay<A: Source, B: Sink, C: Source, D: Sink>(
     for _ in 0..turns {
         let seen = match pass_next(alloc, End::Client, client_version, client_in, server_out) {
             Step::Passed(seen) => seen,
-            Step::Ended => return Ok(Relayed { passed, how: Close::Ended(End::Client) }),
+            Step::Ended => return Ok(Relayed {
+                passed,
+                how: Close::Ended(End::Client),
+            }),
             Step::Stopped(why) => return Err(GateError { passed, why }),
         };
         passed += 1;
         client_version = Some(seen.version);
         let seen = match pass_next(alloc, End::Server, server_version, server_in, client_out) {
             Step::Passed(seen) => seen,
-            Step::Ended => return Ok(Relayed { passed, how: Close::Ended(End::Server) }),
+            Step::Ended => return Ok(Relayed {
+                passed,
+                how: Close::Ended(End::Server),
+            }),
             Step::Stopped(why) => return Err(GateError { passed, why }),
         };
         passed += 1;
         server_version = Some(seen.version);
         match seen.refusal {
-            Some(code) => return Ok(Relayed { passed, how: Close::Refused(code) }),
+            Some(code) => return Ok(Relayed {
+                passed,
+                how: Close::Refused(code),
+            }),
             None => {}
         }
     }
-    Err(GateError { passed, why: GateFault::TurnsSpent })
+    Err(GateError {
+        passed,
+        why: GateFault::TurnsSpent,
+    })
 }

@@ -21,7 +21,16 @@ fn client_cut(rt: &impl Abort, alloc: Global, len: usize) {
     } else {
         stopped(passed, GateFault::Bad(End::Client, WireKind::UnexpectedEof))
     };
-    relays(rt, alloc, &THREE[..len], THREE, 9, wanted, 7 * whole, 7 * whole);
+    relays(
+        rt,
+        alloc,
+        &THREE[..len],
+        THREE,
+        9,
+        wanted,
+        7 * whole,
+        7 * whole,
+    );
 }
 
 /// The same of the server's.
@@ -33,7 +42,16 @@ fn server_cut(rt: &impl Abort, alloc: Global, len: usize) {
     } else {
         stopped(passed, GateFault::Bad(End::Server, WireKind::UnexpectedEof))
     };
-    relays(rt, alloc, THREE, &THREE[..len], 9, wanted, 7 * whole + 7, 7 * whole);
+    relays(
+        rt,
+        alloc,
+        THREE,
+        &THREE[..len],
+        9,
+        wanted,
+        7 * whole + 7,
+        7 * whole,
+    );
 }
 
 #[test]
@@ -49,9 +67,19 @@ fn client_read_fails(rt: &impl Abort, alloc: Global, call: u64) {
     let mut server_in = SliceSource::new(THREE);
     let mut server_out = VecSink::new(alloc);
     let mut client_out = VecSink::new(alloc);
-    let answer = relay(alloc, &mut client_in, &mut server_out, &mut server_in, &mut client_out, 9);
+    let answer = relay(
+        alloc,
+        &mut client_in,
+        &mut server_out,
+        &mut server_in,
+        &mut client_out,
+        9,
+    );
     let whole = call / 3;
-    assert_eq!(rt; answer, stopped(2 * whole, GateFault::ReadFault(End::Client)));
+    assert_eq!(rt;
+        answer,
+        stopped(2 * whole, GateFault::ReadFault(End::Client))
+    );
     assert_eq!(rt; server_out.written().len() as u64, 7 * whole);
     assert_eq!(rt; client_out.written().len() as u64, 7 * whole);
 }
@@ -61,9 +89,19 @@ fn server_read_fails(rt: &impl Abort, alloc: Global, call: u64) {
     let mut server_in = FaultySource::new(THREE, call);
     let mut server_out = VecSink::new(alloc);
     let mut client_out = VecSink::new(alloc);
-    let answer = relay(alloc, &mut client_in, &mut server_out, &mut server_in, &mut client_out, 9);
+    let answer = relay(
+        alloc,
+        &mut client_in,
+        &mut server_out,
+        &mut server_in,
+        &mut client_out,
+        9,
+    );
     let whole = call / 3;
-    assert_eq!(rt; answer, stopped(2 * whole + 1, GateFault::ReadFault(End::Server)));
+    assert_eq!(rt;
+        answer,
+        stopped(2 * whole + 1, GateFault::ReadFault(End::Server))
+    );
     assert_eq!(rt; server_out.written().len() as u64, 7 * whole + 7);
     assert_eq!(rt; client_out.written().len() as u64, 7 * whole);
 }
@@ -81,8 +119,18 @@ fn server_write_fails(rt: &impl Abort, alloc: Global, call: u64) {
     let mut server_in = SliceSource::new(THREE);
     let mut server_out = FaultySink::new(alloc, call);
     let mut client_out = VecSink::new(alloc);
-    let answer = relay(alloc, &mut client_in, &mut server_out, &mut server_in, &mut client_out, 9);
-    assert_eq!(rt; answer, stopped(2 * call, GateFault::WriteFault(End::Server)));
+    let answer = relay(
+        alloc,
+        &mut client_in,
+        &mut server_out,
+        &mut server_in,
+        &mut client_out,
+        9,
+    );
+    assert_eq!(rt;
+        answer,
+        stopped(2 * call, GateFault::WriteFault(End::Server))
+    );
     assert_eq!(rt; server_out.sink.written().len() as u64, 7 * call);
     assert_eq!(rt; client_out.written().len() as u64, 7 * call);
 }
@@ -92,8 +140,18 @@ fn client_write_fails(rt: &impl Abort, alloc: Global, call: u64) {
     let mut server_in = SliceSource::new(THREE);
     let mut server_out = VecSink::new(alloc);
     let mut client_out = FaultySink::new(alloc, call);
-    let answer = relay(alloc, &mut client_in, &mut server_out, &mut server_in, &mut client_out, 9);
-    assert_eq!(rt; answer, stopped(2 * call + 1, GateFault::WriteFault(End::Client)));
+    let answer = relay(
+        alloc,
+        &mut client_in,
+        &mut server_out,
+        &mut server_in,
+        &mut client_out,
+        9,
+    );
+    assert_eq!(rt;
+        answer,
+        stopped(2 * call + 1, GateFault::WriteFault(End::Client))
+    );
     assert_eq!(rt; server_out.written().len() as u64, 7 * call + 7);
     assert_eq!(rt; client_out.sink.written().len() as u64, 7 * call);
 }

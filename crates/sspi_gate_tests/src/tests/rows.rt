@@ -19,14 +19,30 @@ fn line(rt: &impl Abort, alloc: Global, line: &str) {
     unmade(rt);
 }
 
-fn streams(rt: &impl Abort, alloc: Global, client: &str, server: &str, turns: &str, words: &str, lens: &str) {
+fn streams(
+    rt: &impl Abort,
+    alloc: Global,
+    client: &str,
+    server: &str,
+    turns: &str,
+    words: &str,
+    lens: &str,
+) {
     match hex::decode(alloc, client) {
         Ok(client) => decoded(rt, alloc, &client, server, turns, words, lens),
         Err(_) => unmade(rt),
     }
 }
 
-fn decoded(rt: &impl Abort, alloc: Global, client: &[u8], server: &str, turns: &str, words: &str, lens: &str) {
+fn decoded(
+    rt: &impl Abort,
+    alloc: Global,
+    client: &[u8],
+    server: &str,
+    turns: &str,
+    words: &str,
+    lens: &str,
+) {
     match hex::decode(alloc, server) {
         Ok(server) => case(rt, alloc, client, &server, turns, words, lens),
         Err(_) => unmade(rt),
@@ -43,13 +59,23 @@ fn number(rt: &impl Abort, digits: &str) -> u32 {
     }
 }
 
-fn case(rt: &impl Abort, alloc: Global, client: &[u8], server: &[u8], turns: &str, words: &str, lens: &str) {
+fn case(
+    rt: &impl Abort,
+    alloc: Global,
+    client: &[u8],
+    server: &[u8],
+    turns: &str,
+    words: &str,
+    lens: &str,
+) {
     let turns = number(rt, turns);
     match (answer(words), lens.split_once(' ')) {
         (Some(wanted), Some((to_server, to_client))) => {
             let to_server = number(rt, to_server) as usize;
             let to_client = number(rt, to_client) as usize;
-            relays(rt, alloc, client, server, turns, wanted, to_server, to_client);
+            relays(
+                rt, alloc, client, server, turns, wanted, to_server, to_client,
+            );
         }
         _ => unmade(rt),
     }

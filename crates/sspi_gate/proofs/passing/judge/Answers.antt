@@ -9,8 +9,7 @@ returns-then-not-may_send c =
 
 pub returns : goal.returns
 returns c =
-    let read = c.in-Ok.ensures.answer.0 in
-    (
+    let read = c.in-Ok.ensures.answer.0 in (
       c.in-Ok.request,
       is_text c.args.bytes.now c.in-Ok.request read.0 c.requires read.1,
       record { version = refl; refusal = c.refusing_code.ensures },

@@ -37,8 +37,8 @@ pub loop-preserved : goal.loop-preserved
 loop-preserved g c = record {
   passed = omega (arith, c.loop.invariant.passed);
   so_far = server_passed c.loop.counter _ _ _ _ _ _ _ c.in-Passed-pass_next.seen
-  (client_passed c.loop.counter _ _ _ _ _ _ _ c.in-Passed.seen c.loop.invariant.so_far c.in-Passed.ensures)
-  c.in-Passed-pass_next.ensures c.in-None.is;
+      (client_passed c.loop.counter _ _ _ _ _ _ _ c.in-Passed.seen c.loop.invariant.so_far c.in-Passed.ensures)
+      c.in-Passed-pass_next.ensures c.in-None.is;
 }
 
 pub returns : goal.returns
