@@ -1,13 +1,12 @@
 //! A whole exchange whose client asks a KDC: once in its first turn, and once in its second.
 
 use crate::tests::asks::Asks;
-use crate::tests::ends::{Client, Server, holds, is_identity, plain_client, plain_server};
+use crate::tests::ends::{Client, Server, client, server};
+use crate::tests::words::{Test, given, parted};
 use sspi_delegate::{DelegateError, Delegation, MemoryLink, Transcript, delegate};
 use sspi_mech::{Kdc, KdcError, Mechanism};
 use sspi_names::NetworkRequest;
-use sspi_types::ErrorKind;
 use std::alloc::Global;
-use std::process::Abort;
 
 /// What a KDC does at each call.
 #[derive(Clone, Copy, PartialEq, Eq)]
@@ -48,102 +47,93 @@ impl Kdc for TestKdc {
     }
 }
 
-/// What came of an exchange.
-#[derive(Drop)]
-struct Exchanged {
-    answer: Result<Delegation, DelegateError>,
-    /// How many turns are recorded.
-    turns: usize,
-    /// How often the KDC was asked.
-    calls: u64,
-    /// Whether the client was left waiting.
-    waits: bool,
-}
-
-fn exchange<M: Mechanism>(
-    alloc: Global,
-    client: &mut Client<M>,
-    server: &mut Server<M>,
-    usual: Usual,
-) -> Exchanged {
-    let mut link = MemoryLink::new(alloc, Vec::new(alloc));
-    let mut kdc = TestKdc {
-        alloc,
+fn kdc(rt: &impl Test, word: &str) -> TestKdc {
+    let usual = match word {
+        "answers" => Usual::Answers,
+        "fails" => Usual::Fails,
+        "lacks-memory" => Usual::HasNoMemory,
+        _ => rt.abort(),
+    };
+    TestKdc {
+        alloc: rt.alloc(),
         usual,
         calls: 0,
         faults: 0,
+    }
+}
+
+fn delegated(rt: &impl Test, delegation: &Delegation, recorded: usize) -> String {
+    let name = delegation.credentials.username.inner();
+    let password = delegation.credentials.password.value.as_str();
+    let turns = delegation.turns;
+    given(
+        rt,
+        format!(in rt.alloc(); "{name}:{password}:{turns} {recorded}"),
+    )
+}
+
+fn refused(rt: &impl Test, error: DelegateError, recorded: usize) -> String {
+    let word = match error {
+        DelegateError::Client(error) => error.error_type.name(),
+        DelegateError::InsufficientMemory => "memory",
+        _ => rt.abort(),
     };
-    let mut transcript = Transcript::new(alloc);
+    given(rt, format!(in rt.alloc(); "{word} {recorded}"))
+}
+
+fn came(rt: &impl Test, answer: Result<Delegation, DelegateError>, recorded: usize) -> String {
+    match answer {
+        Ok(delegation) => delegated(rt, &delegation, recorded),
+        Err(error) => refused(rt, error, recorded),
+    }
+}
+
+fn exchange<M: Mechanism>(
+    rt: &impl Test,
+    client: &mut Client<M>,
+    server: &mut Server<M>,
+    kdc: &mut TestKdc,
+) -> String {
+    let mut link = MemoryLink::new(rt.alloc(), Vec::new(rt.alloc()));
+    let mut transcript = Transcript::new(rt.alloc());
     let answer = delegate(
-        alloc,
+        rt.alloc(),
         client,
         server,
         &mut link,
-        &mut kdc,
+        kdc,
         5,
         &mut transcript,
     );
-    Exchanged {
-        answer,
-        turns: transcript.turns().len(),
-        calls: kdc.calls,
-        waits: client.waiting(),
-    }
+    let turns = transcript.turns().len();
+    came(rt, answer, turns)
 }
 
-fn exchange_of<M: Mechanism>(rt: &impl Abort, alloc: Global, usual: Usual) -> Exchanged {
-    let mut client = plain_client::<Client<M>>(rt, alloc);
-    let mut server = plain_server::<Server<M>>(rt, alloc);
-    exchange(alloc, &mut client, &mut server, usual)
+/// An exchange with this KDC: what came, how many turns are recorded, how often the KDC was asked, and whether the client was
+/// left waiting.
+fn exchanged<M: Mechanism>(rt: &impl Test, word: &str) -> String {
+    let mut client = client::<M>(rt, "");
+    let mut kdc = kdc(rt, word);
+    let came = exchange(rt, &mut client, &mut server(rt, ""), &mut kdc);
+    let calls = kdc.calls;
+    let waits = client.waiting();
+    given(rt, format!(in rt.alloc(); "{came} {calls} {waits}"))
 }
 
-/// So many turns are recorded, the KDC was asked so often, and the client was left waiting or not.
-fn came_to(exchanged: &Exchanged, turns: usize, calls: u64, waits: bool) -> bool {
-    exchanged.turns == turns && exchanged.calls == calls && exchanged.waits == waits
-}
-
-fn delegates_ann(answer: &Result<Delegation, DelegateError>) -> bool {
-    match answer {
-        Ok(delegation) => {
-            delegation.turns == 3 && is_identity(&delegation.credentials, "DOM\\ann", "pw")
-        }
-        Err(_) => false,
-    }
-}
-
-fn delegates<M: Mechanism>(rt: &impl Abort, alloc: Global) {
-    let exchanged = exchange_of::<M>(rt, alloc, Usual::Answers);
-    holds(rt, came_to(&exchanged, 6, 2, false), "another exchange");
-    holds(rt, delegates_ann(&exchanged.answer), "another identity");
-}
-
-fn lacks_kdc(answer: &Result<Delegation, DelegateError>) -> bool {
-    match answer {
-        Err(DelegateError::Client(error)) => {
-            error.error_type == ErrorKind::NoAuthenticatingAuthority
-        }
-        _ => false,
-    }
-}
-
-/// A failed call is told to the client, which refuses the turn for it and would still take an answer.
-fn is_refused<M: Mechanism>(rt: &impl Abort, alloc: Global) {
-    let exchanged = exchange_of::<M>(rt, alloc, Usual::Fails);
-    holds(rt, came_to(&exchanged, 1, 1, true), "another exchange");
-    holds(rt, lacks_kdc(&exchanged.answer), "another kind");
-}
-
+/// What the KDC does; and the credentials with the client's turns or the refusal, the recorded turns, the calls of the KDC, and
+/// whether the client waits. A failed call is told to the client, which refuses the turn for it and would still take an answer.
 /// A KDC without memory ends the exchange, and no turn is recorded.
-fn is_given_up<M: Mechanism>(rt: &impl Abort, alloc: Global) {
-    let exchanged = exchange_of::<M>(rt, alloc, Usual::HasNoMemory);
-    holds(rt, came_to(&exchanged, 0, 1, true), "another exchange");
-    let lost = matches!(&exchanged.answer, Err(DelegateError::InsufficientMemory));
-    holds(rt, lost, "another answer");
-}
+const EXCHANGES: &str = "answers -> DOM\\ann:pw:3 6 2 false
+fails -> NoAuthenticatingAuthority 1 1 true
+lacks-memory -> memory 0 1 true";
 
 #[test]
 fn an_exchange_asks_its_kdc(rt: HostRuntime) {
-    delegates::<Asks<2>>(&rt, rt.alloc());
-    is_refused::<Asks<2>>(&rt, rt.alloc());
-    is_given_up::<Asks<2>>(&rt, rt.alloc());
+    for line in EXCHANGES.lines() {
+        let (word, wanted) = parted(&rt, line, " -> ");
+        assert!(&rt;
+            exchanged::<Asks<2>>(&rt, word).as_str() == wanted,
+            "{line}"
+        );
+    }
 }

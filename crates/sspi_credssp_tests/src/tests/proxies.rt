@@ -1,18 +1,22 @@
-use crate::tests::ends::{holds, is_identity, name, table};
+use crate::tests::ends::{name, proxy};
+use crate::tests::words::Test;
 use sspi_credssp::{
-    CredentialsProxy, FailingProxy, ProxyError, TableProxy, construct_error, integer_decrement_le,
+    CredentialsProxy, FailingProxy, ProxyError, construct_error, integer_decrement_le,
     integer_increment_le,
 };
 use sspi_names::{AuthIdentity, Username};
 use sspi_types::{Error, ErrorKind, NStatusCode, Reason};
-use std::alloc::Global;
 use std::process::Abort;
 
-const ENTRIES: [(&str, &str); 3] = [("DOM\\ann", "old"), ("ann@dom", "x"), ("dom\\ANN", "new")];
+const TABLE: &str = "account=DOM\\ann:old account=ann@dom:x account=dom\\ANN:new fails=3";
+
+fn holds(rt: &impl Abort, fact: bool, what: &str) {
+    assert!(rt; fact, "{what}");
+}
 
 fn is_found(found: Result<AuthIdentity, ProxyError>, name: &str, password: &str) -> bool {
     match found {
-        Ok(found) => is_identity(&found, name, password),
+        Ok(found) => { found.username.inner() == name && found.password.value.as_str() == password }
         Err(_) => false,
     }
 }
@@ -48,17 +52,17 @@ fn finds_no_bob<C: CredentialsProxy>(rt: &impl Abort, table: &mut C, bob: &Usern
     holds(rt, are_found(none, &[]), "candidates");
 }
 
-fn finds_by_name<C: CredentialsProxy>(rt: &impl Abort, alloc: Global, table: &mut C) {
-    finds_ann(rt, table, &name(rt, alloc, "Dom\\Ann"));
+fn finds_by_name(rt: &impl Test) {
+    let mut table = proxy(rt, TABLE);
+    finds_ann(rt, &mut table, &name(rt, "Dom\\Ann"));
     has_failed(rt, table.auth_data());
-    finds_no_bob(rt, table, &name(rt, alloc, "DOM\\bob"));
+    finds_no_bob(rt, &mut table, &name(rt, "DOM\\bob"));
 }
 
 /// Names are told apart by form, account and domain, without the case of ASCII letters.
 #[test]
 fn looking_up(rt: HostRuntime) {
-    let mut table = table(&rt, rt.alloc(), &ENTRIES, &[3]);
-    finds_by_name(&rt, rt.alloc(), &mut table);
+    finds_by_name(&rt);
 }
 
 fn fails<C: CredentialsProxy>(rt: &impl Abort, proxy: &mut C, ann: &Username) {
@@ -67,10 +71,13 @@ fn fails<C: CredentialsProxy>(rt: &impl Abort, proxy: &mut C, ann: &Username) {
     has_failed(rt, proxy.auth_data());
 }
 
+fn always_fails(rt: &impl Test) {
+    fails(rt, &mut FailingProxy::new(), &name(rt, "DOM\\ann"));
+}
+
 #[test]
 fn failing(rt: HostRuntime) {
-    let ann = name(&rt, rt.alloc(), "DOM\\ann");
-    fails(&rt, &mut FailingProxy::new(), &ann);
+    always_fails(&rt);
 }
 
 fn is_next(rt: &impl Abort, number: [u8; 3], next: [u8; 3]) {
