@@ -1,6 +1,7 @@
-mod buffers;
+//! One script a test: its lines go through one driver, over two ends that are made once.
+
 mod ends;
-mod exchange;
 mod lines;
+mod negotiation;
 mod queries;
-mod refusals;
+mod scripts;

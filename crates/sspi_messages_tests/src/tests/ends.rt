@@ -4,18 +4,15 @@ use bitflags::Flags;
 use sspi_credssp::SspiContext;
 use sspi_mech::{
     AcceptSecurityContext, InitializeSecurityContext, MechConfig, Mechanism, Ntlm, NtlmConfig,
-    Progressing, Step,
+    Progressing,
 };
 use sspi_names::{
-    AuthIdentity, AuthIdentityBuffers, ContextNames, Credentials, CredentialsBuffers, KdcTable,
-    Username, Utf16Text,
+    AuthIdentity, AuthIdentityBuffers, Credentials, CredentialsBuffers, KdcTable, Username,
+    Utf16Text,
 };
 use sspi_negotiate::{Negotiate, NegotiateConfig, ProtocolConfig};
-use sspi_types::{
-    ClientRequestFlags, ContextSizes, DataRepresentation, DecryptionFlags, EncryptionFlags, Error,
-    PackageInfo, Secret, SecurityBuffer, SecurityStatus, ServerRequestFlags, SessionKeys, Text,
-};
-use std::alloc::{AllocError, Global};
+use sspi_types::{ClientRequestFlags, DataRepresentation, Secret, ServerRequestFlags, Text};
+use std::alloc::Global;
 use std::process::Abort;
 
 /// What a test runs on.
@@ -36,181 +33,35 @@ pub fn given<T, E: Drop>(rt: &impl Abort, answer: Result<T, E>) -> T {
     }
 }
 
-/// An end of an authentication. The tests are written over this trait, which promises nothing.
-pub trait End: Sized + Drop {
-    fn client(rt: &impl Test) -> Self;
+pub type Context = SspiContext<Ntlm, Ntlm>;
 
-    fn server(rt: &impl Test) -> Self;
-
-    fn initialize(&mut self, args: &InitializeSecurityContext<'_>) -> Result<Progressing, Error>;
-
-    fn accept(&mut self, args: &AcceptSecurityContext<'_>) -> Result<Step, Error>;
-
-    fn set_identities(&mut self, identities: Vec<Credentials>) -> Result<(), Error>;
-
-    fn encrypt(&mut self, message: &mut [SecurityBuffer]) -> Result<SecurityStatus, Error>;
-
-    fn decrypt(&mut self, message: &mut [SecurityBuffer]) -> Result<DecryptionFlags, Error>;
-
-    fn sign(&mut self, message: &mut [SecurityBuffer]) -> Result<(), Error>;
-
-    fn verify(&mut self, message: &mut [SecurityBuffer]) -> Result<u32, Error>;
-
-    fn names(&self) -> Result<ContextNames, Error>;
-
-    fn sizes(&self) -> ContextSizes;
-
-    fn session_key(&self) -> Result<SessionKeys, Error>;
-
-    fn package(&self) -> Result<PackageInfo, Error>;
-
-    fn negotiated(&self) -> Result<PackageInfo, Error>;
-
-    /// The refusals of the queries that no package has.
-    fn unsupported(&self) -> [Option<Error>; 3];
+/// The two ends of an authentication.
+#[derive(Drop)]
+pub struct Ends {
+    pub client: Context,
+    pub server: Context,
 }
 
-impl End for Negotiate<Ntlm, Ntlm> {
-    fn client(rt: &impl Test) -> Self {
-        given(rt, Negotiate::new_client(rt.alloc(), &config(rt)))
-    }
-
-    fn server(rt: &impl Test) -> Self {
-        let mut known = Vec::new(rt.alloc());
-        given(rt, known.push(identity(rt)));
-        given(rt, Negotiate::new_server(rt.alloc(), &config(rt), known))
-    }
-
-    fn initialize(&mut self, args: &InitializeSecurityContext<'_>) -> Result<Progressing, Error> {
-        self.initialize_security_context(args)
-    }
-
-    fn accept(&mut self, args: &AcceptSecurityContext<'_>) -> Result<Step, Error> {
-        self.accept_security_context(args)
-    }
-
-    fn set_identities(&mut self, identities: Vec<Credentials>) -> Result<(), Error> {
-        self.custom_set_auth_identities(identities)
-    }
-
-    fn encrypt(&mut self, message: &mut [SecurityBuffer]) -> Result<SecurityStatus, Error> {
-        self.encrypt_message(EncryptionFlags::WRAP_NO_ENCRYPT, message)
-    }
-
-    fn decrypt(&mut self, message: &mut [SecurityBuffer]) -> Result<DecryptionFlags, Error> {
-        self.decrypt_message(message)
-    }
-
-    fn sign(&mut self, message: &mut [SecurityBuffer]) -> Result<(), Error> {
-        self.make_signature(1, message, 7)
-    }
-
-    fn verify(&mut self, message: &mut [SecurityBuffer]) -> Result<u32, Error> {
-        self.verify_signature(message, 9)
-    }
-
-    fn names(&self) -> Result<ContextNames, Error> {
-        self.query_context_names()
-    }
-
-    fn sizes(&self) -> ContextSizes {
-        self.query_context_sizes()
-    }
-
-    fn session_key(&self) -> Result<SessionKeys, Error> {
-        self.query_context_session_key()
-    }
-
-    fn package(&self) -> Result<PackageInfo, Error> {
-        self.query_context_package_info()
-    }
-
-    fn negotiated(&self) -> Result<PackageInfo, Error> {
-        self.query_context_negotiation_package()
-    }
-
-    fn unsupported(&self) -> [Option<Error>; 3] {
-        [
-            self.query_context_stream_sizes().err(),
-            self.query_context_cert_trust_status().err(),
-            self.query_context_connection_info().err(),
-        ]
+/// Ends that have plain NTLM alone.
+pub fn plain(rt: &impl Test) -> Ends {
+    Ends {
+        client: SspiContext::Ntlm(ntlm(rt)),
+        server: SspiContext::Ntlm(ntlm(rt)),
     }
 }
 
-/// A context of plain NTLM alone.
-impl End for SspiContext<Ntlm, Ntlm> {
-    fn client(rt: &impl Test) -> Self {
-        SspiContext::Ntlm(ntlm(rt))
-    }
-
-    fn server(rt: &impl Test) -> Self {
-        SspiContext::Ntlm(ntlm(rt))
-    }
-
-    fn initialize(&mut self, args: &InitializeSecurityContext<'_>) -> Result<Progressing, Error> {
-        self.initialize_security_context(args)
-    }
-
-    fn accept(&mut self, args: &AcceptSecurityContext<'_>) -> Result<Step, Error> {
-        self.accept_security_context(args)
-    }
-
-    fn set_identities(&mut self, identities: Vec<Credentials>) -> Result<(), Error> {
-        self.custom_set_auth_identities(identities)
-    }
-
-    fn encrypt(&mut self, message: &mut [SecurityBuffer]) -> Result<SecurityStatus, Error> {
-        self.encrypt_message(EncryptionFlags::WRAP_OOB_DATA, message)
-    }
-
-    fn decrypt(&mut self, message: &mut [SecurityBuffer]) -> Result<DecryptionFlags, Error> {
-        self.decrypt_message(message)
-    }
-
-    fn sign(&mut self, message: &mut [SecurityBuffer]) -> Result<(), Error> {
-        self.make_signature(0, message, 0)
-    }
-
-    fn verify(&mut self, message: &mut [SecurityBuffer]) -> Result<u32, Error> {
-        self.verify_signature(message, 5)
-    }
-
-    fn names(&self) -> Result<ContextNames, Error> {
-        self.query_context_names()
-    }
-
-    fn sizes(&self) -> ContextSizes {
-        self.query_context_sizes()
-    }
-
-    fn session_key(&self) -> Result<SessionKeys, Error> {
-        self.query_context_session_key()
-    }
-
-    fn package(&self) -> Result<PackageInfo, Error> {
-        self.query_context_package_info()
-    }
-
-    fn negotiated(&self) -> Result<PackageInfo, Error> {
-        self.query_context_negotiation_package()
-    }
-
-    fn unsupported(&self) -> [Option<Error>; 3] {
-        [
-            self.query_context_stream_sizes().err(),
-            self.query_context_cert_trust_status().err(),
-            self.query_context_connection_info().err(),
-        ]
+/// Ends that negotiate, and come to plain NTLM.
+pub fn negotiating(rt: &impl Test) -> Ends {
+    Ends {
+        client: SspiContext::Negotiate(given(rt, Negotiate::new_client(rt.alloc(), &config(rt)))),
+        server: SspiContext::Negotiate(server(rt)),
     }
 }
 
-pub fn client<E: End>(rt: &impl Test) -> E {
-    E::client(rt)
-}
-
-pub fn server<E: End>(rt: &impl Test) -> E {
-    E::server(rt)
+fn server(rt: &impl Test) -> Negotiate<Ntlm, Ntlm> {
+    let mut known = Vec::new(rt.alloc());
+    given(rt, known.push(identity(rt)));
+    given(rt, Negotiate::new_server(rt.alloc(), &config(rt), known))
 }
 
 fn text(rt: &impl Test, text: &str) -> Text {
@@ -254,9 +105,9 @@ fn handle(rt: &impl Test) -> CredentialsBuffers {
 }
 
 /// The client's token for what came from the server.
-pub fn initializes(rt: &impl Test, client: &mut impl End, input: Vec<u8>) -> Vec<u8> {
+fn initializes(rt: &impl Test, client: &mut Context, input: Vec<u8>) -> Vec<u8> {
     let handle = handle(rt);
-    match client.initialize(&InitializeSecurityContext {
+    match client.initialize_security_context(&InitializeSecurityContext {
         credentials_handle: Some(&handle),
         context_requirements: ClientRequestFlags::from_bits_retain(0),
         target_data_representation: DataRepresentation::Native,
@@ -269,10 +120,10 @@ pub fn initializes(rt: &impl Test, client: &mut impl End, input: Vec<u8>) -> Vec
 }
 
 /// The server's token for what came from the client.
-pub fn accepts(rt: &impl Test, server: &mut impl End, input: Vec<u8>) -> Vec<u8> {
+fn accepts(rt: &impl Test, server: &mut Context, input: Vec<u8>) -> Vec<u8> {
     let step = given(
         rt,
-        server.accept(&AcceptSecurityContext {
+        server.accept_security_context(&AcceptSecurityContext {
             credentials_handle: None,
             context_requirements: ServerRequestFlags::from_bits_retain(0),
             target_data_representation: DataRepresentation::Native,
@@ -282,16 +133,19 @@ pub fn accepts(rt: &impl Test, server: &mut impl End, input: Vec<u8>) -> Vec<u8>
     step.output.into_inner()
 }
 
-/// Both ends authenticate, and get a key.
-pub fn authenticate(rt: &impl Test, client: &mut impl End, server: &mut impl End) {
-    let first = initializes(rt, client, Vec::new(rt.alloc()));
-    let challenge = accepts(rt, server, first);
-    let name = initializes(rt, client, challenge);
-    let last = accepts(rt, server, name);
+/// The server's answer to the client's next token.
+fn goes_round(rt: &impl Test, ends: &mut Ends, input: Vec<u8>) -> Vec<u8> {
+    let token = initializes(rt, &mut ends.client, input);
+    accepts(rt, &mut ends.server, token)
+}
+
+/// Both ends authenticate, and the server is told who its peer may be: then both have the key.
+pub fn authenticate(rt: &impl Test, ends: &mut Ends) {
+    let challenge = goes_round(rt, ends, Vec::new(rt.alloc()));
+    let last = goes_round(rt, ends, challenge);
     if !last.is_empty() {
-        let _ = initializes(rt, client, last);
+        let _ = initializes(rt, &mut ends.client, last);
     }
-    let mut identities = Vec::new(rt.alloc());
-    given(rt, identities.push(Credentials::AuthIdentity(identity(rt))));
-    given(rt, server.set_identities(identities));
+    let identity = Credentials::AuthIdentity(identity(rt));
+    given(rt, ends.server.custom_set_auth_identity(identity));
 }

@@ -1,13 +1,18 @@
-//! Calls told by lines of text, as `client seal tokn:,data:41 -> tokn:00,data:41`.
+//! Calls told by lines of text, as `client seal tokn:,data:41 -> tokn:00,data:41`, `server ask name -> DOM\ann` or
+//! `server do complete -> Ok`.
 //!
 //! A buffer is its type, `!` where it may only be read or `?` where a checksum covers it too, `:` and its bytes: hex, or `text`
 //! for those of `Devolutions/sspi-rs`, joined by `+`. Behind the arrow stands what the buffers are afterwards, `same`
-//! where that is what they were, or the kind of a refusal, after which they are to be as before.
+//! where that is what they were, or the text of a refusal, after which they are to be as before. The line `authenticate` has
+//! both ends authenticate, and `negotiation` tries the calls of the negotiations that they have in hand.
 
-use crate::tests::ends::{End, Test, given, holds};
+use crate::tests::ends::{Context, Ends, Test, authenticate, given, holds};
+use crate::tests::negotiation::negotiated;
+use crate::tests::queries::{act, ask};
+use bitflags::Flags;
 use sspi_types::{
-    BufferType, Bytes, Error, SecurityBuffer, SecurityBufferFlags, SecurityBufferType,
-    SecurityStatus,
+    BufferType, Bytes, EncryptionFlags, Error, SecurityBuffer, SecurityBufferFlags,
+    SecurityBufferType, SecurityStatus,
 };
 use std::process::Abort;
 
@@ -60,7 +65,7 @@ fn buffer(rt: &impl Test, text: &str) -> SecurityBuffer {
 }
 
 /// The buffers of a text, which `-` has none of.
-fn message(rt: &impl Test, text: &str) -> Vec<SecurityBuffer> {
+pub fn message(rt: &impl Test, text: &str) -> Vec<SecurityBuffer> {
     let mut buffers = Vec::new(rt.alloc());
     if text == "-" {
         return buffers;
@@ -71,39 +76,43 @@ fn message(rt: &impl Test, text: &str) -> Vec<SecurityBuffer> {
     buffers
 }
 
-/// The refusal of a call, and whether it answered what it is to answer where there is none.
-fn calls(end: &mut impl End, call: &str, message: &mut [SecurityBuffer]) -> (bool, Option<Error>) {
-    match call {
-        "seal" => {
-            let answer = end.encrypt(message);
-            (answer == Ok(SecurityStatus::Ok), answer.err())
+/// Whether a refusal, which has no NTSTATUS code, shows as this text.
+pub fn shows(error: &Error, text: &str) -> bool {
+    match text.split_once(": ") {
+        Some((kind, reason)) => {
+            error.error_type.name() == kind
+                && error.description.text() == reason
+                && error.nstatus.is_none()
         }
-        "open" => {
-            let answer = end.decrypt(message);
-            (answer.is_ok(), answer.err())
-        }
-        "sign" => {
-            let answer = end.sign(message);
-            (answer.is_ok(), answer.err())
-        }
-        "verify" => {
-            let answer = end.verify(message);
-            (answer == Ok(0), answer.err())
-        }
-        _ => (false, None),
+        None => false,
     }
 }
 
-fn comes(rt: &impl Test, end: &mut impl End, call: &str, before: &str, after: &str) {
+/// A call, by its word, and whether its answer is the only one that there is. Flags and numbers are not read.
+fn calls(end: &mut Context, call: &str, message: &mut [SecurityBuffer]) -> Result<bool, Error> {
+    match call {
+        "seal" => {
+            let status = end.encrypt_message(EncryptionFlags::WRAP_NO_ENCRYPT, message)?;
+            Ok(status == SecurityStatus::Ok)
+        }
+        "open" => Ok(end.decrypt_message(message)?.bits() == 0),
+        "sign" => {
+            end.make_signature(1, message, 7)?;
+            Ok(true)
+        }
+        "verify" => Ok(end.verify_signature(message, 9)? == 0),
+        _ => Ok(false),
+    }
+}
+
+fn protects(rt: &impl Test, end: &mut Context, call: &str, before: &str, after: &str) {
     let mut buffers = message(rt, before);
-    let (answered, refusal) = calls(end, call, &mut buffers);
-    match refusal {
-        Some(error) => {
-            holds(rt, error.error_type.name() == after, before);
-            holds(rt, error.nstatus.is_none(), before);
+    match calls(end, call, &mut buffers) {
+        Err(error) => {
+            holds(rt, shows(&error, after), before);
             holds(rt, buffers == message(rt, before), before);
         }
-        None => {
+        Ok(answered) => {
             let after = if after == "same" { before } else { after };
             holds(rt, answered, before);
             holds(rt, buffers == message(rt, after), before);
@@ -111,25 +120,34 @@ fn comes(rt: &impl Test, end: &mut impl End, call: &str, before: &str, after: &s
     }
 }
 
-fn goes(rt: &impl Test, client: &mut impl End, server: &mut impl End, told: &str, after: &str) {
-    let Some((end, told)) = told.split_once(' ') else {
-        return holds(rt, false, told);
-    };
-    let Some((call, before)) = told.split_once(' ') else {
-        return holds(rt, false, told);
-    };
-    match end {
-        "client" => comes(rt, client, call, before, after),
-        _ => comes(rt, server, call, before, after),
+fn comes(rt: &impl Test, end: &mut Context, told: &str, after: &str) {
+    match told.split_once(' ') {
+        Some(("ask", what)) => ask(rt, end, what, after),
+        Some(("do", what)) => act(rt, end, what, after),
+        Some((call, before)) => protects(rt, end, call, before, after),
+        None => holds(rt, false, told),
     }
 }
 
-/// Each line comes true.
-pub fn go(rt: &impl Test, client: &mut impl End, server: &mut impl End, lines: &str) {
-    for line in lines.lines() {
-        match line.split_once(" -> ") {
-            Some((told, after)) => goes(rt, client, server, told, after),
-            None => holds(rt, line.is_empty(), line),
+fn goes(rt: &impl Test, ends: &mut Ends, line: &str) {
+    let Some((told, after)) = line.split_once(" -> ") else {
+        return holds(rt, false, line);
+    };
+    match told.split_once(' ') {
+        Some(("client", told)) => comes(rt, &mut ends.client, told, after),
+        Some(("server", told)) => comes(rt, &mut ends.server, told, after),
+        Some((_, _)) | None => holds(rt, false, told),
+    }
+}
+
+/// Each line of the script comes true.
+pub fn go(rt: &impl Test, ends: &mut Ends, script: &str) {
+    for line in script.lines() {
+        match line {
+            "" => {}
+            "authenticate" => authenticate(rt, ends),
+            "negotiation" => negotiated(rt, ends),
+            line => goes(rt, ends, line),
         }
     }
 }

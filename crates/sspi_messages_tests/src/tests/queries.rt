@@ -1,84 +1,120 @@
-use crate::tests::ends::{End, Test, authenticate, client, given, holds, identity, server};
-use sspi_credssp::SspiContext;
-use sspi_mech::Ntlm;
-use sspi_negotiate::Negotiate;
+//! Queries told by a word, and what they answer by a text: a name, a key in hex, the package of an entry, or a refusal.
+
+use crate::tests::ends::{Context, Test, given, holds, identity};
+use crate::tests::lines::shows;
+use sspi_names::{ContextNames, Credentials, KeytabIdentity, Username};
 use sspi_types::{
-    Error, ErrorKind, PackageInfo, Reason, SecurityPackageType, query_security_package_info,
+    Bytes, ContextSizes, Error, PackageInfo, SecurityPackageType, SecurityStatus, SessionKeys,
+    query_security_package_info,
 };
 
-/// SHA-256 over the label of the key, eight zero bytes, `DOM\ann` and `pw`.
-const KEY: &str = "a30f440ea5d4fad9989e2e7dab3de7e0cf9ed7c3e4506b346e382439f6b556a8";
-
-fn is_entry(rt: &impl Test, answer: Result<PackageInfo, Error>, name: &SecurityPackageType) {
-    let entry = query_security_package_info(rt.alloc(), name);
-    holds(rt, answer.is_ok() && answer == entry, "another entry");
-}
-
-fn lacks(rt: &impl Test, end: &impl End) {
-    let sequence = Error::new(ErrorKind::OutOfSequence, Reason::Sequence);
-    holds(rt, end.session_key().err() == Some(sequence), "a key");
-    holds(rt, end.names().err() == Some(sequence), "a name");
-}
-
-fn tells(rt: &impl Test, end: &impl End) {
-    let keys = given(rt, end.session_key());
-    let key = given(rt, hex::decode(rt.alloc(), KEY));
-    let key_is = keys.session_key.value.as_slice() == key.as_slice();
-    holds(rt, key_is, "another key");
-    let names = given(rt, end.names());
-    holds(rt, names.username == identity(rt).username, "another name");
-}
-
-fn always(rt: &impl Test, end: &impl End) {
-    let sizes = end.sizes();
-    let token = sizes.max_token == 2010 && sizes.max_signature == 16;
-    holds(rt, token && sizes.block == 0, "other sizes");
-    holds(rt, sizes.security_trailer == 16, "another trailer");
-    for refusal in end.unsupported() {
-        holds(rt, refusal == Some(unsupported()), "it is supported");
+pub fn refused(rt: &impl Test, refusal: Option<Error>, told: &str) {
+    match refusal {
+        Some(error) => holds(rt, shows(&error, told), told),
+        None => holds(rt, false, told),
     }
 }
 
-fn unsupported() -> Error {
-    Error::new(ErrorKind::UnsupportedFunction, Reason::Unsupported)
+fn password(rt: &impl Test) -> Credentials {
+    Credentials::AuthIdentity(identity(rt))
 }
 
-fn asks(rt: &impl Test, client: &mut impl End, server: &mut impl End) {
-    lacks(rt, client);
-    lacks(rt, server);
-    always(rt, client);
-    authenticate(rt, client, server);
-    tells(rt, client);
-    tells(rt, server);
-    always(rt, server);
+/// It is refused, or it answers nothing, which `-` stands for.
+fn done(rt: &impl Test, answer: Result<(), Error>, told: &str) {
+    match answer {
+        Ok(()) => holds(rt, told == "-", told),
+        Err(error) => holds(rt, shows(&error, told), told),
+    }
 }
 
-#[test]
-fn of_a_negotiation(rt: HostRuntime) {
-    let mut client: Negotiate<Ntlm, Ntlm> = client(&rt);
-    let mut server: Negotiate<Ntlm, Ntlm> = server(&rt);
-    is_entry(&rt, client.package(), &SecurityPackageType::Negotiate);
-    is_entry(&rt, client.negotiated(), &SecurityPackageType::Ntlm);
-    asks(&rt, &mut client, &mut server);
+pub fn named(rt: &impl Test, answer: Result<ContextNames, Error>, told: &str) {
+    match answer {
+        Ok(names) => holds(rt, names.username.inner() == told, told),
+        Err(error) => holds(rt, shows(&error, told), told),
+    }
 }
 
-#[test]
-fn of_a_context(rt: HostRuntime) {
-    let mut client: SspiContext<Ntlm, Ntlm> = client(&rt);
-    let mut server: SspiContext<Ntlm, Ntlm> = server(&rt);
-    is_entry(&rt, client.package(), &SecurityPackageType::Ntlm);
-    holds(
-        &rt,
-        client.negotiated().err() == Some(unsupported()),
-        "an entry",
-    );
-    asks(&rt, &mut client, &mut server);
+pub fn keyed(rt: &impl Test, answer: Result<SessionKeys, Error>, told: &str) {
+    match answer {
+        Ok(keys) => {
+            let key = given(rt, hex::decode(rt.alloc(), told));
+            holds(
+                rt,
+                keys.session_key.value.as_slice() == key.as_slice(),
+                told,
+            );
+        }
+        Err(error) => holds(rt, shows(&error, told), told),
+    }
 }
 
-/// A context that negotiates tells what its negotiation tells.
-#[test]
-fn of_a_context_that_negotiates(rt: HostRuntime) {
-    let client: SspiContext<Ntlm, Ntlm> = SspiContext::Negotiate(client(&rt));
-    is_entry(&rt, client.package(), &SecurityPackageType::Negotiate);
-    is_entry(&rt, client.negotiated(), &SecurityPackageType::Ntlm);
+/// An entry is all that the package's own is.
+pub fn entered(rt: &impl Test, answer: Result<PackageInfo, Error>, told: &str) {
+    match answer {
+        Ok(info) => {
+            let package = given(rt, SecurityPackageType::from_str(rt.alloc(), told));
+            let entry = query_security_package_info(rt.alloc(), &package);
+            holds(rt, Ok(info) == entry, told);
+        }
+        Err(error) => holds(rt, shows(&error, told), told),
+    }
+}
+
+pub fn sized(rt: &impl Test, sizes: ContextSizes, told: &str) {
+    let ntlm = ContextSizes {
+        max_token: 2010,
+        max_signature: 16,
+        block: 0,
+        security_trailer: 16,
+    };
+    holds(rt, told == "2010,16,0,16" && sizes == ntlm, told);
+}
+
+fn completed(rt: &impl Test, answer: Result<SecurityStatus, Error>, told: &str) {
+    match answer {
+        Ok(status) => holds(rt, told == "Ok" && status == SecurityStatus::Ok, told),
+        Err(error) => holds(rt, shows(&error, told), told),
+    }
+}
+
+fn keytab(rt: &impl Test) -> Credentials {
+    Credentials::Keytab(KeytabIdentity {
+        username: given(rt, Username::parse(rt.alloc(), "ann")),
+        keytab: Bytes::new(rt.alloc()),
+    })
+}
+
+pub fn ask(rt: &impl Test, context: &Context, what: &str, told: &str) {
+    match what {
+        "name" => named(rt, context.query_context_names(), told),
+        "key" => keyed(rt, context.query_context_session_key(), told),
+        "sizes" => sized(rt, context.query_context_sizes(), told),
+        "entry" => entered(rt, context.query_context_package_info(), told),
+        "negotiated" => entered(rt, context.query_context_negotiation_package(), told),
+        what => lacks(rt, context, what, told),
+    }
+}
+
+/// What no package here has, and the name of the package in hand.
+fn lacks(rt: &impl Test, context: &Context, what: &str, told: &str) {
+    match what {
+        "streams" => refused(rt, context.query_context_stream_sizes().err(), told),
+        "trust" => refused(rt, context.query_context_cert_trust_status().err(), told),
+        "connection" => refused(rt, context.query_context_connection_info().err(), told),
+        what => holds(
+            rt,
+            what == "package" && context.package_name() == told,
+            what,
+        ),
+    }
+}
+
+/// What changes a context, and does not protect a message.
+pub fn act(rt: &impl Test, context: &mut Context, what: &str, told: &str) {
+    match what {
+        "complete" => completed(rt, context.complete_auth_token(), told),
+        "keytab" => done(rt, context.custom_set_auth_identity(keytab(rt)), told),
+        "password" => done(rt, context.custom_set_auth_identity(password(rt)), told),
+        what => holds(rt, false, what),
+    }
 }

@@ -1,0 +1,139 @@
+//! A client and a server of a delegation, whose messages are carried by hand.
+
+use crate::part::{Part, pair};
+use sspi_ber::VecSink;
+use sspi_credssp::{
+    ClientMode, ClientState, CredSspClient, CredSspMode, CredSspServer, CredentialsProxy, Progress,
+    ServerMode, ServerState, TableProxy,
+};
+use sspi_mech::{Mechanism, NtlmConfig};
+use sspi_names::{AuthIdentity, Credentials, Username};
+use sspi_tsreq::TsRequest;
+use sspi_types::{Error, ErrorKind, Reason, Secret, Text};
+use std::alloc::{AllocError, Global};
+
+/// How many messages the client may send: plain NTLM needs three.
+const MESSAGES: u32 = 5;
+
+/// The user `ann`, as the client delegates it and as the server's table knows it.
+pub fn ann(alloc: Global) -> Result<AuthIdentity, Error> {
+    let username = Username::parse(alloc, "ann")?;
+    let password = Secret::from(Text::from_text(alloc, "pw")?);
+    Ok(AuthIdentity { username, password })
+}
+
+/// The SubjectPublicKey of the TLS channel's certificate: both ends see the same.
+pub fn key(alloc: Global) -> Result<Vec<u8>, AllocError> {
+    Vec::from_slice(alloc, &[1, 2, 3])
+}
+
+pub fn ntlm_config(alloc: Global) -> Result<NtlmConfig, AllocError> {
+    Ok(NtlmConfig::new(Text::from_text(alloc, "HOST")?))
+}
+
+/// The nonce is the client's own: take fresh random bytes for each.
+fn client<M: Mechanism>(alloc: Global) -> Result<CredSspClient<M, M>, Error> {
+    let mode = ClientMode::Ntlm(ntlm_config(alloc)?);
+    let target = String::from_str(alloc, "TERMSRV/host")?;
+    let key = key(alloc)?;
+    Ok(CredSspClient::new(
+        alloc,
+        key,
+        Credentials::AuthIdentity(ann(alloc)?),
+        CredSspMode::WithCredentials,
+        mode,
+        target,
+        [7; 32],
+    ))
+}
+
+fn server<M: Mechanism>(alloc: Global) -> Result<CredSspServer<M, M, TableProxy>, Error> {
+    let mut known = Vec::new(alloc);
+    known.push(ann(alloc)?)?;
+    let proxy = TableProxy::new(alloc, known, Vec::new(alloc));
+    let mode = ServerMode::Ntlm(ntlm_config(alloc)?);
+    Ok(CredSspServer::new(alloc, key(alloc)?, proxy, mode))
+}
+
+/// What the peer reads of a message, once its bytes went over the channel.
+fn carried(alloc: Global, message: &TsRequest) -> Result<TsRequest, Error> {
+    let mut wire = VecSink::new(alloc);
+    message.encode_ts_request(&mut wire)?;
+    Ok(TsRequest::from_buffer(alloc, wire.written())?)
+}
+
+/// The client's next message. Plain NTLM asks no KDC, so no turn is suspended.
+fn message_of<N: Mechanism, K: Mechanism>(
+    client: &mut CredSspClient<N, K>,
+    delivered: TsRequest,
+) -> Result<TsRequest, Error> {
+    match client.process(delivered) {
+        Ok(Progress::Completed(ClientState::ReplyNeeded(message))) => Ok(message),
+        Ok(Progress::Completed(ClientState::FinalMessage(message))) => Ok(message),
+        Ok(Progress::Suspended(_)) => Err(Error::new(ErrorKind::InternalError, Reason::Kdc)),
+        Err(error) => Err(error),
+    }
+}
+
+/// A round: the client's message to the server, and what that makes of it.
+fn round<N: Mechanism, K: Mechanism, C: CredentialsProxy>(
+    alloc: Global,
+    client: &mut CredSspClient<N, K>,
+    server: &mut CredSspServer<N, K, C>,
+    delivered: TsRequest,
+) -> Result<ServerState, Error> {
+    let message = message_of(client, delivered)?;
+    match server.process(carried(alloc, &message)?) {
+        Ok(state) => Ok(state),
+        // `refusal.ts_request` is for the client, which then refuses with the same status
+        Err(refusal) => Err(refusal.error),
+    }
+}
+
+/// The identity that the server has in the end, and how many messages the client sent.
+fn carry<N: Mechanism, K: Mechanism, C: CredentialsProxy>(
+    alloc: Global,
+    client: &mut CredSspClient<N, K>,
+    server: &mut CredSspServer<N, K, C>,
+) -> Result<(AuthIdentity, u32), Error> {
+    // the client's first turn has no message to read
+    let mut delivered = TsRequest::default();
+    for sent in 1..=MESSAGES {
+        match round(alloc, client, server, delivered) {
+            Ok(ServerState::Finished(identity)) => return Ok((identity, sent)),
+            Ok(ServerState::ReplyNeeded(reply)) => delivered = carried(alloc, &reply)?,
+            Err(error) => return Err(error),
+        }
+    }
+    Err(Error::new(ErrorKind::OutOfSequence, Reason::Sequence))
+}
+
+fn told(alloc: Global, answer: Result<(AuthIdentity, u32), Error>) -> Result<String, Error> {
+    match answer {
+        Ok((identity, sent)) => {
+            let name = identity.username.inner();
+            Ok(format!(in alloc; "{name} in {sent} messages of the client")?)
+        }
+        Err(error) => Err(error),
+    }
+}
+
+/// The two ends of a delegation.
+#[derive(Drop)]
+pub struct Ends<M> {
+    client: CredSspClient<M, M>,
+    server: CredSspServer<M, M, TableProxy>,
+}
+
+pub fn both<M: Mechanism>(alloc: Global) -> Result<Ends<M>, Error> {
+    match pair(client(alloc), server(alloc)) {
+        Ok((client, server)) => Ok(Ends { client, server }),
+        Err(error) => Err(error),
+    }
+}
+
+impl<M: Mechanism> Part for Ends<M> {
+    fn run(&mut self, alloc: Global) -> Result<String, Error> {
+        told(alloc, carry(alloc, &mut self.client, &mut self.server))
+    }
+}

@@ -1,0 +1,39 @@
+//! A part of the guide: two ends that are made, and what they are run for.
+
+use sspi_types::Error;
+use std::alloc::Global;
+use std::io;
+
+pub trait Part: Drop {
+    /// What there is to tell of the run.
+    fn run(&mut self, alloc: Global) -> Result<String, Error>;
+}
+
+/// Both ends, or why one of them could not be made.
+pub fn pair<A: Drop, B: Drop>(
+    client: Result<A, Error>,
+    server: Result<B, Error>,
+) -> Result<(A, B), Error> {
+    match (client, server) {
+        (Ok(client), Ok(server)) => Ok((client, server)),
+        (Err(error), _) => Err(error),
+        (Ok(_), Err(error)) => Err(error),
+    }
+}
+
+/// Runs a part, and says its name and what there is to tell.
+pub fn say<P: Part>(
+    rt: &impl Print,
+    alloc: Global,
+    name: &str,
+    made: Result<P, Error>,
+) -> io::Result<()> {
+    let told = match made {
+        Ok(mut part) => part.run(alloc),
+        Err(error) => Err(error),
+    };
+    match told {
+        Ok(text) => println!(rt; "{name}: {text}"),
+        Err(error) => println!(rt; "{name}: {error}"),
+    }
+}
