@@ -66,7 +66,7 @@ fn delivery(rt: &impl Test, word: &str) -> Delivery {
     }
 }
 
-pub fn schedule(rt: &impl Test, words: &str) -> Vec<Delivery> {
+fn schedule(rt: &impl Test, words: &str) -> Vec<Delivery> {
     let mut schedule = Vec::new(rt.alloc());
     for word in words.split_whitespace() {
         given(rt, schedule.push(delivery(rt, word)));
@@ -74,9 +74,12 @@ pub fn schedule(rt: &impl Test, words: &str) -> Vec<Delivery> {
     schedule
 }
 
-fn identity(rt: &impl Test) -> AuthIdentity {
-    let username = given(rt, Username::parse(rt.alloc(), "DOM\\ann"));
-    let password = Secret::from(given(rt, Text::from_text(rt.alloc(), "pw")));
+/// A name and a password.
+pub type Account = (&'static str, &'static str);
+
+fn identity(rt: &impl Test, (name, password): Account) -> AuthIdentity {
+    let username = given(rt, Username::parse(rt.alloc(), name));
+    let password = Secret::from(given(rt, Text::from_text(rt.alloc(), password)));
     AuthIdentity { username, password }
 }
 
@@ -88,31 +91,63 @@ fn key(rt: &impl Test, digits: &str) -> Vec<u8> {
     given(rt, hex::decode(rt.alloc(), digits))
 }
 
-fn client(rt: &impl Test) -> CredSspClient<Ntlm, Ntlm> {
+/// A client of this account.
+pub fn client(
+    rt: &impl Test,
+    key: Vec<u8>,
+    account: Account,
+    mode: ClientMode,
+) -> CredSspClient<Ntlm, Ntlm> {
     let mut target = String::new(rt.alloc());
     given(rt, target.push_str("TERMSRV/host.example.com"));
     CredSspClient::new(
         rt.alloc(),
-        key(rt, "010203"),
-        Credentials::AuthIdentity(identity(rt)),
+        key,
+        Credentials::AuthIdentity(identity(rt, account)),
         CredSspMode::WithCredentials,
-        ClientMode::Ntlm(config(rt)),
+        mode,
         target,
         [0; 32],
     )
 }
 
-/// A server of this key, which knows the client's own identity.
-fn server(rt: &impl Test, digits: &str) -> CredSspServer<Ntlm, Ntlm, TableProxy> {
+/// A server that knows this account.
+pub fn server(
+    rt: &impl Test,
+    key: Vec<u8>,
+    account: Account,
+    mode: ServerMode,
+) -> CredSspServer<Ntlm, Ntlm, TableProxy> {
     let mut known = Vec::new(rt.alloc());
-    given(rt, known.push(identity(rt)));
-    CredSspServer::new(
-        rt.alloc(),
-        key(rt, digits),
-        TableProxy::new(rt.alloc(), known, Vec::new(rt.alloc())),
-        ServerMode::Ntlm(config(rt)),
-    )
+    given(rt, known.push(identity(rt, account)));
+    let proxy = TableProxy::new(rt.alloc(), known, Vec::new(rt.alloc()));
+    CredSspServer::new(rt.alloc(), key, proxy, mode)
 }
+
+/// The turns that these words make, by which the ends come to stand so.
+pub fn turns_of(
+    rt: &impl Test,
+    client: &mut CredSspClient<Ntlm, Ntlm>,
+    server: &mut CredSspServer<Ntlm, Ntlm, TableProxy>,
+    words: &str,
+    wanted: (Ending, Ending, Option<&str>),
+) -> Transcript {
+    let mut transcript = Transcript::new(rt.alloc());
+    let schedule = schedule(rt, words);
+    let mut kdc = FailingKdc::new();
+    let played = play(
+        rt.alloc(),
+        client,
+        server,
+        &schedule,
+        &mut kdc,
+        &mut transcript,
+    );
+    stands(rt, played, words, wanted);
+    transcript
+}
+
+const ANN: Account = ("DOM\\ann", "pw");
 
 /// How the ends stand after a play, by the server's key, the words for the deliveries and the ends of the turns.
 pub fn comes_to(
@@ -122,17 +157,10 @@ pub fn comes_to(
     turns: &str,
     wanted: (Ending, Ending, Option<&str>),
 ) {
-    let mut transcript = Transcript::new(rt.alloc());
-    let played = play(
-        rt.alloc(),
-        &mut client(rt),
-        &mut server(rt, digits),
-        &schedule(rt, words),
-        &mut FailingKdc::new(),
-        &mut transcript,
-    );
+    let mut client = client(rt, key(rt, "010203"), ANN, ClientMode::Ntlm(config(rt)));
+    let mut server = server(rt, key(rt, digits), ANN, ServerMode::Ntlm(config(rt)));
+    let transcript = turns_of(rt, &mut client, &mut server, words, wanted);
     assert!(rt; made_by(transcript.turns(), turns), "{words}");
-    stands(rt, played, words, wanted);
 }
 
 /// Whether the turns are those of these ends, in their order.
@@ -150,7 +178,7 @@ pub fn made_by(turns: &[Turn], ends: &str) -> bool {
 }
 
 /// That a play came to this.
-pub fn stands(
+fn stands(
     rt: &impl Abort,
     played: Result<Played, DelegateError>,
     words: &str,

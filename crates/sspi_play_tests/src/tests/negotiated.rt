@@ -1,16 +1,14 @@
 //! A play of two ends that negotiate NTLM, of `ann@example.com` over a key of 270 octets, as an instance of what agreement rests on. The
 //! messages, texts, MICs and hashes were computed apart.
 
-use crate::tests::ends::{Test, config, given, made_by, schedule, stands};
+use crate::tests::ends::{Account, Test, client, config, given, made_by, server, turns_of};
 use sha2::{Digest, Sha256};
-use sspi_credssp::{ClientMode, CredSspClient, CredSspServer, ServerMode, TableProxy};
+use sspi_credssp::{ClientMode, ServerMode};
 use sspi_delegate::{Transcript, Turn};
-use sspi_mech::{FailingKdc, Ntlm};
-use sspi_names::{AuthIdentity, Credentials, KdcTable, Username};
+use sspi_names::KdcTable;
 use sspi_negotiate::{NegotiateConfig, ProtocolConfig};
-use sspi_play::{Ending, play};
-use sspi_tsreq::CredSspMode;
-use sspi_types::{Bytes, ErrorKind, Secret, Text};
+use sspi_play::Ending;
+use sspi_types::{Bytes, ErrorKind, Text};
 use std::process::Abort;
 
 /// The whole exchange: the offer and its answer, each end's MIC, both proofs, and the credentials.
@@ -33,6 +31,8 @@ c:3034a003020106a12d302b3029a0270425a1233021a0030a0101a10c060a2b0601040182370202
 s:3063a003020106a15c305a3058a0560454a1523050a0030a0101a23504334e330f00616e6e406578616d706c652e636f6dee621e7aa395ba49caae97cce87ee8d7299aa25ac1670b043142ac5a8491e1bba312041089ef78e0b71557213596c7b6f7ad3cfe
 ";
 
+const ANN: Account = ("ann@example.com", "fourteenletter");
+
 fn key(rt: &impl Test) -> Vec<u8> {
     let mut key = Vec::new(rt.alloc());
     for index in 0..270u32 {
@@ -41,60 +41,27 @@ fn key(rt: &impl Test) -> Vec<u8> {
     key
 }
 
-fn identity(rt: &impl Test) -> AuthIdentity {
-    let username = given(rt, Username::parse(rt.alloc(), "ann@example.com"));
-    let password = Secret::from(given(rt, Text::from_text(rt.alloc(), "fourteenletter")));
-    AuthIdentity { username, password }
-}
-
 fn mode(rt: &impl Test) -> NegotiateConfig {
     let computer = given(rt, Text::from_text(rt.alloc(), "CLIENT"));
     let protocol = ProtocolConfig::Ntlm(config(rt));
     NegotiateConfig::new(protocol, None, computer, KdcTable::new(rt.alloc()))
 }
 
-fn client(rt: &impl Test) -> CredSspClient<Ntlm, Ntlm> {
-    let mut target = String::new(rt.alloc());
-    given(rt, target.push_str("TERMSRV/host.example.com"));
-    CredSspClient::new(
-        rt.alloc(),
-        key(rt),
-        Credentials::AuthIdentity(identity(rt)),
-        CredSspMode::WithCredentials,
-        ClientMode::Negotiate(mode(rt)),
-        target,
-        [0; 32],
-    )
-}
-
-fn server(rt: &impl Test) -> CredSspServer<Ntlm, Ntlm, TableProxy> {
-    let mut known = Vec::new(rt.alloc());
-    given(rt, known.push(identity(rt)));
-    CredSspServer::new(
-        rt.alloc(),
-        key(rt),
-        TableProxy::new(rt.alloc(), known, Vec::new(rt.alloc())),
-        ServerMode::Negotiate(mode(rt)),
-    )
-}
-
 /// The turns of these words, after which the server stands so and has opened an identity of this name.
-fn turns_of(rt: &impl Test, words: &str, server_stands: Ending, name: Option<&str>) -> Transcript {
-    let mut transcript = Transcript::new(rt.alloc());
-    let played = play(
-        rt.alloc(),
-        &mut client(rt),
-        &mut server(rt),
-        &schedule(rt, words),
-        &mut FailingKdc::new(),
-        &mut transcript,
-    );
-    stands(rt, played, words, (Ending::Running, server_stands, name));
-    transcript
+fn negotiates(
+    rt: &impl Test,
+    words: &str,
+    server_stands: Ending,
+    name: Option<&str>,
+) -> Transcript {
+    let mut client = client(rt, key(rt), ANN, ClientMode::Negotiate(mode(rt)));
+    let mut server = server(rt, key(rt), ANN, ServerMode::Negotiate(mode(rt)));
+    let wanted = (Ending::Running, server_stands, name);
+    turns_of(rt, &mut client, &mut server, words, wanted)
 }
 
 fn exchange(rt: &impl Test) -> Transcript {
-    let transcript = turns_of(rt, EXCHANGE, Ending::Running, Some("ann@example.com"));
+    let transcript = negotiates(rt, EXCHANGE, Ending::Running, Some("ann@example.com"));
     assert!(rt; made_by(transcript.turns(), "cscscscs"), "other turns");
     transcript
 }
@@ -211,7 +178,7 @@ fn one_mic_of_each_end(rt: HostRuntime) {
 #[test]
 fn another_list_is_refused(rt: HostRuntime) {
     let altered = Ending::Refused(ErrorKind::MessageAltered);
-    let transcript = turns_of(&rt, LONGER_OFFER, altered, None);
+    let transcript = negotiates(&rt, LONGER_OFFER, altered, None);
     assert!(rt; made_by(transcript.turns(), "cscs"), "other turns");
 }
 
