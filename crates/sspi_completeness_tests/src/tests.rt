@@ -4,7 +4,9 @@ ghost use Rattle.sspi_names.specs.Identity.{IsIdentity};
 ghost use Rattle.sspi_credssp.specs.Client.{IsFreshClient};
 ghost use Rattle.sspi_credssp.specs.Server.{IsFreshServer};
 ghost use Rattle.sspi_completeness.specs.Matching.{IsPlainClient, IsPlainServer, HasChallenge, IsShort, key_limit, delegated_as};
-ghost use Rattle.sspi_completeness.specs.Matching.{ComesToOk, IsCutShort};
+ghost use Rattle.sspi_completeness.specs.Matching.{AreMatching, messages_in, ComesToOk, ComesToOkIn, IsCutShort};
+ghost use Rattle.sspi_credssp.specs.Table.{table_meaning};
+ghost use Rattle.sspi_completeness_tests.specs.Unasked.{unasked, NeverFails};
 
 use sspi_completeness::delegate_plainly;
 use sspi_credssp::{ClientMode, CredSspClient, CredSspServer, ServerMode, TableProxy};
@@ -77,6 +79,33 @@ fn server_of(
     Ok(server.with_least_version(0))
 }
 
+/// An exchange in memory, over a link that changes nothing.
+fn delegate_ends(
+    alloc: Global,
+    mut client: CredSspClient<Ntlm, Kerberos>,
+    mut server: CredSspServer<Ntlm, Kerberos, TableProxy>,
+    mut kdc: FailingKdc,
+    turns: u32,
+) -> Result<Delegation, DelegateError>
+    ensures comes { (matching : AreMatching table_meaning unasked kdc client server) → IsFreshClient client → IsFreshServer server →
+        NeverFails server.proxy → messages_in matching ≤ turns →
+        ComesToOkIn (messages_in matching) (delegated_as client.delegation matching.identity) result }
+    ensures short { (matching : AreMatching table_meaning unasked kdc client server) → IsFreshClient client → IsFreshServer server →
+        NeverFails server.proxy → turns < messages_in matching → IsCutShort result }
+{
+    let mut link = MemoryLink::new(alloc, Vec::new(alloc));
+    let mut transcript = Transcript::new(alloc);
+    delegate_plainly(
+        alloc,
+        &mut client,
+        &mut server,
+        &mut link,
+        &mut kdc,
+        turns,
+        &mut transcript,
+    )
+}
+
 /// An exchange in memory of two ends that know the same identity.
 fn delegate_matched(
     alloc: Global,
@@ -100,24 +129,13 @@ fn delegate_matched(
     let Ok(known) = identity.clone(alloc) else {
         return Err(DelegateError::InsufficientMemory);
     };
-    let Ok(mut client) = client_of(alloc, mine, key, mode, client_version) else {
+    let Ok(client) = client_of(alloc, mine, key, mode, client_version) else {
         return Err(DelegateError::InsufficientMemory);
     };
-    let Ok(mut server) = server_of(alloc, known, key, server_version) else {
+    let Ok(server) = server_of(alloc, known, key, server_version) else {
         return Err(DelegateError::InsufficientMemory);
     };
-    let mut link = MemoryLink::new(alloc, Vec::new(alloc));
-    let mut kdc = FailingKdc::new();
-    let mut transcript = Transcript::new(alloc);
-    delegate_plainly(
-        alloc,
-        &mut client,
-        &mut server,
-        &mut link,
-        &mut kdc,
-        turns,
-        &mut transcript,
-    )
+    delegate_ends(alloc, client, server, FailingKdc::new(), turns)
 }
 
 #[test]

@@ -5,22 +5,16 @@ use Rattle.sspi_names.specs.Equality.{ignoring_case-equiv}
 use Rattle.sspi_names.specs.Identity.{IsIdentity}
 use Rattle.sspi_names.specs.declared.network.NetworkRequest.{NetworkRequest}
 use Rattle.sspi_mech.specs.declared.step.Reply.{Reply}
-use Rattle.sspi_mech.specs.declared.step.Reply.TheVariants.{Failed}
 use Rattle.sspi_tsreq.specs.declared.mode.CredSspMode.{CredSspMode}
 use Rattle.sspi_credssp.specs.Client.{ClientView}
 use Rattle.sspi_credssp.specs.Proxy.{entry_of}
 use Rattle.sspi_credssp.specs.Server.{ServerView}
 use Rattle.sspi_credssp.specs.Table.{TableView, table_meaning}
-use Rattle.sspi_delegate.specs.declared.edit.Edit.{Edit}
-use Rattle.sspi_delegate.specs.Edits.{MemoryLinkView}
-use Rattle.sspi_completeness.specs.Matching.{IsPlainClient, IsPlainServer, HasChallenge, AreMatching, unedited, none_told, IsShort}
+use Rattle.sspi_completeness.specs.Matching.{IsPlainClient, IsPlainServer, HasChallenge, AreMatching, IsShort}
 use Rattle.sspi_completeness.specs.Matching.{key_limit, delegated_as, ComesToOk, ComesToOkIn}
 use Rattle.sspi_completeness.proofs.Modes.{plain_modes, plain_messages}
+use Rattle.sspi_completeness_tests.specs.Unasked.{unasked, NeverFails}
 use Rattle.sspi_completeness_tests.proofs.tests.delegate_matched.Goals as goal
-
--- the KDC, which nothing is asked of
-abbrev failing : Option (ℕ → NetworkRequest → Reply)
-failing = Some (λ (n : ℕ) (q : NetworkRequest). Failed)
 
 alone : (i : AuthIdentity) → entry_of (i ∷ []) i.username ≡ Some i
 unfolding entry_of
@@ -62,16 +56,9 @@ matched client server i mine known key mode cv sv made is short few versions tol
   nonce = made.client_values.4;
 }
 
-no_look_up_fails : {D : Type 0} (server : ServerView D TableView) (known : AuthIdentity) →
-    server.proxy ≡ record { entries = known ∷ []; failing = []; calls = 0; faults = 0 } →
-    (Some server.proxy.failing ≡ Some []) × (server.proxy.faults < 2 ^ 64 - 1)
-no_look_up_fails server known is =
-    let none : server.proxy.faults ≡ 0 = ap (λ (p : TableView). p.faults) is in
-    (ap (λ (p : TableView). Some p.failing) is, omega (arith, none))
-
-no_edit : (link : MemoryLinkView) (edits : List Edit) → link ≡ record { log = []; edits = edits; faults = 0 } → edits ≡ [] →
-    (Some link.edits ≡ Some []) × (link.log ≡ [])
-no_edit link edits is empty = (ap (λ (l : MemoryLinkView). Some l.edits) is ∙ ap Some empty, ap (λ (l : MemoryLinkView). l.log) is)
+never_fails : {D : Type 0} (server : ServerView D TableView) (known : AuthIdentity) →
+    server.proxy ≡ record { entries = known ∷ []; failing = []; calls = 0; faults = 0 } → NeverFails server.proxy
+never_fails server known is = record { failing = ap (λ (p : TableView). p.failing) is; faults = ap (λ (p : TableView). p.faults) is }
 
 pub returns-clause-comes : goal.returns-clause-comes
 returns-clause-comes c is short few versions enough =
@@ -85,19 +72,16 @@ returns-clause-comes c is short few versions enough =
       client_version = omega arith;
       server_version = omega arith;
     } in
-    let proxy = no_look_up_fails c.in-Ok-server_of.server _ c.in-Ok-server_of.ensures.values.4 in
-    let link = no_edit c.new-link.result _ c.new-link.ensures c.new.ensures.items in
-    let m : AreMatching table_meaning failing c.new-kdc.result c.in-Ok-client_of.client c.in-Ok-server_of.server =
+    let proxy = never_fails c.in-Ok-server_of.server c.in-Ok-clone.known c.in-Ok-server_of.ensures.values.4 in
+    let m : AreMatching table_meaning unasked c.new.result c.in-Ok-client_of.client c.in-Ok-server_of.server =
     matched c.in-Ok-client_of.client c.in-Ok-server_of.server c.args.identity.now c.in-Ok.mine c.in-Ok-clone.known c.args.key.now
-    c.args.mode c.args.client_version c.args.server_version made is short few versions failing c.new-kdc.result in
-    let three = plain_messages failing c.new-kdc.result c.in-Ok-client_of.client.target m.identity c.in-Ok-client_of.client.mode
+    c.args.mode c.args.client_version c.args.server_version made is short few versions unasked c.new.result in
+    let three = plain_messages unasked c.new.result c.in-Ok-client_of.client.target m.identity c.in-Ok-client_of.client.mode
     c.in-Ok-server_of.server.mode m.modes made.client_values.6 in
-    let comes = c.delegate_plainly.ensures.comes
-    m
-    (record { client_is = c.in-Ok-client_of.ensures.fresh; server_is = c.in-Ok-server_of.ensures.fresh; empty = c.new-transcript.ensures })
-    (unedited link.0 link.1) (none_told proxy.0 proxy.1) (omega (arith, three, enough)) in
-    subst (λ (m : CredSspMode). ComesToOk (delegated_as m c.args.identity.now) c.delegate_plainly.result) c.in-Ok-client_of.ensures.values.2
-    (subst (λ (n : ℕ). ComesToOkIn n (delegated_as c.in-Ok-client_of.client.delegation c.args.identity.now) c.delegate_plainly.result)
+    let comes = c.delegate_ends.ensures.comes m c.in-Ok-client_of.ensures.fresh c.in-Ok-server_of.ensures.fresh proxy
+    (omega (arith, three, enough)) in
+    subst (λ (m : CredSspMode). ComesToOk (delegated_as m c.args.identity.now) c.delegate_ends.result) c.in-Ok-client_of.ensures.values.2
+    (subst (λ (n : ℕ). ComesToOkIn n (delegated_as c.in-Ok-client_of.client.delegation c.args.identity.now) c.delegate_ends.result)
     three comes)
 
 pub returns-clause-short : goal.returns-clause-short
@@ -112,14 +96,10 @@ returns-clause-short c is short few versions less =
       client_version = omega arith;
       server_version = omega arith;
     } in
-    let proxy = no_look_up_fails c.in-Ok-server_of.server _ c.in-Ok-server_of.ensures.values.4 in
-    let link = no_edit c.new-link.result _ c.new-link.ensures c.new.ensures.items in
-    let m : AreMatching table_meaning failing c.new-kdc.result c.in-Ok-client_of.client c.in-Ok-server_of.server =
+    let proxy = never_fails c.in-Ok-server_of.server c.in-Ok-clone.known c.in-Ok-server_of.ensures.values.4 in
+    let m : AreMatching table_meaning unasked c.new.result c.in-Ok-client_of.client c.in-Ok-server_of.server =
     matched c.in-Ok-client_of.client c.in-Ok-server_of.server c.args.identity.now c.in-Ok.mine c.in-Ok-clone.known c.args.key.now
-    c.args.mode c.args.client_version c.args.server_version made is short few versions failing c.new-kdc.result in
-    let three = plain_messages failing c.new-kdc.result c.in-Ok-client_of.client.target m.identity c.in-Ok-client_of.client.mode
+    c.args.mode c.args.client_version c.args.server_version made is short few versions unasked c.new.result in
+    let three = plain_messages unasked c.new.result c.in-Ok-client_of.client.target m.identity c.in-Ok-client_of.client.mode
     c.in-Ok-server_of.server.mode m.modes made.client_values.6 in
-    c.delegate_plainly.ensures.short
-    m
-    (record { client_is = c.in-Ok-client_of.ensures.fresh; server_is = c.in-Ok-server_of.ensures.fresh; empty = c.new-transcript.ensures })
-    (unedited link.0 link.1) (none_told proxy.0 proxy.1) (omega (arith, three, less))
+    c.delegate_ends.ensures.short m c.in-Ok-client_of.ensures.fresh c.in-Ok-server_of.ensures.fresh proxy (omega (arith, three, less))
