@@ -1,0 +1,6 @@
+pub mod Headers
+pub mod Contents
+pub mod Judged
+pub mod Fronts
+pub mod Turns
+pub mod Decided

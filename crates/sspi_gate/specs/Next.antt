@@ -1,0 +1,75 @@
+-- Why the next request of a way is not handed on, and what is taken and written then.
+use Rattle.std.specs.Prelude.{◌≡◌, ◌⊎◌, ◌≤◌, ℕ, List, [], Option, Some, IfSome}
+use Rattle.std.specs.Io.KnownBytes.{Consumes, Keeps}
+use Rattle.sspi_ber.specs.Fault.{Ended, Invalid}
+use Rattle.sspi_ber.specs.Outside.{LeavesRest, Rose, WroteFront}
+use Rattle.sspi_ber.specs.declared.wire_kind.WireKind.{WireKind}
+use Rattle.sspi_ber.specs.declared.wire_kind.WireKind.TheVariants as kinds
+use Rattle.sspi_credssp.specs.declared.turn.End.{End}
+use Rattle.sspi_credssp.specs.declared.turn.End.TheVariants.{Client, Server}
+use Rattle.sspi_tsreq.specs.declared.request.TsRequest.{TsRequest}
+use Rattle.sspi_tsreq.specs.Answer.{fault}
+use Rattle.sspi_gate.specs.declared.answer.GateFault.{GateFault}
+use Rattle.sspi_gate.specs.declared.answer.GateFault.TheVariants.{Bad, Version, ReadFault, WriteFault, TurnsSpent, InsufficientMemory}
+use Rattle.sspi_gate.specs.Front.{IsText, MaySend}
+use Rattle.sspi_gate.specs.Way.{Way}
+
+abbrev pub other_end : End → End
+other_end Client = Server
+other_end Server = Client
+
+-- the bytes begin with no request, for this reason
+abbrev pub HasFault : List ℕ → WireKind → Type 0
+HasFault bytes kinds.UnexpectedEof = fault bytes ≡ Some Ended
+HasFault bytes kinds.InvalidData = fault bytes ≡ Some Invalid
+HasFault bytes kinds.ReadFault = ⊥
+HasFault bytes kinds.WriteFault = ⊥
+HasFault bytes kinds.InsufficientMemory = ⊥
+
+-- bytes are left, and they begin with no request
+abbrev pub IsBad : Option (List ℕ) → WireKind → Type 0
+IsBad left kinds.UnexpectedEof = IfSome left (λ bytes. (bytes ≡ [] → ⊥) × (fault bytes ≡ Some Ended))
+IsBad left kinds.InvalidData = IfSome left (λ bytes. (bytes ≡ [] → ⊥) × (fault bytes ≡ Some Invalid))
+IsBad left kinds.ReadFault = ⊥
+IsBad left kinds.WriteFault = ⊥
+IsBad left kinds.InsufficientMemory = ⊥
+
+-- some of the bytes were taken, and nothing was written
+pub record TakesOnly (before after : Way) : Type 0 where
+  pub taken : LeavesRest before.left after.left
+  pub written : Keeps before.written after.written
+  pub reading : before.read_faults ≤ after.read_faults
+  pub writing : after.write_faults ≡ before.write_faults
+
+-- A request of another version than the first was taken, and not written.
+pub record TakesOtherVersion (first : Option ℕ) (before after : Way) : Type 0 where
+  pub text : List ℕ
+  pub request : TsRequest
+  pub is_request : IsText text request
+  pub taken : Consumes before.left after.left text
+  pub differs : MaySend first request.version → ⊥
+  pub written : Keeps before.written after.written
+  pub reading : before.read_faults ≤ after.read_faults
+  pub writing : after.write_faults ≡ before.write_faults
+
+-- A request that might be handed on was taken, and a front of it was written.
+pub record WritesFront (first : Option ℕ) (before after : Way) : Type 0 where
+  pub text : List ℕ
+  pub request : TsRequest
+  pub is_request : IsText text request
+  pub taken : Consumes before.left after.left text
+  pub agrees : MaySend first request.version
+  pub written : WroteFront before.written after.written text
+  pub reading : before.read_faults ≤ after.read_faults
+  pub writing : before.write_faults ≤ after.write_faults
+
+-- The next request of this end, whose first version is this one if it has sent any, was not handed on.
+abbrev pub Fails : End → Option ℕ → Way → Way → GateFault → Type 0
+Fails end first before after (Bad who kind) = (who ≡ end) × IsBad before.left kind × TakesOnly before after
+Fails end first before after (Version who) = (who ≡ end) × TakesOtherVersion first before after
+Fails end first before after (ReadFault who) = (who ≡ end) × Rose before.read_faults after.read_faults × TakesOnly before after
+Fails end first before after (WriteFault who) =
+    (who ≡ other_end end) × Rose before.write_faults after.write_faults × WritesFront first before after
+Fails end first before after TurnsSpent = ⊥
+Fails end first before after InsufficientMemory =
+    TakesOnly before after ⊎ ((after.write_faults ≡ before.write_faults) × WritesFront first before after)

@@ -1,0 +1,47 @@
+ghost use Rattle.std.specs.Prelude.{◌≡◌, []};
+ghost use Rattle.sspi_gate.specs.Taking.{Announces, TakesHeader, TakingCause};
+
+use sspi_ber::{MAX_LENGTH_OCTETS, SliceSource, Source, WireKind, read_sequence_tag};
+
+/// The most bytes that a header has: its identifier octet, the first octet of its length, and those behind it.
+const MAX_HEADER: u32 = 2 + MAX_LENGTH_OCTETS;
+
+/// The length that a header announces; `None` while bytes of it are missing. `UnexpectedEof` where it is none.
+fn announced(header: &[u8]) -> Result<Option<u32>, WireKind>
+    ensures { Announces header.now result }
+{
+    match read_sequence_tag(&mut SliceSource::new(header)) {
+        Ok(size) => Ok(Some(size)),
+        Err(WireKind::UnexpectedEof) => Ok(None),
+        Err(_) => Err(WireKind::UnexpectedEof),
+    }
+}
+
+/// The header of the next request, byte by byte, so that no byte behind it is taken, and the length that it announces.
+/// `None` where the source is at its end.
+pub(crate) fn take_header<S: Source>(
+    source: &mut S,
+    header: &mut Vec<u8>,
+) -> Result<Option<u32>, WireKind>
+    requires { header.old.items ≡ [] }
+    ensures takes { TakesHeader (S.left source.old) (S.left source.new) header.new.items result }
+    ensures cause { TakingCause (S.faults source.old) (S.faults source.new) result }
+{
+    for size in 0..MAX_HEADER {
+        let byte = match source.next_byte()? {
+            Some(byte) => byte,
+            None => {
+                return if size == 0 {
+                    Ok(None)
+                } else {
+                    Err(WireKind::UnexpectedEof)
+                };
+            }
+        };
+        header.push(byte)?;
+        if let Some(size) = announced(header)? {
+            return Ok(Some(size));
+        }
+    }
+    Err(WireKind::UnexpectedEof)
+}

@@ -1,0 +1,76 @@
+ghost use Rattle.sspi_gate.specs.Relay.{IsRelay};
+ghost use Rattle.sspi_gate.specs.Way.{way};
+
+use crate::answer::{Close, GateError, GateFault, Relayed};
+use crate::passing::{Step, pass_next};
+use sspi_ber::{Sink, Source};
+use sspi_credssp::End;
+use std::alloc::Global;
+
+/// Hands the requests of a client on to a server and the server's on to the client, in turn, the client's first, at most
+/// `turns` of the client.
+///
+/// Each request is read before it is handed on, and is then written as its bytes came. A header is read byte by byte and then
+/// exactly its content, so no byte behind a request is taken, and memory is taken only for bytes that came, of one request at
+/// a time. Of a request the order is: reading, grammar, version, writing; one that is refused is not written.
+///
+/// Ok: `Ended` where the stream of the end whose request is due is at its end; `Refused` where the server's last request
+/// carries a code other than `SUCCESS`, and then nothing more is read. Refused, each with the end at fault:
+///
+/// - `Bad`: what is next begins with no request. `UnexpectedEof` where it ends too early or its header is at fault, and else
+///   `InvalidData`.
+/// - `Version`: the request has another version than this end's first.
+/// - `ReadFault`, `WriteFault`: the stream from this end, or to it, failed. At `WriteFault` a front of the request was written.
+/// - `TurnsSpent`: `turns` requests of the client were handed on, each was answered, and no answer refused; at once where
+///   `turns` is 0. Nothing more is then read.
+/// - `InsufficientMemory`; a front of the next request may have been written, if it was read.
+pub fn relay<A: Source, B: Sink, C: Source, D: Sink>(
+    alloc: Global,
+    client_in: &mut A,
+    server_out: &mut B,
+    server_in: &mut C,
+    client_out: &mut D,
+    turns: u32,
+) -> Result<Relayed, GateError>
+    ensures { IsRelay turns (way A.left A.faults B.written B.faults client_in.old server_out.old)
+        (way C.left C.faults D.written D.faults server_in.old client_out.old)
+        (way A.left A.faults B.written B.faults client_in.new server_out.new)
+        (way C.left C.faults D.written D.faults server_in.new client_out.new) result }
+{
+    let mut passed = 0u64;
+    let mut client_version = None;
+    let mut server_version = None;
+    for _ in 0..turns {
+        let seen = match pass_next(alloc, End::Client, client_version, client_in, server_out) {
+            Step::Passed(seen) => seen,
+            Step::Ended => return Ok(Relayed {
+                passed,
+                how: Close::Ended(End::Client),
+            }),
+            Step::Stopped(why) => return Err(GateError { passed, why }),
+        };
+        passed += 1;
+        client_version = Some(seen.version);
+        let seen = match pass_next(alloc, End::Server, server_version, server_in, client_out) {
+            Step::Passed(seen) => seen,
+            Step::Ended => return Ok(Relayed {
+                passed,
+                how: Close::Ended(End::Server),
+            }),
+            Step::Stopped(why) => return Err(GateError { passed, why }),
+        };
+        passed += 1;
+        server_version = Some(seen.version);
+        match seen.refusal {
+            Some(code) => return Ok(Relayed {
+                passed,
+                how: Close::Refused(code),
+            }),
+            None => {}
+        }
+    }
+    Err(GateError {
+        passed,
+        why: GateFault::TurnsSpent,
+    })
+}
