@@ -68,6 +68,8 @@ abbrev pub Fails : End → Option ℕ → Way → Way → GateFault → Type 0
 Fails end first before after (Bad who kind) = (who ≡ end) × IsBad before.left kind × TakesOnly before after
 Fails end first before after (Version who) = (who ≡ end) × TakesOtherVersion first before after
 Fails end first before after (ReadFault who) = (who ≡ end) × Rose before.read_faults after.read_faults × TakesOnly before after
-Fails end first before after (WriteFault who) = (who ≡ other_end end) × Rose before.write_faults after.write_faults × WritesFront first before after
+Fails end first before after (WriteFault who) =
+    (who ≡ other_end end) × Rose before.write_faults after.write_faults × WritesFront first before after
 Fails end first before after TurnsSpent = ⊥
-Fails end first before after InsufficientMemory = TakesOnly before after ⊎ ((after.write_faults ≡ before.write_faults) × WritesFront first before after)
+Fails end first before after InsufficientMemory =
+    TakesOnly before after ⊎ ((after.write_faults ≡ before.write_faults) × WritesFront first before after)

@@ -12,7 +12,8 @@ ghost use Rattle.sspi_tsreq.specs.declared.request.TsRequest.{TsRequest};
 /// Bytes that are requests are what a reader takes first, one request behind the other, of each stream that begins with them;
 /// and what it takes first are such bytes.
 pub fn a_front_is_what_is_read_first()
-    ensures given { (front more : List ℕ) (requests : List TsRequest) → AreRequests front requests → GivesFirst (front ++ more) requests more }
+    ensures given { (front more : List ℕ) (requests : List TsRequest) → AreRequests front requests →
+        GivesFirst (front ++ more) requests more }
     ensures taken { (stream rest : List ℕ) (requests : List TsRequest) → GivesFirst stream requests rest →
         (front : List ℕ) × (stream ≡ front ++ rest) × AreRequests front requests }
 {}

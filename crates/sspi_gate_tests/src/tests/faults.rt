@@ -1,5 +1,7 @@
 //! Streams that are cut anywhere, and a source or a sink that fails at each of its calls.
 
+ghost use Rattle.std.specs.Prelude.{◌<◌};
+
 use crate::tests::words::{closed, relays, stopped};
 use sspi_ber::{FaultySink, FaultySource, SliceSource, VecSink, WireKind};
 use sspi_gate::{Close, End, GateFault, relay};
@@ -12,8 +14,14 @@ const THREE: &[u8] = &[
     0xa0, 0x03, 0x02, 0x01, 0x06,
 ];
 
+fn front(len: usize) -> &'static [u8] {
+    THREE.split_at(len.min(THREE.len())).0
+}
+
 /// The client's stream is cut: whole requests are handed on, and what is left of the next has ended.
-fn client_cut(rt: &impl Abort, alloc: Global, len: usize) {
+fn client_cut(rt: &impl Abort, alloc: Global, len: usize)
+    requires { len < 21 }
+{
     let whole = len / 7;
     let passed = 2 * whole as u64;
     let wanted = if len % 7 == 0 {
@@ -24,7 +32,7 @@ fn client_cut(rt: &impl Abort, alloc: Global, len: usize) {
     relays(
         rt,
         alloc,
-        &THREE[..len],
+        front(len),
         THREE,
         9,
         wanted,
@@ -34,7 +42,9 @@ fn client_cut(rt: &impl Abort, alloc: Global, len: usize) {
 }
 
 /// The same of the server's.
-fn server_cut(rt: &impl Abort, alloc: Global, len: usize) {
+fn server_cut(rt: &impl Abort, alloc: Global, len: usize)
+    requires { len < 21 }
+{
     let whole = len / 7;
     let passed = 2 * whole as u64 + 1;
     let wanted = if len % 7 == 0 {
@@ -46,7 +56,7 @@ fn server_cut(rt: &impl Abort, alloc: Global, len: usize) {
         rt,
         alloc,
         THREE,
-        &THREE[..len],
+        front(len),
         9,
         wanted,
         7 * whole + 7,
@@ -62,7 +72,9 @@ fn cut_streams(rt: HostRuntime) {
     }
 }
 
-fn client_read_fails(rt: &impl Abort, alloc: Global, call: u64) {
+fn client_read_fails(rt: &impl Abort, alloc: Global, call: u64)
+    requires { call < 9 }
+{
     let mut client_in = FaultySource::new(THREE, call);
     let mut server_in = SliceSource::new(THREE);
     let mut server_out = VecSink::new(alloc);
@@ -84,7 +96,9 @@ fn client_read_fails(rt: &impl Abort, alloc: Global, call: u64) {
     assert_eq!(rt; client_out.written().len() as u64, 7 * whole);
 }
 
-fn server_read_fails(rt: &impl Abort, alloc: Global, call: u64) {
+fn server_read_fails(rt: &impl Abort, alloc: Global, call: u64)
+    requires { call < 9 }
+{
     let mut client_in = SliceSource::new(THREE);
     let mut server_in = FaultySource::new(THREE, call);
     let mut server_out = VecSink::new(alloc);
@@ -114,7 +128,9 @@ fn failing_sources(rt: HostRuntime) {
     }
 }
 
-fn server_write_fails(rt: &impl Abort, alloc: Global, call: u64) {
+fn server_write_fails(rt: &impl Abort, alloc: Global, call: u64)
+    requires { call < 9 }
+{
     let mut client_in = SliceSource::new(THREE);
     let mut server_in = SliceSource::new(THREE);
     let mut server_out = FaultySink::new(alloc, call);
@@ -135,7 +151,9 @@ fn server_write_fails(rt: &impl Abort, alloc: Global, call: u64) {
     assert_eq!(rt; client_out.written().len() as u64, 7 * call);
 }
 
-fn client_write_fails(rt: &impl Abort, alloc: Global, call: u64) {
+fn client_write_fails(rt: &impl Abort, alloc: Global, call: u64)
+    requires { call < 9 }
+{
     let mut client_in = SliceSource::new(THREE);
     let mut server_in = SliceSource::new(THREE);
     let mut server_out = VecSink::new(alloc);
