@@ -1,5 +1,5 @@
 -- What the exchange of a scenario comes to where nothing stands in its way.
-use Rattle.std.specs.Prelude.{◌≡◌, ◌↔◌, ℕ, ◌<◌, ◌≤◌, [], length, Bool, true, false, IsTrue, None, Some, IfOk, nat_lt, if◌then◌else◌}
+use Rattle.std.specs.Prelude.{◌≡◌, ◌↔◌, ℕ, ◌<◌, ◌≤◌, [], length, Bool, true, false, IsTrue, None, Some, Result, IfOk, nat_lt, if◌then◌else◌}
 use Rattle.sspi_names.specs.declared.identity.AuthIdentity.{AuthIdentity}
 use Rattle.sspi_names.specs.Identity.{buffers_of}
 use Rattle.sspi_names.specs.Name.{domain_of}
@@ -9,6 +9,8 @@ use Rattle.sspi_negotiate.specs.PackageList.{packages_of}
 use Rattle.sspi_negotiate.specs.Rows.{is_guest_text}
 use Rattle.sspi_negotiate.specs.Rule.{url_for}
 use Rattle.sspi_negotiate.specs.Target.{IsNamedByIp}
+use Rattle.sspi_delegate.specs.declared.answer.Delegation.{Delegation}
+use Rattle.sspi_delegate.specs.declared.answer.DelegateError.{DelegateError}
 use Rattle.sspi_completeness.specs.Matching.{HasEntry, IsShort, key_limit, delegated_as, ComesToOkIn, IsCutShort}
 use Rattle.sspi_scenario.specs.declared.scenario.Mode.{Mode}
 use Rattle.sspi_scenario.specs.declared.scenario.Mode.TheVariants.{Ntlm, Negotiate}
@@ -16,8 +18,6 @@ use Rattle.sspi_scenario.specs.declared.scenario.Package.{Package}
 use Rattle.sspi_scenario.specs.declared.scenario.Package.TheVariants as packages
 use Rattle.sspi_scenario.specs.declared.scenario.Scenario.{Scenario}
 use Rattle.sspi_scenario.specs.Scenario.{own_identity}
-use Rattle.sspi_program.specs.declared.record.Record.{Record}
-use Rattle.sspi_program.specs.Exchange.{answer_in}
 
 abbrev pub user_identity : Scenario → AuthIdentity
 user_identity scenario = own_identity scenario.user scenario.password
@@ -68,8 +68,8 @@ pub record IsPlain (scenario : Scenario) : Type 0 where
 
 -- Ok of plain NTLM alone takes three messages of the client. A plain scenario comes to Ok where the client may make as many
 -- messages as it takes, and else is cut short; but for want of memory.
-pub record IsOutcome (r : Record) : Type 0 where
-  pub three : r.scenario.mode ≡ Ntlm → IfOk (answer_in r.outcome) (λ delegation. 3 ≤ delegation.turns)
-  pub comes : IsPlain r.scenario → messages_in r.scenario.mode ≤ r.scenario.turns →
-      ComesToOkIn (messages_in r.scenario.mode) (delegated_as r.scenario.delegation (user_identity r.scenario)) (answer_in r.outcome)
-  pub short : IsPlain r.scenario → r.scenario.turns < messages_in r.scenario.mode → IsCutShort (answer_in r.outcome)
+pub record IsOutcome (scenario : Scenario) (answer : Result Delegation DelegateError) : Type 0 where
+  pub three : scenario.mode ≡ Ntlm → IfOk answer (λ delegation. 3 ≤ delegation.turns)
+  pub comes : IsPlain scenario → messages_in scenario.mode ≤ scenario.turns →
+      ComesToOkIn (messages_in scenario.mode) (delegated_as scenario.delegation (user_identity scenario)) answer
+  pub short : IsPlain scenario → scenario.turns < messages_in scenario.mode → IsCutShort answer
