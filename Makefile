@@ -1,8 +1,12 @@
-.PHONY: run test check fmt size wrong-bodies
+.PHONY: run play test check fmt size wrong-bodies
 
 # Carries one delegation and shows its messages, each with the end that sent it, and the outcome. Builds, and proves nothing.
 run:
 	@cd crates/sspi_run && rt try -- delegate < ../../examples/delegate.scenario
+
+# Hands out the deliveries of a schedule, and shows what each end sent and how it stands.
+play:
+	@cd crates/sspi_run && rt try -- play < ../../examples/play.scenario
 
 # Every proof, every wrong body of must-fail/, every test and program.
 test:

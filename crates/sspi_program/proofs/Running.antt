@@ -1,46 +1,33 @@
 -- What the status of a run says, by what was said and how it was written.
-use Rattle.std.proofs.Common.{◌≡◌, ◌≢◌, ℕ, ◌≤◌, inl, inr, List, [], append-nil, Option, None, Some, Result, Ok, Err, refl, sym, ◌∙◌}
-use Rattle.std.proofs.Common.{subst, arith}
+use Rattle.std.proofs.Common.{◌≡◌, ◌≢◌, ℕ, ◌<◌, ◌≤◌, ◌⊎◌, inl, inr, List, [], append-nil, Option, None, Some, Result, Ok, Err, refl, sym}
+use Rattle.std.proofs.Common.{◌∙◌, ap, subst, arith}
 use Rattle.std.specs.Io.KnownBytes.{Appends}
-use Rattle.std.specs.Prelude.{IfSome, IsSomeAnd, String}
+use Rattle.std.specs.Option.{option_map}
+use Rattle.std.specs.Prelude.{IfSome, IsSome, IsSomeAnd}
 use Rattle.sspi_ber.specs.Outside.{Rose, Wrote, WroteFront}
 use Rattle.sspi_delegate.specs.declared.answer.Delegation.{Delegation}
 use Rattle.sspi_delegate.specs.declared.answer.DelegateError.{DelegateError}
-use Rattle.sspi_names.specs.declared.identity.AuthIdentity.{AuthIdentity}
 use Rattle.sspi_delegate.specs.declared.answer.DelegateError.TheVariants as errors
-use Rattle.sspi_completeness.specs.Matching.{ComesToOkIn, IsCutShort}
 use Rattle.sspi_scenario.specs.declared.scenario.Scenario.{Scenario}
 use Rattle.sspi_scenario.specs.Reading.{IsReadWhole}
 use Rattle.sspi_scenario.specs.Scenario.{scenario_of}
+use Rattle.sspi_program.specs.declared.command.Command.{Command}
+use Rattle.sspi_program.specs.declared.command.Command.TheVariants.{Told}
+use Rattle.sspi_program.specs.declared.command.Task.{Task}
+use Rattle.sspi_program.specs.declared.command.Task.TheVariants.{Delegate, Play}
+use Rattle.sspi_program.specs.declared.record.Conducted.{Conducted}
 use Rattle.sspi_program.specs.declared.record.Record.{Record}
+use Rattle.sspi_program.specs.declared.record.RunOutcome.{RunOutcome}
+use Rattle.sspi_program.specs.declared.record.RunOutcome.TheVariants.{Delegated, Played}
 use Rattle.sspi_program.specs.declared.said.Said.{Said}
-use Rattle.sspi_program.specs.declared.said.Said.TheVariants.{Exchanged, NoScenario, ReadFault, OtherWords, NoMemory}
-use Rattle.sspi_program.specs.Exchange.{answer_in}
-use Rattle.sspi_program.specs.Run.{Conducts, IsJudged, HasExchange, WroteLine, WroteOwed, IsUnlessWrite, IsUnlessFault, EndsPlainly}
-use Rattle.sspi_program.specs.Run.{EndsText}
-use Rattle.sspi_program.specs.Outcome.{messages_in, IsPlain}
-use Rattle.sspi_program.specs.Said.{words_text, read_text, report_of, answer_status, said_status, said_text, kept_in, Written}
-use Rattle.sspi_program.specs.Words.{AreDelegate}
-
-status_small : (answer : Result Delegation DelegateError) → answer_status answer ≤ 1
-status_small (Ok delegation) = omega arith
-status_small (Err error) = omega arith
-
-ok_status : (messages : ℕ) (identity : AuthIdentity) (answer : Result Delegation DelegateError) → answer ≢ Err errors.InsufficientMemory →
-    ComesToOkIn messages identity answer →
-    answer_status answer ≡ 0
-ok_status messages identity (Ok delegation) memory comes = refl
-ok_status messages identity (Err (errors.Client error)) memory comes = absurd comes
-ok_status messages identity (Err (errors.Server error)) memory comes = absurd comes
-ok_status messages identity (Err (errors.Read to kind)) memory comes = absurd comes
-ok_status messages identity (Err (errors.Write from)) memory comes = absurd comes
-ok_status messages identity (Err errors.LinkFault) memory comes = absurd comes
-ok_status messages identity (Err errors.TurnsSpent) memory comes = absurd comes
-ok_status messages identity (Err errors.InsufficientMemory) memory comes = absurd (memory refl)
-
-short_status : (answer : Result Delegation DelegateError) → IsCutShort answer → answer_status answer ≡ 1
-short_status (Ok delegation) short = absurd short
-short_status (Err error) short = refl
+use Rattle.sspi_program.specs.declared.said.Said.TheVariants.{Done, NoScenario, ReadFault, OtherWords, NoMemory}
+use Rattle.sspi_program.specs.Commands.{task_in, purpose_of}
+use Rattle.sspi_program.specs.Kept.{nothing, with_status}
+use Rattle.sspi_program.specs.Promises.{Keeps, kept_due, due, Does}
+use Rattle.sspi_program.specs.Run.{Outside, IsToldFor, NoneTold, Comes, IsJudged, KeepsOnly, IsReported, WroteLine, WroteOwed}
+use Rattle.sspi_program.specs.Said.{status_of, report_of, record_due, IsDue, said_status, said_text, conducted_as, words_text, read_text}
+use Rattle.sspi_program.specs.Said.{Written}
+use Rattle.sspi_program.specs.Status.{IsUnlessWrite, IsUnlessFault}
 
 appends_none : (w : Option (List ℕ)) → Appends w w []
 appends_none None = tt
@@ -53,210 +40,283 @@ front_none w text = record { front = []; rest = text; appended = appends_none w;
 front_all : (w w2 : Option (List ℕ)) (text : List ℕ) → Wrote w w2 text → WroteFront w w2 text
 front_all w w2 text wrote = record { front = text; rest = []; appended = wrote.appended; parts = sym (append-nil text) }
 
+-- ---- how a text was written
+
 module _ (w w2 : Option (List ℕ)) (f f2 : ℕ) where
   -- another status than 4 and 5 is the text's own, and the whole of it was written
-  whole : (own : ℕ) (text : List ℕ) (status : ℕ) → status ≢ 4 → status ≢ 5 → Written own text w w2 f f2 status → (status ≡ own) ×
+  pub whole : (own : ℕ) (text : List ℕ) (status : ℕ) → status ≢ 4 → status ≢ 5 → Written own text w w2 f f2 status → (status ≡ own) ×
       Wrote w w2 text
   whole own text status no_fault memory (inl h) = h
   whole own text status no_fault memory (inr (inl h)) = absurd (no_fault h.0)
   whole own text status no_fault memory (inr (inr h)) = absurd (memory h.0)
 
-  front_of : (own : ℕ) (text : List ℕ) (status : ℕ) → Written own text w w2 f f2 status → WroteFront w w2 text
+  pub front_of : (own : ℕ) (text : List ℕ) (status : ℕ) → Written own text w w2 f f2 status → WroteFront w w2 text
   front_of own text status (inl h) = front_all w w2 text h.1
   front_of own text status (inr (inl h)) = h.2
   front_of own text status (inr (inr h)) = h.1
 
-  unless_write : (own : ℕ) (text : List ℕ) (status : ℕ) → Written own text w w2 f f2 status → IsUnlessWrite own status
+  pub unless_write : (own : ℕ) (text : List ℕ) (status : ℕ) → Written own text w w2 f f2 status → IsUnlessWrite own status
   unless_write own text status (inl h) = inl h.0
   unless_write own text status (inr (inl h)) = inr (inl h.0)
   unless_write own text status (inr (inr h)) = inr (inr h.0)
 
-  unless_read : (own : ℕ) (text : List ℕ) (status : ℕ) → Written 3 text w w2 f f2 status → IsUnlessFault own status
+  pub unless_read : (own : ℕ) (text : List ℕ) (status : ℕ) → Written 3 text w w2 f f2 status → IsUnlessFault own status
   unless_read own text status (inl h) = inl h.0
   unless_read own text status (inr (inl h)) = inr (inr (inl h.0))
   unless_read own text status (inr (inr h)) = inr (inr (inr h.0))
 
-  unless_memory : (own : ℕ) (text : List ℕ) (status : ℕ) → Written 5 text w w2 f f2 status → IsUnlessFault own status
+  pub unless_memory : (own : ℕ) (text : List ℕ) (status : ℕ) → Written 5 text w w2 f f2 status → IsUnlessFault own status
   unless_memory own text status (inl h) = inr (inr (inr h.0))
   unless_memory own text status (inr (inl h)) = inr (inr (inl h.0))
   unless_memory own text status (inr (inr h)) = inr (inr (inr h.0))
 
-  pub status_most : (said : Said) (status : ℕ) → Written (said_status said) (said_text said) w w2 f f2 status → status ≤ 6
-  status_most said status (inr (inl h)) = omega (arith, h.0)
-  status_most said status (inr (inr h)) = omega (arith, h.0)
-  status_most (Exchanged r) status (inl h) = let small : answer_status (answer_in r.outcome) ≤ 1 =
-      status_small (answer_in r.outcome) in omega (arith, h.0, small)
-  status_most (NoScenario line) status (inl h) = omega (arith, h.0)
-  status_most ReadFault status (inl h) = omega (arith, h.0)
-  status_most OtherWords status (inl h) = omega (arith, h.0)
-  status_most NoMemory status (inl h) = omega (arith, h.0)
+-- ---- the status that is due
 
-  never_write_fault : (said : Said) → said_status said ≢ 4
-  never_write_fault (Exchanged r) is = let small : answer_status (answer_in r.outcome) ≤ 1 =
-      status_small (answer_in r.outcome) in absurd (omega (arith, is, small))
-  never_write_fault (NoScenario line) is = absurd (omega (arith, is))
-  never_write_fault ReadFault is = absurd (omega (arith, is))
-  never_write_fault OtherWords is = absurd (omega (arith, is))
-  never_write_fault NoMemory is = absurd (omega (arith, is))
+-- 0, 1 or 5
+IsDone : ℕ → Type 0
+IsDone n = (n ≤ 1) ⊎ (n ≡ 5)
 
-  pub write_rose : (said : Said) (status : ℕ) → Written (said_status said) (said_text said) w w2 f f2 status → status ≡ 4 → Rose f f2
-  write_rose said status (inl h) is = absurd (never_write_fault said (sym h.0 ∙ is))
-  write_rose said status (inr (inl h)) is = h.1
-  write_rose said status (inr (inr h)) is = absurd (omega (arith, h.0, is))
+small_status : (o : RunOutcome) (s : ℕ) → status_of o ≡ Some s → s ≤ 1
+small_status (Delegated (Ok delegation)) s e = let is : 0 ≡ s = cc in omega (arith, is)
+small_status (Delegated (Err (errors.Client error))) s e = let is : 1 ≡ s = cc in omega (arith, is)
+small_status (Delegated (Err (errors.Server error))) s e = let is : 1 ≡ s = cc in omega (arith, is)
+small_status (Delegated (Err (errors.Read to kind))) s e = let is : 1 ≡ s = cc in omega (arith, is)
+small_status (Delegated (Err (errors.Write from))) s e = let is : 1 ≡ s = cc in omega (arith, is)
+small_status (Delegated (Err errors.LinkFault)) s e = let is : 1 ≡ s = cc in omega (arith, is)
+small_status (Delegated (Err errors.TurnsSpent)) s e = let is : 1 ≡ s = cc in omega (arith, is)
+small_status (Delegated (Err errors.InsufficientMemory)) s e = absurd cc
+small_status (Played (Ok played)) s e = let is : 0 ≡ s = cc in omega (arith, is)
+small_status (Played (Err error)) s e = absurd cc
 
-  reports : (said : Said) (kept : Option Record) (status : ℕ) → kept ≡ kept_in said → status ≤ 1 → status ≡ said_status said →
-      Wrote w w2 (said_text said) →
-      IsSomeAnd kept (λ r. (status ≡ answer_status (answer_in r.outcome)) × Wrote w w2 (report_of r))
-  reports (Exchanged r) kept status is small own wrote = rw is (own, wrote)
-  reports (NoScenario line) kept status is small own wrote = absurd (omega (arith, own, small))
-  reports ReadFault kept status is small own wrote = absurd (omega (arith, own, small))
-  reports OtherWords kept status is small own wrote = absurd (omega (arith, own, small))
-  reports NoMemory kept status is small own wrote = absurd (omega (arith, own, small))
+mapped : (o : Option ℕ) (report : List ℕ) (own : ℕ) (text : List ℕ) → option_map (λ s. (s, report)) o ≡ Some (own, text) → o ≡ Some own
+mapped None report own text e = absurd cc
+mapped (Some s) report own text e = let is : s ≡ own = cc in ap Some is
 
-  pub status_reported : (said : Said) (kept : Option Record) (status : ℕ) → kept ≡ kept_in said →
-      Written (said_status said) (said_text said) w w2 f f2 status → status ≤ 1 →
-      IsSomeAnd kept (λ r. (status ≡ answer_status (answer_in r.outcome)) × Wrote w w2 (report_of r))
-  status_reported said kept status is written small =
-      let all = whole (said_status said) (said_text said) status (λ (e : status ≡ 4). omega (arith, e, small))
+-- the status of a record that is said is that of its outcome
+pub status_due : (r : Record) (own : ℕ) (text : List ℕ) → record_due r ≡ Some (own, text) → status_of r.outcome ≡ Some own
+status_due r own text e = mapped (status_of r.outcome) (report_of r) own text e
+
+small_due : (kept : Option Record) (own : ℕ) (text : List ℕ) → kept_due kept ≡ Some (own, text) → own ≤ 1
+small_due None own text e = absurd cc
+small_due (Some r) own text e = small_status r.outcome own (status_due r own text e)
+
+due_small : (command : Command) (c : Conducted) (own : ℕ) (text : List ℕ) → due command c ≡ Some (own, text) → own ≤ 1
+due_small (Told Delegate) c own text e = small_due c.kept own text e
+due_small (Told Play) c own text e = small_due c.kept own text e
+
+done_by : (command : Command) (c : Conducted) (text : List ℕ) → IsDue (due command c) c.status text → IsDone c.status
+done_by command c text (inl e) = inl (due_small command c c.status text e)
+done_by command c text (inr h) = inr h.0
+
+done : (command : Option Command) (IsOf : Scenario → Type 0) (c : Conducted) (text : List ℕ) →
+    IsSomeAnd command (λ k. Does k IsOf c text) → IsDone c.status
+done None IsOf c text does = absurd does
+done (Some command) IsOf c text does = done_by command c text does.1
+
+done_most : (n : ℕ) → IsDone n → n ≤ 6
+done_most n (inl h) = omega (arith, h)
+done_most n (inr h) = omega (arith, h)
+
+done_other : (n k : ℕ) → IsDone n → n ≡ k → 1 < k → k ≢ 5 → ⊥
+done_other n k (inl h) is more other = omega (arith, h, is, more)
+done_other n k (inr h) is more other = other (sym is ∙ h)
+
+-- ---- what is kept does not depend on the status
+
+due_status : (command : Command) (status : ℕ) (c : Conducted) → due command (with_status status c) ≡ due command c
+due_status (Told Delegate) status c = refl
+due_status (Told Play) status c = refl
+
+keeps_status : (command : Command) (IsOf : Scenario → Type 0) (status : ℕ) (c : Conducted) → Keeps command IsOf c →
+    Keeps command IsOf (with_status status c)
+keeps_status (Told Delegate) IsOf status c h = h
+keeps_status (Told Play) IsOf status c h = h
+
+keeps_nothing : (command : Command) (IsOf : Scenario → Type 0) (status : ℕ) → Keeps command IsOf (nothing status)
+keeps_nothing (Told Delegate) IsOf status = tt
+keeps_nothing (Told Play) IsOf status = tt
+
+nothing_own : (c : Conducted) (status : ℕ) → c ≡ nothing status → c ≡ nothing c.status
+nothing_own c status is = is ∙ ap nothing (sym (ap (λ (d : Conducted). d.status) is))
+
+module _ (left : Option (List ℕ)) (before now : ℕ) where
+  kept_by : (command : Command) (said : Said) (status : ℕ) → Comes (Some command) left before now said →
+      Keeps command (IsToldFor (Some command) left) (conducted_as status said)
+  kept_by command (Done c text) status comes = keeps_status command (IsToldFor (Some command) left) status c comes.0
+  kept_by command (NoScenario line) status comes = keeps_nothing command (IsToldFor (Some command) left) status
+  kept_by command ReadFault status comes = keeps_nothing command (IsToldFor (Some command) left) status
+  kept_by command OtherWords status comes = keeps_nothing command (IsToldFor (Some command) left) status
+  kept_by command NoMemory status comes = keeps_nothing command (IsToldFor (Some command) left) status
+
+  nothing_by : (said : Said) (status : ℕ) → Comes None left before now said → conducted_as status said ≡ nothing status
+  nothing_by (Done c text) status comes = absurd comes
+  nothing_by (NoScenario line) status comes = absurd comes
+  nothing_by ReadFault status comes = let some = comes.0 in absurd cc
+  nothing_by OtherWords status comes = refl
+  nothing_by NoMemory status comes = absurd cc
+
+  pub keeps_only : (command : Option Command) (said : Said) (c : Conducted) (status : ℕ) → c ≡ conducted_as status said →
+      Comes command left before now said → KeepsOnly command left c
+  keeps_only None said c status is comes = nothing_own c status (is ∙ nothing_by said status comes)
+  keeps_only (Some command) said c status is comes =
+      subst (λ (d : Conducted). Keeps command (IsToldFor (Some command) left) d) (sym is) (kept_by command said status comes)
+
+-- ---- each status
+
+module _ (command : Option Command) (left : Option (List ℕ)) (before now : ℕ) (w w2 : Option (List ℕ)) (f f2 : ℕ) where
+  most_own : (said : Said) → Comes command left before now said → said_status said ≤ 6
+  most_own (Done c text) comes = done_most c.status (done command (IsToldFor command left) c text.items comes)
+  most_own (NoScenario line) comes = omega arith
+  most_own ReadFault comes = omega arith
+  most_own OtherWords comes = omega arith
+  most_own NoMemory comes = omega arith
+
+  pub status_most : (said : Said) (status : ℕ) → Comes command left before now said →
+      Written (said_status said) (said_text said) w w2 f f2 status → status ≤ 6
+  status_most said status comes (inl h) = let own : said_status said ≤ 6 = most_own said comes in omega (arith, h.0, own)
+  status_most said status comes (inr (inl h)) = omega (arith, h.0)
+  status_most said status comes (inr (inr h)) = omega (arith, h.0)
+
+  never_write_fault : (said : Said) → Comes command left before now said → said_status said ≢ 4
+  never_write_fault (Done c text) comes is =
+      done_other c.status 4 (done command (IsToldFor command left) c text.items comes) is (omega arith) (λ (e : 4 ≡ 5). omega (arith, e))
+  never_write_fault (NoScenario line) comes is = absurd (omega (arith, is))
+  never_write_fault ReadFault comes is = absurd (omega (arith, is))
+  never_write_fault OtherWords comes is = absurd (omega (arith, is))
+  never_write_fault NoMemory comes is = absurd (omega (arith, is))
+
+  pub write_rose : (said : Said) (status : ℕ) → Comes command left before now said →
+      Written (said_status said) (said_text said) w w2 f f2 status → status ≡ 4 → Rose f f2
+  write_rose said status comes (inl h) is = absurd (never_write_fault said comes (sym h.0 ∙ is))
+  write_rose said status comes (inr (inl h)) is = h.1
+  write_rose said status comes (inr (inr h)) is = absurd (omega (arith, h.0, is))
+
+  judged_said : (left2 : Option (List ℕ)) (said : Said) → IsJudged left left2 said → said_status said ≤ 2 → IsReadWhole left left2
+  judged_said left2 (Done c text) judged small = judged
+  judged_said left2 (NoScenario line) judged small = judged
+  judged_said left2 ReadFault judged small = absurd (omega (arith, small))
+  judged_said left2 OtherWords judged small = absurd (omega (arith, small))
+  judged_said left2 NoMemory judged small = absurd (omega (arith, small))
+
+  pub status_whole : (left2 : Option (List ℕ)) (said : Said) (status : ℕ) → (IsSome (task_in command) → IsJudged left left2 said) →
+      Written (said_status said) (said_text said) w w2 f f2 status → status ≤ 2 → IsSome (task_in command) → IsReadWhole left left2
+  status_whole left2 said status judged written small some =
+      let all = whole w w2 f f2 (said_status said) (said_text said) status (λ (e : status ≡ 4). omega (arith, e, small))
       (λ (e : status ≡ 5). omega (arith, e, small)) written in
-      reports said kept status is small all.0 all.1
+      judged_said left2 said (judged some) (omega (arith, all.0, small))
 
-  judged_said : (left left2 : Option (List ℕ)) (said : Said) → IsJudged left left2 said → said_status said ≤ 2 → IsReadWhole left left2
-  judged_said left left2 (Exchanged r) judged small = judged
-  judged_said left left2 (NoScenario line) judged small = judged
-  judged_said left left2 ReadFault judged small = absurd (omega (arith, small))
-  judged_said left left2 OtherWords judged small = absurd (omega (arith, small))
-  judged_said left left2 NoMemory judged small = absurd (omega (arith, small))
+  words_said : (said : Said) → Comes command left before now said → said_status said ≡ 6 → Wrote w w2 (said_text said) →
+      (command ≡ None) × Wrote w w2 words_text
+  words_said (Done c text) comes is wrote = absurd (done_other c.status 6 (done command (IsToldFor command left) c text.items comes) is
+      (omega arith) (λ (e : 6 ≡ 5). omega (arith, e)))
+  words_said (NoScenario line) comes is wrote = absurd (omega (arith, is))
+  words_said ReadFault comes is wrote = absurd (omega (arith, is))
+  words_said OtherWords comes is wrote = (comes, wrote)
+  words_said NoMemory comes is wrote = absurd (omega (arith, is))
 
-  pub status_whole : (left left2 : Option (List ℕ)) (said : Said) (status : ℕ) → IsJudged left left2 said →
-      Written (said_status said) (said_text said) w w2 f f2 status → status ≤ 2 →
-      IsReadWhole left left2
-  status_whole left left2 said status judged written small =
-      let all = whole (said_status said) (said_text said) status (λ (e : status ≡ 4). omega (arith, e, small))
-      (λ (e : status ≡ 5). omega (arith, e, small)) written in
-      judged_said left left2 said judged (omega (arith, all.0, small))
-
-module _ {A : Type 0} (words : List (String A)) (before now : ℕ) where
-  pub keeps_exchange : (left : Option (List ℕ)) (said : Said) (kept : Option Record) → kept ≡ kept_in said →
-      Conducts words left before now said →
-      IfSome kept (λ r. HasExchange r × IfSome left (λ text. scenario_of text ≡ Ok r.scenario))
-  keeps_exchange left (Exchanged r) kept is c = rw is (c.1, c.2)
-  keeps_exchange left (NoScenario line) kept is c = rw is tt
-  keeps_exchange left ReadFault kept is c = rw is tt
-  keeps_exchange left OtherWords kept is c = rw is tt
-  keeps_exchange left NoMemory kept is c = rw is tt
-
-module _ {A : Type 0} (words : List (String A)) (before now : ℕ) (w w2 : Option (List ℕ)) (f f2 : ℕ) where
-  words_said : (left : Option (List ℕ)) (said : Said) → Conducts words left before now said → said_status said ≡ 6 →
-      Wrote w w2 (said_text said) →
-      (AreDelegate words → ⊥) × Wrote w w2 words_text
-  words_said left (Exchanged r) c is wrote = let small : answer_status (answer_in r.outcome) ≤ 1 =
-      status_small (answer_in r.outcome) in absurd (omega (arith, is, small))
-  words_said left (NoScenario line) c is wrote = absurd (omega (arith, is))
-  words_said left ReadFault c is wrote = absurd (omega (arith, is))
-  words_said left OtherWords c is wrote = (c, wrote)
-  words_said left NoMemory c is wrote = absurd (omega (arith, is))
-
-  pub status_words : (left : Option (List ℕ)) (said : Said) (status : ℕ) → Conducts words left before now said →
-      Written (said_status said) (said_text said) w w2 f f2 status → status ≡ 6 →
-      (AreDelegate words → ⊥) × Wrote w w2 words_text
-  status_words left said status c written is =
+  pub status_words : (said : Said) (status : ℕ) → Comes command left before now said →
+      Written (said_status said) (said_text said) w w2 f f2 status → status ≡ 6 → (command ≡ None) × Wrote w w2 words_text
+  status_words said status comes written is =
       let all = whole w w2 f f2 (said_status said) (said_text said) status (λ (e : status ≡ 4). omega (arith, e, is))
       (λ (e : status ≡ 5). omega (arith, e, is)) written in
-      words_said left said c (sym all.0 ∙ is) all.1
+      words_said said comes (sym all.0 ∙ is) all.1
 
-  read_said : (left : Option (List ℕ)) (said : Said) → Conducts words left before now said → said_status said ≡ 3 →
-      Wrote w w2 (said_text said) → Rose before now × Wrote w w2 read_text
-  read_said left (Exchanged r) c is wrote = let small : answer_status (answer_in r.outcome) ≤ 1 =
-      status_small (answer_in r.outcome) in absurd (omega (arith, is, small))
-  read_said left (NoScenario line) c is wrote = absurd (omega (arith, is))
-  read_said left ReadFault c is wrote = (c.1, wrote)
-  read_said left OtherWords c is wrote = absurd (omega (arith, is))
-  read_said left NoMemory c is wrote = absurd (omega (arith, is))
+  read_said : (said : Said) → Comes command left before now said → said_status said ≡ 3 → Wrote w w2 (said_text said) →
+      IsSome (task_in command) × Rose before now × Wrote w w2 read_text
+  read_said (Done c text) comes is wrote = absurd (done_other c.status 3 (done command (IsToldFor command left) c text.items comes) is
+      (omega arith) (λ (e : 3 ≡ 5). omega (arith, e)))
+  read_said (NoScenario line) comes is wrote = absurd (omega (arith, is))
+  read_said ReadFault comes is wrote = (comes.0, comes.1, wrote)
+  read_said OtherWords comes is wrote = absurd (omega (arith, is))
+  read_said NoMemory comes is wrote = absurd (omega (arith, is))
 
-  pub status_read : (left : Option (List ℕ)) (said : Said) (status : ℕ) → Conducts words left before now said →
+  pub status_read : (said : Said) (status : ℕ) → Comes command left before now said →
       Written (said_status said) (said_text said) w w2 f f2 status → status ≡ 3 →
-      Rose before now × Wrote w w2 read_text
-  status_read left said status c written is =
+      IsSome (task_in command) × Rose before now × Wrote w w2 read_text
+  status_read said status comes written is =
       let all = whole w w2 f f2 (said_status said) (said_text said) status (λ (e : status ≡ 4). omega (arith, e, is))
       (λ (e : status ≡ 5). omega (arith, e, is)) written in
-      read_said left said c (sym all.0 ∙ is) all.1
+      read_said said comes (sym all.0 ∙ is) all.1
 
-  line_said : (left : Option (List ℕ)) (said : Said) → Conducts words left before now said → said_status said ≡ 2 →
-      Wrote w w2 (said_text said) → WroteLine left w w2
-  line_said left (Exchanged r) c is wrote = let small : answer_status (answer_in r.outcome) ≤ 1 =
-      status_small (answer_in r.outcome) in absurd (omega (arith, is, small))
-  line_said left (NoScenario line) c is wrote = record { line = line; refused = c.1; wrote = wrote }
-  line_said left ReadFault c is wrote = absurd (omega (arith, is))
-  line_said left OtherWords c is wrote = absurd (omega (arith, is))
-  line_said left NoMemory c is wrote = absurd (omega (arith, is))
+-- a command that is none
+module _ (left : Option (List ℕ)) (before now : ℕ) (w w2 : Option (List ℕ)) (f f2 : ℕ) where
+  none_said : (said : Said) (status : ℕ) → Comes None left before now said →
+      Written (said_status said) (said_text said) w w2 f f2 status → IsUnlessWrite 6 status
+  none_said (Done c text) status comes written = absurd comes
+  none_said (NoScenario line) status comes written = absurd comes
+  none_said ReadFault status comes written = let some = comes.0 in absurd cc
+  none_said OtherWords status comes written = unless_write w w2 f f2 6 words_text status written
+  none_said NoMemory status comes written = absurd cc
 
-  pub status_line : (left : Option (List ℕ)) (said : Said) (status : ℕ) → Conducts words left before now said →
-      Written (said_status said) (said_text said) w w2 f f2 status → status ≡ 2 →
-      WroteLine left w w2
-  status_line left said status c written is =
-      let all = whole w w2 f f2 (said_status said) (said_text said) status (λ (e : status ≡ 4). omega (arith, e, is))
-      (λ (e : status ≡ 5). omega (arith, e, is)) written in
-      line_said left said c (sym all.0 ∙ is) all.1
+  pub status_none : (command : Option Command) (said : Said) (status : ℕ) → Comes command left before now said →
+      Written (said_status said) (said_text said) w w2 f f2 status → command ≡ None → IsUnlessWrite 6 status
+  status_none None said status comes written none = none_said said status comes written
+  status_none (Some command) said status comes written none = absurd cc
 
-  pub status_unread : (left : Option (List ℕ)) (said : Said) (status : ℕ) → Conducts words left before now said →
-      Written (said_status said) (said_text said) w w2 f f2 status →
-      (AreDelegate words → ⊥) → IsUnlessWrite 6 status
-  status_unread left (Exchanged r) status c written other = absurd (other c.0)
-  status_unread left (NoScenario line) status c written other = absurd (other c.0)
-  status_unread left ReadFault status c written other = absurd (other c.0)
-  status_unread left OtherWords status c written other = unless_write w w2 f f2 6 words_text status written
-  status_unread left NoMemory status c written other = absurd (other c)
+-- ---- the line that is to blame
 
-  both : (text : List ℕ) (scenario : Scenario) (line : ℕ) → scenario_of text ≡ Ok scenario → scenario_of text ≡ Err line → ⊥
-  both text scenario line is none = cc
+module _ (before after : Outside) where
+  line_named : (task : Option Task) (line : ℕ) → IsSomeAnd task (λ t. NoneTold (purpose_of t) before.left line) →
+      Wrote before.written after.written (said_text (NoScenario line)) → IsSomeAnd task (λ t. WroteLine (purpose_of t) before after)
+  line_named None line none wrote = absurd none
+  line_named (Some task) line none wrote = record { line = line; refused = none; wrote = wrote }
 
-  pub status_no_scenario : (left : Option (List ℕ)) (said : Said) (status : ℕ) → Conducts words left before now said →
-      Written (said_status said) (said_text said) w w2 f f2 status → AreDelegate words →
-      IfSome left (λ text. (line : ℕ) → scenario_of text ≡ Err line → IsUnlessFault 2 status)
-  status_no_scenario None said status c written delegates = tt
-  status_no_scenario (Some text) (Exchanged r) status c written delegates = λ line none. absurd (both text r.scenario line c.2 none)
-  status_no_scenario (Some text) (NoScenario n) status c written delegates =
-      λ line none. inr (unless_write w w2 f f2 2 (said_text (NoScenario n)) status written)
-  status_no_scenario (Some text) ReadFault status c written delegates = λ line none. unless_read w w2 f f2 2 read_text status written
-  status_no_scenario (Some text) OtherWords status c written delegates = absurd (c delegates)
-  status_no_scenario (Some text) NoMemory status c written delegates = λ line none. unless_memory w w2 f f2 2 [] status written
+  line_said : (command : Option Command) (said : Said) → Comes command before.left before.read_faults after.read_faults said →
+      said_status said ≡ 2 → Wrote before.written after.written (said_text said) →
+      IsSomeAnd (task_in command) (λ t. WroteLine (purpose_of t) before after)
+  line_said command (Done c text) comes is wrote =
+      absurd (done_other c.status 2 (done command (IsToldFor command before.left) c text.items comes) is
+      (omega arith) (λ (e : 2 ≡ 5). omega (arith, e)))
+  line_said command (NoScenario line) comes is wrote = line_named (task_in command) line comes wrote
+  line_said command ReadFault comes is wrote = absurd (omega (arith, is))
+  line_said command OtherWords comes is wrote = absurd (omega (arith, is))
+  line_said command NoMemory comes is wrote = absurd (omega (arith, is))
 
-  same_scenario : (text : List ℕ) (scenario scenario2 : Scenario) → scenario_of text ≡ Ok scenario → scenario_of text ≡ Ok scenario2 →
-      scenario ≡ scenario2
-  same_scenario text scenario scenario2 is is2 = cc
+  pub status_line : (command : Option Command) (said : Said) (status : ℕ) →
+      Comes command before.left before.read_faults after.read_faults said →
+      Written (said_status said) (said_text said) before.written after.written before.write_faults after.write_faults status →
+      status ≡ 2 → IsSomeAnd (task_in command) (λ t. WroteLine (purpose_of t) before after)
+  status_line command said status comes written is =
+      let all = whole before.written after.written before.write_faults after.write_faults (said_status said) (said_text said) status
+      (λ (e : status ≡ 4). omega (arith, e, is)) (λ (e : status ≡ 5). omega (arith, e, is)) written in
+      line_said command said comes (sym all.0 ∙ is) all.1
 
-  -- an exchange of a plain scenario
-  plain_exchange : (r : Record) (status : ℕ) → HasExchange r →
-      Written (answer_status (answer_in r.outcome)) (report_of r) w w2 f f2 status → (plain : IsPlain r.scenario) →
-      EndsPlainly (messages_in r.scenario plain) r.scenario.turns status
-  plain_exchange r status has written plain =
-      let own = unless_write w w2 f f2 (answer_status (answer_in r.outcome)) (report_of r) status written in (
-        (λ enough. inr (subst (λ (n : ℕ). IsUnlessWrite n status)
-            (ok_status _ _ (answer_in r.outcome) has.memory (has.outcome.comes plain enough)) own)),
-        (λ few. inr (subst (λ (n : ℕ). IsUnlessWrite n status) (short_status (answer_in r.outcome) (has.outcome.short plain few)) own)),
-      )
-
-  pub status_plain : (left : Option (List ℕ)) (said : Said) (status : ℕ) → Conducts words left before now said →
-      Written (said_status said) (said_text said) w w2 f f2 status → AreDelegate words → IfSome left (λ text. EndsText text status)
-  status_plain None said status c written delegates = tt
-  status_plain (Some text) (Exchanged r) status c written delegates = λ scenario is plain.
-      let same : r.scenario ≡ scenario = same_scenario text r.scenario scenario c.2 is in
-      subst (λ (s : Scenario). (it : IsPlain s) → EndsPlainly (messages_in s it) s.turns status) same
-      (λ it. plain_exchange r status c.1 written it) plain
-  status_plain (Some text) (NoScenario n) status c written delegates = λ scenario is plain. absurd (both text scenario n is c.1)
-  status_plain (Some text) ReadFault status c written delegates = λ scenario is plain.
-      ((λ enough. unless_read w w2 f f2 0 read_text status written), (λ few. unless_read w w2 f f2 1 read_text status written))
-  status_plain (Some text) OtherWords status c written delegates = absurd (c delegates)
-  status_plain (Some text) NoMemory status c written delegates = λ scenario is plain.
-      ((λ enough. unless_memory w w2 f f2 0 [] status written), (λ few. unless_memory w w2 f f2 1 [] status written))
-
-  pub owes : (left : Option (List ℕ)) (said : Said) (kept : Option Record) (status : ℕ) → kept ≡ kept_in said →
-      Conducts words left before now said →
-      Written (said_status said) (said_text said) w w2 f f2 status → WroteOwed words left before now kept w w2
-  owes left said kept status is c written = record {
+  pub owes : (command : Option Command) (said : Said) (c : Conducted) → c ≡ conducted_as c.status said →
+      Comes command before.left before.read_faults after.read_faults said →
+      Written (said_status said) (said_text said) before.written after.written before.write_faults after.write_faults c.status →
+      WroteOwed command before after c
+  owes command said c is comes written = record {
     said = said;
-    owed = c;
+    owed = comes;
     keeps = is;
-    wrote = front_of w w2 f f2 (said_status said) (said_text said) status written;
+    wrote = front_of before.written after.written before.write_faults after.write_faults (said_status said) (said_text said) c.status
+        written;
   }
+
+  -- ---- what is reported
+
+  due_now : (command : Command) (c : Conducted) (text : List ℕ) (status : ℕ) → IsDue (due command c) c.status text → status ≤ 1 →
+      (status ≡ c.status) × Wrote before.written after.written text → IsReported (due command (with_status status c)) status before after
+  due_now command c text status (inl e) small all = rw (due_status command status c, e) all
+  due_now command c text status (inr h) small all = absurd (omega (arith, h.0, all.0, small))
+
+  reported_by : (command : Option Command) (said : Said) (status : ℕ) →
+      Comes command before.left before.read_faults after.read_faults said → status ≤ 1 →
+      (status ≡ said_status said) × Wrote before.written after.written (said_text said) →
+      IsSomeAnd command (λ k. IsReported (due k (conducted_as status said)) status before after)
+  reported_by None (Done c text) status comes small all = absurd comes
+  reported_by (Some command) (Done c text) status comes small all = due_now command c text.items status comes.1 small all
+  reported_by command (NoScenario line) status comes small all = absurd (omega (arith, all.0, small))
+  reported_by command ReadFault status comes small all = absurd (omega (arith, all.0, small))
+  reported_by command OtherWords status comes small all = absurd (omega (arith, all.0, small))
+  reported_by command NoMemory status comes small all = absurd (omega (arith, all.0, small))
+
+  pub status_reported : (command : Option Command) (said : Said) (c : Conducted) (status : ℕ) → c ≡ conducted_as status said →
+      Comes command before.left before.read_faults after.read_faults said →
+      Written (said_status said) (said_text said) before.written after.written before.write_faults after.write_faults status →
+      status ≤ 1 → IsSomeAnd command (λ k. IsReported (due k c) status before after)
+  status_reported command said c status is comes written small =
+      let all = whole before.written after.written before.write_faults after.write_faults (said_status said) (said_text said) status
+      (λ (e : status ≡ 4). omega (arith, e, small)) (λ (e : status ≡ 5). omega (arith, e, small)) written in
+      subst (λ (d : Conducted). IsSomeAnd command (λ k. IsReported (due k d) status before after)) (sym is)
+      (reported_by command said status comes small all)

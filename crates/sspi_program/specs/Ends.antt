@@ -118,11 +118,10 @@ link_in scenario = record { log = []; edits = scenario.edit; faults = 0 }
 abbrev pub kdc_in : Scenario → PlainKdcState
 kdc_in scenario = record { users = scenario.kdc_user; script = scenario.kdc_answer; asked = 0; faults = 0 }
 
--- both ends, the link and the KDC are the scenario's, as they were made
+-- both ends and the KDC are the scenario's, as they were made
 pub record AreEndsOf (scenario : Scenario) (ends : Ends) : Type 0 where
   pub client_fresh : IsFreshClient ends.client
   pub client_named : IsClientOf scenario ends.client
   pub server_fresh : IsFreshServer ends.server
   pub server_named : IsServerOf scenario ends.server
-  pub link : ends.link ≡ link_in scenario
   pub kdc : ends.kdc ≡ kdc_in scenario

@@ -1,4 +1,4 @@
--- What holds of the exchange that a run keeps.
+-- What holds of an exchange that is kept.
 use Rattle.std.specs.Prelude.{◌≡◌, ℕ, List, [], Option, Some, Result}
 use Rattle.sspi_names.specs.declared.network.NetworkRequest.{NetworkRequest}
 use Rattle.sspi_mech.specs.Meaning.{Meaning}
@@ -19,16 +19,11 @@ use Rattle.sspi_delegate.specs.Edits.{MemoryLinkView, FollowsEdits}
 use Rattle.sspi_delegate.specs.Headline.{IsFresh}
 use Rattle.sspi_program.specs.Ends.{PlainContext, IsClientOf, IsServerOf, link_in, kdc_in}
 use Rattle.sspi_program.specs.declared.record.Record.{Record}
-use Rattle.sspi_program.specs.declared.record.RunOutcome.{RunOutcome}
 use Rattle.sspi_program.specs.declared.record.RunOutcome.TheVariants.{Delegated}
 
 -- what the context of either end means
 abbrev pub plain_meaning : Meaning ContextSetting PlainContext
 plain_meaning = either 0 ntlm_meaning kerberos_meaning
-
--- what `delegate` answered
-abbrev pub answer_in : RunOutcome → Result Delegation DelegateError
-answer_in (Delegated answer) = answer
 
 -- the KDC tells its reply to each call
 abbrev pub told_replies : PlainKdcState → Option (ℕ → NetworkRequest → Reply)
@@ -64,7 +59,9 @@ pub record IsExchange (r : Record) : Type 0 where
   -- the link has the scenario's edits
   pub edits : r.link.edits ≡ r.scenario.edit
   pub follows : FollowsEdits r.scenario.edit r.link.log
-  -- all that `delegate` promises of these ends
+  -- what `delegate` answered, and all that it promises of these ends
+  pub answer : Result Delegation DelegateError
+  pub outcome_is : r.outcome ≡ Delegated answer
   pub delegates : Delegates plain_meaning around (parties client server (link_in r.scenario) (kdc_in r.scenario) []) r.scenario.turns
-      (answer_in r.outcome)
+      answer
       (parties r.client r.server r.link r.kdc r.transcript.turns)

@@ -1,6 +1,11 @@
+pub mod Commands
 pub mod Ends
 pub mod Exchange
-pub mod Said
-pub mod Run
-pub mod Words
 pub mod Outcome
+pub mod Delegate
+pub mod Play
+pub mod Kept
+pub mod Status
+pub mod Said
+pub mod Promises
+pub mod Run

@@ -1,16 +1,16 @@
 -- What the exchange of a scenario comes to where nothing stands in its way.
-use Rattle.std.specs.Prelude.{◌≡◌, ℕ, ◌<◌, ◌≤◌, [], length, Option, None, Some, IfOk, nat_lt}
+use Rattle.std.specs.Prelude.{◌≡◌, ℕ, ◌<◌, ◌≤◌, [], length, Option, None, Some, Result, IfOk, nat_lt}
 use Rattle.sspi_names.specs.declared.identity.AuthIdentity.{AuthIdentity}
 use Rattle.sspi_names.specs.declared.network.NetworkRequest.{NetworkRequest}
 use Rattle.sspi_mech.specs.declared.step.Reply.{Reply}
 use Rattle.sspi_mech.specs.PlainKdc.{told_by}
+use Rattle.sspi_delegate.specs.declared.answer.Delegation.{Delegation}
+use Rattle.sspi_delegate.specs.declared.answer.DelegateError.{DelegateError}
 use Rattle.sspi_completeness.specs.Matching.{MatchModes, messages_of, HasEntry, IsShort, key_limit, delegated_as, ComesToOkIn, IsCutShort}
 use Rattle.sspi_scenario.specs.declared.scenario.Mode.TheVariants.{Ntlm}
 use Rattle.sspi_scenario.specs.declared.scenario.Scenario.{Scenario}
 use Rattle.sspi_scenario.specs.Scenario.{own_identity}
-use Rattle.sspi_program.specs.declared.record.Record.{Record}
 use Rattle.sspi_program.specs.Ends.{client_mode_in, server_mode_in}
-use Rattle.sspi_program.specs.Exchange.{answer_in}
 
 abbrev pub user_identity : Scenario → AuthIdentity
 user_identity scenario = own_identity scenario.user scenario.password
@@ -43,8 +43,8 @@ messages_in scenario plain =
 
 -- Ok of plain NTLM alone takes three messages of the client. A plain scenario comes to Ok where the client may make as many
 -- messages as it takes, and else is cut short; but for want of memory.
-pub record IsOutcome (r : Record) : Type 0 where
-  pub three : r.scenario.mode ≡ Ntlm → IfOk (answer_in r.outcome) (λ delegation. 3 ≤ delegation.turns)
-  pub comes : (plain : IsPlain r.scenario) → messages_in r.scenario plain ≤ r.scenario.turns →
-      ComesToOkIn (messages_in r.scenario plain) (delegated_as r.scenario.delegation (user_identity r.scenario)) (answer_in r.outcome)
-  pub short : (plain : IsPlain r.scenario) → r.scenario.turns < messages_in r.scenario plain → IsCutShort (answer_in r.outcome)
+pub record IsOutcome (scenario : Scenario) (answer : Result Delegation DelegateError) : Type 0 where
+  pub three : scenario.mode ≡ Ntlm → IfOk answer (λ delegation. 3 ≤ delegation.turns)
+  pub comes : (plain : IsPlain scenario) → messages_in scenario plain ≤ scenario.turns →
+      ComesToOkIn (messages_in scenario plain) (delegated_as scenario.delegation (user_identity scenario)) answer
+  pub short : (plain : IsPlain scenario) → scenario.turns < messages_in scenario plain → IsCutShort answer

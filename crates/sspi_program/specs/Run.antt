@@ -1,85 +1,135 @@
--- What the words and the source of a run come to.
-use Rattle.std.specs.Prelude.{◌≡◌, ◌≢◌, ℕ, ◌<◌, ◌≤◌, ◌⊎◌, List, Option, IfSome, Ok, Err, String}
+-- What a run comes to, by its command and by what its source and its sink show.
+use Rattle.std.specs.Prelude.{◌≡◌, ℕ, ◌≤◌, List, Option, None, Some, IfSome, IsSome, IsSomeAnd, Ok, Err}
 use Rattle.sspi_ber.specs.Outside.{Rose, Wrote, WroteFront}
-use Rattle.sspi_delegate.specs.declared.answer.DelegateError.TheVariants.{InsufficientMemory}
+use Rattle.sspi_scenario.specs.declared.purpose.Purpose.{Purpose}
 use Rattle.sspi_scenario.specs.declared.scenario.Scenario.{Scenario}
 use Rattle.sspi_scenario.specs.Reading.{IsReadWhole}
 use Rattle.sspi_scenario.specs.Scenario.{scenario_of}
-use Rattle.sspi_program.specs.declared.record.Record.{Record}
+use Rattle.sspi_program.specs.declared.command.Command.{Command}
+use Rattle.sspi_program.specs.declared.command.Command.TheVariants.{Told}
+use Rattle.sspi_program.specs.declared.command.Task.{Task}
+use Rattle.sspi_program.specs.declared.record.Conducted.{Conducted}
 use Rattle.sspi_program.specs.declared.said.Said.{Said}
-use Rattle.sspi_program.specs.declared.said.Said.TheVariants.{Exchanged, NoScenario, ReadFault, OtherWords, NoMemory}
-use Rattle.sspi_program.specs.Exchange.{IsExchange, answer_in}
-use Rattle.sspi_program.specs.Outcome.{messages_in, IsPlain, IsOutcome}
-use Rattle.sspi_program.specs.Said.{said_text, kept_in, line_text}
-use Rattle.sspi_program.specs.Words.{AreDelegate}
+use Rattle.sspi_program.specs.declared.said.Said.TheVariants.{Done, NoScenario, ReadFault, OtherWords, NoMemory}
+use Rattle.sspi_program.specs.Commands.{task_in, purpose_of}
+use Rattle.sspi_program.specs.Kept.{nothing}
+use Rattle.sspi_program.specs.Promises.{Keeps, Does, due, EndsSo}
+use Rattle.sspi_program.specs.Said.{said_text, conducted_as, words_text, read_text, line_text}
+use Rattle.sspi_program.specs.Status.{IsUnlessWrite, IsUnlessFault}
 
--- there was an exchange that had memory, and it is this one
-pub record HasExchange (kept : Record) : Type 0 where
-  pub exchange : IsExchange kept
-  pub outcome : IsOutcome kept
-  pub memory : answer_in kept.outcome ≢ Err InsufficientMemory
+-- what the source and the sink of a run show at one moment: the bytes that are left and those that were written, where these are
+-- told, and how often each failed
+pub record Outside : Type 0 where
+  pub left : Option (List ℕ)
+  pub read_faults : ℕ
+  pub written : Option (List ℕ)
+  pub write_faults : ℕ
 
--- what the words and the text of the source come to; left: the bytes of the source, where they are told, before and now:
--- its count of faults
-abbrev pub Conducts : {A : Type 0} → List (String A) → Option (List ℕ) → ℕ → ℕ → Said → Type 0
-Conducts words left before now (Exchanged kept) =
-    AreDelegate words × HasExchange kept × IfSome left (λ text. scenario_of text ≡ Ok kept.scenario)
-Conducts words left before now (NoScenario line) = AreDelegate words × IfSome left (λ text. scenario_of text ≡ Err line)
-Conducts words left before now ReadFault = AreDelegate words × Rose before now
-Conducts words left before now OtherWords = AreDelegate words → ⊥
-Conducts words left before now NoMemory = AreDelegate words
+abbrev pub outside : Option (List ℕ) → ℕ → Option (List ℕ) → ℕ → Outside
+outside left read_faults written write_faults =
+    record { left = left; read_faults = read_faults; written = written; write_faults = write_faults }
+
+-- ---- what is due
+
+-- the scenario that the source tells, where it tells its text
+abbrev pub IsTold : Purpose → Option (List ℕ) → Scenario → Type 0
+IsTold purpose left scenario = IfSome left (λ text. scenario_of purpose text ≡ Ok scenario)
+
+-- the same for the task of a command; a command without one reads no source
+abbrev pub IsToldFor : Option Command → Option (List ℕ) → Scenario → Type 0
+IsToldFor command left scenario = IfSome (task_in command) (λ task. IsTold (purpose_of task) left scenario)
+
+abbrev pub NoneTold : Purpose → Option (List ℕ) → ℕ → Type 0
+NoneTold purpose left line = IfSome left (λ text. scenario_of purpose text ≡ Err line)
+
+-- what the words and the text of the source come to
+abbrev pub Comes : Option Command → Option (List ℕ) → ℕ → ℕ → Said → Type 0
+Comes command left faults faults2 (Done conducted text) =
+    IsSomeAnd command (λ c. Does c (IsToldFor command left) conducted text.items)
+Comes command left faults faults2 (NoScenario line) = IsSomeAnd (task_in command) (λ task. NoneTold (purpose_of task) left line)
+Comes command left faults faults2 ReadFault = IsSome (task_in command) × Rose faults faults2
+Comes command left faults faults2 OtherWords = command ≡ None
+Comes command left faults faults2 NoMemory = IsSome command
 
 -- what was read of the source where its text was judged: all of it, or one byte more than a text may have
 abbrev pub IsJudged : Option (List ℕ) → Option (List ℕ) → Said → Type 0
-IsJudged before after (Exchanged kept) = IsReadWhole before after
+IsJudged before after (Done conducted text) = IsReadWhole before after
 IsJudged before after (NoScenario line) = IsReadWhole before after
 IsJudged before after ReadFault = Unit {0}
 IsJudged before after OtherWords = Unit {0}
 IsJudged before after NoMemory = Unit {0}
 
--- what a text comes to
-abbrev pub CarriesOut : List ℕ → Said → Type 0
-CarriesOut text (Exchanged kept) = HasExchange kept × (scenario_of text ≡ Ok kept.scenario)
-CarriesOut text (NoScenario line) = scenario_of text ≡ Err line
-CarriesOut text ReadFault = ⊥
-CarriesOut text OtherWords = ⊥
-CarriesOut text NoMemory = Unit {0}
+-- what a task makes of a text
+abbrev pub CarriesOut : Task → List ℕ → Said → Type 0
+CarriesOut task text (Done conducted written) =
+    Does (Told task) (λ scenario. scenario_of (purpose_of task) text ≡ Ok scenario) conducted written.items
+CarriesOut task text (NoScenario line) = scenario_of (purpose_of task) text ≡ Err line
+CarriesOut task text ReadFault = ⊥
+CarriesOut task text OtherWords = ⊥
+CarriesOut task text NoMemory = Unit {0}
 
--- what an exchange comes to
-abbrev pub SaysOf : Record → Said → Type 0
-SaysOf made (Exchanged kept) = (kept ≡ made) × (answer_in made.outcome ≢ Err InsufficientMemory)
-SaysOf made (NoScenario line) = ⊥
-SaysOf made ReadFault = ⊥
-SaysOf made OtherWords = ⊥
-SaysOf made NoMemory = answer_in made.outcome ≡ Err InsufficientMemory
+-- what a task makes of a scenario
+abbrev pub Conducts : Task → Scenario → Said → Type 0
+Conducts task scenario (Done conducted written) = Does (Told task) (λ s. s ≡ scenario) conducted written.items
+Conducts task scenario (NoScenario line) = ⊥
+Conducts task scenario ReadFault = ⊥
+Conducts task scenario OtherWords = ⊥
+Conducts task scenario NoMemory = Unit {0}
+
+-- ---- what a run promises
+
+-- what is kept: by a command what it keeps of a scenario that the source tells, and else nothing
+abbrev pub KeepsOnly : Option Command → Option (List ℕ) → Conducted → Type 0
+KeepsOnly None left conducted = conducted ≡ nothing conducted.status
+KeepsOnly (Some command) left conducted = Keeps command (IsToldFor (Some command) left) conducted
+
+-- the status is the one that is due, and the text that is due was written and nothing else
+abbrev pub IsReported : Option (ℕ × List ℕ) → ℕ → Outside → Outside → Type 0
+IsReported told status before after = IsSomeAnd told (λ d. (status ≡ d.0) × Wrote before.written after.written d.1)
 
 -- a line of the text was named that is to blame
-pub record WroteLine (left before after : Option (List ℕ)) : Type 0 where
+pub record WroteLine (purpose : Purpose) (before after : Outside) : Type 0 where
   pub line : ℕ
-  pub refused : IfSome left (λ text. scenario_of text ≡ Err line)
-  pub wrote : Wrote before after (line_text line)
+  pub refused : NoneTold purpose before.left line
+  pub wrote : Wrote before.written after.written (line_text line)
+
+-- when each status comes, of any command
+pub record HasStatus (command : Option Command) (before after : Outside) (status : ℕ) : Type 0 where
+  pub most : status ≤ 6
+  -- up to 2: the whole text was read, where one is
+  pub whole : status ≤ 2 → IsSome (task_in command) → IsReadWhole before.left after.left
+  -- 2: the text is no scenario
+  pub two : status ≡ 2 → IsSomeAnd (task_in command) (λ task. WroteLine (purpose_of task) before after)
+  pub no_scenario : IfSome (task_in command) (λ task.
+      IfSome before.left (λ text. (line : ℕ) → scenario_of (purpose_of task) text ≡ Err line → IsUnlessFault 2 status))
+  -- 3: the source failed
+  pub three : status ≡ 3 → IsSome (task_in command) × Rose before.read_faults after.read_faults ×
+      Wrote before.written after.written read_text
+  -- 4: the sink failed
+  pub four : status ≡ 4 → Rose before.write_faults after.write_faults
+  -- 6: the words are no command
+  pub six : status ≡ 6 → (command ≡ None) × Wrote before.written after.written words_text
+  pub no_command : command ≡ None → IsUnlessWrite 6 status
 
 -- what was written is a front of the text that the words and the source owe
-pub record WroteOwed {A : Type 0} (words : List (String A)) (left : Option (List ℕ)) (faults faults2 : ℕ) (kept : Option Record)
-    (before after : Option (List ℕ)) : Type 0 where
+pub record WroteOwed (command : Option Command) (before after : Outside) (conducted : Conducted) : Type 0 where
   pub said : Said
-  pub owed : Conducts words left faults faults2 said
-  pub keeps : kept ≡ kept_in said
-  pub wrote : WroteFront before after (said_text said)
+  pub owed : Comes command before.left before.read_faults after.read_faults said
+  pub keeps : conducted ≡ conducted_as conducted.status said
+  pub wrote : WroteFront before.written after.written (said_text said)
 
--- this status, but for a write fault (4) and want of memory (5)
-abbrev pub IsUnlessWrite : ℕ → ℕ → Type 0
-IsUnlessWrite own status = (status ≡ own) ⊎ ((status ≡ 4) ⊎ (status ≡ 5))
+-- what a run promises, whatever its words
+pub record IsRun (command : Option Command) (before after : Outside) (conducted : Conducted) : Type 0 where
+  pub statuses : HasStatus command before after conducted.status
+  -- what is kept at any status, and at 0 and 1 the status and the text that are due for it
+  pub kept : KeepsOnly command before.left conducted
+  pub reported : conducted.status ≤ 1 → IsSomeAnd command (λ c. IsReported (due c conducted) conducted.status before after)
+  -- the status where the source tells its text
+  pub ends : IfSome command (λ c. EndsSo c before.left conducted.status)
+  pub owed : WroteOwed command before after conducted
 
--- the same for one that also yields to a read fault (3)
-abbrev pub IsUnlessFault : ℕ → ℕ → Type 0
-IsUnlessFault own status = (status ≡ 3) ⊎ IsUnlessWrite own status
-
--- so many messages of the client are enough, and fewer are not
-abbrev pub EndsPlainly : ℕ → ℕ → ℕ → Type 0
-EndsPlainly messages turns status = (messages ≤ turns → IsUnlessFault 0 status) × (turns < messages → IsUnlessFault 1 status)
-
--- what the status is where the text is that of a plain scenario
-abbrev pub EndsText : List ℕ → ℕ → Type 0
-EndsText text status = (scenario : Scenario) → scenario_of text ≡ Ok scenario → (plain : IsPlain scenario) →
-    EndsPlainly (messages_in scenario plain) scenario.turns status
+-- a run that ended with this status
+pub record EndsRun (command : Option Command) (before after : Outside) (status : ℕ) : Type 0 where
+  pub conducted : Conducted
+  pub status_is : conducted.status ≡ status
+  pub runs : IsRun command before after conducted

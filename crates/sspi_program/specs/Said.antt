@@ -1,13 +1,19 @@
 -- What a run says: its exit status and its text, before they are written.
-use Rattle.std.specs.Prelude.{◌≡◌, ℕ, ◌⊎◌, List, [], ◌∷◌, ◌++◌, codes, decimal, reverse, Option, None, Some, Result, Ok, Err}
+use Rattle.std.specs.Prelude.{◌≡◌, ℕ, ◌⊎◌, List, [], ◌∷◌, ◌++◌, codes, decimal, reverse, Option, None, Some, IsSome, Result, Ok, Err}
+use Rattle.std.specs.Option.{option_map}
 use Rattle.sspi_ber.specs.Outside.{Rose, Wrote, WroteFront}
 use Rattle.sspi_delegate.specs.declared.answer.Delegation.{Delegation}
 use Rattle.sspi_delegate.specs.declared.answer.DelegateError.{DelegateError}
+use Rattle.sspi_delegate.specs.declared.answer.DelegateError.TheVariants as errors
+use Rattle.sspi_report.specs.Play.{play_text}
 use Rattle.sspi_report.specs.Report.{report_text}
+use Rattle.sspi_program.specs.declared.record.Conducted.{Conducted}
 use Rattle.sspi_program.specs.declared.record.Record.{Record}
+use Rattle.sspi_program.specs.declared.record.RunOutcome.{RunOutcome}
+use Rattle.sspi_program.specs.declared.record.RunOutcome.TheVariants.{Delegated, Played}
 use Rattle.sspi_program.specs.declared.said.Said.{Said}
-use Rattle.sspi_program.specs.declared.said.Said.TheVariants.{Exchanged, NoScenario, ReadFault, OtherWords, NoMemory}
-use Rattle.sspi_program.specs.Exchange.{answer_in}
+use Rattle.sspi_program.specs.declared.said.Said.TheVariants.{Done, NoScenario, ReadFault, OtherWords, NoMemory}
+use Rattle.sspi_program.specs.Kept.{nothing, keeping, with_status}
 
 abbrev pub with_newline : List ℕ → List ℕ
 with_newline text = text ++ 10 ∷ []
@@ -21,35 +27,69 @@ read_text = with_newline (codes "error: read")
 abbrev pub line_text : ℕ → List ℕ
 line_text line = with_newline (codes "error: scenario line " ++ decimal line)
 
--- the report of the whole log, the first entry first
-abbrev pub report_of : Record → List ℕ
-report_of kept = report_text (reverse kept.link.log) (answer_in kept.outcome)
+-- ---- the report of a record
 
--- 0 where the server has the credentials, 1 where the exchange was refused
-abbrev pub answer_status : Result Delegation DelegateError → ℕ
-answer_status (Ok delegation) = 0
-answer_status (Err error) = 1
+-- 0 where the server has the credentials, 1 where the exchange was refused; none where memory was wanting
+abbrev pub delegated_status : Result Delegation DelegateError → Option ℕ
+delegated_status (Ok delegation) = Some 0
+delegated_status (Err errors.InsufficientMemory) = None
+delegated_status (Err error) = Some 1
+
+-- the same of a play, which nothing refuses
+abbrev pub status_of : RunOutcome → Option ℕ
+status_of (Delegated answer) = delegated_status answer
+status_of (Played (Ok played)) = Some 0
+status_of (Played (Err error)) = None
+
+-- the report of the whole log or of all turns, the first one first
+abbrev pub report_by : RunOutcome → Record → List ℕ
+report_by (Delegated answer) kept = report_text (reverse kept.link.log) answer
+report_by (Played (Ok played)) kept = play_text (reverse kept.transcript.turns) played
+report_by (Played (Err error)) kept = []
+
+abbrev pub report_of : Record → List ℕ
+report_of kept = report_by kept.outcome kept
+
+-- the status and the text that are due for a record; none where memory was wanting
+abbrev pub record_due : Record → Option (ℕ × List ℕ)
+record_due kept = option_map (λ status. (status, report_of kept)) (status_of kept.outcome)
+
+-- the status and the text are those that are due; or, where the text had no memory, there is none
+abbrev pub IsDue : Option (ℕ × List ℕ) → ℕ → List ℕ → Type 0
+IsDue due status text = (due ≡ Some (status, text)) ⊎ ((status ≡ 5) × (text ≡ []))
+
+-- what is said of a record
+abbrev pub SaysOf : Record → Said → Type 0
+SaysOf kept (Done conducted text) = (conducted ≡ keeping conducted.status kept) × IsSome (status_of kept.outcome) ×
+    IsDue (record_due kept) conducted.status text.items
+SaysOf kept (NoScenario line) = ⊥
+SaysOf kept ReadFault = ⊥
+SaysOf kept OtherWords = ⊥
+SaysOf kept NoMemory = status_of kept.outcome ≡ None
+
+-- ---- what is said
 
 abbrev pub said_status : Said → ℕ
-said_status (Exchanged kept) = answer_status (answer_in kept.outcome)
+said_status (Done conducted text) = conducted.status
 said_status (NoScenario line) = 2
 said_status ReadFault = 3
 said_status OtherWords = 6
 said_status NoMemory = 5
 
 abbrev pub said_text : Said → List ℕ
-said_text (Exchanged kept) = report_of kept
+said_text (Done conducted text) = text.items
 said_text (NoScenario line) = line_text line
 said_text ReadFault = read_text
 said_text OtherWords = words_text
 said_text NoMemory = []
 
-abbrev pub kept_in : Said → Option Record
-kept_in (Exchanged kept) = Some kept
-kept_in (NoScenario line) = None
-kept_in ReadFault = None
-kept_in OtherWords = None
-kept_in NoMemory = None
+-- a run that says this and ended with this status
+abbrev pub conducted_as : ℕ → Said → Conducted
+conducted_as status (Done conducted text) = with_status status conducted
+conducted_as status (NoScenario line) = nothing status
+conducted_as status ReadFault = nothing status
+conducted_as status OtherWords = nothing status
+conducted_as status NoMemory = nothing status
 
 -- The whole text was written, and the status is its own; or a front of it, since the sink failed (4) or had no memory (5).
 abbrev pub Written : ℕ → List ℕ → Option (List ℕ) → Option (List ℕ) → ℕ → ℕ → ℕ → Type 0

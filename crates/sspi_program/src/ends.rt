@@ -18,25 +18,42 @@ pub type Client = CredSspClient<Ntlm, Kerberos>;
 /// The server of a scenario. Its proxy looks its peers up in the table of the scenario.
 pub type Server = CredSspServer<Ntlm, Kerberos, TableProxy>;
 
-/// Both ends of a scenario, the link between them, and the KDC that the client asks.
+/// Both ends of a scenario, and the KDC that the client asks.
 #[derive(Drop)]
 pub struct Ends {
     pub client: Client,
     pub server: Server,
-    pub link: MemoryLink,
     pub kdc: PlainKdc,
 }
 
-/// The ends, the link and the KDC that the scenario names.
+/// The ends and the KDC that the scenario names.
 pub fn ends_of(alloc: Global, scenario: &Scenario) -> Result<Ends, AllocError>
     ensures { IfOk result (AreEndsOf scenario.now) }
 {
-    Ok(Ends {
-        client: client_of(alloc, scenario)?,
-        server: server_of(alloc, scenario)?,
-        link: link_of(alloc, scenario)?,
-        kdc: kdc_of(alloc, scenario)?,
-    })
+    let kdc = kdc_of(alloc, scenario)?;
+    match server_of(alloc, scenario) {
+        Ok(server) => with_client(alloc, scenario, server, kdc),
+        Err(error) => Err(error),
+    }
+}
+
+/// The same, where the server and the KDC are there.
+fn with_client(
+    alloc: Global,
+    scenario: &Scenario,
+    server: Server,
+    kdc: PlainKdc,
+) -> Result<Ends, AllocError>
+    ensures { IsFreshServer server → IsServerOf scenario.now server → kdc ≡ kdc_in scenario.now → IfOk result (AreEndsOf scenario.now) }
+{
+    match client_of(alloc, scenario) {
+        Ok(client) => Ok(Ends {
+            client,
+            server,
+            kdc,
+        }),
+        Err(error) => Err(error),
+    }
 }
 
 /// The client that the scenario names, to which nothing was delivered.
@@ -109,7 +126,7 @@ fn copy_accounts(alloc: Global, accounts: &[AuthIdentity]) -> Result<Vec<AuthIde
 }
 
 /// The link that the scenario names, with an empty log.
-fn link_of(alloc: Global, scenario: &Scenario) -> Result<MemoryLink, AllocError>
+pub fn link_of(alloc: Global, scenario: &Scenario) -> Result<MemoryLink, AllocError>
     ensures { IfOk result (λ link. link ≡ link_in scenario.now) }
 {
     let edits = copy_edits(alloc, scenario.edit.as_slice())?;

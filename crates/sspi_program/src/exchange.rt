@@ -1,39 +1,40 @@
 ghost use Rattle.std.specs.Prelude.{◌≡◌, IfOk};
-ghost use Rattle.sspi_program.specs.Ends.{AreEndsOf};
-ghost use Rattle.sspi_program.specs.Exchange.{IsExchange};
-ghost use Rattle.sspi_program.specs.Outcome.{IsOutcome};
+ghost use Rattle.sspi_program.specs.Delegate.{HasExchange};
+ghost use Rattle.sspi_program.specs.Ends.{AreEndsOf, link_in};
 ghost use Rattle.sspi_scenario.specs.Held.{HoldsValues};
 
-use crate::ends::{Ends, ends_of};
+use crate::ends::{Ends, ends_of, link_of};
 use crate::record::{Record, RunOutcome};
-use sspi_delegate::{Transcript, delegate};
+use sspi_delegate::{MemoryLink, Transcript, delegate};
 use sspi_scenario::Scenario;
 use std::alloc::{AllocError, Global};
 
 /// The exchange of the two ends that the scenario names, over the link and with the KDC that it names.
 pub fn exchange(alloc: Global, scenario: Scenario) -> Result<Record, AllocError>
     ensures scenario { IfOk result (λ kept. kept.scenario ≡ scenario) }
-    ensures exchange { IfOk result IsExchange }
-    ensures outcome { HoldsValues scenario → IfOk result IsOutcome }
+    ensures exchange { HoldsValues scenario → IfOk result HasExchange }
 {
+    let link = match link_of(alloc, &scenario) {
+        Ok(link) => link,
+        Err(error) => return Err(error),
+    };
     match ends_of(alloc, &scenario) {
-        Ok(ends) => Ok(meet(alloc, scenario, ends)),
+        Ok(ends) => Ok(meet(alloc, scenario, ends, link)),
         Err(error) => Err(error),
     }
 }
 
-/// The exchange of these ends.
-fn meet(alloc: Global, scenario: Scenario, ends: Ends) -> Record
+/// The exchange of these ends over this link.
+fn meet(alloc: Global, scenario: Scenario, ends: Ends, link: MemoryLink) -> Record
     ensures scenario { result.scenario ≡ scenario }
-    ensures exchange { AreEndsOf scenario ends → IsExchange result }
-    ensures outcome { AreEndsOf scenario ends → HoldsValues scenario → IsOutcome result }
+    ensures exchange { AreEndsOf scenario ends → link ≡ link_in scenario → HoldsValues scenario → HasExchange result }
 {
     let Ends {
         mut client,
         mut server,
-        mut link,
         mut kdc,
     } = ends;
+    let mut link = link;
     let mut transcript = Transcript::new(alloc);
     let answer = delegate(
         alloc,

@@ -1,10 +1,11 @@
-//! What the program does with its words and its source: it reads a scenario, carries one CredSSP delegation between its two ends, and
-//! writes what was carried and what came of it.
+//! What the program does with its words and its source: it reads a scenario, has its two ends delegate credentials by CredSSP, and
+//! writes what they sent and what came of it.
 //!
 //! `run` works over any source and sink; its contract says what each exit status means and what was written.
 //! `specs/Exchange.antt` has what holds of the exchange that is reported. The program itself, `sspi_run`, hands in its own.
 #![tactic(auto)]
 
+pub mod command;
 mod ends;
 mod exchange;
 mod modes;
@@ -14,5 +15,6 @@ mod said;
 pub mod status;
 mod words;
 
+pub use command::{Command, Task};
 pub use ends::{Client, Server};
 pub use record::{Conducted, Record, RunOutcome};

@@ -1,6 +1,11 @@
+ghost use Rattle.std.specs.Prelude.{◌≡◌};
+ghost use Rattle.sspi_program.specs.Kept;
+ghost use Rattle.sspi_program.specs.Kept.{keeping};
+
 use crate::ends::{Client, Server};
 use sspi_delegate::{DelegateError, Delegation, MemoryLink, Transcript};
 use sspi_mech::PlainKdc;
+use sspi_play::Played;
 use sspi_scenario::Scenario;
 
 /// What a run came to.
@@ -8,24 +13,47 @@ use sspi_scenario::Scenario;
 pub struct Conducted {
     /// The exit status of the program.
     pub status: u8,
-    /// The exchange, where there was one.
+    /// What the ends of a scenario did, where it was told one.
     pub kept: Option<Record>,
 }
 
-/// An exchange: its scenario, all that took part in it as it was left, and the outcome.
+impl Conducted {
+    /// A run with this status, of which nothing is kept.
+    pub fn nothing(status: u8) -> Conducted
+        ensures { result ≡ Kept.nothing status }
+    {
+        Conducted { status, kept: None }
+    }
+
+    /// The same where this record is kept.
+    pub fn keeping(status: u8, kept: Record) -> Conducted
+        ensures { result ≡ keeping status kept }
+    {
+        Conducted {
+            status,
+            kept: Some(kept),
+        }
+    }
+}
+
+/// What the ends of a scenario did: the scenario, all that took part as it was left, and the outcome.
 #[derive(Drop)]
 pub struct Record {
     pub scenario: Scenario,
     pub client: Client,
     pub server: Server,
+    /// In a play it carried nothing, and has no edits.
     pub link: MemoryLink,
     pub kdc: PlainKdc,
     pub transcript: Transcript,
     pub outcome: RunOutcome,
 }
 
-/// What the command of the program answered.
+/// What the ends of a scenario came to.
 #[derive(Drop)]
 pub enum RunOutcome {
+    /// They carried their messages to each other.
     Delegated(Result<Delegation, DelegateError>),
+    /// They took the deliveries of a schedule.
+    Played(Result<Played, DelegateError>),
 }

@@ -1,128 +1,170 @@
-ghost use Rattle.std.specs.Prelude.{◌≡◌, ℕ, ◌+◌, ◌≤◌, Ok, Err, IfSome, IsSomeAnd};
-ghost use Rattle.sspi_ber.specs.Outside.{Rose, Wrote};
-ghost use Rattle.sspi_program.specs.Exchange.{answer_in};
-ghost use Rattle.sspi_program.specs.Run.{Conducts, IsJudged, CarriesOut, SaysOf, HasExchange, WroteLine, WroteOwed, IsUnlessWrite};
-ghost use Rattle.sspi_program.specs.Run.{IsUnlessFault, EndsText};
-ghost use Rattle.sspi_program.specs.Said.{words_text, read_text, report_of, answer_status, said_status, said_text, kept_in, Written};
+ghost use Rattle.std.specs.Prelude.{◌≡◌, ◌+◌, ◌≤◌, None, Some, IfOk, IsSome, string_bytes};
+ghost use Rattle.sspi_program.specs.Commands.{command_of, task_in};
+ghost use Rattle.sspi_program.specs.Kept.{with_status};
+ghost use Rattle.sspi_program.specs.Run.{outside, Comes, IsJudged, CarriesOut, IsRun, EndsRun};
+ghost use Rattle.sspi_program.specs.Said.{conducted_as, line_text, said_status, said_text, Written};
 ghost use Rattle.sspi_scenario.specs.declared.reading.TheConstants.{TEXT_LIMIT};
-ghost use Rattle.sspi_scenario.specs.Reading.{IsReadWhole, TakesAtMost};
-ghost use Rattle.sspi_scenario.specs.Scenario.{scenario_of};
-ghost use Rattle.sspi_program.specs.Words.{AreDelegate};
+ghost use Rattle.sspi_scenario.specs.Reading.{TakesAtMost};
 
-use crate::exchange::exchange;
-use crate::record::{Conducted, Record, RunOutcome};
+use crate::command::{Command, Task, command_of};
+use crate::record::Conducted;
 use crate::said::Said;
-use crate::status;
-use crate::words::{Command, command_of};
+use crate::{status, words};
 use sspi_ber::{Sink, Source, WireKind, write_all};
-use sspi_delegate::DelegateError;
 use sspi_scenario::{Scenario, ScenarioError, TextError, read_text};
-use std::alloc::Global;
+use std::alloc::{AllocError, Global};
 
-/// Does what the words ask for with the text of the source, and writes what comes of it. The exit status is
+/// Does what the words ask for with the text of the source, and writes what comes of it.
 ///
-/// - 0 where the server has the credentials and 1 where the exchange was refused: its report is written;
-/// - 2 where the text is no scenario or has more than `TEXT_LIMIT` bytes: `error: scenario line N`, with the number of the
-///   first faulty line, from 1, or 0 where no line is to blame;
+/// The words are `delegate`, whose ends carry their messages to each other over the link of the scenario, or `play`, whose ends take
+/// the deliveries of the scenario. The exit status is
+///
+/// - 0 where the server has the credentials, or the deliveries were taken, and 1 where the exchange was refused: its report is
+///   written;
+/// - 2 where the text is no scenario for this word or has more than `TEXT_LIMIT` bytes: `error: scenario line N`, with the number of
+///   the first faulty line, from 1, or 0 where no line is to blame;
 /// - 3 where the source failed: `error: read`;
 /// - 4 where the sink failed, which hides the status that was due: a front of the text;
 /// - 5 where memory was wanting: a front of the text, or nothing;
-/// - 6 where the words are other than `delegate` alone: `error: words`, and the source is not read.
+/// - 6 where the words are others: `error: words`, and the source is not read.
 ///
-/// Each line ends with LF. The source is read to its end, or to the first byte past `TEXT_LIMIT` and no further. The exchange
-/// is kept where there was one that did not end for want of memory, at status 4 and 5 too.
+/// Each line ends with LF. The source is read to its end, or to the first byte past `TEXT_LIMIT` and no further. What the ends did
+/// is kept where there were some and memory was not wanting among them, at status 4 and 5 too.
 pub fn run<S: Source, W: Sink>(
     alloc: Global,
     words: &[String],
     source: &mut S,
     sink: &mut W,
 ) -> Conducted
-    ensures words { result.status ≡ 6 → (AreDelegate words.now → ⊥) × Wrote (W.written sink.old) (W.written sink.new) words_text }
-    ensures unread { (AreDelegate words.now → ⊥) → (source.new ≡ source.old) × IsUnlessWrite 6 result.status }
-    ensures read { result.status ≡ 3 → Rose (S.faults source.old) (S.faults source.new) ×
-        Wrote (W.written sink.old) (W.written sink.new) read_text }
-    ensures line { result.status ≡ 2 → WroteLine (S.left source.old) (W.written sink.old) (W.written sink.new) }
-    ensures no_scenario { AreDelegate words.now → IfSome (S.left source.old)
-        (λ text. (line : ℕ) → scenario_of text ≡ Err line → IsUnlessFault 2 result.status) }
-    ensures outcome { AreDelegate words.now → IfSome (S.left source.old) (λ text. EndsText text result.status) }
-    ensures kept { IfSome result.kept (λ kept. HasExchange kept ×
-        IfSome (S.left source.old) (λ text. scenario_of text ≡ Ok kept.scenario)) }
-    ensures reported { result.status ≤ 1 → IsSomeAnd result.kept (λ kept.
-        (result.status ≡ answer_status (answer_in kept.outcome)) × Wrote (W.written sink.old) (W.written sink.new) (report_of kept)) }
-    ensures write { result.status ≡ 4 → Rose (W.faults sink.old) (W.faults sink.new) }
-    ensures owed { WroteOwed words.now (S.left source.old) (S.faults source.old) (S.faults source.new) result.kept (W.written sink.old)
-        (W.written sink.new) }
-    ensures whole { result.status ≤ 2 → IsReadWhole (S.left source.old) (S.left source.new) }
+    ensures runs { IsRun (command_of words.now)
+        (outside (S.left source.old) (S.faults source.old) (W.written sink.old) (W.faults sink.old))
+        (outside (S.left source.new) (S.faults source.new) (W.written sink.new) (W.faults sink.new)) result }
+    ensures unread { task_in (command_of words.now) ≡ None → source.new ≡ source.old }
     ensures taken { TakesAtMost (TEXT_LIMIT + 1) (S.left source.old) (S.left source.new) }
-    ensures statuses { result.status ≤ 6 }
-    ensures source_faults { S.faults source.old ≤ S.faults source.new }
-    ensures sink_faults { W.faults sink.old ≤ W.faults sink.new }
+    ensures faults { (S.faults source.old ≤ S.faults source.new) × (W.faults sink.old ≤ W.faults sink.new) }
 {
     let said = conduct(alloc, words, source);
     tell(alloc, sink, said)
 }
 
-/// What the words and the text of the source come to. Other words leave the source as it is.
-#[tactic(auto, using(crate::proofs::TooLong::too_long))]
+/// The same, of which nothing is kept: its exit status. The value that `run` answers is large, and costs a caller who drops it the
+/// proof of that.
+pub fn exit_status<S: Source, W: Sink>(
+    alloc: Global,
+    words: &[String],
+    source: &mut S,
+    sink: &mut W,
+) -> u8
+    ensures runs { EndsRun (command_of words.now)
+        (outside (S.left source.old) (S.faults source.old) (W.written sink.old) (W.faults sink.old))
+        (outside (S.left source.new) (S.faults source.new) (W.written sink.new) (W.faults sink.new)) result }
+    ensures unread { task_in (command_of words.now) ≡ None → source.new ≡ source.old }
+    ensures taken { TakesAtMost (TEXT_LIMIT + 1) (S.left source.old) (S.left source.new) }
+    ensures faults { (S.faults source.old ≤ S.faults source.new) × (W.faults sink.old ≤ W.faults sink.new) }
+{
+    let conducted = run(alloc, words, source, sink);
+    status_of(conducted)
+}
+
+/// What is kept of a run is dropped.
+fn status_of(conducted: Conducted) -> u8
+    ensures { result ≡ conducted.status }
+{
+    conducted.status
+}
+
+/// What the words and the text of the source come to.
 fn conduct<S: Source>(alloc: Global, words: &[String], source: &mut S) -> Said
-    ensures conducts { Conducts words.now (S.left source.old) (S.faults source.old) (S.faults source.new) result }
-    ensures unread { (AreDelegate words.now → ⊥) → source.new ≡ source.old }
-    ensures judged { IsJudged (S.left source.old) (S.left source.new) result }
+    ensures comes { Comes (command_of words.now) (S.left source.old) (S.faults source.old) (S.faults source.new) result }
+    ensures unread { task_in (command_of words.now) ≡ None → source.new ≡ source.old }
+    ensures judged { IsSome (task_in (command_of words.now)) → IsJudged (S.left source.old) (S.left source.new) result }
     ensures taken { TakesAtMost (TEXT_LIMIT + 1) (S.left source.old) (S.left source.new) }
     ensures faults { S.faults source.old ≤ S.faults source.new }
 {
     match command_of(words) {
-        Some(Command::Delegate) => {}
-        None => return Said::OtherWords,
+        Some(Command::Told(task)) => conduct_told(alloc, task, source),
+        None => Said::OtherWords,
     }
+}
+
+/// What a task makes of the text of the source.
+#[tactic(auto, using(crate::proofs::TooLong::too_long))]
+fn conduct_told<S: Source>(alloc: Global, task: Task, source: &mut S) -> Said
+    ensures comes { Comes (Some (Command.Told task)) (S.left source.old) (S.faults source.old) (S.faults source.new) result }
+    ensures judged { IsJudged (S.left source.old) (S.left source.new) result }
+    ensures taken { TakesAtMost (TEXT_LIMIT + 1) (S.left source.old) (S.left source.new) }
+    ensures faults { S.faults source.old ≤ S.faults source.new }
+{
     match read_text(alloc, source) {
-        Ok(text) => carry_out(alloc, &text),
+        Ok(text) => carry_out(alloc, task, &text),
         Err(TextError::TooLong) => Said::NoScenario(0),
         Err(TextError::Failed) => Said::ReadFault,
         Err(TextError::InsufficientMemory) => Said::NoMemory,
     }
 }
 
-/// What the exchange of a scenario text comes to.
-#[tactic(auto, using(sspi_scenario::proofs::ValueLaws::scenario_holds))]
-fn carry_out(alloc: Global, text: &[u8]) -> Said
-    ensures { CarriesOut text.now result }
+/// What a task makes of a scenario text.
+fn carry_out(alloc: Global, task: Task, text: &[u8]) -> Said
+    ensures { CarriesOut task text.now result }
 {
-    match Scenario::parse(alloc, text) {
-        Ok(scenario) => match exchange(alloc, scenario) {
-            Ok(made) => said_of(made),
-            Err(_) => Said::NoMemory,
-        },
+    match Scenario::parse(alloc, task.purpose(), text) {
+        Ok(scenario) => words::conduct(alloc, task, scenario),
         Err(ScenarioError::Line(line)) => Said::NoScenario(line),
         Err(ScenarioError::InsufficientMemory) => Said::NoMemory,
     }
 }
 
-/// An exchange that had no memory is not reported.
-fn said_of(made: Record) -> Said
-    ensures { SaysOf made result }
-{
-    if let RunOutcome::Delegated(Err(DelegateError::InsufficientMemory)) = &made.outcome {
-        return Said::NoMemory;
-    }
-    Said::Exchanged(made)
-}
-
 /// Writes what is said.
 fn tell<W: Sink>(alloc: Global, sink: &mut W, said: Said) -> Conducted
-    ensures kept { result.kept ≡ kept_in said }
+    ensures kept { result ≡ conducted_as result.status said }
     ensures written { Written (said_status said) (said_text said) (W.written sink.old) (W.written sink.new)
         (W.faults sink.old) (W.faults sink.new) result.status }
     ensures faults { W.faults sink.old ≤ W.faults sink.new }
 {
-    let status = match said.text(alloc) {
-        Ok(text) => write_text(sink, &text, said.status()),
-        Err(_) => status::NO_MEMORY,
-    };
-    Conducted {
-        status,
-        kept: said.into_record(),
+    match said {
+        Said::Done(conducted, text) => tell_done(sink, conducted, &text),
+        Said::NoScenario(line) => Conducted::nothing(tell_line(alloc, sink, line)),
+        Said::ReadFault => Conducted::nothing(write_text(
+            sink,
+            b"error: read\n",
+            status::READ_FAULT,
+        )),
+        Said::OtherWords => Conducted::nothing(write_text(
+            sink,
+            b"error: words\n",
+            status::OTHER_WORDS,
+        )),
+        Said::NoMemory => Conducted::nothing(status::NO_MEMORY),
     }
+}
+
+/// Writes the text that is due for what is kept.
+fn tell_done<W: Sink>(sink: &mut W, conducted: Conducted, text: &[u8]) -> Conducted
+    ensures kept { result ≡ with_status result.status conducted }
+    ensures written { Written conducted.status text.now (W.written sink.old) (W.written sink.new) (W.faults sink.old) (W.faults sink.new)
+        result.status }
+    ensures faults { W.faults sink.old ≤ W.faults sink.new }
+{
+    let mut told = conducted;
+    told.status = write_text(sink, text, told.status);
+    told
+}
+
+/// Names a faulty line.
+fn tell_line<W: Sink>(alloc: Global, sink: &mut W, line: usize) -> u8
+    ensures written { Written 2 (line_text line) (W.written sink.old) (W.written sink.new) (W.faults sink.old) (W.faults sink.new) result }
+    ensures faults { W.faults sink.old ≤ W.faults sink.new }
+{
+    match line_text(alloc, line) {
+        Ok(text) => write_text(sink, text.as_bytes(), status::NO_SCENARIO),
+        Err(_) => status::NO_MEMORY,
+    }
+}
+
+fn line_text(alloc: Global, line: usize) -> Result<String, AllocError>
+    ensures { IfOk result (λ text. string_bytes text ≡ line_text line) }
+{
+    format!(in alloc; "error: scenario line {line}\n")
 }
 
 /// Writes a text. The status is the text's own, where all of it was written.

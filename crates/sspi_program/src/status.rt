@@ -1,7 +1,7 @@
 //! The exit statuses of the program.
 
-/// The server has the credentials.
-pub const DELEGATED: u8 = 0;
+/// What the words ask for was done; in an exchange the server has the credentials.
+pub const DONE: u8 = 0;
 
 /// The exchange was refused.
 pub const REFUSED: u8 = 1;

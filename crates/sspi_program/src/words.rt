@@ -1,19 +1,22 @@
-ghost use Rattle.std.specs.Prelude.{SomeIff};
-ghost use Rattle.sspi_program.specs.Words.{AreDelegate};
+//! What the program makes of a scenario, a module for each word.
 
-/// What the words of the program ask for.
-#[derive(Clone, Copy, Debug, PartialEq, Eq)]
-pub enum Command {
-    /// One exchange between the two ends of the scenario.
-    Delegate,
-}
+ghost use Rattle.sspi_program.specs.Run.{Conducts};
+ghost use Rattle.sspi_scenario.specs.Held.{HoldsValues};
 
-/// The command of these words, which are its name and nothing else.
-pub fn command_of(words: &[String]) -> Option<Command>
-    ensures { SomeIff result (AreDelegate words.now) Command.Delegate }
+mod delegate;
+mod play;
+
+use crate::command::Task;
+use crate::said::Said;
+use sspi_scenario::Scenario;
+use std::alloc::Global;
+
+/// What this task makes of a scenario.
+pub fn conduct(alloc: Global, task: Task, scenario: Scenario) -> Said
+    ensures { HoldsValues scenario → Conducts task scenario result }
 {
-    match words {
-        [word] if word.as_str() == "delegate" => Some(Command::Delegate),
-        _ => None,
+    match task {
+        Task::Delegate => delegate::delegate(alloc, scenario),
+        Task::Play => play::play(alloc, scenario),
     }
 }

@@ -1,4 +1,5 @@
 pub mod Entries
 pub mod Names
 pub mod Outcome
+pub mod Play
 pub mod Report

@@ -23,7 +23,7 @@ pub(crate) fn push_entry(
 }
 
 /// What stands before a message of this end.
-fn mark(from: End) -> &'static str
+pub(crate) fn mark(from: End) -> &'static str
     ensures { result.now ≡ mark from }
 {
     match from {
@@ -33,7 +33,12 @@ fn mark(from: End) -> &'static str
 }
 
 /// Appends a line of a mark and the hex of some bytes.
-fn push_line(alloc: Global, text: &mut String, mark: &str, bytes: &[u8]) -> Result<(), AllocError>
+pub(crate) fn push_line(
+    alloc: Global,
+    text: &mut String,
+    mark: &str,
+    bytes: &[u8],
+) -> Result<(), AllocError>
     ensures { OnOk result (string_bytes text.new ≡ string_bytes text.old ++ line (mark.now ++ encode_lower bytes.now)) }
 {
     let digits = hex::encode(alloc, bytes)?;

@@ -1,4 +1,5 @@
-//! The report of a delegation: what each end sent, what else was delivered of it, and what the exchange came to.
+//! Reports of what two ends did. That of a delegation has what each end sent, what else was delivered of it, and what the exchange
+//! came to; that of a play has what each end sent, and how the ends stand.
 #![tactic(auto)]
 
 pub mod delegation;
@@ -6,5 +7,7 @@ mod entries;
 pub mod laws;
 mod names;
 mod outcome;
+pub mod play;
 
 pub use delegation::report;
+pub use play::play_report;

@@ -1,12 +1,13 @@
-//! `sspi_run delegate`: reads a scenario from standard input, carries one CredSSP delegation between its two ends, and
-//! writes what was carried and what came of it to standard output.
+//! `sspi_run WORD`: reads a scenario from standard input, has its two ends do what the word says, and writes what they sent and what
+//! came of it to standard output.
 //!
 //! `run` of `sspi_program` does all the work, over any source and sink; its contract says what each exit status means and what was
 //! written.
 #![tactic(auto)]
 
 use sspi_ber::{StdSink, StdSource};
-use sspi_program::{run, status};
+use sspi_program::run::exit_status;
+use sspi_program::status;
 use std::alloc::Global;
 use std::env::{self, Env};
 use std::io;
@@ -33,6 +34,5 @@ fn main(rt: HostRuntime) -> ExitCode {
     };
     let mut source = StdSource::new(rt.reader());
     let mut sink = StdSink::new(io::writer(&rt));
-    let conducted = run::run(alloc, &words, &mut source, &mut sink);
-    ExitCode::from(conducted.status)
+    ExitCode::from(exit_status(alloc, &words, &mut source, &mut sink))
 }

@@ -7,6 +7,7 @@ use Rattle.std.specs.List.{filter_map, cons_option, enumerate_from, list_any, sl
 use Rattle.std.proofs.lemmas.Bool.{or_parts}
 use Rattle.std.proofs.lemmas.List.{append_assoc, append-nil}
 use Rattle.std.proofs.lemmas.List.Splits.{slice_split-cons_yes, slice_split-cons_no, length-slice_split}
+use Rattle.sspi_scenario.specs.declared.purpose.Purpose.{Purpose}
 use Rattle.sspi_scenario.specs.declared.scenario.Scenario.{Scenario}
 use Rattle.sspi_scenario.specs.Lines.{lines_of, is_line_feed, is_skipped}
 use Rattle.sspi_scenario.specs.Faults.{Line, Told, telling, broken, judged, numbered, line_told, lines_from, keys_of, first_fault}
@@ -64,12 +65,12 @@ cons-map : (o : Option Line) (lines : List Line) → cons_option (option_map lat
 cons-map None lines = refl
 cons-map (Some line) lines = refl
 
-lines-later : (number : ℕ) (lines : List (List ℕ)) → lines_from (number + 1) lines ≡ map later_line (lines_from number lines)
+lines-later : (purpose : Purpose) (number : ℕ) (lines : List (List ℕ)) → lines_from purpose (number + 1) lines ≡ map later_line (lines_from purpose number lines)
 unfolding lines_from
-lines-later number [] = refl
-lines-later number (line ∷ lines) =
-    (λ i. cons_option (numbered-at number (is_skipped line) (line_told line) i) (lines-later (number + 1) lines i))
-    ∙ cons-map (numbered (number, line)) (filter_map numbered (enumerate_from (number + 1) lines))
+lines-later purpose number [] = refl
+lines-later purpose number (line ∷ lines) =
+    (λ i. cons_option (numbered-at number (is_skipped line) (line_told purpose line) i) (lines-later purpose (number + 1) lines i))
+    ∙ cons-map (numbered purpose (number, line)) (filter_map (numbered purpose) (enumerate_from (number + 1) lines))
 
 fault-barred : (earlier : List Told) (number : ℕ) (told : Told) (lines : List Line) (b : Bool)
     → first_fault (earlier ++ told ∷ []) (map later_line lines) ≡ option_map (λ n. n + 1) (first_fault (earlier ++ told ∷ []) lines)
@@ -109,68 +110,68 @@ decided-fault None None n e some = let same : 0 ≡ n = cc in absurd (omega (ari
 err-other : (n : ℕ) → 0 < n → ◌≡◌ {A = Result Scenario ℕ} (Err n) (Err 0) → ⊥
 err-other n some e = let same : n ≡ 0 = cc in omega (arith, same, some)
 
-readable-lines : (text : List ℕ) → is_readable text ≡ true → scenario_of text ≡ scenario_of_lines (lines_from 1 (lines_of text))
+readable-lines : (purpose : Purpose) (text : List ℕ) → is_readable text ≡ true → scenario_of purpose text ≡ scenario_of_lines (lines_from purpose 1 (lines_of text))
 unfolding scenario_of
-readable-lines text e = rw e refl
+readable-lines purpose text e = rw e refl
 
-unread : (text : List ℕ) → is_readable text ≡ false → scenario_of text ≡ Err 0
+unread : (purpose : Purpose) (text : List ℕ) → is_readable text ≡ false → scenario_of purpose text ≡ Err 0
 unfolding scenario_of
-unread text e = rw e refl
+unread purpose text e = rw e refl
 
-readable-by : (text : List ℕ) (r : Result Scenario ℕ) → (r ≡ Err 0 → ⊥) → scenario_of text ≡ r → (b : Bool) → is_readable text ≡ b →
+readable-by : (purpose : Purpose) (text : List ℕ) (r : Result Scenario ℕ) → (r ≡ Err 0 → ⊥) → scenario_of purpose text ≡ r → (b : Bool) → is_readable text ≡ b →
     is_readable text ≡ true
-readable-by text r other e true h = h
-readable-by text r other e false h = absurd (other (sym e ∙ unread text h))
+readable-by purpose text r other e true h = h
+readable-by purpose text r other e false h = absurd (other (sym e ∙ unread purpose text h))
 
-module _ (line text : List ℕ) (skip : is_skipped line ≡ true) (within : list_any is_line_feed line ≡ false)
+module _ (purpose : Purpose) (line text : List ℕ) (skip : is_skipped line ≡ true) (within : list_any is_line_feed line ≡ false)
     (readable : is_readable (line ++ 10 ∷ text) ≡ true) where
-  lines-skipped : lines_from 1 (line ∷ lines_of text) ≡ lines_from (1 + 1) (lines_of text)
+  lines-skipped : lines_from purpose 1 (line ∷ lines_of text) ≡ lines_from purpose (1 + 1) (lines_of text)
   unfolding lines_from
   lines-skipped = rw skip refl
 
-  skip-lines : lines_from 1 (lines_of (line ++ 10 ∷ text)) ≡ map later_line (lines_from 1 (lines_of text))
-  skip-lines = ap (lines_from 1) (split-front is_line_feed line 10 text within refl) ∙ (lines-skipped ∙ lines-later 1 (lines_of text))
+  skip-lines : lines_from purpose 1 (lines_of (line ++ 10 ∷ text)) ≡ map later_line (lines_from purpose 1 (lines_of text))
+  skip-lines = ap (lines_from purpose 1) (split-front is_line_feed line 10 text within refl) ∙ (lines-skipped ∙ lines-later purpose 1 (lines_of text))
 
-  skip-scenario : scenario_of (line ++ 10 ∷ text)
-      ≡ decided (option_map (λ n. n + 1) (first_fault [] (lines_from 1 (lines_of text))))
-      (completed (told_in (lines_from 1 (lines_of text))))
-  skip-scenario = readable-lines (line ++ 10 ∷ text) readable ∙
-      (ap scenario_of_lines skip-lines ∙ scenario-later (lines_from 1 (lines_of text)))
+  skip-scenario : scenario_of purpose (line ++ 10 ∷ text)
+      ≡ decided (option_map (λ n. n + 1) (first_fault [] (lines_from purpose 1 (lines_of text))))
+      (completed (told_in (lines_from purpose 1 (lines_of text))))
+  skip-scenario = readable-lines purpose (line ++ 10 ∷ text) readable ∙
+      (ap scenario_of_lines skip-lines ∙ scenario-later (lines_from purpose 1 (lines_of text)))
 
-  pub skip-ok : (scenario : Scenario) → scenario_of text ≡ Ok scenario → scenario_of (line ++ 10 ∷ text) ≡ Ok scenario
+  pub skip-ok : (scenario : Scenario) → scenario_of purpose text ≡ Ok scenario → scenario_of purpose (line ++ 10 ∷ text) ≡ Ok scenario
   unfolding scenario_of_lines
   skip-ok scenario e =
-      let whole = sym (readable-lines text (readable-by text (Ok scenario) (λ (h : Ok scenario ≡ Err 0). absurd cc) e
+      let whole = sym (readable-lines purpose text (readable-by purpose text (Ok scenario) (λ (h : Ok scenario ≡ Err 0). absurd cc) e
       (is_readable text) refl)) ∙ e in
-      let none = decided-ok (first_fault [] (lines_from 1 (lines_of text)))
-      (completed (told_in (lines_from 1 (lines_of text)))) scenario whole in
+      let none = decided-ok (first_fault [] (lines_from purpose 1 (lines_of text)))
+      (completed (told_in (lines_from purpose 1 (lines_of text)))) scenario whole in
       skip-scenario
-      ∙ (ap (λ (f : Option ℕ). decided (option_map (λ n. n + 1) f) (completed (told_in (lines_from 1 (lines_of text))))) none
-      ∙ (ap (λ (f : Option ℕ). decided f (completed (told_in (lines_from 1 (lines_of text))))) (sym none) ∙ whole))
+      ∙ (ap (λ (f : Option ℕ). decided (option_map (λ n. n + 1) f) (completed (told_in (lines_from purpose 1 (lines_of text))))) none
+      ∙ (ap (λ (f : Option ℕ). decided f (completed (told_in (lines_from purpose 1 (lines_of text))))) (sym none) ∙ whole))
 
-  pub skip-fault : (n : ℕ) → 0 < n → scenario_of text ≡ Err n → scenario_of (line ++ 10 ∷ text) ≡ Err (n + 1)
+  pub skip-fault : (n : ℕ) → 0 < n → scenario_of purpose text ≡ Err n → scenario_of purpose (line ++ 10 ∷ text) ≡ Err (n + 1)
   unfolding scenario_of_lines
   skip-fault n some e =
       let other = err-other n some in
-      let whole = sym (readable-lines text (readable-by text (Err n) other e (is_readable text) refl)) ∙ e in
-      let fault = decided-fault (first_fault [] (lines_from 1 (lines_of text)))
-      (completed (told_in (lines_from 1 (lines_of text)))) n whole some in
+      let whole = sym (readable-lines purpose text (readable-by purpose text (Err n) other e (is_readable text) refl)) ∙ e in
+      let fault = decided-fault (first_fault [] (lines_from purpose 1 (lines_of text)))
+      (completed (told_in (lines_from purpose 1 (lines_of text)))) n whole some in
       skip-scenario
-      ∙ ap (λ (f : Option ℕ). decided (option_map (λ n. n + 1) f) (completed (told_in (lines_from 1 (lines_of text))))) fault
+      ∙ ap (λ (f : Option ℕ). decided (option_map (λ n. n + 1) f) (completed (told_in (lines_from purpose 1 (lines_of text))))) fault
 
 cons-append : (o : Option Line) (lines more : List Line) → cons_option o (lines ++ more) ≡ cons_option o lines ++ more
 cons-append None lines more = refl
 cons-append (Some line) lines more = refl
 
-lines-append : (number : ℕ) (lines more : List (List ℕ)) → (rest : List Line) ×
-    (lines_from number (lines ++ more) ≡ lines_from number lines ++ rest)
+lines-append : (purpose : Purpose) (number : ℕ) (lines more : List (List ℕ)) → (rest : List Line) ×
+    (lines_from purpose number (lines ++ more) ≡ lines_from purpose number lines ++ rest)
 unfolding lines_from
-lines-append number [] more = (filter_map numbered (enumerate_from number more), refl)
-lines-append number (line ∷ lines) more =
-    let tail = lines-append (number + 1) lines more in (
+lines-append purpose number [] more = (filter_map (numbered purpose) (enumerate_from number more), refl)
+lines-append purpose number (line ∷ lines) more =
+    let tail = lines-append purpose (number + 1) lines more in (
       tail.0,
-      ap (cons_option (numbered (number, line))) tail.1 ∙ cons-append (numbered (number, line))
-          (filter_map numbered (enumerate_from (number + 1) lines)) tail.0,
+      ap (cons_option (numbered purpose (number, line))) tail.1 ∙ cons-append (numbered purpose (number, line))
+          (filter_map (numbered purpose) (enumerate_from (number + 1) lines)) tail.0,
     )
 
 fault-kept-at : (b : Bool) (number n : ℕ) (a c : Option ℕ) → (a ≡ Some n → c ≡ Some n) → (if b then Some number else a) ≡ Some n →
@@ -188,20 +189,20 @@ fault-kept earlier (telling number told ∷ lines) rest n e =
     (first_fault (earlier ++ told ∷ []) (lines ++ rest))
     (fault-kept (earlier ++ told ∷ []) lines rest n) e
 
-pub fault-stays : (text more : List ℕ) (n : ℕ) → 0 < n → scenario_of text ≡ Err n → is_readable (text ++ 10 ∷ more) ≡ true →
-    scenario_of (text ++ 10 ∷ more) ≡ Err n
+pub fault-stays : (purpose : Purpose) (text more : List ℕ) (n : ℕ) → 0 < n → scenario_of purpose text ≡ Err n → is_readable (text ++ 10 ∷ more) ≡ true →
+    scenario_of purpose (text ++ 10 ∷ more) ≡ Err n
 unfolding scenario_of_lines
-fault-stays text more n some e readable =
+fault-stays purpose text more n some e readable =
     let other = err-other n some in
-    let whole = sym (readable-lines text (readable-by text (Err n) other e (is_readable text) refl)) ∙ e in
-    let fault = decided-fault (first_fault [] (lines_from 1 (lines_of text)))
-    (completed (told_in (lines_from 1 (lines_of text)))) n whole some in
-    let both = lines-append 1 (lines_of text) (lines_of more) in
-    let all = ap (lines_from 1) (split-append is_line_feed text 10 more refl) ∙ both.1 in
-    readable-lines (text ++ 10 ∷ more) readable
+    let whole = sym (readable-lines purpose text (readable-by purpose text (Err n) other e (is_readable text) refl)) ∙ e in
+    let fault = decided-fault (first_fault [] (lines_from purpose 1 (lines_of text)))
+    (completed (told_in (lines_from purpose 1 (lines_of text)))) n whole some in
+    let both = lines-append purpose 1 (lines_of text) (lines_of more) in
+    let all = ap (lines_from purpose 1) (split-append is_line_feed text 10 more refl) ∙ both.1 in
+    readable-lines purpose (text ++ 10 ∷ more) readable
     ∙ (ap scenario_of_lines all
-    ∙ ap (λ (f : Option ℕ). decided f (completed (told_in (lines_from 1 (lines_of text) ++ both.0))))
-    (fault-kept [] (lines_from 1 (lines_of text)) both.0 n fault))
+    ∙ ap (λ (f : Option ℕ). decided f (completed (told_in (lines_from purpose 1 (lines_of text) ++ both.0))))
+    (fault-kept [] (lines_from purpose 1 (lines_of text)) both.0 n fault))
 
 -- no setting is excluded by those before it
 bar-false : (b : Bool) (number : ℕ) (rest : Option ℕ) → (if b then Some number else rest) ≡ None → (b ≡ false) × (rest ≡ None)
@@ -225,16 +226,16 @@ apart-in earlier (telling number first ∷ lines) (x ∷ before) told after none
     let inner = apart-in (earlier ++ first ∷ []) lines before told after rest tail in
     ap (λ (t : Told). is_excluded (keys_of (earlier ++ t ∷ before)) told.key) (sym same) ∙ rw append_assoc at inner
 
-pub apart : (text : List ℕ) (scenario : Scenario) (before : List Told) (told : Told) (after : List Told)
-    → scenario_of text ≡ Ok scenario → told_in (lines_from 1 (lines_of text)) ≡ before ++ told ∷ after →
+pub apart : (purpose : Purpose) (text : List ℕ) (scenario : Scenario) (before : List Told) (told : Told) (after : List Told)
+    → scenario_of purpose text ≡ Ok scenario → told_in (lines_from purpose 1 (lines_of text)) ≡ before ++ told ∷ after →
     is_excluded (keys_of before) told.key ≡ false
 unfolding scenario_of_lines
-apart text scenario before told after e settings =
-    let whole = sym (readable-lines text (readable-by text (Ok scenario) (λ (h : Ok scenario ≡ Err 0). absurd cc) e
+apart purpose text scenario before told after e settings =
+    let whole = sym (readable-lines purpose text (readable-by purpose text (Ok scenario) (λ (h : Ok scenario ≡ Err 0). absurd cc) e
     (is_readable text) refl)) ∙ e in
-    let none = decided-ok (first_fault [] (lines_from 1 (lines_of text)))
-    (completed (told_in (lines_from 1 (lines_of text)))) scenario whole in
-    apart-in [] (lines_from 1 (lines_of text)) before told after none settings
+    let none = decided-ok (first_fault [] (lines_from purpose 1 (lines_of text)))
+    (completed (told_in (lines_from purpose 1 (lines_of text)))) scenario whole in
+    apart-in [] (lines_from purpose 1 (lines_of text)) before told after none settings
 
 decided-some : (fault : Option ℕ) (found : Option Scenario) (scenario : Scenario) → decided fault found ≡ Ok scenario →
     found ≡ Some scenario
@@ -243,13 +244,13 @@ decided-some None None scenario e = absurd cc
 decided-some (Some n) found scenario e = absurd cc
 
 -- a text that is a scenario is readable, and all its lines make that scenario
-pub told-whole : (text : List ℕ) (scenario : Scenario) → scenario_of text ≡ Ok scenario →
-    (is_readable text ≡ true) × (completed (told_in (lines_from 1 (lines_of text))) ≡ Some scenario)
+pub told-whole : (purpose : Purpose) (text : List ℕ) (scenario : Scenario) → scenario_of purpose text ≡ Ok scenario →
+    (is_readable text ≡ true) × (completed (told_in (lines_from purpose 1 (lines_of text))) ≡ Some scenario)
 unfolding scenario_of_lines
-told-whole text scenario e =
-    let readable = readable-by text (Ok scenario) (λ (h : Ok scenario ≡ Err 0). absurd cc) e (is_readable text) refl in
-    let whole = sym (readable-lines text readable) ∙ e in (
+told-whole purpose text scenario e =
+    let readable = readable-by purpose text (Ok scenario) (λ (h : Ok scenario ≡ Err 0). absurd cc) e (is_readable text) refl in
+    let whole = sym (readable-lines purpose text readable) ∙ e in (
       readable,
-      decided-some (first_fault [] (lines_from 1 (lines_of text)))
-          (completed (told_in (lines_from 1 (lines_of text)))) scenario whole,
+      decided-some (first_fault [] (lines_from purpose 1 (lines_of text)))
+          (completed (told_in (lines_from purpose 1 (lines_of text)))) scenario whole,
     )

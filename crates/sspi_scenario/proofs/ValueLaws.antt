@@ -15,19 +15,22 @@ use Rattle.hex.specs.declared.error.FromHexError.TheVariants.{OddLength, Invalid
 use Rattle.hex.proofs.HexLemmas.{decode_pairs-ok}
 use Rattle.sspi_names.specs.Name.{parse_name, down_level}
 use Rattle.sspi_names.proofs.Spelled.{parsed_name}
+use Rattle.sspi_scenario.specs.declared.purpose.Purpose.{Purpose}
 use Rattle.sspi_scenario.specs.declared.key.Key.{Key}
 use Rattle.sspi_scenario.specs.declared.key.Key.TheVariants as key
 use Rattle.sspi_scenario.specs.declared.scenario.Scenario.{Scenario}
 use Rattle.sspi_scenario.specs.declared.values.Values.{Values}
+use Rattle.sspi_scenario.specs.Deliveries.{delivery_of}
 use Rattle.sspi_scenario.specs.Edits.{edit_of}
 use Rattle.sspi_scenario.specs.Accounts.{account_of}
 use Rattle.sspi_scenario.specs.Faults.{Line, Told, judged, numbered, line_told, lines_from, keys_of, told_by, told_in}
 use Rattle.sspi_scenario.specs.Held.{HoldsValues}
 use Rattle.sspi_scenario.specs.Hex.{hex_of, hex_of_size}
 use Rattle.sspi_scenario.specs.Kdcs.{kdc_of}
-use Rattle.sspi_scenario.specs.Keys.{key_named, has_required}
+use Rattle.sspi_scenario.specs.Keys.{has_required}
 use Rattle.sspi_scenario.specs.Lines.{is_skipped, lines_of, before_space, after_space}
 use Rattle.sspi_scenario.specs.Optional.{◌>>=◌}
+use Rattle.sspi_scenario.specs.Purposes.{key_for}
 use Rattle.sspi_scenario.specs.Reading.{text_limit}
 use Rattle.sspi_scenario.specs.Numbers.{is_decimal, number_of}
 use Rattle.sspi_scenario.specs.Scenario.{defaults, values_of, finished, completed, scenario_of, is_readable}
@@ -171,6 +174,7 @@ row-keeps key.Accounts text change utf8 e = keeps-by _ (accounts_of text) change
 row-keeps key.ProxyFail text change utf8 e = keeps-by _ (number_of text) change e (λ x is v h. h)
 row-keeps key.Turns text change utf8 e = keeps-by _ (number_of text) change e (λ x is v h. h)
 row-keeps key.Edit text change utf8 e = keeps-by _ (edit_of text) change e (λ x is v h. h)
+row-keeps key.Deliver text change utf8 e = keeps-by _ (delivery_of text) change e (λ x is v h. h)
 row-keeps key.ClientLeast text change utf8 e = keeps-by _ (number_of text) change e (λ x is v h. h)
 row-keeps key.ServerLeast text change utf8 e = keeps-by _ (number_of text) change e (λ x is v h. h)
 
@@ -187,29 +191,29 @@ named-keeps : (o : Option Key) (line : List ℕ) (told : Told) → IsUtf8 line �
 named-keeps None line told utf8 e = absurd cc
 named-keeps (Some k) line told utf8 e = value-keeps k line told ((row k).value (after_space line)) utf8 refl e
 
-line-keeps : (line : List ℕ) (told : Told) → IsUtf8 line → line_told line ≡ Some told → Keeps told.change
+line-keeps : (purpose : Purpose) (line : List ℕ) (told : Told) → IsUtf8 line → line_told purpose line ≡ Some told → Keeps told.change
 unfolding line_told
-line-keeps line told utf8 e = named-keeps (key_named (before_space line)) line told utf8 e
+line-keeps purpose line told utf8 e = named-keeps (key_for purpose (before_space line)) line told utf8 e
 
 abbrev then_told : Values → List Told → Values
 then_told v lines = fold (λ values told. told.change values) v lines
 
-more-keeps : (number : ℕ) (line : List ℕ) (rest : List Line) (v : Values) → IsUtf8 line → HoldsValues v.scenario →
+more-keeps : (purpose : Purpose) (number : ℕ) (line : List ℕ) (rest : List Line) (v : Values) → IsUtf8 line → HoldsValues v.scenario →
     ((w : Values) → HoldsValues w.scenario → HoldsValues (then_told w (filter_map told_by rest)).scenario) →
-    (skip : Bool) (o : Option Told) → line_told line ≡ o →
+    (skip : Bool) (o : Option Told) → line_told purpose line ≡ o →
     HoldsValues (then_told v (filter_map told_by (cons_option (if skip then None else Some (judged number o)) rest))).scenario
-more-keeps number line rest v utf8 h more true o is = more v h
-more-keeps number line rest v utf8 h more false None is = more v h
-more-keeps number line rest v utf8 h more false (Some told) is = more (told.change v) (line-keeps line told utf8 is v h)
+more-keeps purpose number line rest v utf8 h more true o is = more v h
+more-keeps purpose number line rest v utf8 h more false None is = more v h
+more-keeps purpose number line rest v utf8 h more false (Some told) is = more (told.change v) (line-keeps purpose line told utf8 is v h)
 
-lines-keep : (number : ℕ) (lines : List (List ℕ)) (v : Values) → AreUtf8 lines → HoldsValues v.scenario →
-    HoldsValues (then_told v (told_in (lines_from number lines))).scenario
+lines-keep : (purpose : Purpose) (number : ℕ) (lines : List (List ℕ)) (v : Values) → AreUtf8 lines → HoldsValues v.scenario →
+    HoldsValues (then_told v (told_in (lines_from purpose number lines))).scenario
 unfolding told_in lines_from
-lines-keep number [] v utf8 h = h
-lines-keep number (line ∷ lines) v utf8 h =
-    more-keeps number line (filter_map numbered (enumerate_from (number + 1) lines)) v utf8.0 h
-    (λ w held. lines-keep (number + 1) lines w utf8.1 held)
-    (is_skipped line) (line_told line) refl
+lines-keep purpose number [] v utf8 h = h
+lines-keep purpose number (line ∷ lines) v utf8 h =
+    more-keeps purpose number line (filter_map (numbered purpose) (enumerate_from (number + 1) lines)) v utf8.0 h
+    (λ w held. lines-keep purpose (number + 1) lines w utf8.1 held)
+    (is_skipped line) (line_told purpose line) refl
 
 default-name : parse_name [] ≡ Some (down_level [] [])
 unfolding parse_name
@@ -239,12 +243,12 @@ unfolding completed
 finished-holds lines scenario h e =
     subst HoldsValues (completed-is (has_required (keys_of lines)) (finished (keys_of lines) (values_of lines)) scenario e) h
 
-values-held : (lines : List (List ℕ)) → AreUtf8 lines → HoldsValues (values_of (told_in (lines_from 1 lines))).scenario
+values-held : (purpose : Purpose) (lines : List (List ℕ)) → AreUtf8 lines → HoldsValues (values_of (told_in (lines_from purpose 1 lines))).scenario
 unfolding values_of
-values-held lines utf8 = lines-keep 1 lines defaults utf8 defaults-hold
+values-held purpose lines utf8 = lines-keep purpose 1 lines defaults utf8 defaults-hold
 
-pub scenario_holds : (text : List ℕ) (scenario : Scenario) → scenario_of text ≡ Ok scenario → HoldsValues scenario
-scenario_holds text scenario e =
-    let parts = told-whole text scenario e in
-    finished-holds (told_in (lines_from 1 (lines_of text))) scenario
-    (values-held (lines_of text) (lines-utf8 text (readable-utf8 text parts.0))) parts.1
+pub scenario_holds : (purpose : Purpose) (text : List ℕ) (scenario : Scenario) → scenario_of purpose text ≡ Ok scenario → HoldsValues scenario
+scenario_holds purpose text scenario e =
+    let parts = told-whole purpose text scenario e in
+    finished-holds (told_in (lines_from purpose 1 (lines_of text))) scenario
+    (values-held purpose (lines_of text) (lines-utf8 text (readable-utf8 text parts.0))) parts.1

@@ -5,6 +5,7 @@ use Rattle.std.specs.Prelude.{if◌then◌else◌, IfSome, option_copied}
 use Rattle.std.specs.Borrow.{Bor}
 use Rattle.std.specs.List.{cons_option}
 use Rattle.std.proofs.lemmas.List.{append-nil, append_assoc}
+use Rattle.sspi_scenario.specs.declared.purpose.Purpose.{Purpose}
 use Rattle.sspi_scenario.specs.declared.draft.Draft.{Draft}
 use Rattle.sspi_scenario.specs.declared.scenario.Scenario.{Scenario}
 use Rattle.sspi_scenario.specs.declared.scenario.ScenarioError.{ScenarioError}
@@ -29,10 +30,10 @@ pub outcome-start : (lines : List Line) → outcome [] lines ≡ scenario_of_lin
 unfolding outcome scenario_of_lines
 outcome-start lines = refl
 
-pub outcome-end : (earlier : List Told) (number : ℕ) → outcome earlier (lines_from number []) ≡ decided None
+pub outcome-end : (purpose : Purpose) (earlier : List Told) (number : ℕ) → outcome earlier (lines_from purpose number []) ≡ decided None
     (draft_completed (draft_of earlier))
 unfolding outcome lines_from told_in first_fault
-outcome-end earlier number = ap (λ (lines : List Told). decided None (completed lines)) (append-nil earlier) ∙ ap (decided None)
+outcome-end purpose earlier number = ap (λ (lines : List Told). decided None (completed lines)) (append-nil earlier) ∙ ap (decided None)
     (draft-ends earlier)
 
 outcome-broken : (earlier : List Told) (number : ℕ) (lines : List Line) → outcome earlier (broken number ∷ lines) ≡ Err number
@@ -78,71 +79,71 @@ module _ (earlier : List Told) (number : ℕ) (rest : List Line) where
   step-line true told = (earlier, refl, refl)
   step-line false told = step-told told
 
-pub step : (earlier : List Told) (number : ℕ) (line : List ℕ) (rest : List (List ℕ))
-    → Step earlier (with_line (draft_of earlier) line) number (lines_from number (line ∷ rest)) (lines_from (number + 1) rest)
+pub step : (purpose : Purpose) (earlier : List Told) (number : ℕ) (line : List ℕ) (rest : List (List ℕ))
+    → Step earlier (with_line purpose (draft_of earlier) line) number (lines_from purpose number (line ∷ rest)) (lines_from purpose (number + 1) rest)
 unfolding with_line lines_from
-step earlier number line rest = step-line earlier number (lines_from (number + 1) rest) (is_skipped line) (line_told line)
+step purpose earlier number line rest = step-line earlier number (lines_from purpose (number + 1) rest) (is_skipped line) (line_told purpose line)
 
 -- the same of a line that is taken, and of one that is at fault
-pub step-taken : (earlier : List Told) (number : ℕ) (line : List ℕ) (rest : List (List ℕ)) (new : Draft)
-    → with_line (draft_of earlier) line ≡ Some new
-    → (later : List Told) × (new ≡ draft_of later) × (outcome earlier (lines_from number (line ∷ rest)) ≡ outcome later
-    (lines_from (number + 1) rest))
-step-taken earlier number line rest new e =
-    subst (λ o. Step earlier o number (lines_from number (line ∷ rest)) (lines_from (number + 1) rest)) e (step earlier number line rest)
+pub step-taken : (purpose : Purpose) (earlier : List Told) (number : ℕ) (line : List ℕ) (rest : List (List ℕ)) (new : Draft)
+    → with_line purpose (draft_of earlier) line ≡ Some new
+    → (later : List Told) × (new ≡ draft_of later) × (outcome earlier (lines_from purpose number (line ∷ rest)) ≡ outcome later
+    (lines_from purpose (number + 1) rest))
+step-taken purpose earlier number line rest new e =
+    subst (λ o. Step earlier o number (lines_from purpose number (line ∷ rest)) (lines_from purpose (number + 1) rest)) e (step purpose earlier number line rest)
 
-pub step-refused : (earlier : List Told) (number : ℕ) (line : List ℕ) (rest : List (List ℕ))
-    → with_line (draft_of earlier) line ≡ None
-    → outcome earlier (lines_from number (line ∷ rest)) ≡ Err number
-step-refused earlier number line rest e =
-    subst (λ o. Step earlier o number (lines_from number (line ∷ rest)) (lines_from (number + 1) rest)) e (step earlier number line rest)
+pub step-refused : (purpose : Purpose) (earlier : List Told) (number : ℕ) (line : List ℕ) (rest : List (List ℕ))
+    → with_line purpose (draft_of earlier) line ≡ None
+    → outcome earlier (lines_from purpose number (line ∷ rest)) ≡ Err number
+step-refused purpose earlier number line rest e =
+    subst (λ o. Step earlier o number (lines_from purpose number (line ∷ rest)) (lines_from purpose (number + 1) rest)) e (step purpose earlier number line rest)
 
 -- the values so far, and what the lines that are left decide: that is what all lines decide
-abbrev pub Sofar : Draft → ℕ → List (List ℕ) → Result Scenario ℕ → Type 0
-Sofar draft number lines all = (earlier : List Told) × (draft ≡ draft_of earlier) × (outcome earlier (lines_from number lines) ≡ all)
+abbrev pub Sofar : (purpose : Purpose) → Draft → ℕ → List (List ℕ) → Result Scenario ℕ → Type 0
+Sofar purpose draft number lines all = (earlier : List Told) × (draft ≡ draft_of earlier) × (outcome earlier (lines_from purpose number lines) ≡ all)
 
-pub told-start : (draft : Draft) (lines : List (List ℕ)) → draft ≡ draft_of [] →
-    Sofar draft 1 lines (scenario_of_lines (lines_from 1 lines))
-told-start draft lines e = ([], e, outcome-start (lines_from 1 lines))
+pub told-start : (purpose : Purpose) (draft : Draft) (lines : List (List ℕ)) → draft ≡ draft_of [] →
+    Sofar purpose draft 1 lines (scenario_of_lines (lines_from purpose 1 lines))
+told-start purpose draft lines e = ([], e, outcome-start (lines_from purpose 1 lines))
 
-pub told-end : (draft : Draft) (number : ℕ) (all : Result Scenario ℕ) → Sofar draft number [] all →
+pub told-end : (purpose : Purpose) (draft : Draft) (number : ℕ) (all : Result Scenario ℕ) → Sofar purpose draft number [] all →
     all ≡ decided None (draft_completed draft)
-told-end draft number all told =
-    sym told.2 ∙ (outcome-end told.0 number ∙ ap (λ (d : Draft). decided None (draft_completed d)) (sym told.1))
+told-end purpose draft number all told =
+    sym told.2 ∙ (outcome-end purpose told.0 number ∙ ap (λ (d : Draft). decided None (draft_completed d)) (sym told.1))
 
-module _ (draft : Draft) (number : ℕ) (all : Result Scenario ℕ) (lines : List (List ℕ)) (line : List ℕ) (rest : List (List ℕ))
+module _ (purpose : Purpose) (draft : Draft) (number : ℕ) (all : Result Scenario ℕ) (lines : List (List ℕ)) (line : List ℕ) (rest : List (List ℕ))
     (cut : lines ≡ line ∷ rest) where
-  pub told-more : (new : Draft) → with_line draft line ≡ Some new → Sofar draft number lines all → Sofar new (number + 1) rest all
+  pub told-more : (new : Draft) → with_line purpose draft line ≡ Some new → Sofar purpose draft number lines all → Sofar purpose new (number + 1) rest all
   told-more new h told =
-      let next = step-taken told.0 number line rest new (ap (λ (d : Draft). with_line d line) (sym told.1) ∙ h) in
-      (next.0, next.1, sym next.2 ∙ (ap (λ (ls : List (List ℕ)). outcome told.0 (lines_from number ls)) (sym cut) ∙ told.2))
+      let next = step-taken purpose told.0 number line rest new (ap (λ (d : Draft). with_line purpose d line) (sym told.1) ∙ h) in
+      (next.0, next.1, sym next.2 ∙ (ap (λ (ls : List (List ℕ)). outcome told.0 (lines_from purpose number ls)) (sym cut) ∙ told.2))
 
-  pub told-fault : with_line draft line ≡ None → Sofar draft number lines all → all ≡ Err number
+  pub told-fault : with_line purpose draft line ≡ None → Sofar purpose draft number lines all → all ≡ Err number
   told-fault h told =
       sym told.2
-      ∙ (ap (λ (ls : List (List ℕ)). outcome told.0 (lines_from number ls)) cut
-      ∙ step-refused told.0 number line rest (ap (λ (d : Draft). with_line d line) (sym told.1) ∙ h))
+      ∙ (ap (λ (ls : List (List ℕ)). outcome told.0 (lines_from purpose number ls)) cut
+      ∙ step-refused purpose told.0 number line rest (ap (λ (d : Draft). with_line purpose d line) (sym told.1) ∙ h))
 
 -- a rest that is shorter
 pub left-shorter : (rest : Option (Bor (List ℕ))) (n : ℕ) → IfSome rest (λ r. length r.now < n) → left (option_copied rest) ≤ n
 left-shorter None n h = omega arith
 left-shorter (Some r) n h = omega (arith, h)
 
-pub unreadable : (text : List ℕ) → is_readable text ≡ false → scenario_of text ≡ Err 0
+pub unreadable : (purpose : Purpose) (text : List ℕ) → is_readable text ≡ false → scenario_of purpose text ≡ Err 0
 unfolding scenario_of
-unreadable text e = rw e refl
+unreadable purpose text e = rw e refl
 
-module _ (text read : List ℕ) (same : read ≡ text) (readable : is_readable text ≡ true) where
-  whole : scenario_of text ≡ scenario_of_lines (lines_from 1 (lines_of read))
+module _ (purpose : Purpose) (text read : List ℕ) (same : read ≡ text) (readable : is_readable text ≡ true) where
+  whole : scenario_of purpose text ≡ scenario_of_lines (lines_from purpose 1 (lines_of read))
   unfolding scenario_of
   whole = rw (same, readable) refl
 
-  pub parsed-fault : (refusal : ScenarioError) → Gathers read (Err refusal) → Parses text (Err refusal)
+  pub parsed-fault : (refusal : ScenarioError) → Gathers purpose read (Err refusal) → Parses purpose text (Err refusal)
   parsed-fault (error.Line number) h = whole ∙ h
   parsed-fault error.InsufficientMemory h = tt
 
-  pub parsed : (draft : Draft) (r : Result Scenario ScenarioError) → Gathers read (Ok draft) → Completes r (draft_completed draft) →
-      Parses text r
+  pub parsed : (draft : Draft) (r : Result Scenario ScenarioError) → Gathers purpose read (Ok draft) → Completes r (draft_completed draft) →
+      Parses purpose text r
   parsed draft (Ok scenario) h e = whole ∙ (h ∙ ap (decided None) e)
   parsed draft (Err (error.Line number)) h e = whole ∙ (h ∙ (ap (decided None) e.0 ∙ ap Err (sym e.1)))
   parsed draft (Err error.InsufficientMemory) h e = tt

@@ -4,11 +4,12 @@ use Rattle.std.specs.Prelude.{codes}
 use Rattle.std.specs.Str.{bytes_eq}
 use Rattle.std.proofs.lemmas.Bool.{false_from_ne_true}
 use Rattle.std.proofs.lemmas.Slice.Eq.{bytes_eq-Decides}
+use Rattle.sspi_credssp.specs.declared.turn.End.TheVariants as ends
 use Rattle.sspi_tsreq.specs.declared.mode.CredSspMode.TheVariants.{WithCredentials, CredentialLess}
 use Rattle.sspi_scenario.specs.declared.scenario.Mode.TheVariants as mode
 use Rattle.sspi_scenario.specs.declared.scenario.Package.TheVariants as packages
 use Rattle.sspi_scenario.specs.declared.words.Accounts.TheVariants as accounts
-use Rattle.sspi_scenario.specs.Words.{mode_of, package_of, delegation_of, accounts_of}
+use Rattle.sspi_scenario.specs.Words.{mode_of, package_of, delegation_of, accounts_of, end_of}
 
 pub differs : (word text : List ℕ) → (word ≡ text → ⊥) → bytes_eq word text ≡ false
 differs word text n = false_from_ne_true (bytes_eq word text) (λ e. n ((bytes_eq-Decides word text).0 e))
@@ -61,3 +62,15 @@ module _ (word : List ℕ) where
   pub no_accounts : (word ≡ codes "own" → ⊥) → (word ≡ codes "none" → ⊥) → None ≡ accounts_of word
   unfolding accounts_of
   no_accounts n m = rw (differs word _ n, differs word _ m) refl
+
+  pub is_client : word ≡ codes "client" → Some ends.Client ≡ end_of word
+  unfolding end_of
+  is_client e = rw e refl
+
+  pub is_server : word ≡ codes "server" → Some ends.Server ≡ end_of word
+  unfolding end_of
+  is_server e = rw e refl
+
+  pub no_end : (word ≡ codes "client" → ⊥) → (word ≡ codes "server" → ⊥) → None ≡ end_of word
+  unfolding end_of
+  no_end n m = rw (differs word _ n, differs word _ m) refl

@@ -4,6 +4,7 @@ use Rattle.sspi_scenario.specs.declared.draft.Draft.{Draft}
 use Rattle.sspi_scenario.specs.declared.error.LineError.{LineError}
 use Rattle.sspi_scenario.specs.declared.error.LineError.TheVariants as line
 use Rattle.sspi_scenario.specs.declared.key.Key.{Key}
+use Rattle.sspi_scenario.specs.declared.purpose.Purpose.{Purpose}
 use Rattle.sspi_scenario.specs.declared.scenario.Scenario.{Scenario}
 use Rattle.sspi_scenario.specs.declared.scenario.ScenarioError.{ScenarioError}
 use Rattle.sspi_scenario.specs.declared.scenario.ScenarioError.TheVariants as error
@@ -27,14 +28,14 @@ with_told draft (Some told) =
     else Some (record { values = told.change draft.values; seen = noted draft.seen told.key })
 
 -- the draft after one more line, or none where the line is at fault
-unfoldable pub with_line : Draft → List ℕ → Option Draft
-with_line draft line = if is_skipped line then Some draft else with_told draft (line_told line)
+unfoldable pub with_line : Purpose → Draft → List ℕ → Option Draft
+with_line purpose draft line = if is_skipped line then Some draft else with_told draft (line_told purpose line)
 
 -- the line is taken exactly so; a fault exactly where it is at fault; want of memory is free
-abbrev pub Takes : Draft → Draft → List ℕ → Result (Unit {0}) LineError → Type 0
-Takes old new text (Ok done) = with_line old text ≡ Some new
-Takes old new text (Err line.Fault) = with_line old text ≡ None
-Takes old new text (Err line.InsufficientMemory) = Unit {0}
+abbrev pub Takes : Purpose → Draft → Draft → List ℕ → Result (Unit {0}) LineError → Type 0
+Takes purpose old new text (Ok done) = with_line purpose old text ≡ Some new
+Takes purpose old new text (Err line.Fault) = with_line purpose old text ≡ None
+Takes purpose old new text (Err line.InsufficientMemory) = Unit {0}
 
 -- the scenario of the draft, or none where a required key is missing
 abbrev pub draft_completed : Draft → Option Scenario
@@ -47,7 +48,7 @@ Completes (Err (error.Line number)) found = (found ≡ None) × (number ≡ 0)
 Completes (Err error.InsufficientMemory) found = Unit {0}
 
 -- the draft of all lines, or the first faulty line
-abbrev pub Gathers : List ℕ → Result Draft ScenarioError → Type 0
-Gathers text (Ok draft) = scenario_of_lines (lines_from 1 (lines_of text)) ≡ decided None (draft_completed draft)
-Gathers text (Err (error.Line number)) = scenario_of_lines (lines_from 1 (lines_of text)) ≡ Err number
-Gathers text (Err error.InsufficientMemory) = Unit {0}
+abbrev pub Gathers : Purpose → List ℕ → Result Draft ScenarioError → Type 0
+Gathers purpose text (Ok draft) = scenario_of_lines (lines_from purpose 1 (lines_of text)) ≡ decided None (draft_completed draft)
+Gathers purpose text (Err (error.Line number)) = scenario_of_lines (lines_from purpose 1 (lines_of text)) ≡ Err number
+Gathers purpose text (Err error.InsufficientMemory) = Unit {0}

@@ -2,10 +2,12 @@
 use Rattle.std.specs.Prelude.{ℕ, List, [], ◌∷◌, ◌++◌, Option, Some, None, map, if◌then◌else◌}
 use Rattle.std.specs.List.{filter_map, enumerate_from}
 use Rattle.sspi_scenario.specs.declared.key.Key.{Key}
+use Rattle.sspi_scenario.specs.declared.purpose.Purpose.{Purpose}
 use Rattle.sspi_scenario.specs.declared.values.Values.{Values}
-use Rattle.sspi_scenario.specs.Keys.{key_named, is_excluded}
+use Rattle.sspi_scenario.specs.Keys.{is_excluded}
 use Rattle.sspi_scenario.specs.Lines.{is_skipped, before_space, after_space}
 use Rattle.sspi_scenario.specs.Optional.{◌>>=◌}
+use Rattle.sspi_scenario.specs.Purposes.{key_for}
 use Rattle.sspi_scenario.specs.Table.{row}
 
 -- what a line tells: its key, and what its value makes of the values of the lines before
@@ -13,10 +15,10 @@ pub record Told : Type 0 where
   pub key : Key
   pub change : Values → Values
 
--- a key up to the first space and a value after it, or none where the key is unknown or the value is bad
-unfoldable pub line_told : List ℕ → Option Told
-line_told line = do
-  k ← key_named (before_space line)
+-- a key up to the first space and a value after it, or none where the key is unknown or is not for this, or the value is bad
+unfoldable pub line_told : Purpose → List ℕ → Option Told
+line_told purpose line = do
+  k ← key_for purpose (before_space line)
   change ← (row k).value (after_space line)
   Some (record { key = k; change = change })
 
@@ -29,12 +31,12 @@ abbrev pub judged : ℕ → Option Told → Line
 judged number (Some told) = telling number told
 judged number None = broken number
 
-abbrev pub numbered : ℕ × List ℕ → Option Line
-numbered line = if is_skipped line.1 then None else Some (judged line.0 (line_told line.1))
+abbrev pub numbered : Purpose → ℕ × List ℕ → Option Line
+numbered purpose line = if is_skipped line.1 then None else Some (judged line.0 (line_told purpose line.1))
 
 -- the lines of a text but for empty ones and comments, which are counted too, from this number on
-unfoldable pub lines_from : ℕ → List (List ℕ) → List Line
-lines_from number lines = filter_map numbered (enumerate_from number lines)
+unfoldable pub lines_from : Purpose → ℕ → List (List ℕ) → List Line
+lines_from purpose number lines = filter_map (numbered purpose) (enumerate_from number lines)
 
 abbrev pub keys_of : List Told → List Key
 keys_of lines = map (λ told. told.key) lines

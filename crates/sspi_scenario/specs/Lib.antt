@@ -6,6 +6,8 @@ pub mod Hex
 pub mod Words
 pub mod Edits
 pub mod Keys
+pub mod Purposes
+pub mod Deliveries
 pub mod Accounts
 pub mod Kdcs
 pub mod Scripts

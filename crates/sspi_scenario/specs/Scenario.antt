@@ -7,6 +7,7 @@ use Rattle.sspi_names.specs.declared.identity.AuthIdentity.{AuthIdentity}
 use Rattle.sspi_tsreq.specs.declared.mode.CredSspMode.TheVariants.{WithCredentials}
 use Rattle.sspi_scenario.specs.declared.key.Key.{Key}
 use Rattle.sspi_scenario.specs.declared.key.Key.TheVariants as key
+use Rattle.sspi_scenario.specs.declared.purpose.Purpose.{Purpose}
 use Rattle.sspi_scenario.specs.declared.scenario.Mode.TheVariants as mode
 use Rattle.sspi_scenario.specs.declared.scenario.Package.TheVariants as packages
 use Rattle.sspi_scenario.specs.declared.scenario.Scenario.{Scenario}
@@ -63,6 +64,7 @@ defaults = record {
     proxy_fail = [];
     turns = 5;
     edit = [];
+    deliver = [];
     client_least = 5;
     server_least = 5;
   };
@@ -97,13 +99,13 @@ decided None None = Err 0
 unfoldable pub scenario_of_lines : List Line → Result Scenario ℕ
 scenario_of_lines lines = decided (first_fault [] lines) (completed (told_in lines))
 
--- the scenario that a text is, or the number of its first faulty line, from 1; 0 where no line is to blame
-unfoldable pub scenario_of : List ℕ → Result Scenario ℕ
-scenario_of text =
-    if is_readable text then scenario_of_lines (lines_from 1 (lines_of text)) else Err 0
+-- the scenario that a text is for this, or the number of its first faulty line, from 1; 0 where no line is to blame
+unfoldable pub scenario_of : Purpose → List ℕ → Result Scenario ℕ
+scenario_of purpose text =
+    if is_readable text then scenario_of_lines (lines_from purpose 1 (lines_of text)) else Err 0
 
 -- a text gives its scenario, or is refused at the line that its scenario names; want of memory is free
-abbrev pub Parses : List ℕ → Result Scenario ScenarioError → Type 0
-Parses text (Ok scenario) = scenario_of text ≡ Ok scenario
-Parses text (Err (error.Line number)) = scenario_of text ≡ Err number
-Parses text (Err error.InsufficientMemory) = Unit {0}
+abbrev pub Parses : Purpose → List ℕ → Result Scenario ScenarioError → Type 0
+Parses purpose text (Ok scenario) = scenario_of purpose text ≡ Ok scenario
+Parses purpose text (Err (error.Line number)) = scenario_of purpose text ≡ Err number
+Parses purpose text (Err error.InsufficientMemory) = Unit {0}

@@ -7,6 +7,7 @@ use Rattle.sspi_scenario.specs.declared.key.Key.TheVariants as key
 use Rattle.sspi_scenario.specs.declared.scenario.Scenario.{Scenario}
 use Rattle.sspi_scenario.specs.declared.values.Values.{Values}
 use Rattle.sspi_scenario.specs.Accounts.{account_of}
+use Rattle.sspi_scenario.specs.Deliveries.{delivery_of}
 use Rattle.sspi_scenario.specs.Edits.{edit_of}
 use Rattle.sspi_scenario.specs.Hex.{hex_of, hex_of_size}
 use Rattle.sspi_scenario.specs.Kdcs.{kdc_of}
@@ -63,6 +64,7 @@ row key.Accounts = once (codes "accounts") (λ text. option_map (λ x values. re
 row key.ProxyFail = again (codes "proxy-fail") (tells number_of (λ x s. record s { proxy_fail = s.proxy_fail ++ x ∷ [] }))
 row key.Turns = once (codes "turns") (tells number_of (λ x s. record s { turns = x }))
 row key.Edit = again (codes "edit") (tells edit_of (λ x s. record s { edit = s.edit ++ x ∷ [] }))
+row key.Deliver = again (codes "deliver") (tells delivery_of (λ x s. record s { deliver = s.deliver ++ x ∷ [] }))
 row key.ClientLeast = once (codes "client-least") (tells number_of (λ x s. record s { client_least = x }))
 row key.ServerLeast = once (codes "server-least") (tells number_of (λ x s. record s { server_least = x }))
 
@@ -72,5 +74,5 @@ all_keys =
     key.Mode ∷ key.User ∷ key.Password ∷ key.Key ∷ key.ServerKey ∷ key.ClientVersion ∷ key.ServerVersion ∷ key.Nonce ∷ key.Challenge ∷
     key.Computer ∷ key.Target ∷ key.Delegation ∷ key.Keytab ∷ key.ClientProtocol ∷ key.ServerProtocol ∷ key.ClientPackages ∷
     key.ServerPackages ∷ key.ClientUrl ∷ key.Kdc ∷ key.KdcUser ∷ key.KdcAnswer ∷ key.Ticket ∷
-    key.Account ∷ key.Accounts ∷ key.ProxyFail ∷ key.Turns ∷ key.Edit ∷
+    key.Account ∷ key.Accounts ∷ key.ProxyFail ∷ key.Turns ∷ key.Edit ∷ key.Deliver ∷
     key.ClientLeast ∷ key.ServerLeast ∷ []

@@ -1,6 +1,8 @@
 -- The values that are one of a few words.
 use Rattle.std.specs.Prelude.{ℕ, List, Option, Some, None, codes, if◌then◌else◌}
 use Rattle.std.specs.Str.{bytes_eq}
+use Rattle.sspi_credssp.specs.declared.turn.End.{End}
+use Rattle.sspi_credssp.specs.declared.turn.End.TheVariants as ends
 use Rattle.sspi_tsreq.specs.declared.mode.CredSspMode.{CredSspMode}
 use Rattle.sspi_tsreq.specs.declared.mode.CredSspMode.TheVariants.{WithCredentials, CredentialLess}
 use Rattle.sspi_scenario.specs.declared.scenario.Mode.{Mode}
@@ -32,4 +34,10 @@ unfoldable pub accounts_of : List ℕ → Option Accounts
 accounts_of word =
     if bytes_eq word (codes "own") then Some accounts.Own
     else if bytes_eq word (codes "none") then Some accounts.None
+    else None
+
+unfoldable pub end_of : List ℕ → Option End
+end_of word =
+    if bytes_eq word (codes "client") then Some ends.Client
+    else if bytes_eq word (codes "server") then Some ends.Server
     else None

@@ -3,7 +3,8 @@ ghost use Rattle.sspi_scenario.specs.Drafts.{draft_of, Takes, Completes, draft_c
 
 use crate::error::LineError;
 use crate::key::{Key, has, has_required, is_excluded};
-use crate::lines::{is_skipped, key_and_value};
+use crate::lines::{is_skipped, sides};
+use crate::purpose::Purpose;
 use crate::rows::Rows;
 use crate::scenario::{Scenario, ScenarioError};
 use crate::values::Values;
@@ -32,15 +33,20 @@ impl Draft {
         }
     }
 
-    /// Takes one line.
-    pub fn take_line(&mut self, alloc: Global, line: &str) -> Result<(), LineError>
-        ensures { Takes self.old self.new line.now result }
+    /// Takes one line of a scenario for this.
+    pub fn take_line(
+        &mut self,
+        alloc: Global,
+        purpose: Purpose,
+        line: &str,
+    ) -> Result<(), LineError>
+        ensures { Takes purpose self.old self.new line.now result }
     {
         if is_skipped(line) {
             return Ok(());
         }
-        let (name, value) = key_and_value(line);
-        let Some(key) = Key::from_name(name) else {
+        let (name, value) = sides(line);
+        let Some(key) = purpose.key_named(name) else {
             return Err(LineError::Fault);
         };
         if is_excluded(self.seen.as_slice(), key) {

@@ -34,11 +34,12 @@ pub enum Key {
     ProxyFail,
     Turns,
     Edit,
+    Deliver,
     ClientLeast,
     ServerLeast,
 }
 
-const NAMES: [(Key, &str); 29] = [
+const NAMES: [(Key, &str); 30] = [
     (Key::Mode, "mode"),
     (Key::User, "user"),
     (Key::Password, "password"),
@@ -66,6 +67,7 @@ const NAMES: [(Key, &str); 29] = [
     (Key::ProxyFail, "proxy-fail"),
     (Key::Turns, "turns"),
     (Key::Edit, "edit"),
+    (Key::Deliver, "deliver"),
     (Key::ClientLeast, "client-least"),
     (Key::ServerLeast, "server-least"),
 ];
@@ -102,7 +104,13 @@ impl Key {
     {
         matches!(
             self,
-            Key::Kdc | Key::KdcUser | Key::KdcAnswer | Key::Account | Key::ProxyFail | Key::Edit
+            Key::Kdc
+                | Key::KdcUser
+                | Key::KdcAnswer
+                | Key::Account
+                | Key::ProxyFail
+                | Key::Edit
+                | Key::Deliver
         )
     }
 }

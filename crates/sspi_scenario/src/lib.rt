@@ -2,14 +2,17 @@
 //!
 //! It is read line by line; LF separates lines, and behind the last one it may be left out. Every line has a number, also
 //! an empty one and one that begins with `#`, which say nothing else. Any other has a key, and what follows the first space
-//! in it is the value. `Scenario::parse` gives the scenario of a text or the number of its first faulty line.
+//! in it is the value. `Scenario::parse` gives the scenario of a text, which is for an exchange or for a play, or the number of its
+//! first faulty line.
 //!
 //! `specs/Table.antt` has the table of keys, a row for each, `specs/Keys.antt` which of them exclude each other,
+//! `specs/Purposes.antt` which of them a scenario may have,
 //! `specs/Faults.antt` which line is the first at fault, and `specs/Scenario.antt` the defaults and the scenario of a text.
 //! `laws` has what follows from these. A key is a variant of `Key` with its name, a row of `Values::put`, and a field of
 //! `Scenario` with its default; and in the definitions a row with its place among all keys, and the same default.
 #![tactic(auto)]
 
+mod deliveries;
 mod draft;
 mod edits;
 mod error;
@@ -18,6 +21,7 @@ mod key;
 pub mod laws;
 mod lines;
 mod number;
+pub mod purpose;
 pub mod reading;
 pub mod rows;
 pub mod scenario;
@@ -25,6 +29,7 @@ mod script;
 mod values;
 mod words;
 
+pub use purpose::Purpose;
 pub use reading::{TEXT_LIMIT, TextError, read_text};
 pub use rows::Rows;
 pub use scenario::{Mode, Package, Scenario, ScenarioError};

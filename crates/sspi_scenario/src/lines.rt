@@ -28,13 +28,13 @@ pub fn parted(text: &str) -> Option<(&str, &str)>
     text.split_once(' ')
 }
 
-/// The key of a line, and its value, which is empty where there is no space.
-pub fn key_and_value(line: &str) -> (&str, &str)
-    ensures key { result.0.now ≡ before_space line.now }
-    ensures value { result.1.now ≡ after_space line.now }
+/// What stands before the first space, all where there is none, and what stands after it.
+pub fn sides(text: &str) -> (&str, &str)
+    ensures before { result.0.now ≡ before_space text.now }
+    ensures after { result.1.now ≡ after_space text.now }
 {
-    match parted(line) {
+    match parted(text) {
         Some(parts) => parts,
-        None => (line, ""),
+        None => (text, ""),
     }
 }

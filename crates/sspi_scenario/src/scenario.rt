@@ -7,11 +7,13 @@ ghost use Rattle.sspi_scenario.specs.Reading.{text_limit};
 use crate::draft::Draft;
 use crate::error::LineError;
 use crate::lines::first_line;
+use crate::purpose::Purpose;
 use crate::reading::TEXT_LIMIT;
 use crate::rows::Rows;
 use sspi_delegate::Edit;
 use sspi_mech::Scripted;
 use sspi_names::{AuthIdentity, KdcTable, Username};
+use sspi_play::Delivery;
 use sspi_tsreq::CredSspMode;
 use sspi_types::{Bytes, Text};
 use std::alloc::{AllocError, Global};
@@ -77,6 +79,8 @@ pub struct Scenario {
     /// How many turns the client has at most.
     pub turns: u32,
     pub edit: Rows<Edit>,
+    /// What the ends are handed, the first delivery first.
+    pub deliver: Rows<Delivery>,
     /// The least version of its peer that the client takes.
     pub client_least: u32,
     pub server_least: u32,
@@ -103,12 +107,12 @@ impl From<AllocError> for ScenarioError {
 
 impl Scenario {
     /// The scenario of a text, which is UTF-8 of at most `TEXT_LIMIT` bytes. `Line` comes exactly where the text is no
-    /// scenario, with the number of its first faulty line; 0 for a text that is too long or is not UTF-8, and for one without
-    /// a faulty line that lacks a key.
-    pub fn parse(alloc: Global, text: &[u8]) -> Result<Scenario, ScenarioError>
-        ensures { Parses text.now result }
+    /// scenario for this purpose, with the number of its first faulty line; 0 for a text that is too long or is not UTF-8, and
+    /// for one without a faulty line that lacks a key. A line with a key of another purpose is faulty.
+    pub fn parse(alloc: Global, purpose: Purpose, text: &[u8]) -> Result<Scenario, ScenarioError>
+        ensures { Parses purpose text.now result }
     {
-        read(alloc, checked(text)?)?.complete(alloc)
+        read(alloc, purpose, checked(text)?)?.complete(alloc)
     }
 }
 
@@ -127,16 +131,16 @@ fn checked(text: &[u8]) -> Result<&str, ScenarioError>
 }
 
 /// The values of all lines.
-fn read(alloc: Global, text: &str) -> Result<Draft, ScenarioError>
+fn read(alloc: Global, purpose: Purpose, text: &str) -> Result<Draft, ScenarioError>
     requires { length text.now ≤ text_limit }
-    ensures { Gathers text.now result }
+    ensures { Gathers purpose text.now result }
 {
     let mut draft = Draft::new(alloc)?;
     let mut number = 1;
     let mut rest = Some(text);
     while let Some(text) = rest {
         let (line, more) = first_line(text);
-        match draft.take_line(alloc, line) {
+        match draft.take_line(alloc, purpose, line) {
             Ok(()) => {}
             Err(LineError::Fault) => return Err(ScenarioError::Line(number)),
             Err(LineError::InsufficientMemory) => return Err(ScenarioError::InsufficientMemory),

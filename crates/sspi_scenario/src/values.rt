@@ -6,6 +6,7 @@ ghost use Rattle.sspi_scenario.specs.Reads.{Reads, Puts, Adds};
 ghost use Rattle.sspi_scenario.specs.Scenario.{defaults, finished, proxy_table, own_identity};
 ghost use Rattle.sspi_scenario.specs.Table.{row};
 
+use crate::deliveries::delivery;
 use crate::edits::edit;
 use crate::error::LineError;
 use crate::hexadecimal;
@@ -62,6 +63,7 @@ impl Values {
             proxy_fail: Rows::new(alloc),
             turns: 5,
             edit: Rows::new(alloc),
+            deliver: Rows::new(alloc),
             client_least: 5,
             server_least: 5,
         };
@@ -104,6 +106,7 @@ impl Values {
             Key::ProxyFail => told.proxy_fail.push(u64::from(found(number(value))?))?,
             Key::Turns => told.turns = found(number(value))?,
             Key::Edit => told.edit.push(edit(alloc, value)?)?,
+            Key::Deliver => told.deliver.push(delivery(alloc, value)?)?,
             Key::ClientLeast => told.client_least = found(number(value))?,
             Key::ServerLeast => told.server_least = found(number(value))?,
         }

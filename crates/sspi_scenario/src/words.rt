@@ -1,7 +1,8 @@
 ghost use Rattle.std.specs.Prelude.{◌≡◌};
-ghost use Rattle.sspi_scenario.specs.Words.{mode_of, package_of, delegation_of, accounts_of};
+ghost use Rattle.sspi_scenario.specs.Words.{mode_of, package_of, delegation_of, accounts_of, end_of};
 
 use crate::scenario::{Mode, Package};
+use sspi_delegate::End;
 use sspi_tsreq::CredSspMode;
 
 /// What the proxy's table holds where no `account` tells it.
@@ -52,6 +53,17 @@ pub fn accounts_named(word: &str) -> Option<Accounts>
     match word {
         "own" => Some(Accounts::Own),
         "none" => Some(Accounts::None),
+        _ => None,
+    }
+}
+
+#[tactic(auto, using(crate::proofs::Wording::is_client, crate::proofs::Wording::is_server, crate::proofs::Wording::no_end))]
+pub fn end_named(word: &str) -> Option<End>
+    ensures { result ≡ end_of word.now }
+{
+    match word {
+        "client" => Some(End::Client),
+        "server" => Some(End::Server),
         _ => None,
     }
 }

@@ -1,70 +1,74 @@
-use crate::tests::{ORDINARY, delegate, ends, run_on};
+use crate::tests::{ORDINARY, no_memory, run_on, words_of};
 use sspi_ber::{FaultySink, FaultySource, Sink, SliceSource, Source, VecSink};
-use std::alloc::{AllocError, Global};
+use sspi_program::run::exit_status;
+use std::alloc::Global;
 use std::process::Abort;
 
-/// There is no exchange, and this status and text are the answer.
-fn answers(
-    rt: &impl Abort,
-    alloc: Global,
-    words: &[String],
-    text: &[u8],
-    status: u8,
-    output: &[u8],
-) {
-    let (ended, sink) = run_on(alloc, words, text);
-    assert!(rt; ended.status == status);
-    assert!(rt; sink.written() == output);
-    assert!(rt; !ended.has_record);
-}
-
-/// So many words, each of them the one of the program.
-fn words_of(alloc: Global, count: usize) -> Result<Vec<String>, AllocError> {
-    let mut words = Vec::new(alloc);
-    for _ in 0..count {
-        words.push(String::from_str(alloc, "delegate")?)?;
-    }
-    Ok(words)
-}
-
-fn answers_to(
-    rt: &impl Abort,
-    alloc: Global,
-    words: Result<Vec<String>, AllocError>,
-    text: &[u8],
-    status: u8,
-    output: &[u8],
-) {
-    match words {
-        Ok(words) => answers(rt, alloc, &words, text, status, output),
-        Err(_) => assert!(rt; false, "no memory"),
+/// The ends did nothing, and this status and text are the answer.
+fn answers(rt: &impl Abort, alloc: Global, words: &str, text: &[u8], status: u8, output: &str) {
+    match run_on(alloc, words, text) {
+        Ok((found, sink)) => {
+            assert!(rt; found == status, "{words} {output}");
+            assert!(rt; sink.written() == output.as_bytes(), "{words} {output}");
+        }
+        Err(_) => no_memory(rt),
     }
 }
+
+/// Words that are no command, one a line.
+const OTHER_WORDS: &str = "\ndelegate delegate\nplay play\ndelegates\nPlay\ndelegate 1\ngate-crash";
 
 #[test]
 fn other_words(rt: HostRuntime) {
-    let (alloc, text) = (rt.alloc(), ORDINARY.as_bytes());
-    answers_to(&rt, alloc, words_of(alloc, 0), text, 6, b"error: words\n");
-    answers_to(&rt, alloc, words_of(alloc, 2), text, 6, b"error: words\n");
+    for words in OTHER_WORDS.lines() {
+        answers(
+            &rt,
+            rt.alloc(),
+            words,
+            ORDINARY.as_bytes(),
+            6,
+            "error: words\n",
+        );
+    }
 }
 
-/// Texts that are no scenario, and what is said of each.
-const NO_SCENARIOS: [(&[u8], &[u8]); 5] = [
-    (b"mode x\n", b"error: scenario line 1\n"),
-    (b"", b"error: scenario line 0\n"),
-    (
-        b"mode ntlm\n# user\n\nkeys 00\n",
-        b"error: scenario line 4\n",
-    ),
-    (b"mode x\n# \xff\n", b"error: scenario line 0\n"),
-    (b"deliver client\n", b"error: scenario line 1\n"),
-];
+/// Texts that are no scenario: the words, the output and the text, a `|` behind each but the last, with `;` for an LF.
+const NO_SCENARIOS: &str = "delegate|error: scenario line 1;|mode x;\n\
+    delegate|error: scenario line 0;|\n\
+    delegate|error: scenario line 4;|mode ntlm;# user;;keys 00;\n\
+    delegate|error: scenario line 1;|deliver client;\n\
+    play|error: scenario line 1;|turns 5;\n\
+    play|error: scenario line 2;|deliver client;edit 0 drop;\n\
+    play|error: scenario line 2;|deliver client;deliver server 0;\n\
+    play|error: scenario line 0;|deliver client;";
+
+fn refuses(rt: &impl Abort, alloc: Global, line: &str) {
+    match (line.split_once('|'), line.rsplit_once('|')) {
+        (Some((words, rest)), Some((_, text))) => match rest.split_once('|') {
+            Some((output, _)) => answers(rt, alloc, words, text.as_bytes(), 2, output),
+            None => assert!(rt; false, "{line}"),
+        },
+        _ => assert!(rt; false, "{line}"),
+    }
+}
 
 #[test]
 fn no_scenarios(rt: HostRuntime) {
-    for (text, output) in NO_SCENARIOS {
-        answers_to(&rt, rt.alloc(), words_of(rt.alloc(), 1), text, 2, output);
+    for line in NO_SCENARIOS.lines() {
+        match line.replace(rt.alloc(), ';', "\n") {
+            Ok(line) => refuses(&rt, rt.alloc(), &line),
+            Err(_) => no_memory(&rt),
+        }
     }
+    let bytes = b"mode x\n# \xff\n";
+    answers(
+        &rt,
+        rt.alloc(),
+        "delegate",
+        bytes,
+        2,
+        "error: scenario line 0\n",
+    );
 }
 
 fn ends_so<S: Source, W: Sink>(
@@ -74,12 +78,11 @@ fn ends_so<S: Source, W: Sink>(
     sink: &mut W,
     status: u8,
 ) {
-    match delegate(alloc) {
+    match words_of(alloc, "delegate") {
         Ok(words) => {
-            let ended = ends(alloc, &words, source, sink);
-            assert!(rt; ended.status == status);
+            assert!(rt; exit_status(alloc, &words, source, sink) == status);
         }
-        Err(_) => assert!(rt; false, "no memory"),
+        Err(_) => no_memory(rt),
     }
 }
 

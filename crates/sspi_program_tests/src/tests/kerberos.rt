@@ -1,6 +1,6 @@
 //! Ends of which one at least begins with Kerberos.
 
-use crate::tests::{Case, reports_whole, shows};
+use crate::tests::{reports_whole, shows_all};
 
 /// The exchange of ann@example.com with the password pw over the channel of the key 010203, by a Kerberos that authenticates user
 /// to user.
@@ -29,121 +29,65 @@ const REPORT: &str =
     0000000000000000000000\n\
     ok 4 user=ann@example.com password=pw\n";
 
-/// What the client offers first: both Kerberos and NTLM, with the first message of Kerberos; or NTLM alone, with its own.
-const OFFERS_KERBEROS: &str =
-    "> 3049a003020106a1423040303ea03c043a603806062b0601050502a02e302ca024302206092a864882f71201020206092a864886f7120102\
-    02060a2b06010401823702020aa20404024b31\n";
-
-const OFFERS_NTLM: &str =
-    "> 3033a003020106a12c302a3028a0260424602206062b0601050502a0183016a00e300c060a2b06010401823702020aa20404024e31\n";
-
-/// How the report ends where all went well.
-const DELEGATED: &str = "\nok 4 user=ann@example.com password=pw\n";
-
 #[test]
 fn both_ends_agree_on_kerberos(rt: HostRuntime) {
-    reports_whole(&rt, rt.alloc(), KERBEROS, REPORT);
+    reports_whole(&rt, rt.alloc(), "delegate", KERBEROS, REPORT);
 }
 
 /// Before its first message the client gives Kerberos up for NTLM where the KDC refuses with one of four kinds, cannot be asked, or
 /// is unknown; without NTLM that is its refusal. Later, and at another kind, it is its refusal too.
-const REPLIES: [Case; 14] = [
-    ("kdc-answer usual\n", 0, 8, OFFERS_KERBEROS, DELEGATED),
-    ("kdc-answer code 1\n", 0, 8, OFFERS_NTLM, DELEGATED),
-    ("kdc-answer code 2\n", 0, 8, OFFERS_NTLM, DELEGATED),
-    ("kdc-answer code 3\n", 0, 8, OFFERS_NTLM, DELEGATED),
-    ("kdc-answer code 4\n", 0, 8, OFFERS_NTLM, DELEGATED),
-    ("kdc-answer code 5\n", 1, 1, "", "client LogonDenied\n"),
-    ("kdc-answer code 6\n", 1, 1, "", "client InvalidToken\n"),
-    ("kdc-answer fail\n", 0, 8, OFFERS_NTLM, DELEGATED),
-    (
-        "kdc-answer code 1\nclient-packages kerberos\n",
-        1,
-        1,
-        "",
-        "client TimeSkew\n",
-    ),
-    (
-        "kdc-answer fail\nclient-packages kerberos\n",
-        1,
-        1,
-        "",
-        "client NoAuthenticatingAuthority\n",
-    ),
-    (
-        "kdc-answer usual\nkdc-answer fail\n",
-        1,
-        3,
-        OFFERS_KERBEROS,
-        "\nclient NoAuthenticatingAuthority\n",
-    ),
-    (
-        "kdc-answer usual\nkdc-answer code 3\n",
-        1,
-        3,
-        OFFERS_KERBEROS,
-        "\nclient CertificateUnknown\n",
-    ),
-    (
-        "kdc-answer usual\nkdc-answer usual\nkdc-answer fail\n",
-        0,
-        8,
-        OFFERS_KERBEROS,
-        DELEGATED,
-    ),
-    (
-        "keytab 00ff\n",
-        1,
-        7,
-        OFFERS_KERBEROS,
-        "\nclient UnsupportedPreAuth\n",
-    ),
-];
+const REPLIES: &str =
+    "0 8|kdc-answer usual;|> 3049a003020106a1423040303ea03c043a603806062b0601050502a02e302ca024302206092a864882f71201020206\
+     092a864886f712010202060a2b06010401823702020aa20404024b31;|;ok 4 user=ann@example.com password=pw;\n\
+    0 8|kdc-answer code 1;|> 3033a003020106a12c302a3028a0260424602206062b0601050502a0183016a00e300c060a2b06010401823702020\
+     aa20404024e31;|;ok 4 user=ann@example.com password=pw;\n\
+    0 8|kdc-answer code 2;|> 3033a003020106a12c302a3028a0260424602206062b0601050502a0183016a00e300c060a2b06010401823702020\
+     aa20404024e31;|;ok 4 user=ann@example.com password=pw;\n\
+    0 8|kdc-answer code 3;|> 3033a003020106a12c302a3028a0260424602206062b0601050502a0183016a00e300c060a2b06010401823702020\
+     aa20404024e31;|;ok 4 user=ann@example.com password=pw;\n\
+    0 8|kdc-answer code 4;|> 3033a003020106a12c302a3028a0260424602206062b0601050502a0183016a00e300c060a2b06010401823702020\
+     aa20404024e31;|;ok 4 user=ann@example.com password=pw;\n\
+    1 1|kdc-answer code 5;||client LogonDenied;\n\
+    1 1|kdc-answer code 6;||client InvalidToken;\n\
+    0 8|kdc-answer fail;|> 3033a003020106a12c302a3028a0260424602206062b0601050502a0183016a00e300c060a2b06010401823702020aa\
+     20404024e31;|;ok 4 user=ann@example.com password=pw;\n\
+    1 1|kdc-answer code 1;client-packages kerberos;||client TimeSkew;\n\
+    1 1|kdc-answer fail;client-packages kerberos;||client NoAuthenticatingAuthority;\n\
+    1 3|kdc-answer usual;kdc-answer fail;|> 3049a003020106a1423040303ea03c043a603806062b0601050502a02e302ca024302206092a86\
+     4882f71201020206092a864886f712010202060a2b06010401823702020aa20404024b31;|;client NoAuthenticatingAuthority;\n\
+    1 3|kdc-answer usual;kdc-answer code 3;|> 3049a003020106a1423040303ea03c043a603806062b0601050502a02e302ca024302206092a\
+     864882f71201020206092a864886f712010202060a2b06010401823702020aa20404024b31;|;client CertificateUnknown;\n\
+    0 8|kdc-answer usual;kdc-answer usual;kdc-answer fail;|> 3049a003020106a1423040303ea03c043a603806062b0601050502a02e302\
+     ca024302206092a864882f71201020206092a864886f712010202060a2b06010401823702020aa20404024b31;|;ok 4 user=ann@example.com \
+     password=pw;\n\
+    1 7|keytab 00ff;|> 3049a003020106a1423040303ea03c043a603806062b0601050502a02e302ca024302206092a864882f71201020206092a8\
+     64886f712010202060a2b06010401823702020aa20404024b31;|;client UnsupportedPreAuth;";
 
 /// Packages that an end may not use, and targets: an IP address has no Kerberos. A server that has NTLM alone picks it, in the third
 /// place, and the message beside the offer is for another mechanism.
-const PACKAGES_AND_TARGETS: [Case; 9] = [
-    (
-        "server-packages ntlm\n",
-        0,
-        10,
-        "\n< 3026a003020106a11f301d301ba0190417a1153013a0030a0101a10c060a2b06010401823702020a\n> ",
-        "\nok 5 user=ann@example.com password=pw\n",
-    ),
-    (
-        "client-packages !kerberos,ntlm\n",
-        0,
-        8,
-        OFFERS_NTLM,
-        DELEGATED,
-    ),
-    ("client-packages !\n", 0, 8, OFFERS_KERBEROS, DELEGATED),
-    ("target TERMSRV/10.0.0.1\n", 0, 8, OFFERS_NTLM, DELEGATED),
-    ("target TERMSRV/::1\n", 0, 8, OFFERS_NTLM, DELEGATED),
-    ("target TERMSRV/1.2.3\n", 0, 8, OFFERS_KERBEROS, DELEGATED),
-    (
-        "target TERMSRV/01.2.3.4\n",
-        0,
-        8,
-        OFFERS_KERBEROS,
-        DELEGATED,
-    ),
-    ("target 1::2::3\n", 0, 8, OFFERS_KERBEROS, DELEGATED),
-    (
-        "delegation less\n",
-        0,
-        8,
-        "3017a003020101a110040e300ca0020400a1020400a2020400",
-        "\nok 4 user= password=\n",
-    ),
-];
+const PACKAGES_AND_TARGETS: &str =
+    "0 10|server-packages ntlm;|;< 3026a003020106a11f301d301ba0190417a1153013a0030a0101a10c060a2b06010401823702020a;> |;ok \
+     5 user=ann@example.com password=pw;\n\
+    0 8|client-packages !kerberos,ntlm;|> 3033a003020106a12c302a3028a0260424602206062b0601050502a0183016a00e300c060a2b0601\
+     0401823702020aa20404024e31;|;ok 4 user=ann@example.com password=pw;\n\
+    0 8|client-packages !;|> 3049a003020106a1423040303ea03c043a603806062b0601050502a02e302ca024302206092a864882f7120102020\
+     6092a864886f712010202060a2b06010401823702020aa20404024b31;|;ok 4 user=ann@example.com password=pw;\n\
+    0 8|target TERMSRV/10.0.0.1;|> 3033a003020106a12c302a3028a0260424602206062b0601050502a0183016a00e300c060a2b06010401823\
+     702020aa20404024e31;|;ok 4 user=ann@example.com password=pw;\n\
+    0 8|target TERMSRV/::1;|> 3033a003020106a12c302a3028a0260424602206062b0601050502a0183016a00e300c060a2b0601040182370202\
+     0aa20404024e31;|;ok 4 user=ann@example.com password=pw;\n\
+    0 8|target TERMSRV/1.2.3;|> 3049a003020106a1423040303ea03c043a603806062b0601050502a02e302ca024302206092a864882f7120102\
+     0206092a864886f712010202060a2b06010401823702020aa20404024b31;|;ok 4 user=ann@example.com password=pw;\n\
+    0 8|target TERMSRV/01.2.3.4;|> 3049a003020106a1423040303ea03c043a603806062b0601050502a02e302ca024302206092a864882f7120\
+     1020206092a864886f712010202060a2b06010401823702020aa20404024b31;|;ok 4 user=ann@example.com password=pw;\n\
+    0 8|target 1::2::3;|> 3049a003020106a1423040303ea03c043a603806062b0601050502a02e302ca024302206092a864882f7120102020609\
+     2a864886f712010202060a2b06010401823702020aa20404024b31;|;ok 4 user=ann@example.com password=pw;\n\
+    0 8|delegation less;|3017a003020101a110040e300ca0020400a1020400a2020400|;ok 4 user= password=;";
 
 #[test]
 fn ends_with_kerberos(rt: HostRuntime) {
-    for cases in [REPLIES.as_slice(), PACKAGES_AND_TARGETS.as_slice()] {
-        for case in cases {
-            shows(&rt, rt.alloc(), KERBEROS, *case);
-        }
+    for table in [REPLIES, PACKAGES_AND_TARGETS] {
+        shows_all(&rt, rt.alloc(), "delegate", KERBEROS, table);
     }
 }
 
@@ -152,56 +96,24 @@ const ENDS: &str = "mode negotiate\nuser ann@example.com\npassword pw\nkey 01020
 
 /// Which URL is asked and what the KDC knows; a client that begins with NTLM takes Kerberos where its realm has a KDC, and a server
 /// without a ticket does not authenticate user to user.
-const REALMS_AND_TICKETS: [Case; 6] = [
-    (
-        "kdc EXAMPLE.COM tcp://kdc\nkdc-user ann@example.com\nserver-protocol kerberos\n\
-         ticket 1111111111111111111111111111111111111111111111111111111111111111\n",
-        0,
-        8,
-        OFFERS_KERBEROS,
-        DELEGATED,
-    ),
-    (
-        "client-protocol kerberos\nclient-url tcp://kdc\nkdc-user ann@example.com\nserver-protocol kerberos\n\
-         ticket 1111111111111111111111111111111111111111111111111111111111111111\n",
-        0,
-        8,
-        OFFERS_KERBEROS,
-        DELEGATED,
-    ),
-    (
-        "client-protocol kerberos\nkdc example.org tcp://kdc\nkdc-user ann@example.com\n",
-        0,
-        8,
-        OFFERS_NTLM,
-        DELEGATED,
-    ),
-    (
-        "client-protocol kerberos\nkdc example.com tcp://kdc\nkdc-user ann\n",
-        0,
-        8,
-        OFFERS_NTLM,
-        DELEGATED,
-    ),
-    (
-        "client-protocol kerberos\nkdc example.com tcp://kdc\nkdc-user ann@example.com\nserver-protocol kerberos\n",
-        1,
-        3,
-        OFFERS_KERBEROS,
-        "\n< 300da003020106a4060204c0070308\nserver InvalidToken\n",
-    ),
-    (
-        "client-protocol kerberos\nclient-packages !ntlm\nkdc-user ann@example.com\n",
-        1,
-        1,
-        "",
-        "client NoAuthenticatingAuthority\n",
-    ),
-];
+const REALMS_AND_TICKETS: &str =
+    "0 8|kdc EXAMPLE.COM tcp://kdc;kdc-user ann@example.com;server-protocol kerberos;ticket 1111111111111111111111111111111\
+     111111111111111111111111111111111;|> 3049a003020106a1423040303ea03c043a603806062b0601050502a02e302ca024302206092a86488\
+     2f71201020206092a864886f712010202060a2b06010401823702020aa20404024b31;|;ok 4 user=ann@example.com password=pw;\n\
+    0 8|client-protocol kerberos;client-url tcp://kdc;kdc-user ann@example.com;server-protocol kerberos;ticket 11111111111\
+     11111111111111111111111111111111111111111111111111111;|> 3049a003020106a1423040303ea03c043a603806062b0601050502a02e302\
+     ca024302206092a864882f71201020206092a864886f712010202060a2b06010401823702020aa20404024b31;|;ok 4 user=ann@example.com \
+     password=pw;\n\
+    0 8|client-protocol kerberos;kdc example.org tcp://kdc;kdc-user ann@example.com;|> 3033a003020106a12c302a3028a02604246\
+     02206062b0601050502a0183016a00e300c060a2b06010401823702020aa20404024e31;|;ok 4 user=ann@example.com password=pw;\n\
+    0 8|client-protocol kerberos;kdc example.com tcp://kdc;kdc-user ann;|> 3033a003020106a12c302a3028a0260424602206062b060\
+     1050502a0183016a00e300c060a2b06010401823702020aa20404024e31;|;ok 4 user=ann@example.com password=pw;\n\
+    1 3|client-protocol kerberos;kdc example.com tcp://kdc;kdc-user ann@example.com;server-protocol kerberos;|> 3049a00302\
+     0106a1423040303ea03c043a603806062b0601050502a02e302ca024302206092a864882f71201020206092a864886f712010202060a2b06010401\
+     823702020aa20404024b31;|;< 300da003020106a4060204c0070308;server InvalidToken;\n\
+    1 1|client-protocol kerberos;client-packages !ntlm;kdc-user ann@example.com;||client NoAuthenticatingAuthority;";
 
 #[test]
 fn ends_of_a_realm(rt: HostRuntime) {
-    for case in REALMS_AND_TICKETS {
-        shows(&rt, rt.alloc(), ENDS, case);
-    }
+    shows_all(&rt, rt.alloc(), "delegate", ENDS, REALMS_AND_TICKETS);
 }

@@ -1,10 +1,9 @@
-use sspi_scenario::{Scenario, ScenarioError};
+use sspi_scenario::{Purpose, Scenario, ScenarioError};
 use std::alloc::Global;
 use std::process::Abort;
-use std::test::Fail;
 
-/// Texts, each with the number of its first faulty line.
-const FAULTS: [(&str, usize); 52] = [
+/// Texts for an exchange, each with the number of its first faulty line.
+const FAULTS: [(&str, usize); 53] = [
     ("", 0),
     ("mode ntlm\nuser a\npassword p\n", 0),
     ("mode negotiate\nuser a\npassword p\n", 0),
@@ -55,21 +54,39 @@ const FAULTS: [(&str, usize); 52] = [
     ("edit 0 set 1 000", 1),
     ("edit 0 again", 1),
     ("edit 00 drop", 1),
+    ("deliver client", 1),
     ("mode ntlm\nuser a\nuser b\nkey 0", 3),
     ("mode negotiate\nclient-protocol x\nmode x", 2),
 ];
 
-fn is_refused(rt: &impl Abort, alloc: Global, text: &str, line: usize) {
-    match Scenario::parse(alloc, text.as_bytes()) {
+/// The same for a play, which has deliveries, and neither a limit of turns nor a link that changes messages.
+const FAULTS_OF_A_PLAY: [(&str, usize); 8] = [
+    (
+        "deliver client\ndeliver server\ndeliver client 00\ndeliver",
+        4,
+    ),
+    ("deliver clients 00", 1),
+    ("deliver Client 00", 1),
+    ("deliver  00", 1),
+    ("deliver server 0", 1),
+    ("deliver server  00", 1),
+    ("turns 5", 1),
+    ("deliver server \nedit 0 drop", 2),
+];
+
+fn is_refused(rt: &impl Abort, alloc: Global, purpose: Purpose, text: &str, line: usize) {
+    match Scenario::parse(alloc, purpose, text.as_bytes()) {
         Err(ScenarioError::Line(found)) => assert!(rt; found == line, "{line} {text}"),
         _ => assert!(rt; false, "{line} {text}"),
     }
 }
 
 #[test]
-fn faults_are_found_at_their_lines(rt: HostRuntime) -> Result<(), Fail> {
+fn faults_are_found_at_their_lines(rt: HostRuntime) {
     for (text, line) in FAULTS {
-        is_refused(&rt, rt.alloc(), text, line);
+        is_refused(&rt, rt.alloc(), Purpose::Exchange, text, line);
     }
-    Ok(())
+    for (text, line) in FAULTS_OF_A_PLAY {
+        is_refused(&rt, rt.alloc(), Purpose::Play, text, line);
+    }
 }

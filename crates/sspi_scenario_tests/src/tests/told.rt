@@ -1,8 +1,9 @@
+use sspi_delegate::End;
 use sspi_mech::Scripted;
-use sspi_scenario::{Mode, Package, Scenario};
+use sspi_scenario::{Mode, Package, Purpose, Scenario};
 use sspi_tsreq::CredSspMode;
+use std::alloc::Global;
 use std::process::Abort;
-use std::test::Fail;
 
 const EVERY_KEY: &[u8] =
     b"# every key\n\nmode negotiate\nuser DOM\\ann lee\npassword  p w\nkey 01aF\nserver-key \n\
@@ -78,11 +79,42 @@ fn check_told(rt: &impl Abort, told: &Scenario) {
     assert!(rt; lists_are_told(told));
 }
 
+fn is_told(rt: &impl Abort, alloc: Global) {
+    match Scenario::parse(alloc, Purpose::Exchange, EVERY_KEY) {
+        Ok(told) => check_told(rt, &told),
+        Err(_) => assert!(rt; false, "no scenario"),
+    }
+}
+
 #[test]
-fn every_key_is_read(rt: HostRuntime) -> Result<(), Fail> {
-    let told = Scenario::parse(rt.alloc(), EVERY_KEY)?;
-    check_told(&rt, &told);
-    Ok(())
+fn every_key_is_read(rt: HostRuntime) {
+    is_told(&rt, rt.alloc());
+}
+
+const DELIVERIES: &[u8] =
+    b"mode ntlm\ndeliver client\nuser a\ndeliver server 01fF\npassword p\nkey 00\ndeliver client ";
+
+fn deliveries_are_told(told: &Scenario) -> bool {
+    let deliveries = told.deliver.as_slice();
+    deliveries.len() == 3
+        && deliveries[0].to == End::Client
+        && deliveries[0].bytes.is_empty()
+        && deliveries[1].to == End::Server
+        && deliveries[1].bytes.as_slice() == [0x01, 0xff].as_slice()
+        && deliveries[2].to == End::Client
+        && deliveries[2].bytes.is_empty()
+}
+
+fn is_told_of_a_play(rt: &impl Abort, alloc: Global) {
+    match Scenario::parse(alloc, Purpose::Play, DELIVERIES) {
+        Ok(told) => assert!(rt; deliveries_are_told(&told)),
+        Err(_) => assert!(rt; false, "no scenario"),
+    }
+}
+
+#[test]
+fn deliveries_are_read_in_their_order(rt: HostRuntime) {
+    is_told_of_a_play(&rt, rt.alloc());
 }
 
 fn ends_are_the_default(given: &Scenario) -> bool {
@@ -122,6 +154,7 @@ fn lists_are_the_default(given: &Scenario) -> bool {
         && given.client_least == 5
         && given.server_least == 5
         && given.edit.as_slice().is_empty()
+        && given.deliver.as_slice().is_empty()
         && given.proxy_fail.as_slice().is_empty()
 }
 
@@ -132,9 +165,14 @@ fn check_defaults(rt: &impl Abort, given: &Scenario) {
     assert!(rt; lists_are_the_default(given));
 }
 
+fn is_the_default(rt: &impl Abort, alloc: Global) {
+    match Scenario::parse(alloc, Purpose::Exchange, FEWEST_KEYS) {
+        Ok(given) => check_defaults(rt, &given),
+        Err(_) => assert!(rt; false, "no scenario"),
+    }
+}
+
 #[test]
-fn defaults_are_those_of_the_format(rt: HostRuntime) -> Result<(), Fail> {
-    let given = Scenario::parse(rt.alloc(), FEWEST_KEYS)?;
-    check_defaults(&rt, &given);
-    Ok(())
+fn defaults_are_those_of_the_format(rt: HostRuntime) {
+    is_the_default(&rt, rt.alloc());
 }

@@ -25,35 +25,12 @@ some_edits : (edits edits2 : List Edit) → Some edits ≡ Some edits2 → edits
 some_edits edits edits2 is = cc
 
 pub returns-clause-exchange : goal.returns-clause-exchange
-returns-clause-exchange c ends =
-    let client = c.args.ends.client in
-    let server = c.args.ends.server in
-    let made = c.delegate-answer.new in
-    let edits = c.args.scenario.edit in
-    let ensures = c.delegate-answer.ensures in
-    let fresh : IsFresh client server c.new-transcript.result.turns =
-    record { client_is = ends.client_fresh; server_is = ends.server_fresh; empty = c.new-transcript.ensures } in
-    let told : StaysTold (Some edits) (Some made.link.edits) [] made.link.log =
-    subst (λ (link : MemoryLinkView). StaysTold (Some link.edits) (Some made.link.edits) link.log made.link.log) ends.link
-    ensures.stays.the_link_tells_what_it_told in
-    let same : made.link.edits ≡ edits = some_edits made.link.edits edits told.same in
-    record {
-      client = client;
-      server = server;
-      fresh = record { client_is = ends.client_fresh; server_is = ends.server_fresh; empty = refl };
-      client_named = ends.client_named;
-      server_named = ends.server_named;
-      edits = same;
-      follows = subst (λ (these : List Edit). FollowsEdits these made.link.log) same (told.follows tt);
-      delegates = rw (ends.link, ends.kdc, c.new-transcript.ensures) at (ensures.delegates fresh);
-    }
-
-pub returns-clause-outcome : goal.returns-clause-outcome
-returns-clause-outcome c ends held =
+returns-clause-exchange c ends link_is held =
     let s = c.args.scenario in
     let client = c.args.ends.client in
     let server = c.args.ends.server in
     let made = c.delegate-answer.new in
+    let edits = s.edit in
     let answer = c.delegate-answer.result in
     let ensures = c.delegate-answer.ensures in
     let empty = c.new-transcript.ensures in
@@ -61,6 +38,10 @@ returns-clause-outcome c ends held =
     record { client_is = ends.client_fresh; server_is = ends.server_fresh; empty = empty } in
     let delegates = ensures.delegates fresh in
     let stays = ensures.stays in
+    let told : StaysTold (Some edits) (Some made.link.edits) [] made.link.log =
+    subst (λ (link : MemoryLinkView). StaysTold (Some link.edits) (Some made.link.edits) link.log made.link.log) link_is
+    stays.the_link_tells_what_it_told in
+    let same : made.link.edits ≡ edits = some_edits made.link.edits edits told.same in
     let server_history = server_past_history plain_meaning table_meaning server made.server _ answer
     delegates.accounts.server_turns_are_its_calls in
     let laws = lawful 0 2 ntlm_meaning kerberos_meaning ntlm_laws kerberos_laws in
@@ -70,19 +51,33 @@ returns-clause-outcome c ends held =
     (plain_messages s client server kdc ends.client_named ends.server_named ends.kdc held plain)
     (settled_plainly told_replies kdc_asked kdc_faults laws table_meaning client server kdc ends.client_fresh ends.server_fresh
     (plain_match s client server kdc ends.client_named ends.server_named ends.kdc held plain) _ _ _ _ s.turns made.client made.server _ _ _ _ _
-    (plain_link s c.args.ends.link made.link.log made.link.faults ends.link plain)
+    (plain_link s c.args.link made.link.log made.link.faults link_is plain)
     delegates.accounts.turns_and_log_show_the_answer stays.the_link_tells_what_it_told stays.the_link_fails_where_its_edits_say_so
     delegates.accounts.client_turns_are_its_calls server_history
     (calm_by _ _ _ (plain_proxy s server made.server.proxy.faults ends.server_named plain) stays.the_proxy_tells_what_it_told.calm)
     delegates.the_identity_is_what_was_opened_last) in
     record {
-      three = λ plain. ok_three kerberos_meaning table_meaning _ _ _ _ _ _ _ _ _
-          delegates.accounts.turns_and_log_show_the_answer (plain_server s server ends.server_named plain) fresh.server_is
-          (servers_others _ delegates.the_turns_are_a_run.order)
-          delegates.both_proofs_came_before_ok server_history;
-      comes = λ plain enough. subst (λ (mode : CredSspMode). ComesToOkIn (messages_in s plain)
-          (delegated_as mode (user_identity s)) answer) ends.client_named.delegation
-          (comes_to_ok (messages_in s plain) s.turns (delegated_as client.delegation (user_identity s)) answer enough (settles plain));
-      short = λ plain few. cut_short (messages_in s plain) s.turns
-          (delegated_as client.delegation (user_identity s)) answer few stays.ok_comes_within_the_limit (settles plain);
+      exchange = record {
+        client = client;
+        server = server;
+        fresh = record { client_is = ends.client_fresh; server_is = ends.server_fresh; empty = refl };
+        client_named = ends.client_named;
+        server_named = ends.server_named;
+        edits = same;
+        follows = subst (λ (these : List Edit). FollowsEdits these made.link.log) same (told.follows tt);
+        answer = answer;
+        outcome_is = refl;
+        delegates = rw (link_is, ends.kdc, empty) at delegates;
+      };
+      comes = record {
+        three = λ plain. ok_three kerberos_meaning table_meaning _ _ _ _ _ _ _ _ _
+            delegates.accounts.turns_and_log_show_the_answer (plain_server s server ends.server_named plain) fresh.server_is
+            (servers_others _ delegates.the_turns_are_a_run.order)
+            delegates.both_proofs_came_before_ok server_history;
+        comes = λ plain enough. subst (λ (mode : CredSspMode). ComesToOkIn (messages_in s plain)
+            (delegated_as mode (user_identity s)) answer) ends.client_named.delegation
+            (comes_to_ok (messages_in s plain) s.turns (delegated_as client.delegation (user_identity s)) answer enough (settles plain));
+        short = λ plain few. cut_short (messages_in s plain) s.turns
+            (delegated_as client.delegation (user_identity s)) answer few stays.ok_comes_within_the_limit (settles plain);
+      };
     }

@@ -1,39 +1,40 @@
 use Rattle.std.proofs.Common.{List, sym, ap, ◌∙◌}
 use Rattle.std.proofs.lemmas.Result.{err_from_is_err_and}
-use Rattle.sspi_scenario.specs.Keys.{key_named, is_excluded}
+use Rattle.sspi_scenario.specs.Keys.{is_excluded}
+use Rattle.sspi_scenario.specs.Purposes.{key_for}
 use Rattle.sspi_scenario.specs.declared.key.Key.{Key}
 use Rattle.sspi_scenario.proofs.LineSteps.{skipped, unknown, barred, taken, refused}
 use Rattle.sspi_scenario.proofs.draft.Draft.take_line.Goals as goal
 
 pub returns-then-is_skipped : goal.returns-then-is_skipped
-returns-then-is_skipped c = skipped c.args.self.now c.args.line.now (sym c.is_skipped.ensures ∙ c.if-is_skipped.true)
+returns-then-is_skipped c = skipped c.args.purpose c.args.self.now c.args.line.now (sym c.is_skipped.ensures ∙ c.if-is_skipped.true)
 
 pub returns-in_default : goal.returns-in_default
 returns-in_default c =
-    unknown c.args.self.now c.args.line.now (sym c.is_skipped.ensures ∙ c.if-is_skipped.false)
-    (ap key_named (sym c.key_and_value.ensures.key) ∙ (sym c.from_name.ensures ∙ c.in_default.is))
+    unknown c.args.purpose c.args.self.now c.args.line.now (sym c.is_skipped.ensures ∙ c.if-is_skipped.false)
+    (ap (key_for c.args.purpose) (sym c.sides.ensures.before) ∙ (sym c.key_named.ensures ∙ c.in_default.is))
 
 pub returns-then-is_excluded : goal.returns-then-is_excluded
 returns-then-is_excluded c =
     let same = ap (λ (keys : List Key). is_excluded keys c.in-Some.key) (sym c.as_slice.ensures) in
-    barred c.args.self.now c.args.line.now c.in-Some.key (sym c.is_skipped.ensures ∙ c.if-is_skipped.false)
-    (ap key_named (sym c.key_and_value.ensures.key) ∙ (sym c.from_name.ensures ∙ c.in-Some.is))
+    barred c.args.purpose c.args.self.now c.args.line.now c.in-Some.key (sym c.is_skipped.ensures ∙ c.if-is_skipped.false)
+    (ap (key_for c.args.purpose) (sym c.sides.ensures.before) ∙ (sym c.key_named.ensures ∙ c.in-Some.is))
     (same ∙ (sym c.is_excluded.ensures ∙ c.if-is_excluded.true))
 
 pub returns-in_err-put : goal.returns-in_err-put
 returns-in_err-put c =
     let p = err_from_is_err_and c.from_residual.result c.from_residual.ensures.1 in
     rw (p.1, p.2)
-    (refused c.args.self.now c.args.line.now c.in-Some.key (sym c.is_skipped.ensures ∙ c.if-is_skipped.false)
-    (ap key_named (sym c.key_and_value.ensures.key) ∙ (sym c.from_name.ensures ∙ c.in-Some.is))
+    (refused c.args.purpose c.args.self.now c.args.line.now c.in-Some.key (sym c.is_skipped.ensures ∙ c.if-is_skipped.false)
+    (ap (key_for c.args.purpose) (sym c.sides.ensures.before) ∙ (sym c.key_named.ensures ∙ c.in-Some.is))
     (record { values = c.put.new.self; seen = c.args.self.now.seen }) c.put.new.self c.in_err-put.field-0.0
-    (rw c.key_and_value.ensures.value at c.in_err-put.ensures))
+    (rw c.sides.ensures.after at c.in_err-put.ensures))
 
 pub returns : goal.returns
 returns c =
     let same = ap (λ (keys : List Key). is_excluded keys c.in-Some.key) (sym c.as_slice.ensures) in
     rw c.in_ok-note.ensures
-    (taken c.args.self.now c.args.line.now c.in-Some.key (sym c.is_skipped.ensures ∙ c.if-is_skipped.false)
-    (ap key_named (sym c.key_and_value.ensures.key) ∙ (sym c.from_name.ensures ∙ c.in-Some.is))
+    (taken c.args.purpose c.args.self.now c.args.line.now c.in-Some.key (sym c.is_skipped.ensures ∙ c.if-is_skipped.false)
+    (ap (key_for c.args.purpose) (sym c.sides.ensures.before) ∙ (sym c.key_named.ensures ∙ c.in-Some.is))
     c.put.new.self (same ∙ (sym c.is_excluded.ensures ∙ c.if-is_excluded.false))
-    (rw c.key_and_value.ensures.value at c.in_ok-put.ensures))
+    (rw c.sides.ensures.after at c.in_ok-put.ensures))

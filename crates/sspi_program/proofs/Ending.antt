@@ -1,0 +1,194 @@
+-- What the status of a run is where the source tells its text.
+use Rattle.std.proofs.Common.{◌≡◌, ◌≢◌, ℕ, ◌≤◌, ◌<◌, ◌⊎◌, inl, inr, List, [], Option, None, Some, Result, Ok, Err, refl, sym, ◌∙◌, ap, subst}
+use Rattle.std.specs.Prelude.{IfSome, IsSome}
+use Rattle.sspi_names.specs.declared.identity.AuthIdentity.{AuthIdentity}
+use Rattle.sspi_delegate.specs.declared.answer.Delegation.{Delegation}
+use Rattle.sspi_delegate.specs.declared.answer.DelegateError.{DelegateError}
+use Rattle.sspi_delegate.specs.declared.answer.DelegateError.TheVariants as errors
+use Rattle.sspi_completeness.specs.Matching.{ComesToOkIn, IsCutShort}
+use Rattle.sspi_play.specs.declared.played.Played.{Played}
+use Rattle.sspi_scenario.specs.declared.purpose.Purpose.{Purpose}
+use Rattle.sspi_scenario.specs.declared.purpose.Purpose.TheVariants as purposes
+use Rattle.sspi_scenario.specs.declared.scenario.Scenario.{Scenario}
+use Rattle.sspi_scenario.specs.Scenario.{scenario_of}
+use Rattle.sspi_program.specs.declared.command.Command.{Command}
+use Rattle.sspi_program.specs.declared.command.Command.TheVariants.{Told}
+use Rattle.sspi_program.specs.declared.command.Task.{Task}
+use Rattle.sspi_program.specs.declared.command.Task.TheVariants.{Delegate, Play}
+use Rattle.sspi_program.specs.declared.record.Conducted.{Conducted}
+use Rattle.sspi_program.specs.declared.record.Record.{Record}
+use Rattle.sspi_program.specs.declared.record.RunOutcome.{RunOutcome}
+use Rattle.sspi_program.specs.declared.record.RunOutcome.TheVariants as outcomes
+use Rattle.sspi_program.specs.declared.said.Said.{Said}
+use Rattle.sspi_program.specs.declared.said.Said.TheVariants.{Done, NoScenario, ReadFault, OtherWords, NoMemory}
+use Rattle.sspi_program.specs.Commands.{task_in, purpose_of}
+use Rattle.sspi_program.specs.Delegate.{HasExchange, DelegateEnds}
+use Rattle.sspi_program.specs.Outcome.{messages_in, IsPlain}
+use Rattle.sspi_program.specs.Play.{HasPlay, PlayEnds}
+use Rattle.sspi_program.specs.Promises.{Does, kept_due, EndsSo}
+use Rattle.sspi_program.specs.Run.{IsTold, Comes}
+use Rattle.sspi_program.specs.Said.{delegated_status, status_of, record_due, IsDue, said_status, said_text, read_text, Written}
+use Rattle.sspi_program.specs.Status.{IsUnlessWrite, IsUnlessFault, EndsPlainly}
+use Rattle.sspi_program.proofs.Running.{unless_write, unless_read, unless_memory, status_due}
+
+same_scenario : (purpose : Purpose) (text : List ℕ) (scenario scenario2 : Scenario) → scenario_of purpose text ≡ Ok scenario →
+    scenario_of purpose text ≡ Ok scenario2 → scenario ≡ scenario2
+same_scenario purpose text scenario scenario2 is is2 = cc
+
+both : (purpose : Purpose) (text : List ℕ) (scenario : Scenario) (line : ℕ) → scenario_of purpose text ≡ Ok scenario →
+    scenario_of purpose text ≡ Err line → ⊥
+both purpose text scenario line is none = cc
+
+-- ---- a text that is no scenario
+
+-- where nothing is kept, there was no memory
+none_due : (own : ℕ) (text : List ℕ) → IsDue None own text → own ≡ 5
+none_due own text (inl e) = absurd cc
+none_due own text (inr h) = h.0
+
+record_none : (P : Record → Type 0) (purpose : Purpose) (text : List ℕ) (own : ℕ) (written : List ℕ) (kept : Option Record) →
+    IfSome kept (λ k. P k × (scenario_of purpose text ≡ Ok k.scenario) × IsSome (status_of k.outcome)) →
+    IsDue (kept_due kept) own written → (line : ℕ) → scenario_of purpose text ≡ Err line → own ≡ 5
+record_none P purpose text own written None keeps told line none = none_due own written told
+record_none P purpose text own written (Some k) keeps told line none = absurd (both purpose text k.scenario line keeps.1.0 none)
+
+task_none : (task : Task) (text : List ℕ) (c : Conducted) (written : List ℕ) →
+    Does (Told task) (λ s. scenario_of (purpose_of task) text ≡ Ok s) c written → (line : ℕ) →
+    scenario_of (purpose_of task) text ≡ Err line → c.status ≡ 5
+task_none Delegate text c written does line none = record_none HasExchange purposes.Exchange text c.status written c.kept does.0 does.1 line none
+task_none Play text c written does line none = record_none HasPlay purposes.Play text c.status written c.kept does.0 does.1 line none
+
+module _ (before now : ℕ) (w w2 : Option (List ℕ)) (f f2 : ℕ) where
+  no_memory : (own text_own : ℕ) (text : List ℕ) (status : ℕ) → text_own ≡ 5 → Written text_own text w w2 f f2 status →
+      IsUnlessFault own status
+  no_memory own text_own text status is written =
+      unless_memory w w2 f f2 own text status (subst (λ (n : ℕ). Written n text w w2 f f2 status) is written)
+
+  text_none : (task : Task) (text : List ℕ) (said : Said) (status : ℕ) → Comes (Some (Told task)) (Some text) before now said →
+      Written (said_status said) (said_text said) w w2 f f2 status → (line : ℕ) → scenario_of (purpose_of task) text ≡ Err line →
+      IsUnlessFault 2 status
+  text_none task text (Done c items) status comes written line none =
+      no_memory 2 c.status items.items status (task_none task text c items.items comes line none) written
+  text_none task text (NoScenario n) status comes written line none =
+      inr (unless_write w w2 f f2 2 (said_text (NoScenario n)) status written)
+  text_none task text ReadFault status comes written line none = unless_read w w2 f f2 2 read_text status written
+  text_none task text OtherWords status comes written line none = absurd cc
+  text_none task text NoMemory status comes written line none = unless_memory w w2 f f2 2 [] status written
+
+  pub status_no_scenario : (command : Option Command) (left : Option (List ℕ)) (said : Said) (status : ℕ) →
+      Comes command left before now said → Written (said_status said) (said_text said) w w2 f f2 status →
+      IfSome (task_in command) (λ task. IfSome left (λ text. (line : ℕ) → scenario_of (purpose_of task) text ≡ Err line →
+      IsUnlessFault 2 status))
+  status_no_scenario None left said status comes written = tt
+  status_no_scenario (Some (Told task)) None said status comes written = tt
+  status_no_scenario (Some (Told task)) (Some text) said status comes written = text_none task text said status comes written
+
+-- ---- a text that is a scenario
+
+ok_status : (messages : ℕ) (identity : AuthIdentity) (answer : Result Delegation DelegateError) (own : ℕ) →
+    delegated_status answer ≡ Some own → ComesToOkIn messages identity answer → own ≡ 0
+ok_status messages identity (Ok delegation) own e comes = let is : 0 ≡ own = cc in sym is
+ok_status messages identity (Err (errors.Client error)) own e comes = absurd comes
+ok_status messages identity (Err (errors.Server error)) own e comes = absurd comes
+ok_status messages identity (Err (errors.Read to kind)) own e comes = absurd comes
+ok_status messages identity (Err (errors.Write from)) own e comes = absurd comes
+ok_status messages identity (Err errors.LinkFault) own e comes = absurd comes
+ok_status messages identity (Err errors.TurnsSpent) own e comes = absurd comes
+ok_status messages identity (Err errors.InsufficientMemory) own e comes = absurd cc
+
+short_status : (answer : Result Delegation DelegateError) (own : ℕ) → delegated_status answer ≡ Some own → IsCutShort answer → own ≡ 1
+short_status (Ok delegation) own e short = absurd short
+short_status (Err (errors.Client error)) own e short = let is : 1 ≡ own = cc in sym is
+short_status (Err (errors.Server error)) own e short = let is : 1 ≡ own = cc in sym is
+short_status (Err (errors.Read to kind)) own e short = let is : 1 ≡ own = cc in sym is
+short_status (Err (errors.Write from)) own e short = let is : 1 ≡ own = cc in sym is
+short_status (Err errors.LinkFault) own e short = let is : 1 ≡ own = cc in sym is
+short_status (Err errors.TurnsSpent) own e short = let is : 1 ≡ own = cc in sym is
+short_status (Err errors.InsufficientMemory) own e short = absurd cc
+
+answered_status : (answer : Result Played DelegateError) (own : ℕ) → status_of (outcomes.Played answer) ≡ Some own → own ≡ 0
+answered_status (Ok played) own e = let is : 0 ≡ own = cc in sym is
+answered_status (Err error) own e = absurd cc
+
+module _ (w w2 : Option (List ℕ)) (f f2 : ℕ) (status : ℕ) where
+  -- an exchange of a plain scenario
+  plain_exchange : (r : Record) (own : ℕ) → HasExchange r → status_of r.outcome ≡ Some own → IsUnlessWrite own status →
+      (plain : IsPlain r.scenario) → EndsPlainly (messages_in r.scenario plain) r.scenario.turns status
+  plain_exchange r own has e unless plain =
+      let answered = subst (λ (o : RunOutcome). status_of o ≡ Some own) has.exchange.outcome_is e in (
+        (λ enough. inr (subst (λ (n : ℕ). IsUnlessWrite n status)
+            (ok_status _ _ has.exchange.answer own answered (has.comes.comes plain enough)) unless)),
+        (λ few. inr (subst (λ (n : ℕ). IsUnlessWrite n status)
+            (short_status has.exchange.answer own answered (has.comes.short plain few)) unless)),
+      )
+
+  plain_record : (text : List ℕ) (r : Record) (own : ℕ) (written : List ℕ) → HasExchange r →
+      scenario_of purposes.Exchange text ≡ Ok r.scenario → IsDue (record_due r) own written → Written own written w w2 f f2 status →
+      DelegateEnds text status
+  plain_record text r own written has told (inl e) wrote = λ scenario is plain.
+      let same : r.scenario ≡ scenario = same_scenario purposes.Exchange text r.scenario scenario told is in
+      subst (λ (s : Scenario). (it : IsPlain s) → EndsPlainly (messages_in s it) s.turns status) same
+      (λ it. plain_exchange r own has (status_due r own written e) (unless_write w w2 f f2 own written status wrote) it) plain
+  plain_record text r own written has told (inr h) wrote = λ scenario is plain.
+      let lost = subst (λ (n : ℕ). Written n written w w2 f f2 status) h.0 wrote in
+      ((λ enough. unless_memory w w2 f f2 0 written status lost), (λ few. unless_memory w w2 f f2 1 written status lost))
+
+  delegate_done : (text : List ℕ) (own : ℕ) (written : List ℕ) (kept : Option Record) →
+      IfSome kept (λ k. HasExchange k × (scenario_of purposes.Exchange text ≡ Ok k.scenario) × IsSome (status_of k.outcome)) →
+      IsDue (kept_due kept) own written → Written own written w w2 f f2 status → DelegateEnds text status
+  delegate_done text own written None keeps told wrote = λ scenario is plain.
+      let lost = subst (λ (n : ℕ). Written n written w w2 f f2 status) (none_due own written told) wrote in
+      ((λ enough. unless_memory w w2 f f2 0 written status lost), (λ few. unless_memory w w2 f f2 1 written status lost))
+  delegate_done text own written (Some r) keeps told wrote = plain_record text r own written keeps.0 keeps.1.0 told wrote
+
+  delegate_ends : (before now : ℕ) (text : List ℕ) (said : Said) → Comes (Some (Told Delegate)) (Some text) before now said →
+      Written (said_status said) (said_text said) w w2 f f2 status → DelegateEnds text status
+  delegate_ends before now text (Done c items) comes written = delegate_done text c.status items.items c.kept comes.0 comes.1 written
+  delegate_ends before now text (NoScenario n) comes written = λ scenario is plain.
+      absurd (both purposes.Exchange text scenario n is comes)
+  delegate_ends before now text ReadFault comes written = λ scenario is plain.
+      ((λ enough. unless_read w w2 f f2 0 read_text status written), (λ few. unless_read w w2 f f2 1 read_text status written))
+  delegate_ends before now text OtherWords comes written = absurd cc
+  delegate_ends before now text NoMemory comes written = λ scenario is plain.
+      ((λ enough. unless_memory w w2 f f2 0 [] status written), (λ few. unless_memory w w2 f f2 1 [] status written))
+
+  -- a play is not refused
+  play_status : (r : Record) (own : ℕ) → HasPlay r → status_of r.outcome ≡ Some own → own ≡ 0
+  play_status r own has e = answered_status has.answer own (subst (λ (o : RunOutcome). status_of o ≡ Some own) has.outcome_is e)
+
+  play_record : (r : Record) (own : ℕ) (written : List ℕ) → HasPlay r → IsDue (record_due r) own written →
+      Written own written w w2 f f2 status → IsUnlessFault 0 status
+  play_record r own written has (inl e) wrote =
+      inr (subst (λ (n : ℕ). IsUnlessWrite n status) (play_status r own has (status_due r own written e))
+      (unless_write w w2 f f2 own written status wrote))
+  play_record r own written has (inr h) wrote =
+      unless_memory w w2 f f2 0 written status (subst (λ (n : ℕ). Written n written w w2 f f2 status) h.0 wrote)
+
+  play_done : (text : List ℕ) (own : ℕ) (written : List ℕ) (kept : Option Record) →
+      IfSome kept (λ k. HasPlay k × (scenario_of purposes.Play text ≡ Ok k.scenario) × IsSome (status_of k.outcome)) →
+      IsDue (kept_due kept) own written → Written own written w w2 f f2 status → IsUnlessFault 0 status
+  play_done text own written None keeps told wrote =
+      unless_memory w w2 f f2 0 written status (subst (λ (n : ℕ). Written n written w w2 f f2 status) (none_due own written told) wrote)
+  play_done text own written (Some r) keeps told wrote = play_record r own written keeps.0 told wrote
+
+  play_ends : (before now : ℕ) (text : List ℕ) (said : Said) → Comes (Some (Told Play)) (Some text) before now said →
+      Written (said_status said) (said_text said) w w2 f f2 status → PlayEnds text status
+  play_ends before now text (Done c items) comes written = λ scenario is. play_done text c.status items.items c.kept comes.0 comes.1 written
+  play_ends before now text (NoScenario n) comes written = λ scenario is. absurd (both purposes.Play text scenario n is comes)
+  play_ends before now text ReadFault comes written = λ scenario is. unless_read w w2 f f2 0 read_text status written
+  play_ends before now text OtherWords comes written = absurd cc
+  play_ends before now text NoMemory comes written = λ scenario is. unless_memory w w2 f f2 0 [] status written
+
+  command_ends : (before now : ℕ) (command : Command) (left : Option (List ℕ)) (said : Said) →
+      Comes (Some command) left before now said → Written (said_status said) (said_text said) w w2 f f2 status →
+      EndsSo command left status
+  command_ends before now (Told Delegate) None said comes written = tt
+  command_ends before now (Told Delegate) (Some text) said comes written = delegate_ends before now text said comes written
+  command_ends before now (Told Play) None said comes written = tt
+  command_ends before now (Told Play) (Some text) said comes written = play_ends before now text said comes written
+
+  pub status_ends : (before now : ℕ) (command : Option Command) (left : Option (List ℕ)) (said : Said) →
+      Comes command left before now said → Written (said_status said) (said_text said) w w2 f f2 status →
+      IfSome command (λ k. EndsSo k left status)
+  status_ends before now None left said comes written = tt
+  status_ends before now (Some command) left said comes written = command_ends before now command left said comes written

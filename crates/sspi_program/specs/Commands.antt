@@ -1,0 +1,34 @@
+-- The words of the program, and what they ask for.
+use Rattle.std.specs.Prelude.{ℕ, List, [], ◌∷◌, codes, map, Option, None, Some, String, string_bytes, if◌then◌else◌}
+use Rattle.std.specs.Option.{option_map}
+use Rattle.std.specs.Str.{bytes_eq}
+use Rattle.sspi_program.specs.declared.command.Command.{Command}
+use Rattle.sspi_program.specs.declared.command.Command.TheVariants.{Told}
+use Rattle.sspi_program.specs.declared.command.Task.{Task}
+use Rattle.sspi_program.specs.declared.command.Task.TheVariants.{Delegate, Play}
+use Rattle.sspi_scenario.specs.declared.purpose.Purpose.{Purpose}
+use Rattle.sspi_scenario.specs.declared.purpose.Purpose.TheVariants as purposes
+
+abbrev pub task_named : List ℕ → Option Task
+task_named word =
+    if bytes_eq word (codes "delegate") then Some Delegate
+    else if bytes_eq word (codes "play") then Some Play
+    else None
+
+-- one word names a task
+abbrev pub command_in : List (List ℕ) → Option Command
+command_in [] = None
+command_in (word ∷ []) = option_map Told (task_named word)
+command_in (word ∷ second ∷ more) = None
+
+abbrev pub command_of : {A : Type 0} → List (String A) → Option Command
+command_of words = command_in (map string_bytes words)
+
+-- the task of a command that asks for the scenario of the source
+abbrev pub task_in : Option Command → Option Task
+task_in None = None
+task_in (Some (Told task)) = Some task
+
+abbrev pub purpose_of : Task → Purpose
+purpose_of Delegate = purposes.Exchange
+purpose_of Play = purposes.Play

@@ -1,0 +1,53 @@
+-- What the word `play` promises.
+use Rattle.std.specs.Prelude.{◌≡◌, ℕ, List, [], Result, Ok}
+use Rattle.sspi_credssp.specs.Client.{ClientView}
+use Rattle.sspi_credssp.specs.Server.{ServerView}
+use Rattle.sspi_credssp.specs.Table.{TableView, table_meaning}
+use Rattle.sspi_delegate.specs.declared.answer.DelegateError.{DelegateError}
+use Rattle.sspi_delegate.specs.ClientRun.{client_end}
+use Rattle.sspi_delegate.specs.Delegates.{calls_of_kdc}
+use Rattle.sspi_delegate.specs.Edits.{MemoryLinkView}
+use Rattle.sspi_delegate.specs.Headline.{IsFresh}
+use Rattle.sspi_delegate.specs.Refusals.{KdcStays, ProxyStays}
+use Rattle.sspi_delegate.specs.ServerRun.{server_end}
+use Rattle.sspi_play.specs.Agreement.{AgreesIfFaithful}
+use Rattle.sspi_play.specs.Kept.{kept_list, identity_of}
+use Rattle.sspi_play.specs.Played.{both, Accounts, IsPlay}
+use Rattle.sspi_play.specs.declared.played.Played.{Played}
+use Rattle.sspi_scenario.specs.declared.purpose.Purpose.TheVariants as purposes
+use Rattle.sspi_scenario.specs.declared.scenario.Scenario.{Scenario}
+use Rattle.sspi_scenario.specs.Scenario.{scenario_of}
+use Rattle.sspi_program.specs.declared.record.Record.{Record}
+use Rattle.sspi_program.specs.declared.record.RunOutcome.TheVariants as outcomes
+use Rattle.sspi_program.specs.Ends.{PlainContext, IsClientOf, IsServerOf, kdc_in}
+use Rattle.sspi_program.specs.Exchange.{plain_meaning, around, told_replies, kdc_faults}
+use Rattle.sspi_program.specs.Status.{IsUnlessFault}
+
+-- a link that carried nothing, and would change nothing
+abbrev pub no_link : MemoryLinkView
+no_link = record { log = []; edits = []; faults = 0 }
+
+-- The ends that the scenario names took its deliveries, and the client asked the KDC that it names: all that `play` promises holds
+-- from these as they were made, and from an empty transcript, to what the record keeps.
+pub record HasPlay (r : Record) : Type 0 where
+  -- the ends as they were made
+  pub client : ClientView PlainContext
+  pub server : ServerView PlainContext TableView
+  pub fresh : IsFresh client server []
+  pub client_named : IsClientOf r.scenario client
+  pub server_named : IsServerOf r.scenario server
+  pub link : r.link ≡ no_link
+  -- what `play` answered, and all that it promises of these ends
+  pub answer : Result Played DelegateError
+  pub outcome_is : r.outcome ≡ outcomes.Played answer
+  pub accounts : Accounts plain_meaning table_meaning (calls_of_kdc around) r.scenario.deliver
+      (both client server (kdc_in r.scenario) []) answer (both r.client r.server r.kdc r.transcript.turns)
+  pub plays : IsPlay plain_meaning (both client server (kdc_in r.scenario) []) (both r.client r.server r.kdc r.transcript.turns)
+  pub agrees : AgreesIfFaithful plain_meaning kept_list (client_end r.client) (server_end r.server) r.transcript.turns
+      (identity_of answer)
+  pub kdc : KdcStays told_replies kdc_faults (kdc_in r.scenario) r.kdc
+  pub proxy : ProxyStays table_meaning server.proxy r.server.proxy
+
+-- what is delivered refuses no play
+abbrev pub PlayEnds : List ℕ → ℕ → Type 0
+PlayEnds text status = (scenario : Scenario) → scenario_of purposes.Play text ≡ Ok scenario → IsUnlessFault 0 status

@@ -1,0 +1,14 @@
+-- Which status comes, where a fault or want of memory may come in its place.
+use Rattle.std.specs.Prelude.{◌≡◌, ℕ, ◌<◌, ◌≤◌, ◌⊎◌}
+
+-- this status, but for a write fault (4) and want of memory (5)
+abbrev pub IsUnlessWrite : ℕ → ℕ → Type 0
+IsUnlessWrite own status = (status ≡ own) ⊎ ((status ≡ 4) ⊎ (status ≡ 5))
+
+-- the same for one that also yields to a read fault (3)
+abbrev pub IsUnlessFault : ℕ → ℕ → Type 0
+IsUnlessFault own status = (status ≡ 3) ⊎ IsUnlessWrite own status
+
+-- so many messages of the client are enough, and fewer are not
+abbrev pub EndsPlainly : ℕ → ℕ → ℕ → Type 0
+EndsPlainly messages turns status = (messages ≤ turns → IsUnlessFault 0 status) × (turns < messages → IsUnlessFault 1 status)

@@ -1,0 +1,35 @@
+ghost use Rattle.std.specs.Prelude.{◌≡◌};
+ghost use Rattle.sspi_scenario.specs.Purposes;
+ghost use Rattle.sspi_scenario.specs.Purposes.{key_for};
+
+use crate::key::Key;
+
+/// What a scenario is for, which says what keys it may have.
+#[derive(Clone, Copy, Debug, PartialEq, Eq)]
+pub enum Purpose {
+    /// Its ends carry their messages to each other over a link.
+    Exchange,
+    /// Its ends take the deliveries of a schedule.
+    Play,
+}
+
+impl Purpose {
+    /// The key of this name, where a scenario for this may have it.
+    #[tactic(auto, unfolding(crate::specs::Purposes::key_for))]
+    pub fn key_named(self, name: &str) -> Option<Key>
+        ensures { result ≡ key_for self name.now }
+    {
+        let key = Key::from_name(name)?;
+        if self.takes(key) { Some(key) } else { None }
+    }
+
+    /// Whether a scenario for this may have a key.
+    fn takes(self, key: Key) -> bool
+        ensures { result ≡ Purposes.takes self key }
+    {
+        match self {
+            Purpose::Exchange => !matches!(key, Key::Deliver),
+            Purpose::Play => !matches!(key, Key::Turns | Key::Edit),
+        }
+    }
+}
