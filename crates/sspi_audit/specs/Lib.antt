@@ -1,0 +1,4 @@
+pub mod Frames
+pub mod Shown
+pub mod Standings
+pub mod Verdicts
