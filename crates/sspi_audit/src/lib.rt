@@ -14,6 +14,7 @@ mod client;
 mod entry;
 mod fields;
 mod frame;
+pub mod laws;
 mod server;
 mod standing;
 pub mod verdict;
