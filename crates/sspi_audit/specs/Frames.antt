@@ -1,0 +1,38 @@
+-- What recorded turns tell of an end: its state, the version that it noted of its peer, and its own version. Turns are lists, the
+-- newest first, and each list has the turns of one end.
+use Rattle.std.specs.Prelude.{ℕ, List, [], ◌∷◌, Option, None, Some, true}
+use Rattle.sspi_credssp.specs.declared.turn.Outcome.{Outcome}
+use Rattle.sspi_credssp.specs.declared.turn.Outcome.TheVariants as outcome
+use Rattle.sspi_credssp.specs.declared.turn.Turn.{Turn}
+use Rattle.sspi_credssp.specs.Shown.{ShownFrame}
+use Rattle.sspi_delegate.specs.ClientRun.{client_state, client_noted, has_turn}
+use Rattle.sspi_delegate.specs.ServerRun.{server_state, server_noted}
+
+-- an end's own version is that of its first message that reports no error
+abbrev pub told_by : Option ℕ → Outcome → Option ℕ
+told_by (Some own) o = Some own
+told_by None (outcome.Reply r) = Some r.version
+told_by None (outcome.Final r) = Some r.version
+told_by None outcome.Finished = None
+told_by None (outcome.Refused kind reply) = None
+
+abbrev pub own_version : List Turn → Option ℕ
+own_version [] = None
+own_version (t ∷ past) = told_by (own_version past) t.outcome
+
+-- what is known of an end at the turn t after these turns; which versions it takes is not known
+abbrev pub client_frame : List Turn → Turn → ShownFrame
+client_frame past t = record {
+  state = client_state past;
+  looks = has_turn past;
+  noted = client_noted 0 (t ∷ past);
+  version = own_version past;
+}
+
+abbrev pub server_frame : List Turn → Turn → ShownFrame
+server_frame past t = record {
+  state = server_state past;
+  looks = true;
+  noted = server_noted 0 (t ∷ past);
+  version = own_version past;
+}

@@ -1,0 +1,11 @@
+-- What an exchange leaves: its turns, and the entries that it added to the log of its link. Lists are the newest first.
+use Rattle.std.specs.Prelude.{◌≡◌, List, ◌++◌, reverse}
+use Rattle.sspi_credssp.specs.declared.turn.Turn.{Turn}
+use Rattle.sspi_delegate.specs.declared.carried.Carried.{Carried}
+use Rattle.sspi_audit.specs.Shown.{ShownRun}
+
+-- the entries that were added to this log are, with these turns, shown right
+pub record LeavesShown (base log : List Carried) (turns : List Turn) : Type 0 where
+  pub added : List Carried
+  pub parts : log ≡ added ++ base
+  pub shown : ShownRun turns (reverse added)

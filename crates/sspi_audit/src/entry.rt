@@ -1,0 +1,85 @@
+//! Whether a log's entries are those of the turns.
+ghost use Rattle.std.specs.Prelude.{◌≡◌, ◌↔◌, Some, true, IsTrue, IfErr, IfOk};
+ghost use Rattle.sspi_delegate.specs.Deliveries.{is_taken};
+ghost use Rattle.sspi_delegate.specs.Messages.{Encodes};
+ghost use Rattle.sspi_delegate.specs.Run.{IsEntry, IsRead, IsSent};
+
+use sspi_ber::{VecSink, WireKind};
+use sspi_credssp::Turn;
+use sspi_delegate::{Carried, DELIVERY_LIMIT};
+use sspi_tsreq::TsRequest;
+use sspi_types::{Error, ErrorKind, Reason};
+use std::alloc::Global;
+
+/// The only refusal of an audit.
+pub(crate) fn no_memory() -> Error
+    ensures { result.error_type ≡ ErrorKind.InsufficientMemory }
+{
+    Error::new(ErrorKind::InsufficientMemory, Reason::Memory)
+}
+
+/// The octets begin with this request.
+
+fn is_read(alloc: Global, octets: &[u8], request: &TsRequest) -> Result<bool, Error>
+    ensures read { IfOk result (λ read. IsTrue read ↔ IsRead octets.now request.now) }
+    ensures only { IfErr result (λ error. error.error_type ≡ ErrorKind.InsufficientMemory) }
+{
+    match TsRequest::from_buffer(alloc, octets) {
+        Ok(read) => Ok(&read == request),
+        Err(WireKind::InsufficientMemory) => Err(no_memory()),
+        Err(WireKind::UnexpectedEof) => Ok(false),
+        Err(WireKind::InvalidData) => Ok(false),
+        Err(WireKind::ReadFault) => Ok(false),
+        Err(WireKind::WriteFault) => Ok(false),
+    }
+}
+
+/// The delivery was taken to its end or to the limit, and begins with this request.
+pub(crate) fn gives(alloc: Global, entry: &Carried, request: &TsRequest) -> Result<bool, Error>
+    ensures gives { IfOk result (λ given. IsTrue given ↔ (is_taken entry.now ≡ true) × IsRead entry.now.delivered request.now) }
+    ensures only { IfErr result (λ error. error.error_type ≡ ErrorKind.InsufficientMemory) }
+{
+    if !entry.ended && entry.delivered.len() < DELIVERY_LIMIT {
+        return Ok(false);
+    }
+    is_read(alloc, entry.delivered.as_slice(), request)
+}
+
+fn encode(alloc: Global, message: &TsRequest) -> Result<VecSink, WireKind>
+    ensures { Encodes message.now result }
+{
+    let mut sink = VecSink::new(alloc);
+    match message.encode_ts_request(&mut sink) {
+        Ok(()) => Ok(sink),
+        Err(kind) => Err(kind),
+    }
+}
+
+/// The message fits, and these octets are its spelling.
+fn is_sent(alloc: Global, message: &TsRequest, sent: &[u8]) -> Result<bool, Error>
+    ensures sent { IfOk result (λ same. IsTrue same ↔ IsSent (Some message.now) sent.now) }
+    ensures only { IfErr result (λ error. error.error_type ≡ ErrorKind.InsufficientMemory) }
+{
+    match encode(alloc, message) {
+        Ok(spelled) => Ok(spelled.written() == sent),
+        Err(WireKind::InsufficientMemory) => Err(no_memory()),
+        Err(WireKind::InvalidData) => Ok(false),
+        Err(WireKind::UnexpectedEof) => Ok(false),
+        Err(WireKind::ReadFault) => Ok(false),
+        Err(WireKind::WriteFault) => Ok(false),
+    }
+}
+
+/// The entry is that of the turn's message.
+pub(crate) fn is_entry(alloc: Global, turn: &Turn, entry: &Carried) -> Result<bool, Error>
+    ensures entry { IfOk result (λ is. IsTrue is ↔ IsEntry turn.now entry.now) }
+    ensures only { IfErr result (λ error. error.error_type ≡ ErrorKind.InsufficientMemory) }
+{
+    if entry.from != turn.end {
+        return Ok(false);
+    }
+    match turn.outcome.message() {
+        None => Ok(false),
+        Some(message) => is_sent(alloc, message, entry.sent.as_slice()),
+    }
+}

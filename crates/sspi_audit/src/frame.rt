@@ -1,0 +1,23 @@
+use sspi_credssp::CredSspState;
+use std::marker::Model;
+
+/// What is known of an end at a turn.
+#[derive(Drop)]
+pub(crate) struct Frame {
+    /// Its state before the turn.
+    pub state: CredSspState,
+    /// Whether it looks at the delivered version.
+    pub looks: bool,
+    /// The version of its peer that is noted once the turn is over.
+    pub noted: Option<u32>,
+    /// Its own version, where that is known.
+    pub version: Option<u32>,
+}
+
+impl Model for Frame {
+    ghost use Rattle.sspi_credssp.specs.Shown.{ShownFrame};
+
+    ghost Value = { ShownFrame };
+
+    ghost view = { λ frame. record { state = frame.state; looks = frame.looks; noted = frame.noted; version = frame.version } };
+}

@@ -1,0 +1,3 @@
+mod negotiated;
+mod ntlm;
+mod records;

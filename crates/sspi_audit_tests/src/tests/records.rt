@@ -1,0 +1,311 @@
+//! Records told by lines of text, and what an auditor finds of them once they were changed.
+//!
+//! Each line of an exchange has a name: `A` to `H` are messages and `s` and `l` blobs, in hex; `0` to `9` are turns and `a` to `g` entries
+//! of the log. Octets are a name or hex, where `~` behind a name alters the last octet and `+` adds what follows. A request is
+//! the name of a message, with changes of its fields behind `;`.
+//!
+//! A case is the verdict, the turns and the entries by their names, and what is changed in these, as `4.acts=checked`.
+
+use sspi_audit::{Verdict, audit};
+use sspi_credssp::{Acts, End, Outcome, Turn};
+use sspi_delegate::Carried;
+use sspi_tsreq::TsRequest;
+use sspi_types::{Bytes, ErrorKind, NStatusCode, SecurityStatus};
+use std::alloc::Global;
+use std::process::Abort;
+
+/// What a test runs on.
+pub trait Test: Abort + Alloc<A = Global> {}
+
+impl<R: Abort + Alloc<A = Global>> Test for R {}
+
+fn given<T, E: Drop>(rt: &impl Abort, answer: Result<T, E>) -> T {
+    match answer {
+        Ok(value) => value,
+        Err(_) => rt.abort(),
+    }
+}
+
+fn told<T>(rt: &impl Abort, answer: Option<T>) -> T {
+    match answer {
+        Some(value) => value,
+        None => rt.abort(),
+    }
+}
+
+/// An exchange, and what is changed in it.
+#[derive(Clone, Copy)]
+struct Record<'a> {
+    exchange: &'a str,
+    changes: &'a str,
+}
+
+fn value_of<'a>(words: &'a str, key: &str) -> Option<&'a str> {
+    for word in words.split(' ') {
+        if let Some((found, value)) = word.split_once('=') {
+            if found == key {
+                return Some(value);
+            }
+        }
+    }
+    None
+}
+
+fn changed<'a>(changes: &'a str, name: char, key: &str) -> Option<&'a str> {
+    for change in changes.split(' ') {
+        if let Some((line, word)) = change.split_once('.') {
+            if line.starts_with(name) {
+                if let Some(value) = value_of(word, key) {
+                    return Some(value);
+                }
+            }
+        }
+    }
+    None
+}
+
+fn unchanged<'a>(exchange: &'a str, name: char, key: &str) -> Option<&'a str> {
+    for line in exchange.lines() {
+        if line.starts_with(name) {
+            return value_of(line, key);
+        }
+    }
+    None
+}
+
+/// A field of a turn or an entry.
+fn field<'a>(rt: &impl Abort, record: Record<'a>, name: char, key: &str) -> &'a str {
+    match changed(record.changes, name, key) {
+        Some(value) => value,
+        None => told(rt, unchanged(record.exchange, name, key)),
+    }
+}
+
+/// The hex that has this name, which else is hex itself.
+fn digits<'a>(exchange: &'a str, name: &'a str) -> &'a str {
+    for line in exchange.lines() {
+        if let Some((found, digits)) = line.split_once(' ') {
+            if found == name {
+                return digits;
+            }
+        }
+    }
+    name
+}
+
+fn altered(mut octets: Vec<u8>) -> Vec<u8> {
+    if let Some(last) = octets.last_mut() {
+        *last ^= 1;
+    }
+    octets
+}
+
+fn octets(rt: &impl Test, exchange: &str, value: &str) -> Vec<u8> {
+    if let Some(name) = value.strip_suffix("~") {
+        return altered(octets_of(rt, exchange, name));
+    }
+    match value.split_once('+') {
+        None => octets_of(rt, exchange, value),
+        Some((name, more)) => {
+            let mut octets = octets_of(rt, exchange, name);
+            let more = given(rt, hex::decode(rt.alloc(), more));
+            given(rt, octets.extend_from_slice(&more));
+            octets
+        }
+    }
+}
+
+fn octets_of(rt: &impl Test, exchange: &str, name: &str) -> Vec<u8> {
+    given(rt, hex::decode(rt.alloc(), digits(exchange, name)))
+}
+
+/// A field of a request, which `-` leaves out.
+fn blob(rt: &impl Test, exchange: &str, value: &str) -> Option<Bytes> {
+    if value == "-" {
+        None
+    } else {
+        Some(Bytes::from_vec(octets(rt, exchange, value)))
+    }
+}
+
+fn code(rt: &impl Abort, value: &str) -> Option<NStatusCode> {
+    match value {
+        "-" => None,
+        number => Some(NStatusCode(given(rt, u32::from_str_radix(number, 16)))),
+    }
+}
+
+fn set(rt: &impl Test, exchange: &str, request: &mut TsRequest, change: &str) {
+    let (key, value) = told(rt, change.split_once('='));
+    match key {
+        "version" => request.version = given(rt, value.parse()),
+        "nego" => request.nego_tokens = blob(rt, exchange, value),
+        "auth" => request.auth_info = blob(rt, exchange, value),
+        "proof" => request.pub_key_auth = blob(rt, exchange, value),
+        "code" => request.error_code = code(rt, value),
+        "nonce" if value == "-" => request.client_nonce = None,
+        "nonce" => request.client_nonce = Some([given(rt, value.parse()); 32]),
+        _ => rt.abort(),
+    }
+}
+
+fn request(rt: &impl Test, exchange: &str, value: &str) -> TsRequest {
+    let (name, changes) = match value.split_once(';') {
+        Some(parts) => parts,
+        None => (value, ""),
+    };
+    let octets = octets(rt, exchange, name);
+    let mut request = given(rt, TsRequest::from_buffer(rt.alloc(), &octets));
+    for change in changes.split(';') {
+        if !change.is_empty() {
+            set(rt, exchange, &mut request, change);
+        }
+    }
+    request
+}
+
+fn end(rt: &impl Abort, name: &str) -> End {
+    match name {
+        "client" => End::Client,
+        "server" => End::Server,
+        _ => rt.abort(),
+    }
+}
+
+fn act(rt: &impl Abort, acts: &mut Acts, name: &str) {
+    match name {
+        "step" => acts.negotiated = true,
+        "ok" => acts.status = Some(SecurityStatus::Ok),
+        "continue" => acts.status = Some(SecurityStatus::ContinueNeeded),
+        "complete" => acts.status = Some(SecurityStatus::CompleteNeeded),
+        "local" => acts.status = Some(SecurityStatus::LocalLogon),
+        "proved" => acts.proved = true,
+        "checked" => acts.checked = true,
+        "sealed" => acts.sealed = true,
+        "opened" => acts.opened = true,
+        _ => rt.abort(),
+    }
+}
+
+/// The acts of these names; `-` is none.
+fn acts(rt: &impl Abort, names: &str) -> Acts {
+    let mut acts = Acts {
+        status: None,
+        negotiated: false,
+        proved: false,
+        checked: false,
+        sealed: false,
+        opened: false,
+    };
+    for name in names.split(',') {
+        if name != "-" {
+            act(rt, &mut acts, name);
+        }
+    }
+    acts
+}
+
+fn kind(rt: &impl Abort, name: &str) -> ErrorKind {
+    match name {
+        "InvalidToken" => ErrorKind::InvalidToken,
+        "LogonDenied" => ErrorKind::LogonDenied,
+        "MessageAltered" => ErrorKind::MessageAltered,
+        _ => rt.abort(),
+    }
+}
+
+/// What a turn ended in; the message of a refusal may be `-`.
+fn outcome(rt: &impl Test, record: Record<'_>, name: char) -> Outcome {
+    let message = field(rt, record, name, "message");
+    match field(rt, record, name, "outcome") {
+        "reply" => Outcome::Reply(request(rt, record.exchange, message)),
+        "final" => Outcome::Final(request(rt, record.exchange, message)),
+        "finished" => Outcome::Finished,
+        refusal if message == "-" => Outcome::Refused(kind(rt, refusal), None),
+        refusal => Outcome::Refused(
+            kind(rt, refusal),
+            Some(request(rt, record.exchange, message)),
+        ),
+    }
+}
+
+fn turn(rt: &impl Test, record: Record<'_>, name: char) -> Turn {
+    let exchange = record.exchange;
+    Turn {
+        end: end(rt, field(rt, record, name, "end")),
+        delivered: request(rt, exchange, field(rt, record, name, "given")),
+        acts: acts(rt, field(rt, record, name, "acts")),
+        output: Bytes::from_vec(octets(rt, exchange, field(rt, record, name, "output"))),
+        outcome: outcome(rt, record, name),
+    }
+}
+
+fn entry(rt: &impl Test, record: Record<'_>, name: char) -> Carried {
+    let exchange = record.exchange;
+    let sent = octets(rt, exchange, field(rt, record, name, "sent"));
+    let delivered = octets(rt, exchange, field(rt, record, name, "delivered"));
+    Carried {
+        from: end(rt, field(rt, record, name, "from")),
+        sent: Bytes::from_vec(sent),
+        delivered: Bytes::from_vec(delivered),
+        ended: field(rt, record, name, "ended") == "yes",
+    }
+}
+
+/// The turns of these names; `-` is none.
+fn turns(rt: &impl Test, record: Record<'_>, names: &str) -> Vec<Turn> {
+    let mut turns = Vec::new(rt.alloc());
+    for name in names.chars() {
+        if name != '-' {
+            given(rt, turns.push(turn(rt, record, name)));
+        }
+    }
+    turns
+}
+
+fn log(rt: &impl Test, record: Record<'_>, names: &str) -> Vec<Carried> {
+    let mut log = Vec::new(rt.alloc());
+    for name in names.chars() {
+        if name != '-' {
+            given(rt, log.push(entry(rt, record, name)));
+        }
+    }
+    log
+}
+
+fn verdict(rt: &impl Abort, text: &str) -> Verdict {
+    match text.strip_prefix("yes") {
+        Some("-") => Verdict::Yes(None),
+        Some(sealing) => Verdict::Yes(Some(given(rt, sealing.parse()))),
+        None => {
+            let place = told(rt, text.strip_prefix("no"));
+            Verdict::No(given(rt, place.parse()))
+        }
+    }
+}
+
+/// The first word of a line, and the rest.
+fn first(line: &str) -> (&str, &str) {
+    match line.split_once(' ') {
+        Some(parts) => parts,
+        None => (line, ""),
+    }
+}
+
+fn is_judged(rt: &impl Test, exchange: &str, case: &str) {
+    let (wanted, rest) = first(case);
+    let (turn_names, rest) = first(rest);
+    let (entry_names, changes) = first(rest);
+    let record = Record { exchange, changes };
+    let turns = turns(rt, record, turn_names);
+    let log = log(rt, record, entry_names);
+    let found = given(rt, audit(rt.alloc(), &turns, &log));
+    assert!(rt; found == verdict(rt, wanted), "{case}");
+}
+
+/// Each case is judged as it says.
+pub fn are_judged(rt: &impl Test, exchange: &str, cases: &str) {
+    for case in cases.lines() {
+        is_judged(rt, exchange, case);
+    }
+}
