@@ -3,3 +3,5 @@ pub mod Names
 pub mod Outcome
 pub mod Play
 pub mod Report
+pub mod Gate
+pub mod Audit

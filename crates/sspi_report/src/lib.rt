@@ -1,13 +1,17 @@
 //! Reports of what two ends did. That of a delegation has what each end sent, what else was delivered of it, and what the exchange
-//! came to; that of a play has what each end sent, and how the ends stand.
+//! came to; that of a play has what each end sent, and how the ends stand. Besides there are the lines of an audit and of a relay.
 #![tactic(auto)]
 
+pub mod audit;
 pub mod delegation;
 mod entries;
+pub mod gate;
 pub mod laws;
 mod names;
 mod outcome;
 pub mod play;
 
+pub use audit::audit_line;
 pub use delegation::report;
+pub use gate::gate_line;
 pub use play::play_report;

@@ -1,0 +1,5 @@
+use Rattle.std.proofs.Common.{append_assoc}
+use Rattle.sspi_report.proofs.gate.passed_line.Goals as goal
+
+pub returns : goal.returns
+returns c = rw c.in_ok-text.ensures.ok (simp append_assoc)
