@@ -1,6 +1,6 @@
 -- What is kept of a scenario, from the record of it up to the source that told it.
-use Rattle.std.proofs.Common.{◌≡◌, ℕ, List, Option, None, Some, Ok, refl, sym, ap, ◌∙◌}
-use Rattle.std.specs.Prelude.{IfSome, IsSome}
+use Rattle.std.proofs.Common.{◌≡◌, ℕ, ◌⊎◌, inl, inr, List, [], Option, None, Some, Result, Ok, refl, sym, ap, subst, ◌∙◌}
+use Rattle.std.specs.Prelude.{IfOk, IfSome, IsSome}
 use Rattle.std.specs.Global.{Vec}
 use Rattle.sspi_scenario.specs.declared.purpose.Purpose.{Purpose}
 use Rattle.sspi_scenario.specs.declared.scenario.Scenario.{Scenario}
@@ -8,30 +8,42 @@ use Rattle.sspi_scenario.specs.Reading.{ReadsText}
 use Rattle.sspi_scenario.specs.Scenario.{scenario_of}
 use Rattle.sspi_program.specs.declared.command.Command.TheVariants.{Told}
 use Rattle.sspi_program.specs.declared.command.Task.{Task}
-use Rattle.sspi_program.specs.declared.command.Task.TheVariants.{Delegate, Play}
+use Rattle.sspi_program.specs.declared.command.Task.TheVariants.{Delegate, Play, Gate, Audit}
 use Rattle.sspi_program.specs.declared.record.Conducted.{Conducted}
 use Rattle.sspi_program.specs.declared.record.Record.{Record}
 use Rattle.sspi_program.specs.declared.said.Said.{Said}
 use Rattle.sspi_program.specs.declared.said.Said.TheVariants.{Done, NoScenario, ReadFault, OtherWords, NoMemory}
+use Rattle.sspi_program.specs.Audit.{IsAudited}
 use Rattle.sspi_program.specs.Commands.{purpose_of}
 use Rattle.sspi_program.specs.Delegate.{HasExchange}
+use Rattle.sspi_program.specs.Gate.{IsGated}
 use Rattle.sspi_program.specs.Kept.{keeping}
 use Rattle.sspi_program.specs.Play.{HasPlay}
-use Rattle.sspi_program.specs.Promises.{KeepsRecord, Keeps, kept_due}
+use Rattle.sspi_program.specs.Promises.{KeepsRecord, Keeps, KeptDue}
 use Rattle.sspi_program.specs.Run.{IsTold, Comes, CarriesOut, Conducts}
-use Rattle.sspi_program.specs.Said.{status_of, record_due, IsDue, SaysOf}
+use Rattle.sspi_program.specs.Said.{status_of, RecordDue, IsDue, SaysOf, SaysWith}
 
 -- ---- a record that is said
 
-module _ (P : Record → Type 0) (scenario : Scenario) (r : Record) (is : r.scenario ≡ scenario) (has : P r) where
-  says : (c : Conducted) (text : List ℕ) → c ≡ keeping c.status r → IsSome (status_of r.outcome) → IsDue (record_due r) c.status text →
-      KeepsRecord P (λ s. s ≡ scenario) c × IsDue (kept_due c.kept) c.status text
+module _ (P : Record → Type 0) (D : Record → ℕ → List ℕ → Type 0) (scenario : Scenario) (r : Record) (is : r.scenario ≡ scenario)
+    (has : P r) where
+  says : (c : Conducted) (text : List ℕ) → c ≡ keeping c.status r → IsSome (status_of r.outcome) → IsDue (D r) c.status text →
+      KeepsRecord P (λ s. s ≡ scenario) c × IsDue (KeptDue D c.kept) c.status text
   says c text made some told =
       let kept : c.kept ≡ Some r = ap (λ (d : Conducted). d.kept) made in rw kept ((has, is, some), told)
 
+  due_told : {E : Type 0} (told : Result (ℕ × Vec ℕ) E) → IfOk told (λ t. D r t.0 t.1.items) → (status : ℕ) (text : Vec ℕ) →
+      (told ≡ Ok (status, text)) ⊎ ((status ≡ 5) × (text.items ≡ [])) → IsDue (D r) status text.items
+  due_told told given status text (inl e) = inl (subst (λ t. IfOk t (λ (p : ℕ × Vec ℕ). D r p.0 p.1.items)) e given)
+  due_told told given status text (inr h) = inr h
+
+  says_with : {E : Type 0} (told : Result (ℕ × Vec ℕ) E) → IfOk told (λ t. D r t.0 t.1.items) → (c : Conducted) (text : Vec ℕ) →
+      SaysWith r told (Done c text) → KeepsRecord P (λ s. s ≡ scenario) c × IsDue (KeptDue D c.kept) c.status text.items
+  says_with told given c text said = says c text.items said.0 said.1 (due_told told given c.status text said.2)
+
 pub conducts_exchange : (scenario : Scenario) (r : Record) (said : Said) → r.scenario ≡ scenario → HasExchange r → SaysOf r said →
     Conducts Delegate scenario said
-conducts_exchange scenario r (Done c text) is has said = says HasExchange scenario r is has c text.items said.0 said.1.0 said.1.1
+conducts_exchange scenario r (Done c text) is has said = says HasExchange RecordDue scenario r is has c text.items said.0 said.1 said.2
 conducts_exchange scenario r (NoScenario line) is has said = said
 conducts_exchange scenario r ReadFault is has said = said
 conducts_exchange scenario r OtherWords is has said = said
@@ -39,11 +51,27 @@ conducts_exchange scenario r NoMemory is has said = tt
 
 pub conducts_play : (scenario : Scenario) (r : Record) (said : Said) → r.scenario ≡ scenario → HasPlay r → SaysOf r said →
     Conducts Play scenario said
-conducts_play scenario r (Done c text) is has said = says HasPlay scenario r is has c text.items said.0 said.1.0 said.1.1
+conducts_play scenario r (Done c text) is has said = says HasPlay RecordDue scenario r is has c text.items said.0 said.1 said.2
 conducts_play scenario r (NoScenario line) is has said = said
 conducts_play scenario r ReadFault is has said = said
 conducts_play scenario r OtherWords is has said = said
 conducts_play scenario r NoMemory is has said = tt
+
+module _ {E : Type 0} (scenario : Scenario) (r : Record) (told : Result (ℕ × Vec ℕ) E) (is : r.scenario ≡ scenario)
+    (has : HasExchange r) where
+  pub conducts_gate : (said : Said) → IfOk told (λ t. IsGated r t.0 t.1.items) → SaysWith r told said → Conducts Gate scenario said
+  conducts_gate (Done c text) given said = says_with HasExchange IsGated scenario r is has told given c text said
+  conducts_gate (NoScenario line) given said = said
+  conducts_gate ReadFault given said = said
+  conducts_gate OtherWords given said = said
+  conducts_gate NoMemory given said = tt
+
+  pub conducts_audit : (said : Said) → IfOk told (λ t. IsAudited r t.0 t.1.items) → SaysWith r told said → Conducts Audit scenario said
+  conducts_audit (Done c text) given said = says_with HasExchange IsAudited scenario r is has told given c text said
+  conducts_audit (NoScenario line) given said = said
+  conducts_audit ReadFault given said = said
+  conducts_audit OtherWords given said = said
+  conducts_audit NoMemory given said = tt
 
 -- ---- of another scenario that is such
 
@@ -51,12 +79,14 @@ record_more : (R : Record → Type 0) (P Q : Scenario → Type 0) → ((s : Scen
     IfSome kept (λ k. R k × P k.scenario × IsSome (status_of k.outcome)) →
     IfSome kept (λ k. R k × Q k.scenario × IsSome (status_of k.outcome))
 record_more R P Q more None h = tt
-record_more R P Q more (Some k) h = (h.0, more k.scenario h.1.0, h.1.1)
+record_more R P Q more (Some k) h = (h.0, more k.scenario h.1, h.2)
 
 pub keeps_more : (task : Task) (P Q : Scenario → Type 0) → ((s : Scenario) → P s → Q s) → (c : Conducted) → Keeps (Told task) P c →
     Keeps (Told task) Q c
 keeps_more Delegate P Q more c h = record_more HasExchange P Q more c.kept h
 keeps_more Play P Q more c h = record_more HasPlay P Q more c.kept h
+keeps_more Gate P Q more c h = record_more HasExchange P Q more c.kept h
+keeps_more Audit P Q more c h = record_more HasExchange P Q more c.kept h
 
 pub carries_out : (task : Task) (text : List ℕ) (scenario : Scenario) (said : Said) → scenario_of (purpose_of task) text ≡ Ok scenario →
     Conducts task scenario said → CarriesOut task text said
@@ -85,4 +115,4 @@ comes_read task None before now text (NoScenario line) read out = tt
 comes_read task (Some bytes) before now text (NoScenario line) read out = ap (scenario_of (purpose_of task)) (sym read.0) ∙ out
 comes_read task left before now text ReadFault read out = absurd out
 comes_read task left before now text OtherWords read out = absurd out
-comes_read task left before now text NoMemory read out = tt
+comes_read task left before now text NoMemory read out = refl

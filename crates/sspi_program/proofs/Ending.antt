@@ -1,5 +1,5 @@
 -- What the status of a run is where the source tells its text.
-use Rattle.std.proofs.Common.{◌≡◌, ◌≢◌, ℕ, ◌≤◌, ◌<◌, ◌⊎◌, inl, inr, List, [], Option, None, Some, Result, Ok, Err, refl, sym, ◌∙◌, ap, subst}
+use Rattle.std.proofs.Common.{◌≡◌, ℕ, ◌≤◌, inl, inr, List, [], Option, None, Some, Result, Ok, Err, refl, sym, subst, arith}
 use Rattle.std.specs.Prelude.{IfSome, IsSome}
 use Rattle.sspi_names.specs.declared.identity.AuthIdentity.{AuthIdentity}
 use Rattle.sspi_delegate.specs.declared.answer.Delegation.{Delegation}
@@ -14,22 +14,24 @@ use Rattle.sspi_scenario.specs.Scenario.{scenario_of}
 use Rattle.sspi_program.specs.declared.command.Command.{Command}
 use Rattle.sspi_program.specs.declared.command.Command.TheVariants.{Told}
 use Rattle.sspi_program.specs.declared.command.Task.{Task}
-use Rattle.sspi_program.specs.declared.command.Task.TheVariants.{Delegate, Play}
+use Rattle.sspi_program.specs.declared.command.Task.TheVariants.{Delegate, Play, Gate, Audit}
 use Rattle.sspi_program.specs.declared.record.Conducted.{Conducted}
 use Rattle.sspi_program.specs.declared.record.Record.{Record}
 use Rattle.sspi_program.specs.declared.record.RunOutcome.{RunOutcome}
 use Rattle.sspi_program.specs.declared.record.RunOutcome.TheVariants as outcomes
 use Rattle.sspi_program.specs.declared.said.Said.{Said}
 use Rattle.sspi_program.specs.declared.said.Said.TheVariants.{Done, NoScenario, ReadFault, OtherWords, NoMemory}
+use Rattle.sspi_program.specs.Audit.{IsAudited}
 use Rattle.sspi_program.specs.Commands.{task_in, purpose_of}
 use Rattle.sspi_program.specs.Delegate.{HasExchange, DelegateEnds}
+use Rattle.sspi_program.specs.Gate.{IsGated, GateEnds}
 use Rattle.sspi_program.specs.Outcome.{messages_in, IsPlain}
 use Rattle.sspi_program.specs.Play.{HasPlay, PlayEnds}
-use Rattle.sspi_program.specs.Promises.{Does, kept_due, EndsSo}
-use Rattle.sspi_program.specs.Run.{IsTold, Comes}
-use Rattle.sspi_program.specs.Said.{delegated_status, status_of, record_due, IsDue, said_status, said_text, read_text, Written}
+use Rattle.sspi_program.specs.Promises.{Does, Due, KeptDue, EndsSo}
+use Rattle.sspi_program.specs.Run.{Comes}
+use Rattle.sspi_program.specs.Said.{delegated_status, status_of, RecordDue, IsDue, said_status, said_text, read_text, Written}
 use Rattle.sspi_program.specs.Status.{IsUnlessWrite, IsUnlessFault, EndsPlainly}
-use Rattle.sspi_program.proofs.Running.{unless_write, unless_read, unless_memory, status_due}
+use Rattle.sspi_program.proofs.Running.{unless_write, unless_read, unless_memory, status_due, due_small}
 
 same_scenario : (purpose : Purpose) (text : List ℕ) (scenario scenario2 : Scenario) → scenario_of purpose text ≡ Ok scenario →
     scenario_of purpose text ≡ Ok scenario2 → scenario ≡ scenario2
@@ -42,21 +44,27 @@ both purpose text scenario line is none = cc
 -- ---- a text that is no scenario
 
 -- where nothing is kept, there was no memory
-none_due : (own : ℕ) (text : List ℕ) → IsDue None own text → own ≡ 5
-none_due own text (inl e) = absurd cc
-none_due own text (inr h) = h.0
+none_due : (D : Record → ℕ → List ℕ → Type 0) (own : ℕ) (text : List ℕ) → IsDue (KeptDue D None) own text → own ≡ 5
+none_due D own text (inl told) = absurd told
+none_due D own text (inr h) = h.0
 
-record_none : (P : Record → Type 0) (purpose : Purpose) (text : List ℕ) (own : ℕ) (written : List ℕ) (kept : Option Record) →
+record_none : (P : Record → Type 0) (D : Record → ℕ → List ℕ → Type 0) (purpose : Purpose) (text : List ℕ) (own : ℕ) (written : List ℕ)
+    (kept : Option Record) →
     IfSome kept (λ k. P k × (scenario_of purpose text ≡ Ok k.scenario) × IsSome (status_of k.outcome)) →
-    IsDue (kept_due kept) own written → (line : ℕ) → scenario_of purpose text ≡ Err line → own ≡ 5
-record_none P purpose text own written None keeps told line none = none_due own written told
-record_none P purpose text own written (Some k) keeps told line none = absurd (both purpose text k.scenario line keeps.1.0 none)
+    IsDue (KeptDue D kept) own written → (line : ℕ) → scenario_of purpose text ≡ Err line → own ≡ 5
+record_none P D purpose text own written None keeps told line none = none_due D own written told
+record_none P D purpose text own written (Some k) keeps told line none = absurd (both purpose text k.scenario line keeps.1 none)
 
 task_none : (task : Task) (text : List ℕ) (c : Conducted) (written : List ℕ) →
     Does (Told task) (λ s. scenario_of (purpose_of task) text ≡ Ok s) c written → (line : ℕ) →
     scenario_of (purpose_of task) text ≡ Err line → c.status ≡ 5
-task_none Delegate text c written does line none = record_none HasExchange purposes.Exchange text c.status written c.kept does.0 does.1 line none
-task_none Play text c written does line none = record_none HasPlay purposes.Play text c.status written c.kept does.0 does.1 line none
+task_none Delegate text c written does line none =
+    record_none HasExchange RecordDue purposes.Exchange text c.status written c.kept does.0 does.1 line none
+task_none Play text c written does line none = record_none HasPlay RecordDue purposes.Play text c.status written c.kept does.0 does.1 line none
+task_none Gate text c written does line none =
+    record_none HasExchange IsGated purposes.Exchange text c.status written c.kept does.0 does.1 line none
+task_none Audit text c written does line none =
+    record_none HasExchange IsAudited purposes.Exchange text c.status written c.kept does.0 does.1 line none
 
 module _ (before now : ℕ) (w w2 : Option (List ℕ)) (f f2 : ℕ) where
   no_memory : (own text_own : ℕ) (text : List ℕ) (status : ℕ) → text_own ≡ 5 → Written text_own text w w2 f f2 status →
@@ -122,28 +130,36 @@ module _ (w w2 : Option (List ℕ)) (f f2 : ℕ) (status : ℕ) where
             (short_status has.exchange.answer own answered (has.comes.short plain few)) unless)),
       )
 
+module _ (D : Record → ℕ → List ℕ → Type 0)
+    (due_status : (r : Record) (own : ℕ) (text : List ℕ) → D r own text → status_of r.outcome ≡ Some own)
+    (w w2 : Option (List ℕ)) (f f2 : ℕ) (status : ℕ) where
   plain_record : (text : List ℕ) (r : Record) (own : ℕ) (written : List ℕ) → HasExchange r →
-      scenario_of purposes.Exchange text ≡ Ok r.scenario → IsDue (record_due r) own written → Written own written w w2 f f2 status →
+      scenario_of purposes.Exchange text ≡ Ok r.scenario → IsDue (D r) own written → Written own written w w2 f f2 status →
       DelegateEnds text status
   plain_record text r own written has told (inl e) wrote = λ scenario is plain.
       let same : r.scenario ≡ scenario = same_scenario purposes.Exchange text r.scenario scenario told is in
       subst (λ (s : Scenario). (it : IsPlain s) → EndsPlainly (messages_in s it) s.turns status) same
-      (λ it. plain_exchange r own has (status_due r own written e) (unless_write w w2 f f2 own written status wrote) it) plain
+      (λ it. plain_exchange w w2 f f2 status r own has (due_status r own written e) (unless_write w w2 f f2 own written status wrote) it) plain
   plain_record text r own written has told (inr h) wrote = λ scenario is plain.
       let lost = subst (λ (n : ℕ). Written n written w w2 f f2 status) h.0 wrote in
       ((λ enough. unless_memory w w2 f f2 0 written status lost), (λ few. unless_memory w w2 f f2 1 written status lost))
 
   delegate_done : (text : List ℕ) (own : ℕ) (written : List ℕ) (kept : Option Record) →
       IfSome kept (λ k. HasExchange k × (scenario_of purposes.Exchange text ≡ Ok k.scenario) × IsSome (status_of k.outcome)) →
-      IsDue (kept_due kept) own written → Written own written w w2 f f2 status → DelegateEnds text status
+      IsDue (KeptDue D kept) own written → Written own written w w2 f f2 status → DelegateEnds text status
   delegate_done text own written None keeps told wrote = λ scenario is plain.
-      let lost = subst (λ (n : ℕ). Written n written w w2 f f2 status) (none_due own written told) wrote in
+      let lost = subst (λ (n : ℕ). Written n written w w2 f f2 status) (none_due D own written told) wrote in
       ((λ enough. unless_memory w w2 f f2 0 written status lost), (λ few. unless_memory w w2 f f2 1 written status lost))
-  delegate_done text own written (Some r) keeps told wrote = plain_record text r own written keeps.0 keeps.1.0 told wrote
+  delegate_done text own written (Some r) keeps told wrote = plain_record text r own written keeps.0 keeps.1 told wrote
 
+audited_status : (r : Record) (own : ℕ) (text : List ℕ) → IsAudited r own text → status_of r.outcome ≡ Some own
+audited_status r own text audited = audited.status_is
+
+module _ (w w2 : Option (List ℕ)) (f f2 : ℕ) (status : ℕ) where
   delegate_ends : (before now : ℕ) (text : List ℕ) (said : Said) → Comes (Some (Told Delegate)) (Some text) before now said →
       Written (said_status said) (said_text said) w w2 f f2 status → DelegateEnds text status
-  delegate_ends before now text (Done c items) comes written = delegate_done text c.status items.items c.kept comes.0 comes.1 written
+  delegate_ends before now text (Done c items) comes written =
+      delegate_done RecordDue status_due w w2 f f2 status text c.status items.items c.kept comes.0 comes.1 written
   delegate_ends before now text (NoScenario n) comes written = λ scenario is plain.
       absurd (both purposes.Exchange text scenario n is comes)
   delegate_ends before now text ReadFault comes written = λ scenario is plain.
@@ -156,7 +172,7 @@ module _ (w w2 : Option (List ℕ)) (f f2 : ℕ) (status : ℕ) where
   play_status : (r : Record) (own : ℕ) → HasPlay r → status_of r.outcome ≡ Some own → own ≡ 0
   play_status r own has e = answered_status has.answer own (subst (λ (o : RunOutcome). status_of o ≡ Some own) has.outcome_is e)
 
-  play_record : (r : Record) (own : ℕ) (written : List ℕ) → HasPlay r → IsDue (record_due r) own written →
+  play_record : (r : Record) (own : ℕ) (written : List ℕ) → HasPlay r → IsDue (RecordDue r) own written →
       Written own written w w2 f f2 status → IsUnlessFault 0 status
   play_record r own written has (inl e) wrote =
       inr (subst (λ (n : ℕ). IsUnlessWrite n status) (play_status r own has (status_due r own written e))
@@ -166,9 +182,10 @@ module _ (w w2 : Option (List ℕ)) (f f2 : ℕ) (status : ℕ) where
 
   play_done : (text : List ℕ) (own : ℕ) (written : List ℕ) (kept : Option Record) →
       IfSome kept (λ k. HasPlay k × (scenario_of purposes.Play text ≡ Ok k.scenario) × IsSome (status_of k.outcome)) →
-      IsDue (kept_due kept) own written → Written own written w w2 f f2 status → IsUnlessFault 0 status
+      IsDue (KeptDue RecordDue kept) own written → Written own written w w2 f f2 status → IsUnlessFault 0 status
   play_done text own written None keeps told wrote =
-      unless_memory w w2 f f2 0 written status (subst (λ (n : ℕ). Written n written w w2 f f2 status) (none_due own written told) wrote)
+      unless_memory w w2 f f2 0 written status
+      (subst (λ (n : ℕ). Written n written w w2 f f2 status) (none_due RecordDue own written told) wrote)
   play_done text own written (Some r) keeps told wrote = play_record r own written keeps.0 told wrote
 
   play_ends : (before now : ℕ) (text : List ℕ) (said : Said) → Comes (Some (Told Play)) (Some text) before now said →
@@ -179,6 +196,34 @@ module _ (w w2 : Option (List ℕ)) (f f2 : ℕ) (status : ℕ) where
   play_ends before now text OtherWords comes written = absurd cc
   play_ends before now text NoMemory comes written = λ scenario is. unless_memory w w2 f f2 0 [] status written
 
+  gate_done : (own : ℕ) (text : List ℕ) → own ≤ 1 → Written own text w w2 f f2 status → (n : ℕ) × (n ≤ 1) × IsUnlessFault n status
+  gate_done own text small wrote = (own, small, inr (unless_write w w2 f f2 own text status wrote))
+
+  gate_lost : (text : List ℕ) → Written 5 text w w2 f f2 status → (n : ℕ) × (n ≤ 1) × IsUnlessFault n status
+  gate_lost text wrote = (0, omega arith, unless_memory w w2 f f2 0 text status wrote)
+
+  gate_said : (c : Conducted) (text : List ℕ) → IsDue (Due (Told Gate) c) c.status text → Written c.status text w w2 f f2 status →
+      (n : ℕ) × (n ≤ 1) × IsUnlessFault n status
+  gate_said c text (inl told) wrote = gate_done c.status text (due_small (Told Gate) c c.status text told) wrote
+  gate_said c text (inr h) wrote = gate_lost text (subst (λ (n : ℕ). Written n text w w2 f f2 status) h.0 wrote)
+
+  gate_ends : (before now : ℕ) (text : List ℕ) (said : Said) → Comes (Some (Told Gate)) (Some text) before now said →
+      Written (said_status said) (said_text said) w w2 f f2 status → GateEnds text status
+  gate_ends before now text (Done c items) comes written = λ scenario is. gate_said c items.items comes.1 written
+  gate_ends before now text (NoScenario n) comes written = λ scenario is. absurd (both purposes.Exchange text scenario n is comes)
+  gate_ends before now text ReadFault comes written = λ scenario is. (0, omega arith, unless_read w w2 f f2 0 read_text status written)
+  gate_ends before now text OtherWords comes written = absurd cc
+  gate_ends before now text NoMemory comes written = λ scenario is. gate_lost [] written
+
+  audit_ends : (before now : ℕ) (text : List ℕ) (said : Said) → Comes (Some (Told Audit)) (Some text) before now said →
+      Written (said_status said) (said_text said) w w2 f f2 status → DelegateEnds text status
+  audit_ends before now text (Done c items) comes written =
+      delegate_done IsAudited audited_status w w2 f f2 status text c.status items.items c.kept comes.0 comes.1 written
+  audit_ends before now text (NoScenario n) comes written = delegate_ends before now text (NoScenario n) comes written
+  audit_ends before now text ReadFault comes written = delegate_ends before now text ReadFault comes written
+  audit_ends before now text OtherWords comes written = absurd cc
+  audit_ends before now text NoMemory comes written = delegate_ends before now text NoMemory refl written
+
   command_ends : (before now : ℕ) (command : Command) (left : Option (List ℕ)) (said : Said) →
       Comes (Some command) left before now said → Written (said_status said) (said_text said) w w2 f f2 status →
       EndsSo command left status
@@ -186,6 +231,10 @@ module _ (w w2 : Option (List ℕ)) (f f2 : ℕ) (status : ℕ) where
   command_ends before now (Told Delegate) (Some text) said comes written = delegate_ends before now text said comes written
   command_ends before now (Told Play) None said comes written = tt
   command_ends before now (Told Play) (Some text) said comes written = play_ends before now text said comes written
+  command_ends before now (Told Gate) None said comes written = tt
+  command_ends before now (Told Gate) (Some text) said comes written = gate_ends before now text said comes written
+  command_ends before now (Told Audit) None said comes written = tt
+  command_ends before now (Told Audit) (Some text) said comes written = audit_ends before now text said comes written
 
   pub status_ends : (before now : ℕ) (command : Option Command) (left : Option (List ℕ)) (said : Said) →
       Comes command left before now said → Written (said_status said) (said_text said) w w2 f f2 status →

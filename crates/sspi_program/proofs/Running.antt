@@ -3,29 +3,30 @@ use Rattle.std.proofs.Common.{◌≡◌, ◌≢◌, ℕ, ◌<◌, ◌≤◌, ◌
 use Rattle.std.proofs.Common.{◌∙◌, ap, subst, arith}
 use Rattle.std.specs.Io.KnownBytes.{Appends}
 use Rattle.std.specs.Option.{option_map}
-use Rattle.std.specs.Prelude.{IfSome, IsSome, IsSomeAnd}
+use Rattle.std.specs.Prelude.{IsSome, IsSomeAnd}
 use Rattle.sspi_ber.specs.Outside.{Rose, Wrote, WroteFront}
-use Rattle.sspi_delegate.specs.declared.answer.Delegation.{Delegation}
-use Rattle.sspi_delegate.specs.declared.answer.DelegateError.{DelegateError}
+use Rattle.sspi_gate.specs.declared.answer.GateError.{GateError}
+use Rattle.sspi_gate.specs.declared.answer.Relayed.{Relayed}
 use Rattle.sspi_delegate.specs.declared.answer.DelegateError.TheVariants as errors
 use Rattle.sspi_scenario.specs.declared.scenario.Scenario.{Scenario}
 use Rattle.sspi_scenario.specs.Reading.{IsReadWhole}
-use Rattle.sspi_scenario.specs.Scenario.{scenario_of}
 use Rattle.sspi_program.specs.declared.command.Command.{Command}
 use Rattle.sspi_program.specs.declared.command.Command.TheVariants.{Told}
 use Rattle.sspi_program.specs.declared.command.Task.{Task}
-use Rattle.sspi_program.specs.declared.command.Task.TheVariants.{Delegate, Play}
+use Rattle.sspi_program.specs.declared.command.Task.TheVariants.{Delegate, Play, Gate, Audit}
 use Rattle.sspi_program.specs.declared.record.Conducted.{Conducted}
 use Rattle.sspi_program.specs.declared.record.Record.{Record}
 use Rattle.sspi_program.specs.declared.record.RunOutcome.{RunOutcome}
 use Rattle.sspi_program.specs.declared.record.RunOutcome.TheVariants.{Delegated, Played}
 use Rattle.sspi_program.specs.declared.said.Said.{Said}
 use Rattle.sspi_program.specs.declared.said.Said.TheVariants.{Done, NoScenario, ReadFault, OtherWords, NoMemory}
+use Rattle.sspi_program.specs.Audit.{IsAudited}
 use Rattle.sspi_program.specs.Commands.{task_in, purpose_of}
+use Rattle.sspi_program.specs.Gate.{IsGated, relayed_status}
 use Rattle.sspi_program.specs.Kept.{nothing, with_status}
-use Rattle.sspi_program.specs.Promises.{Keeps, kept_due, due, Does}
+use Rattle.sspi_program.specs.Promises.{Keeps, KeptDue, Due, Does}
 use Rattle.sspi_program.specs.Run.{Outside, IsToldFor, NoneTold, Comes, IsJudged, KeepsOnly, IsReported, WroteLine, WroteOwed}
-use Rattle.sspi_program.specs.Said.{status_of, report_of, record_due, IsDue, said_status, said_text, conducted_as, words_text, read_text}
+use Rattle.sspi_program.specs.Said.{status_of, report_of, record_due, RecordDue, IsDue, said_status, said_text, conducted_as, words_text, read_text}
 use Rattle.sspi_program.specs.Said.{Written}
 use Rattle.sspi_program.specs.Status.{IsUnlessWrite, IsUnlessFault}
 
@@ -73,7 +74,7 @@ module _ (w w2 : Option (List ℕ)) (f f2 : ℕ) where
 -- ---- the status that is due
 
 -- 0, 1 or 5
-IsDone : ℕ → Type 0
+abbrev IsDone : ℕ → Type 0
 IsDone n = (n ≤ 1) ⊎ (n ≡ 5)
 
 small_status : (o : RunOutcome) (s : ℕ) → status_of o ≡ Some s → s ≤ 1
@@ -88,23 +89,43 @@ small_status (Delegated (Err errors.InsufficientMemory)) s e = absurd cc
 small_status (Played (Ok played)) s e = let is : 0 ≡ s = cc in omega (arith, is)
 small_status (Played (Err error)) s e = absurd cc
 
-mapped : (o : Option ℕ) (report : List ℕ) (own : ℕ) (text : List ℕ) → option_map (λ s. (s, report)) o ≡ Some (own, text) → o ≡ Some own
+mapped : (o : Option ℕ) (report : List ℕ) (own : ℕ) (text : List ℕ) → option_map {U = ℕ × List ℕ} (λ s. (s, report)) o ≡ Some (own, text) → o ≡ Some own
 mapped None report own text e = absurd cc
-mapped (Some s) report own text e = let is : s ≡ own = cc in ap Some is
+mapped (Some s) report own text e =
+    let found : ℕ × List ℕ = (s, report) in
+    let due : ℕ × List ℕ = (own, text) in
+    let same : found ≡ due = cc (e) in
+    ap (λ (p : ℕ × List ℕ). Some p.0) same
 
 -- the status of a record that is said is that of its outcome
 pub status_due : (r : Record) (own : ℕ) (text : List ℕ) → record_due r ≡ Some (own, text) → status_of r.outcome ≡ Some own
 status_due r own text e = mapped (status_of r.outcome) (report_of r) own text e
 
-small_due : (kept : Option Record) (own : ℕ) (text : List ℕ) → kept_due kept ≡ Some (own, text) → own ≤ 1
-small_due None own text e = absurd cc
-small_due (Some r) own text e = small_status r.outcome own (status_due r own text e)
+small_record : (r : Record) (own : ℕ) (text : List ℕ) → RecordDue r own text → own ≤ 1
+small_record r own text e = small_status r.outcome own (status_due r own text e)
 
-due_small : (command : Command) (c : Conducted) (own : ℕ) (text : List ℕ) → due command c ≡ Some (own, text) → own ≤ 1
-due_small (Told Delegate) c own text e = small_due c.kept own text e
-due_small (Told Play) c own text e = small_due c.kept own text e
+small_relayed : (answer : Result Relayed GateError) → relayed_status answer ≤ 1
+small_relayed (Ok relayed) = omega arith
+small_relayed (Err error) = omega arith
 
-done_by : (command : Command) (c : Conducted) (text : List ℕ) → IsDue (due command c) c.status text → IsDone c.status
+small_gated : (r : Record) (own : ℕ) (text : List ℕ) → IsGated r own text → own ≤ 1
+small_gated r own text gated = subst (λ (n : ℕ). n ≤ 1) (sym gated.status_is) (small_relayed gated.answer)
+
+small_audited : (r : Record) (own : ℕ) (text : List ℕ) → IsAudited r own text → own ≤ 1
+small_audited r own text audited = small_status r.outcome own audited.status_is
+
+small_due : (D : Record → ℕ → List ℕ → Type 0) → ((r : Record) (own : ℕ) (text : List ℕ) → D r own text → own ≤ 1) →
+    (kept : Option Record) (own : ℕ) (text : List ℕ) → KeptDue D kept own text → own ≤ 1
+small_due D small None own text told = absurd told
+small_due D small (Some r) own text told = small r own text told
+
+pub due_small : (command : Command) (c : Conducted) (own : ℕ) (text : List ℕ) → Due command c own text → own ≤ 1
+due_small (Told Delegate) c own text told = small_due RecordDue small_record c.kept own text told
+due_small (Told Play) c own text told = small_due RecordDue small_record c.kept own text told
+due_small (Told Gate) c own text told = small_due IsGated small_gated c.kept own text told
+due_small (Told Audit) c own text told = small_due IsAudited small_audited c.kept own text told
+
+done_by : (command : Command) (c : Conducted) (text : List ℕ) → IsDue (Due command c) c.status text → IsDone c.status
 done_by command c text (inl e) = inl (due_small command c c.status text e)
 done_by command c text (inr h) = inr h.0
 
@@ -123,18 +144,25 @@ done_other n k (inr h) is more other = other (sym is ∙ h)
 
 -- ---- what is kept does not depend on the status
 
-due_status : (command : Command) (status : ℕ) (c : Conducted) → due command (with_status status c) ≡ due command c
-due_status (Told Delegate) status c = refl
-due_status (Told Play) status c = refl
+due_status : (command : Command) (status : ℕ) (c : Conducted) (own : ℕ) (text : List ℕ) → Due command c own text →
+    Due command (with_status status c) own text
+due_status (Told Delegate) status c own text h = h
+due_status (Told Play) status c own text h = h
+due_status (Told Gate) status c own text h = h
+due_status (Told Audit) status c own text h = h
 
 keeps_status : (command : Command) (IsOf : Scenario → Type 0) (status : ℕ) (c : Conducted) → Keeps command IsOf c →
     Keeps command IsOf (with_status status c)
 keeps_status (Told Delegate) IsOf status c h = h
 keeps_status (Told Play) IsOf status c h = h
+keeps_status (Told Gate) IsOf status c h = h
+keeps_status (Told Audit) IsOf status c h = h
 
 keeps_nothing : (command : Command) (IsOf : Scenario → Type 0) (status : ℕ) → Keeps command IsOf (nothing status)
 keeps_nothing (Told Delegate) IsOf status = tt
 keeps_nothing (Told Play) IsOf status = tt
+keeps_nothing (Told Gate) IsOf status = tt
+keeps_nothing (Told Audit) IsOf status = tt
 
 nothing_own : (c : Conducted) (status : ℕ) → c ≡ nothing status → c ≡ nothing c.status
 nothing_own c status is = is ∙ ap nothing (sym (ap (λ (d : Conducted). d.status) is))
@@ -295,15 +323,19 @@ module _ (before after : Outside) where
 
   -- ---- what is reported
 
-  due_now : (command : Command) (c : Conducted) (text : List ℕ) (status : ℕ) → IsDue (due command c) c.status text → status ≤ 1 →
-      (status ≡ c.status) × Wrote before.written after.written text → IsReported (due command (with_status status c)) status before after
-  due_now command c text status (inl e) small all = rw (due_status command status c, e) all
+  due_now : (command : Command) (c : Conducted) (text : List ℕ) (status : ℕ) → IsDue (Due command c) c.status text → status ≤ 1 →
+      (status ≡ c.status) × Wrote before.written after.written text → IsReported (Due command (with_status status c)) status before after
+  due_now command c text status (inl told) small all = (
+    text,
+    subst (λ (n : ℕ). Due command (with_status status c) n text) (sym all.0) (due_status command status c c.status text told),
+    all.1,
+  )
   due_now command c text status (inr h) small all = absurd (omega (arith, h.0, all.0, small))
 
   reported_by : (command : Option Command) (said : Said) (status : ℕ) →
       Comes command before.left before.read_faults after.read_faults said → status ≤ 1 →
       (status ≡ said_status said) × Wrote before.written after.written (said_text said) →
-      IsSomeAnd command (λ k. IsReported (due k (conducted_as status said)) status before after)
+      IsSomeAnd command (λ k. IsReported (Due k (conducted_as status said)) status before after)
   reported_by None (Done c text) status comes small all = absurd comes
   reported_by (Some command) (Done c text) status comes small all = due_now command c text.items status comes.1 small all
   reported_by command (NoScenario line) status comes small all = absurd (omega (arith, all.0, small))
@@ -314,9 +346,9 @@ module _ (before after : Outside) where
   pub status_reported : (command : Option Command) (said : Said) (c : Conducted) (status : ℕ) → c ≡ conducted_as status said →
       Comes command before.left before.read_faults after.read_faults said →
       Written (said_status said) (said_text said) before.written after.written before.write_faults after.write_faults status →
-      status ≤ 1 → IsSomeAnd command (λ k. IsReported (due k c) status before after)
+      status ≤ 1 → IsSomeAnd command (λ k. IsReported (Due k c) status before after)
   status_reported command said c status is comes written small =
       let all = whole before.written after.written before.write_faults after.write_faults (said_status said) (said_text said) status
       (λ (e : status ≡ 4). omega (arith, e, small)) (λ (e : status ≡ 5). omega (arith, e, small)) written in
-      subst (λ (d : Conducted). IsSomeAnd command (λ k. IsReported (due k d) status before after)) (sym is)
+      subst (λ (d : Conducted). IsSomeAnd command (λ k. IsReported (Due k d) status before after)) (sym is)
       (reported_by command said status comes small all)

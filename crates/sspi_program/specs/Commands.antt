@@ -5,7 +5,7 @@ use Rattle.std.specs.Str.{bytes_eq}
 use Rattle.sspi_program.specs.declared.command.Command.{Command}
 use Rattle.sspi_program.specs.declared.command.Command.TheVariants.{Told}
 use Rattle.sspi_program.specs.declared.command.Task.{Task}
-use Rattle.sspi_program.specs.declared.command.Task.TheVariants.{Delegate, Play}
+use Rattle.sspi_program.specs.declared.command.Task.TheVariants.{Delegate, Play, Gate, Audit}
 use Rattle.sspi_scenario.specs.declared.purpose.Purpose.{Purpose}
 use Rattle.sspi_scenario.specs.declared.purpose.Purpose.TheVariants as purposes
 
@@ -13,6 +13,8 @@ abbrev pub task_named : List ℕ → Option Task
 task_named word =
     if bytes_eq word (codes "delegate") then Some Delegate
     else if bytes_eq word (codes "play") then Some Play
+    else if bytes_eq word (codes "gate") then Some Gate
+    else if bytes_eq word (codes "audit") then Some Audit
     else None
 
 -- one word names a task
@@ -32,3 +34,5 @@ task_in (Some (Told task)) = Some task
 abbrev pub purpose_of : Task → Purpose
 purpose_of Delegate = purposes.Exchange
 purpose_of Play = purposes.Play
+purpose_of Gate = purposes.Exchange
+purpose_of Audit = purposes.Exchange

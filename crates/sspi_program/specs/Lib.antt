@@ -7,5 +7,7 @@ pub mod Play
 pub mod Kept
 pub mod Status
 pub mod Said
+pub mod Gate
+pub mod Audit
 pub mod Promises
 pub mod Run

@@ -1,14 +1,16 @@
 -- What each command promises where it has its way.
-use Rattle.std.specs.Prelude.{ℕ, List, Option, None, Some, IfSome, IsSome}
+use Rattle.std.specs.Prelude.{ℕ, List, Option, IfSome, IsSome, IsSomeAnd}
 use Rattle.sspi_scenario.specs.declared.scenario.Scenario.{Scenario}
 use Rattle.sspi_program.specs.declared.command.Command.{Command}
 use Rattle.sspi_program.specs.declared.command.Command.TheVariants.{Told}
-use Rattle.sspi_program.specs.declared.command.Task.TheVariants.{Delegate, Play}
+use Rattle.sspi_program.specs.declared.command.Task.TheVariants.{Delegate, Play, Gate, Audit}
 use Rattle.sspi_program.specs.declared.record.Conducted.{Conducted}
 use Rattle.sspi_program.specs.declared.record.Record.{Record}
+use Rattle.sspi_program.specs.Audit.{IsAudited}
 use Rattle.sspi_program.specs.Delegate.{HasExchange, DelegateEnds}
+use Rattle.sspi_program.specs.Gate.{IsGated, GateEnds}
 use Rattle.sspi_program.specs.Play.{HasPlay, PlayEnds}
-use Rattle.sspi_program.specs.Said.{status_of, record_due, IsDue}
+use Rattle.sspi_program.specs.Said.{status_of, RecordDue, IsDue}
 
 -- a record is kept, if any is, of which this holds, of such a scenario, and in which no memory was wanting; and nothing else is
 abbrev pub KeepsRecord : (Record → Type 0) → (Scenario → Type 0) → Conducted → Type 0
@@ -18,21 +20,27 @@ KeepsRecord P IsOf conducted = IfSome conducted.kept (λ kept. P kept × IsOf ke
 abbrev pub Keeps : Command → (Scenario → Type 0) → Conducted → Type 0
 Keeps (Told Delegate) IsOf conducted = KeepsRecord HasExchange IsOf conducted
 Keeps (Told Play) IsOf conducted = KeepsRecord HasPlay IsOf conducted
+Keeps (Told Gate) IsOf conducted = KeepsRecord HasExchange IsOf conducted
+Keeps (Told Audit) IsOf conducted = KeepsRecord HasExchange IsOf conducted
 
-abbrev pub kept_due : Option Record → Option (ℕ × List ℕ)
-kept_due None = None
-kept_due (Some kept) = record_due kept
+-- a record is kept for which these are due
+abbrev pub KeptDue : (Record → ℕ → List ℕ → Type 0) → Option Record → ℕ → List ℕ → Type 0
+KeptDue D kept status text = IsSomeAnd kept (λ k. D k status text)
 
 -- the status, 0 or 1, and the text that are due for what a command keeps
-abbrev pub due : Command → Conducted → Option (ℕ × List ℕ)
-due (Told Delegate) conducted = kept_due conducted.kept
-due (Told Play) conducted = kept_due conducted.kept
+abbrev pub Due : Command → Conducted → ℕ → List ℕ → Type 0
+Due (Told Delegate) conducted status text = KeptDue RecordDue conducted.kept status text
+Due (Told Play) conducted status text = KeptDue RecordDue conducted.kept status text
+Due (Told Gate) conducted status text = KeptDue IsGated conducted.kept status text
+Due (Told Audit) conducted status text = KeptDue IsAudited conducted.kept status text
 
 -- what a command made of a scenario that is such
 abbrev pub Does : Command → (Scenario → Type 0) → Conducted → List ℕ → Type 0
-Does command IsOf conducted text = Keeps command IsOf conducted × IsDue (due command conducted) conducted.status text
+Does command IsOf conducted text = Keeps command IsOf conducted × IsDue (Due command conducted) conducted.status text
 
 -- what the status is where the source tells its text
 abbrev pub EndsSo : Command → Option (List ℕ) → ℕ → Type 0
 EndsSo (Told Delegate) left status = IfSome left (λ text. DelegateEnds text status)
 EndsSo (Told Play) left status = IfSome left (λ text. PlayEnds text status)
+EndsSo (Told Gate) left status = IfSome left (λ text. GateEnds text status)
+EndsSo (Told Audit) left status = IfSome left (λ text. DelegateEnds text status)

@@ -13,7 +13,7 @@ use Rattle.sspi_program.specs.declared.said.Said.{Said}
 use Rattle.sspi_program.specs.declared.said.Said.TheVariants.{Done, NoScenario, ReadFault, OtherWords, NoMemory}
 use Rattle.sspi_program.specs.Commands.{task_in, purpose_of}
 use Rattle.sspi_program.specs.Kept.{nothing}
-use Rattle.sspi_program.specs.Promises.{Keeps, Does, due, EndsSo}
+use Rattle.sspi_program.specs.Promises.{Keeps, Does, Due, EndsSo}
 use Rattle.sspi_program.specs.Said.{said_text, conducted_as, words_text, read_text, line_text}
 use Rattle.sspi_program.specs.Status.{IsUnlessWrite, IsUnlessFault}
 
@@ -83,9 +83,9 @@ abbrev pub KeepsOnly : Option Command → Option (List ℕ) → Conducted → Ty
 KeepsOnly None left conducted = conducted ≡ nothing conducted.status
 KeepsOnly (Some command) left conducted = Keeps command (IsToldFor (Some command) left) conducted
 
--- the status is the one that is due, and the text that is due was written and nothing else
-abbrev pub IsReported : Option (ℕ × List ℕ) → ℕ → Outside → Outside → Type 0
-IsReported told status before after = IsSomeAnd told (λ d. (status ≡ d.0) × Wrote before.written after.written d.1)
+-- a text that is due with this status was written, and nothing else
+abbrev pub IsReported : (ℕ → List ℕ → Type 0) → ℕ → Outside → Outside → Type 0
+IsReported D status before after = (text : List ℕ) × D status text × Wrote before.written after.written text
 
 -- a line of the text was named that is to blame
 pub record WroteLine (purpose : Purpose) (before after : Outside) : Type 0 where
@@ -123,7 +123,7 @@ pub record IsRun (command : Option Command) (before after : Outside) (conducted 
   pub statuses : HasStatus command before after conducted.status
   -- what is kept at any status, and at 0 and 1 the status and the text that are due for it
   pub kept : KeepsOnly command before.left conducted
-  pub reported : conducted.status ≤ 1 → IsSomeAnd command (λ c. IsReported (due c conducted) conducted.status before after)
+  pub reported : conducted.status ≤ 1 → IsSomeAnd command (λ c. IsReported (Due c conducted) conducted.status before after)
   -- the status where the source tells its text
   pub ends : IfSome command (λ c. EndsSo c before.left conducted.status)
   pub owed : WroteOwed command before after conducted

@@ -1,5 +1,6 @@
 -- What a run says: its exit status and its text, before they are written.
 use Rattle.std.specs.Prelude.{◌≡◌, ℕ, ◌⊎◌, List, [], ◌∷◌, ◌++◌, codes, decimal, reverse, Option, None, Some, IsSome, Result, Ok, Err}
+use Rattle.std.specs.Global.{Vec}
 use Rattle.std.specs.Option.{option_map}
 use Rattle.sspi_ber.specs.Outside.{Rose, Wrote, WroteFront}
 use Rattle.sspi_delegate.specs.declared.answer.Delegation.{Delegation}
@@ -54,18 +55,39 @@ report_of kept = report_by kept.outcome kept
 abbrev pub record_due : Record → Option (ℕ × List ℕ)
 record_due kept = option_map (λ status. (status, report_of kept)) (status_of kept.outcome)
 
--- the status and the text are those that are due; or, where the text had no memory, there is none
-abbrev pub IsDue : Option (ℕ × List ℕ) → ℕ → List ℕ → Type 0
-IsDue due status text = (due ≡ Some (status, text)) ⊎ ((status ≡ 5) × (text ≡ []))
+abbrev pub RecordDue : Record → ℕ → List ℕ → Type 0
+RecordDue kept status text = record_due kept ≡ Some (status, text)
+
+-- the status and the text are such that are due; or, where the text had no memory, there is none
+abbrev pub IsDue : (ℕ → List ℕ → Type 0) → ℕ → List ℕ → Type 0
+IsDue D status text = D status text ⊎ ((status ≡ 5) × (text ≡ []))
 
 -- what is said of a record
 abbrev pub SaysOf : Record → Said → Type 0
 SaysOf kept (Done conducted text) = (conducted ≡ keeping conducted.status kept) × IsSome (status_of kept.outcome) ×
-    IsDue (record_due kept) conducted.status text.items
+    IsDue (RecordDue kept) conducted.status text.items
 SaysOf kept (NoScenario line) = ⊥
 SaysOf kept ReadFault = ⊥
 SaysOf kept OtherWords = ⊥
 SaysOf kept NoMemory = status_of kept.outcome ≡ None
+
+-- the record is kept with the status and the text that are told; or, where these had no memory, with none
+abbrev pub IsDoneWith : {E : Type 0} → Record → Result (ℕ × Vec ℕ) E → Said → Type 0
+IsDoneWith kept told (Done conducted text) = (conducted ≡ keeping conducted.status kept) ×
+    ((told ≡ Ok (conducted.status, text)) ⊎ ((conducted.status ≡ 5) × (text.items ≡ [])))
+IsDoneWith kept told (NoScenario line) = ⊥
+IsDoneWith kept told ReadFault = ⊥
+IsDoneWith kept told OtherWords = ⊥
+IsDoneWith kept told NoMemory = ⊥
+
+-- what is said of a record with the status and the text that are told
+abbrev pub SaysWith : {E : Type 0} → Record → Result (ℕ × Vec ℕ) E → Said → Type 0
+SaysWith kept told (Done conducted text) = (conducted ≡ keeping conducted.status kept) × IsSome (status_of kept.outcome) ×
+    ((told ≡ Ok (conducted.status, text)) ⊎ ((conducted.status ≡ 5) × (text.items ≡ [])))
+SaysWith kept told (NoScenario line) = ⊥
+SaysWith kept told ReadFault = ⊥
+SaysWith kept told OtherWords = ⊥
+SaysWith kept told NoMemory = status_of kept.outcome ≡ None
 
 -- ---- what is said
 

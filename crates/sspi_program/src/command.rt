@@ -18,6 +18,10 @@ pub enum Task {
     Delegate,
     /// Its ends take the deliveries of its schedule.
     Play,
+    /// What `Delegate` does, and then a relay passes what the link delivered.
+    Gate,
+    /// What `Delegate` does, and then its turns and its log are judged.
+    Audit,
 }
 
 impl Task {
@@ -26,7 +30,7 @@ impl Task {
         ensures { result ≡ Commands.purpose_of self }
     {
         match self {
-            Task::Delegate => Purpose::Exchange,
+            Task::Delegate | Task::Gate | Task::Audit => Purpose::Exchange,
             Task::Play => Purpose::Play,
         }
     }
@@ -51,6 +55,8 @@ fn task_named(word: &str) -> Option<Task>
     match word {
         "delegate" => Some(Task::Delegate),
         "play" => Some(Task::Play),
+        "gate" => Some(Task::Gate),
+        "audit" => Some(Task::Audit),
         _ => None,
     }
 }

@@ -1,5 +1,5 @@
-ghost use Rattle.std.specs.Prelude.{◌≡◌, IfOk};
-ghost use Rattle.sspi_program.specs.Said.{SaysOf, delegated_status, report_of, status_of};
+ghost use Rattle.std.specs.Prelude.{◌≡◌, ◌++◌, IfOk};
+ghost use Rattle.sspi_program.specs.Said.{IsDoneWith, SaysOf, SaysWith, delegated_status, report_of, status_of};
 
 use crate::record::{Conducted, Record, RunOutcome};
 use crate::status;
@@ -32,8 +32,44 @@ pub fn said_of(alloc: Global, made: Record) -> Said
     }
 }
 
+/// What is said of a record with this status and this text, where there was memory for them. A record in which memory was wanting
+/// is dropped.
+pub fn said_with(alloc: Global, made: Record, told: Result<(u8, Vec<u8>), AllocError>) -> Said
+    ensures { SaysWith made told result }
+{
+    match status_of(&made.outcome) {
+        Some(_) => done_with(alloc, made, told),
+        None => no_memory(made, told),
+    }
+}
+
+fn done_with(alloc: Global, made: Record, told: Result<(u8, Vec<u8>), AllocError>) -> Said
+    ensures { IsDoneWith made told result }
+{
+    match told {
+        Ok((status, text)) => Said::Done(Conducted::keeping(status, made), text),
+        Err(_) => Said::Done(Conducted::keeping(status::NO_MEMORY, made), Vec::new(alloc)),
+    }
+}
+
+/// What was made is dropped. Generic, since of a type parameter that is one step, and of a record one for each type in it.
+fn no_memory<R: Drop, T: Drop>(_made: R, _told: T) -> Said
+    ensures { result ≡ Said.NoMemory }
+{
+    Said::NoMemory
+}
+
+/// The report of a record with a line behind it.
+pub fn report_with(alloc: Global, kept: &Record, line: &str) -> Result<Vec<u8>, AllocError>
+    ensures { IfOk result (λ text. text.items ≡ report_of kept.now ++ line.now) }
+{
+    let mut text = report_of(alloc, kept)?;
+    text.extend_from_slice(line.as_bytes())?;
+    Ok(text)
+}
+
 /// The status of an outcome; none where memory was wanting.
-fn status_of(outcome: &RunOutcome) -> Option<u8>
+pub fn status_of(outcome: &RunOutcome) -> Option<u8>
     ensures { result ≡ status_of outcome.now }
 {
     match outcome {

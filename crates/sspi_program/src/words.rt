@@ -3,7 +3,9 @@
 ghost use Rattle.sspi_program.specs.Run.{Conducts};
 ghost use Rattle.sspi_scenario.specs.Held.{HoldsValues};
 
+mod audit;
 mod delegate;
+mod gate;
 mod play;
 
 use crate::command::Task;
@@ -18,5 +20,7 @@ pub fn conduct(alloc: Global, task: Task, scenario: Scenario) -> Said
     match task {
         Task::Delegate => delegate::delegate(alloc, scenario),
         Task::Play => play::play(alloc, scenario),
+        Task::Gate => gate::gate(alloc, scenario),
+        Task::Audit => audit::audit(alloc, scenario),
     }
 }
