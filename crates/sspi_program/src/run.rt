@@ -71,7 +71,15 @@ pub fn exit_status<S: Source, W: Sink>(
 fn status_of(conducted: Conducted) -> u8
     ensures { result ≡ conducted.status }
 {
-    conducted.status
+    let Conducted { status, kept } = conducted;
+    status_without(status, kept)
+}
+
+/// Generic, since to drop a value of a type parameter is one step.
+fn status_without<T: Drop>(status: u8, _kept: T) -> u8
+    ensures { result ≡ status }
+{
+    status
 }
 
 /// What the words and the text of the source come to.
