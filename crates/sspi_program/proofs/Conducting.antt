@@ -31,7 +31,7 @@ module _ (P : Record → Type 0) (scenario : Scenario) (r : Record) (is : r.scen
 
 pub conducts_exchange : (scenario : Scenario) (r : Record) (said : Said) → r.scenario ≡ scenario → HasExchange r → SaysOf r said →
     Conducts Delegate scenario said
-conducts_exchange scenario r (Done c text) is has said = says HasExchange scenario r is has c text.items said.0 said.1.0 said.1.1
+conducts_exchange scenario r (Done c text) is has said = says HasExchange scenario r is has c text.items said.0 said.1 said.2
 conducts_exchange scenario r (NoScenario line) is has said = said
 conducts_exchange scenario r ReadFault is has said = said
 conducts_exchange scenario r OtherWords is has said = said
@@ -39,7 +39,7 @@ conducts_exchange scenario r NoMemory is has said = tt
 
 pub conducts_play : (scenario : Scenario) (r : Record) (said : Said) → r.scenario ≡ scenario → HasPlay r → SaysOf r said →
     Conducts Play scenario said
-conducts_play scenario r (Done c text) is has said = says HasPlay scenario r is has c text.items said.0 said.1.0 said.1.1
+conducts_play scenario r (Done c text) is has said = says HasPlay scenario r is has c text.items said.0 said.1 said.2
 conducts_play scenario r (NoScenario line) is has said = said
 conducts_play scenario r ReadFault is has said = said
 conducts_play scenario r OtherWords is has said = said
@@ -51,7 +51,7 @@ record_more : (R : Record → Type 0) (P Q : Scenario → Type 0) → ((s : Scen
     IfSome kept (λ k. R k × P k.scenario × IsSome (status_of k.outcome)) →
     IfSome kept (λ k. R k × Q k.scenario × IsSome (status_of k.outcome))
 record_more R P Q more None h = tt
-record_more R P Q more (Some k) h = (h.0, more k.scenario h.1.0, h.1.1)
+record_more R P Q more (Some k) h = (h.0, more k.scenario h.1, h.2)
 
 pub keeps_more : (task : Task) (P Q : Scenario → Type 0) → ((s : Scenario) → P s → Q s) → (c : Conducted) → Keeps (Told task) P c →
     Keeps (Told task) Q c
@@ -85,4 +85,4 @@ comes_read task None before now text (NoScenario line) read out = tt
 comes_read task (Some bytes) before now text (NoScenario line) read out = ap (scenario_of (purpose_of task)) (sym read.0) ∙ out
 comes_read task left before now text ReadFault read out = absurd out
 comes_read task left before now text OtherWords read out = absurd out
-comes_read task left before now text NoMemory read out = tt
+comes_read task left before now text NoMemory read out = refl

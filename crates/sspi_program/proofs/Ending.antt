@@ -1,5 +1,5 @@
 -- What the status of a run is where the source tells its text.
-use Rattle.std.proofs.Common.{◌≡◌, ◌≢◌, ℕ, ◌≤◌, ◌<◌, ◌⊎◌, inl, inr, List, [], Option, None, Some, Result, Ok, Err, refl, sym, ◌∙◌, ap, subst}
+use Rattle.std.proofs.Common.{◌≡◌, ℕ, inl, inr, List, [], Option, None, Some, Result, Ok, Err, sym, subst}
 use Rattle.std.specs.Prelude.{IfSome, IsSome}
 use Rattle.sspi_names.specs.declared.identity.AuthIdentity.{AuthIdentity}
 use Rattle.sspi_delegate.specs.declared.answer.Delegation.{Delegation}
@@ -26,7 +26,7 @@ use Rattle.sspi_program.specs.Delegate.{HasExchange, DelegateEnds}
 use Rattle.sspi_program.specs.Outcome.{messages_in, IsPlain}
 use Rattle.sspi_program.specs.Play.{HasPlay, PlayEnds}
 use Rattle.sspi_program.specs.Promises.{Does, kept_due, EndsSo}
-use Rattle.sspi_program.specs.Run.{IsTold, Comes}
+use Rattle.sspi_program.specs.Run.{Comes}
 use Rattle.sspi_program.specs.Said.{delegated_status, status_of, record_due, IsDue, said_status, said_text, read_text, Written}
 use Rattle.sspi_program.specs.Status.{IsUnlessWrite, IsUnlessFault, EndsPlainly}
 use Rattle.sspi_program.proofs.Running.{unless_write, unless_read, unless_memory, status_due}
@@ -50,7 +50,7 @@ record_none : (P : Record → Type 0) (purpose : Purpose) (text : List ℕ) (own
     IfSome kept (λ k. P k × (scenario_of purpose text ≡ Ok k.scenario) × IsSome (status_of k.outcome)) →
     IsDue (kept_due kept) own written → (line : ℕ) → scenario_of purpose text ≡ Err line → own ≡ 5
 record_none P purpose text own written None keeps told line none = none_due own written told
-record_none P purpose text own written (Some k) keeps told line none = absurd (both purpose text k.scenario line keeps.1.0 none)
+record_none P purpose text own written (Some k) keeps told line none = absurd (both purpose text k.scenario line keeps.1 none)
 
 task_none : (task : Task) (text : List ℕ) (c : Conducted) (written : List ℕ) →
     Does (Told task) (λ s. scenario_of (purpose_of task) text ≡ Ok s) c written → (line : ℕ) →
@@ -139,7 +139,7 @@ module _ (w w2 : Option (List ℕ)) (f f2 : ℕ) (status : ℕ) where
   delegate_done text own written None keeps told wrote = λ scenario is plain.
       let lost = subst (λ (n : ℕ). Written n written w w2 f f2 status) (none_due own written told) wrote in
       ((λ enough. unless_memory w w2 f f2 0 written status lost), (λ few. unless_memory w w2 f f2 1 written status lost))
-  delegate_done text own written (Some r) keeps told wrote = plain_record text r own written keeps.0 keeps.1.0 told wrote
+  delegate_done text own written (Some r) keeps told wrote = plain_record text r own written keeps.0 keeps.1 told wrote
 
   delegate_ends : (before now : ℕ) (text : List ℕ) (said : Said) → Comes (Some (Told Delegate)) (Some text) before now said →
       Written (said_status said) (said_text said) w w2 f f2 status → DelegateEnds text status

@@ -1,4 +1,5 @@
 pub mod Running
+pub mod Telling
 pub mod Ending
 pub mod TooLong
 pub mod Conducting

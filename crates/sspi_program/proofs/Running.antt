@@ -1,16 +1,13 @@
 -- What the status of a run says, by what was said and how it was written.
-use Rattle.std.proofs.Common.{◌≡◌, ◌≢◌, ℕ, ◌<◌, ◌≤◌, ◌⊎◌, inl, inr, List, [], append-nil, Option, None, Some, Result, Ok, Err, refl, sym}
+use Rattle.std.proofs.Common.{◌≡◌, ◌≢◌, ℕ, ◌<◌, ◌≤◌, ◌⊎◌, inl, inr, List, [], append-nil, Option, None, Some, Ok, Err, refl, sym}
 use Rattle.std.proofs.Common.{◌∙◌, ap, subst, arith}
 use Rattle.std.specs.Io.KnownBytes.{Appends}
 use Rattle.std.specs.Option.{option_map}
-use Rattle.std.specs.Prelude.{IfSome, IsSome, IsSomeAnd}
+use Rattle.std.specs.Prelude.{IsSome, IsSomeAnd}
 use Rattle.sspi_ber.specs.Outside.{Rose, Wrote, WroteFront}
-use Rattle.sspi_delegate.specs.declared.answer.Delegation.{Delegation}
-use Rattle.sspi_delegate.specs.declared.answer.DelegateError.{DelegateError}
 use Rattle.sspi_delegate.specs.declared.answer.DelegateError.TheVariants as errors
 use Rattle.sspi_scenario.specs.declared.scenario.Scenario.{Scenario}
 use Rattle.sspi_scenario.specs.Reading.{IsReadWhole}
-use Rattle.sspi_scenario.specs.Scenario.{scenario_of}
 use Rattle.sspi_program.specs.declared.command.Command.{Command}
 use Rattle.sspi_program.specs.declared.command.Command.TheVariants.{Told}
 use Rattle.sspi_program.specs.declared.command.Task.{Task}
@@ -73,7 +70,7 @@ module _ (w w2 : Option (List ℕ)) (f f2 : ℕ) where
 -- ---- the status that is due
 
 -- 0, 1 or 5
-IsDone : ℕ → Type 0
+abbrev IsDone : ℕ → Type 0
 IsDone n = (n ≤ 1) ⊎ (n ≡ 5)
 
 small_status : (o : RunOutcome) (s : ℕ) → status_of o ≡ Some s → s ≤ 1
@@ -88,9 +85,13 @@ small_status (Delegated (Err errors.InsufficientMemory)) s e = absurd cc
 small_status (Played (Ok played)) s e = let is : 0 ≡ s = cc in omega (arith, is)
 small_status (Played (Err error)) s e = absurd cc
 
-mapped : (o : Option ℕ) (report : List ℕ) (own : ℕ) (text : List ℕ) → option_map (λ s. (s, report)) o ≡ Some (own, text) → o ≡ Some own
+mapped : (o : Option ℕ) (report : List ℕ) (own : ℕ) (text : List ℕ) → option_map {U = ℕ × List ℕ} (λ s. (s, report)) o ≡ Some (own, text) → o ≡ Some own
 mapped None report own text e = absurd cc
-mapped (Some s) report own text e = let is : s ≡ own = cc in ap Some is
+mapped (Some s) report own text e =
+    let found : ℕ × List ℕ = (s, report) in
+    let due : ℕ × List ℕ = (own, text) in
+    let same : found ≡ due = cc (e) in
+    ap (λ (p : ℕ × List ℕ). Some p.0) same
 
 -- the status of a record that is said is that of its outcome
 pub status_due : (r : Record) (own : ℕ) (text : List ℕ) → record_due r ≡ Some (own, text) → status_of r.outcome ≡ Some own

@@ -1,5 +1,5 @@
 -- What the word `delegate` promises.
-use Rattle.std.specs.Prelude.{◌≡◌, ℕ, List, Ok, Err}
+use Rattle.std.specs.Prelude.{◌≡◌, ℕ, List, Ok}
 use Rattle.sspi_scenario.specs.declared.purpose.Purpose.TheVariants.{Exchange}
 use Rattle.sspi_scenario.specs.declared.scenario.Scenario.{Scenario}
 use Rattle.sspi_scenario.specs.Scenario.{scenario_of}

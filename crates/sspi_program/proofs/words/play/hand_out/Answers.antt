@@ -1,4 +1,4 @@
-use Rattle.std.proofs.Common.{[], refl}
+use Rattle.std.proofs.Common.{refl}
 use Rattle.sspi_delegate.specs.Headline.{IsFresh}
 use Rattle.sspi_program.proofs.words.play.hand_out.Goals as goal
 
