@@ -19,7 +19,6 @@ pub(crate) fn no_memory() -> Error
 }
 
 /// The octets begin with this request.
-
 fn is_read(alloc: Global, octets: &[u8], request: &TsRequest) -> Result<bool, Error>
     ensures read { IfOk result (λ read. IsTrue read ↔ IsRead octets.now request.now) }
     ensures only { IfErr result (λ error. error.error_type ≡ ErrorKind.InsufficientMemory) }

@@ -57,7 +57,6 @@ fn before(looks: bool) -> Frame
 }
 
 /// A client as its next turn finds it, which notes the version of its second request.
-
 fn client_at(before: &Frame, turn: &Turn) -> Frame
     ensures { (past : List Turn) → before.now ≡ client_before past → result ≡ client_frame past turn.now }
 {
@@ -80,7 +79,6 @@ fn client_note(looks: bool, noted: Option<u32>, version: u32) -> Option<u32>
 }
 
 /// A server as its next turn finds it, which notes the version of its first request.
-
 fn server_at(before: &Frame, turn: &Turn) -> Frame
     ensures { (past : List Turn) → before.now ≡ server_before past → result ≡ server_frame past turn.now }
 {
@@ -150,7 +148,6 @@ fn server_state_after(state: CredSspState, turn: &Turn) -> CredSspState
 }
 
 /// The client, once it has made this turn.
-
 fn client_after(before: &Frame, turn: &Turn) -> Frame
     ensures { (past : List Turn) → before.now ≡ client_before past → result ≡ client_before (turn.now ∷ past) }
 {
@@ -163,7 +160,6 @@ fn client_after(before: &Frame, turn: &Turn) -> Frame
 }
 
 /// The server, once it has made this turn.
-
 fn server_after(before: &Frame, turn: &Turn) -> Frame
     ensures { (past : List Turn) → before.now ≡ server_before past → result ≡ server_before (turn.now ∷ past) }
 {
