@@ -1,5 +1,5 @@
--- What recorded bytes can show of an exchange: that its turns and its log are those that two ends can have made, whatever key, nonce
--- and context stand behind them. Turns are a list, the newest first; the log is the oldest first, so that entry i is that of turn i.
+-- What recorded bytes can show of an exchange: what its turns and its log have if two ends made them, whatever key, nonce and context
+-- stand behind them. Turns are a list, the newest first; the log is the oldest first, so that entry i is that of turn i.
 use Rattle.std.specs.Prelude.{◌≡◌, ◌+◌, ◌≤◌, true, List, [], ◌∷◌, length, slice_get, IfSome}
 use Rattle.sspi_tsreq.specs.declared.request.TsRequest.{TsRequest}
 use Rattle.sspi_tsreq.specs.Value.{first_request}

@@ -438,5 +438,5 @@ module _ {N K : Type 0} (n : Meaning Setting N) (k : Meaning Setting K) (first :
     calls = calls_so requests;
     steps = λ s s2 args error h. moves_so _ s s2 error (spares_client h.ip (values_of s) args) h.moves.follows;
     resumes = λ s s2 reply error h. moves_so _ s s2 error (spares_resumed s.branch (values_of s) reply) h.follows;
-    accepts = λ s s2 args error h. moves_so _ s s2 error (spares_server s.role s.state (values_of s) args) h.follows;
+    accepts = λ s s2 args error h. moves_so _ s s2 error (spares_server s.role s.state (values_of s) args) h.moves.follows;
   }

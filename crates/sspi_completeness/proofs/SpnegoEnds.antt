@@ -226,7 +226,7 @@ resumed_at s reply r (contexts.Kerberos y) decided resumes = absurd resumes
 server_at : (s : Negotiation M) (args : AcceptArgs) (r : Result Step Error) (m : C) → IsDecided (does.told r) →
     c.accepts (contexts.Negotiate s) args r m → IsAt (runs (spnego_server (values_of s) args) s.mech) (does.told r) m
 server_at s args r (contexts.Negotiate s2) decided accepts = moved (spnego_server (values_of s) args) s s2 (does.told r) decided
-    accepts.follows
+    accepts.moves.follows
 server_at s args r (contexts.Ntlm y) decided accepts = absurd accepts
 server_at s args r (contexts.Kerberos y) decided accepts = absurd accepts
 

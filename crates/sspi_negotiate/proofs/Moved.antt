@@ -1,5 +1,5 @@
 -- The steps of a negotiation, with what holds of want of memory too.
-use Rattle.std.proofs.Common.{◌≡◌, ◌<◌, ◌↔◌, ℕ, Bool, IsTrue, Result, Ok, Err, OnErr, refl}
+use Rattle.std.proofs.Common.{◌≡◌, ◌≢◌, ◌<◌, ◌↔◌, ℕ, Bool, false, IsTrue, Result, Ok, Err, OnErr, refl}
 use Rattle.sspi_types.specs.declared.error.Error.{Error}
 use Rattle.sspi_mech.specs.declared.step.Answer.{Answer}
 use Rattle.sspi_mech.specs.declared.step.Answer.TheVariants.{Done, Ask, Refused}
@@ -7,51 +7,58 @@ use Rattle.sspi_mech.specs.declared.step.Progressing.{Progressing}
 use Rattle.sspi_mech.specs.declared.step.Progressing.TheVariants as progress
 use Rattle.sspi_mech.specs.declared.step.Reply.{Reply}
 use Rattle.sspi_mech.specs.declared.step.Step.{Step}
-use Rattle.sspi_mech.specs.Answers.{answer_of, OnAsk}
+use Rattle.sspi_mech.specs.Answers.{answer_of, OnAsk, OnRefused}
 use Rattle.sspi_mech.specs.Calls.{StepArgs, AcceptArgs}
 use Rattle.sspi_mech.specs.Laws.{IsMechanism}
 use Rattle.sspi_mech.specs.Meaning.{Meaning}
 use Rattle.sspi_mech.specs.Settings.{Setting}
 use Rattle.sspi_negotiate.specs.declared.protocol.NegotiatedProtocol.{NegotiatedProtocol}
+use Rattle.sspi_negotiate.specs.declared.state.NegotiateState.TheVariants as states
 use Rattle.sspi_negotiate.specs.Client.{spnego_client, spnego_resumed}
-use Rattle.sspi_negotiate.specs.Does.{Does, Stays, StaysUnused, told}
+use Rattle.sspi_negotiate.specs.Does.{Does, Stays, StaysPicked, StaysUnmarked, StaysUnused, told}
 use Rattle.sspi_negotiate.specs.Hand.{asks_left}
-use Rattle.sspi_negotiate.specs.Negotiate.{Moves, ClientMoves}
+use Rattle.sspi_negotiate.specs.Keeps.{is_answering}
+use Rattle.sspi_negotiate.specs.Negotiate.{Moves, ClientMoves, ServerMoves}
 use Rattle.sspi_negotiate.specs.Server.{spnego_server}
 use Rattle.sspi_negotiate.specs.Target.{IsNamedByIp}
 use Rattle.sspi_negotiate.specs.Values.{Negotiation, values_of}
 use Rattle.sspi_negotiate.proofs.Asks.{resumed_falls}
 
-pub accept_moves : {N K : Type 0} (n : Meaning Setting N) (k : Meaning Setting K) (s : Negotiation (NegotiatedProtocol N K))
-    (args : AcceptArgs)
-    (result : Result Step Error) (s2 : Negotiation (NegotiatedProtocol N K)) →
-    Does n k (spnego_server (values_of s) args) s (told result) s2 →
-    OnErr result (Stays (values_of s) (values_of s2)) → StaysUnused n k s s2 →
-    Moves n k (spnego_server (values_of s) args) s (told result) s2
-accept_moves n k s args (Ok step) s2 follows stays unused = record { follows = follows; stays = tt; unused = unused }
-accept_moves n k s args (Err error) s2 follows stays unused = record { follows = follows; stays = stays; unused = unused }
+told_stays : (P : Type 0) (result : Result Step Error) → OnErr result P → OnRefused (told result) P
+told_stays P (Ok step) stays = tt
+told_stays P (Err error) stays = stays
 
-pub client_moves : {N K : Type 0} (n : Meaning Setting N) (k : Meaning Setting K) (s : Negotiation (NegotiatedProtocol N K))
-    (args : StepArgs)
-    (result : Result Progressing Error) (s2 : Negotiation (NegotiatedProtocol N K)) (ip : Bool) → (IsTrue ip ↔ IsNamedByIp args.target) →
-    Does n k (spnego_client ip (values_of s) args) s (answer_of result) s2 →
-    OnErr result (Stays (values_of s) (values_of s2)) → StaysUnused n k s s2 → ClientMoves n k s args (answer_of result) s2
-client_moves n k s args (Ok (progress.Done step)) s2 ip is follows stays unused =
-    record { ip = ip; ip_is = is; moves = record { follows = follows; stays = tt; unused = unused } }
-client_moves n k s args (Ok (progress.Suspended request)) s2 ip is follows stays unused =
-    record { ip = ip; ip_is = is; moves = record { follows = follows; stays = tt; unused = unused } }
-client_moves n k s args (Err error) s2 ip is follows stays unused =
-    record { ip = ip; ip_is = is; moves = record { follows = follows; stays = stays; unused = unused } }
+answered_stays : (P : Type 0) (result : Result Progressing Error) → OnErr result P → OnRefused (answer_of result) P
+answered_stays P (Ok (progress.Done step)) stays = tt
+answered_stays P (Ok (progress.Suspended request)) stays = tt
+answered_stays P (Err error) stays = stays
 
-pub resume_moves : {N K : Type 0} (n : Meaning Setting N) (k : Meaning Setting K) (s : Negotiation (NegotiatedProtocol N K)) (reply : Reply)
-    (result : Result Progressing Error) (s2 : Negotiation (NegotiatedProtocol N K)) →
-    Does n k (spnego_resumed (values_of s) reply) s (answer_of result) s2 →
-    OnErr result (Stays (values_of s) (values_of s2)) → StaysUnused n k s s2 →
-    Moves n k (spnego_resumed (values_of s) reply) s (answer_of result) s2
-resume_moves n k s reply (Ok (progress.Done step)) s2 follows stays unused = record { follows = follows; stays = tt; unused = unused }
-resume_moves n k s reply (Ok (progress.Suspended request)) s2 follows stays unused =
-    record { follows = follows; stays = tt; unused = unused }
-resume_moves n k s reply (Err error) s2 follows stays unused = record { follows = follows; stays = stays; unused = unused }
+module _ {N K : Type 0} (n : Meaning Setting N) (k : Meaning Setting K) (s : Negotiation (NegotiatedProtocol N K)) where
+  pub accept_moves : (args : AcceptArgs) (result : Result Step Error) (s2 : Negotiation (NegotiatedProtocol N K)) →
+      Does n k (spnego_server (values_of s) args) s (told result) s2 → OnErr result (Stays (values_of s) (values_of s2)) →
+      StaysUnused n k s s2 → (s.state ≡ states.Initial → StaysUnmarked n k s s2) →
+      (s.state ≢ states.Initial → StaysPicked (values_of s) (values_of s2)) → ServerMoves n k s args result s2
+  accept_moves args result s2 follows stays unused unmarked picked = record {
+    moves = record { follows = follows; stays = told_stays _ result stays; unused = unused; unmarked = unmarked };
+    picked = picked;
+  }
+
+  pub client_moves : (args : StepArgs) (result : Result Progressing Error) (s2 : Negotiation (NegotiatedProtocol N K)) (ip : Bool) →
+      (IsTrue ip ↔ IsNamedByIp args.target) → Does n k (spnego_client ip (values_of s) args) s (answer_of result) s2 →
+      OnErr result (Stays (values_of s) (values_of s2)) → StaysUnused n k s s2 →
+      (s.state ≡ states.Initial → StaysUnmarked n k s s2) → ClientMoves n k s args (answer_of result) s2
+  client_moves args result s2 ip is follows stays unused unmarked = record {
+    ip = ip;
+    ip_is = is;
+    moves = record { follows = follows; stays = answered_stays _ result stays; unused = unused; unmarked = unmarked };
+  }
+
+  pub resume_moves : (reply : Reply) (result : Result Progressing Error) (s2 : Negotiation (NegotiatedProtocol N K)) →
+      Does n k (spnego_resumed (values_of s) reply) s (answer_of result) s2 → OnErr result (Stays (values_of s) (values_of s2)) →
+      StaysUnused n k s s2 → (is_answering s.branch ≡ false → StaysUnmarked n k s s2) →
+      Moves n k (is_answering s.branch ≡ false) (spnego_resumed (values_of s) reply) s (answer_of result) s2
+  resume_moves reply result s2 follows stays unused unmarked =
+      record { follows = follows; stays = answered_stays _ result stays; unused = unused; unmarked = unmarked }
 
 -- a further question to a KDC is one fewer to come
 pub resume_falls : {N K : Type 0} (r q : ℕ) (n : Meaning Setting N) (k : Meaning Setting K) → IsMechanism r n → IsMechanism q k →

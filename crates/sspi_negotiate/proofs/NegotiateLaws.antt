@@ -54,7 +54,7 @@ module _ {N K : Type 0} (r q : ℕ) (n : Meaning Setting N) (k : Meaning Setting
     identify_counts = λ m m2 ids h. laws.identify_counts m.mech m2.mech ids h.0;
     step_unused = λ m m2 a answer unused s. s.moves.unused unused;
     resume_unused = λ m m2 b answer unused s. s.unused unused;
-    accept_unused = λ m m2 a answer unused s. s.unused unused;
+    accept_unused = λ m m2 a answer unused s. s.moves.unused unused;
     resume_asks = λ m m2 b e s. resumed_falls r q n k ln lk (values_of m) b m.mech m2.mech e (values_of m2) refl s.follows.as_planned;
     step_waits = λ m m2 a e s. ends IsTidy (hand n k) (spnego_client s.ip (values_of m) a) m.mech m2.mech (Ask e) (values_of m2)
         (client_tidy s.ip (values_of m) a) s.moves.follows.as_planned;

@@ -9,10 +9,12 @@ use Rattle.sspi_mech.specs.Context.{IsUnused}
 use Rattle.sspi_mech.specs.Meaning.{Meaning}
 use Rattle.sspi_mech.specs.Settings.{Setting}
 use Rattle.sspi_negotiate.specs.declared.protocol.NegotiatedProtocol.{NegotiatedProtocol}
+use Rattle.sspi_negotiate.specs.declared.state.Role.TheVariants.{Client}
 use Rattle.sspi_negotiate.specs.Follows.{Follows}
 use Rattle.sspi_negotiate.specs.Hand.{Origin, hand}
 use Rattle.sspi_negotiate.specs.Plan.{Plan}
 use Rattle.sspi_negotiate.specs.Values.{Values, Negotiation, values_of}
+use Rattle.sspi_negotiate.specs.Verified.{HasNoMic}
 
 -- a fact, but for a refusal for want of memory, which may come at any time
 abbrev pub UnlessMemory : Answer → Type 0 → Type 0
@@ -37,6 +39,10 @@ module _ {N K : Type 0} (n : Meaning Setting N) (k : Meaning Setting K) where
   abbrev pub StaysUnused : Negotiation (NegotiatedProtocol N K) → Negotiation (NegotiatedProtocol N K) → Type 0
   StaysUnused old new = IsUnused ((hand n k).counts old.mech) → IsUnused ((hand n k).counts new.mech)
 
+  -- where no MIC was made or verified, none is
+  abbrev pub StaysUnmarked : Negotiation (NegotiatedProtocol N K) → Negotiation (NegotiatedProtocol N K) → Type 0
+  StaysUnmarked old new = HasNoMic ((hand n k).counts old.mech) → HasNoMic ((hand n k).counts new.mech)
+
   -- a part of a step: done, whatever follows comes after it; refused, the whole step is refused
   abbrev pub Onward : {T : Type 0} → (Plan → Plan) → Values → Negotiation (NegotiatedProtocol N K) → Result T Error →
       Negotiation (NegotiatedProtocol N K) → Type 0
@@ -49,13 +55,19 @@ pub record Passes {N K T : Type 0} (n : Meaning Setting N) (k : Meaning Setting 
     (old : Negotiation (NegotiatedProtocol N K)) (result : Result T Error) (new : Negotiation (NegotiatedProtocol N K)) : Type 0 where
   pub onward : Onward n k p v old result new
 
--- what a refused call leaves as it was: all but the mechanism in hand, the kept list and credentials and the need, and packages, which
--- never grow
+-- what a refused call leaves as it was: all but the mechanism in hand, the kept credentials and the need, the list that a server
+-- keeps, and packages, which never grow
 pub record Stays (old new : Values) : Type 0 where
   pub role : new.role ≡ old.role
   pub state : new.state ≡ old.state
   pub ntlm : new.packages.ntlm ≡ true → old.packages.ntlm ≡ true
   pub kerberos : new.packages.kerberos ≡ true → old.packages.kerberos ≡ true
+  pub list : old.role ≡ Client → new.list ≡ old.list
   pub known : new.known ≡ old.known
   pub computer : new.computer ≡ old.computer
   pub kdcs : new.kdcs ≡ old.kdcs
+
+-- the list of mechanisms and the mechanism in hand are as they were
+pub record StaysPicked (old new : Values) : Type 0 where
+  pub list : new.list ≡ old.list
+  pub hand : new.hand ≡ old.hand

@@ -17,6 +17,11 @@ is_opening Idle = false
 is_opening (Opening first) = true
 is_opening (Answering token) = false
 
+abbrev pub is_answering : Branch → Bool
+is_answering Idle = false
+is_answering (Opening first) = false
+is_answering (Answering token) = true
+
 -- the list of mechanisms was offered, on a server read
 pub record HasList (v : Values) : Type 0 where
   pub begun : v.state ≢ Initial

@@ -1,9 +1,14 @@
--- That the peer's MIC over a list of mechanisms was verified.
+-- That the peer's MIC over a list of mechanisms was verified, or that no MIC was made or verified at all.
 use Rattle.std.specs.Prelude.{◌≡◌, ℕ, List, Some}
-use Rattle.sspi_mech.specs.Calls.{ToVerify, one_signed, one_verified}
+use Rattle.sspi_mech.specs.Calls.{Counts, ToVerify, one_signed, one_verified}
 use Rattle.sspi_mech.specs.Meaning.{Meaning}
 use Rattle.sspi_tokens.specs.Spelling.{spelled_list}
 use Rattle.sspi_negotiate.specs.Hand.{Origin}
+
+-- no MIC was made or verified
+pub record HasNoMic (n : Counts) : Type 0 where
+  pub signed : n.signed ≡ 0
+  pub verified : n.verified ≡ 0
 
 -- what is left of a mechanism: itself, or with one MIC more that it made
 pub data Leaves {M : Type 0} (c : Meaning Origin M) (m left : M) : Type 0 where

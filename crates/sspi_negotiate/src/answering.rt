@@ -11,8 +11,9 @@ ghost use Rattle.sspi_types.specs.declared.security_status.SecurityStatus.TheVar
 ghost use Rattle.sspi_negotiate.specs.Client.{at_progress, chosen, chooses_kerberos, chooses_ntlm, in_kerberos, answers};
 ghost use Rattle.sspi_negotiate.specs.Client.{stepped, settles, unprotected, verified, at_verify_mic, confirmed};
 ghost use Rattle.sspi_negotiate.specs.Client.{last_mic, is_guest, handle_for, step_of, resumes_answering, spnego_resumed};
-ghost use Rattle.sspi_negotiate.specs.Does.{Does, Passes, Stays, StaysUnused, told};
+ghost use Rattle.sspi_negotiate.specs.Does.{Does, Passes, Stays, StaysUnmarked, StaysUnused, told};
 ghost use Rattle.sspi_negotiate.specs.Hand.{InPlaceOfNtlm, hand, hand_of};
+ghost use Rattle.sspi_negotiate.specs.Keeps.{is_answering};
 ghost use Rattle.sspi_negotiate.specs.Negotiate.{negotiate};
 ghost use Rattle.sspi_negotiate.specs.Plan.{Goes, Takes};
 ghost use Rattle.sspi_negotiate.specs.Rows.{or_empty, in_ntlm, verifies};
@@ -399,6 +400,7 @@ impl<N: Mechanism, K: Mechanism> Negotiate<N, K> {
         ensures step { Does N.meaning K.meaning (spnego_resumed (values_of self.old) reply.now) self.old (answer_of result) self.new }
         ensures stays { OnErr result (Stays (values_of self.old) (values_of self.new)) }
         ensures unused { StaysUnused N.meaning K.meaning self.old self.new }
+        ensures first { is_answering self.old.branch ≡ false → StaysUnmarked N.meaning K.meaning self.old self.new }
         ensures plain { IfErr result (λ error. error.nstatus ≡ None) }
     {
         match mem::replace(&mut self.branch, Branch::Idle) {

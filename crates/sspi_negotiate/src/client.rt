@@ -6,13 +6,14 @@ ghost use Rattle.sspi_mech.specs.Answers.{answer_of};
 ghost use Rattle.sspi_mech.specs.Calls.{step_args};
 ghost use Rattle.sspi_negotiate.specs.declared.protocol.Protocol.TheVariants as protocols;
 ghost use Rattle.sspi_negotiate.specs.Client.{is_closed, spnego_client, by_target, with_handle, converts, keeps, ruled, client_at};
-ghost use Rattle.sspi_negotiate.specs.Does.{Does, Passes, Stays, StaysUnused, told};
+ghost use Rattle.sspi_negotiate.specs.Does.{Does, Passes, Stays, StaysUnmarked, StaysUnused, told};
 ghost use Rattle.sspi_negotiate.specs.Hand.{hand_of};
 ghost use Rattle.sspi_negotiate.specs.Negotiate.{negotiate};
 ghost use Rattle.sspi_negotiate.specs.Rows.{in_ntlm};
 ghost use Rattle.sspi_negotiate.specs.Rule.{rule_url, by_rule, ruled_values};
 ghost use Rattle.sspi_negotiate.specs.Target.{IsNamedByIp};
 ghost use Rattle.sspi_negotiate.specs.Values.{values_of};
+ghost use Rattle.sspi_negotiate.specs.declared.state.NegotiateState.TheVariants as states;
 
 use crate::negotiate::Negotiate;
 use crate::refusal::out_of_sequence;
@@ -62,6 +63,7 @@ impl<N: Mechanism, K: Mechanism> Negotiate<N, K> {
             self.old (answer_of result) self.new }
         ensures stays { OnErr result (Stays (values_of self.old) (values_of self.new)) }
         ensures unused { StaysUnused N.meaning K.meaning self.old self.new }
+        ensures first { self.old.state ≡ states.Initial → StaysUnmarked N.meaning K.meaning self.old self.new }
         ensures plain { IfErr result (λ error. error.nstatus ≡ None) }
     {
         if self.is_closed() {
@@ -81,6 +83,7 @@ impl<N: Mechanism, K: Mechanism> Negotiate<N, K> {
             self.old (answer_of result) self.new }
         ensures stays { OnErr result (Stays (values_of self.old) (values_of self.new)) }
         ensures unused { StaysUnused N.meaning K.meaning self.old self.new }
+        ensures first { self.old.state ≡ states.Initial → StaysUnmarked N.meaning K.meaning self.old self.new }
         ensures plain { IfErr result (λ error. error.nstatus ≡ None) }
     {
         if ip && self.packages.ntlm {
@@ -99,6 +102,7 @@ impl<N: Mechanism, K: Mechanism> Negotiate<N, K> {
             self.old (answer_of result) self.new }
         ensures stays { OnErr result (Stays (values_of self.old) (values_of self.new)) }
         ensures unused { StaysUnused N.meaning K.meaning self.old self.new }
+        ensures first { self.old.state ≡ states.Initial → StaysUnmarked N.meaning K.meaning self.old self.new }
         ensures plain { IfErr result (λ error. error.nstatus ≡ None) }
     {
         match self.take_ntlm() {
@@ -116,6 +120,7 @@ impl<N: Mechanism, K: Mechanism> Negotiate<N, K> {
             self.old (answer_of result) self.new }
         ensures stays { OnErr result (Stays (values_of self.old) (values_of self.new)) }
         ensures unused { StaysUnused N.meaning K.meaning self.old self.new }
+        ensures first { self.old.state ≡ states.Initial → StaysUnmarked N.meaning K.meaning self.old self.new }
         ensures plain { IfErr result (λ error. error.nstatus ≡ None) }
     {
         self.packages.kerberos = false;
@@ -128,6 +133,7 @@ impl<N: Mechanism, K: Mechanism> Negotiate<N, K> {
             self.old (answer_of result) self.new }
         ensures stays { OnErr result (Stays (values_of self.old) (values_of self.new)) }
         ensures unused { StaysUnused N.meaning K.meaning self.old self.new }
+        ensures first { self.old.state ≡ states.Initial → StaysUnmarked N.meaning K.meaning self.old self.new }
         ensures plain { IfErr result (λ error. error.nstatus ≡ None) }
     {
         match args.credentials_handle {
@@ -147,6 +153,7 @@ impl<N: Mechanism, K: Mechanism> Negotiate<N, K> {
             self.old (answer_of result) self.new }
         ensures stays { OnErr result (Stays (values_of self.old) (values_of self.new)) }
         ensures unused { StaysUnused N.meaning K.meaning self.old self.new }
+        ensures first { self.old.state ≡ states.Initial → StaysUnmarked N.meaning K.meaning self.old self.new }
         ensures plain { IfErr result (λ error. error.nstatus ≡ None) }
     {
         match AuthIdentity::from_buffers(self.alloc, buffers) {
@@ -166,6 +173,7 @@ impl<N: Mechanism, K: Mechanism> Negotiate<N, K> {
             self.old (answer_of result) self.new }
         ensures stays { OnErr result (Stays (values_of self.old) (values_of self.new)) }
         ensures unused { StaysUnused N.meaning K.meaning self.old self.new }
+        ensures first { self.old.state ≡ states.Initial → StaysUnmarked N.meaning K.meaning self.old self.new }
         ensures plain { IfErr result (λ error. error.nstatus ≡ None) }
     {
         let kept = identity.to_buffers(self.alloc)?;
@@ -182,6 +190,7 @@ impl<N: Mechanism, K: Mechanism> Negotiate<N, K> {
             self.old (answer_of result) self.new }
         ensures stays { OnErr result (Stays (values_of self.old) (values_of self.new)) }
         ensures unused { StaysUnused N.meaning K.meaning self.old self.new }
+        ensures first { self.old.state ≡ states.Initial → StaysUnmarked N.meaning K.meaning self.old self.new }
         ensures plain { IfErr result (λ error. error.nstatus ≡ None) }
     {
         match self.take_by_rule(name) {
@@ -196,6 +205,7 @@ impl<N: Mechanism, K: Mechanism> Negotiate<N, K> {
             self.old (answer_of result) self.new }
         ensures stays { OnErr result (Stays (values_of self.old) (values_of self.new)) }
         ensures unused { StaysUnused N.meaning K.meaning self.old self.new }
+        ensures first { self.old.state ≡ states.Initial → StaysUnmarked N.meaning K.meaning self.old self.new }
         ensures plain { IfErr result (λ error. error.nstatus ≡ None) }
     {
         match self.state {

@@ -9,6 +9,7 @@ ghost use Rattle.sspi_mech.specs.Calls.{ToUnseal, ToSign, ToVerify, ToDescribe, 
 ghost use Rattle.sspi_mech.specs.Context.{IsUnused};
 ghost use Rattle.sspi_negotiate.specs.declared.protocol.Protocol.TheVariants as protocols;
 ghost use Rattle.sspi_negotiate.specs.Hand.{InPlaceOfNtlm, in_place_of_kerberos, hand, hand_of, has_password, asks_left};
+ghost use Rattle.sspi_negotiate.specs.Verified.{HasNoMic};
 
 use crate::protocol::NegotiatedProtocol;
 use sspi_mech::{
@@ -118,6 +119,7 @@ impl<N: Mechanism, K: Mechanism> NegotiatedProtocol<N, K> {
     pub(crate) fn initialize(&mut self, args: &InitializeSecurityContext<'_>) -> Answer
         ensures step { (hand N.meaning K.meaning).steps self.old (step_args args.now) result self.new }
         ensures unused { IsUnused ((hand N.meaning K.meaning).counts self.old) → IsUnused ((hand N.meaning K.meaning).counts self.new) }
+        ensures unmarked { HasNoMic ((hand N.meaning K.meaning).counts self.old) → HasNoMic ((hand N.meaning K.meaning).counts self.new) }
         ensures named { hand_of self.new ≡ hand_of self.old }
         ensures plain { IfRefused result (λ error. error.nstatus ≡ None) }
     {
@@ -130,6 +132,7 @@ impl<N: Mechanism, K: Mechanism> NegotiatedProtocol<N, K> {
     pub(crate) fn resume(&mut self, reply: &Reply) -> Answer
         ensures step { (hand N.meaning K.meaning).resumes self.old reply.now result self.new }
         ensures unused { IsUnused ((hand N.meaning K.meaning).counts self.old) → IsUnused ((hand N.meaning K.meaning).counts self.new) }
+        ensures unmarked { HasNoMic ((hand N.meaning K.meaning).counts self.old) → HasNoMic ((hand N.meaning K.meaning).counts self.new) }
         ensures named { hand_of self.new ≡ hand_of self.old }
         ensures plain { IfRefused result (λ error. error.nstatus ≡ None) }
     {
@@ -142,6 +145,7 @@ impl<N: Mechanism, K: Mechanism> NegotiatedProtocol<N, K> {
     pub(crate) fn accept(&mut self, args: &AcceptSecurityContext<'_>) -> Result<Step, Error>
         ensures step { (hand N.meaning K.meaning).accepts self.old (accept_args args.now) result self.new }
         ensures unused { IsUnused ((hand N.meaning K.meaning).counts self.old) → IsUnused ((hand N.meaning K.meaning).counts self.new) }
+        ensures unmarked { HasNoMic ((hand N.meaning K.meaning).counts self.old) → HasNoMic ((hand N.meaning K.meaning).counts self.new) }
         ensures named { hand_of self.new ≡ hand_of self.old }
         ensures plain { IfErr result (λ error. error.nstatus ≡ None) }
     {

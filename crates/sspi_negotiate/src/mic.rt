@@ -3,7 +3,7 @@ ghost use Rattle.std.specs.Prelude.{◌≡◌, ◌≢◌, None, Some, IfOk, IfEr
 ghost use Rattle.sspi_mech.specs.Calls.{one_signed, one_verified, ToSign, ToVerify};
 ghost use Rattle.sspi_negotiate.specs.Hand.{hand, hand_of};
 ghost use Rattle.sspi_names.specs.declared.credentials.Credentials.TheVariants as credentials;
-ghost use Rattle.sspi_negotiate.specs.Does.{Does, Passes, Stays, StaysUnused, told};
+ghost use Rattle.sspi_negotiate.specs.Does.{Does, Passes, Stays, StaysPicked, StaysUnused, told};
 ghost use Rattle.sspi_negotiate.specs.Rows.{identifies_among, identifies, verifies, verifies_text, checks, signs_text};
 ghost use Rattle.sspi_negotiate.specs.Rows.{writes, targ, if_some, answers_signed, completes_signed, hands_mic};
 ghost use Rattle.sspi_negotiate.specs.Known.{named};
@@ -69,6 +69,7 @@ impl<N: Mechanism, K: Mechanism> Negotiate<N, K> {
         ensures step { Passes N.meaning K.meaning (checks mic.now (values_of self.old)) (values_of self.old) self.old result self.new }
         ensures stays { Stays (values_of self.old) (values_of self.new) }
         ensures unused { StaysUnused N.meaning K.meaning self.old self.new }
+        ensures picked { StaysPicked (values_of self.old) (values_of self.new) }
         ensures plain { IfErr result (λ error. error.nstatus ≡ None) }
     {
         match self.identify() {
@@ -81,6 +82,7 @@ impl<N: Mechanism, K: Mechanism> Negotiate<N, K> {
         ensures step { Passes N.meaning K.meaning (identifies (values_of self.old)) (values_of self.old) self.old result self.new }
         ensures stays { Stays (values_of self.old) (values_of self.new) }
         ensures unused { StaysUnused N.meaning K.meaning self.old self.new }
+        ensures picked { StaysPicked (values_of self.old) (values_of self.new) }
         ensures plain { IfErr result (λ error. error.nstatus ≡ None) }
     {
         match self.protocol.names() {
@@ -95,6 +97,7 @@ impl<N: Mechanism, K: Mechanism> Negotiate<N, K> {
             (values_of self.old) self.old result self.new }
         ensures stays { Stays (values_of self.old) (values_of self.new) }
         ensures unused { StaysUnused N.meaning K.meaning self.old self.new }
+        ensures picked { StaysPicked (values_of self.old) (values_of self.new) }
         ensures plain { IfErr result (λ error. error.nstatus ≡ None) }
     {
         let found = named(self.alloc, name, &self.known)?;
@@ -110,6 +113,7 @@ impl<N: Mechanism, K: Mechanism> Negotiate<N, K> {
             (values_of self.old) self.old result self.new }
         ensures stays { Stays (values_of self.old) (values_of self.new) }
         ensures unused { StaysUnused N.meaning K.meaning self.old self.new }
+        ensures picked { StaysPicked (values_of self.old) (values_of self.new) }
         ensures plain { IfErr result (λ error. error.nstatus ≡ None) }
     {
         self.protocol.set_identities(found)
@@ -120,6 +124,7 @@ impl<N: Mechanism, K: Mechanism> Negotiate<N, K> {
         ensures step { Passes N.meaning K.meaning (verifies mic.now (values_of self.old)) (values_of self.old) self.old result self.new }
         ensures stays { Stays (values_of self.old) (values_of self.new) }
         ensures unused { StaysUnused N.meaning K.meaning self.old self.new }
+        ensures picked { StaysPicked (values_of self.old) (values_of self.new) }
         ensures plain { IfErr result (λ error. error.nstatus ≡ None) }
     {
         match spelled_list(self.alloc, &self.mech_types) {
@@ -133,6 +138,7 @@ impl<N: Mechanism, K: Mechanism> Negotiate<N, K> {
             (values_of self.old) self.old result self.new }
         ensures stays { Stays (values_of self.old) (values_of self.new) }
         ensures unused { StaysUnused N.meaning K.meaning self.old self.new }
+        ensures picked { StaysPicked (values_of self.old) (values_of self.new) }
         ensures plain { IfErr result (λ error. error.nstatus ≡ None) }
     {
         self.protocol
@@ -152,6 +158,7 @@ impl<N: Mechanism, K: Mechanism> Negotiate<N, K> {
             (answers_signed result_field state status (values_of self.old) token) self.old (told result) self.new }
         ensures stays { OnErr result (Stays (values_of self.old) (values_of self.new)) }
         ensures unused { StaysUnused N.meaning K.meaning self.old self.new }
+        ensures picked { StaysPicked (values_of self.old) (values_of self.new) }
         ensures plain { IfErr result (λ error. error.nstatus ≡ None) }
     {
         match spelled_list(self.alloc, &self.mech_types) {
@@ -173,6 +180,7 @@ impl<N: Mechanism, K: Mechanism> Negotiate<N, K> {
             self.old (told result) self.new }
         ensures stays { OnErr result (Stays (values_of self.old) (values_of self.new)) }
         ensures unused { StaysUnused N.meaning K.meaning self.old self.new }
+        ensures picked { StaysPicked (values_of self.old) (values_of self.new) }
         ensures plain { IfErr result (λ error. error.nstatus ≡ None) }
     {
         match sign_with(&mut self.protocol, text) {
@@ -194,6 +202,7 @@ impl<N: Mechanism, K: Mechanism> Negotiate<N, K> {
         ensures step { Does N.meaning K.meaning (completes_signed (values_of self.old) token) self.old (told result) self.new }
         ensures stays { OnErr result (Stays (values_of self.old) (values_of self.new)) }
         ensures unused { StaysUnused N.meaning K.meaning self.old self.new }
+        ensures picked { StaysPicked (values_of self.old) (values_of self.new) }
         ensures plain { IfErr result (λ error. error.nstatus ≡ None) }
     {
         self.answer_signed(
@@ -209,6 +218,7 @@ impl<N: Mechanism, K: Mechanism> Negotiate<N, K> {
         ensures step { Does N.meaning K.meaning (hands_mic (values_of self.old) token) self.old (told result) self.new }
         ensures stays { OnErr result (Stays (values_of self.old) (values_of self.new)) }
         ensures unused { StaysUnused N.meaning K.meaning self.old self.new }
+        ensures picked { StaysPicked (values_of self.old) (values_of self.new) }
         ensures plain { IfErr result (λ error. error.nstatus ≡ None) }
     {
         self.answer_signed(

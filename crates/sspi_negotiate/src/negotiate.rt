@@ -1,6 +1,6 @@
 ghost use Rattle.std.specs.Prelude.{◌≡◌, ◌≢◌, [], None, IfErr, OnOk, OnErr};
 ghost use Rattle.sspi_mech.specs.Calls.{AcceptArgs, accept_args};
-ghost use Rattle.sspi_negotiate.specs.Does.{Does, Passes, Stays, StaysUnused, told};
+ghost use Rattle.sspi_negotiate.specs.Does.{Does, Passes, Stays, StaysPicked, StaysUnmarked, StaysUnused, told};
 ghost use Rattle.sspi_negotiate.specs.declared.protocol.Protocol.TheVariants as protocols;
 ghost use Rattle.sspi_negotiate.specs.Hand.{hand_of, asks_left};
 ghost use Rattle.sspi_negotiate.specs.Rows.{in_ntlm, written, writes, targ, if_some, completes, carries_on};
@@ -103,6 +103,7 @@ impl<N: Mechanism, K: Mechanism> Negotiate<N, K> {
             (record (values_of self.old) { hand = protocols.Ntlm }) self.old result self.new }
         ensures stays { Stays (values_of self.old) (values_of self.new) }
         ensures unused { StaysUnused N.meaning K.meaning self.old self.new }
+        ensures unmarked { StaysUnmarked N.meaning K.meaning self.old self.new }
         ensures plain { IfErr result (λ error. error.nstatus ≡ None) }
     {
         match self.protocol.protocol() {
@@ -116,6 +117,7 @@ impl<N: Mechanism, K: Mechanism> Negotiate<N, K> {
             (record (values_of self.old) { hand = protocols.Ntlm }) self.old result self.new }
         ensures stays { Stays (values_of self.old) (values_of self.new) }
         ensures unused { StaysUnused N.meaning K.meaning self.old self.new }
+        ensures unmarked { StaysUnmarked N.meaning K.meaning self.old self.new }
         ensures plain { IfErr result (λ error. error.nstatus ≡ None) }
     {
         match NegotiatedProtocol::new_ntlm(self.alloc, &self.client_computer_name) {
@@ -140,6 +142,8 @@ impl<N: Mechanism, K: Mechanism> Negotiate<N, K> {
             self.old (told result) self.new }
         ensures stays { OnErr result (Stays (values_of self.old) (values_of self.new)) }
         ensures unused { StaysUnused N.meaning K.meaning self.old self.new }
+        ensures unmarked { StaysUnmarked N.meaning K.meaning self.old self.new }
+        ensures picked { StaysPicked (values_of self.old) (values_of self.new) }
         ensures plain { IfErr result (λ error. error.nstatus ≡ None) }
     {
         match spelled_targ(self.alloc, token) {
@@ -158,6 +162,7 @@ impl<N: Mechanism, K: Mechanism> Negotiate<N, K> {
         ensures step { Does N.meaning K.meaning (completes (values_of self.old) token mic) self.old (told result) self.new }
         ensures stays { OnErr result (Stays (values_of self.old) (values_of self.new)) }
         ensures unused { StaysUnused N.meaning K.meaning self.old self.new }
+        ensures picked { StaysPicked (values_of self.old) (values_of self.new) }
         ensures plain { IfErr result (λ error. error.nstatus ≡ None) }
     {
         let token = NegTokenTarg {
@@ -181,6 +186,7 @@ impl<N: Mechanism, K: Mechanism> Negotiate<N, K> {
             self.old (told result) self.new }
         ensures stays { OnErr result (Stays (values_of self.old) (values_of self.new)) }
         ensures unused { StaysUnused N.meaning K.meaning self.old self.new }
+        ensures picked { StaysPicked (values_of self.old) (values_of self.new) }
         ensures plain { IfErr result (λ error. error.nstatus ≡ None) }
     {
         self.state = NegotiateState::Ok;
@@ -196,6 +202,7 @@ impl<N: Mechanism, K: Mechanism> Negotiate<N, K> {
         ensures step { Does N.meaning K.meaning (carries_on (values_of self.old) token status) self.old (told result) self.new }
         ensures stays { OnErr result (Stays (values_of self.old) (values_of self.new)) }
         ensures unused { StaysUnused N.meaning K.meaning self.old self.new }
+        ensures picked { StaysPicked (values_of self.old) (values_of self.new) }
         ensures plain { IfErr result (λ error. error.nstatus ≡ None) }
     {
         let token = NegTokenTarg {

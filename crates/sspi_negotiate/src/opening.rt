@@ -5,11 +5,12 @@ ghost use Rattle.sspi_mech.specs.Calls.{step_args};
 ghost use Rattle.sspi_mech.specs.Context.{IsUnused};
 ghost use Rattle.sspi_negotiate.specs.Client.{at_initial, first_step, begun, offers, falls, falls_back};
 ghost use Rattle.sspi_negotiate.specs.Client.{steps_again, handle_for, passwords, resumes_opening};
-ghost use Rattle.sspi_negotiate.specs.Does.{Does, Stays, StaysUnused, UnlessMemory, told};
+ghost use Rattle.sspi_negotiate.specs.Does.{Does, Stays, StaysUnmarked, StaysUnused, UnlessMemory, told};
 ghost use Rattle.sspi_negotiate.specs.Hand.{hand, hand_of, is_kerberos_hand};
 ghost use Rattle.sspi_negotiate.specs.Fallback.{is_fallback};
 ghost use Rattle.sspi_negotiate.specs.declared.branch.Branch.TheVariants as branches;
 ghost use Rattle.sspi_negotiate.specs.Values.{values_of};
+ghost use Rattle.sspi_negotiate.specs.Verified.{HasNoMic};
 
 use crate::branch::{Branch, Opening};
 use crate::fallback::is_fallback;
@@ -44,6 +45,8 @@ pub(crate) fn step_with<N: Mechanism, K: Mechanism>(
         (record (step_args args.now) { handle = handle_for (hand_of protocol.old) kept.now (option_copied args.now.credentials_handle) })
         result protocol.new }
     ensures unused { IsUnused ((hand N.meaning K.meaning).counts protocol.old) → IsUnused ((hand N.meaning K.meaning).counts protocol.new) }
+    ensures unmarked { HasNoMic ((hand N.meaning K.meaning).counts protocol.old)
+        → HasNoMic ((hand N.meaning K.meaning).counts protocol.new) }
     ensures named { hand_of protocol.new ≡ hand_of protocol.old }
     ensures plain { IfRefused result (λ error. error.nstatus ≡ None) }
 {
@@ -71,6 +74,8 @@ fn step_again<N: Mechanism, K: Mechanism>(
       input = first.now.input;
     }) result protocol.new }
     ensures unused { IsUnused ((hand N.meaning K.meaning).counts protocol.old) → IsUnused ((hand N.meaning K.meaning).counts protocol.new) }
+    ensures unmarked { HasNoMic ((hand N.meaning K.meaning).counts protocol.old)
+        → HasNoMic ((hand N.meaning K.meaning).counts protocol.new) }
     ensures named { hand_of protocol.new ≡ hand_of protocol.old }
     ensures plain { IfRefused result (λ error. error.nstatus ≡ None) }
 {
@@ -97,6 +102,7 @@ impl<N: Mechanism, K: Mechanism> Negotiate<N, K> {
             self.old (answer_of result) self.new }
         ensures stays { OnErr result (Stays (values_of self.old) (values_of self.new)) }
         ensures unused { StaysUnused N.meaning K.meaning self.old self.new }
+        ensures unmarked { StaysUnmarked N.meaning K.meaning self.old self.new }
         ensures plain { IfErr result (λ error. error.nstatus ≡ None) }
     {
         let first = Opening::of(self.alloc, args)?;
@@ -114,6 +120,7 @@ impl<N: Mechanism, K: Mechanism> Negotiate<N, K> {
             self.old (answer_of result) self.new }
         ensures stays { OnErr result (Stays (values_of self.old) (values_of self.new)) }
         ensures unused { StaysUnused N.meaning K.meaning self.old self.new }
+        ensures unmarked { StaysUnmarked N.meaning K.meaning self.old self.new }
         ensures plain { IfErr result (λ error. error.nstatus ≡ None) }
     {
         match step_with(&mut self.protocol, &self.auth_identity, args) {
@@ -130,6 +137,7 @@ impl<N: Mechanism, K: Mechanism> Negotiate<N, K> {
         ensures step { Does N.meaning K.meaning (begun (values_of self.old) step) self.old (told result) self.new }
         ensures stays { OnErr result (Stays (values_of self.old) (values_of self.new)) }
         ensures unused { StaysUnused N.meaning K.meaning self.old self.new }
+        ensures unmarked { StaysUnmarked N.meaning K.meaning self.old self.new }
         ensures plain { IfErr result (λ error. error.nstatus ≡ None) }
     {
         if has_begun(step.status) {
@@ -144,6 +152,7 @@ impl<N: Mechanism, K: Mechanism> Negotiate<N, K> {
         ensures step { Does N.meaning K.meaning (offers (values_of self.old) token) self.old (told result) self.new }
         ensures stays { OnErr result (Stays (values_of self.old) (values_of self.new)) }
         ensures unused { StaysUnused N.meaning K.meaning self.old self.new }
+        ensures unmarked { StaysUnmarked N.meaning K.meaning self.old self.new }
         ensures plain { IfErr result (λ error. error.nstatus ≡ None) }
     {
         let list = offered(self.alloc, self.protocol.protocol(), self.packages)?;
@@ -177,11 +186,12 @@ impl<N: Mechanism, K: Mechanism> Negotiate<N, K> {
             self.old (answer_of result) self.new }
         ensures stays { OnErr result (Stays (values_of self.old) (values_of self.new)) }
         ensures unused { StaysUnused N.meaning K.meaning self.old self.new }
+        ensures unmarked { StaysUnmarked N.meaning K.meaning self.old self.new }
         ensures other { UnlessMemory (answer_of result) (error.error_type ≢ ErrorKind.InsufficientMemory) }
         ensures plain { error.nstatus ≡ None → IfErr result (λ answer. answer.nstatus ≡ None) }
     {
         if self.falls_back(&error) {
-            self.fall_back(first)
+            self.fall_back(first, false)
         } else {
             Err(error)
         }
@@ -194,26 +204,34 @@ impl<N: Mechanism, K: Mechanism> Negotiate<N, K> {
             self.old (answer_of result) self.new }
         ensures stays { OnErr result (Stays (values_of self.old) (values_of self.new)) }
         ensures unused { StaysUnused N.meaning K.meaning self.old self.new }
+        ensures unmarked { StaysUnmarked N.meaning K.meaning self.old self.new }
         ensures other { UnlessMemory (answer_of result) (error.error_type ≢ ErrorKind.InsufficientMemory) }
         ensures plain { error.nstatus ≡ None → IfErr result (λ answer. answer.nstatus ≡ None) }
     {
         if self.falls_back(&error) {
-            self.fall_back(first)
+            self.fall_back(first, true)
         } else {
             self.branch = Branch::Opening(first);
             Err(error)
         }
     }
 
+    /// NTLM makes the step. Where there is no memory for it, a step that waited for a KDC waits still.
     #[tactic(auto, unfolding(crate::specs::Client::falls_back))]
-    fn fall_back(&mut self, first: Opening) -> Result<Progressing, Error>
+    fn fall_back(&mut self, first: Opening, waited: bool) -> Result<Progressing, Error>
         ensures step { Does N.meaning K.meaning (falls_back (values_of self.old) first) self.old (answer_of result) self.new }
         ensures stays { OnErr result (Stays (values_of self.old) (values_of self.new)) }
         ensures unused { StaysUnused N.meaning K.meaning self.old self.new }
+        ensures unmarked { StaysUnmarked N.meaning K.meaning self.old self.new }
         ensures plain { IfErr result (λ error. error.nstatus ≡ None) }
     {
         match NegotiatedProtocol::new_ntlm(self.alloc, &self.client_computer_name) {
-            Err(error) => Err(error),
+            Err(error) => {
+                if waited {
+                    self.branch = Branch::Opening(first);
+                }
+                Err(error)
+            }
             Ok(protocol) => {
                 self.protocol = protocol;
                 self.packages.kerberos = false;
@@ -227,6 +245,7 @@ impl<N: Mechanism, K: Mechanism> Negotiate<N, K> {
         ensures step { Does N.meaning K.meaning (steps_again (values_of self.old) first) self.old (answer_of result) self.new }
         ensures stays { OnErr result (Stays (values_of self.old) (values_of self.new)) }
         ensures unused { StaysUnused N.meaning K.meaning self.old self.new }
+        ensures unmarked { StaysUnmarked N.meaning K.meaning self.old self.new }
         ensures plain { IfErr result (λ error. error.nstatus ≡ None) }
     {
         let representation = self.data_representation;
@@ -255,6 +274,7 @@ impl<N: Mechanism, K: Mechanism> Negotiate<N, K> {
             self.old (answer_of result) self.new }
         ensures stays { OnErr result (Stays (values_of self.old) (values_of self.new)) }
         ensures unused { StaysUnused N.meaning K.meaning self.old self.new }
+        ensures unmarked { StaysUnmarked N.meaning K.meaning self.old self.new }
         ensures plain { IfErr result (λ error. error.nstatus ≡ None) }
     {
         match self.protocol.resume(reply) {

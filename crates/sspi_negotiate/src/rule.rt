@@ -1,7 +1,7 @@
 ghost use Rattle.std.specs.Prelude.{◌≡◌, ◌≢◌, None, IfErr, OnOk, option_copied};
 ghost use Rattle.sspi_types.specs.declared.error_kind.ErrorKind.TheVariants as kinds;
 ghost use Rattle.sspi_names.specs.Name.{domain_of};
-ghost use Rattle.sspi_negotiate.specs.Does.{StaysUnused};
+ghost use Rattle.sspi_negotiate.specs.Does.{StaysUnmarked, StaysUnused};
 ghost use Rattle.sspi_negotiate.specs.Rule.{url_for, rule_url, ruled_values, TakenBy};
 ghost use Rattle.sspi_negotiate.specs.Hand.{hand};
 ghost use Rattle.sspi_negotiate.specs.Values.{values_of};
@@ -40,6 +40,7 @@ impl<N: Mechanism, K: Mechanism> Negotiate<N, K> {
         ensures named { OnOk result (values_of self.new ≡ ruled_values (rule_url (values_of self.old) name.now) (values_of self.old)) }
         ensures rest { self.new ≡ record self.old { mech = self.new.mech } }
         ensures unused { StaysUnused N.meaning K.meaning self.old self.new }
+        ensures unmarked { StaysUnmarked N.meaning K.meaning self.old self.new }
         ensures plain { IfErr result (λ error. error.nstatus ≡ None) }
         ensures err { IfErr result (λ error. error.error_type ≡ kinds.InsufficientMemory) }
     {

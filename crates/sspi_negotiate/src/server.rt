@@ -1,9 +1,9 @@
 // The steps of a server, and its first one: the offer is read and a mechanism is picked, in the order of `specs/Server.antt`.
-ghost use Rattle.std.specs.Prelude.{◌≡◌, [], None, Some, IfOk, IfErr, OnErr, if◌then◌else◌};
+ghost use Rattle.std.specs.Prelude.{◌≡◌, ◌≢◌, [], None, Some, IfOk, IfErr, OnErr, if◌then◌else◌};
 ghost use Rattle.sspi_mech.specs.Calls.{accept_args};
 ghost use Rattle.sspi_mech.specs.Context.{IsUnused};
 ghost use Rattle.sspi_tokens.specs.Reading.{init_of};
-ghost use Rattle.sspi_negotiate.specs.Does.{Does, Stays, StaysUnused, told};
+ghost use Rattle.sspi_negotiate.specs.Does.{Does, Stays, StaysPicked, StaysUnmarked, StaysUnused, told};
 ghost use Rattle.sspi_negotiate.specs.declared.protocol.Protocol.TheVariants as protocols;
 ghost use Rattle.sspi_negotiate.specs.Hand.{hand, hand_of};
 ghost use Rattle.sspi_negotiate.specs.Negotiate.{negotiate};
@@ -13,6 +13,9 @@ ghost use Rattle.sspi_negotiate.specs.Rows.{targ, or_empty, in_ntlm};
 ghost use Rattle.sspi_negotiate.specs.Server.{drops, goes_on_with, waits_for_token, goes_on, awaits_mic, ends_at_once, opens, needs_mic};
 ghost use Rattle.sspi_negotiate.specs.Server.{first_token, placed, takes_pick, picks, reads_list, at_initial, spnego_server};
 ghost use Rattle.sspi_negotiate.specs.Values.{values_of};
+ghost use Rattle.sspi_negotiate.specs.declared.state.NegotiateState.TheVariants as states;
+ghost use Rattle.sspi_negotiate.specs.declared.state.Role.TheVariants as roles;
+ghost use Rattle.sspi_negotiate.specs.Verified.{HasNoMic};
 
 use crate::negotiate::Negotiate;
 use crate::pick::{Choice, Picked, pick};
@@ -34,6 +37,8 @@ pub(crate) fn accept_with<N: Mechanism, K: Mechanism>(
     ensures step { (hand N.meaning K.meaning).accepts protocol.old
         (record (accept_args args.now) { input = or_empty token.now }) result protocol.new }
     ensures unused { IsUnused ((hand N.meaning K.meaning).counts protocol.old) → IsUnused ((hand N.meaning K.meaning).counts protocol.new) }
+    ensures unmarked { HasNoMic ((hand N.meaning K.meaning).counts protocol.old)
+        → HasNoMic ((hand N.meaning K.meaning).counts protocol.new) }
     ensures named { hand_of protocol.new ≡ hand_of protocol.old }
     ensures plain { IfErr result (λ error. error.nstatus ≡ None) }
 {
@@ -88,6 +93,8 @@ impl<N: Mechanism, K: Mechanism> Negotiate<N, K> {
             self.old (told result) self.new }
         ensures stays { OnErr result (Stays (values_of self.old) (values_of self.new)) }
         ensures unused { StaysUnused N.meaning K.meaning self.old self.new }
+        ensures first { self.old.state ≡ states.Initial → StaysUnmarked N.meaning K.meaning self.old self.new }
+        ensures picked { self.old.state ≢ states.Initial → StaysPicked (values_of self.old) (values_of self.new) }
         ensures plain { IfErr result (λ error. error.nstatus ≡ None) }
     {
         match self.role {
@@ -102,10 +109,12 @@ impl<N: Mechanism, K: Mechanism> Negotiate<N, K> {
     }
 
     fn read_init(&mut self, args: &AcceptSecurityContext<'_>) -> Result<Step, Error>
+        requires server { self.now.role ≡ roles.Server }
         ensures step { Does N.meaning K.meaning (at_initial (init_of args.now.input.now) (values_of self.old) (accept_args args.now))
             self.old (told result) self.new }
         ensures stays { OnErr result (Stays (values_of self.old) (values_of self.new)) }
         ensures unused { StaysUnused N.meaning K.meaning self.old self.new }
+        ensures unmarked { StaysUnmarked N.meaning K.meaning self.old self.new }
         ensures plain { IfErr result (λ error. error.nstatus ≡ None) }
     {
         match NegTokenInit::decode(self.alloc, args.input) {
@@ -121,10 +130,12 @@ impl<N: Mechanism, K: Mechanism> Negotiate<N, K> {
         token: Option<Bytes>,
         args: &AcceptSecurityContext<'_>,
     ) -> Result<Step, Error>
+        requires server { self.now.role ≡ roles.Server }
         ensures step { Does N.meaning K.meaning (reads_list list token (values_of self.old) (accept_args args.now))
             self.old (told result) self.new }
         ensures stays { OnErr result (Stays (values_of self.old) (values_of self.new)) }
         ensures unused { StaysUnused N.meaning K.meaning self.old self.new }
+        ensures unmarked { StaysUnmarked N.meaning K.meaning self.old self.new }
         ensures plain { IfErr result (λ error. error.nstatus ≡ None) }
     {
         match list {
@@ -144,10 +155,12 @@ impl<N: Mechanism, K: Mechanism> Negotiate<N, K> {
         token: Option<Bytes>,
         args: &AcceptSecurityContext<'_>,
     ) -> Result<Step, Error>
+        requires server { self.now.role ≡ roles.Server }
         ensures step { Does N.meaning K.meaning (picks picked list token (values_of self.old) (accept_args args.now))
             self.old (told result) self.new }
         ensures stays { OnErr result (Stays (values_of self.old) (values_of self.new)) }
         ensures unused { StaysUnused N.meaning K.meaning self.old self.new }
+        ensures unmarked { StaysUnmarked N.meaning K.meaning self.old self.new }
         ensures plain { IfErr result (λ error. error.nstatus ≡ None) }
     {
         match picked {
@@ -169,6 +182,7 @@ impl<N: Mechanism, K: Mechanism> Negotiate<N, K> {
             self.old (told result) self.new }
         ensures stays { OnErr result (Stays (values_of self.old) (values_of self.new)) }
         ensures unused { StaysUnused N.meaning K.meaning self.old self.new }
+        ensures unmarked { StaysUnmarked N.meaning K.meaning self.old self.new }
         ensures plain { IfErr result (λ error. error.nstatus ≡ None) }
     {
         match picked.choice {
@@ -189,6 +203,7 @@ impl<N: Mechanism, K: Mechanism> Negotiate<N, K> {
             self.old (told result) self.new }
         ensures stays { OnErr result (Stays (values_of self.old) (values_of self.new)) }
         ensures unused { StaysUnused N.meaning K.meaning self.old self.new }
+        ensures unmarked { StaysUnmarked N.meaning K.meaning self.old self.new }
         ensures plain { IfErr result (λ error. error.nstatus ≡ None) }
     {
         match self.take_ntlm() {
@@ -208,6 +223,7 @@ impl<N: Mechanism, K: Mechanism> Negotiate<N, K> {
             self.old (told result) self.new }
         ensures stays { OnErr result (Stays (values_of self.old) (values_of self.new)) }
         ensures unused { StaysUnused N.meaning K.meaning self.old self.new }
+        ensures unmarked { StaysUnmarked N.meaning K.meaning self.old self.new }
         ensures plain { IfErr result (λ error. error.nstatus ≡ None) }
     {
         if picked.index == 0 {
@@ -229,6 +245,7 @@ impl<N: Mechanism, K: Mechanism> Negotiate<N, K> {
             self.old (told result) self.new }
         ensures stays { OnErr result (Stays (values_of self.old) (values_of self.new)) }
         ensures unused { StaysUnused N.meaning K.meaning self.old self.new }
+        ensures unmarked { StaysUnmarked N.meaning K.meaning self.old self.new }
         ensures plain { IfErr result (λ error. error.nstatus ≡ None) }
     {
         let incomplete = NegResult::AcceptIncomplete;
@@ -241,6 +258,7 @@ impl<N: Mechanism, K: Mechanism> Negotiate<N, K> {
         ensures step { Does N.meaning K.meaning (drops picked (values_of self.old)) self.old (told result) self.new }
         ensures stays { OnErr result (Stays (values_of self.old) (values_of self.new)) }
         ensures unused { StaysUnused N.meaning K.meaning self.old self.new }
+        ensures unmarked { StaysUnmarked N.meaning K.meaning self.old self.new }
         ensures plain { IfErr result (λ error. error.nstatus ≡ None) }
     {
         self.go_on_with(picked, None, true, NegotiateState::InProgress)
@@ -257,6 +275,7 @@ impl<N: Mechanism, K: Mechanism> Negotiate<N, K> {
             self.old (told result) self.new }
         ensures stays { OnErr result (Stays (values_of self.old) (values_of self.new)) }
         ensures unused { StaysUnused N.meaning K.meaning self.old self.new }
+        ensures unmarked { StaysUnmarked N.meaning K.meaning self.old self.new }
         ensures plain { IfErr result (λ error. error.nstatus ≡ None) }
     {
         match token {
@@ -283,6 +302,7 @@ impl<N: Mechanism, K: Mechanism> Negotiate<N, K> {
             (Pairs (λ pairs. waits_for_token picked v (needs_mic v (accept_args args.now) pairs))) self.old (told result) self.new }
         ensures stays { OnErr result (Stays (values_of self.old) (values_of self.new)) }
         ensures unused { StaysUnused N.meaning K.meaning self.old self.new }
+        ensures unmarked { StaysUnmarked N.meaning K.meaning self.old self.new }
         ensures plain { IfErr result (λ error. error.nstatus ≡ None) }
     {
         let need = self.needs_mic(args);
@@ -301,6 +321,7 @@ impl<N: Mechanism, K: Mechanism> Negotiate<N, K> {
             self.old (told result) self.new }
         ensures stays { OnErr result (Stays (values_of self.old) (values_of self.new)) }
         ensures unused { StaysUnused N.meaning K.meaning self.old self.new }
+        ensures unmarked { StaysUnmarked N.meaning K.meaning self.old self.new }
         ensures plain { IfErr result (λ error. error.nstatus ≡ None) }
     {
         match accept_with(&mut self.protocol, args, &token) {
@@ -319,6 +340,7 @@ impl<N: Mechanism, K: Mechanism> Negotiate<N, K> {
             (Pairs (λ pairs. opens picked v step (needs_mic v (accept_args args.now) pairs))) self.old (told result) self.new }
         ensures stays { OnErr result (Stays (values_of self.old) (values_of self.new)) }
         ensures unused { StaysUnused N.meaning K.meaning self.old self.new }
+        ensures unmarked { StaysUnmarked N.meaning K.meaning self.old self.new }
         ensures plain { IfErr result (λ error. error.nstatus ≡ None) }
     {
         let need = self.needs_mic(args);
@@ -329,6 +351,7 @@ impl<N: Mechanism, K: Mechanism> Negotiate<N, K> {
         ensures step { Does N.meaning K.meaning (opens picked (values_of self.old) step need) self.old (told result) self.new }
         ensures stays { OnErr result (Stays (values_of self.old) (values_of self.new)) }
         ensures unused { StaysUnused N.meaning K.meaning self.old self.new }
+        ensures unmarked { StaysUnmarked N.meaning K.meaning self.old self.new }
         ensures plain { IfErr result (λ error. error.nstatus ≡ None) }
     {
         if is_over(step.status) {
@@ -347,6 +370,7 @@ impl<N: Mechanism, K: Mechanism> Negotiate<N, K> {
         ensures step { Does N.meaning K.meaning (goes_on picked (values_of self.old) need step) self.old (told result) self.new }
         ensures stays { OnErr result (Stays (values_of self.old) (values_of self.new)) }
         ensures unused { StaysUnused N.meaning K.meaning self.old self.new }
+        ensures unmarked { StaysUnmarked N.meaning K.meaning self.old self.new }
         ensures plain { IfErr result (λ error. error.nstatus ≡ None) }
     {
         self.go_on_with(picked, Some(step.output), need, NegotiateState::InProgress)
@@ -357,6 +381,7 @@ impl<N: Mechanism, K: Mechanism> Negotiate<N, K> {
         ensures step { Does N.meaning K.meaning (awaits_mic picked (values_of self.old) step) self.old (told result) self.new }
         ensures stays { OnErr result (Stays (values_of self.old) (values_of self.new)) }
         ensures unused { StaysUnused N.meaning K.meaning self.old self.new }
+        ensures unmarked { StaysUnmarked N.meaning K.meaning self.old self.new }
         ensures plain { IfErr result (λ error. error.nstatus ≡ None) }
     {
         self.go_on_with(picked, Some(step.output), true, NegotiateState::VerifyMic)
@@ -367,6 +392,7 @@ impl<N: Mechanism, K: Mechanism> Negotiate<N, K> {
         ensures step { Does N.meaning K.meaning (ends_at_once picked (values_of self.old) step) self.old (told result) self.new }
         ensures stays { OnErr result (Stays (values_of self.old) (values_of self.new)) }
         ensures unused { StaysUnused N.meaning K.meaning self.old self.new }
+        ensures unmarked { StaysUnmarked N.meaning K.meaning self.old self.new }
         ensures plain { IfErr result (λ error. error.nstatus ≡ None) }
     {
         let output = Some(step.output);

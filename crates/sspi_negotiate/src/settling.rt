@@ -2,7 +2,7 @@
 ghost use Rattle.std.specs.Prelude.{◌≡◌, [], None, Some, IfErr, OnErr};
 ghost use Rattle.sspi_mech.specs.Calls.{accept_args};
 ghost use Rattle.sspi_tokens.specs.Reading.{targ_of};
-ghost use Rattle.sspi_negotiate.specs.Does.{Does, Stays, StaysUnused, told};
+ghost use Rattle.sspi_negotiate.specs.Does.{Does, Stays, StaysPicked, StaysUnused, told};
 ghost use Rattle.sspi_negotiate.specs.Plan.{Accepts, Names, Goes};
 ghost use Rattle.sspi_negotiate.specs.Rows.{or_empty, checks, completes_signed};
 ghost use Rattle.sspi_negotiate.specs.Server.{excuses, without_mic, settles, accepted, at_progress, last_mic, at_verify_mic};
@@ -25,6 +25,7 @@ impl<N: Mechanism, K: Mechanism> Negotiate<N, K> {
             self.old (told result) self.new }
         ensures stays { OnErr result (Stays (values_of self.old) (values_of self.new)) }
         ensures unused { StaysUnused N.meaning K.meaning self.old self.new }
+        ensures picked { StaysPicked (values_of self.old) (values_of self.new) }
         ensures plain { IfErr result (λ error. error.nstatus ≡ None) }
     {
         match NegTokenTarg::decode(self.alloc, args.input) {
@@ -44,6 +45,7 @@ impl<N: Mechanism, K: Mechanism> Negotiate<N, K> {
             self.old (told result) self.new }
         ensures stays { OnErr result (Stays (values_of self.old) (values_of self.new)) }
         ensures unused { StaysUnused N.meaning K.meaning self.old self.new }
+        ensures picked { StaysPicked (values_of self.old) (values_of self.new) }
         ensures plain { IfErr result (λ error. error.nstatus ≡ None) }
     {
         match accept_with(&mut self.protocol, args, &token.response_token) {
@@ -56,6 +58,7 @@ impl<N: Mechanism, K: Mechanism> Negotiate<N, K> {
         ensures step { Does N.meaning K.meaning (accepted token (values_of self.old) step) self.old (told result) self.new }
         ensures stays { OnErr result (Stays (values_of self.old) (values_of self.new)) }
         ensures unused { StaysUnused N.meaning K.meaning self.old self.new }
+        ensures picked { StaysPicked (values_of self.old) (values_of self.new) }
         ensures plain { IfErr result (λ error. error.nstatus ≡ None) }
     {
         if is_over(step.status) {
@@ -76,6 +79,7 @@ impl<N: Mechanism, K: Mechanism> Negotiate<N, K> {
         ensures step { Does N.meaning K.meaning (settles need mic complete (values_of self.old) token) self.old (told result) self.new }
         ensures stays { OnErr result (Stays (values_of self.old) (values_of self.new)) }
         ensures unused { StaysUnused N.meaning K.meaning self.old self.new }
+        ensures picked { StaysPicked (values_of self.old) (values_of self.new) }
         ensures plain { IfErr result (λ error. error.nstatus ≡ None) }
     {
         if need {
@@ -93,6 +97,7 @@ impl<N: Mechanism, K: Mechanism> Negotiate<N, K> {
             self.old (told result) self.new }
         ensures stays { OnErr result (Stays (values_of self.old) (values_of self.new)) }
         ensures unused { StaysUnused N.meaning K.meaning self.old self.new }
+        ensures picked { StaysPicked (values_of self.old) (values_of self.new) }
         ensures plain { IfErr result (λ error. error.nstatus ≡ None) }
     {
         match self.check(mic) {
@@ -106,6 +111,7 @@ impl<N: Mechanism, K: Mechanism> Negotiate<N, K> {
         ensures step { Does N.meaning K.meaning (without_mic complete (values_of self.old) token) self.old (told result) self.new }
         ensures stays { OnErr result (Stays (values_of self.old) (values_of self.new)) }
         ensures unused { StaysUnused N.meaning K.meaning self.old self.new }
+        ensures picked { StaysPicked (values_of self.old) (values_of self.new) }
         ensures plain { IfErr result (λ error. error.nstatus ≡ None) }
     {
         if complete {
@@ -120,6 +126,7 @@ impl<N: Mechanism, K: Mechanism> Negotiate<N, K> {
             self.old (told result) self.new }
         ensures stays { OnErr result (Stays (values_of self.old) (values_of self.new)) }
         ensures unused { StaysUnused N.meaning K.meaning self.old self.new }
+        ensures picked { StaysPicked (values_of self.old) (values_of self.new) }
         ensures plain { IfErr result (λ error. error.nstatus ≡ None) }
     {
         match self.protocol.names() {
@@ -132,6 +139,7 @@ impl<N: Mechanism, K: Mechanism> Negotiate<N, K> {
         ensures step { Does N.meaning K.meaning (excuses (values_of self.old) token name.now) self.old (told result) self.new }
         ensures stays { OnErr result (Stays (values_of self.old) (values_of self.new)) }
         ensures unused { StaysUnused N.meaning K.meaning self.old self.new }
+        ensures picked { StaysPicked (values_of self.old) (values_of self.new) }
         ensures plain { IfErr result (λ error. error.nstatus ≡ None) }
     {
         if is_guest_text(name.inner()) {
@@ -147,6 +155,7 @@ impl<N: Mechanism, K: Mechanism> Negotiate<N, K> {
             self.old (told result) self.new }
         ensures stays { OnErr result (Stays (values_of self.old) (values_of self.new)) }
         ensures unused { StaysUnused N.meaning K.meaning self.old self.new }
+        ensures picked { StaysPicked (values_of self.old) (values_of self.new) }
         ensures plain { IfErr result (λ error. error.nstatus ≡ None) }
     {
         match NegTokenTarg::decode(self.alloc, args.input) {
@@ -159,6 +168,7 @@ impl<N: Mechanism, K: Mechanism> Negotiate<N, K> {
         ensures step { Does N.meaning K.meaning (last_mic mic (values_of self.old)) self.old (told result) self.new }
         ensures stays { OnErr result (Stays (values_of self.old) (values_of self.new)) }
         ensures unused { StaysUnused N.meaning K.meaning self.old self.new }
+        ensures picked { StaysPicked (values_of self.old) (values_of self.new) }
         ensures plain { IfErr result (λ error. error.nstatus ≡ None) }
     {
         match mic {
@@ -174,6 +184,7 @@ impl<N: Mechanism, K: Mechanism> Negotiate<N, K> {
             self.old (told result) self.new }
         ensures stays { OnErr result (Stays (values_of self.old) (values_of self.new)) }
         ensures unused { StaysUnused N.meaning K.meaning self.old self.new }
+        ensures picked { StaysPicked (values_of self.old) (values_of self.new) }
         ensures plain { IfErr result (λ error. error.nstatus ≡ None) }
     {
         match self.check(mic) {

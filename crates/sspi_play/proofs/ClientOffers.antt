@@ -4,7 +4,6 @@ use Rattle.std.proofs.Common.{refl, sym, ◌∙◌, ap, subst, arith}
 use Rattle.std.proofs.lemmas.Bool.{false≢true}
 use Rattle.sspi_types.specs.declared.credential_use.CredentialUse.TheVariants.{Outbound}
 use Rattle.sspi_types.specs.declared.error_kind.ErrorKind.{ErrorKind}
-use Rattle.sspi_types.specs.declared.error_kind.ErrorKind.TheVariants.{InsufficientMemory}
 use Rattle.sspi_types.specs.declared.security_status.SecurityStatus.{SecurityStatus}
 use Rattle.sspi_names.specs.declared.credentials.Credentials.{Credentials}
 use Rattle.sspi_names.specs.declared.credentials.CredentialsBuffers.{CredentialsBuffers}
@@ -12,6 +11,7 @@ use Rattle.sspi_names.specs.declared.kdc_table.KdcEntry.{KdcEntry}
 use Rattle.sspi_mech.specs.declared.step.Answer.{Answer}
 use Rattle.sspi_mech.specs.declared.step.Answer.TheVariants.{Done, Ask, Refused}
 use Rattle.sspi_mech.specs.declared.step.Reply.{Reply}
+use Rattle.sspi_mech.specs.Answers.{OnRefused}
 use Rattle.sspi_mech.specs.Calls.{StepArgs, no_counts}
 use Rattle.sspi_mech.specs.Laws.{IsMechanism}
 use Rattle.sspi_mech.specs.Meaning.{Meaning}
@@ -25,6 +25,7 @@ use Rattle.sspi_negotiate.specs.Client.{spnego_client, spnego_resumed}
 use Rattle.sspi_negotiate.specs.Does.{UnlessMemory}
 use Rattle.sspi_negotiate.specs.Follows.{Follows}
 use Rattle.sspi_negotiate.specs.Hand.{Origin, InPlaceOfNtlm, hand}
+use Rattle.sspi_negotiate.specs.Keeps.{is_answering}
 use Rattle.sspi_negotiate.specs.Negotiate.{negotiate}
 use Rattle.sspi_negotiate.specs.New.{first_in_hand, IsFirst, fresh}
 use Rattle.sspi_negotiate.specs.Plan.{Plan}
@@ -47,10 +48,10 @@ use Rattle.sspi_delegate.specs.Chain.{ClientStage, client_at, ClientMovedBy, Cli
 use Rattle.sspi_delegate.specs.EndTurns.{OthersGoOn}
 use Rattle.sspi_delegate.specs.Turns.{GoesOn, AllGoOn}
 use Rattle.sspi_play.specs.Negotiated.{IsOffer, HasOffered}
-use Rattle.sspi_play.specs.Plays.{refusal_in, last_refusal}
 use Rattle.sspi_play.proofs.Contexts.{HoldsOf, holds_map, IsOfMics, holds_recounted, holds_same_but, holds_stepped, holds_resumed}
-use Rattle.sspi_play.proofs.Marks.{is_marked, hand_keeps, QuietEnds, quiet_all, quiet_marks}
-use Rattle.sspi_play.proofs.Offering.{is_answering, Still, OffersAt, client_quiet, resumed_quiet, HasThatList, client_later, resumed_later}
+use Rattle.sspi_play.proofs.Marks.{is_marked, marks_before, hand_keeps, QuietEnds, quiet_all, quiet_marks}
+use Rattle.sspi_play.proofs.Offering.{Still, OffersAt, client_quiet, resumed_quiet, HasThatList, client_later, resumed_later}
+use Rattle.sspi_play.proofs.Offering.{HasThatRole, client_role, resumed_role}
 
 offered_more : (t : Turn) (turns : List Turn) (list : List (List ℕ)) → HasOffered turns list → HasOffered (t ∷ turns) list
 offered_more t turns list was = record {
@@ -71,78 +72,107 @@ offered_by t turns list (inr offer) = record { at = record { later = []; turn = 
 module _ {N K : Type 0} (n : Meaning Setting N) (k : Meaning Setting K) where
   -- once a negotiation is past its first step, or has made or taken a MIC, its list is one of those
   pub record OffersBy (Has : List (List ℕ) → Type 0) (s : Negotiation (NegotiatedProtocol N K)) : Type 0 where
+    pub role : s.role ≡ roles.Client
     pub begun : s.state ≢ states.Initial → Has s.list
     pub answering : is_answering s.branch ≡ true → Has s.list
     pub marked : is_marked ((hand n k).counts s.mech) ≡ true → Has s.list
 
+  -- what holds of it also once a turn was refused
+  pub record ShowsOffer (Has : List (List ℕ) → Type 0) (s : Negotiation (NegotiatedProtocol N K)) : Type 0 where
+    pub marked : is_marked ((hand n k).counts s.mech) ≡ true → Has s.list
+
   offers_of_mics : (Has : List (List ℕ) → Type 0) → IsOfMics n k (OffersBy Has)
   offers_of_mics Has = λ s mech named marks h.
-      record { begun = h.begun; answering = h.answering; marked = λ marked. h.marked (sym marks ∙ marked) }
+      record { role = h.role; begun = h.begun; answering = h.answering; marked = λ marked. h.marked (sym marks ∙ marked) }
+
+  shows_of_mics : (Has : List (List ℕ) → Type 0) → IsOfMics n k (ShowsOffer Has)
+  shows_of_mics Has = λ s mech named marks h. record { marked = λ marked. h.marked (sym marks ∙ marked) }
 
   offers_map : (Has Had : List (List ℕ) → Type 0) → ((list : List (List ℕ)) → Had list → Has list) →
       (s : Negotiation (NegotiatedProtocol N K)) → OffersBy Had s → OffersBy Has s
   offers_map Has Had map s h = record {
+    role = h.role;
     begun = λ late. map s.list (h.begun late);
     answering = λ at. map s.list (h.answering at);
     marked = λ marked. map s.list (h.marked marked);
   }
 
+  shows_map : (Has Had : List (List ℕ) → Type 0) → ((list : List (List ℕ)) → Had list → Has list) →
+      (s : Negotiation (NegotiatedProtocol N K)) → ShowsOffer Had s → ShowsOffer Has s
+  shows_map Has Had map s h = record { marked = λ marked. map s.list (h.marked marked) }
+
   -- its list was offered in one of these turns
   abbrev pub Offers : List Turn → Option (SspiContext N K) → Type 0
   Offers turns context = HoldsOf n k (OffersBy (λ (list : List (List ℕ)). HasOffered turns list)) context
+
+  abbrev pub ShowsOffered : List Turn → Option (SspiContext N K) → Type 0
+  ShowsOffered turns context = HoldsOf n k (ShowsOffer (λ (list : List (List ℕ)). HasOffered turns list)) context
+
+  offers_show : (turns : List Turn) (context : Option (SspiContext N K)) → Offers turns context → ShowsOffered turns context
+  offers_show turns context h = holds_map n k _ _ (λ s offers. record { marked = offers.marked }) context h
 
   -- what a step leaves, by its answer
   abbrev Next : Answer → (List (List ℕ) → Type 0) → Negotiation (NegotiatedProtocol N K) → Type 0
   Next (Done step) Has s = OffersBy (λ (list : List (List ℕ)). Has list ⊎ IsOffer step.output list) s
   Next (Ask request) Has s = OffersBy Has s
-  Next (Refused error) Has s = error.error_type ≢ InsufficientMemory → OffersBy Has s
+  Next (Refused error) Has s = ShowsOffer Has s
 
   next_of_mics : (x : Answer) (Has : List (List ℕ) → Type 0) → IsOfMics n k (Next x Has)
   next_of_mics (Done step) Has = offers_of_mics (λ (list : List (List ℕ)). Has list ⊎ IsOffer step.output list)
   next_of_mics (Ask request) Has = offers_of_mics Has
-  next_of_mics (Refused error) Has = λ s mech named marks h other. offers_of_mics Has s mech named marks (h other)
+  next_of_mics (Refused error) Has = shows_of_mics Has
 
 module _ {N K : Type 0} (r q : ℕ) (n : Meaning Setting N) (k : Meaning Setting K) (ln : IsMechanism r n) (lk : IsMechanism q k) where
   module _ (Has : List (List ℕ) → Type 0) (s s2 : Negotiation (NegotiatedProtocol N K)) where
     -- a step that left the list alone
-    same_list : s2.list ≡ s.list → Has s.list → OffersBy n k Has s2
-    same_list same has = let there : Has s2.list = subst Has (sym same) has in
-        record { begun = λ late. there; answering = λ at. there; marked = λ marked. there }
+    same_list : s2.role ≡ roles.Client → s2.list ≡ s.list → Has s.list → OffersBy n k Has s2
+    same_list role same has = let there : Has s2.list = subst Has (sym same) has in
+        record { role = role; begun = λ late. there; answering = λ at. there; marked = λ marked. there }
 
-    later_next : (x : Answer) (p : Plan) → AllEnds (HasThatList s.list) p →
-        UnlessMemory x (Follows (hand n k) p s.mech x (values_of s2) s2.mech) → Has s.list → Next n k x Has s2
-    later_next (Done step) p all f has = offers_map n k (λ (list : List (List ℕ)). Has list ⊎ IsOffer step.output list) Has
-        (λ list h. inl h) s2
-        (same_list (ends (HasThatList s.list) (hand n k) p s.mech s2.mech (Done step) (values_of s2) all f) has)
-    later_next (Ask request) p all f has =
-        same_list (ends (HasThatList s.list) (hand n k) p s.mech s2.mech (Ask request) (values_of s2) all f) has
-    later_next (Refused error) p all f has = λ other.
-        same_list (ends (HasThatList s.list) (hand n k) p s.mech s2.mech (Refused error) (values_of s2) all (f other)) has
+    later_next : (x : Answer) (p : Plan) → AllEnds (HasThatList s.list) p → AllEnds (HasThatRole s.role) p → s.role ≡ roles.Client →
+        UnlessMemory x (Follows (hand n k) p s.mech x (values_of s2) s2.mech) → OnRefused x (ShowsOffer n k Has s2) → Has s.list →
+        Next n k x Has s2
+    later_next (Done step) p all same client f shown has =
+        offers_map n k (λ (list : List (List ℕ)). Has list ⊎ IsOffer step.output list) Has (λ list h. inl h) s2
+        (same_list (ends (HasThatRole s.role) (hand n k) p s.mech s2.mech (Done step) (values_of s2) same f ∙ client)
+        (ends (HasThatList s.list) (hand n k) p s.mech s2.mech (Done step) (values_of s2) all f) has)
+    later_next (Ask request) p all same client f shown has =
+        same_list (ends (HasThatRole s.role) (hand n k) p s.mech s2.mech (Ask request) (values_of s2) same f ∙ client)
+        (ends (HasThatList s.list) (hand n k) p s.mech s2.mech (Ask request) (values_of s2) all f) has
+    later_next (Refused error) p all same client f shown has = shown
 
-    still_next : Still (values_of s) (values_of s2) →
+    still_next : s2.role ≡ roles.Client → Still (values_of s) (values_of s2) →
         (is_marked ((hand n k).counts s2.mech) ≡ true → is_marked ((hand n k).counts s.mech) ≡ true) → OffersBy n k Has s →
         OffersBy n k Has s2
-    still_next still marks h = record {
+    still_next role still marks h = record {
+      role = role;
       begun = λ late. subst Has (sym still.list) (h.begun (λ at. late (still.state ∙ at)));
       answering = λ at. subst Has (sym still.list) (h.answering (still.answering at));
       marked = λ marked. subst Has (sym still.list) (h.marked (marks marked));
     }
 
-    quiet_next : (x : Answer) (p : Plan) → QuietEnds (OffersAt (values_of s)) p →
-        UnlessMemory x (Follows (hand n k) p s.mech x (values_of s2) s2.mech) → OffersBy n k Has s → Next n k x Has s2
-    quiet_next (Done step) p quiet f h =
+    quiet_next : (x : Answer) (p : Plan) → QuietEnds (OffersAt (values_of s)) p → AllEnds (HasThatRole s.role) p →
+        UnlessMemory x (Follows (hand n k) p s.mech x (values_of s2) s2.mech) → OnRefused x (ShowsOffer n k Has s2) →
+        OffersBy n k Has s → Next n k x Has s2
+    quiet_next (Done step) p quiet same f shown h =
         let offer = ends (OffersAt (values_of s)) (hand n k) p s.mech s2.mech (Done step) (values_of s2)
         (quiet_all (OffersAt (values_of s)) p quiet) f in
-        record { begun = λ late. inr offer; answering = λ at. inr offer; marked = λ marked. inr offer }
-    quiet_next (Ask request) p quiet f h = still_next
+        record {
+          role = ends (HasThatRole s.role) (hand n k) p s.mech s2.mech (Done step) (values_of s2) same f ∙ h.role;
+          begun = λ late. inr offer;
+          answering = λ at. inr offer;
+          marked = λ marked. inr offer;
+        }
+    quiet_next (Ask request) p quiet same f shown h = still_next
+        (ends (HasThatRole s.role) (hand n k) p s.mech s2.mech (Ask request) (values_of s2) same f ∙ h.role)
         (ends (OffersAt (values_of s)) (hand n k) p s.mech s2.mech (Ask request) (values_of s2)
         (quiet_all (OffersAt (values_of s)) p quiet) f)
         (quiet_marks (hand n k) (hand_keeps r q n k ln lk) (OffersAt (values_of s)) p s.mech s2.mech (Ask request) (values_of s2) quiet f) h
-    quiet_next (Refused error) p quiet f h = λ other. still_next
-        (ends (OffersAt (values_of s)) (hand n k) p s.mech s2.mech (Refused error) (values_of s2)
-        (quiet_all (OffersAt (values_of s)) p quiet) (f other))
-        (quiet_marks (hand n k) (hand_keeps r q n k ln lk) (OffersAt (values_of s)) p s.mech s2.mech (Refused error) (values_of s2) quiet
-        (f other)) h
+    quiet_next (Refused error) p quiet same f shown h = shown
+
+    -- a refusal left the list alone, also one for want of memory
+    refusal_shows : s2.list ≡ s.list → (is_marked ((hand n k).counts s2.mech) ≡ true → Has s.list) → ShowsOffer n k Has s2
+    refusal_shows same has = record { marked = λ marked. subst Has (sym same) (has marked) }
 
     by_state : (Goal : Type 0) (state : NegotiateState) → (state ≡ states.Initial → Goal) → (state ≢ states.Initial → Goal) → Goal
     by_state Goal states.Initial first later = first refl
@@ -154,18 +184,35 @@ module _ {N K : Type 0} (r q : ℕ) (n : Meaning Setting N) (k : Meaning Setting
     by_branch Goal true answers other = answers refl
     by_branch Goal false answers other = other refl
 
+    steps_shown : (args : StepArgs) (x : Answer) → (negotiate r n k).steps s args x s2 → OffersBy n k Has s →
+        OnRefused x (ShowsOffer n k Has s2)
+    steps_shown args (Done step) moves h = tt
+    steps_shown args (Ask request) moves h = tt
+    steps_shown args (Refused error) moves h = refusal_shows (moves.moves.stays.list h.role)
+        (λ marked. by_state (Has s.list) s.state
+        (λ at. h.marked (marks_before ((hand n k).counts s.mech) ((hand n k).counts s2.mech) (moves.moves.unmarked at) marked)) h.begun)
+
     steps_next : (args : StepArgs) (x : Answer) → (negotiate r n k).steps s args x s2 → OffersBy n k Has s → Next n k x Has s2
     steps_next args x moves h = by_state (Next n k x Has s2) s.state
         (λ at. quiet_next x (spnego_client moves.ip (values_of s) args) (client_quiet moves.ip (values_of s) args at)
-        moves.moves.follows.as_planned h)
+        (client_role moves.ip (values_of s) args) moves.moves.follows.as_planned (steps_shown args x moves h) h)
         (λ late. later_next x (spnego_client moves.ip (values_of s) args) (client_later moves.ip (values_of s) args late)
-        moves.moves.follows.as_planned (h.begun late))
+        (client_role moves.ip (values_of s) args) h.role moves.moves.follows.as_planned (steps_shown args x moves h) (h.begun late))
+
+    resumes_shown : (reply : Reply) (x : Answer) → (negotiate r n k).resumes s reply x s2 → OffersBy n k Has s →
+        OnRefused x (ShowsOffer n k Has s2)
+    resumes_shown reply (Done step) moves h = tt
+    resumes_shown reply (Ask request) moves h = tt
+    resumes_shown reply (Refused error) moves h = refusal_shows (moves.stays.list h.role)
+        (λ marked. by_branch (Has s.list) (is_answering s.branch) h.answering
+        (λ other. h.marked (marks_before ((hand n k).counts s.mech) ((hand n k).counts s2.mech) (moves.unmarked other) marked)))
 
     resumes_next : (reply : Reply) (x : Answer) → (negotiate r n k).resumes s reply x s2 → OffersBy n k Has s → Next n k x Has s2
     resumes_next reply x moves h = by_branch (Next n k x Has s2) (is_answering s.branch)
-        (λ at. later_next x (spnego_resumed (values_of s) reply) (resumed_later (values_of s) reply at) moves.follows.as_planned
-        (h.answering at))
-        (λ other. quiet_next x (spnego_resumed (values_of s) reply) (resumed_quiet (values_of s) reply other) moves.follows.as_planned h)
+        (λ at. later_next x (spnego_resumed (values_of s) reply) (resumed_later (values_of s) reply at)
+        (resumed_role (values_of s) reply) h.role moves.follows.as_planned (resumes_shown reply x moves h) (h.answering at))
+        (λ other. quiet_next x (spnego_resumed (values_of s) reply) (resumed_quiet (values_of s) reply other)
+        (resumed_role (values_of s) reply) moves.follows.as_planned (resumes_shown reply x moves h) h)
 
   -- ---- a context that was just made
 
@@ -194,6 +241,8 @@ module _ {N K : Type 0} (r q : ℕ) (n : Meaning Setting N) (k : Meaning Setting
       (hand_keeps r q n k ln lk).acquired got.mech s2.mech Outbound asked buffers got.acquired
       ∙ taken_counts _ s.kdcs s.computer s.mech got.mech (first_counts _ s.mech made) got.taken in
       record {
+        role = ap (λ (x : Negotiation (NegotiatedProtocol N K)). x.role) got.kept
+            ∙ ap (λ (x : Negotiation (NegotiatedProtocol N K)). x.role) same;
         begun = λ late. absurd (late state);
         answering = λ at. absurd (false≢true (sym branch ∙ at));
         marked = λ marked. absurd (false≢true (sym (ap is_marked counts) ∙ marked));
@@ -258,53 +307,72 @@ module _ {N K : Type 0} (r q : ℕ) (n : Meaning Setting N) (k : Meaning Setting
     stepped_next past stage next token x (Some m) h asked walked =
         walks_next (λ (list : List (List ℕ)). HasOffered past list) _ next.handle token 0 asked x m refl h walked
 
+    -- what a turn leaves, by how it came out
+    abbrev Leaves : Outcome → List Turn → Option (SspiContext N K) → Type 0
+    Leaves (outcome.Reply reply) turns context = Offers n k turns context
+    Leaves (outcome.Final reply) turns context = Offers n k turns context
+    Leaves outcome.Finished turns context = Offers n k turns context
+    Leaves (outcome.Refused kind reply) turns context = ShowsOffered n k turns context
+
+    offers_leave : (came : Outcome) (turns : List Turn) (context : Option (SspiContext N K)) → Offers n k turns context →
+        Leaves came turns context
+    offers_leave (outcome.Reply reply) turns context h = h
+    offers_leave (outcome.Final reply) turns context h = h
+    offers_leave outcome.Finished turns context h = h
+    offers_leave (outcome.Refused kind reply) turns context h = offers_show n k turns context h
+
+    left_shows : (came : Outcome) (turns : List Turn) (context : Option (SspiContext N K)) → Leaves came turns context →
+        ShowsOffered n k turns context
+    left_shows (outcome.Reply reply) turns context h = offers_show n k turns context h
+    left_shows (outcome.Final reply) turns context h = offers_show n k turns context h
+    left_shows outcome.Finished turns context h = offers_show n k turns context h
+    left_shows (outcome.Refused kind reply) turns context h = h
+
+    gone_on : (came : Outcome) (turns : List Turn) (context : Option (SspiContext N K)) → GoesOn came → Leaves came turns context →
+        Offers n k turns context
+    gone_on (outcome.Reply reply) turns context goes h = h
+    gone_on (outcome.Final reply) turns context goes h = h
+    gone_on outcome.Finished turns context goes h = absurd goes
+    gone_on (outcome.Refused kind reply) turns context goes h = absurd goes
+
     moved : (t : Turn) (past : List Turn) (stage next : ClientStage (SspiContext N K) D) (negotiated : Bool)
-        (status : Option SecurityStatus) (came : Outcome) → refusal_in came ≢ Some InsufficientMemory → Offers n k past stage.context →
+        (status : Option SecurityStatus) (came : Outcome) → Offers n k past stage.context →
         ClientMovedBy (either r n k) kdcs first negotiated status came t.delivered.nego_tokens t.output stage next →
-        Offers n k (t ∷ past) next.context
-    moved t past stage next false status came had h by = all_more t past next.context
+        Leaves came (t ∷ past) next.context
+    moved t past stage next false status came h by = offers_leave came (t ∷ past) next.context (all_more t past next.context
         (holds_same_but r q n k ln lk _ (offers_of_mics n k (λ (list : List (List ℕ)). HasOffered past list)) stage.context next.context
-        by.context h)
-    moved t past stage next true (Some status) came had h by = holds_map n k _ _
+        by.context h))
+    moved t past stage next true (Some status) came h by = offers_leave came (t ∷ past) next.context (holds_map n k _ _
         (offers_map n k (λ (list : List (List ℕ)). HasOffered (t ∷ past) list)
         (λ (list : List (List ℕ)). HasOffered past list ⊎ IsOffer t.output list) (λ list was. offered_by t past list was)) next.context
         (stepped_next past stage next t.delivered.nego_tokens (Done (record { status = status; output = t.output })) next.context h by.asked
-        by.walked)
-    moved t past stage next true None (outcome.Refused kind reply) had h by = all_more t past next.context
-        (holds_map n k (Next n k (Refused by.0) (λ (list : List (List ℕ)). HasOffered past list))
-        (OffersBy n k (λ (list : List (List ℕ)). HasOffered past list))
-        (λ s offers. offers (λ lacked. had (ap (λ (x : ErrorKind). Some x) (sym by.1 ∙ lacked)))) next.context
-        (stepped_next past stage next t.delivered.nego_tokens (Refused by.0) next.context h by.2.asked by.2.walked))
-    moved t past stage next true None (outcome.Reply reply) had h by = absurd by
-    moved t past stage next true None (outcome.Final reply) had h by = absurd by
-    moved t past stage next true None outcome.Finished had h by = absurd by
-
-    gone_on : (came : Outcome) → GoesOn came → refusal_in came ≢ Some InsufficientMemory
-    gone_on (outcome.Reply reply) goes = λ e. cc (e)
-    gone_on (outcome.Final reply) goes = λ e. cc (e)
-    gone_on outcome.Finished goes = absurd goes
-    gone_on (outcome.Refused kind reply) goes = absurd goes
+        by.walked))
+    moved t past stage next true None (outcome.Refused kind reply) h by = holds_map n k _ _
+        (shows_map n k (λ (list : List (List ℕ)). HasOffered (t ∷ past) list) (λ (list : List (List ℕ)). HasOffered past list)
+        (λ list was. offered_more t past list was)) next.context
+        (stepped_next past stage next t.delivered.nego_tokens (Refused by.0) next.context h by.2.asked by.2.walked)
+    moved t past stage next true None (outcome.Reply reply) h by = absurd by
+    moved t past stage next true None (outcome.Final reply) h by = absurd by
+    moved t past stage next true None outcome.Finished h by = absurd by
 
     chain_offers : (kdc : D) (turns : List Turn) (stage : ClientStage (SspiContext N K) D) → first.context ≡ None → AllGoOn turns →
         ClientChain (either r n k) kdcs first kdc turns stage → Offers n k turns stage.context
     chain_offers kdc [] stage none going chain = subst (λ (o : Option (SspiContext N K)). Offers n k [] o)
         (sym (ap (λ (x : ClientStage (SspiContext N K) D). x.context) chain ∙ none)) tt
-    chain_offers kdc (t ∷ past) stage none going chain =
-        moved t past chain.0 stage t.acts.negotiated t.acts.status t.outcome (gone_on t.outcome going.0)
-        (chain_offers kdc past chain.0 none going.1 chain.1) chain.2.moved
+    chain_offers kdc (t ∷ past) stage none going chain = gone_on t.outcome (t ∷ past) stage.context going.0
+        (moved t past chain.0 stage t.acts.negotiated t.acts.status t.outcome
+        (chain_offers kdc past chain.0 none going.1 chain.1) chain.2.moved)
 
-    rest_offers : (kdc : D) (turns : List Turn) (stage : ClientStage (SspiContext N K) D) → first.context ≡ None → OthersGoOn turns →
-        last_refusal turns ≢ Some InsufficientMemory →
-        ClientChain (either r n k) kdcs first kdc turns stage → Offers n k turns stage.context
-    rest_offers kdc [] stage none others had chain = chain_offers kdc [] stage none tt chain
-    rest_offers kdc (t ∷ past) stage none others had chain =
-        moved t past chain.0 stage t.acts.negotiated t.acts.status t.outcome had
-        (chain_offers kdc past chain.0 none others chain.1) chain.2.moved
+    rest_shows : (kdc : D) (turns : List Turn) (stage : ClientStage (SspiContext N K) D) → first.context ≡ None → OthersGoOn turns →
+        ClientChain (either r n k) kdcs first kdc turns stage → ShowsOffered n k turns stage.context
+    rest_shows kdc [] stage none others chain = offers_show n k [] stage.context (chain_offers kdc [] stage none tt chain)
+    rest_shows kdc (t ∷ past) stage none others chain = left_shows t.outcome (t ∷ past) stage.context
+        (moved t past chain.0 stage t.acts.negotiated t.acts.status t.outcome
+        (chain_offers kdc past chain.0 none others chain.1) chain.2.moved)
 
     pub left_offers : (kdc : D) (turns : List Turn) (now : ClientStage (SspiContext N K) D) → first.context ≡ None → OthersGoOn turns →
-        last_refusal turns ≢ Some InsufficientMemory →
-        ClientChainLeft (either r n k) kdcs first kdc turns now → Offers n k turns now.context
-    left_offers kdc turns now none others had (at_rest chain) = rest_offers kdc turns now none others had chain
-    left_offers kdc turns now none others had (waiting stage token question asked going chain step lost) =
-        stepped_next turns stage (record now { kdc = asked }) token (Ask question) now.context
-        (chain_offers kdc turns stage none going chain) step.asked step.walked
+        ClientChainLeft (either r n k) kdcs first kdc turns now → ShowsOffered n k turns now.context
+    left_offers kdc turns now none others (at_rest chain) = rest_shows kdc turns now none others chain
+    left_offers kdc turns now none others (waiting stage token question asked going chain step lost) = offers_show n k turns now.context
+        (stepped_next turns stage (record now { kdc = asked }) token (Ask question) now.context
+        (chain_offers kdc turns stage none going chain) step.asked step.walked)

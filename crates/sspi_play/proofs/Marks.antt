@@ -1,6 +1,6 @@
 -- Before a negotiation has its list of mechanisms it makes and takes no MIC.
-use Rattle.std.proofs.Common.{◌≡◌, ◌||◌, ℕ, Bool, true, false, cond, List, Option, Result, Ok, Err, subst, ap, nat_lt}
-use Rattle.std.proofs.lemmas.Bool.{false≢true}
+use Rattle.std.proofs.Common.{◌≡◌, ◌≤◌, ◌||◌, ℕ, Bool, true, false, cond, List, Option, Result, Ok, Err, refl, sym, ◌∙◌, subst, ap, arith, nat_lt}
+use Rattle.std.proofs.lemmas.Bool.{false≢true, ltb-false}
 use Rattle.sspi_types.specs.declared.credential_use.CredentialUse.{CredentialUse}
 use Rattle.sspi_types.specs.declared.error.Error.{Error}
 use Rattle.sspi_types.specs.declared.error_kind.ErrorKind.{ErrorKind}
@@ -21,6 +21,7 @@ use Rattle.sspi_negotiate.specs.Follows.{Follows, Asked, answered, refused, Went
 use Rattle.sspi_negotiate.specs.Hand.{Origin, hand}
 use Rattle.sspi_negotiate.specs.Plan.{Plan, Goes, Stops, Takes, Steps, Resumes, Accepts, Pairs, Names, Identifies, Signs, Verifies}
 use Rattle.sspi_negotiate.specs.Values.{Values}
+use Rattle.sspi_negotiate.specs.Verified.{HasNoMic}
 use Rattle.sspi_negotiate.proofs.Ends.{AtRefusal, AllEnds}
 use Rattle.sspi_negotiate.proofs.HandLaws.{hand_lawful}
 use Rattle.sspi_credssp.specs.Counts.{silent}
@@ -28,6 +29,28 @@ use Rattle.sspi_credssp.specs.Counts.{silent}
 -- a MIC was made or taken
 abbrev pub is_marked : Counts → Bool
 is_marked counts = nat_lt 0 counts.signed || nat_lt 0 counts.verified
+
+either_off : (a b : Bool) → a || b ≡ false → (a ≡ false) × (b ≡ false)
+either_off false b off = (refl, off)
+either_off true b off = absurd (cc (off))
+
+none : (count : ℕ) → nat_lt 0 count ≡ false → count ≡ 0
+none count off = let most : count ≤ 0 = ltb-false 0 count off in omega (arith, most)
+
+has_none : (counts : Counts) → is_marked counts ≡ false → HasNoMic counts
+has_none counts off = let both = either_off (nat_lt 0 counts.signed) (nat_lt 0 counts.verified) off in
+    record { signed = none counts.signed both.0; verified = none counts.verified both.1 }
+
+none_marked : (counts : Counts) → HasNoMic counts → is_marked counts ≡ false
+none_marked counts h = ap (λ (x : ℕ). nat_lt 0 x || nat_lt 0 counts.verified) h.signed ∙ ap (λ (x : ℕ). nat_lt 0 0 || nat_lt 0 x) h.verified
+
+marks_by : (a b : Counts) (marked : Bool) → is_marked a ≡ marked → (HasNoMic a → HasNoMic b) → is_marked b ≡ true → is_marked a ≡ true
+marks_by a b true is stays on = is
+marks_by a b false is stays on = absurd (false≢true (sym (none_marked b (stays (has_none a is))) ∙ on))
+
+-- where no MIC comes, one that is there was there before
+pub marks_before : (a b : Counts) → (HasNoMic a → HasNoMic b) → is_marked b ≡ true → is_marked a ≡ true
+marks_before a b stays on = marks_by a b (is_marked a) refl stays on
 
 pub marked_same : (a b : Counts) → silent a ≡ silent b → is_marked a ≡ is_marked b
 marked_same a b same = ap is_marked same

@@ -20,11 +20,13 @@ use Rattle.sspi_negotiate.specs.declared.protocol.Protocol.{Protocol}
 use Rattle.sspi_negotiate.specs.declared.protocol.Protocol.TheVariants as protocols
 use Rattle.sspi_negotiate.specs.declared.state.NegotiateState.{NegotiateState}
 use Rattle.sspi_negotiate.specs.declared.state.NegotiateState.TheVariants as states
+use Rattle.sspi_negotiate.specs.declared.state.Role.{Role}
 use Rattle.sspi_negotiate.specs.Client.{offers, begun, has_begun, steps_again, falls_back, falls, first_step, at_initial, client_at, ruled}
 use Rattle.sspi_negotiate.specs.Client.{keeps, converts, passwords_of, with_handle, by_target, is_closed, spnego_client}
 use Rattle.sspi_negotiate.specs.Client.{resumes_opening, resumed_at, spnego_resumed}
 use Rattle.sspi_negotiate.specs.Fallback.{is_fallback}
 use Rattle.sspi_negotiate.specs.Hand.{is_kerberos_hand}
+use Rattle.sspi_negotiate.specs.Keeps.{is_answering}
 use Rattle.sspi_negotiate.specs.Pick.{offered}
 use Rattle.sspi_negotiate.specs.Plan.{Plan}
 use Rattle.sspi_negotiate.specs.Rows.{written, in_ntlm}
@@ -35,11 +37,6 @@ use Rattle.sspi_negotiate.proofs.Ends.{AllEnds}
 use Rattle.sspi_negotiate.proofs.Kept.{IsKept}
 use Rattle.sspi_play.specs.Negotiated.{IsOffer}
 use Rattle.sspi_play.proofs.Marks.{QuietEnds, quiet_either}
-
-abbrev pub is_answering : Branch → Bool
-is_answering Idle = false
-is_answering (Opening first) = false
-is_answering (Answering token) = true
 
 -- no list was offered since
 pub record Still (old new : Values) : Type 0 where
@@ -197,3 +194,34 @@ client_later ip v args late = client_ends (HasThatList v.list) (λ (w : Values).
 pub resumed_later : (v : Values) (reply : Reply) → is_answering v.branch ≡ true → AllEnds (HasThatList v.list) (spnego_resumed v reply)
 resumed_later v reply is = resumed_ends (HasThatList v.list) (λ (w : Values). w.list ≡ v.list) ⊥ (list_kept v.list) v reply
     (λ first h. false≢true (ap is_answering (sym h) ∙ is)) (λ error. refl) refl
+
+-- ---- whose end it is
+
+abbrev pub HasThatRole : Role → Answer → Values → Type 0
+HasThatRole role r v = v.role ≡ role
+
+role_kept : (role : Role) → IsKept (HasThatRole role) (λ (v : Values). v.role ≡ role) (Unit {0})
+role_kept role = record {
+  done = λ v step g. g;
+  stop = λ v error g. g;
+  opening = λ v first q g. g;
+  answering = λ v token q g. g;
+  opening_stop = λ v first error g. g;
+  answering_stop = λ v token error g. g;
+  state = λ v state g. g;
+  need = λ v need g. g;
+  kept = λ v kept g. g;
+  list = λ v list first g. g;
+  to_ntlm = λ v usable g. g;
+  pick_ntlm = λ v usable g. g;
+  to_kerberos = λ v usable g. g;
+  rule_kerberos = λ v usable g. g;
+}
+
+pub client_role : (ip : Bool) (v : Values) (args : StepArgs) → AllEnds (HasThatRole v.role) (spnego_client ip v args)
+client_role ip v args = client_ends (HasThatRole v.role) (λ (w : Values). w.role ≡ v.role) (Unit {0}) (role_kept v.role) ip v args
+    (λ first. tt) (λ error. refl) (λ h. refl)
+
+pub resumed_role : (v : Values) (reply : Reply) → AllEnds (HasThatRole v.role) (spnego_resumed v reply)
+resumed_role v reply = resumed_ends (HasThatRole v.role) (λ (w : Values). w.role ≡ v.role) (Unit {0}) (role_kept v.role) v reply
+    (λ opening h. tt) (λ error. refl) refl

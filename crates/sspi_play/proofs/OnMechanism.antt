@@ -11,7 +11,6 @@ use Rattle.sspi_negotiate.specs.Hand.{hand_of}
 use Rattle.sspi_credssp.specs.declared.context.SspiContext.{SspiContext}
 use Rattle.sspi_credssp.specs.declared.context.SspiContext.TheVariants as contexts
 use Rattle.sspi_credssp.specs.declared.mode.ServerMode.{ServerMode}
-use Rattle.sspi_credssp.specs.declared.turn.End.TheVariants.{Client, Server}
 use Rattle.sspi_credssp.specs.declared.turn.Turn.{Turn}
 use Rattle.sspi_credssp.specs.Client.{IsFreshClient}
 use Rattle.sspi_credssp.specs.Context.{either}
@@ -32,7 +31,7 @@ use Rattle.sspi_play.specs.Faithful.{signed_in, verified_in}
 use Rattle.sspi_play.specs.Kept.{kept_list}
 use Rattle.sspi_play.specs.Negotiated.{HasOffered, HasRead, IsPickOf, NegotiatesIfFaithful}
 use Rattle.sspi_play.specs.Played.{Both, Accounts, IsPlay}
-use Rattle.sspi_play.proofs.ClientOffers.{Offers, left_offers}
+use Rattle.sspi_play.proofs.ClientOffers.{ShowsOffered, left_offers}
 use Rattle.sspi_play.proofs.Marks.{is_marked}
 use Rattle.sspi_play.proofs.Runs.{played_left}
 use Rattle.sspi_play.proofs.ServerChains.{chain_shows}
@@ -69,7 +68,7 @@ module _ {N K : Type 0} (r q : ℕ) (n : Meaning Setting N) (k : Meaning Setting
   verified_is (Some m) h = verified_marks ((either r n k).counts m) h
 
   offered_list : (turns : List Turn) (context : Option (SspiContext N K)) → IsMarked context →
-      Offers n k turns context → HasOffered turns (kept_list context)
+      ShowsOffered n k turns context → HasOffered turns (kept_list context)
   offered_list turns None marked h = absurd marked
   offered_list turns (Some (contexts.Negotiate s)) marked h = h.marked marked
   offered_list turns (Some (contexts.Ntlm m)) marked h = absurd (unmarked (n.counts m) h marked)
@@ -100,18 +99,18 @@ module _ {N K : Type 0} (r q : ℕ) (n : Meaning Setting N) (k : Meaning Setting
         (result : Result Played DelegateError) → IsFreshClient old.client → IsFreshServer old.server →
         IsPlay (either r n k) old new → Accounts (either r n k) p kdcs schedule old result new →
         NegotiatesIfFaithful r n k (client_end new.client) (server_end new.server) old.server.mode new.turns
-    negotiates_if_faithful schedule old new result client_fresh server_fresh play accounts faithful had =
+    negotiates_if_faithful schedule old new result client_fresh server_fresh play accounts faithful =
         let law = lawful r q n k ln lk in
-        let offers : Offers n k (client_turns new.turns) new.client.context =
+        let offers : ShowsOffered n k (client_turns new.turns) new.client.context =
         left_offers r q n k ln lk kdcs old.client old.kdc (client_turns new.turns) (client_stage new.client new.kdc) client_fresh.context
-        play.client_ran.others (had Client)
+        play.client_ran.others
         (client_past_chained (either r n k) kdcs old.client law client_fresh new.client old.kdc new.kdc (client_turns new.turns)
         (Err errors.InsufficientMemory) play.client_ran.others
         (played_left (either r n k) kdcs result old.client new.client old.kdc new.kdc (client_turns new.turns)
         accounts.client_turns_are_its_calls)) in
         let shows : Shows r q n k ln lk old.server.mode (server_turns new.turns) new.server.context =
         chain_shows r q n k ln lk p old.server (server_turns new.turns) (server_stage new.server) server_fresh.context
-        play.server_ran.others (had Server)
+        play.server_ran.others
         (server_chained (either r n k) p old.server law server_fresh new.server (server_turns new.turns) play.server_ran.others
         accounts.server_turns_are_its_calls) in
         record {

@@ -1,11 +1,9 @@
 -- A server's context, after its turns: once it has made or taken a MIC, it keeps a list that it was handed, and has the mechanism in
 -- hand that it picks of it.
-use Rattle.std.proofs.Common.{◌≡◌, ◌≢◌, ℕ, Bool, true, false, List, [], ◌∷◌, map, Option, None, Some, Result, Err}
+use Rattle.std.proofs.Common.{◌≡◌, ℕ, Bool, true, false, List, [], ◌∷◌, map, Option, None, Some, Result, Err}
 use Rattle.std.proofs.Common.{refl, sym, ◌∙◌, ap, subst}
 use Rattle.sspi_types.specs.declared.credential_use.CredentialUse.TheVariants.{Inbound}
 use Rattle.sspi_types.specs.declared.error.Error.{Error}
-use Rattle.sspi_types.specs.declared.error_kind.ErrorKind.{ErrorKind}
-use Rattle.sspi_types.specs.declared.error_kind.ErrorKind.TheVariants.{InsufficientMemory}
 use Rattle.sspi_types.specs.declared.security_status.SecurityStatus.{SecurityStatus}
 use Rattle.sspi_types.specs.declared.security_status.SecurityStatus.TheVariants as statuses
 use Rattle.sspi_names.specs.declared.credentials.Credentials.TheVariants as credentials
@@ -28,7 +26,6 @@ use Rattle.sspi_credssp.specs.ServerTurn.{UnlessMade}
 use Rattle.sspi_delegate.specs.Chain.{ServerStage, server_at, ServerMovedBy, ServerChain}
 use Rattle.sspi_delegate.specs.EndTurns.{OthersUnrefused}
 use Rattle.sspi_delegate.specs.Turns.{IsUnrefused, NoneRefused}
-use Rattle.sspi_play.specs.Plays.{refusal_in, last_refusal}
 use Rattle.sspi_play.proofs.Contexts.{holds_map, holds_cleared}
 use Rattle.sspi_play.proofs.ServerPicks.{KeepsPick, keeps_of_mics, keeps_more, Keeps, Shows, After, full_shows, stepped, after_recounted}
 use Rattle.sspi_play.proofs.ServerPicks.{after_identified, begun_keeps}
@@ -83,14 +80,14 @@ module _ {N K P : Type 0} (r q : ℕ) (n : Meaning Setting N) (k : Meaning Setti
   Leaves (outcome.Reply reply) turns context = Keeps r q n k ln lk first.mode turns context
   Leaves (outcome.Final reply) turns context = Keeps r q n k ln lk first.mode turns context
   Leaves outcome.Finished turns context = Keeps r q n k ln lk first.mode turns context
-  Leaves (outcome.Refused kind reply) turns context = kind ≢ InsufficientMemory → Shows r q n k ln lk first.mode turns context
+  Leaves (outcome.Refused kind reply) turns context = Shows r q n k ln lk first.mode turns context
 
   keeps_leave : (came : Outcome) (turns : List Turn) (context : Option (SspiContext N K)) → Keeps r q n k ln lk first.mode turns context →
       Leaves came turns context
   keeps_leave (outcome.Reply reply) turns context h = h
   keeps_leave (outcome.Final reply) turns context h = h
   keeps_leave outcome.Finished turns context h = h
-  keeps_leave (outcome.Refused kind reply) turns context h = λ other. full_shows r q n k ln lk first.mode turns context h
+  keeps_leave (outcome.Refused kind reply) turns context h = full_shows r q n k ln lk first.mode turns context h
 
   on_context : (context : Option (SspiContext N K)) (turns : List Turn) (Q : SspiContext N K → Type 0) →
       ((m : SspiContext N K) → Q m → Keeps r q n k ln lk first.mode turns (Some m)) → IfContext context Q →
@@ -128,7 +125,7 @@ module _ {N K P : Type 0} (r q : ℕ) (n : Meaning Setting N) (k : Meaning Setti
       Leaves came (t ∷ past) next.context
   moved t past stage next false status came h by = keeps_leave came (t ∷ past) next.context
       (all_more t past next.context (rested t past stage next stage.context next.context h by.context refl))
-  moved t past stage next true (Some status) (outcome.Refused kind reply) h by = λ other.
+  moved t past stage next true (Some status) (outcome.Refused kind reply) h by =
       full_shows r q n k ln lk first.mode (t ∷ past) next.context (on_context next.context (t ∷ past) _
       (λ m at. refused_keeps status stage t past next.handle t.delivered.nego_tokens _ m refl h at) by)
   moved t past stage next true (Some status) (outcome.Reply reply) h by = on_context next.context (t ∷ past) _
@@ -137,10 +134,8 @@ module _ {N K P : Type 0} (r q : ℕ) (n : Meaning Setting N) (k : Meaning Setti
       (λ m at. accepts_keep stage t past next.handle t.delivered.nego_tokens _ _ m refl h at) by
   moved t past stage next true (Some status) outcome.Finished h by = on_context next.context (t ∷ past) _
       (λ m at. accepts_keep stage t past next.handle t.delivered.nego_tokens _ _ m refl h at) by
-  moved t past stage next true None (outcome.Refused kind reply) h by = λ other.
-      on_refusal next.context (t ∷ past) _
-      (λ m at. accepts_keep stage t past next.handle t.delivered.nego_tokens accept.Unknown (Err by.0) m refl h at
-      (λ lacked. other (sym by.1 ∙ lacked))) by.2
+  moved t past stage next true None (outcome.Refused kind reply) h by = on_refusal next.context (t ∷ past) _
+      (λ m at. accepts_keep stage t past next.handle t.delivered.nego_tokens accept.Unknown (Err by.0) m refl h at) by.2
   moved t past stage next true None (outcome.Reply reply) h by = absurd by
   moved t past stage next true None (outcome.Final reply) h by = absurd by
   moved t past stage next true None outcome.Finished h by = absurd by
@@ -152,12 +147,12 @@ module _ {N K P : Type 0} (r q : ℕ) (n : Meaning Setting N) (k : Meaning Setti
   unrefused outcome.Finished turns context un h = h
   unrefused (outcome.Refused kind reply) turns context un h = absurd un
 
-  with_memory : (came : Outcome) (turns : List Turn) (context : Option (SspiContext N K)) → refusal_in came ≢ Some InsufficientMemory →
-      Leaves came turns context → Shows r q n k ln lk first.mode turns context
-  with_memory (outcome.Reply reply) turns context had h = full_shows r q n k ln lk first.mode turns context h
-  with_memory (outcome.Final reply) turns context had h = full_shows r q n k ln lk first.mode turns context h
-  with_memory outcome.Finished turns context had h = full_shows r q n k ln lk first.mode turns context h
-  with_memory (outcome.Refused kind reply) turns context had h = h (λ lacked. had (ap (λ (x : ErrorKind). Some x) lacked))
+  left_shows : (came : Outcome) (turns : List Turn) (context : Option (SspiContext N K)) → Leaves came turns context →
+      Shows r q n k ln lk first.mode turns context
+  left_shows (outcome.Reply reply) turns context h = full_shows r q n k ln lk first.mode turns context h
+  left_shows (outcome.Final reply) turns context h = full_shows r q n k ln lk first.mode turns context h
+  left_shows outcome.Finished turns context h = full_shows r q n k ln lk first.mode turns context h
+  left_shows (outcome.Refused kind reply) turns context h = h
 
   chain_keeps : (turns : List Turn) (stage : ServerStage (SspiContext N K)) → first.context ≡ None → NoneRefused turns →
       ServerChain (either r n k) p first turns stage → Keeps r q n k ln lk first.mode turns stage.context
@@ -168,8 +163,7 @@ module _ {N K P : Type 0} (r q : ℕ) (n : Meaning Setting N) (k : Meaning Setti
       (moved t past chain.0 stage t.acts.negotiated t.acts.status t.outcome (chain_keeps past chain.0 none un.1 chain.1) chain.2.moved)
 
   pub chain_shows : (turns : List Turn) (stage : ServerStage (SspiContext N K)) → first.context ≡ None → OthersUnrefused turns →
-      last_refusal turns ≢ Some InsufficientMemory → ServerChain (either r n k) p first turns stage →
-      Shows r q n k ln lk first.mode turns stage.context
-  chain_shows [] stage none un had chain = full_shows r q n k ln lk first.mode [] stage.context (chain_keeps [] stage none tt chain)
-  chain_shows (t ∷ past) stage none un had chain = with_memory t.outcome (t ∷ past) stage.context had
+      ServerChain (either r n k) p first turns stage → Shows r q n k ln lk first.mode turns stage.context
+  chain_shows [] stage none un chain = full_shows r q n k ln lk first.mode [] stage.context (chain_keeps [] stage none tt chain)
+  chain_shows (t ∷ past) stage none un chain = left_shows t.outcome (t ∷ past) stage.context
       (moved t past chain.0 stage t.acts.negotiated t.acts.status t.outcome (chain_keeps past chain.0 none un chain.1) chain.2.moved)

@@ -6,7 +6,6 @@ use Rattle.std.proofs.lemmas.Bool.{false≢true}
 use Rattle.sspi_types.specs.declared.credential_use.CredentialUse.TheVariants.{Inbound}
 use Rattle.sspi_types.specs.declared.error.Error.{Error}
 use Rattle.sspi_types.specs.declared.error_kind.ErrorKind.{ErrorKind}
-use Rattle.sspi_types.specs.declared.error_kind.ErrorKind.TheVariants.{InsufficientMemory}
 use Rattle.sspi_names.specs.declared.credentials.Credentials.{Credentials}
 use Rattle.sspi_names.specs.declared.credentials.CredentialsBuffers.{CredentialsBuffers}
 use Rattle.sspi_names.specs.declared.identity.AuthIdentity.{AuthIdentity}
@@ -48,7 +47,7 @@ use Rattle.sspi_credssp.specs.Requests.{token_of}
 use Rattle.sspi_play.specs.Negotiated.{HasRead, IsReadAs, protocol_of, protocol_from, picks_with, picked_by}
 use Rattle.sspi_play.proofs.Contexts.{HoldsOf, holds_map, IsOfMics, acquired_hand, holds_recounted, holds_identified}
 use Rattle.sspi_play.proofs.Contexts.{holds_accepted}
-use Rattle.sspi_play.proofs.Marks.{is_marked, hand_keeps, quiet_all, quiet_marks}
+use Rattle.sspi_play.proofs.Marks.{is_marked, marks_before, hand_keeps, quiet_all}
 use Rattle.sspi_play.proofs.Picking.{PicksOne, PicksAt, server_quiet, StaysChosen, StaysAt, server_stays}
 
 -- a list was read in one of these turns, and this mechanism is what a server of this configuration picks of it
@@ -175,25 +174,22 @@ module _ {N K : Type 0} (r q : ℕ) (n : Meaning Setting N) (k : Meaning Setting
         (λ at. after_first at (ends (PicksAt (values_of s) args.input) (hand n k) (spnego_server (values_of s) args) s.mech s2.mech
         (Done step) (values_of s2)
         (quiet_all (PicksAt (values_of s) args.input) (spnego_server (values_of s) args) (server_quiet (values_of s) args at))
-        moves.follows.as_planned))
+        moves.moves.follows.as_planned))
         (λ late. after_later late (ends (StaysAt (values_of s)) (hand n k) (spnego_server (values_of s) args) s.mech s2.mech
         (Done step) (values_of s2)
-        (server_stays (values_of s) args late) moves.follows.as_planned))
+        (server_stays (values_of s) args late) moves.moves.follows.as_planned))
 
-    step_refused : (error : Error) → error.error_type ≢ InsufficientMemory → (negotiate r n k).accepts s args (Err error) s2 →
-        ShowsPick n k mode (t ∷ past) s2
-    step_refused error other moves = by_state n k mode (ShowsPick n k mode (t ∷ past) s2) s.state
-        (λ at. record {
-          config = h.config;
-          mode_is = h.mode_is;
-          picked = λ marked. absurd (false≢true (sym (h.unmarked at)
-              ∙ quiet_marks (hand n k) (hand_keeps r q n k ln lk) (PicksAt (values_of s) args.input) (spnego_server (values_of s) args)
-              s.mech s2.mech (Refused error) (values_of s2) (server_quiet (values_of s) args at) (moves.follows.as_planned other) marked));
-        })
-        (λ late. keeps_show n k mode (t ∷ past) s2 (after_later late
-        (ends (StaysAt (values_of s)) (hand n k) (spnego_server (values_of s) args) s.mech s2.mech
-        (Refused error) (values_of s2)
-        (server_stays (values_of s) args late) (moves.follows.as_planned other))))
+    step_refused : (error : Error) → (negotiate r n k).accepts s args (Err error) s2 → ShowsPick n k mode (t ∷ past) s2
+    step_refused error moves = record {
+      config = h.config;
+      mode_is = h.mode_is;
+      picked = λ marked. by_state n k mode (WasChosen h.config (t ∷ past) s2.list (hand_of s2.mech)) s.state
+          (λ at. absurd (false≢true (sym (h.unmarked at)
+          ∙ marks_before ((hand n k).counts s.mech) ((hand n k).counts s2.mech) (moves.moves.unmarked at) marked)))
+          (λ late. chosen_more h.config t past s2.list (hand_of s2.mech)
+          (subst (λ (x : Protocol). WasChosen h.config past s2.list x) (sym (moves.picked late).hand)
+          (subst (λ (x : List (List ℕ)). WasChosen h.config past x (hand_of s.mech)) (sym (moves.picked late).list) (h.picked late))));
+    }
 
   -- ---- the context
 
@@ -209,31 +205,30 @@ module _ {N K : Type 0} (r q : ℕ) (n : Meaning Setting N) (k : Meaning Setting
   -- what a step leaves, by its answer
   abbrev pub After : Result Step Error → List Turn → SspiContext N K → Type 0
   After (Ok step) turns m = Keeps turns (Some m)
-  After (Err error) turns m = error.error_type ≢ InsufficientMemory → Shows turns (Some m)
+  After (Err error) turns m = Shows turns (Some m)
 
   pub stepped : (t : Turn) (past : List Turn) (m m2 : SspiContext N K) (args : AcceptArgs) (x : Result Step Error) →
       args.input ≡ token_of t.delivered.nego_tokens →
       (either r n k).accepts m args x m2 → Keeps past (Some m) → After x (t ∷ past) m2
   stepped t past m m2 args (Ok step) token a h = holds_accepted r q n k ln lk (KeepsPick n k mode past) (KeepsPick n k mode (t ∷ past))
       m m2 args (Ok step) (λ s s2 moves keeps. step_done t past s s2 args token keeps step moves) a h
-  stepped t past m m2 args (Err error) token a h = λ other.
-      holds_accepted r q n k ln lk (KeepsPick n k mode past) (ShowsPick n k mode (t ∷ past))
-      m m2 args (Err error) (λ s s2 moves keeps. step_refused t past s s2 args token keeps error other moves) a h
+  stepped t past m m2 args (Err error) token a h = holds_accepted r q n k ln lk (KeepsPick n k mode past) (ShowsPick n k mode (t ∷ past))
+      m m2 args (Err error) (λ s s2 moves keeps. step_refused t past s s2 args token keeps error moves) a h
 
   pub after_recounted : (turns : List Turn) (m : SspiContext N K) (i : Counts) (x : Result Step Error) → After x turns m →
       silent i ≡ silent ((either r n k).counts m) →
       After x turns ((either r n k).counted m i)
   after_recounted turns m i (Ok step) h same =
       holds_recounted r q n k ln lk (KeepsPick n k mode turns) (keeps_of_mics n k mode turns) m i same h
-  after_recounted turns m i (Err error) h same = λ other.
-      holds_recounted r q n k ln lk (ShowsPick n k mode turns) (shows_of_mics n k mode turns) m i same (h other)
+  after_recounted turns m i (Err error) h same =
+      holds_recounted r q n k ln lk (ShowsPick n k mode turns) (shows_of_mics n k mode turns) m i same h
 
   pub after_identified : (turns : List Turn) (m m2 : SspiContext N K) (ids : List Credentials) (x : Result Step Error) → After x turns m →
       (either r n k).identifies m ids m2 → After x turns m2
   after_identified turns m m2 ids (Ok step) h found =
       holds_identified r q n k ln lk (KeepsPick n k mode turns) (keeps_of_mics n k mode turns) m m2 ids found h
-  after_identified turns m m2 ids (Err error) h found = λ other.
-      holds_identified r q n k ln lk (ShowsPick n k mode turns) (shows_of_mics n k mode turns) m m2 ids found (h other)
+  after_identified turns m m2 ids (Err error) h found =
+      holds_identified r q n k ln lk (ShowsPick n k mode turns) (shows_of_mics n k mode turns) m m2 ids found h
 
   -- a context that was just made
   first_named : (o : Result Origin ErrorKind) (m : NegotiatedProtocol N K) → IsFirst (hand n k) o m → protocol_from o ≡ Some (hand_of m)

@@ -3,9 +3,8 @@
 --
 -- A server that verified a MIC of the client has the mechanism in hand that it picks, by its own configuration, of the list that
 -- the client offered; and a client that verified a MIC of the server keeps the list that the server read.
-use Rattle.std.specs.Prelude.{◌≡◌, ◌≢◌, ◌≤◌, ℕ, List, option_map, Option, None, Some, Result, Ok, Err}
+use Rattle.std.specs.Prelude.{◌≡◌, ◌≤◌, ℕ, List, option_map, Option, None, Some, Result, Ok, Err}
 use Rattle.sspi_types.specs.declared.error_kind.ErrorKind.{ErrorKind}
-use Rattle.sspi_types.specs.declared.error_kind.ErrorKind.TheVariants as kinds
 use Rattle.sspi_mech.specs.Meaning.{Meaning}
 use Rattle.sspi_mech.specs.Settings.{Setting}
 use Rattle.sspi_tokens.specs.declared.neg_token_init.NegTokenInit.{NegTokenInit}
@@ -26,7 +25,6 @@ use Rattle.sspi_credssp.specs.declared.context.SspiContext.{SspiContext}
 use Rattle.sspi_credssp.specs.declared.context.SspiContext.TheVariants as contexts
 use Rattle.sspi_credssp.specs.declared.mode.ServerMode.{ServerMode}
 use Rattle.sspi_credssp.specs.declared.mode.ServerMode.TheVariants as modes
-use Rattle.sspi_credssp.specs.declared.turn.End.{End}
 use Rattle.sspi_credssp.specs.declared.turn.Turn.{Turn}
 use Rattle.sspi_credssp.specs.Context.{either}
 use Rattle.sspi_credssp.specs.Requests.{token_of}
@@ -36,7 +34,6 @@ use Rattle.sspi_delegate.specs.ServerRun.{ServerEnd}
 use Rattle.sspi_play.specs.Agreement.{TurnOf}
 use Rattle.sspi_play.specs.Faithful.{verified_in, IsFaithful}
 use Rattle.sspi_play.specs.Kept.{kept_list}
-use Rattle.sspi_play.specs.Plays.{turns_by, last_refusal}
 
 -- ---- the list on its way
 
@@ -102,10 +99,6 @@ pub record IsPickOf {N K : Type 0} (context : Option (SspiContext N K)) (mode : 
 
 -- ---- what both agree on
 
--- no turn of either end was refused for want of memory
-abbrev pub HadMemory : List Turn → Type 0
-HadMemory turns = (end : End) → last_refusal (turns_by end turns) ≢ Some kinds.InsufficientMemory
-
 module _ {N K : Type 0} (requests : ℕ) (n : Meaning Setting N) (k : Meaning Setting K) where
   -- of a server that was made in this mode
   pub record AgreesOnMechanism (client : ClientEnd (SspiContext N K)) (server : ServerEnd (SspiContext N K)) (mode : ServerMode)
@@ -118,5 +111,4 @@ module _ {N K : Type 0} (requests : ℕ) (n : Meaning Setting N) (k : Meaning Se
   -- The theorem, of the ends as the play left them.
   abbrev pub NegotiatesIfFaithful : ClientEnd (SspiContext N K) → ServerEnd (SspiContext N K) → ServerMode → List Turn → Type 0
   NegotiatesIfFaithful client server mode turns =
-      IsFaithful (either requests n k) kept_list client server turns → HadMemory turns →
-      AgreesOnMechanism client server mode turns
+      IsFaithful (either requests n k) kept_list client server turns → AgreesOnMechanism client server mode turns

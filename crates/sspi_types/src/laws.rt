@@ -2,6 +2,8 @@
 
 ghost use Rattle.std.specs.Prelude.{◌≡◌, ◌≤◌, ◌<◌, ◌^◌, ◌==◌, ◌&&◌, ℕ, Result, Ok, map, codes};
 ghost use Rattle.std.specs.Int.RustNames.{bit_and};
+ghost use Rattle.sspi_types.specs.declared.buffer_flags.SecurityBufferFlags.{SecurityBufferFlags};
+ghost use Rattle.sspi_types.specs.declared.buffer_type.BufferType.TheVariants.{Empty};
 ghost use Rattle.sspi_types.specs.declared.error.Error.{Error};
 ghost use Rattle.sspi_types.specs.declared.security_buffer_type.SecurityBufferType.{SecurityBufferType};
 ghost use Rattle.sspi_types.specs.Numbers.{AreDistinct, AreReadBack, ComparesNumbers, numbers_of};
@@ -25,6 +27,7 @@ ghost use Rattle.sspi_types.specs.NamedConstants.{client_response_constants, ser
 ghost use Rattle.sspi_types.specs.NamedConstants.{capability_constants, cert_trust_error_constants, cert_trust_info_constants};
 ghost use Rattle.sspi_types.specs.NamedConstants.{security_buffer_constants, encryption_constants, decryption_constants, status_constants};
 
+use crate::buffer_flags::SecurityBufferFlags;
 use crate::buffer_type::BufferType;
 use crate::certificate::CertEncodingType;
 use crate::connection::{
@@ -133,6 +136,14 @@ pub fn buffer_types_are_compared_by_both_fields()
     ensures { (a b : SecurityBufferType) → ⟦<SecurityBufferType as PartialEq>⟧.eq a b
         ≡ ((buffer_type_number a.buffer_type == buffer_type_number b.buffer_type)
         && (a.buffer_flags.0 == b.buffer_flags.0)) }
+{}
+
+/// The defaults: no flag, and an empty buffer without flags.
+pub fn defaults_have_no_flags()
+    ensures flags { (flags : SecurityBufferFlags) → ⟦<SecurityBufferFlags as Default>⟧.is_default flags
+        → flags.0 ≡ 0 }
+    ensures buffer_type { (t : SecurityBufferType) → ⟦<SecurityBufferType as Default>⟧.is_default t
+        → (t.buffer_type ≡ Empty) × (t.buffer_flags.0 ≡ 0) }
 {}
 
 /// A `SecurityBufferType` as a number is read back, if its type is at most 18 and its flags are some of

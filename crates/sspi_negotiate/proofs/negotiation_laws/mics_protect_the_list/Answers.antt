@@ -27,5 +27,5 @@ pub returns-clause-server : goal.returns-clause-server
 returns-clause-server g c = λ old new args step s over need.
     let it = hand g.N.Mechanism.meaning g.K.Mechanism.meaning in
     let h = shown old.list it (spnego_server (values_of old) args) ⊥ old.mech new.mech step (values_of new)
-    (server_shown (values_of old) args) (λ never. absurd never) s.follows.as_planned over need in
+    (server_shown (values_of old) args) (λ never. absurd never) s.moves.follows.as_planned over need in
     subst (λ list. IsVerified it list new.mech) (sym h.0) h.1

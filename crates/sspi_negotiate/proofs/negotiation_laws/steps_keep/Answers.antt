@@ -27,4 +27,4 @@ returns-clause-server g c = λ old new args result s.
     unless_map (told result)
     (λ f. ends (KeptFrom (values_of old)) (hand g.N.Mechanism.meaning g.K.Mechanism.meaning)
     (spnego_server (values_of old) args) old.mech new.mech (told result) (values_of new)
-    (server_keeps (values_of old) args) f) s.follows.as_planned
+    (server_keeps (values_of old) args) f) s.moves.follows.as_planned
