@@ -5,7 +5,7 @@ ghost use Rattle.sspi_delegate.specs.Delegates.{around_by, parties};
 ghost use Rattle.sspi_delegate.specs.Headline.{IsFresh};
 ghost use Rattle.sspi_early.specs.Completes.{ComesToOkEarly, IsCutShortEarly};
 ghost use Rattle.sspi_early.specs.Authorizes.{link_at};
-ghost use Rattle.sspi_early.specs.Early.{IsEarly, ComesBehind, refusal_of};
+ghost use Rattle.sspi_early.specs.Early.{GoesOn, IsEarly};
 ghost use Rattle.sspi_mech.specs.Kerberos.{kerberos_meaning};
 ghost use Rattle.sspi_mech.specs.Ntlm.{ntlm_meaning};
 
@@ -58,21 +58,25 @@ pub fn delegate_early<C: CredentialsProxy, L: Link, D: Kdc, P: Policy>(
         NoneFailed (C.meaning.told server.old.proxy).failing (C.meaning.faults server.old.proxy) (C.meaning.faults server.new.proxy) →
         turns < messages_in matching → IsCutShortEarly result }
 {
-    match delegate_plainly(alloc, client, server, link, kdc, turns, transcript) {
-        Ok(delegation) => tell(link, policy, delegation),
-        Err(error) => Err(refused(error)),
-    }
+    let delegated = delegate_plainly(alloc, client, server, link, kdc, turns, transcript);
+    tell_early(link, policy, delegated)
 }
 
-/// What comes behind this delegation.
-fn tell<L: Link, P: Policy>(
+/// What comes behind a delegation that came to this: the second half of `delegate_early`, for a caller that makes the first itself and
+/// wants what it came to, whatever comes behind. Behind one that was refused nothing comes, and the link and the policy stay as they
+/// are.
+pub fn tell_early<L: Link, P: Policy>(
     link: &mut L,
     policy: &mut P,
-    delegation: Delegation,
+    delegated: Result<Delegation, DelegateError>,
 ) -> Result<Early, EarlyError>
-    ensures { ComesBehind P.meaning delegation (link_at (L.log link.old) (L.edits link.old) (L.faults link.old))
-        (link_at (L.log link.new) (L.edits link.new) (L.faults link.new)) policy.old policy.new result }
+    ensures { GoesOn (λ l. link_at (L.log l) (L.edits l) (L.faults l)) P.meaning delegated link.old link.new policy.old policy.new result }
 {
+    let delegation = match delegated {
+        Ok(delegation) => delegation,
+        Err(DelegateError::InsufficientMemory) => return Err(EarlyError::InsufficientMemory),
+        Err(error) => return Err(EarlyError::Delegate(error)),
+    };
     match authorize(link, policy, &delegation.credentials) {
         Ok(Authorized { told, heard }) => Ok(Early {
             delegation,
@@ -80,14 +84,5 @@ fn tell<L: Link, P: Policy>(
             heard,
         }),
         Err(error) => Err(error),
-    }
-}
-
-fn refused(error: DelegateError) -> EarlyError
-    ensures { result ≡ refusal_of error }
-{
-    match error {
-        DelegateError::InsufficientMemory => EarlyError::InsufficientMemory,
-        error => EarlyError::Delegate(error),
     }
 }

@@ -2,7 +2,7 @@
 //! Authorization Result PDU; MS-CSSP 3.1.5).
 //!
 //! - `delegate_early`: a delegation, the decision of a policy on the identity that was delegated, and the message that tells it.
-//! - `authorize`: what comes behind the delegation, for those who made it already.
+//! - `tell_early`: what comes behind the delegation, for those who made it already; `authorize`: the same for an identity.
 //! - `Policy`: who may log on. `ListPolicy` has a list of names, and `FailingPolicy` always fails.
 //!
 //! `specs/Policy.antt` has what a policy tells and answers, `specs/Heard.antt` what a client makes of the entry that it was sent,
@@ -19,7 +19,7 @@ pub mod policy;
 
 pub use answer::{Authorized, Early, EarlyError};
 pub use authorizing::authorize;
-pub use delegating::delegate_early;
+pub use delegating::{delegate_early, tell_early};
 pub use failing_policy::FailingPolicy;
 pub use list_policy::ListPolicy;
 pub use policy::{Policy, PolicyError};
