@@ -2,6 +2,7 @@
 use Rattle.std.specs.Prelude.{◌≡◌, ℕ, Result, Ok, Err}
 use Rattle.sspi_names.specs.declared.identity.AuthIdentity.{AuthIdentity}
 use Rattle.sspi_delegate.specs.declared.answer.DelegateError.TheVariants as errors
+use Rattle.sspi_early.specs.declared.answer.Authorized.{Authorized}
 use Rattle.sspi_early.specs.declared.answer.Early.{Early}
 use Rattle.sspi_early.specs.declared.answer.EarlyError.{EarlyError}
 use Rattle.sspi_early.specs.declared.answer.EarlyError.TheVariants.{Delegate, InsufficientMemory}
@@ -19,3 +20,9 @@ IsCutShortEarly (Ok early) = ⊥
 IsCutShortEarly (Err (Delegate errors.TurnsSpent)) = Unit {0}
 IsCutShortEarly (Err InsufficientMemory) = Unit {0}
 IsCutShortEarly (Err error) = ⊥
+
+-- the client heard what the server told; or there was no memory
+abbrev pub IsHonest : Result Authorized EarlyError → Type 0
+IsHonest (Ok authorized) = authorized.heard ≡ authorized.told
+IsHonest (Err InsufficientMemory) = Unit {0}
+IsHonest (Err error) = ⊥

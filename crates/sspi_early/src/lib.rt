@@ -3,6 +3,7 @@
 //!
 //! - `delegate_early`: a delegation, the decision of a policy on the identity that was delegated, and the message that tells it.
 //! - `tell_early`: what comes behind the delegation, for those who made it already; `authorize`: the same for an identity.
+//! - `laws.rt`: what comes of it over a link that edits nothing, and what a list of names decides.
 //! - `Policy`: who may log on. `ListPolicy` has a list of names, and `FailingPolicy` always fails.
 //!
 //! `specs/Policy.antt` has what a policy tells and answers, `specs/Heard.antt` what a client makes of the entry that it was sent,
@@ -14,6 +15,7 @@ pub mod authorizing;
 pub mod delegating;
 pub mod failing_policy;
 mod hearing;
+pub mod laws;
 pub mod list_policy;
 pub mod policy;
 

@@ -1,4 +1,5 @@
 pub mod Running
+pub mod EarlyStatus
 pub mod Telling
 pub mod Ending
 pub mod TooLong

@@ -97,7 +97,8 @@ fn early_status(answer: &Result<Early, EarlyError>) -> Option<u8>
     match answer {
         Ok(early) => Some(heard_status(early.heard)),
         Err(EarlyError::InsufficientMemory) => None,
-        Err(_) => Some(status::REFUSED),
+        Err(EarlyError::Delegate(_) | EarlyError::Policy) => Some(status::REFUSED),
+        Err(EarlyError::LinkFault | EarlyError::Read(_)) => Some(status::REFUSED),
     }
 }
 
