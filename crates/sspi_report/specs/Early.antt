@@ -14,9 +14,13 @@ abbrev pub result_name : EarlyUserAuthResult → List ℕ
 result_name Success = codes "success"
 result_name AccessDenied = codes "denied"
 
+-- what the server told, and what the client heard
+abbrev pub heard_line : EarlyUserAuthResult → EarlyUserAuthResult → List ℕ
+heard_line told heard = line (codes "early told=" ++ result_name told ++ codes " heard=" ++ result_name heard)
+
 -- none where the delegation came to no end, where the policy failed, and where memory was wanting
 abbrev pub early_line : Result Early EarlyError → Option (List ℕ)
-early_line (Ok early) = Some (line (codes "early told=" ++ result_name early.told ++ codes " heard=" ++ result_name early.heard))
+early_line (Ok early) = Some (heard_line early.told early.heard)
 early_line (Err (Read kind)) = Some (line (codes "early read " ++ fault_name kind))
 early_line (Err LinkFault) = Some (line (codes "early link"))
 early_line (Err Policy) = None

@@ -1,5 +1,5 @@
 ghost use Rattle.std.specs.Prelude.{◌≡◌, string_bytes, option_map, IfOk};
-ghost use Rattle.sspi_report.specs.Early.{early_line, early_text, result_name};
+ghost use Rattle.sspi_report.specs.Early.{early_line, early_text, heard_line, result_name};
 
 use crate::entries::push_entry;
 use crate::names::fault_name;
@@ -37,11 +37,7 @@ fn early_line(
     ensures { IfOk result (λ told. option_map (λ text. string_bytes text) told ≡ early_line outcome.now) }
 {
     let text = match outcome {
-        Ok(early) => {
-            let told = result_name(early.told);
-            let heard = result_name(early.heard);
-            format!(in alloc; "early told={told} heard={heard}\n")?
-        }
+        Ok(early) => heard_line(alloc, early.told, early.heard)?,
         Err(EarlyError::Read(kind)) => {
             let kind = fault_name(*kind);
             format!(in alloc; "early read {kind}\n")?
@@ -52,6 +48,19 @@ fn early_line(
         Err(EarlyError::InsufficientMemory) => return Ok(None),
     };
     Ok(Some(text))
+}
+
+fn heard_line(
+    alloc: Global,
+    told: EarlyUserAuthResult,
+    heard: EarlyUserAuthResult,
+) -> Result<String, AllocError>
+    ensures { IfOk result (λ text. string_bytes text ≡ heard_line told heard) }
+{
+    let told = result_name(told);
+    let heard = result_name(heard);
+    let text = format!(in alloc; "early told={told} heard={heard}\n")?;
+    Ok(text)
 }
 
 /// A result as a report names it.

@@ -1,4 +1,5 @@
-ghost use Rattle.std.specs.Prelude.{◌≡◌, ◌≤◌, ◌++◌, Some, IfOk, drop, length, reverse};
+ghost use Rattle.std.specs.Prelude.{◌≡◌, ◌++◌, Some, IfOk, drop, reverse};
+ghost use Rattle.std.specs.Result.{IsOkAnd};
 ghost use Rattle.sspi_program.specs.Delegate.{HasExchange};
 ghost use Rattle.sspi_program.specs.Early.{IsEarlyOf, behind_text};
 ghost use Rattle.sspi_program.specs.Run.{Conducts};
@@ -76,7 +77,9 @@ fn tell(made: Record, policy: ListPolicy) -> Record
         RunOutcome::Delegated(answer) => {
             RunOutcome::Early(tell_early(&mut link, &mut policy, answer))
         }
-        other => other,
+        // An exchange has no other outcome.
+        RunOutcome::Played(answer) => RunOutcome::Played(answer),
+        RunOutcome::Early(answer) => RunOutcome::Early(answer),
     };
     Record {
         scenario,
@@ -99,7 +102,7 @@ fn told_text(
     entries: usize,
 ) -> Result<(u8, Vec<u8>), AllocError>
     ensures { IfOk result (λ told. (status_of kept.now.outcome ≡ Some told.0)
-        × IfOk report (λ text. told.1.items ≡ text.items ++ behind_text kept.now.outcome (drop entries (reverse kept.now.link.log)))) }
+        × IsOkAnd report (λ text. told.1.items ≡ text.items ++ behind_text kept.now.outcome (drop entries (reverse kept.now.link.log)))) }
 {
     let mut text = report?;
     let Some(status) = status_of(&kept.outcome) else {
