@@ -1,7 +1,6 @@
 -- What a client hears of an entry that was delivered as it was sent.
-use Rattle.std.proofs.Common.{◌≡◌, ℕ, ◌<◌, ◌≤◌, List, length, take, true, Some, Result, Ok, Err, IfOk, refl, sym, ap, ◌∙◌, arith}
+use Rattle.std.proofs.Common.{◌≡◌, ◌≤◌, length, take, Some, Result, Ok, Err, IfOk, refl, sym, ap, ◌∙◌, arith}
 use Rattle.std.proofs.lemmas.List.{length-take, take_all}
-use Rattle.sspi_ber.specs.declared.wire_kind.WireKind.TheVariants as kinds
 use Rattle.sspi_delegate.specs.declared.carried.Carried.{Carried}
 use Rattle.sspi_delegate.specs.Edits.{Delivers}
 use Rattle.sspi_tsreq.specs.declared.early.EarlyUserAuthResult.{EarlyUserAuthResult}
@@ -9,7 +8,6 @@ use Rattle.sspi_tsreq.specs.declared.early.EarlyUserAuthResult.TheVariants.{Succ
 use Rattle.sspi_tsreq.specs.Early.{early_result_text}
 use Rattle.sspi_early.specs.declared.answer.Authorized.{Authorized}
 use Rattle.sspi_early.specs.declared.answer.EarlyError.{EarlyError}
-use Rattle.sspi_early.specs.declared.answer.EarlyError.TheVariants.{Delegate, Policy, LinkFault, Read, InsufficientMemory}
 use Rattle.sspi_early.specs.Authorizes.{HasCause}
 use Rattle.sspi_early.specs.Heard.{Heard, IsCut, IsNoResult, Tells}
 

@@ -1,6 +1,6 @@
 -- What is told over a link that edits nothing, by a policy that does not fail.
-use Rattle.std.proofs.Common.{◌≡◌, ℕ, ◌+◌, ◌-◌, ◌^◌, ◌<◌, ◌≤◌, min, Bool, List, [], ◌∷◌, reverse, Option, None, Some, Result, Ok, Err}
-use Rattle.std.proofs.Common.{refl, sym, ap, ◌∙◌, subst, arith}
+use Rattle.std.proofs.Common.{◌≡◌, ℕ, Bool, List, [], ◌∷◌, Option, Some, Result, Ok, Err}
+use Rattle.std.proofs.Common.{refl, sym, ◌∙◌, subst, arith}
 use Rattle.sspi_ber.specs.Outside.{Rose}
 use Rattle.sspi_ber.specs.declared.wire_kind.WireKind.TheVariants as kinds
 use Rattle.sspi_names.specs.declared.identity.AuthIdentity.{AuthIdentity}
@@ -22,12 +22,12 @@ use Rattle.sspi_early.specs.Completes.{IsHonest}
 use Rattle.sspi_early.specs.Policy.{PolicyMeaning, PolicyCause, is_listed, list_meaning}
 use Rattle.sspi_early.proofs.Heard.{never_cut, never_no_result}
 
-calm_rose : {A : Type 0} (before now : ℕ) → IsCalm before now → Rose before now → A
+pub calm_rose : {A : Type 0} (before now : ℕ) → IsCalm before now → Rose before now → A
 calm_rose before now calm rose = absurd (omega (arith, calm.still, calm.counted, rose))
 
 -- ---- the entry that tells the result
 
-delivers : (entry : Carried) (log after : List Carried) (edits : Option (List Edit)) → edits ≡ Some [] →
+pub delivers : (entry : Carried) (log after : List Carried) (edits : Option (List Edit)) → edits ≡ Some [] →
     after ≡ entry ∷ log → FollowsTold edits after → Delivers (Some entry.sent) entry
 delivers entry log after edits none is follows =
     let parts = subst (λ (l : List Carried). FollowsEdits [] l) is (subst (λ (e : Option (List Edit)). FollowsTold e after) none follows)
@@ -57,20 +57,20 @@ honest_uncarried (Err InsufficientMemory) none calm = tt
 honest_uncarried (Err Policy) none calm = absurd none
 honest_uncarried (Err (Delegate error)) none calm = absurd none
 
-honest_told : (told : EarlyUserAuthResult) (before after : List Carried) (answer : Result Authorized EarlyError) →
+pub honest_told : (told : EarlyUserAuthResult) (before after : List Carried) (answer : Result Authorized EarlyError) →
     Comes told before after answer →
     ((entry : Carried) → after ≡ entry ∷ before → Delivers (Some entry.sent) entry) → (answer ≡ Err LinkFault → ⊥) → IsHonest answer
 honest_told told before after answer (carried entry) whole calm =
     honest_entry told before after answer entry (whole entry.entry entry.log_is) calm
 honest_told told before after answer (uncarried same none) whole calm = honest_uncarried answer none calm
 
-no_fault : (told : EarlyUserAuthResult) (edits : Option (List Edit)) (log : List Carried) (answer : Result Authorized EarlyError) →
+pub no_fault : (told : EarlyUserAuthResult) (edits : Option (List Edit)) (log : List Carried) (answer : Result Authorized EarlyError) →
     edits ≡ Some [] → FailsAsTold edits log told answer → answer ≡ Err LinkFault → ⊥
 no_fault told edits log answer none fails is =
     subst (λ (a : Result Authorized EarlyError). FailsAsTold (Some []) log told a) is
     (subst (λ (e : Option (List Edit)). FailsAsTold e log told answer) none fails)
 
-honest_carry : (told : EarlyUserAuthResult) (before after : LinkAt) (answer : Result Authorized EarlyError) →
+pub honest_carry : (told : EarlyUserAuthResult) (before after : LinkAt) (answer : Result Authorized EarlyError) →
     Carries told before after answer → before.edits ≡ Some [] → FollowsTold before.edits before.log → IsHonest answer
 honest_carry told before after answer carries none follows =
     honest_told told before.log after.log answer carries.comes

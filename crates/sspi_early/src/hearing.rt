@@ -1,4 +1,3 @@
-ghost use Rattle.std.specs.Prelude.{◌≡◌};
 ghost use Rattle.sspi_delegate.specs.Deliveries.{IsUnread};
 ghost use Rattle.sspi_delegate.specs.Link.{LinkCause, NeverFails, StaysTold};
 ghost use Rattle.sspi_early.specs.Heard.{IsResultIn, Takes};

@@ -1,4 +1,4 @@
-ghost use Rattle.std.specs.Prelude.{◌≡◌, IsTrue, Ok};
+ghost use Rattle.std.specs.Prelude.{◌≡◌, Ok};
 ghost use Rattle.sspi_early.specs.Policy.{HasDecided, is_listed};
 
 use crate::policy::{Policy, PolicyError};

@@ -16,7 +16,7 @@ use Rattle.sspi_program.specs.declared.record.Record.{Record}
 use Rattle.sspi_program.specs.declared.record.RunOutcome.{RunOutcome}
 use Rattle.sspi_program.specs.declared.record.RunOutcome.TheVariants as outcomes
 use Rattle.sspi_program.specs.Delegate.{HasExchange}
-use Rattle.sspi_program.specs.Early.{IsEarlyOf, IsEarlyTold, behind_text, entries_behind}
+use Rattle.sspi_program.specs.Early.{IsEarlyOf, IsEarlyTold, behind_text}
 use Rattle.sspi_program.specs.Exchange.{around}
 use Rattle.sspi_program.specs.Said.{report_of, status_of}
 

@@ -1,5 +1,5 @@
 -- The status of an early result, where the exchange of a plain scenario came before it.
-use Rattle.std.proofs.Common.{◌≡◌, ℕ, ◌<◌, inr, List, [], Option, Some, Result, Ok, Err, refl, sym, ap, ◌∙◌, subst}
+use Rattle.std.proofs.Common.{◌≡◌, ℕ, ◌<◌, inr, List, [], Some, Result, Ok, Err, refl, sym, ap, ◌∙◌, subst}
 use Rattle.std.proofs.Math.Dec.{lit<}
 use Rattle.sspi_names.specs.declared.identity.AuthIdentity.{AuthIdentity}
 use Rattle.sspi_names.specs.Name.{Name}
@@ -17,8 +17,6 @@ use Rattle.sspi_early.specs.Authorizes.{LinkAt, told_of}
 use Rattle.sspi_early.specs.Early.{ComesBehind, GoesOn, shown_by}
 use Rattle.sspi_early.specs.Policy.{is_listed, list_meaning}
 use Rattle.sspi_early.proofs.Honest.{honest_link, told_by_list}
-use Rattle.sspi_tsreq.specs.declared.early.EarlyUserAuthResult.{EarlyUserAuthResult}
-use Rattle.sspi_scenario.specs.declared.scenario.Scenario.{Scenario}
 use Rattle.sspi_program.specs.declared.record.Record.{Record}
 use Rattle.sspi_program.specs.declared.record.RunOutcome.{RunOutcome}
 use Rattle.sspi_program.specs.Early.{IsEarlyOf, admitted_status}
