@@ -8,7 +8,7 @@ use Rattle.sspi_scenario.specs.Reading.{ReadsText}
 use Rattle.sspi_scenario.specs.Scenario.{scenario_of}
 use Rattle.sspi_program.specs.declared.command.Command.TheVariants.{Told}
 use Rattle.sspi_program.specs.declared.command.Task.{Task}
-use Rattle.sspi_program.specs.declared.command.Task.TheVariants.{Delegate, Play, Gate, Audit}
+use Rattle.sspi_program.specs.declared.command.Task.TheVariants.{Delegate, Play, Gate, Audit, Early}
 use Rattle.sspi_program.specs.declared.record.Conducted.{Conducted}
 use Rattle.sspi_program.specs.declared.record.Record.{Record}
 use Rattle.sspi_program.specs.declared.said.Said.{Said}
@@ -16,6 +16,7 @@ use Rattle.sspi_program.specs.declared.said.Said.TheVariants.{Done, NoScenario, 
 use Rattle.sspi_program.specs.Audit.{IsAudited}
 use Rattle.sspi_program.specs.Commands.{purpose_of}
 use Rattle.sspi_program.specs.Delegate.{HasExchange}
+use Rattle.sspi_program.specs.Early.{HasEarly, IsEarlyTold}
 use Rattle.sspi_program.specs.Gate.{IsGated}
 use Rattle.sspi_program.specs.Kept.{keeping}
 use Rattle.sspi_program.specs.Play.{HasPlay}
@@ -73,6 +74,14 @@ module _ {E : Type 0} (scenario : Scenario) (r : Record) (told : Result (ℕ × 
   conducts_audit OtherWords given said = said
   conducts_audit NoMemory given said = tt
 
+pub conducts_early : {E : Type 0} (scenario : Scenario) (r : Record) (told : Result (ℕ × Vec ℕ) E) (said : Said) → r.scenario ≡ scenario →
+    HasEarly r → IfOk told (λ t. IsEarlyTold r t.0 t.1.items) → SaysWith r told said → Conducts Early scenario said
+conducts_early scenario r told (Done c text) is has given said = says_with HasEarly IsEarlyTold scenario r is has told given c text said
+conducts_early scenario r told (NoScenario line) is has given said = said
+conducts_early scenario r told ReadFault is has given said = said
+conducts_early scenario r told OtherWords is has given said = said
+conducts_early scenario r told NoMemory is has given said = tt
+
 -- ---- of another scenario that is such
 
 record_more : (R : Record → Type 0) (P Q : Scenario → Type 0) → ((s : Scenario) → P s → Q s) → (kept : Option Record) →
@@ -87,6 +96,7 @@ keeps_more Delegate P Q more c h = record_more HasExchange P Q more c.kept h
 keeps_more Play P Q more c h = record_more HasPlay P Q more c.kept h
 keeps_more Gate P Q more c h = record_more HasExchange P Q more c.kept h
 keeps_more Audit P Q more c h = record_more HasExchange P Q more c.kept h
+keeps_more Early P Q more c h = record_more HasEarly P Q more c.kept h
 
 pub carries_out : (task : Task) (text : List ℕ) (scenario : Scenario) (said : Said) → scenario_of (purpose_of task) text ≡ Ok scenario →
     Conducts task scenario said → CarriesOut task text said

@@ -1,5 +1,5 @@
 -- What the status of a run is where the source tells its text.
-use Rattle.std.proofs.Common.{◌≡◌, ℕ, ◌≤◌, inl, inr, List, [], Option, None, Some, Result, Ok, Err, refl, sym, subst, arith}
+use Rattle.std.proofs.Common.{◌≡◌, ℕ, ◌≤◌, inl, inr, List, [], Option, None, Some, Result, Ok, Err, refl, sym, ap, ◌∙◌, subst, arith}
 use Rattle.std.specs.Prelude.{IfSome, IsSome}
 use Rattle.sspi_names.specs.declared.identity.AuthIdentity.{AuthIdentity}
 use Rattle.sspi_delegate.specs.declared.answer.Delegation.{Delegation}
@@ -14,7 +14,7 @@ use Rattle.sspi_scenario.specs.Scenario.{scenario_of}
 use Rattle.sspi_program.specs.declared.command.Command.{Command}
 use Rattle.sspi_program.specs.declared.command.Command.TheVariants.{Told}
 use Rattle.sspi_program.specs.declared.command.Task.{Task}
-use Rattle.sspi_program.specs.declared.command.Task.TheVariants.{Delegate, Play, Gate, Audit}
+use Rattle.sspi_program.specs.declared.command.Task.TheVariants.{Delegate, Play, Gate, Audit, Early}
 use Rattle.sspi_program.specs.declared.record.Conducted.{Conducted}
 use Rattle.sspi_program.specs.declared.record.Record.{Record}
 use Rattle.sspi_program.specs.declared.record.RunOutcome.{RunOutcome}
@@ -24,13 +24,15 @@ use Rattle.sspi_program.specs.declared.said.Said.TheVariants.{Done, NoScenario, 
 use Rattle.sspi_program.specs.Audit.{IsAudited}
 use Rattle.sspi_program.specs.Commands.{task_in, purpose_of}
 use Rattle.sspi_program.specs.Delegate.{HasExchange, DelegateEnds}
+use Rattle.sspi_program.specs.Early.{HasEarly, IsEarlyTold, EarlyEnds, admitted_status}
 use Rattle.sspi_program.specs.Gate.{IsGated, GateEnds}
 use Rattle.sspi_program.specs.Outcome.{messages_in, IsPlain}
 use Rattle.sspi_program.specs.Play.{HasPlay, PlayEnds}
 use Rattle.sspi_program.specs.Promises.{Does, Due, KeptDue, EndsSo}
 use Rattle.sspi_program.specs.Run.{Comes}
 use Rattle.sspi_program.specs.Said.{delegated_status, status_of, RecordDue, IsDue, said_status, said_text, read_text, Written}
-use Rattle.sspi_program.specs.Status.{IsUnlessWrite, IsUnlessFault, EndsPlainly}
+use Rattle.sspi_program.specs.Status.{IsUnlessWrite, IsUnlessFault, EndsAs, EndsPlainly}
+use Rattle.sspi_program.proofs.EarlyStatus.{plain_early}
 use Rattle.sspi_program.proofs.Running.{unless_write, unless_read, unless_memory, status_due, due_small}
 
 same_scenario : (purpose : Purpose) (text : List ℕ) (scenario scenario2 : Scenario) → scenario_of purpose text ≡ Ok scenario →
@@ -65,6 +67,8 @@ task_none Gate text c written does line none =
     record_none HasExchange IsGated purposes.Exchange text c.status written c.kept does.0 does.1 line none
 task_none Audit text c written does line none =
     record_none HasExchange IsAudited purposes.Exchange text c.status written c.kept does.0 does.1 line none
+task_none Early text c written does line none =
+    record_none HasEarly IsEarlyTold purposes.Early text c.status written c.kept does.0 does.1 line none
 
 module _ (before now : ℕ) (w w2 : Option (List ℕ)) (f f2 : ℕ) where
   no_memory : (own text_own : ℕ) (text : List ℕ) (status : ℕ) → text_own ≡ 5 → Written text_own text w w2 f f2 status →
@@ -224,6 +228,41 @@ module _ (w w2 : Option (List ℕ)) (f f2 : ℕ) (status : ℕ) where
   audit_ends before now text OtherWords comes written = absurd cc
   audit_ends before now text NoMemory comes written = delegate_ends before now text NoMemory refl written
 
+  early_lost : (own : ℕ) (scenario : Scenario) (plain : IsPlain scenario) (written : List ℕ) → Written 5 written w w2 f f2 status →
+      EndsAs own (messages_in scenario plain) scenario.turns status
+  early_lost own scenario plain written lost =
+      ((λ enough. unless_memory w w2 f f2 own written status lost), (λ few. unless_memory w w2 f f2 1 written status lost))
+
+  early_record : (text : List ℕ) (r : Record) (own : ℕ) (written : List ℕ) → HasEarly r →
+      scenario_of purposes.Early text ≡ Ok r.scenario → IsDue (IsEarlyTold r) own written → Written own written w w2 f f2 status →
+      EarlyEnds text status
+  early_record text r own written has told (inl e) wrote = λ scenario is plain.
+      let same : has.made.scenario ≡ scenario = sym (ap (λ (k : Record). k.scenario) has.early.rest)
+      ∙ same_scenario purposes.Early text r.scenario scenario told is in
+      subst (λ (s : Scenario). (it : IsPlain s) → EndsAs (admitted_status s) (messages_in s it) s.turns status) same
+      (λ it. plain_early has.made r own status has.early e.status_is (unless_write w w2 f f2 own written status wrote) it) plain
+  early_record text r own written has told (inr h) wrote = λ scenario is plain.
+      early_lost (admitted_status scenario) scenario plain written (subst (λ (n : ℕ). Written n written w w2 f f2 status) h.0 wrote)
+
+  early_done : (text : List ℕ) (own : ℕ) (written : List ℕ) (kept : Option Record) →
+      IfSome kept (λ k. HasEarly k × (scenario_of purposes.Early text ≡ Ok k.scenario) × IsSome (status_of k.outcome)) →
+      IsDue (KeptDue IsEarlyTold kept) own written → Written own written w w2 f f2 status → EarlyEnds text status
+  early_done text own written None keeps told wrote = λ scenario is plain.
+      early_lost (admitted_status scenario) scenario plain written
+      (subst (λ (n : ℕ). Written n written w w2 f f2 status) (none_due IsEarlyTold own written told) wrote)
+  early_done text own written (Some r) keeps told wrote = early_record text r own written keeps.0 keeps.1 told wrote
+
+  early_ends : (before now : ℕ) (text : List ℕ) (said : Said) → Comes (Some (Told Early)) (Some text) before now said →
+      Written (said_status said) (said_text said) w w2 f f2 status → EarlyEnds text status
+  early_ends before now text (Done c items) comes written = early_done text c.status items.items c.kept comes.0 comes.1 written
+  early_ends before now text (NoScenario n) comes written = λ scenario is plain. absurd (both purposes.Early text scenario n is comes)
+  early_ends before now text ReadFault comes written = λ scenario is plain. (
+    (λ enough. unless_read w w2 f f2 (admitted_status scenario) read_text status written),
+    (λ few. unless_read w w2 f f2 1 read_text status written),
+  )
+  early_ends before now text OtherWords comes written = absurd cc
+  early_ends before now text NoMemory comes written = λ scenario is plain. early_lost (admitted_status scenario) scenario plain [] written
+
   command_ends : (before now : ℕ) (command : Command) (left : Option (List ℕ)) (said : Said) →
       Comes (Some command) left before now said → Written (said_status said) (said_text said) w w2 f f2 status →
       EndsSo command left status
@@ -235,6 +274,8 @@ module _ (w w2 : Option (List ℕ)) (f f2 : ℕ) (status : ℕ) where
   command_ends before now (Told Gate) (Some text) said comes written = gate_ends before now text said comes written
   command_ends before now (Told Audit) None said comes written = tt
   command_ends before now (Told Audit) (Some text) said comes written = audit_ends before now text said comes written
+  command_ends before now (Told Early) None said comes written = tt
+  command_ends before now (Told Early) (Some text) said comes written = early_ends before now text said comes written
 
   pub status_ends : (before now : ℕ) (command : Option Command) (left : Option (List ℕ)) (said : Said) →
       Comes command left before now said → Written (said_status said) (said_text said) w w2 f f2 status →

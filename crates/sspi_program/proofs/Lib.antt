@@ -1,4 +1,6 @@
 pub mod Running
+pub mod EarlyStatus
+pub mod EarlyRecord
 pub mod Telling
 pub mod Ending
 pub mod TooLong

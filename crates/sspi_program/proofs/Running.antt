@@ -8,25 +8,30 @@ use Rattle.sspi_ber.specs.Outside.{Rose, Wrote, WroteFront}
 use Rattle.sspi_gate.specs.declared.answer.GateError.{GateError}
 use Rattle.sspi_gate.specs.declared.answer.Relayed.{Relayed}
 use Rattle.sspi_delegate.specs.declared.answer.DelegateError.TheVariants as errors
+use Rattle.sspi_early.specs.declared.answer.EarlyError.TheVariants as early_errors
+use Rattle.sspi_tsreq.specs.declared.early.EarlyUserAuthResult.{EarlyUserAuthResult}
+use Rattle.sspi_tsreq.specs.declared.early.EarlyUserAuthResult.TheVariants.{Success, AccessDenied}
 use Rattle.sspi_scenario.specs.declared.scenario.Scenario.{Scenario}
 use Rattle.sspi_scenario.specs.Reading.{IsReadWhole}
 use Rattle.sspi_program.specs.declared.command.Command.{Command}
 use Rattle.sspi_program.specs.declared.command.Command.TheVariants.{Told}
 use Rattle.sspi_program.specs.declared.command.Task.{Task}
-use Rattle.sspi_program.specs.declared.command.Task.TheVariants.{Delegate, Play, Gate, Audit}
+use Rattle.sspi_program.specs.declared.command.Task.TheVariants.{Delegate, Play, Gate, Audit, Early}
 use Rattle.sspi_program.specs.declared.record.Conducted.{Conducted}
 use Rattle.sspi_program.specs.declared.record.Record.{Record}
 use Rattle.sspi_program.specs.declared.record.RunOutcome.{RunOutcome}
+use Rattle.sspi_program.specs.declared.record.RunOutcome.TheVariants as outcomes
 use Rattle.sspi_program.specs.declared.record.RunOutcome.TheVariants.{Delegated, Played}
 use Rattle.sspi_program.specs.declared.said.Said.{Said}
 use Rattle.sspi_program.specs.declared.said.Said.TheVariants.{Done, NoScenario, ReadFault, OtherWords, NoMemory}
 use Rattle.sspi_program.specs.Audit.{IsAudited}
 use Rattle.sspi_program.specs.Commands.{task_in, purpose_of}
+use Rattle.sspi_program.specs.Early.{IsEarlyTold}
 use Rattle.sspi_program.specs.Gate.{IsGated, relayed_status}
 use Rattle.sspi_program.specs.Kept.{nothing, with_status}
 use Rattle.sspi_program.specs.Promises.{Keeps, KeptDue, Due, Does}
 use Rattle.sspi_program.specs.Run.{Outside, IsToldFor, NoneTold, Comes, IsJudged, KeepsOnly, IsReported, WroteLine, WroteOwed}
-use Rattle.sspi_program.specs.Said.{status_of, report_of, record_due, RecordDue, IsDue, said_status, said_text, conducted_as, words_text, read_text}
+use Rattle.sspi_program.specs.Said.{heard_status, status_of, report_of, record_due, RecordDue, IsDue, said_status, said_text, conducted_as, words_text, read_text}
 use Rattle.sspi_program.specs.Said.{Written}
 use Rattle.sspi_program.specs.Status.{IsUnlessWrite, IsUnlessFault}
 
@@ -77,6 +82,10 @@ module _ (w w2 : Option (List ℕ)) (f f2 : ℕ) where
 abbrev IsDone : ℕ → Type 0
 IsDone n = (n ≤ 1) ⊎ (n ≡ 5)
 
+small_heard : (heard : EarlyUserAuthResult) → heard_status heard ≤ 1
+small_heard Success = omega arith
+small_heard AccessDenied = omega arith
+
 small_status : (o : RunOutcome) (s : ℕ) → status_of o ≡ Some s → s ≤ 1
 small_status (Delegated (Ok delegation)) s e = let is : 0 ≡ s = cc in omega (arith, is)
 small_status (Delegated (Err (errors.Client error))) s e = let is : 1 ≡ s = cc in omega (arith, is)
@@ -88,6 +97,12 @@ small_status (Delegated (Err errors.TurnsSpent)) s e = let is : 1 ≡ s = cc in 
 small_status (Delegated (Err errors.InsufficientMemory)) s e = absurd cc
 small_status (Played (Ok played)) s e = let is : 0 ≡ s = cc in omega (arith, is)
 small_status (Played (Err error)) s e = absurd cc
+small_status (outcomes.Early (Ok early)) s e = let is : heard_status early.heard ≡ s = cc in subst (λ (n : ℕ). n ≤ 1) is (small_heard early.heard)
+small_status (outcomes.Early (Err (early_errors.Delegate error))) s e = let is : 1 ≡ s = cc in omega (arith, is)
+small_status (outcomes.Early (Err early_errors.Policy)) s e = let is : 1 ≡ s = cc in omega (arith, is)
+small_status (outcomes.Early (Err early_errors.LinkFault)) s e = let is : 1 ≡ s = cc in omega (arith, is)
+small_status (outcomes.Early (Err (early_errors.Read kind))) s e = let is : 1 ≡ s = cc in omega (arith, is)
+small_status (outcomes.Early (Err early_errors.InsufficientMemory)) s e = absurd cc
 
 mapped : (o : Option ℕ) (report : List ℕ) (own : ℕ) (text : List ℕ) → option_map {U = ℕ × List ℕ} (λ s. (s, report)) o ≡ Some (own, text) → o ≡ Some own
 mapped None report own text e = absurd cc
@@ -114,6 +129,9 @@ small_gated r own text gated = subst (λ (n : ℕ). n ≤ 1) (sym gated.status_i
 small_audited : (r : Record) (own : ℕ) (text : List ℕ) → IsAudited r own text → own ≤ 1
 small_audited r own text audited = small_status r.outcome own audited.status_is
 
+small_early : (r : Record) (own : ℕ) (text : List ℕ) → IsEarlyTold r own text → own ≤ 1
+small_early r own text told = small_status r.outcome own told.status_is
+
 small_due : (D : Record → ℕ → List ℕ → Type 0) → ((r : Record) (own : ℕ) (text : List ℕ) → D r own text → own ≤ 1) →
     (kept : Option Record) (own : ℕ) (text : List ℕ) → KeptDue D kept own text → own ≤ 1
 small_due D small None own text told = absurd told
@@ -124,6 +142,7 @@ due_small (Told Delegate) c own text told = small_due RecordDue small_record c.k
 due_small (Told Play) c own text told = small_due RecordDue small_record c.kept own text told
 due_small (Told Gate) c own text told = small_due IsGated small_gated c.kept own text told
 due_small (Told Audit) c own text told = small_due IsAudited small_audited c.kept own text told
+due_small (Told Early) c own text told = small_due IsEarlyTold small_early c.kept own text told
 
 done_by : (command : Command) (c : Conducted) (text : List ℕ) → IsDue (Due command c) c.status text → IsDone c.status
 done_by command c text (inl e) = inl (due_small command c c.status text e)
@@ -150,6 +169,7 @@ due_status (Told Delegate) status c own text h = h
 due_status (Told Play) status c own text h = h
 due_status (Told Gate) status c own text h = h
 due_status (Told Audit) status c own text h = h
+due_status (Told Early) status c own text h = h
 
 keeps_status : (command : Command) (IsOf : Scenario → Type 0) (status : ℕ) (c : Conducted) → Keeps command IsOf c →
     Keeps command IsOf (with_status status c)
@@ -157,12 +177,14 @@ keeps_status (Told Delegate) IsOf status c h = h
 keeps_status (Told Play) IsOf status c h = h
 keeps_status (Told Gate) IsOf status c h = h
 keeps_status (Told Audit) IsOf status c h = h
+keeps_status (Told Early) IsOf status c h = h
 
 keeps_nothing : (command : Command) (IsOf : Scenario → Type 0) (status : ℕ) → Keeps command IsOf (nothing status)
 keeps_nothing (Told Delegate) IsOf status = tt
 keeps_nothing (Told Play) IsOf status = tt
 keeps_nothing (Told Gate) IsOf status = tt
 keeps_nothing (Told Audit) IsOf status = tt
+keeps_nothing (Told Early) IsOf status = tt
 
 nothing_own : (c : Conducted) (status : ℕ) → c ≡ nothing status → c ≡ nothing c.status
 nothing_own c status is = is ∙ ap nothing (sym (ap (λ (d : Conducted). d.status) is))

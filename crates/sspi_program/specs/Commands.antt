@@ -5,7 +5,7 @@ use Rattle.std.specs.Str.{bytes_eq}
 use Rattle.sspi_program.specs.declared.command.Command.{Command}
 use Rattle.sspi_program.specs.declared.command.Command.TheVariants.{Told}
 use Rattle.sspi_program.specs.declared.command.Task.{Task}
-use Rattle.sspi_program.specs.declared.command.Task.TheVariants.{Delegate, Play, Gate, Audit}
+use Rattle.sspi_program.specs.declared.command.Task.TheVariants.{Delegate, Play, Gate, Audit, Early}
 use Rattle.sspi_scenario.specs.declared.purpose.Purpose.{Purpose}
 use Rattle.sspi_scenario.specs.declared.purpose.Purpose.TheVariants as purposes
 
@@ -15,6 +15,7 @@ task_named word =
     else if bytes_eq word (codes "play") then Some Play
     else if bytes_eq word (codes "gate") then Some Gate
     else if bytes_eq word (codes "audit") then Some Audit
+    else if bytes_eq word (codes "early") then Some Early
     else None
 
 -- one word names a task
@@ -36,3 +37,4 @@ purpose_of Delegate = purposes.Exchange
 purpose_of Play = purposes.Play
 purpose_of Gate = purposes.Exchange
 purpose_of Audit = purposes.Exchange
+purpose_of Early = purposes.Early

@@ -59,6 +59,8 @@ pub record IsExchange (r : Record) : Type 0 where
   -- the link has the scenario's edits
   pub edits : r.link.edits ≡ r.scenario.edit
   pub follows : FollowsEdits r.scenario.edit r.link.log
+  -- nobody is admitted
+  pub policy : r.policy ≡ []
   -- what `delegate` answered, and all that it promises of these ends
   pub answer : Result Delegation DelegateError
   pub outcome_is : r.outcome ≡ Delegated answer

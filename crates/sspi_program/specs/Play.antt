@@ -37,6 +37,8 @@ pub record HasPlay (r : Record) : Type 0 where
   pub client_named : IsClientOf r.scenario client
   pub server_named : IsServerOf r.scenario server
   pub link : r.link ≡ no_link
+  -- nobody is admitted
+  pub policy : r.policy ≡ []
   -- what `play` answered, and all that it promises of these ends
   pub answer : Result Played DelegateError
   pub outcome_is : r.outcome ≡ outcomes.Played answer

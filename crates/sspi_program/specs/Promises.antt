@@ -3,11 +3,12 @@ use Rattle.std.specs.Prelude.{ℕ, List, Option, IfSome, IsSome, IsSomeAnd}
 use Rattle.sspi_scenario.specs.declared.scenario.Scenario.{Scenario}
 use Rattle.sspi_program.specs.declared.command.Command.{Command}
 use Rattle.sspi_program.specs.declared.command.Command.TheVariants.{Told}
-use Rattle.sspi_program.specs.declared.command.Task.TheVariants.{Delegate, Play, Gate, Audit}
+use Rattle.sspi_program.specs.declared.command.Task.TheVariants.{Delegate, Play, Gate, Audit, Early}
 use Rattle.sspi_program.specs.declared.record.Conducted.{Conducted}
 use Rattle.sspi_program.specs.declared.record.Record.{Record}
 use Rattle.sspi_program.specs.Audit.{IsAudited}
 use Rattle.sspi_program.specs.Delegate.{HasExchange, DelegateEnds}
+use Rattle.sspi_program.specs.Early.{HasEarly, IsEarlyTold, EarlyEnds}
 use Rattle.sspi_program.specs.Gate.{IsGated, GateEnds}
 use Rattle.sspi_program.specs.Play.{HasPlay, PlayEnds}
 use Rattle.sspi_program.specs.Said.{status_of, RecordDue, IsDue}
@@ -22,6 +23,7 @@ Keeps (Told Delegate) IsOf conducted = KeepsRecord HasExchange IsOf conducted
 Keeps (Told Play) IsOf conducted = KeepsRecord HasPlay IsOf conducted
 Keeps (Told Gate) IsOf conducted = KeepsRecord HasExchange IsOf conducted
 Keeps (Told Audit) IsOf conducted = KeepsRecord HasExchange IsOf conducted
+Keeps (Told Early) IsOf conducted = KeepsRecord HasEarly IsOf conducted
 
 -- a record is kept for which these are due
 abbrev pub KeptDue : (Record → ℕ → List ℕ → Type 0) → Option Record → ℕ → List ℕ → Type 0
@@ -33,6 +35,7 @@ Due (Told Delegate) conducted status text = KeptDue RecordDue conducted.kept sta
 Due (Told Play) conducted status text = KeptDue RecordDue conducted.kept status text
 Due (Told Gate) conducted status text = KeptDue IsGated conducted.kept status text
 Due (Told Audit) conducted status text = KeptDue IsAudited conducted.kept status text
+Due (Told Early) conducted status text = KeptDue IsEarlyTold conducted.kept status text
 
 -- what a command made of a scenario that is such
 abbrev pub Does : Command → (Scenario → Type 0) → Conducted → List ℕ → Type 0
@@ -44,3 +47,4 @@ EndsSo (Told Delegate) left status = IfSome left (λ text. DelegateEnds text sta
 EndsSo (Told Play) left status = IfSome left (λ text. PlayEnds text status)
 EndsSo (Told Gate) left status = IfSome left (λ text. GateEnds text status)
 EndsSo (Told Audit) left status = IfSome left (λ text. DelegateEnds text status)
+EndsSo (Told Early) left status = IfSome left (λ text. EarlyEnds text status)

@@ -6,11 +6,17 @@ use Rattle.sspi_ber.specs.Outside.{Rose, Wrote, WroteFront}
 use Rattle.sspi_delegate.specs.declared.answer.Delegation.{Delegation}
 use Rattle.sspi_delegate.specs.declared.answer.DelegateError.{DelegateError}
 use Rattle.sspi_delegate.specs.declared.answer.DelegateError.TheVariants as errors
+use Rattle.sspi_early.specs.declared.answer.Early.{Early}
+use Rattle.sspi_early.specs.declared.answer.EarlyError.{EarlyError}
+use Rattle.sspi_early.specs.declared.answer.EarlyError.TheVariants as early_errors
+use Rattle.sspi_tsreq.specs.declared.early.EarlyUserAuthResult.{EarlyUserAuthResult}
+use Rattle.sspi_tsreq.specs.declared.early.EarlyUserAuthResult.TheVariants.{Success, AccessDenied}
 use Rattle.sspi_report.specs.Play.{play_text}
 use Rattle.sspi_report.specs.Report.{report_text}
 use Rattle.sspi_program.specs.declared.record.Conducted.{Conducted}
 use Rattle.sspi_program.specs.declared.record.Record.{Record}
 use Rattle.sspi_program.specs.declared.record.RunOutcome.{RunOutcome}
+use Rattle.sspi_program.specs.declared.record.RunOutcome.TheVariants as outcomes
 use Rattle.sspi_program.specs.declared.record.RunOutcome.TheVariants.{Delegated, Played}
 use Rattle.sspi_program.specs.declared.said.Said.{Said}
 use Rattle.sspi_program.specs.declared.said.Said.TheVariants.{Done, NoScenario, ReadFault, OtherWords, NoMemory}
@@ -36,17 +42,30 @@ delegated_status (Ok delegation) = Some 0
 delegated_status (Err errors.InsufficientMemory) = None
 delegated_status (Err error) = Some 1
 
+-- 0 where the client heard that its user may log on, and else 1
+abbrev pub heard_status : EarlyUserAuthResult → ℕ
+heard_status Success = 0
+heard_status AccessDenied = 1
+
+abbrev pub early_status : Result Early EarlyError → Option ℕ
+early_status (Ok early) = Some (heard_status early.heard)
+early_status (Err early_errors.InsufficientMemory) = None
+early_status (Err error) = Some 1
+
 -- the same of a play, which nothing refuses
 abbrev pub status_of : RunOutcome → Option ℕ
 status_of (Delegated answer) = delegated_status answer
 status_of (Played (Ok played)) = Some 0
 status_of (Played (Err error)) = None
+status_of (outcomes.Early answer) = early_status answer
 
--- the report of the whole log or of all turns, the first one first
+-- The report of the whole log or of all turns, the first one first. That of an early result has two parts, which its word puts
+-- together.
 abbrev pub report_by : RunOutcome → Record → List ℕ
 report_by (Delegated answer) kept = report_text (reverse kept.link.log) answer
 report_by (Played (Ok played)) kept = play_text (reverse kept.transcript.turns) played
 report_by (Played (Err error)) kept = []
+report_by (outcomes.Early answer) kept = []
 
 abbrev pub report_of : Record → List ℕ
 report_of kept = report_by kept.outcome kept

@@ -22,6 +22,8 @@ pub enum Task {
     Gate,
     /// What `Delegate` does, and then its turns and its log are judged.
     Audit,
+    /// What `Delegate` does, and then its server tells whether the user may log on.
+    Early,
 }
 
 impl Task {
@@ -32,6 +34,7 @@ impl Task {
         match self {
             Task::Delegate | Task::Gate | Task::Audit => Purpose::Exchange,
             Task::Play => Purpose::Play,
+            Task::Early => Purpose::Early,
         }
     }
 }
@@ -57,6 +60,7 @@ fn task_named(word: &str) -> Option<Task>
         "play" => Some(Task::Play),
         "gate" => Some(Task::Gate),
         "audit" => Some(Task::Audit),
+        "early" => Some(Task::Early),
         _ => None,
     }
 }

@@ -6,6 +6,7 @@ ghost use Rattle.sspi_scenario.specs.Held.{HoldsValues};
 use crate::ends::{Ends, ends_of, link_of};
 use crate::record::{Record, RunOutcome};
 use sspi_delegate::{MemoryLink, Transcript, delegate};
+use sspi_early::ListPolicy;
 use sspi_scenario::Scenario;
 use std::alloc::{AllocError, Global};
 
@@ -53,5 +54,6 @@ fn meet(alloc: Global, scenario: Scenario, ends: Ends, link: MemoryLink) -> Reco
         kdc,
         transcript,
         outcome: RunOutcome::Delegated(answer),
+        policy: ListPolicy::new(alloc, Vec::new(alloc)),
     }
 }

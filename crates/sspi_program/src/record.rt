@@ -4,6 +4,7 @@ ghost use Rattle.sspi_program.specs.Kept.{keeping};
 
 use crate::ends::{Client, Server};
 use sspi_delegate::{DelegateError, Delegation, MemoryLink, Transcript};
+use sspi_early::{Early, EarlyError, ListPolicy};
 use sspi_mech::PlainKdc;
 use sspi_play::Played;
 use sspi_scenario::Scenario;
@@ -47,6 +48,8 @@ pub struct Record {
     pub kdc: PlainKdc,
     pub transcript: Transcript,
     pub outcome: RunOutcome,
+    /// Who may log on; only an early result has names here.
+    pub policy: ListPolicy,
 }
 
 /// What the ends of a scenario came to.
@@ -56,4 +59,6 @@ pub enum RunOutcome {
     Delegated(Result<Delegation, DelegateError>),
     /// They took the deliveries of a schedule.
     Played(Result<Played, DelegateError>),
+    /// They carried their messages to each other, and the server told whether the user may log on.
+    Early(Result<Early, EarlyError>),
 }

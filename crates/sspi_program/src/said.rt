@@ -1,9 +1,10 @@
 ghost use Rattle.std.specs.Prelude.{◌≡◌, ◌++◌, IfOk};
-ghost use Rattle.sspi_program.specs.Said.{IsDoneWith, SaysOf, SaysWith, delegated_status, report_of, status_of};
+ghost use Rattle.sspi_program.specs.Said.{IsDoneWith, SaysOf, SaysWith, delegated_status, early_status, heard_status, report_of, status_of};
 
 use crate::record::{Conducted, Record, RunOutcome};
 use crate::status;
 use sspi_delegate::{DelegateError, Delegation};
+use sspi_early::{Early, EarlyError, EarlyUserAuthResult};
 use sspi_report::{play_report, report};
 use std::alloc::{AllocError, Global};
 
@@ -53,7 +54,7 @@ fn done_with(alloc: Global, made: Record, told: Result<(u8, Vec<u8>), AllocError
 }
 
 /// What was made is dropped. Generic, since of a type parameter that is one step, and of a record one for each type in it.
-fn no_memory<R: Drop, T: Drop>(_made: R, _told: T) -> Said
+pub fn no_memory<R: Drop, T: Drop>(_made: R, _told: T) -> Said
     ensures { result ≡ Said.NoMemory }
 {
     Said::NoMemory
@@ -76,6 +77,7 @@ pub fn status_of(outcome: &RunOutcome) -> Option<u8>
         RunOutcome::Delegated(answer) => delegated_status(answer),
         RunOutcome::Played(Ok(_)) => Some(status::DONE),
         RunOutcome::Played(Err(_)) => None,
+        RunOutcome::Early(answer) => early_status(answer),
     }
 }
 
@@ -89,12 +91,34 @@ fn delegated_status(answer: &Result<Delegation, DelegateError>) -> Option<u8>
     }
 }
 
-fn report_of(alloc: Global, kept: &Record) -> Result<Vec<u8>, AllocError>
+fn early_status(answer: &Result<Early, EarlyError>) -> Option<u8>
+    ensures { result ≡ early_status answer.now }
+{
+    match answer {
+        Ok(early) => Some(heard_status(early.heard)),
+        Err(EarlyError::InsufficientMemory) => None,
+        Err(EarlyError::Delegate(_) | EarlyError::Policy) => Some(status::REFUSED),
+        Err(EarlyError::LinkFault | EarlyError::Read(_)) => Some(status::REFUSED),
+    }
+}
+
+fn heard_status(heard: EarlyUserAuthResult) -> u8
+    ensures { result ≡ heard_status heard }
+{
+    match heard {
+        EarlyUserAuthResult::Success => status::DONE,
+        EarlyUserAuthResult::AccessDenied => status::REFUSED,
+    }
+}
+
+/// The report of what the ends did by themselves; nothing where that was not all.
+pub fn report_of(alloc: Global, kept: &Record) -> Result<Vec<u8>, AllocError>
     ensures { IfOk result (λ text. text.items ≡ report_of kept.now) }
 {
     match &kept.outcome {
         RunOutcome::Delegated(answer) => report(alloc, kept.link.log(), answer),
         RunOutcome::Played(Ok(played)) => play_report(alloc, kept.transcript.turns(), played),
         RunOutcome::Played(Err(_)) => Ok(Vec::new(alloc)),
+        RunOutcome::Early(_) => Ok(Vec::new(alloc)),
     }
 }

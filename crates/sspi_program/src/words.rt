@@ -5,6 +5,7 @@ ghost use Rattle.sspi_scenario.specs.Held.{HoldsValues};
 
 mod audit;
 mod delegate;
+mod early;
 mod gate;
 mod play;
 
@@ -22,5 +23,6 @@ pub fn conduct(alloc: Global, task: Task, scenario: Scenario) -> Said
         Task::Play => play::play(alloc, scenario),
         Task::Gate => gate::gate(alloc, scenario),
         Task::Audit => audit::audit(alloc, scenario),
+        Task::Early => early::early(alloc, scenario),
     }
 }

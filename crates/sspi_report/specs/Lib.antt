@@ -4,4 +4,5 @@ pub mod Outcome
 pub mod Play
 pub mod Report
 pub mod Gate
+pub mod Early
 pub mod Audit

@@ -1,9 +1,11 @@
 //! Reports of what two ends did. That of a delegation has what each end sent, what else was delivered of it, and what the exchange
-//! came to; that of a play has what each end sent, and how the ends stand. Besides there are the lines of an audit and of a relay.
+//! came to; that of a play has what each end sent, and how the ends stand. Besides there are the lines of an audit and of a relay, and
+//! what stands behind the report of a delegation that has an early result.
 #![tactic(auto)]
 
 pub mod audit;
 pub mod delegation;
+pub mod early;
 mod entries;
 pub mod gate;
 pub mod laws;
@@ -13,5 +15,6 @@ pub mod play;
 
 pub use audit::audit_line;
 pub use delegation::report;
+pub use early::early_report;
 pub use gate::gate_line;
 pub use play::play_report;

@@ -177,6 +177,7 @@ row-keeps key.Edit text change utf8 e = keeps-by _ (edit_of text) change e (λ x
 row-keeps key.Deliver text change utf8 e = keeps-by _ (delivery_of text) change e (λ x is v h. h)
 row-keeps key.ClientLeast text change utf8 e = keeps-by _ (number_of text) change e (λ x is v h. h)
 row-keeps key.ServerLeast text change utf8 e = keeps-by _ (number_of text) change e (λ x is v h. h)
+row-keeps key.Admit text change utf8 e = keeps-by _ (parse_name text) change e (λ x is v h. h)
 
 value-keeps : (k : Key) (line : List ℕ) (told : Told) (o : Option (Values → Values)) → IsUtf8 line → (row k).value (after_space line) ≡ o →
     (o >>= (λ change. Some (record { key = k; change = change }))) ≡ Some told → Keeps told.change

@@ -3,15 +3,19 @@ use Rattle.std.specs.Prelude.{ℕ, Bool, true, false, List, Option, Some, None, 
 use Rattle.sspi_scenario.specs.declared.key.Key.{Key}
 use Rattle.sspi_scenario.specs.declared.key.Key.TheVariants as key
 use Rattle.sspi_scenario.specs.declared.purpose.Purpose.{Purpose}
-use Rattle.sspi_scenario.specs.declared.purpose.Purpose.TheVariants.{Exchange, Play}
+use Rattle.sspi_scenario.specs.declared.purpose.Purpose.TheVariants.{Exchange, Play, Early}
 use Rattle.sspi_scenario.specs.Keys.{key_named}
 use Rattle.sspi_scenario.specs.Optional.{◌>>=◌}
 
--- only an exchange has a limit of turns and a link that changes messages, and only a play has deliveries
+-- a play alone has deliveries, and neither a limit of turns nor a link that changes messages; a policy that admits users has only
+-- what tells an early result
 abbrev pub takes : Purpose → Key → Bool
 takes Exchange key.Deliver = false
+takes Exchange key.Admit = false
 takes Play key.Turns = false
 takes Play key.Edit = false
+takes Play key.Admit = false
+takes Early key.Deliver = false
 takes purpose other = true
 
 -- the key of this name, where a scenario for this may have it

@@ -67,6 +67,7 @@ defaults = record {
     deliver = [];
     client_least = 5;
     server_least = 5;
+    admit = [];
   };
   accounts = accounts.Own;
 }

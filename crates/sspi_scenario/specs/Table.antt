@@ -67,6 +67,7 @@ row key.Edit = again (codes "edit") (tells edit_of (λ x s. record s { edit = s.
 row key.Deliver = again (codes "deliver") (tells delivery_of (λ x s. record s { deliver = s.deliver ++ x ∷ [] }))
 row key.ClientLeast = once (codes "client-least") (tells number_of (λ x s. record s { client_least = x }))
 row key.ServerLeast = once (codes "server-least") (tells number_of (λ x s. record s { server_least = x }))
+row key.Admit = again (codes "admit") (tells parse_name (λ x s. record s { admit = s.admit ++ x ∷ [] }))
 
 -- the keys that there are
 abbrev pub all_keys : List Key
@@ -75,4 +76,4 @@ all_keys =
     key.Computer ∷ key.Target ∷ key.Delegation ∷ key.Keytab ∷ key.ClientProtocol ∷ key.ServerProtocol ∷ key.ClientPackages ∷
     key.ServerPackages ∷ key.ClientUrl ∷ key.Kdc ∷ key.KdcUser ∷ key.KdcAnswer ∷ key.Ticket ∷
     key.Account ∷ key.Accounts ∷ key.ProxyFail ∷ key.Turns ∷ key.Edit ∷ key.Deliver ∷
-    key.ClientLeast ∷ key.ServerLeast ∷ []
+    key.ClientLeast ∷ key.ServerLeast ∷ key.Admit ∷ []

@@ -37,9 +37,10 @@ pub enum Key {
     Deliver,
     ClientLeast,
     ServerLeast,
+    Admit,
 }
 
-const NAMES: [(Key, &str); 30] = [
+const NAMES: [(Key, &str); 31] = [
     (Key::Mode, "mode"),
     (Key::User, "user"),
     (Key::Password, "password"),
@@ -70,6 +71,7 @@ const NAMES: [(Key, &str); 30] = [
     (Key::Deliver, "deliver"),
     (Key::ClientLeast, "client-least"),
     (Key::ServerLeast, "server-least"),
+    (Key::Admit, "admit"),
 ];
 
 impl Key {
@@ -111,6 +113,7 @@ impl Key {
                 | Key::ProxyFail
                 | Key::Edit
                 | Key::Deliver
+                | Key::Admit
         )
     }
 }

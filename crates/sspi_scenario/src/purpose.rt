@@ -11,6 +11,8 @@ pub enum Purpose {
     Exchange,
     /// Its ends take the deliveries of a schedule.
     Play,
+    /// Its ends carry their messages to each other over a link, and then its server tells who may log on.
+    Early,
 }
 
 impl Purpose {
@@ -28,8 +30,9 @@ impl Purpose {
         ensures { result ≡ Purposes.takes self key }
     {
         match self {
-            Purpose::Exchange => !matches!(key, Key::Deliver),
-            Purpose::Play => !matches!(key, Key::Turns | Key::Edit),
+            Purpose::Exchange => !matches!(key, Key::Deliver | Key::Admit),
+            Purpose::Play => !matches!(key, Key::Turns | Key::Edit | Key::Admit),
+            Purpose::Early => !matches!(key, Key::Deliver),
         }
     }
 }

@@ -84,6 +84,8 @@ pub struct Scenario {
     /// The least version of its peer that the client takes.
     pub client_least: u32,
     pub server_least: u32,
+    /// The names of those whom the server's policy admits.
+    pub admit: Rows<Username>,
 }
 
 /// Why a text gave no scenario.

@@ -66,6 +66,7 @@ impl Values {
             deliver: Rows::new(alloc),
             client_least: 5,
             server_least: 5,
+            admit: Rows::new(alloc),
         };
         Ok(Values {
             scenario,
@@ -109,6 +110,7 @@ impl Values {
             Key::Deliver => told.deliver.push(delivery(alloc, value)?)?,
             Key::ClientLeast => told.client_least = found(number(value))?,
             Key::ServerLeast => told.server_least = found(number(value))?,
+            Key::Admit => told.admit.push(user(alloc, value)?)?,
         }
         Ok(())
     }

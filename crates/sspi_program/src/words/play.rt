@@ -8,6 +8,7 @@ use crate::ends::{Ends, ends_of};
 use crate::record::{Record, RunOutcome};
 use crate::said::{Said, said_of};
 use sspi_delegate::{MemoryLink, Transcript};
+use sspi_early::ListPolicy;
 use sspi_scenario::Scenario;
 use std::alloc::{AllocError, Global};
 
@@ -58,5 +59,6 @@ fn hand_out(alloc: Global, scenario: Scenario, ends: Ends) -> Record
         kdc,
         transcript,
         outcome: RunOutcome::Played(answer),
+        policy: ListPolicy::new(alloc, Vec::new(alloc)),
     }
 }

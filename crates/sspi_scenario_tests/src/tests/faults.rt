@@ -3,7 +3,7 @@ use std::alloc::Global;
 use std::process::Abort;
 
 /// Texts for an exchange, each with the number of its first faulty line.
-const FAULTS: [(&str, usize); 53] = [
+const FAULTS: [(&str, usize); 54] = [
     ("", 0),
     ("mode ntlm\nuser a\npassword p\n", 0),
     ("mode negotiate\nuser a\npassword p\n", 0),
@@ -55,12 +55,13 @@ const FAULTS: [(&str, usize); 53] = [
     ("edit 0 again", 1),
     ("edit 00 drop", 1),
     ("deliver client", 1),
+    ("admit ann", 1),
     ("mode ntlm\nuser a\nuser b\nkey 0", 3),
     ("mode negotiate\nclient-protocol x\nmode x", 2),
 ];
 
 /// The same for a play, which has deliveries, and neither a limit of turns nor a link that changes messages.
-const FAULTS_OF_A_PLAY: [(&str, usize); 8] = [
+const FAULTS_OF_A_PLAY: [(&str, usize); 9] = [
     (
         "deliver client\ndeliver server\ndeliver client 00\ndeliver",
         4,
@@ -72,6 +73,15 @@ const FAULTS_OF_A_PLAY: [(&str, usize); 8] = [
     ("deliver server  00", 1),
     ("turns 5", 1),
     ("deliver server \nedit 0 drop", 2),
+    ("admit ann", 1),
+];
+
+/// The same for an early result, which has names that are admitted, and no deliveries.
+const FAULTS_OF_AN_EARLY: [(&str, usize); 4] = [
+    ("admit ann\nadmit ann\nadmit\nadmit a\\b@c", 4),
+    ("admits ann", 1),
+    ("turns 5\nedit 0 drop\ndeliver client", 3),
+    ("admit ann", 0),
 ];
 
 fn is_refused(rt: &impl Abort, alloc: Global, purpose: Purpose, text: &str, line: usize) {
@@ -88,5 +98,8 @@ fn faults_are_found_at_their_lines(rt: HostRuntime) {
     }
     for (text, line) in FAULTS_OF_A_PLAY {
         is_refused(&rt, rt.alloc(), Purpose::Play, text, line);
+    }
+    for (text, line) in FAULTS_OF_AN_EARLY {
+        is_refused(&rt, rt.alloc(), Purpose::Early, text, line);
     }
 }

@@ -117,6 +117,29 @@ fn deliveries_are_read_in_their_order(rt: HostRuntime) {
     is_told_of_a_play(&rt, rt.alloc());
 }
 
+const ADMITTED: &[u8] =
+    b"mode ntlm\nadmit DOM\\ann\nuser a\npassword p\nadmit \nkey 00\nadmit ann@EXAMPLE.COM";
+
+fn names_are_told(told: &Scenario) -> bool {
+    let names = told.admit.as_slice();
+    names.len() == 3
+        && names[0].inner() == "DOM\\ann"
+        && names[1].inner() == ""
+        && names[2].inner() == "ann@EXAMPLE.COM"
+}
+
+fn is_told_of_an_early(rt: &impl Abort, alloc: Global) {
+    match Scenario::parse(alloc, Purpose::Early, ADMITTED) {
+        Ok(told) => assert!(rt; names_are_told(&told)),
+        Err(_) => assert!(rt; false, "no scenario"),
+    }
+}
+
+#[test]
+fn admitted_names_are_read_in_their_order(rt: HostRuntime) {
+    is_told_of_an_early(&rt, rt.alloc());
+}
+
 fn ends_are_the_default(given: &Scenario) -> bool {
     given.mode == Mode::Ntlm
         && given.server_key.as_slice() == [1, 2, 3].as_slice()
@@ -156,6 +179,7 @@ fn lists_are_the_default(given: &Scenario) -> bool {
         && given.edit.as_slice().is_empty()
         && given.deliver.as_slice().is_empty()
         && given.proxy_fail.as_slice().is_empty()
+        && given.admit.as_slice().is_empty()
 }
 
 fn check_defaults(rt: &impl Abort, given: &Scenario) {

@@ -1,0 +1,4 @@
+pub mod Taking
+pub mod Heard
+pub mod Honest
+pub mod Undisturbed

@@ -1,0 +1,28 @@
+-- What an exchange with its early result comes to, where nothing stands in its way.
+use Rattle.std.specs.Prelude.{◌≡◌, ℕ, Result, Ok, Err}
+use Rattle.sspi_names.specs.declared.identity.AuthIdentity.{AuthIdentity}
+use Rattle.sspi_delegate.specs.declared.answer.DelegateError.TheVariants as errors
+use Rattle.sspi_early.specs.declared.answer.Authorized.{Authorized}
+use Rattle.sspi_early.specs.declared.answer.Early.{Early}
+use Rattle.sspi_early.specs.declared.answer.EarlyError.{EarlyError}
+use Rattle.sspi_early.specs.declared.answer.EarlyError.TheVariants.{Delegate, InsufficientMemory}
+
+-- So many messages of the client delegated this identity, and the client heard what the server told; or there was no memory.
+abbrev pub ComesToOkEarly : ℕ → AuthIdentity → Result Early EarlyError → Type 0
+ComesToOkEarly messages identity (Ok early) = (early.delegation.turns ≡ messages) × (early.delegation.credentials ≡ identity)
+    × (early.heard ≡ early.told)
+ComesToOkEarly messages identity (Err InsufficientMemory) = Unit {0}
+ComesToOkEarly messages identity (Err error) = ⊥
+
+-- the client may not make as many messages; or there was no memory
+abbrev pub IsCutShortEarly : Result Early EarlyError → Type 0
+IsCutShortEarly (Ok early) = ⊥
+IsCutShortEarly (Err (Delegate errors.TurnsSpent)) = Unit {0}
+IsCutShortEarly (Err InsufficientMemory) = Unit {0}
+IsCutShortEarly (Err error) = ⊥
+
+-- the client heard what the server told; or there was no memory
+abbrev pub IsHonest : Result Authorized EarlyError → Type 0
+IsHonest (Ok authorized) = authorized.heard ≡ authorized.told
+IsHonest (Err InsufficientMemory) = Unit {0}
+IsHonest (Err error) = ⊥

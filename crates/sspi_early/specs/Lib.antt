@@ -1,0 +1,5 @@
+pub mod Policy
+pub mod Heard
+pub mod Authorizes
+pub mod Early
+pub mod Completes

@@ -1,0 +1,37 @@
+ghost use Rattle.sspi_delegate.specs.Deliveries.{IsUnread};
+ghost use Rattle.sspi_delegate.specs.Link.{LinkCause, NeverFails, StaysTold};
+ghost use Rattle.sspi_early.specs.Heard.{IsResultIn, Takes};
+
+use sspi_delegate::{Link, LinkError};
+use sspi_tsreq::{EARLY_USER_AUTH_RESULT_PDU_SIZE, EarlyUserAuthResult};
+
+/// The bytes with which the newest delivery begins, as many as a result has and no more; none where it ends before.
+pub(crate) fn take_result<L: Link>(
+    link: &mut L,
+) -> Result<Option<[u8; EARLY_USER_AUTH_RESULT_PDU_SIZE]>, LinkError>
+    ensures takes { IsUnread (L.log link.old) → Takes (L.log link.old) (L.log link.new) result }
+    ensures cause { LinkCause (L.faults link.old) (L.faults link.new) result }
+    ensures told { StaysTold (L.edits link.old) (L.edits link.new) (L.log link.old) (L.log link.new) }
+    ensures still { NeverFails (L.edits link.old) (L.faults link.old) (L.faults link.new) result }
+{
+    let mut bytes = [0; EARLY_USER_AUTH_RESULT_PDU_SIZE];
+    let mut taken = 0;
+    while taken < EARLY_USER_AUTH_RESULT_PDU_SIZE {
+        let count = match link.piece(&mut bytes[taken..]) {
+            Ok(count) => count,
+            Err(error) => return Err(error),
+        };
+        if count == 0 {
+            return Ok(None);
+        }
+        taken += count;
+    }
+    Ok(Some(bytes))
+}
+
+/// The result that these bytes are, if they are one.
+pub(crate) fn result_in(bytes: [u8; EARLY_USER_AUTH_RESULT_PDU_SIZE]) -> Option<EarlyUserAuthResult>
+    ensures { IsResultIn bytes result }
+{
+    EarlyUserAuthResult::from_u32(u32::from_le_bytes(bytes))
+}

@@ -1,0 +1,26 @@
+use sspi_names::AuthIdentity;
+
+/// Why a policy made no decision.
+#[derive(Clone, Copy, Debug, PartialEq, Eq)]
+pub enum PolicyError {
+    /// The decision could not be made.
+    Failed,
+    /// There was no memory for it.
+    InsufficientMemory,
+}
+
+/// Which of the users that a server knows by their credentials may log on.
+///
+/// The count of faults never falls. A call that answers `Failed` has raised it, but for one that found it as high as it goes. A
+/// policy may tell the names of those who may log on: then its decisions are by them, and no call changes them.
+pub trait Policy: Drop {
+    ghost use Rattle.sspi_early.specs.Policy.{PolicyMeaning, HasDecided};
+
+    // What the policy tells of itself, and what its calls may answer.
+    ghost meaning: { PolicyMeaning Self };
+
+    /// Whether the user of this identity may log on. Names are compared by form, account and domain, without the case of ASCII
+    /// letters.
+    fn admits(&mut self, identity: &AuthIdentity) -> Result<bool, PolicyError>
+        ensures { HasDecided meaning self.old identity.now result self.new };
+}

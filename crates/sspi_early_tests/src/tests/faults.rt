@@ -1,0 +1,99 @@
+//! Policies and links that fail.
+
+use crate::tests::words::{answer, identity, same, unmade};
+use sspi_delegate::{Carrier, End, KeptLink, LinkError, MemoryLink};
+use sspi_early::{FailingPolicy, ListPolicy, Policy, PolicyError, authorize};
+use sspi_names::AuthIdentity;
+use std::alloc::Global;
+use std::process::Abort;
+
+/// A carrier that gives one zero at a time, and fails from a call of `receive` on, which is counted from 0.
+#[derive(Drop)]
+struct Failing {
+    from: u64,
+    received: u64,
+    faults: u64,
+}
+
+impl Carrier for Failing {
+    ghost faults = { λ carrier. carrier.faults };
+
+    fn send(&mut self, _from: End, _sent: &[u8]) -> Result<(), LinkError> {
+        Ok(())
+    }
+
+    fn receive(&mut self, into: &mut [u8]) -> Result<usize, LinkError> {
+        if self.received >= self.from {
+            self.faults = self.faults.saturating_add(1);
+            return Err(LinkError::Failed);
+        }
+        self.received = self.received.saturating_add(1);
+        match into.first_mut() {
+            Some(first) => {
+                *first = 0;
+                Ok(1)
+            }
+            None => Ok(0),
+        }
+    }
+}
+
+/// Over a link whose delivery fails from its so-manieth byte on, counted from 0.
+fn over_failing(rt: &impl Abort, alloc: Global, identity: &AuthIdentity, from: u64, words: &str) {
+    let carrier = Failing {
+        from,
+        received: 0,
+        faults: 0,
+    };
+    let mut link = KeptLink::new(alloc, carrier);
+    let mut policy = ListPolicy::new(alloc, Vec::new(alloc));
+    let found = authorize(&mut link, &mut policy, identity);
+    match (answer(words), link.log()) {
+        (Some(wanted), [entry]) => {
+            assert!(rt; same(&found, &wanted));
+            assert_eq!(rt; entry.sent.as_slice(), [5, 0, 0, 0].as_slice());
+            assert_eq!(rt; entry.delivered.len() as u64, from.min(4));
+            assert!(rt; !entry.ended);
+        }
+        _ => unmade(rt),
+    }
+}
+
+#[test]
+fn a_delivery_that_fails_is_a_fault_of_the_link(rt: HostRuntime) {
+    let alloc = rt.alloc();
+    match identity(alloc, "DOM\\ann") {
+        Some(identity) => {
+            for from in [0, 1, 2, 3] {
+                over_failing(&rt, alloc, &identity, from, "link");
+            }
+            over_failing(&rt, alloc, &identity, 4, "denied success");
+        }
+        None => unmade(&rt),
+    }
+}
+
+fn asked<P: Policy>(policy: &mut P, identity: &AuthIdentity) -> Result<bool, PolicyError> {
+    policy.admits(identity)
+}
+
+#[test]
+fn a_policy_that_fails_tells_nothing(rt: HostRuntime) {
+    let alloc = rt.alloc();
+    match identity(alloc, "DOM\\ann") {
+        Some(identity) => {
+            let mut policy = FailingPolicy::new();
+            let mut link = MemoryLink::new(alloc, Vec::new(alloc));
+            let found = authorize(&mut link, &mut policy, &identity);
+            match answer("policy") {
+                Some(wanted) => assert!(rt; same(&found, &wanted)),
+                None => unmade(&rt),
+            }
+            assert_eq!(rt; link.log().len(), 0);
+            assert_eq!(rt; asked(&mut policy, &identity), Err(PolicyError::Failed));
+            let mut listed = ListPolicy::new(alloc, Vec::new(alloc));
+            assert_eq!(rt; asked(&mut listed, &identity), Ok(false));
+        }
+        None => unmade(&rt),
+    }
+}
