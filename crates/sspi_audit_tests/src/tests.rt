@@ -1,3 +1,7 @@
+mod limits;
 mod negotiated;
+mod negotiated_changes;
 mod ntlm;
+mod ntlm_changes;
 mod records;
+mod tables;

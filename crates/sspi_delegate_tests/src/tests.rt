@@ -1,4 +1,9 @@
 //! The links by themselves, and whole exchanges over them.
 
-mod exchange;
+mod carrier;
+mod edits;
+mod ends;
+mod exchanges;
 mod links;
+mod messages;
+mod words;

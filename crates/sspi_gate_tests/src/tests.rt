@@ -1,3 +1,4 @@
+mod damages;
 mod faults;
 mod rows;
 mod words;

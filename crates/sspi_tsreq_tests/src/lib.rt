@@ -1,8 +1,11 @@
 //! Tests of the messages of CredSSP by the calls that every caller has: worked requests, credentials and results, and each place
 //! where the first fault can be.
 //!
+//! - `damages.rt`: the damaged requests, which tests of a relay read too.
+//!
 //! The codec stands in `sspi_tsreq`, which is then proved once: a crate with tests is proved with them and without.
 #![tactic(auto)]
 
+pub mod damages;
 #[cfg(test)]
 mod tests;

@@ -1,8 +1,8 @@
 //! Records told by lines of text, and what an auditor finds of them once they were changed.
 //!
 //! Each line of an exchange has a name: `A` to `H` are messages and `s` and `l` blobs, in hex; `0` to `9` are turns and `a` to `g` entries
-//! of the log. Octets are a name or hex, where `~` behind a name alters the last octet and `+` adds what follows. A request is
-//! the name of a message, with changes of its fields behind `;`.
+//! of the log. Octets are a name or hex, where `~` behind a name alters the last octet, `*` repeats so often and `+` adds what follows. A
+//! request is the name of a message, with changes of its fields behind `;`. An act behind `!` is taken away again.
 //!
 //! A case is the verdict, the turns and the entries by their names, and what is changed in these, as `4.acts=checked`.
 
@@ -19,25 +19,30 @@ pub trait Test: Abort + Alloc<A = Global> {}
 
 impl<R: Abort + Alloc<A = Global>> Test for R {}
 
-fn given<T, E: Drop>(rt: &impl Abort, answer: Result<T, E>) -> T {
+pub fn given<T, E: Drop>(rt: &impl Abort, answer: Result<T, E>) -> T {
     match answer {
         Ok(value) => value,
         Err(_) => rt.abort(),
     }
 }
 
-fn told<T>(rt: &impl Abort, answer: Option<T>) -> T {
+pub fn told<T>(rt: &impl Abort, answer: Option<T>) -> T {
     match answer {
         Some(value) => value,
         None => rt.abort(),
     }
 }
 
+/// What stands before and behind a mark.
+pub fn halves<'a>(rt: &impl Abort, text: &'a str, mark: &str) -> (&'a str, &'a str) {
+    told(rt, text.split_once(mark))
+}
+
 /// An exchange, and what is changed in it.
 #[derive(Clone, Copy)]
-struct Record<'a> {
-    exchange: &'a str,
-    changes: &'a str,
+pub struct Record<'a> {
+    pub exchange: &'a str,
+    pub changes: &'a str,
 }
 
 fn value_of<'a>(words: &'a str, key: &str) -> Option<&'a str> {
@@ -64,7 +69,8 @@ fn changed<'a>(changes: &'a str, name: char, key: &str) -> Option<&'a str> {
     None
 }
 
-fn unchanged<'a>(exchange: &'a str, name: char, key: &str) -> Option<&'a str> {
+/// A field of a line as the exchange has it.
+pub fn unchanged<'a>(exchange: &'a str, name: char, key: &str) -> Option<&'a str> {
     for line in exchange.lines() {
         if line.starts_with(name) {
             return value_of(line, key);
@@ -101,21 +107,30 @@ fn altered(mut octets: Vec<u8>) -> Vec<u8> {
 }
 
 fn octets(rt: &impl Test, exchange: &str, value: &str) -> Vec<u8> {
-    if let Some(name) = value.strip_suffix("~") {
-        return altered(octets_of(rt, exchange, name));
+    let mut octets = Vec::new(rt.alloc());
+    for piece in value.split('+') {
+        let piece = octets_of(rt, exchange, piece);
+        given(rt, octets.extend_from_slice(&piece));
     }
-    match value.split_once('+') {
-        None => octets_of(rt, exchange, value),
-        Some((name, more)) => {
-            let mut octets = octets_of(rt, exchange, name);
-            let more = given(rt, hex::decode(rt.alloc(), more));
-            given(rt, octets.extend_from_slice(&more));
-            octets
-        }
+    octets
+}
+
+fn octets_of(rt: &impl Test, exchange: &str, piece: &str) -> Vec<u8> {
+    if let Some(name) = piece.strip_suffix("~") {
+        return altered(named(rt, exchange, name));
+    }
+    match piece.split_once('*') {
+        Some((digits, times)) => repeated(rt, exchange, digits, given(rt, times.parse())),
+        None => named(rt, exchange, piece),
     }
 }
 
-fn octets_of(rt: &impl Test, exchange: &str, name: &str) -> Vec<u8> {
+fn repeated(rt: &impl Test, exchange: &str, digits: &str, times: usize) -> Vec<u8> {
+    let octets = named(rt, exchange, digits);
+    given(rt, octets.repeat(rt.alloc(), times))
+}
+
+fn named(rt: &impl Test, exchange: &str, name: &str) -> Vec<u8> {
     given(rt, hex::decode(rt.alloc(), digits(exchange, name)))
 }
 
@@ -173,16 +188,21 @@ fn end(rt: &impl Abort, name: &str) -> End {
 }
 
 fn act(rt: &impl Abort, acts: &mut Acts, name: &str) {
+    let (name, is_made) = match name.strip_prefix("!") {
+        Some(name) => (name, false),
+        None => (name, true),
+    };
     match name {
-        "step" => acts.negotiated = true,
+        "step" => acts.negotiated = is_made,
+        "status" => acts.status = None,
         "ok" => acts.status = Some(SecurityStatus::Ok),
         "continue" => acts.status = Some(SecurityStatus::ContinueNeeded),
         "complete" => acts.status = Some(SecurityStatus::CompleteNeeded),
         "local" => acts.status = Some(SecurityStatus::LocalLogon),
-        "proved" => acts.proved = true,
-        "checked" => acts.checked = true,
-        "sealed" => acts.sealed = true,
-        "opened" => acts.opened = true,
+        "proved" => acts.proved = is_made,
+        "checked" => acts.checked = is_made,
+        "sealed" => acts.sealed = is_made,
+        "opened" => acts.opened = is_made,
         _ => rt.abort(),
     }
 }
@@ -292,14 +312,18 @@ fn first(line: &str) -> (&str, &str) {
     }
 }
 
+/// The verdict on a record with the turns and the entries of these names.
+pub fn found(rt: &impl Test, record: Record<'_>, turn_names: &str, entry_names: &str) -> Verdict {
+    let turns = turns(rt, record, turn_names);
+    let log = log(rt, record, entry_names);
+    given(rt, audit(rt.alloc(), &turns, &log))
+}
+
 fn is_judged(rt: &impl Test, exchange: &str, case: &str) {
     let (wanted, rest) = first(case);
     let (turn_names, rest) = first(rest);
     let (entry_names, changes) = first(rest);
-    let record = Record { exchange, changes };
-    let turns = turns(rt, record, turn_names);
-    let log = log(rt, record, entry_names);
-    let found = given(rt, audit(rt.alloc(), &turns, &log));
+    let found = found(rt, Record { exchange, changes }, turn_names, entry_names);
     assert!(rt; found == verdict(rt, wanted), "{case}");
 }
 

@@ -70,7 +70,8 @@ pub(crate) fn answer(words: &str) -> Option<Answer> {
     }
 }
 
-/// A relay of these two streams gives this answer, and so many bytes of each stream are written and taken at least.
+/// A relay of these two streams gives this answer, and so many bytes of each stream are written and taken at least. What is left of
+/// the streams has the lengths that this gives, the client's first.
 pub(crate) fn relays(
     rt: &impl Abort,
     alloc: Global,
@@ -80,7 +81,7 @@ pub(crate) fn relays(
     wanted: Answer,
     to_server: usize,
     to_client: usize,
-) {
+) -> (usize, usize) {
     let mut client_in = SliceSource::new(client);
     let mut server_in = SliceSource::new(server);
     let mut server_out = VecSink::new(alloc);
@@ -98,6 +99,7 @@ pub(crate) fn relays(
     is_front(rt, client_out.written(), server, to_client);
     left_only(rt, answer, client_in.rest(), client, to_server, End::Client);
     left_only(rt, answer, server_in.rest(), server, to_client, End::Server);
+    (client_in.rest().len(), server_in.rest().len())
 }
 
 fn is_front(rt: &impl Abort, front: &[u8], stream: &[u8], len: usize) {
