@@ -5,3 +5,4 @@ pub mod Play
 pub mod Report
 pub mod Gate
 pub mod Audit
+pub mod Summary

@@ -1,5 +1,6 @@
 //! Reports of what two ends did. That of a delegation has what each end sent, what else was delivered of it, and what the exchange
-//! came to; that of a play has what each end sent, and how the ends stand. Besides there are the lines of an audit and of a relay.
+//! came to; that of a play has what each end sent, and how the ends stand. Besides there are the lines of an audit and of a relay, and
+//! the summary of many exchanges.
 #![tactic(auto)]
 
 pub mod audit;
@@ -10,8 +11,10 @@ pub mod laws;
 mod names;
 mod outcome;
 pub mod play;
+pub mod summary;
 
 pub use audit::audit_line;
 pub use delegation::report;
 pub use gate::gate_line;
 pub use play::play_report;
+pub use summary::{Kind, Summary, summary_text};
