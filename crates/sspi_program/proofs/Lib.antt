@@ -4,3 +4,5 @@ pub mod Ending
 pub mod TooLong
 pub mod Conducting
 pub mod Plainly
+pub mod Numbered
+pub mod Tallying

@@ -9,5 +9,6 @@ pub mod Status
 pub mod Said
 pub mod Gate
 pub mod Audit
+pub mod Generate
 pub mod Promises
 pub mod Run

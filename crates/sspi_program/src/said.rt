@@ -53,7 +53,7 @@ fn done_with(alloc: Global, made: Record, told: Result<(u8, Vec<u8>), AllocError
 }
 
 /// What was made is dropped. Generic, since of a type parameter that is one step, and of a record one for each type in it.
-fn no_memory<R: Drop, T: Drop>(_made: R, _told: T) -> Said
+pub fn no_memory<R: Drop, T: Drop>(_made: R, _told: T) -> Said
     ensures { result ≡ Said.NoMemory }
 {
     Said::NoMemory

@@ -5,6 +5,7 @@
 mod edges;
 mod faults;
 mod kerberos;
+mod many;
 mod negotiation;
 mod plays;
 mod rows;
