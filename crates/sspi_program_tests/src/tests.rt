@@ -4,6 +4,7 @@
 
 mod edges;
 mod faults;
+mod hostile;
 mod kerberos;
 mod many;
 mod negotiation;
