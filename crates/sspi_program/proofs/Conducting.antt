@@ -1,12 +1,12 @@
 -- What is kept of a scenario, from the record of it up to the source that told it.
 use Rattle.std.proofs.Common.{◌≡◌, ℕ, ◌⊎◌, inl, inr, List, [], Option, None, Some, Result, Ok, refl, sym, ap, subst, ◌∙◌}
-use Rattle.std.specs.Prelude.{IfOk, IfSome, IsSome}
+use Rattle.std.specs.Prelude.{IfOk, IfSome, IsSome, IsSomeAnd}
 use Rattle.std.specs.Global.{Vec}
 use Rattle.sspi_scenario.specs.declared.purpose.Purpose.{Purpose}
 use Rattle.sspi_scenario.specs.declared.scenario.Scenario.{Scenario}
 use Rattle.sspi_scenario.specs.Reading.{ReadsText}
 use Rattle.sspi_scenario.specs.Scenario.{scenario_of}
-use Rattle.sspi_program.specs.declared.command.Command.TheVariants.{Told}
+use Rattle.sspi_program.specs.declared.command.Command.TheVariants.{Told, Gen}
 use Rattle.sspi_program.specs.declared.command.Task.{Task}
 use Rattle.sspi_program.specs.declared.command.Task.TheVariants.{Delegate, Play, Gate, Audit, Early}
 use Rattle.sspi_program.specs.declared.record.Conducted.{Conducted}
@@ -18,20 +18,29 @@ use Rattle.sspi_program.specs.Commands.{purpose_of}
 use Rattle.sspi_program.specs.Delegate.{HasExchange}
 use Rattle.sspi_program.specs.Early.{HasEarly, IsEarlyTold}
 use Rattle.sspi_program.specs.Gate.{IsGated}
-use Rattle.sspi_program.specs.Kept.{keeping}
+use Rattle.sspi_report.specs.Summary.{summary_text}
+use Rattle.sspi_program.specs.Generate.{AreNumbered, TallyDue, summary_of}
+use Rattle.sspi_program.specs.Kept.{nothing, keeping, tallying, HasRecordAlone, HasTallyAlone}
 use Rattle.sspi_program.specs.Play.{HasPlay}
-use Rattle.sspi_program.specs.Promises.{KeepsRecord, Keeps, KeptDue}
-use Rattle.sspi_program.specs.Run.{IsTold, Comes, CarriesOut, Conducts}
+use Rattle.sspi_program.specs.Promises.{KeepsRecord, KeepsTally, Keeps, KeptDue}
+use Rattle.sspi_program.specs.Run.{IsTold, Comes, CarriesOut, Conducts, Generates, SumsUp}
 use Rattle.sspi_program.specs.Said.{status_of, RecordDue, IsDue, SaysOf, SaysWith}
 
 -- ---- a record that is said
+
+record_alone : (c : Conducted) (r : Record) → c ≡ keeping c.status r → c.kept ≡ Some r → HasRecordAlone c
+record_alone c r made kept = made ∙ ap (λ (k : Option Record). record (nothing c.status) { kept = k }) (sym kept)
+
+tally_alone : (c : Conducted) (tally : List Record) → c ≡ tallying c.status tally → c.tally ≡ Some tally → HasTallyAlone c
+tally_alone c tally made kept = made ∙ ap (λ (k : Option (List Record)). record (nothing c.status) { tally = k }) (sym kept)
 
 module _ (P : Record → Type 0) (D : Record → ℕ → List ℕ → Type 0) (scenario : Scenario) (r : Record) (is : r.scenario ≡ scenario)
     (has : P r) where
   says : (c : Conducted) (text : List ℕ) → c ≡ keeping c.status r → IsSome (status_of r.outcome) → IsDue (D r) c.status text →
       KeepsRecord P (λ s. s ≡ scenario) c × IsDue (KeptDue D c.kept) c.status text
   says c text made some told =
-      let kept : c.kept ≡ Some r = ap (λ (d : Conducted). d.kept) made in rw kept ((has, is, some), told)
+      let kept : c.kept ≡ Some r = ap (λ (d : Conducted). d.kept) made in
+      ((rw kept (has, is, some), record_alone c r made kept), rw kept told)
 
   due_told : {E : Type 0} (told : Result (ℕ × Vec ℕ) E) → IfOk told (λ t. D r t.0 t.1.items) → (status : ℕ) (text : Vec ℕ) →
       (told ≡ Ok (status, text)) ⊎ ((status ≡ 5) × (text.items ≡ [])) → IsDue (D r) status text.items
@@ -82,6 +91,37 @@ conducts_early scenario r told ReadFault is has given said = said
 conducts_early scenario r told OtherWords is has given said = said
 conducts_early scenario r told NoMemory is has given said = tt
 
+-- ---- many exchanges
+
+sums : (P : List Record → Type 0) (tally : List Record) → P tally → (c : Conducted) (text : List ℕ) → c ≡ tallying c.status tally →
+    IsDue (TallyDue tally) c.status text →
+    KeepsTally P c × IsDue (λ status t. IsSomeAnd c.tally (λ k. TallyDue k status t)) c.status text
+sums P tally has c text made told =
+    let kept : c.tally ≡ Some tally = ap (λ (d : Conducted). d.tally) made in
+    ((rw kept has, tally_alone c tally made kept), rw kept told)
+
+-- with a text of which there was memory
+pub sums_done : (tally : List Record) (c : Conducted) (text : List ℕ) → c ≡ tallying 0 tally → text ≡ summary_text (summary_of tally) →
+    (c ≡ tallying c.status tally) × IsDue (TallyDue tally) c.status text
+sums_done tally c text made told =
+    let zero : c.status ≡ 0 = ap (λ (d : Conducted). d.status) made in
+    (made ∙ ap (λ (n : ℕ). tallying n tally) (sym zero), inl (zero, told))
+
+pub generates : (count : ℕ) (tally : List Record) (said : Said) → AreNumbered count tally → SumsUp tally said → Generates count said
+generates count tally (Done c text) has said = sums (AreNumbered count) tally has c text.items said.0 said.1
+generates count tally (NoScenario line) has said = said
+generates count tally ReadFault has said = said
+generates count tally OtherWords has said = said
+generates count tally NoMemory has said = tt
+
+pub comes_generated : (count : ℕ) (left : Option (List ℕ)) (before now : ℕ) (said : Said) → Generates count said →
+    Comes (Some (Gen count)) left before now said
+comes_generated count left before now (Done c text) made = made
+comes_generated count left before now (NoScenario line) made = absurd made
+comes_generated count left before now ReadFault made = absurd made
+comes_generated count left before now OtherWords made = absurd made
+comes_generated count left before now NoMemory made = refl
+
 -- ---- of another scenario that is such
 
 record_more : (R : Record → Type 0) (P Q : Scenario → Type 0) → ((s : Scenario) → P s → Q s) → (kept : Option Record) →
@@ -92,11 +132,11 @@ record_more R P Q more (Some k) h = (h.0, more k.scenario h.1, h.2)
 
 pub keeps_more : (task : Task) (P Q : Scenario → Type 0) → ((s : Scenario) → P s → Q s) → (c : Conducted) → Keeps (Told task) P c →
     Keeps (Told task) Q c
-keeps_more Delegate P Q more c h = record_more HasExchange P Q more c.kept h
-keeps_more Play P Q more c h = record_more HasPlay P Q more c.kept h
-keeps_more Gate P Q more c h = record_more HasExchange P Q more c.kept h
-keeps_more Audit P Q more c h = record_more HasExchange P Q more c.kept h
-keeps_more Early P Q more c h = record_more HasEarly P Q more c.kept h
+keeps_more Delegate P Q more c h = (record_more HasExchange P Q more c.kept h.0, h.1)
+keeps_more Play P Q more c h = (record_more HasPlay P Q more c.kept h.0, h.1)
+keeps_more Gate P Q more c h = (record_more HasExchange P Q more c.kept h.0, h.1)
+keeps_more Audit P Q more c h = (record_more HasExchange P Q more c.kept h.0, h.1)
+keeps_more Early P Q more c h = (record_more HasEarly P Q more c.kept h.0, h.1)
 
 pub carries_out : (task : Task) (text : List ℕ) (scenario : Scenario) (said : Said) → scenario_of (purpose_of task) text ≡ Ok scenario →
     Conducts task scenario said → CarriesOut task text said

@@ -1,6 +1,6 @@
 -- What the status of a run is where the source tells its text.
 use Rattle.std.proofs.Common.{◌≡◌, ℕ, ◌≤◌, inl, inr, List, [], Option, None, Some, Result, Ok, Err, refl, sym, ap, ◌∙◌, subst, arith}
-use Rattle.std.specs.Prelude.{IfSome, IsSome}
+use Rattle.std.specs.Prelude.{IfSome, IsSome, IsSomeAnd}
 use Rattle.sspi_names.specs.declared.identity.AuthIdentity.{AuthIdentity}
 use Rattle.sspi_delegate.specs.declared.answer.Delegation.{Delegation}
 use Rattle.sspi_delegate.specs.declared.answer.DelegateError.{DelegateError}
@@ -12,7 +12,7 @@ use Rattle.sspi_scenario.specs.declared.purpose.Purpose.TheVariants as purposes
 use Rattle.sspi_scenario.specs.declared.scenario.Scenario.{Scenario}
 use Rattle.sspi_scenario.specs.Scenario.{scenario_of}
 use Rattle.sspi_program.specs.declared.command.Command.{Command}
-use Rattle.sspi_program.specs.declared.command.Command.TheVariants.{Told}
+use Rattle.sspi_program.specs.declared.command.Command.TheVariants.{Told, Gen}
 use Rattle.sspi_program.specs.declared.command.Task.{Task}
 use Rattle.sspi_program.specs.declared.command.Task.TheVariants.{Delegate, Play, Gate, Audit, Early}
 use Rattle.sspi_program.specs.declared.record.Conducted.{Conducted}
@@ -26,6 +26,7 @@ use Rattle.sspi_program.specs.Commands.{task_in, purpose_of}
 use Rattle.sspi_program.specs.Delegate.{HasExchange, DelegateEnds}
 use Rattle.sspi_program.specs.Early.{HasEarly, IsEarlyTold, EarlyEnds, admitted_status}
 use Rattle.sspi_program.specs.Gate.{IsGated, GateEnds}
+use Rattle.sspi_program.specs.Generate.{TallyDue}
 use Rattle.sspi_program.specs.Outcome.{messages_in, IsPlain}
 use Rattle.sspi_program.specs.Play.{HasPlay, PlayEnds}
 use Rattle.sspi_program.specs.Promises.{Does, Due, KeptDue, EndsSo}
@@ -61,14 +62,15 @@ task_none : (task : Task) (text : List ℕ) (c : Conducted) (written : List ℕ)
     Does (Told task) (λ s. scenario_of (purpose_of task) text ≡ Ok s) c written → (line : ℕ) →
     scenario_of (purpose_of task) text ≡ Err line → c.status ≡ 5
 task_none Delegate text c written does line none =
-    record_none HasExchange RecordDue purposes.Exchange text c.status written c.kept does.0 does.1 line none
-task_none Play text c written does line none = record_none HasPlay RecordDue purposes.Play text c.status written c.kept does.0 does.1 line none
+    record_none HasExchange RecordDue purposes.Exchange text c.status written c.kept does.0.0 does.1 line none
+task_none Play text c written does line none =
+    record_none HasPlay RecordDue purposes.Play text c.status written c.kept does.0.0 does.1 line none
 task_none Gate text c written does line none =
-    record_none HasExchange IsGated purposes.Exchange text c.status written c.kept does.0 does.1 line none
+    record_none HasExchange IsGated purposes.Exchange text c.status written c.kept does.0.0 does.1 line none
 task_none Audit text c written does line none =
-    record_none HasExchange IsAudited purposes.Exchange text c.status written c.kept does.0 does.1 line none
+    record_none HasExchange IsAudited purposes.Exchange text c.status written c.kept does.0.0 does.1 line none
 task_none Early text c written does line none =
-    record_none HasEarly IsEarlyTold purposes.Early text c.status written c.kept does.0 does.1 line none
+    record_none HasEarly IsEarlyTold purposes.Early text c.status written c.kept does.0.0 does.1 line none
 
 module _ (before now : ℕ) (w w2 : Option (List ℕ)) (f f2 : ℕ) where
   no_memory : (own text_own : ℕ) (text : List ℕ) (status : ℕ) → text_own ≡ 5 → Written text_own text w w2 f f2 status →
@@ -94,6 +96,7 @@ module _ (before now : ℕ) (w w2 : Option (List ℕ)) (f f2 : ℕ) where
   status_no_scenario None left said status comes written = tt
   status_no_scenario (Some (Told task)) None said status comes written = tt
   status_no_scenario (Some (Told task)) (Some text) said status comes written = text_none task text said status comes written
+  status_no_scenario (Some (Gen count)) left said status comes written = tt
 
 -- ---- a text that is a scenario
 
@@ -163,7 +166,7 @@ module _ (w w2 : Option (List ℕ)) (f f2 : ℕ) (status : ℕ) where
   delegate_ends : (before now : ℕ) (text : List ℕ) (said : Said) → Comes (Some (Told Delegate)) (Some text) before now said →
       Written (said_status said) (said_text said) w w2 f f2 status → DelegateEnds text status
   delegate_ends before now text (Done c items) comes written =
-      delegate_done RecordDue status_due w w2 f f2 status text c.status items.items c.kept comes.0 comes.1 written
+      delegate_done RecordDue status_due w w2 f f2 status text c.status items.items c.kept comes.0.0 comes.1 written
   delegate_ends before now text (NoScenario n) comes written = λ scenario is plain.
       absurd (both purposes.Exchange text scenario n is comes)
   delegate_ends before now text ReadFault comes written = λ scenario is plain.
@@ -194,7 +197,8 @@ module _ (w w2 : Option (List ℕ)) (f f2 : ℕ) (status : ℕ) where
 
   play_ends : (before now : ℕ) (text : List ℕ) (said : Said) → Comes (Some (Told Play)) (Some text) before now said →
       Written (said_status said) (said_text said) w w2 f f2 status → PlayEnds text status
-  play_ends before now text (Done c items) comes written = λ scenario is. play_done text c.status items.items c.kept comes.0 comes.1 written
+  play_ends before now text (Done c items) comes written =
+      λ scenario is. play_done text c.status items.items c.kept comes.0.0 comes.1 written
   play_ends before now text (NoScenario n) comes written = λ scenario is. absurd (both purposes.Play text scenario n is comes)
   play_ends before now text ReadFault comes written = λ scenario is. unless_read w w2 f f2 0 read_text status written
   play_ends before now text OtherWords comes written = absurd cc
@@ -222,7 +226,7 @@ module _ (w w2 : Option (List ℕ)) (f f2 : ℕ) (status : ℕ) where
   audit_ends : (before now : ℕ) (text : List ℕ) (said : Said) → Comes (Some (Told Audit)) (Some text) before now said →
       Written (said_status said) (said_text said) w w2 f f2 status → DelegateEnds text status
   audit_ends before now text (Done c items) comes written =
-      delegate_done IsAudited audited_status w w2 f f2 status text c.status items.items c.kept comes.0 comes.1 written
+      delegate_done IsAudited audited_status w w2 f f2 status text c.status items.items c.kept comes.0.0 comes.1 written
   audit_ends before now text (NoScenario n) comes written = delegate_ends before now text (NoScenario n) comes written
   audit_ends before now text ReadFault comes written = delegate_ends before now text ReadFault comes written
   audit_ends before now text OtherWords comes written = absurd cc
@@ -254,7 +258,7 @@ module _ (w w2 : Option (List ℕ)) (f f2 : ℕ) (status : ℕ) where
 
   early_ends : (before now : ℕ) (text : List ℕ) (said : Said) → Comes (Some (Told Early)) (Some text) before now said →
       Written (said_status said) (said_text said) w w2 f f2 status → EarlyEnds text status
-  early_ends before now text (Done c items) comes written = early_done text c.status items.items c.kept comes.0 comes.1 written
+  early_ends before now text (Done c items) comes written = early_done text c.status items.items c.kept comes.0.0 comes.1 written
   early_ends before now text (NoScenario n) comes written = λ scenario is plain. absurd (both purposes.Early text scenario n is comes)
   early_ends before now text ReadFault comes written = λ scenario is plain. (
     (λ enough. unless_read w w2 f f2 (admitted_status scenario) read_text status written),
@@ -262,6 +266,29 @@ module _ (w w2 : Option (List ℕ)) (f f2 : ℕ) (status : ℕ) where
   )
   early_ends before now text OtherWords comes written = absurd cc
   early_ends before now text NoMemory comes written = λ scenario is plain. early_lost (admitted_status scenario) scenario plain [] written
+
+  -- without memory
+  no_memory_status : (text : List ℕ) → Written 5 text w w2 f f2 status → IsUnlessWrite 0 status
+  no_memory_status text (inl h) = inr (inr h.0)
+  no_memory_status text (inr (inl h)) = inr (inl h.0)
+  no_memory_status text (inr (inr h)) = inr (inr h.0)
+
+  -- many exchanges, whatever they come to
+  tally_done : (tally : Option (List Record)) (own : ℕ) (text : List ℕ) →
+      IsDue (λ n t. IsSomeAnd tally (λ k. TallyDue k n t)) own text → Written own text w w2 f f2 status → IsUnlessWrite 0 status
+  tally_done None own text (inl told) wrote = absurd told
+  tally_done (Some k) own text (inl told) wrote =
+      unless_write w w2 f f2 0 text status (subst (λ (n : ℕ). Written n text w w2 f f2 status) told.0 wrote)
+  tally_done tally own text (inr h) wrote =
+      no_memory_status text (subst (λ (n : ℕ). Written n text w w2 f f2 status) h.0 wrote)
+
+  generate_ends : (before now : ℕ) (count : ℕ) (left : Option (List ℕ)) (said : Said) → Comes (Some (Gen count)) left before now said →
+      Written (said_status said) (said_text said) w w2 f f2 status → IsUnlessWrite 0 status
+  generate_ends before now count left (Done c items) comes written = tally_done c.tally c.status items.items comes.1 written
+  generate_ends before now count left (NoScenario n) comes written = absurd comes
+  generate_ends before now count left ReadFault comes written = let some = comes.0 in absurd cc
+  generate_ends before now count left OtherWords comes written = absurd cc
+  generate_ends before now count left NoMemory comes written = no_memory_status [] written
 
   command_ends : (before now : ℕ) (command : Command) (left : Option (List ℕ)) (said : Said) →
       Comes (Some command) left before now said → Written (said_status said) (said_text said) w w2 f f2 status →
@@ -276,6 +303,7 @@ module _ (w w2 : Option (List ℕ)) (f f2 : ℕ) (status : ℕ) where
   command_ends before now (Told Audit) (Some text) said comes written = audit_ends before now text said comes written
   command_ends before now (Told Early) None said comes written = tt
   command_ends before now (Told Early) (Some text) said comes written = early_ends before now text said comes written
+  command_ends before now (Gen count) left said comes written = generate_ends before now count left said comes written
 
   pub status_ends : (before now : ℕ) (command : Option Command) (left : Option (List ℕ)) (said : Said) →
       Comes command left before now said → Written (said_status said) (said_text said) w w2 f f2 status →

@@ -6,3 +6,5 @@ pub mod Ending
 pub mod TooLong
 pub mod Conducting
 pub mod Plainly
+pub mod Numbered
+pub mod Tallying

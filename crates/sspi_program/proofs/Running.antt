@@ -14,7 +14,7 @@ use Rattle.sspi_tsreq.specs.declared.early.EarlyUserAuthResult.TheVariants.{Succ
 use Rattle.sspi_scenario.specs.declared.scenario.Scenario.{Scenario}
 use Rattle.sspi_scenario.specs.Reading.{IsReadWhole}
 use Rattle.sspi_program.specs.declared.command.Command.{Command}
-use Rattle.sspi_program.specs.declared.command.Command.TheVariants.{Told}
+use Rattle.sspi_program.specs.declared.command.Command.TheVariants.{Told, Gen}
 use Rattle.sspi_program.specs.declared.command.Task.{Task}
 use Rattle.sspi_program.specs.declared.command.Task.TheVariants.{Delegate, Play, Gate, Audit, Early}
 use Rattle.sspi_program.specs.declared.record.Conducted.{Conducted}
@@ -28,6 +28,7 @@ use Rattle.sspi_program.specs.Audit.{IsAudited}
 use Rattle.sspi_program.specs.Commands.{task_in, purpose_of}
 use Rattle.sspi_program.specs.Early.{IsEarlyTold}
 use Rattle.sspi_program.specs.Gate.{IsGated, relayed_status}
+use Rattle.sspi_program.specs.Generate.{TallyDue}
 use Rattle.sspi_program.specs.Kept.{nothing, with_status}
 use Rattle.sspi_program.specs.Promises.{Keeps, KeptDue, Due, Does}
 use Rattle.sspi_program.specs.Run.{Outside, IsToldFor, NoneTold, Comes, IsJudged, KeepsOnly, IsReported, WroteLine, WroteOwed}
@@ -137,12 +138,17 @@ small_due : (D : Record → ℕ → List ℕ → Type 0) → ((r : Record) (own 
 small_due D small None own text told = absurd told
 small_due D small (Some r) own text told = small r own text told
 
+small_tally : (tally : Option (List Record)) (own : ℕ) (text : List ℕ) → IsSomeAnd tally (λ t. TallyDue t own text) → own ≤ 1
+small_tally None own text told = absurd told
+small_tally (Some t) own text told = omega (arith, told.0)
+
 pub due_small : (command : Command) (c : Conducted) (own : ℕ) (text : List ℕ) → Due command c own text → own ≤ 1
 due_small (Told Delegate) c own text told = small_due RecordDue small_record c.kept own text told
 due_small (Told Play) c own text told = small_due RecordDue small_record c.kept own text told
 due_small (Told Gate) c own text told = small_due IsGated small_gated c.kept own text told
 due_small (Told Audit) c own text told = small_due IsAudited small_audited c.kept own text told
 due_small (Told Early) c own text told = small_due IsEarlyTold small_early c.kept own text told
+due_small (Gen count) c own text told = small_tally c.tally own text told
 
 done_by : (command : Command) (c : Conducted) (text : List ℕ) → IsDue (Due command c) c.status text → IsDone c.status
 done_by command c text (inl e) = inl (due_small command c c.status text e)
@@ -170,21 +176,24 @@ due_status (Told Play) status c own text h = h
 due_status (Told Gate) status c own text h = h
 due_status (Told Audit) status c own text h = h
 due_status (Told Early) status c own text h = h
+due_status (Gen count) status c own text h = h
 
 keeps_status : (command : Command) (IsOf : Scenario → Type 0) (status : ℕ) (c : Conducted) → Keeps command IsOf c →
     Keeps command IsOf (with_status status c)
-keeps_status (Told Delegate) IsOf status c h = h
-keeps_status (Told Play) IsOf status c h = h
-keeps_status (Told Gate) IsOf status c h = h
-keeps_status (Told Audit) IsOf status c h = h
-keeps_status (Told Early) IsOf status c h = h
+keeps_status (Told Delegate) IsOf status c h = (h.0, ap (with_status status) h.1)
+keeps_status (Told Play) IsOf status c h = (h.0, ap (with_status status) h.1)
+keeps_status (Told Gate) IsOf status c h = (h.0, ap (with_status status) h.1)
+keeps_status (Told Audit) IsOf status c h = (h.0, ap (with_status status) h.1)
+keeps_status (Told Early) IsOf status c h = (h.0, ap (with_status status) h.1)
+keeps_status (Gen count) IsOf status c h = (h.0, ap (with_status status) h.1)
 
 keeps_nothing : (command : Command) (IsOf : Scenario → Type 0) (status : ℕ) → Keeps command IsOf (nothing status)
-keeps_nothing (Told Delegate) IsOf status = tt
-keeps_nothing (Told Play) IsOf status = tt
-keeps_nothing (Told Gate) IsOf status = tt
-keeps_nothing (Told Audit) IsOf status = tt
-keeps_nothing (Told Early) IsOf status = tt
+keeps_nothing (Told Delegate) IsOf status = (tt, refl)
+keeps_nothing (Told Play) IsOf status = (tt, refl)
+keeps_nothing (Told Gate) IsOf status = (tt, refl)
+keeps_nothing (Told Audit) IsOf status = (tt, refl)
+keeps_nothing (Told Early) IsOf status = (tt, refl)
+keeps_nothing (Gen count) IsOf status = (tt, refl)
 
 nothing_own : (c : Conducted) (status : ℕ) → c ≡ nothing status → c ≡ nothing c.status
 nothing_own c status is = is ∙ ap nothing (sym (ap (λ (d : Conducted). d.status) is))

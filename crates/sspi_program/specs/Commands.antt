@@ -1,11 +1,13 @@
 -- The words of the program, and what they ask for.
-use Rattle.std.specs.Prelude.{ℕ, List, [], ◌∷◌, codes, map, Option, None, Some, String, string_bytes, if◌then◌else◌}
+use Rattle.std.specs.Prelude.{ℕ, ◌&&◌, nat_le, List, [], ◌∷◌, codes, map, Option, None, Some, String, string_bytes, if◌then◌else◌}
 use Rattle.std.specs.Option.{option_map}
 use Rattle.std.specs.Str.{bytes_eq}
 use Rattle.sspi_program.specs.declared.command.Command.{Command}
-use Rattle.sspi_program.specs.declared.command.Command.TheVariants.{Told}
+use Rattle.sspi_program.specs.declared.command.Command.TheVariants.{Told, Gen}
+use Rattle.sspi_program.specs.declared.command.TheConstants.{MOST_SCENARIOS}
 use Rattle.sspi_program.specs.declared.command.Task.{Task}
 use Rattle.sspi_program.specs.declared.command.Task.TheVariants.{Delegate, Play, Gate, Audit, Early}
+use Rattle.sspi_scenario.specs.Numbers.{number_of}
 use Rattle.sspi_scenario.specs.declared.purpose.Purpose.{Purpose}
 use Rattle.sspi_scenario.specs.declared.purpose.Purpose.TheVariants as purposes
 
@@ -18,11 +20,24 @@ task_named word =
     else if bytes_eq word (codes "early") then Some Early
     else None
 
+-- a number from 1 to this, in decimal
+abbrev pub within : ℕ → Option ℕ → Option ℕ
+within most None = None
+within most (Some n) = if nat_le 1 n && nat_le n most then Some n else None
+
+abbrev pub counted : ℕ → List ℕ → Option ℕ
+counted most digits = within most (number_of digits)
+
+-- a word and a number
+abbrev pub numbered_command : List ℕ → List ℕ → Option Command
+numbered_command word digits = if bytes_eq word (codes "gen") then option_map Gen (counted MOST_SCENARIOS digits) else None
+
 -- one word names a task
 abbrev pub command_in : List (List ℕ) → Option Command
 command_in [] = None
 command_in (word ∷ []) = option_map Told (task_named word)
-command_in (word ∷ second ∷ more) = None
+command_in (word ∷ digits ∷ []) = numbered_command word digits
+command_in (word ∷ second ∷ third ∷ more) = None
 
 abbrev pub command_of : {A : Type 0} → List (String A) → Option Command
 command_of words = command_in (map string_bytes words)
@@ -31,6 +46,7 @@ command_of words = command_in (map string_bytes words)
 abbrev pub task_in : Option Command → Option Task
 task_in None = None
 task_in (Some (Told task)) = Some task
+task_in (Some (Gen count)) = None
 
 abbrev pub purpose_of : Task → Purpose
 purpose_of Delegate = purposes.Exchange

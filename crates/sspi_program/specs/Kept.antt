@@ -1,15 +1,26 @@
 -- What is kept of a run.
-use Rattle.std.specs.Prelude.{ℕ, None, Some}
+use Rattle.std.specs.Prelude.{◌≡◌, ℕ, List, None, Some}
 use Rattle.sspi_program.specs.declared.record.Conducted.{Conducted}
 use Rattle.sspi_program.specs.declared.record.Record.{Record}
 
 -- a run of which nothing is kept
 abbrev pub nothing : ℕ → Conducted
-nothing status = record { status = status; kept = None }
+nothing status = record { status = status; kept = None; tally = None }
 
 -- a run of which this is kept, and nothing else
 abbrev pub keeping : ℕ → Record → Conducted
-keeping status kept = record { status = status; kept = Some kept }
+keeping status kept = record (nothing status) { kept = Some kept }
+
+-- the same of the records of many scenarios
+abbrev pub tallying : ℕ → List Record → Conducted
+tallying status tally = record (nothing status) { tally = Some tally }
+
+-- nothing is kept but a record, if any is; but the records of many scenarios
+abbrev pub HasRecordAlone : Conducted → Type 0
+HasRecordAlone conducted = conducted ≡ record (nothing conducted.status) { kept = conducted.kept }
+
+abbrev pub HasTallyAlone : Conducted → Type 0
+HasTallyAlone conducted = conducted ≡ record (nothing conducted.status) { tally = conducted.tally }
 
 -- the same run with this status
 abbrev pub with_status : ℕ → Conducted → Conducted

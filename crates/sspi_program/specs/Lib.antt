@@ -10,5 +10,6 @@ pub mod Said
 pub mod Gate
 pub mod Audit
 pub mod Early
+pub mod Generate
 pub mod Promises
 pub mod Run

@@ -2,7 +2,7 @@
 use Rattle.std.specs.Prelude.{ℕ, List, Option, IfSome, IsSome, IsSomeAnd}
 use Rattle.sspi_scenario.specs.declared.scenario.Scenario.{Scenario}
 use Rattle.sspi_program.specs.declared.command.Command.{Command}
-use Rattle.sspi_program.specs.declared.command.Command.TheVariants.{Told}
+use Rattle.sspi_program.specs.declared.command.Command.TheVariants.{Told, Gen}
 use Rattle.sspi_program.specs.declared.command.Task.TheVariants.{Delegate, Play, Gate, Audit, Early}
 use Rattle.sspi_program.specs.declared.record.Conducted.{Conducted}
 use Rattle.sspi_program.specs.declared.record.Record.{Record}
@@ -10,12 +10,20 @@ use Rattle.sspi_program.specs.Audit.{IsAudited}
 use Rattle.sspi_program.specs.Delegate.{HasExchange, DelegateEnds}
 use Rattle.sspi_program.specs.Early.{HasEarly, IsEarlyTold, EarlyEnds}
 use Rattle.sspi_program.specs.Gate.{IsGated, GateEnds}
+use Rattle.sspi_program.specs.Generate.{AreNumbered, TallyDue}
+use Rattle.sspi_program.specs.Kept.{HasRecordAlone, HasTallyAlone}
 use Rattle.sspi_program.specs.Play.{HasPlay, PlayEnds}
 use Rattle.sspi_program.specs.Said.{status_of, RecordDue, IsDue}
+use Rattle.sspi_program.specs.Status.{IsUnlessWrite}
 
 -- a record is kept, if any is, of which this holds, of such a scenario, and in which no memory was wanting; and nothing else is
 abbrev pub KeepsRecord : (Record → Type 0) → (Scenario → Type 0) → Conducted → Type 0
-KeepsRecord P IsOf conducted = IfSome conducted.kept (λ kept. P kept × IsOf kept.scenario × IsSome (status_of kept.outcome))
+KeepsRecord P IsOf conducted =
+    IfSome conducted.kept (λ kept. P kept × IsOf kept.scenario × IsSome (status_of kept.outcome)) × HasRecordAlone conducted
+
+-- the same of the records of many scenarios
+abbrev pub KeepsTally : (List Record → Type 0) → Conducted → Type 0
+KeepsTally P conducted = IfSome conducted.tally P × HasTallyAlone conducted
 
 -- what a command keeps, of a scenario that is such
 abbrev pub Keeps : Command → (Scenario → Type 0) → Conducted → Type 0
@@ -24,6 +32,7 @@ Keeps (Told Play) IsOf conducted = KeepsRecord HasPlay IsOf conducted
 Keeps (Told Gate) IsOf conducted = KeepsRecord HasExchange IsOf conducted
 Keeps (Told Audit) IsOf conducted = KeepsRecord HasExchange IsOf conducted
 Keeps (Told Early) IsOf conducted = KeepsRecord HasEarly IsOf conducted
+Keeps (Gen count) IsOf conducted = KeepsTally (AreNumbered count) conducted
 
 -- a record is kept for which these are due
 abbrev pub KeptDue : (Record → ℕ → List ℕ → Type 0) → Option Record → ℕ → List ℕ → Type 0
@@ -36,6 +45,7 @@ Due (Told Play) conducted status text = KeptDue RecordDue conducted.kept status 
 Due (Told Gate) conducted status text = KeptDue IsGated conducted.kept status text
 Due (Told Audit) conducted status text = KeptDue IsAudited conducted.kept status text
 Due (Told Early) conducted status text = KeptDue IsEarlyTold conducted.kept status text
+Due (Gen count) conducted status text = IsSomeAnd conducted.tally (λ tally. TallyDue tally status text)
 
 -- what a command made of a scenario that is such
 abbrev pub Does : Command → (Scenario → Type 0) → Conducted → List ℕ → Type 0
@@ -48,3 +58,4 @@ EndsSo (Told Play) left status = IfSome left (λ text. PlayEnds text status)
 EndsSo (Told Gate) left status = IfSome left (λ text. GateEnds text status)
 EndsSo (Told Audit) left status = IfSome left (λ text. DelegateEnds text status)
 EndsSo (Told Early) left status = IfSome left (λ text. EarlyEnds text status)
+EndsSo (Gen count) left status = IsUnlessWrite 0 status

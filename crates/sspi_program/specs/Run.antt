@@ -6,15 +6,17 @@ use Rattle.sspi_scenario.specs.declared.scenario.Scenario.{Scenario}
 use Rattle.sspi_scenario.specs.Reading.{IsReadWhole}
 use Rattle.sspi_scenario.specs.Scenario.{scenario_of}
 use Rattle.sspi_program.specs.declared.command.Command.{Command}
-use Rattle.sspi_program.specs.declared.command.Command.TheVariants.{Told}
+use Rattle.sspi_program.specs.declared.command.Command.TheVariants.{Told, Gen}
 use Rattle.sspi_program.specs.declared.command.Task.{Task}
 use Rattle.sspi_program.specs.declared.record.Conducted.{Conducted}
+use Rattle.sspi_program.specs.declared.record.Record.{Record}
 use Rattle.sspi_program.specs.declared.said.Said.{Said}
 use Rattle.sspi_program.specs.declared.said.Said.TheVariants.{Done, NoScenario, ReadFault, OtherWords, NoMemory}
 use Rattle.sspi_program.specs.Commands.{task_in, purpose_of}
-use Rattle.sspi_program.specs.Kept.{nothing}
+use Rattle.sspi_program.specs.Generate.{TallyDue}
+use Rattle.sspi_program.specs.Kept.{nothing, tallying}
 use Rattle.sspi_program.specs.Promises.{Keeps, Does, Due, EndsSo}
-use Rattle.sspi_program.specs.Said.{said_text, conducted_as, words_text, read_text, line_text}
+use Rattle.sspi_program.specs.Said.{IsDue, said_text, conducted_as, words_text, read_text, line_text}
 use Rattle.sspi_program.specs.Status.{IsUnlessWrite, IsUnlessFault}
 
 -- what the source and the sink of a run show at one moment: the bytes that are left and those that were written, where these are
@@ -75,6 +77,23 @@ Conducts task scenario (NoScenario line) = ⊥
 Conducts task scenario ReadFault = ⊥
 Conducts task scenario OtherWords = ⊥
 Conducts task scenario NoMemory = Unit {0}
+
+-- what is made of so many scenarios
+abbrev pub Generates : ℕ → Said → Type 0
+Generates count (Done conducted written) = Does (Gen count) (λ s. Unit {0}) conducted written.items
+Generates count (NoScenario line) = ⊥
+Generates count ReadFault = ⊥
+Generates count OtherWords = ⊥
+Generates count NoMemory = Unit {0}
+
+-- what is said of many exchanges
+abbrev pub SumsUp : List Record → Said → Type 0
+SumsUp tally (Done conducted written) =
+    (conducted ≡ tallying conducted.status tally) × IsDue (TallyDue tally) conducted.status written.items
+SumsUp tally (NoScenario line) = ⊥
+SumsUp tally ReadFault = ⊥
+SumsUp tally OtherWords = ⊥
+SumsUp tally NoMemory = ⊥
 
 -- ---- what a run promises
 

@@ -1,14 +1,21 @@
 ghost use Rattle.std.specs.Prelude.{◌≡◌};
 ghost use Rattle.sspi_program.specs.Commands;
-ghost use Rattle.sspi_program.specs.Commands.{command_of, task_named};
+ghost use Rattle.sspi_program.specs.Commands.{command_of, counted, numbered_command, task_named};
+ghost use Rattle.sspi_program.specs.declared.command.TheConstants.{MOST_SCENARIOS};
 
 use sspi_scenario::Purpose;
+use sspi_scenario::number::number;
+
+/// How many scenarios are made at most.
+pub const MOST_SCENARIOS: u32 = 10_000;
 
 /// What the words of the program ask for.
 #[derive(Clone, Copy)]
 pub enum Command {
     /// This, of the scenario that the source tells.
     Told(Task),
+    /// The exchanges of so many scenarios, which are made of their numbers. The source is not read.
+    Gen(u32),
 }
 
 /// What is done with a scenario.
@@ -39,7 +46,7 @@ impl Task {
     }
 }
 
-/// The command of these words, which are its name and nothing else.
+/// The command of these words, which are its name and, where there is one, its number.
 pub fn command_of(words: &[String]) -> Option<Command>
     ensures { result ≡ command_of words.now }
 {
@@ -48,6 +55,29 @@ pub fn command_of(words: &[String]) -> Option<Command>
             Some(task) => Some(Command::Told(task)),
             None => None,
         },
+        [word, digits] => numbered_command(word.as_str(), digits.as_str()),
+        _ => None,
+    }
+}
+
+fn numbered_command(word: &str, digits: &str) -> Option<Command>
+    ensures { result ≡ numbered_command word.now digits.now }
+{
+    match word {
+        "gen" => match counted(MOST_SCENARIOS, digits) {
+            Some(count) => Some(Command::Gen(count)),
+            None => None,
+        },
+        _ => None,
+    }
+}
+
+/// The number from 1 to this that a text of decimal digits is, without a sign or a leading zero.
+fn counted(most: u32, digits: &str) -> Option<u32>
+    ensures { result ≡ counted most digits.now }
+{
+    match number(digits) {
+        Some(count) if count >= 1 && count <= most => Some(count),
         _ => None,
     }
 }

@@ -1,13 +1,13 @@
 ghost use Rattle.std.specs.Prelude.{◌≡◌};
 ghost use Rattle.sspi_program.specs.Kept;
-ghost use Rattle.sspi_program.specs.Kept.{keeping};
+ghost use Rattle.sspi_program.specs.Kept.{keeping, tallying};
 
 use crate::ends::{Client, Server};
 use sspi_delegate::{DelegateError, Delegation, MemoryLink, Transcript};
 use sspi_early::{Early, EarlyError, ListPolicy};
 use sspi_mech::PlainKdc;
 use sspi_play::Played;
-use sspi_scenario::Scenario;
+use sspi_scenario::{Rows, Scenario};
 
 /// What a run came to.
 #[derive(Drop)]
@@ -16,6 +16,8 @@ pub struct Conducted {
     pub status: u8,
     /// What the ends of a scenario did, where it was told one.
     pub kept: Option<Record>,
+    /// What the ends of many scenarios did, where it made them.
+    pub tally: Option<Tally>,
 }
 
 impl Conducted {
@@ -23,7 +25,11 @@ impl Conducted {
     pub fn nothing(status: u8) -> Conducted
         ensures { result ≡ Kept.nothing status }
     {
-        Conducted { status, kept: None }
+        Conducted {
+            status,
+            kept: None,
+            tally: None,
+        }
     }
 
     /// The same where this record is kept.
@@ -33,9 +39,24 @@ impl Conducted {
         Conducted {
             status,
             kept: Some(kept),
+            tally: None,
+        }
+    }
+
+    /// The same where these are kept.
+    pub fn tallying(status: u8, tally: Tally) -> Conducted
+        ensures { result ≡ tallying status tally }
+    {
+        Conducted {
+            status,
+            kept: None,
+            tally: Some(tally),
         }
     }
 }
+
+/// What the ends of many scenarios did, the first scenario first.
+pub type Tally = Rows<Record>;
 
 /// What the ends of a scenario did: the scenario, all that took part as it was left, and the outcome.
 #[derive(Drop)]

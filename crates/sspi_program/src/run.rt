@@ -18,16 +18,18 @@ use std::alloc::{AllocError, Global};
 ///
 /// The words are `delegate`, whose ends carry their messages to each other over the link of the scenario; `play`, whose ends take the
 /// deliveries of the scenario; `gate`, which does what `delegate` does and has a relay pass what the link delivered; or `audit`, which
-/// does it and has its turns and its log judged. The exit status is
+/// does it and has its turns and its log judged. Or they are `gen` and a number from 1 to `MOST_SCENARIOS`: the ends of so many
+/// scenarios, which are made of their numbers, carry their messages to each other, and a summary counts what they came to. The exit
+/// status is
 ///
 /// - 0 where the server has the credentials, or the deliveries were taken, and 1 where the exchange was refused: its report is
-///   written. Of `gate` it is 0 where the relay came to an end by itself, and 1 where it had to stop;
+///   written. Of `gate` it is 0 where the relay came to an end by itself, and 1 where it had to stop, and of `gen` always 0;
 /// - 2 where the text is no scenario for this word or has more than `TEXT_LIMIT` bytes: `error: scenario line N`, with the number of
 ///   the first faulty line, from 1, or 0 where no line is to blame;
 /// - 3 where the source failed: `error: read`;
 /// - 4 where the sink failed, which hides the status that was due: a front of the text;
 /// - 5 where memory was wanting: a front of the text, or nothing;
-/// - 6 where the words are others: `error: words`, and the source is not read.
+/// - 6 where the words are others: `error: words`, and the source is not read, as it is not for `gen`.
 ///
 /// Each line ends with LF. The source is read to its end, or to the first byte past `TEXT_LIMIT` and no further. What the ends did
 /// is kept where there were some and memory was not wanting among them, at status 4 and 5 too.
@@ -71,12 +73,16 @@ pub fn exit_status<S: Source, W: Sink>(
 fn status_of(conducted: Conducted) -> u8
     ensures { result ≡ conducted.status }
 {
-    let Conducted { status, kept } = conducted;
-    status_without(status, kept)
+    let Conducted {
+        status,
+        kept,
+        tally,
+    } = conducted;
+    status_without(status, kept, tally)
 }
 
 /// Generic, since to drop a value of a type parameter is one step.
-fn status_without<T: Drop>(status: u8, _kept: T) -> u8
+fn status_without<R: Drop, T: Drop>(status: u8, _kept: R, _tally: T) -> u8
     ensures { result ≡ status }
 {
     status
@@ -92,6 +98,7 @@ fn conduct<S: Source>(alloc: Global, words: &[String], source: &mut S) -> Said
 {
     match command_of(words) {
         Some(Command::Told(task)) => conduct_told(alloc, task, source),
+        Some(Command::Gen(count)) => words::generate::generate(alloc, count),
         None => Said::OtherWords,
     }
 }

@@ -1,12 +1,14 @@
-//! What the program makes of a scenario, a module for each word.
+//! What the program makes of a scenario, a module for each word; and what it makes of a number of scenarios.
 
 ghost use Rattle.sspi_program.specs.Run.{Conducts};
 ghost use Rattle.sspi_scenario.specs.Held.{HoldsValues};
 
 mod audit;
+mod count;
 mod delegate;
 mod early;
 mod gate;
+pub mod generate;
 mod play;
 
 use crate::command::Task;

@@ -4,7 +4,9 @@
 
 mod edges;
 mod faults;
+mod hostile;
 mod kerberos;
+mod many;
 mod negotiation;
 mod plays;
 mod rows;

@@ -6,3 +6,4 @@ pub mod Report
 pub mod Gate
 pub mod Early
 pub mod Audit
+pub mod Summary

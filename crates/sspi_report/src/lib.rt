@@ -1,6 +1,6 @@
 //! Reports of what two ends did. That of a delegation has what each end sent, what else was delivered of it, and what the exchange
 //! came to; that of a play has what each end sent, and how the ends stand. Besides there are the lines of an audit and of a relay, and
-//! what stands behind the report of a delegation that has an early result.
+//! the summary of many exchanges, and what stands behind the report of a delegation that has an early result.
 #![tactic(auto)]
 
 pub mod audit;
@@ -12,9 +12,11 @@ pub mod laws;
 mod names;
 mod outcome;
 pub mod play;
+pub mod summary;
 
 pub use audit::audit_line;
 pub use delegation::report;
 pub use early::early_report;
 pub use gate::gate_line;
 pub use play::play_report;
+pub use summary::{Kind, Summary, summary_text};

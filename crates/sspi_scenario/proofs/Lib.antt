@@ -12,3 +12,4 @@ pub mod LineSteps
 pub mod ScenarioLaws
 pub mod TextParts
 pub mod ValueLaws
+pub mod Numbering

@@ -16,4 +16,5 @@ pub mod Faults
 pub mod Reads
 pub mod Scenario
 pub mod Held
+pub mod Numbered
 pub mod Drafts

@@ -3,7 +3,7 @@
 //! It is read line by line; LF separates lines, and behind the last one it may be left out. Every line has a number, also
 //! an empty one and one that begins with `#`, which say nothing else. Any other has a key, and what follows the first space
 //! in it is the value. `Scenario::parse` gives the scenario of a text, which is for an exchange or for a play, or the number of its
-//! first faulty line.
+//! first faulty line. `numbered` makes scenarios of numbers alone.
 //!
 //! `specs/Table.antt` has the table of keys, a row for each, `specs/Keys.antt` which of them exclude each other,
 //! `specs/Purposes.antt` which of them a scenario may have,
@@ -20,7 +20,8 @@ mod hexadecimal;
 mod key;
 pub mod laws;
 mod lines;
-mod number;
+pub mod number;
+pub mod numbered;
 pub mod purpose;
 pub mod reading;
 pub mod rows;

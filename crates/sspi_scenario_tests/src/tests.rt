@@ -1,3 +1,4 @@
 mod faults;
+mod numbered;
 mod sources;
 mod told;

@@ -16,7 +16,9 @@ fn answers(rt: &impl Abort, alloc: Global, words: &str, text: &[u8], status: u8,
 }
 
 /// Words that are no command, one a line.
-const OTHER_WORDS: &str = "\ndelegate delegate\nplay play\ndelegates\nPlay\ndelegate 1\ngate-crash";
+const OTHER_WORDS: &str =
+    "\ndelegate delegate\nplay play\ndelegates\nPlay\ndelegate 1\ngate-crash\n\
+    gen\ngen 0\ngen 10001\ngen 01\ngen +1\ngen -1\ngen 4294967297\ngen x\ngen 8 8\nGen 8\n8 gen";
 
 #[test]
 fn other_words(rt: HostRuntime) {

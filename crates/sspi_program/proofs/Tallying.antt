@@ -1,0 +1,36 @@
+-- The exchanges of so many numbers, and of one more.
+use Rattle.std.proofs.Common.{◌≡◌, ℕ, suc, ◌+◌, ◌⊎◌, inl, inr, List, [], ◌∷◌, ◌++◌, length, Some, Result, Ok, Err, refl, sym, ap, subst}
+use Rattle.std.proofs.Common.{arith}
+use Rattle.std.proofs.lemmas.List.{length-append}
+use Rattle.std.specs.List.{slice_get}
+use Rattle.std.specs.Prelude.{OnOk, zero}
+use Rattle.sspi_program.specs.declared.record.Record.{Record}
+use Rattle.sspi_program.specs.Generate.{AreNumbered, IsNumbered}
+
+-- an element of a list with one more is one of the list, or the last
+last_or_before : {X : Type 0} (xs : List X) (x : X) (i : ℕ) (y : X) → slice_get (xs ++ x ∷ []) i ≡ Some y →
+    (slice_get xs i ≡ Some y) ⊎ ((i ≡ length xs) × (x ≡ y))
+last_or_before [] x zero y e = inr (refl, cc)
+last_or_before [] x (suc i) y e = absurd cc
+last_or_before (z ∷ xs) x zero y e = inl e
+last_or_before (z ∷ xs) x (suc i) y e = elim (last_or_before xs x i y e) [
+  | inl before ↦ inl before
+  | inr last ↦ inr (ap suc last.0, last.1)
+]
+
+pub tally_none : (tally : List Record) → tally ≡ [] → AreNumbered 0 tally
+tally_none tally none = subst (AreNumbered 0) (sym none) (record { counted = refl; each = λ i r e. absurd cc })
+
+pub tally_more : (n : ℕ) (tally : List Record) (r : Record) → AreNumbered n tally → IsNumbered n r → AreNumbered (n + 1) (tally ++ r ∷ [])
+tally_more n tally r are is = record {
+  counted = omega (arith, length-append tally (r ∷ []), are.counted);
+  each = λ i k e. elim (last_or_before tally r i k e) [
+    | inl before ↦ are.each i k before
+    | inr last ↦ subst (IsNumbered i) last.1 (subst (λ (m : ℕ). IsNumbered m r) (sym (rw are.counted at last.0)) is)
+  ];
+}
+
+pub tally_pushed : {E : Type 0} (n : ℕ) (tally new : List Record) (r : Record) (pushed : Result (Unit {0}) E) → IsNumbered n r →
+    OnOk pushed (new ≡ tally ++ r ∷ []) → AreNumbered n tally → OnOk pushed (AreNumbered (n + 1) new)
+tally_pushed n tally new r (Ok done) is more are = subst (AreNumbered (n + 1)) (sym more) (tally_more n tally r are is)
+tally_pushed n tally new r (Err e) is more are = tt

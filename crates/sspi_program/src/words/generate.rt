@@ -1,0 +1,86 @@
+ghost use Rattle.std.specs.Prelude.{◌≡◌, ◌+◌, true, IfOk, IsSome, OnOk};
+ghost use Rattle.sspi_program.specs.Generate.{AreNumbered, IsNumbered};
+ghost use Rattle.sspi_program.specs.Run.{Generates, SumsUp};
+ghost use Rattle.sspi_program.specs.Said.{status_of};
+
+use crate::exchange::exchange;
+use crate::record::{Conducted, Record, Tally};
+use crate::said::{Said, no_memory, status_of};
+use crate::status;
+use crate::words::count::summary_of;
+use sspi_report::summary_text;
+use sspi_scenario::numbered::numbered;
+use std::alloc::{AllocError, Global};
+
+/// The ends of so many scenarios, which are made of the numbers from 0 on, carry their messages to each other, one pair of ends after
+/// the other; and a summary of what they came to.
+pub fn generate(alloc: Global, count: u32) -> Said
+    ensures { Generates count result }
+{
+    let mut tally = Tally::new(alloc);
+    match add_exchanges(alloc, count, &mut tally) {
+        Ok(()) => summed(alloc, tally),
+        Err(error) => no_memory(tally, error),
+    }
+}
+
+/// What is said of these exchanges.
+fn summed(alloc: Global, tally: Tally) -> Said
+    ensures { SumsUp tally result }
+{
+    match summary_text(alloc, summary_of(tally.as_slice())) {
+        Ok(text) => Said::Done(Conducted::tallying(status::DONE, tally), text.into_bytes()),
+        Err(_) => Said::Done(
+            Conducted::tallying(status::NO_MEMORY, tally),
+            Vec::new(alloc),
+        ),
+    }
+}
+
+/// Adds the exchanges of so many numbers.
+fn add_exchanges(alloc: Global, count: u32, tally: &mut Tally) -> Result<(), AllocError>
+    ensures { AreNumbered 0 tally.old → OnOk result (AreNumbered count tally.new) }
+{
+    for number in 0..count {
+        add_exchange(alloc, number, tally)?;
+    }
+    Ok(())
+}
+
+/// Adds the exchange of a number.
+fn add_exchange(alloc: Global, number: u32, tally: &mut Tally) -> Result<(), AllocError>
+    ensures { AreNumbered number tally.old → OnOk result (AreNumbered (number + 1) tally.new) }
+{
+    match exchange_at(alloc, number) {
+        Ok(made) => tally.push(made),
+        Err(error) => Err(error),
+    }
+}
+
+/// The exchange of a number. Fails also where memory was wanting in it.
+fn exchange_at(alloc: Global, number: u32) -> Result<Record, AllocError>
+    ensures { IfOk result (IsNumbered number) }
+{
+    match numbered(alloc, number) {
+        Ok(scenario) => match exchange(alloc, scenario) {
+            Ok(made) => with_memory(made),
+            Err(error) => Err(error),
+        },
+        Err(error) => Err(error),
+    }
+}
+
+/// A record in which memory was not wanting.
+fn with_memory(made: Record) -> Result<Record, AllocError>
+    ensures { IfOk result (λ kept. (kept ≡ made) × IsSome (status_of kept.outcome)) }
+{
+    let had_memory = status_of(&made.outcome).is_some();
+    kept_if(had_memory, made)
+}
+
+/// Generic, since to drop a value of a type parameter is one step.
+fn kept_if<T: Drop>(is_kept: bool, made: T) -> Result<T, AllocError>
+    ensures { IfOk result (λ kept. (kept ≡ made) × (is_kept ≡ true)) }
+{
+    if is_kept { Ok(made) } else { Err(AllocError) }
+}
