@@ -65,6 +65,7 @@ returns-clause-exchange c ends link_is held =
         server_named = ends.server_named;
         edits = same;
         follows = subst (λ (these : List Edit). FollowsEdits these made.link.log) same (told.follows tt);
+        policy = rw c.new.ensures.items at c.new-2.ensures;
         answer = answer;
         outcome_is = refl;
         delegates = rw (link_is, ends.kdc, empty) at delegates;

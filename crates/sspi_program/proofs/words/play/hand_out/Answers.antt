@@ -17,6 +17,7 @@ returns-clause-play c ends =
       client_named = ends.client_named;
       server_named = ends.server_named;
       link = rw c.new.ensures.items at c.new-2.ensures;
+      policy = rw c.new-3.ensures.items at c.new-4.ensures;
       answer = c.play-answer.result;
       outcome_is = refl;
       accounts = rw (ends.kdc, empty, c.as_slice.ensures) at (ensures.accounts empty);
