@@ -1,4 +1,4 @@
-.PHONY: run play test check fmt size wrong-bodies
+.PHONY: run play test check fmt size wrong-bodies hostile fuzz
 
 # Carries one delegation and shows its messages, each with the end that sent it, and the outcome. Builds, and proves nothing.
 run:
@@ -23,6 +23,14 @@ fmt:
 # The lines of each crate by kind, and what the contract of `delegate` rests on.
 size:
 	@tools/size
+
+# The built program with each of its allocations, reads and writes failing in turn.
+hostile:
+	@tools/hostile/faults
+
+# The built program on 100000 scenarios that a seed draws. They take about a quarter of an hour.
+fuzz:
+	@tools/hostile/fuzz 100000 1
 
 # The wrong bodies that the gate does not try, each of which must be refused. They take about an hour.
 wrong-bodies:
