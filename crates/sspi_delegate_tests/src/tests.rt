@@ -1,9 +1,4 @@
 //! The links by themselves, and whole exchanges over them.
 
-mod carrier;
-mod edits;
-mod ends;
-mod exchanges;
+mod exchange;
 mod links;
-mod messages;
-mod words;

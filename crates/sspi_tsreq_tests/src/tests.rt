@@ -47,37 +47,38 @@ fn ways(len: usize) -> (usize, usize, usize) {
     }
 }
 
-fn is_answer(
-    rt: &impl Abort,
-    answer: Result<TsRequest, WireKind>,
-    wanted: Result<&TsRequest, WireKind>,
-) {
-    match (answer, wanted) {
-        (Ok(read), Ok(request)) => assert!(rt; read == *request),
-        (answer, wanted) => assert_eq!(rt; answer.err(), wanted.err()),
+fn is_request(rt: &impl Abort, answer: Result<TsRequest, WireKind>, request: &TsRequest) {
+    match answer {
+        Ok(read) => assert!(rt; read == *request),
+        Err(kind) => assert_eq!(rt; Some(kind), None),
     }
 }
 
-/// The bytes have this answer, whole or in whatever pieces.
-fn answers(rt: &impl Abort, alloc: Global, bytes: &[u8], wanted: Result<&TsRequest, WireKind>) {
-    is_answer(rt, TsRequest::from_buffer(alloc, bytes), wanted);
+/// The bytes begin with the request, whole or in whatever pieces.
+fn reads(rt: &impl Abort, alloc: Global, bytes: &[u8], request: &TsRequest) {
+    is_request(rt, TsRequest::from_buffer(alloc, bytes), request);
     let (least, sizes, cuts) = ways(bytes.len());
     for size in 0..sizes {
-        is_answer(rt, fed(alloc, bytes, least.saturating_add(size)), wanted);
+        is_request(rt, fed(alloc, bytes, least.saturating_add(size)), request);
     }
     for at in 0..cuts {
-        is_answer(rt, fed_cut(alloc, bytes, at), wanted);
+        is_request(rt, fed_cut(alloc, bytes, at), request);
     }
 }
 
-/// The bytes begin with the request.
-fn reads(rt: &impl Abort, alloc: Global, bytes: &[u8], request: &TsRequest) {
-    answers(rt, alloc, bytes, Ok(request));
-}
-
-/// The bytes have this fault.
+/// The bytes have this fault, whole or in whatever pieces.
 fn refuses(rt: &impl Abort, alloc: Global, bytes: &[u8], kind: WireKind) {
-    answers(rt, alloc, bytes, Err(kind));
+    assert_eq!(rt; TsRequest::from_buffer(alloc, bytes).err(), Some(kind));
+    let (least, sizes, cuts) = ways(bytes.len());
+    for size in 0..sizes {
+        assert_eq!(rt;
+            fed(alloc, bytes, least.saturating_add(size)).err(),
+            Some(kind)
+        );
+    }
+    for at in 0..cuts {
+        assert_eq!(rt; fed_cut(alloc, bytes, at).err(), Some(kind));
+    }
 }
 
 fn writes(rt: &impl Abort, alloc: Global, request: &TsRequest, bytes: &[u8]) {

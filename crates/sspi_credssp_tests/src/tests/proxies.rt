@@ -45,10 +45,10 @@ fn has_failed<T: Drop>(rt: &impl Abort, answer: Result<T, ProxyError>) {
     holds(rt, answer.err() == Some(ProxyError::Failed), "not failed");
 }
 
-fn finds_nobody<C: CredentialsProxy>(rt: &impl Abort, table: &mut C, who: &Username) {
-    let absent = table.auth_data_by_user(who).err() == Some(ProxyError::NotFound);
+fn finds_no_bob<C: CredentialsProxy>(rt: &impl Abort, table: &mut C, bob: &Username) {
+    let absent = table.auth_data_by_user(bob).err() == Some(ProxyError::NotFound);
     holds(rt, absent, "found");
-    let none = table.auth_data_candidates_by_user(who);
+    let none = table.auth_data_candidates_by_user(bob);
     holds(rt, are_found(none, &[]), "candidates");
 }
 
@@ -56,8 +56,7 @@ fn finds_by_name(rt: &impl Test) {
     let mut table = proxy(rt, TABLE);
     finds_ann(rt, &mut table, &name(rt, "Dom\\Ann"));
     has_failed(rt, table.auth_data());
-    finds_nobody(rt, &mut table, &name(rt, "DOM\\bob"));
-    finds_nobody(rt, &mut table, &name(rt, "x"));
+    finds_no_bob(rt, &mut table, &name(rt, "DOM\\bob"));
 }
 
 /// Names are told apart by form, account and domain, without the case of ASCII letters.

@@ -1,158 +1,233 @@
-//! What the edits of a link give, line by line, the pieces in which it is given, and a link over a carrier.
+//! What the edits of a link give, row by row, and a link over a carrier.
 
-use crate::tests::carrier::carried_link;
-use crate::tests::edits::edited_link;
-use crate::tests::words::{Test, given, number, parted};
-use sspi_delegate::{Carried, Carrier, End, KeptLink, Link, LinkError, MemoryLink};
+use sspi_delegate::{Carried, Carrier, Edit, EditKind, End, KeptLink, Link, LinkError, MemoryLink};
+use sspi_types::Bytes;
+use std::alloc::{AllocError, Global};
+use std::test::Fail;
 
-/// A link whose log a test looks at. What owns one is generic in its type.
-pub trait Logged: Link {
-    fn entries(&self) -> &[Carried];
+/// An edit whose bytes are borrowed.
+#[derive(Clone, Copy)]
+pub enum Kind {
+    Drop,
+    Cut(usize),
+    Set(usize, u8),
+    Add(&'static [u8]),
+    Give(&'static [u8]),
+    Again(u32),
+    Fail,
 }
 
-impl Logged for MemoryLink {
-    fn entries(&self) -> &[Carried] {
-        self.log()
-    }
+pub fn edit(alloc: Global, entry: u32, kind: Kind) -> Result<Edit, AllocError> {
+    let kind = match kind {
+        Kind::Drop => EditKind::Drop,
+        Kind::Cut(count) => EditKind::Cut(count),
+        Kind::Set(place, byte) => EditKind::Set(place, byte),
+        Kind::Add(more) => EditKind::Add(Bytes::from_slice(alloc, more)?),
+        Kind::Give(bytes) => EditKind::Give(Bytes::from_slice(alloc, bytes)?),
+        Kind::Again(earlier) => EditKind::Again(earlier),
+        Kind::Fail => EditKind::Fail,
+    };
+    Edit { entry, kind }.clone(alloc)
 }
 
-impl<R: Carrier> Logged for KeptLink<R> {
-    fn entries(&self) -> &[Carried] {
-        self.log()
-    }
-}
-
-/// Reads the newest delivery to its end, two bytes at a time, behind what was read before.
-fn read_to_end<L: Link>(rt: &impl Test, link: &mut L, text: &mut Vec<u8>) {
+/// Reads the newest delivery to its end, two bytes at a time.
+fn read_to_end<L: Link>(alloc: Global, link: &mut L) -> Result<Bytes, LinkError> {
+    let mut text = Bytes::new(alloc);
     let mut room = [0u8; 2];
     for _ in 0..16 {
-        let count = given(rt, link.piece(&mut room));
+        let count = link.piece(&mut room)?;
         if count == 0 {
             break;
         }
-        given(rt, text.extend_from_slice(&room[..count]));
+        text.push_slice(&room[..count])?;
     }
+    Ok(text)
 }
 
-/// What a delivery gave, or `fails`, behind what came before it, and a comma.
-fn deliver<L: Link>(rt: &impl Test, link: &mut L, from: End, sent: &str, came: &mut Vec<u8>) {
-    match link.carry(from, sent.as_bytes()) {
-        Ok(()) => read_to_end(rt, link, came),
-        Err(LinkError::Failed) => given(rt, came.extend_from_slice(b"fails")),
-        Err(LinkError::InsufficientMemory) => rt.abort(),
+/// Three messages over a link with these edits: what each delivery gave.
+fn deliveries(alloc: Global, edits: &[(u32, Kind)]) -> Result<Vec<Bytes>, LinkError> {
+    let mut all = Vec::new(alloc);
+    for (entry, kind) in edits {
+        all.push(edit(alloc, *entry, *kind)?)?;
     }
-    given(rt, came.push(b','));
+    let mut link = MemoryLink::new(alloc, all);
+    let mut delivered = Vec::new(alloc);
+    let sent: [(End, &[u8]); 3] = [
+        (End::Client, b"abc"),
+        (End::Server, b"de"),
+        (End::Client, b"f"),
+    ];
+    for (from, text) in sent {
+        link.carry(from, text)?;
+        delivered.push(read_to_end(alloc, &mut link)?)?;
+    }
+    Ok(delivered)
 }
 
-/// What is delivered of `abc` and `f` of the client and of `de` of the server between them.
-fn delivers<L: Link>(rt: &impl Test, link: L, wanted: &str) {
-    let mut link = link;
-    let mut came = Vec::new(rt.alloc());
-    deliver(rt, &mut link, End::Client, "abc", &mut came);
-    deliver(rt, &mut link, End::Server, "de", &mut came);
-    deliver(rt, &mut link, End::Client, "f", &mut came);
-    assert!(rt; came.as_slice() == wanted.as_bytes(), "{wanted}");
+fn same_texts(found: &[Bytes], wanted: &[&[u8]]) -> bool {
+    found.len() == wanted.len()
+        && found
+            .iter()
+            .zip(wanted.iter())
+            .all(|(text, bytes)| text.as_slice() == *bytes)
 }
-
-/// Edits, and what the messages `abc`, `de` and `f` are delivered as. One that the link failed to carry is no entry, so that the next
-/// has its place.
-const EDITS: &str = "
- -> abc,de,f,
-7/fail -> abc,de,f,
-0/drop -> ,de,f,
-1/cut/1 -> abc,d,f,
-1/cut/3 -> abc,de,f,
-0/set/2/x -> abx,de,f,
-0/set/3/x -> abc,de,f,
-2/add/gh -> abc,de,fgh,
-1/give/xyz -> abc,xyz,f,
-2/again/0 -> abc,de,abc,
-1/again/1 -> abc,,f,
-1/again/2 -> abc,,f,
-0/give/xyz 1/again/0 -> xyz,abc,f,
-0/add/de 0/cut/4 -> abcd,de,f,
-0/cut/4 0/add/de -> abcde,de,f,
-2/drop 1/drop 2/add/i -> abc,,i,
-0/fail 0/drop -> fails,fails,fails,
-2/give/x 2/fail -> abc,de,fails,
-";
 
 #[test]
-fn edits_change_what_is_delivered(rt: HostRuntime) {
-    for line in EDITS.lines() {
-        if !line.is_empty() {
-            let (words, wanted) = parted(&rt, line, " -> ");
-            delivers(&rt, edited_link(&rt, words), wanted);
-        }
+fn edits_change_what_is_delivered(rt: HostRuntime) -> Result<(), Fail> {
+    let rows: [(&[(u32, Kind)], &[&[u8]]); 16] = [
+        (&[], &[b"abc", b"de", b"f"]),
+        (&[(7, Kind::Fail)], &[b"abc", b"de", b"f"]),
+        (&[(0, Kind::Drop)], &[b"", b"de", b"f"]),
+        (&[(1, Kind::Cut(1))], &[b"abc", b"d", b"f"]),
+        (&[(1, Kind::Cut(3))], &[b"abc", b"de", b"f"]),
+        (&[(0, Kind::Set(2, b'x'))], &[b"abx", b"de", b"f"]),
+        (&[(0, Kind::Set(3, b'x'))], &[b"abc", b"de", b"f"]),
+        (&[(2, Kind::Add(b"gh"))], &[b"abc", b"de", b"fgh"]),
+        (&[(1, Kind::Give(b"xyz"))], &[b"abc", b"xyz", b"f"]),
+        (&[(2, Kind::Again(0))], &[b"abc", b"de", b"abc"]),
+        (&[(1, Kind::Again(1))], &[b"abc", b"", b"f"]),
+        (&[(1, Kind::Again(2))], &[b"abc", b"", b"f"]),
+        (
+            &[(0, Kind::Give(b"xyz")), (1, Kind::Again(0))],
+            &[b"xyz", b"abc", b"f"],
+        ),
+        (
+            &[(0, Kind::Add(b"de")), (0, Kind::Cut(4))],
+            &[b"abcd", b"de", b"f"],
+        ),
+        (
+            &[(0, Kind::Cut(4)), (0, Kind::Add(b"de"))],
+            &[b"abcde", b"de", b"f"],
+        ),
+        (
+            &[(2, Kind::Drop), (1, Kind::Drop), (2, Kind::Add(b"i"))],
+            &[b"abc", b"", b"i"],
+        ),
+    ];
+    for (edits, expected) in rows {
+        let delivered = deliveries(rt.alloc(), edits).ok().ok_or("delivered")?;
+        assert!(rt; same_texts(&delivered, expected));
     }
+    Ok(())
 }
 
 /// The lengths of the pieces in which `abc` comes where four bytes are asked for at once.
-fn comes_in<L: Link>(rt: &impl Test, link: &mut L, lengths: &str) {
-    given(rt, link.carry(End::Client, b"abc"));
-    for length in lengths.split_whitespace() {
-        let count = given(rt, link.piece(&mut [0u8; 4]));
-        assert!(rt; count == number(rt, length) as usize, "{lengths}");
+fn piece_lengths(link: &mut MemoryLink) -> [usize; 4] {
+    let mut lengths = [9; 4];
+    if link.carry(End::Client, b"abc").is_ok() {
+        for length in lengths.iter_mut() {
+            *length = link.piece(&mut [0u8; 4]).unwrap_or(9);
+        }
     }
-}
-
-/// The limits of one link, one after the other, and the lengths of the pieces then.
-const PIECES: &str = "0 -> 1 1 1 0
-1 -> 1 1 1 0
-2 -> 2 1 0 0
-4 -> 3 0 0 0";
-
-fn comes_in_pieces(rt: &impl Test, link: &mut MemoryLink) {
-    comes_in(rt, link, "3 0 0 0");
-    for line in PIECES.lines() {
-        let (most, lengths) = parted(rt, line, " -> ");
-        link.set_piece(number(rt, most) as usize);
-        comes_in(rt, link, lengths);
-    }
+    lengths
 }
 
 #[test]
 fn pieces_are_limited(rt: HostRuntime) {
-    comes_in_pieces(&rt, &mut edited_link(&rt, ""));
-}
-
-fn is_entry(rt: &impl Test, entry: Option<&Carried>, from: End, text: &[u8]) {
-    match entry {
-        Some(entry) => {
-            assert_eq!(rt; entry.from, from);
-            assert_eq!(rt; entry.sent.as_slice(), text);
-            assert_eq!(rt; entry.delivered.as_slice(), text);
-            assert!(rt; entry.ended);
-        }
-        None => rt.abort(),
+    let mut link = MemoryLink::new(rt.alloc(), Vec::new(rt.alloc()));
+    assert_eq!(rt; piece_lengths(&mut link), [3, 0, 0, 0]);
+    for (most, lengths) in [
+        (0, [1, 1, 1, 0]),
+        (1, [1, 1, 1, 0]),
+        (2, [2, 1, 0, 0]),
+        (4, [3, 0, 0, 0]),
+    ] {
+        link.set_piece(most);
+        assert_eq!(rt; piece_lengths(&mut link), lengths);
     }
 }
 
-/// The link has no piece more.
-fn is_at_end<L: Link>(rt: &impl Test, link: &mut L) {
-    assert_eq!(rt; link.piece(&mut [0u8; 4]), Ok(0));
+#[test]
+fn an_edit_fails_the_carry(rt: HostRuntime) -> Result<(), Fail> {
+    for edits in [
+        [(0, Kind::Fail), (0, Kind::Drop)],
+        [(2, Kind::Give(b"x")), (2, Kind::Fail)],
+    ] {
+        let refused = deliveries(rt.alloc(), &edits).err().ok_or("refused")?;
+        assert_eq!(rt; refused, LinkError::Failed);
+    }
+    Ok(())
 }
 
-fn hands_on<L: Link>(rt: &impl Test, link: &mut L, from: End, text: &[u8]) {
-    let mut came = Vec::new(rt.alloc());
-    assert_eq!(rt; link.carry(from, text), Ok(()));
-    read_to_end(rt, link, &mut came);
-    assert_eq!(rt; came.as_slice(), text);
-    is_at_end(rt, link);
+/// Hands back what it was sent.
+#[derive(Drop)]
+pub struct Echo {
+    text: Bytes,
+    taken: usize,
+    sends_left: Option<u32>,
+    receives_left: Option<u32>,
+    faults: u64,
 }
 
-fn keeps_the_log<L: Logged>(rt: &impl Test, link: L) {
-    let mut link = link;
-    is_at_end(rt, &mut link);
-    hands_on(rt, &mut link, End::Client, b"abc");
-    hands_on(rt, &mut link, End::Server, b"def");
-    assert_eq!(rt; link.carry(End::Client, b"g"), Err(LinkError::Failed));
-    assert_eq!(rt; link.entries().len(), 2);
-    is_entry(rt, link.entries().get(0), End::Client, b"abc");
-    is_entry(rt, link.entries().get(1), End::Server, b"def");
+/// A carrier whose `send` fails once, after so many, and whose `receive` does.
+pub fn echoing(alloc: Global, sends_left: Option<u32>, receives_left: Option<u32>) -> Echo {
+    Echo {
+        text: Bytes::new(alloc),
+        taken: 0,
+        sends_left,
+        receives_left,
+        faults: 0,
+    }
+}
+
+/// One call more: whether it is the one that fails.
+fn fails(calls_left: &mut Option<u32>) -> bool {
+    let Some(left) = *calls_left else {
+        return false;
+    };
+    *calls_left = left.checked_sub(1);
+    left == 0
+}
+
+impl Carrier for Echo {
+    ghost faults = { λ carrier. carrier.faults };
+
+    fn send(&mut self, _from: End, sent: &[u8]) -> Result<(), LinkError> {
+        if fails(&mut self.sends_left) {
+            self.faults = self.faults.saturating_add(1);
+            return Err(LinkError::Failed);
+        }
+        self.taken = 0;
+        self.text.truncate(0);
+        self.text.push_slice(sent)?;
+        Ok(())
+    }
+
+    fn receive(&mut self, into: &mut [u8]) -> Result<usize, LinkError> {
+        if fails(&mut self.receives_left) {
+            self.faults = self.faults.saturating_add(1);
+            return Err(LinkError::Failed);
+        }
+        let rest = self.text.as_slice().get(self.taken..).unwrap_or(&[]);
+        let count = rest.len().min(into.len());
+        into[..count].copy_from_slice(&rest[..count]);
+        self.taken = self.taken.saturating_add(count);
+        Ok(count)
+    }
+}
+
+fn assert_entry(rt: &impl std::process::Abort, entry: &Carried, from: End, text: &[u8]) {
+    assert_eq!(rt; entry.from, from);
+    assert_eq!(rt; entry.sent.as_slice(), text);
+    assert_eq!(rt; entry.delivered.as_slice(), text);
+    assert!(rt; entry.ended);
 }
 
 #[test]
-fn kept_link_keeps_the_log(rt: HostRuntime) {
-    keeps_the_log(&rt, carried_link(&rt, "sends=2"));
+fn kept_link_keeps_the_log(rt: HostRuntime) -> Result<(), Fail> {
+    let mut link = KeptLink::new(rt.alloc(), echoing(rt.alloc(), Some(2), None));
+    assert_eq!(rt; link.piece(&mut [0u8; 4]), Ok(0));
+    for (from, text) in [(End::Client, b"abc"), (End::Server, b"def")] {
+        assert_eq!(rt; link.carry(from, text), Ok(()));
+        let delivered = read_to_end(rt.alloc(), &mut link).ok().ok_or("read")?;
+        assert_eq!(rt; delivered.as_slice(), text.as_slice());
+        assert_eq!(rt; link.piece(&mut [0u8; 4]), Ok(0));
+    }
+    assert_eq!(rt; link.carry(End::Client, b"g"), Err(LinkError::Failed));
+    let [first, second] = link.log() else {
+        return Err(Fail::from("two entries"));
+    };
+    assert_entry(&rt, first, End::Client, b"abc");
+    assert_entry(&rt, second, End::Server, b"def");
+    Ok(())
 }

@@ -57,15 +57,17 @@ fn is_copied(rt: &impl Abort, alloc: Global, request: &TsRequest, words: &str) {
     );
 }
 
-/// The error that a code is, but for that of success.
-fn error_of(code: Option<NStatusCode>) -> Result<(), Error> {
-    match code {
-        None | Some(NStatusCode::SUCCESS) => Ok(()),
-        Some(code) => Err(Error::new_with_nstatus(
-            ErrorKind::InvalidToken,
-            Reason::ErrorStatus,
-            code,
-        )),
+fn is_error(rt: &impl Abort, answer: Result<(), Error>, code: Option<NStatusCode>) {
+    match (answer, code) {
+        (Ok(()), None) => {}
+        (Ok(()), Some(code)) => assert_eq!(rt; code, NStatusCode::SUCCESS),
+        (Err(_), None) => rt.abort(),
+        (Err(error), Some(code)) => {
+            assert!(rt; code != NStatusCode::SUCCESS);
+            assert_eq!(rt; error.error_type, ErrorKind::InvalidToken);
+            assert_eq!(rt; error.description, Reason::ErrorStatus);
+            assert_eq!(rt; error.nstatus, Some(code));
+        }
     }
 }
 
@@ -109,10 +111,7 @@ fn line(rt: &impl Abort, alloc: Global, line: &str) {
     let (words, value) = parted(rt, rest, "|");
     let request = request(rt, alloc, words);
     is_copied(rt, alloc, &request, words);
-    assert!(rt;
-        request.check_error() == error_of(request.error_code),
-        "{words}"
-    );
+    is_error(rt, request.check_error(), request.error_code);
     goes(rt, alloc, verb, &request, value);
 }
 

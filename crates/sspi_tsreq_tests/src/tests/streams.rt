@@ -1,61 +1,40 @@
-use crate::tests::given;
 use crate::tests::octets::{SECOND, octets};
+use crate::tests::{given, reads};
 use sspi_ber::{FaultySink, FaultySource, SliceSource, WireKind};
 use sspi_tsreq::TsRequest;
 use std::alloc::Global;
 use std::process::Abort;
 
-/// Headers with the length of the whole request, and what is behind each and stays; `0` for one that has a fault.
-const HEADERS: &str = "\
-8 308105 a003020106
-7 3005
-65539 3082ffff a0
-10 3083000005
-1048581 3083100000 a0
-0
-0 3105
-0 30
-0 308005
-0 3081
-0 308201
-0 30830005
-0 3083100001
-0 308400000005";
-
-/// The header is taken, and the rest stays. Each fault of the header is its end.
-fn measures(rt: &impl Abort, bytes: &[u8], rest: &[u8], size: usize) {
+fn measures(rt: &impl Abort, bytes: &[u8], size: usize, rest: &[u8]) {
     let mut source = SliceSource::new(bytes);
-    let found = TsRequest::read_length(&mut source);
-    if size == 0 {
-        assert_eq!(rt; found, Err(WireKind::UnexpectedEof));
-    } else {
-        assert_eq!(rt; found, Ok(size));
-        assert!(rt; source.rest() == rest);
-    }
+    assert_eq!(rt; TsRequest::read_length(&mut source), Ok(size));
+    assert!(rt; source.rest() == rest);
 }
 
-/// Before and behind a space, if there is one.
-fn halves(text: &str) -> (&str, &str) {
-    match text.split_once(' ') {
-        Some(halves) => halves,
-        None => (text, ""),
-    }
+fn measures_nothing(rt: &impl Abort, bytes: &[u8]) {
+    let size = TsRequest::read_length(&mut SliceSource::new(bytes));
+    assert_eq!(rt; size, Err(WireKind::UnexpectedEof));
 }
 
-fn header(rt: &impl Abort, alloc: Global, line: &str) {
-    let (size, rest) = halves(line);
-    let (header, rest) = halves(rest);
-    let mut bytes = octets(rt, alloc, header);
-    let rest = octets(rt, alloc, rest);
-    given(rt, bytes.extend_from_slice(&rest));
-    measures(rt, &bytes, &rest, given(rt, size.parse()));
-}
-
+// The header is taken, the content stays. Each fault of the header is the end.
 #[test]
 fn whole_lengths(rt: HostRuntime) {
-    for line in HEADERS.lines() {
-        header(&rt, rt.alloc(), line);
-    }
+    let bytes = [0x30, 0x81, 0x05, 0xa0, 0x03, 0x02, 0x01, 0x06];
+    reads(&rt, rt.alloc(), &bytes, &TsRequest::default());
+    measures(&rt, &bytes, 8, &[0xa0, 0x03, 0x02, 0x01, 0x06]);
+    measures(&rt, &[0x30, 0x05], 7, &[]);
+    measures(&rt, &[0x30, 0x82, 0xff, 0xff, 0xa0], 65539, &[0xa0]);
+    measures(&rt, &[0x30, 0x83, 0x00, 0x00, 0x05], 10, &[]);
+    measures(&rt, &[0x30, 0x83, 0x10, 0x00, 0x00, 0xa0], 1048581, &[0xa0]);
+    measures_nothing(&rt, &[]);
+    measures_nothing(&rt, &[0x31, 0x05]);
+    measures_nothing(&rt, &[0x30]);
+    measures_nothing(&rt, &[0x30, 0x80, 0x05]);
+    measures_nothing(&rt, &[0x30, 0x81]);
+    measures_nothing(&rt, &[0x30, 0x82, 0x01]);
+    measures_nothing(&rt, &[0x30, 0x83, 0x00, 0x05]);
+    measures_nothing(&rt, &[0x30, 0x83, 0x10, 0x00, 0x01]);
+    measures_nothing(&rt, &[0x30, 0x84, 0x00, 0x00, 0x00, 0x05]);
 }
 
 fn length_fails_at(rt: &impl Abort, call: u64) {
