@@ -1,12 +1,12 @@
 use sspi_ber::{
-    SliceSource, VecSink, WireKind, read_integer, read_length, sizeof_integer, sizeof_length,
-    write_integer, write_length,
+    SliceSource, VecSink, WireKind, read_integer, read_length, read_sequence_tag, sizeof_integer,
+    sizeof_length, write_integer, write_length, write_sequence_tag,
 };
 use std::alloc::Global;
 use std::process::Abort;
 
-/// Lengths (X.690 8.1.3.4, 8.1.3.5) and integers (X.690 8.3), at the ends of each form. `length` and `integer` are spelled so
-/// and read back; `long-` forms are read alone, and `bad-` ones refused. The bytes stand in hex, none as a dot.
+/// Lengths (X.690 8.1.3.4, 8.1.3.5), the header of a SEQUENCE and integers (X.690 8.3), at the ends of each form. `length`, `sequence` and
+/// `integer` are spelled so and read back; `long-` forms are read alone, and `bad-` ones refused. The bytes stand in hex, none as a dot.
 const SPELLINGS: &str = "\
 length 0 00
 length 127 7f
@@ -20,6 +20,7 @@ length 65535 82ffff
 length 65536 83010000
 length 1048575 830fffff
 length 1048576 83100000
+sequence 256 30820100
 long-length 0 8100
 long-length 0 820000
 long-length 0 83000000
@@ -91,6 +92,7 @@ fn try_digits(rt: &impl Abort, alloc: Global, verb: &str, value: &str, digits: &
         Err(_) => assert!(rt; false, "{digits}"),
         Ok(bytes) => match verb {
             "length" => spells_length(rt, alloc, number(value) as usize, &bytes),
+            "sequence" => spells_sequence(rt, alloc, number32(value), &bytes),
             "long-length" => reads_length(rt, number(value), &bytes),
             "bad-length" => refuses_length(rt, kind(value), &bytes),
             "integer" => spells_integer(rt, alloc, number32(value), &bytes),
@@ -133,6 +135,21 @@ fn reads_length(rt: &impl Abort, len: u64, bytes: &[u8]) {
         "{len}"
     );
     assert_eq!(rt; source.rest().len(), 0, "{len}");
+}
+
+fn spells_sequence(rt: &impl Abort, alloc: Global, len: u32, spelled: &[u8]) {
+    let mut sink = VecSink::new(alloc);
+    assert_eq!(rt;
+        write_sequence_tag(&mut sink, len as usize),
+        Ok(spelled.len()),
+        "{len}"
+    );
+    assert!(rt; sink.written() == spelled, "{len}");
+    assert_eq!(rt;
+        read_sequence_tag(&mut SliceSource::new(spelled)),
+        Ok(len),
+        "{len}"
+    );
 }
 
 fn refuses_length(rt: &impl Abort, kind: WireKind, bytes: &[u8]) {

@@ -19,7 +19,11 @@ fn packages_are_known_by_name(rt: HostRuntime) {
 fn is_named(rt: &impl Abort, alloc: Global, name: &str, is_own: bool) {
     match SecurityPackageType::from_str(alloc, name) {
         Ok(package_type) => {
-            assert!(rt; package_type.as_str() == name, "{name}");
+            let is_other = matches!(&package_type, SecurityPackageType::Other(_));
+            assert!(rt;
+                package_type.as_str() == name && is_other != is_own,
+                "{name}"
+            );
             copies_package(rt, alloc, &package_type);
             is_entry_of(
                 rt,
