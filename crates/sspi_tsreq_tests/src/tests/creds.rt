@@ -1,57 +1,32 @@
-use crate::tests::unmade;
+//! Credentials, a line each: what is done, the domain, the user and the password, and the text in the words of `octets`.
+//!
+//! Credentials are written as the text and read from it by both readers (`both`), or read alone (`read`); `kept` is what is written where
+//! they stay at the client.
+
+use crate::tests::octets::octets;
+use crate::tests::{given, parted};
 use sspi_ber::{FaultySource, SliceSource};
-use sspi_names::{
-    AuthIdentityBuffers, CredentialsBuffers, KeytabIdentity, Username, UsernameError, Utf16Error,
-    Utf16Text,
-};
+use sspi_names::{AuthIdentityBuffers, CredentialsBuffers, KeytabIdentity, Username, Utf16Text};
 use sspi_tsreq::{
     CredSspMode, read_ts_credentials, read_ts_credentials_from_slice, write_ts_credentials,
 };
 use sspi_types::{Bytes, Error, ErrorKind, Secret};
-use std::alloc::{AllocError, Global};
+use std::alloc::Global;
 use std::process::Abort;
 
 /// The user `a` with the password `1`.
-const SHORT: &[u8] = &[
-    0x30, 0x1b, 0xa0, 0x03, 0x02, 0x01, 0x01, 0xa1, 0x14, 0x04, 0x12, 0x30, 0x10, 0xa0, 0x02, 0x04,
-    0x00, 0xa1, 0x04, 0x04, 0x02, 0x61, 0x00, 0xa2, 0x04, 0x04, 0x02, 0x31, 0x00,
-];
+const SHORT: &str = "301ba003020101a11404123010a0020400a10404026100a20404023100";
 
-/// `Domain\Username` with the password `Password`.
-const LONG: &[u8] = &[
-    0x30, 0x43, 0xa0, 0x03, 0x02, 0x01, 0x01, 0xa1, 0x3c, 0x04, 0x3a, 0x30, 0x38, 0xa0, 0x0e, 0x04,
-    0x0c, 0x44, 0x00, 0x6f, 0x00, 0x6d, 0x00, 0x61, 0x00, 0x69, 0x00, 0x6e, 0x00, 0xa1, 0x12, 0x04,
-    0x10, 0x55, 0x00, 0x73, 0x00, 0x65, 0x00, 0x72, 0x00, 0x6e, 0x00, 0x61, 0x00, 0x6d, 0x00, 0x65,
-    0x00, 0xa2, 0x12, 0x04, 0x10, 0x50, 0x00, 0x61, 0x00, 0x73, 0x00, 0x73, 0x00, 0x77, 0x00, 0x6f,
-    0x00, 0x72, 0x00, 0x64, 0x00,
-];
-
-/// Three empty texts.
-const EMPTY: &[u8] = &[
-    0x30, 0x17, 0xa0, 0x03, 0x02, 0x01, 0x01, 0xa1, 0x10, 0x04, 0x0e, 0x30, 0x0c, 0xa0, 0x02, 0x04,
-    0x00, 0xa1, 0x02, 0x04, 0x00, 0xa2, 0x02, 0x04, 0x00,
-];
-
-fn buffers(
-    alloc: Global,
-    domain: &str,
-    user: &str,
-    password: &str,
-) -> Result<CredentialsBuffers, AllocError> {
-    Ok(CredentialsBuffers::AuthIdentity(AuthIdentityBuffers {
-        user: Utf16Text::from_str(alloc, user)?,
-        domain: Utf16Text::from_str(alloc, domain)?,
-        password: Secret {
-            value: Utf16Text::from_str(alloc, password)?,
-        },
-    }))
+fn utf16(rt: &impl Abort, alloc: Global, text: &str) -> Utf16Text {
+    given(rt, Utf16Text::from_str(alloc, text))
 }
 
-fn reads(rt: &impl Abort, alloc: Global, bytes: &[u8], buffers: &CredentialsBuffers) {
-    let read = read_ts_credentials(alloc, &mut SliceSource::new(bytes)).ok();
-    assert!(rt; read.as_ref() == Some(buffers));
-    let read = read_ts_credentials_from_slice(alloc, bytes).ok();
-    assert!(rt; read.as_ref() == Some(buffers));
+fn buffers(domain: Utf16Text, user: Utf16Text, password: Utf16Text) -> CredentialsBuffers {
+    CredentialsBuffers::AuthIdentity(AuthIdentityBuffers {
+        user,
+        domain,
+        password: Secret { value: password },
+    })
 }
 
 fn kind_of<T: Drop>(answer: Result<T, Error>) -> Option<ErrorKind> {
@@ -61,122 +36,90 @@ fn kind_of<T: Drop>(answer: Result<T, Error>) -> Option<ErrorKind> {
     }
 }
 
-fn is_text(rt: &impl Abort, written: Result<Vec<u8>, Error>, text: &[u8]) {
-    match written {
-        Ok(written) => assert!(rt; written.as_slice() == text),
-        Err(_) => unmade(rt),
-    }
+fn reads(rt: &impl Abort, alloc: Global, text: &[u8], buffers: &CredentialsBuffers) {
+    let read = given(rt, read_ts_credentials(alloc, &mut SliceSource::new(text)));
+    assert!(rt; read == *buffers);
+    let read = given(rt, read_ts_credentials_from_slice(alloc, text));
+    assert!(rt; read == *buffers);
 }
 
-/// The credentials are written as this text, and are read from it by both readers.
-fn exchanged(
+fn writes(
     rt: &impl Abort,
     alloc: Global,
-    buffers: Result<CredentialsBuffers, AllocError>,
+    buffers: &CredentialsBuffers,
+    mode: CredSspMode,
     text: &[u8],
 ) {
-    match buffers {
-        Ok(buffers) => {
-            is_text(
-                rt,
-                write_ts_credentials(alloc, &buffers, CredSspMode::WithCredentials),
-                text,
-            );
-            reads(rt, alloc, text, &buffers);
+    let written = given(rt, write_ts_credentials(alloc, buffers, mode));
+    assert!(rt; written.as_slice() == text);
+}
+
+fn goes(rt: &impl Abort, alloc: Global, verb: &str, buffers: &CredentialsBuffers, text: &[u8]) {
+    match verb {
+        "both" => {
+            writes(rt, alloc, buffers, CredSspMode::WithCredentials, text);
+            reads(rt, alloc, text, buffers);
         }
-        Err(_) => unmade(rt),
+        "read" => reads(rt, alloc, text, buffers),
+        "kept" => writes(rt, alloc, buffers, CredSspMode::CredentialLess, text),
+        _ => rt.abort(),
     }
 }
 
-/// What is written where the credentials stay at the client.
-fn kept_back(rt: &impl Abort, alloc: Global, buffers: Result<CredentialsBuffers, AllocError>) {
-    match buffers {
-        Ok(buffers) => {
-            is_text(
-                rt,
-                write_ts_credentials(alloc, &buffers, CredSspMode::CredentialLess),
-                EMPTY,
-            );
-        }
-        Err(_) => unmade(rt),
-    }
+fn line(rt: &impl Abort, alloc: Global, line: &str) {
+    let (verb, rest) = parted(rt, line, "|");
+    let (domain, rest) = parted(rt, rest, "|");
+    let (user, rest) = parted(rt, rest, "|");
+    let (password, text) = parted(rt, rest, "|");
+    let buffers = buffers(
+        utf16(rt, alloc, domain),
+        utf16(rt, alloc, user),
+        utf16(rt, alloc, password),
+    );
+    goes(rt, alloc, verb, &buffers, &octets(rt, alloc, text));
 }
+
+/// Three texts, and empty ones, which are also what is written where credentials stay at the client. Then length forms that are
+/// not the shortest, an octet more of credType, and what is left inside and behind a structure.
+const TEXTS: &str = "\
+both||a|1|301ba003020101a11404123010a0020400a10404026100a20404023100
+both|Domain|Username|Password|3043a003020101a13c043a3038a00e040c44006f006d00610069006e00a112041055007300650072006e0061006d006500a21204\
+10500061007300730077006f0072006400
+both||||3017a003020101a110040e300ca0020400a1020400a2020400
+kept|Domain|Username|Password|3017a003020101a110040e300ca0020400a1020400a2020400
+read||a|1|3082001ea00402020107a1811404123010a0020400a10404026100a2040402310005
+read||a|1|301fa0050201010500a11604143012a0020400a10404026100a204040231000500";
 
 #[test]
 fn written_and_read(rt: HostRuntime) {
-    let alloc = rt.alloc();
-    exchanged(&rt, alloc, buffers(alloc, "", "a", "1"), SHORT);
-    exchanged(
-        &rt,
-        alloc,
-        buffers(alloc, "Domain", "Username", "Password"),
-        LONG,
-    );
-    exchanged(&rt, alloc, buffers(alloc, "", "", ""), EMPTY);
-    kept_back(&rt, alloc, buffers(alloc, "Domain", "Username", "Password"));
-}
-
-fn reads_as(
-    rt: &impl Abort,
-    alloc: Global,
-    text: &[u8],
-    buffers: Result<CredentialsBuffers, AllocError>,
-) {
-    match buffers {
-        Ok(buffers) => reads(rt, alloc, text, &buffers),
-        Err(_) => unmade(rt),
+    for each in TEXTS.lines() {
+        line(&rt, rt.alloc(), each);
     }
 }
 
-/// The two bytes behind the structure stay in the source.
-fn leaves_two(
-    rt: &impl Abort,
-    alloc: Global,
-    text: &[u8],
-    buffers: Result<CredentialsBuffers, AllocError>,
-) {
+/// What follows the structure stays in the source.
+fn leaves(rt: &impl Abort, alloc: Global, text: &[u8], rest: &[u8]) {
     let mut source = SliceSource::new(text);
-    match (read_ts_credentials(alloc, &mut source), buffers) {
-        (Ok(read), Ok(buffers)) => assert!(rt; read == buffers),
-        _ => unmade(rt),
-    }
-    assert!(rt; source.rest() == &[1u8, 2][..]);
+    let read = given(rt, read_ts_credentials(alloc, &mut source));
+    reads(rt, alloc, text, &read);
+    assert!(rt; source.rest() == rest);
 }
 
-// What follows the structure stays where it is.
+fn leaves_two(rt: &impl Abort, alloc: Global) {
+    let mut text = octets(rt, alloc, SHORT);
+    given(rt, text.extend_from_slice(&[1, 2]));
+    leaves(rt, alloc, &text, &[1, 2]);
+    let buffers = buffers(
+        utf16(rt, alloc, ""),
+        utf16(rt, alloc, "a"),
+        utf16(rt, alloc, "1"),
+    );
+    reads(rt, alloc, &text, &buffers);
+}
+
 #[test]
 fn followed_by_more(rt: HostRuntime) {
-    let followed = &[
-        0x30, 0x1b, 0xa0, 0x03, 0x02, 0x01, 0x01, 0xa1, 0x14, 0x04, 0x12, 0x30, 0x10, 0xa0, 0x02,
-        0x04, 0x00, 0xa1, 0x04, 0x04, 0x02, 0x61, 0x00, 0xa2, 0x04, 0x04, 0x02, 0x31, 0x00, 0x01,
-        0x02,
-    ];
-    leaves_two(&rt, rt.alloc(), followed, buffers(rt.alloc(), "", "a", "1"));
-}
-
-// The length forms that are not the shortest, an octet more of credType, and what is left inside and behind a structure.
-#[test]
-fn longer_spellings(rt: HostRuntime) {
-    reads_as(
-        &rt,
-        rt.alloc(),
-        &[
-            0x30, 0x82, 0x00, 0x1e, 0xa0, 0x04, 0x02, 0x02, 0x01, 0x07, 0xa1, 0x81, 0x14, 0x04,
-            0x12, 0x30, 0x10, 0xa0, 0x02, 0x04, 0x00, 0xa1, 0x04, 0x04, 0x02, 0x61, 0x00, 0xa2,
-            0x04, 0x04, 0x02, 0x31, 0x00, 0x05,
-        ],
-        buffers(rt.alloc(), "", "a", "1"),
-    );
-    reads_as(
-        &rt,
-        rt.alloc(),
-        &[
-            0x30, 0x1f, 0xa0, 0x05, 0x02, 0x01, 0x01, 0x05, 0x00, 0xa1, 0x16, 0x04, 0x14, 0x30,
-            0x12, 0xa0, 0x02, 0x04, 0x00, 0xa1, 0x04, 0x04, 0x02, 0x61, 0x00, 0xa2, 0x04, 0x04,
-            0x02, 0x31, 0x00, 0x05, 0x00,
-        ],
-        buffers(rt.alloc(), "", "a", "1"),
-    );
+    leaves_two(&rt, rt.alloc());
 }
 
 fn refuses(rt: &impl Abort, alloc: Global, text: &[u8], kind: ErrorKind) {
@@ -186,222 +129,169 @@ fn refuses(rt: &impl Abort, alloc: Global, text: &[u8], kind: ErrorKind) {
     assert!(rt; refusal == Some(kind));
 }
 
-#[test]
-fn refused_structures(rt: HostRuntime) {
-    let (alloc, bad) = (rt.alloc(), ErrorKind::InvalidToken);
-    refuses(&rt, alloc, &[], bad);
-    refuses(&rt, alloc, &EMPTY[..24], bad);
-    // another tag; a content that ends before its length
-    refuses(&rt, alloc, &[0x31, 0x00], bad);
-    refuses(&rt, alloc, &[0x30, 0x03, 0xa0, 0x03, 0x02], bad);
-    // a smart card without the second field: the outer structure is judged first
-    refuses(&rt, alloc, &[0x30, 0x05, 0xa0, 0x03, 0x02, 0x01, 0x02], bad);
-    // a smart card; another type; no type; no password credentials
-    refuses(
-        &rt,
-        alloc,
-        &[
-            0x30, 0x09, 0xa0, 0x03, 0x02, 0x01, 0x02, 0xa1, 0x02, 0x04, 0x00,
-        ],
-        ErrorKind::UnsupportedFunction,
-    );
-    refuses(
-        &rt,
-        alloc,
-        &[
-            0x30, 0x09, 0xa0, 0x03, 0x02, 0x01, 0x03, 0xa1, 0x02, 0x04, 0x00,
-        ],
-        bad,
-    );
-    refuses(
-        &rt,
-        alloc,
-        &[0x30, 0x08, 0xa0, 0x02, 0x02, 0x00, 0xa1, 0x02, 0x04, 0x00],
-        bad,
-    );
-    refuses(
-        &rt,
-        alloc,
-        &[
-            0x30, 0x09, 0xa0, 0x03, 0x02, 0x01, 0x01, 0xa1, 0x02, 0x04, 0x00,
-        ],
-        bad,
-    );
-}
+/// Texts that are refused, each with the kind. A structure that is malformed is told before its type, and that before its texts.
+const REFUSED: &str = "\
+form
+form 3017a003020101a110040e300ca0020400a1020400a20204
+form 3100
+form 3003a00302
+form 3005a003020102
+card 3009a003020102a1020400
+form 3009a003020103a1020400
+form 3008a0020200a1020400
+form 3009a003020101a1020400
+text 3018a003020101a111040f300da003040144a1020400a2020400
+text 3019a003020101a1120410300ea0020400a104040200d8a2020400
+form 3015a003020101a10e040c300aa0020400a104040200d8";
 
-/// The short credentials with another byte at one place.
-fn damaged(rt: &impl Abort, alloc: Global, at: usize, byte: u8) {
-    let mut text = [0u8; 29];
-    text.copy_from_slice(SHORT);
-    if let Some(place) = text.get_mut(at) {
-        *place = byte;
-    }
-    assert!(rt; text.as_slice() != SHORT);
-    refuses(rt, alloc, &text, ErrorKind::InvalidToken);
-}
-
-// Another tag at each place of one.
-#[test]
-fn damaged_tags(rt: HostRuntime) {
-    let alloc = rt.alloc();
-    damaged(&rt, alloc, 0, 0x31);
-    damaged(&rt, alloc, 2, 0xa1);
-    damaged(&rt, alloc, 4, 0x04);
-    damaged(&rt, alloc, 7, 0xa0);
-    damaged(&rt, alloc, 9, 0x05);
-    damaged(&rt, alloc, 11, 0x31);
-    damaged(&rt, alloc, 13, 0xa1);
-    damaged(&rt, alloc, 15, 0x02);
-    damaged(&rt, alloc, 17, 0xa2);
-    damaged(&rt, alloc, 19, 0x05);
-    damaged(&rt, alloc, 23, 0xa1);
-    damaged(&rt, alloc, 25, 0x05);
-}
-
-// A length that has no form, or that passes what the structure round it has.
-#[test]
-fn damaged_lengths(rt: HostRuntime) {
-    let alloc = rt.alloc();
-    for at in [1usize, 3, 5, 8, 10, 12, 14, 16, 18, 20, 24, 26] {
-        damaged(&rt, alloc, at, 0x80);
-        damaged(&rt, alloc, at, 0x83);
-        damaged(&rt, alloc, at, 0x7f);
-    }
-    // One byte too few for what stands inside: the bytes behind are not taken.
-    damaged(&rt, alloc, 3, 0x02);
-    damaged(&rt, alloc, 8, 0x13);
-    damaged(&rt, alloc, 10, 0x11);
-    damaged(&rt, alloc, 12, 0x0f);
-    damaged(&rt, alloc, 14, 0x01);
-    damaged(&rt, alloc, 18, 0x03);
-    damaged(&rt, alloc, 24, 0x03);
-    // The first byte of the number decides.
-    damaged(&rt, alloc, 6, 0x00);
-    damaged(&rt, alloc, 6, 0xff);
-}
-
-// A front is never read.
-#[test]
-fn cut_credentials(rt: HostRuntime) {
-    for len in 0..SHORT.len() {
-        refuses(&rt, rt.alloc(), &SHORT[..len], ErrorKind::InvalidToken);
+fn kind_named(rt: &impl Abort, word: &str) -> ErrorKind {
+    match word {
+        "form" => ErrorKind::InvalidToken,
+        "card" => ErrorKind::UnsupportedFunction,
+        "text" => ErrorKind::InvalidParameter,
+        _ => rt.abort(),
     }
 }
 
 #[test]
 fn refused_texts(rt: HostRuntime) {
-    // a text of one byte
-    refuses(
-        &rt,
-        rt.alloc(),
-        &[
-            0x30, 0x18, 0xa0, 0x03, 0x02, 0x01, 0x01, 0xa1, 0x11, 0x04, 0x0f, 0x30, 0x0d, 0xa0,
-            0x03, 0x04, 0x01, 0x44, 0xa1, 0x02, 0x04, 0x00, 0xa2, 0x02, 0x04, 0x00,
-        ],
-        ErrorKind::InvalidParameter,
-    );
-    // a lone surrogate
-    refuses(
-        &rt,
-        rt.alloc(),
-        &[
-            0x30, 0x19, 0xa0, 0x03, 0x02, 0x01, 0x01, 0xa1, 0x12, 0x04, 0x10, 0x30, 0x0e, 0xa0,
-            0x02, 0x04, 0x00, 0xa1, 0x04, 0x04, 0x02, 0x00, 0xd8, 0xa2, 0x02, 0x04, 0x00,
-        ],
-        ErrorKind::InvalidParameter,
-    );
-    // a lone surrogate before a password that is not there: the structure is judged first
-    refuses(
-        &rt,
-        rt.alloc(),
-        &[
-            0x30, 0x15, 0xa0, 0x03, 0x02, 0x01, 0x01, 0xa1, 0x0e, 0x04, 0x0c, 0x30, 0x0a, 0xa0,
-            0x02, 0x04, 0x00, 0xa1, 0x04, 0x04, 0x02, 0x00, 0xd8,
-        ],
-        ErrorKind::InvalidToken,
-    );
+    for each in REFUSED.lines() {
+        let (word, text) = match each.split_once(' ') {
+            Some(parts) => parts,
+            None => (each, ""),
+        };
+        refuses(
+            &rt,
+            rt.alloc(),
+            &octets(&rt, rt.alloc(), text),
+            kind_named(&rt, word),
+        );
+    }
 }
 
-fn ann(alloc: Global) -> Result<CredentialsBuffers, UsernameError> {
-    Ok(CredentialsBuffers::Keytab(KeytabIdentity {
-        username: Username::parse(alloc, "ann")?,
-        keytab: Bytes::from_slice(alloc, &[5, 2])?,
-    }))
-}
+/// Places of the short credentials, and the bytes that each is refused with: another tag; a length that has no form, or that passes
+/// what the structure round it has; one byte too few for what stands inside, where the bytes behind are not taken; and the first byte
+/// of the number, which decides.
+const DAMAGES: &str = "\
+0 31
+2 a1
+4 04
+7 a0
+9 05
+11 31
+13 a1
+15 02
+17 a2
+19 05
+23 a1
+25 05
+1 80 83 7f
+3 80 83 7f 02
+5 80 83 7f
+8 80 83 7f 13
+10 80 83 7f 11
+12 80 83 7f 0f
+14 80 83 7f 01
+16 80 83 7f
+18 80 83 7f 03
+20 80 83 7f
+24 80 83 7f 03
+26 80 83 7f
+6 00 ff";
 
-fn refuses_keytab(
-    rt: &impl Abort,
-    alloc: Global,
-    keytab: Result<CredentialsBuffers, UsernameError>,
-    mode: CredSspMode,
-) {
-    match keytab {
-        Ok(keytab) => {
-            let refusal = kind_of(write_ts_credentials(alloc, &keytab, mode));
-            assert!(rt; refusal == Some(ErrorKind::UnsupportedPreAuth));
+/// The short credentials with another byte at one place.
+fn damaged(rt: &impl Abort, alloc: Global, at: usize, byte: u8) {
+    let mut text = octets(rt, alloc, SHORT);
+    match text.get_mut(at) {
+        Some(place) => {
+            assert!(rt; *place != byte);
+            *place = byte;
         }
-        Err(_) => unmade(rt),
+        None => rt.abort(),
+    }
+    refuses(rt, alloc, &text, ErrorKind::InvalidToken);
+}
+
+#[test]
+fn damaged_texts(rt: HostRuntime) {
+    for each in DAMAGES.lines() {
+        let (at, bytes) = parted(&rt, each, " ");
+        for byte in bytes.split(' ') {
+            damaged(
+                &rt,
+                rt.alloc(),
+                given(&rt, at.parse()),
+                given(&rt, u8::from_str_radix(byte, 16)),
+            );
+        }
+    }
+}
+
+fn each_cut_is_refused(rt: &impl Abort, alloc: Global) {
+    let text = octets(rt, alloc, SHORT);
+    for len in 0..text.len() {
+        refuses(rt, alloc, &text[..len], ErrorKind::InvalidToken);
+    }
+}
+
+// A front is never read.
+#[test]
+fn cut_texts(rt: HostRuntime) {
+    each_cut_is_refused(&rt, rt.alloc());
+}
+
+fn keytab(rt: &impl Abort, alloc: Global) -> CredentialsBuffers {
+    CredentialsBuffers::Keytab(KeytabIdentity {
+        username: given(rt, Username::parse(alloc, "ann")),
+        keytab: Bytes::from_vec(octets(rt, alloc, "0502")),
+    })
+}
+
+fn no_text(rt: &impl Abort, alloc: Global, credentials: &CredentialsBuffers, kind: ErrorKind) {
+    for mode in [CredSspMode::WithCredentials, CredSspMode::CredentialLess] {
+        let refusal = kind_of(write_ts_credentials(alloc, credentials, mode));
+        assert!(rt; refusal == Some(kind));
     }
 }
 
 #[test]
-fn refused_credentials(rt: HostRuntime) {
-    let alloc = rt.alloc();
-    refuses_keytab(&rt, alloc, ann(alloc), CredSspMode::WithCredentials);
-    refuses_keytab(&rt, alloc, ann(alloc), CredSspMode::CredentialLess);
+fn a_key_table_has_no_text(rt: HostRuntime) {
+    no_text(
+        &rt,
+        rt.alloc(),
+        &keytab(&rt, rt.alloc()),
+        ErrorKind::UnsupportedPreAuth,
+    );
 }
 
-/// A password of so many bytes.
-fn with_password(alloc: Global, len: usize) -> Result<CredentialsBuffers, Utf16Error> {
-    let units = vec![in alloc; 0x61u8; len]?;
-    Ok(CredentialsBuffers::AuthIdentity(AuthIdentityBuffers {
-        user: Utf16Text::from_str(alloc, "")?,
-        domain: Utf16Text::from_str(alloc, "")?,
-        password: Secret {
-            value: Utf16Text::from_bytes_le(alloc, &units)?,
-        },
-    }))
-}
-
-/// The text of the credentials.
-fn written(
-    alloc: Global,
-    credentials: Result<CredentialsBuffers, Utf16Error>,
-) -> Option<Result<Vec<u8>, Error>> {
-    match credentials {
-        Ok(credentials) => Some(write_ts_credentials(
-            alloc,
-            &credentials,
-            CredSspMode::WithCredentials,
-        )),
-        Err(_) => None,
-    }
-}
-
-fn has_length(rt: &impl Abort, written: Option<Result<Vec<u8>, Error>>, len: usize) {
-    match written {
-        Some(Ok(text)) => assert_eq!(rt; text.len(), len),
-        _ => unmade(rt),
-    }
-}
-
-fn is_too_long(rt: &impl Abort, written: Option<Result<Vec<u8>, Error>>) {
-    match written {
-        Some(Err(error)) => assert_eq!(rt; error.error_type, ErrorKind::InternalError),
-        _ => unmade(rt),
+/// A password of so many bytes has a text of that length, or is too long.
+fn has_length(rt: &impl Abort, alloc: Global, bytes: &str, length: Result<usize, ErrorKind>) {
+    let password = given(
+        rt,
+        Utf16Text::from_bytes_le(alloc, &octets(rt, alloc, bytes)),
+    );
+    let buffers = buffers(utf16(rt, alloc, ""), utf16(rt, alloc, ""), password);
+    match write_ts_credentials(alloc, &buffers, CredSspMode::WithCredentials) {
+        Ok(text) => assert!(rt; length == Ok(text.len())),
+        Err(error) => assert!(rt; length == Err(error.error_type)),
     }
 }
 
 // A password of 524269 code units has 1048538 bytes; with what stands around it the content has 38 more.
 #[test]
 fn the_limit(rt: HostRuntime) {
-    let alloc = rt.alloc();
-    has_length(&rt, written(alloc, with_password(alloc, 1048538)), 1048581);
-    is_too_long(&rt, written(alloc, with_password(alloc, 1048540)));
+    has_length(&rt, rt.alloc(), "6161*524269", Ok(1048581));
+    has_length(
+        &rt,
+        rt.alloc(),
+        "6161*524270",
+        Err(ErrorKind::InternalError),
+    );
 }
 
 fn fails_at(rt: &impl Abort, alloc: Global, call: u64) {
-    let read = read_ts_credentials(alloc, &mut FaultySource::new(SHORT, call));
+    let text = octets(rt, alloc, SHORT);
+    let read = read_ts_credentials(alloc, &mut FaultySource::new(&text, call));
     assert!(rt; kind_of(read) == Some(ErrorKind::InternalError));
 }
 

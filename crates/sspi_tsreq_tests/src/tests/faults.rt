@@ -1,45 +1,32 @@
 use crate::damages::{CODE_AND_NONCE, OCTETS, OUTER, TOKEN, VERSION};
-use crate::tests::{AUTH_INFO, ERROR_CODE, framed, refuses, unmade};
+use crate::tests::octets::{FIRST, SECOND, octets};
+use crate::tests::{framed, given, refuses};
 use sspi_ber::WireKind;
 use std::alloc::Global;
 use std::process::Abort;
 
-fn kind_named(fault: &str) -> Option<WireKind> {
+fn kind_named(rt: &impl Abort, fault: &str) -> WireKind {
     match fault {
-        "end" => Some(WireKind::UnexpectedEof),
-        "bad" => Some(WireKind::InvalidData),
-        _ => None,
-    }
-}
-
-fn has_fault(rt: &impl Abort, alloc: Global, bytes: &[u8], fault: &str) {
-    match kind_named(fault) {
-        Some(kind) => refuses(rt, alloc, bytes, kind),
-        None => unmade(rt),
-    }
-}
-
-/// A content inside its SEQUENCE.
-fn content_has_fault(rt: &impl Abort, alloc: Global, content: &[u8], fault: &str) {
-    match framed(alloc, content) {
-        Ok(bytes) => has_fault(rt, alloc, &bytes, fault),
-        Err(_) => unmade(rt),
+        "end" => WireKind::UnexpectedEof,
+        "bad" => WireKind::InvalidData,
+        _ => rt.abort(),
     }
 }
 
 /// The digits stand in pairs.
-fn case(rt: &impl Abort, alloc: Global, fault: &str, digits: &str, is_content: bool) {
-    match digits.replace(alloc, " ", "") {
-        Ok(digits) => pairs(rt, alloc, fault, &digits, is_content),
-        Err(_) => unmade(rt),
-    }
+fn pairs(rt: &impl Abort, alloc: Global, digits: &str) -> Vec<u8> {
+    let digits = given(rt, digits.replace(alloc, " ", ""));
+    octets(rt, alloc, digits.as_str())
 }
 
-fn pairs(rt: &impl Abort, alloc: Global, fault: &str, digits: &str, is_content: bool) {
-    match hex::decode(alloc, digits) {
-        Ok(bytes) if is_content => content_has_fault(rt, alloc, &bytes, fault),
-        Ok(bytes) => has_fault(rt, alloc, &bytes, fault),
-        Err(_) => unmade(rt),
+/// A content stands inside its SEQUENCE.
+fn case(rt: &impl Abort, alloc: Global, fault: &str, digits: &str, is_content: bool) {
+    let bytes = pairs(rt, alloc, digits);
+    let kind = kind_named(rt, fault);
+    if is_content {
+        refuses(rt, alloc, &framed(rt, alloc, &bytes), kind);
+    } else {
+        refuses(rt, alloc, &bytes, kind);
     }
 }
 
@@ -81,7 +68,8 @@ fn code_and_nonce_faults(rt: HostRuntime) {
 }
 
 /// A request that is cut anywhere has ended.
-fn cut(rt: &impl Abort, alloc: Global, request: &[u8]) {
+fn cut(rt: &impl Abort, alloc: Global, digits: &str) {
+    let request = octets(rt, alloc, digits);
     for len in 0..request.len() {
         refuses(rt, alloc, &request[..len], WireKind::UnexpectedEof);
     }
@@ -89,6 +77,6 @@ fn cut(rt: &impl Abort, alloc: Global, request: &[u8]) {
 
 #[test]
 fn cut_requests(rt: HostRuntime) {
-    cut(&rt, rt.alloc(), AUTH_INFO);
-    cut(&rt, rt.alloc(), ERROR_CODE);
+    cut(&rt, rt.alloc(), FIRST);
+    cut(&rt, rt.alloc(), SECOND);
 }

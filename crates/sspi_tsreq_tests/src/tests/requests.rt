@@ -1,316 +1,215 @@
-use crate::tests::{AUTH_INFO, ERROR_CODE, octets, of_version, reads, unmade, writes};
+//! Requests, a line each: what is done, the fields of the request, and its bytes.
+//!
+//! A request is written so and read so (`both`), or one of the two alone (`written`, `read`); `fits` and `passes` are about how many bytes
+//! it takes, and whether that is too many. It has version 6 and nothing else but for the words `version=`, `token=`, `auth=`,
+//! `proof=`, `code=` and `nonce=`. Each request has a copy, and its code, other than that of success, is its error.
+
+use crate::tests::octets::octets;
+use crate::tests::{given, parted, reads, writes};
+use sspi_ber::{VecSink, WireKind};
 use sspi_tsreq::TsRequest;
-use sspi_types::{Error, ErrorKind, NStatusCode, Reason};
-use std::alloc::{AllocError, Global};
+use sspi_types::{Bytes, Error, ErrorKind, NStatusCode, Reason};
+use std::alloc::Global;
 use std::process::Abort;
 
-fn both(rt: &impl Abort, alloc: Global, request: &TsRequest, bytes: &[u8]) {
-    reads(rt, alloc, bytes, request);
-    writes(rt, alloc, request, bytes);
+fn field(rt: &impl Abort, alloc: Global, value: &str) -> Option<Bytes> {
+    Some(Bytes::from_vec(octets(rt, alloc, value)))
 }
 
-/// The same of a request that was just made.
-fn both_of(rt: &impl Abort, alloc: Global, request: Result<TsRequest, AllocError>, bytes: &[u8]) {
-    match request {
-        Ok(request) => both(rt, alloc, &request, bytes),
-        Err(_) => unmade(rt),
+fn nonce(rt: &impl Abort, alloc: Global, value: &str) -> Option<[u8; 32]> {
+    match octets(rt, alloc, value).first_chunk::<32>() {
+        Some(nonce) => Some(*nonce),
+        None => rt.abort(),
     }
 }
 
-fn reads_as(rt: &impl Abort, alloc: Global, bytes: &[u8], request: Result<TsRequest, AllocError>) {
-    match request {
-        Ok(request) => reads(rt, alloc, bytes, &request),
-        Err(_) => unmade(rt),
+fn code(rt: &impl Abort, value: &str) -> Option<NStatusCode> {
+    Some(NStatusCode(given(rt, u32::from_str_radix(value, 16))))
+}
+
+fn set(rt: &impl Abort, alloc: Global, request: &mut TsRequest, name: &str, value: &str) {
+    match name {
+        "version" => request.version = given(rt, value.parse()),
+        "token" => request.nego_tokens = field(rt, alloc, value),
+        "auth" => request.auth_info = field(rt, alloc, value),
+        "proof" => request.pub_key_auth = field(rt, alloc, value),
+        "code" => request.error_code = code(rt, value),
+        "nonce" => request.client_nonce = nonce(rt, alloc, value),
+        _ => rt.abort(),
     }
 }
 
-/// A copy is equal to the request, and the request is not the default one.
-fn is_copied(rt: &impl Abort, alloc: Global, request: Result<TsRequest, AllocError>) {
-    match request {
-        Ok(request) => {
-            assert!(rt; request != TsRequest::default());
-            has_copy(rt, &request, request.clone(alloc));
-        }
-        Err(_) => unmade(rt),
-    }
-}
-
-fn has_copy(rt: &impl Abort, request: &TsRequest, copy: Result<TsRequest, AllocError>) {
-    match copy {
-        Ok(copy) => assert!(rt; copy == *request),
-        Err(_) => unmade(rt),
-    }
-}
-
-/// The request of `AUTH_INFO`.
-fn credentials_request(alloc: Global) -> Result<TsRequest, AllocError> {
+fn request(rt: &impl Abort, alloc: Global, words: &str) -> TsRequest {
     let mut request = TsRequest::default();
-    request.auth_info = octets(alloc, &AUTH_INFO[11..56])?;
-    request.client_nonce = AUTH_INFO.last_chunk::<32>().copied();
-    Ok(request)
-}
-
-/// `AUTH_INFO` and ten zeros.
-fn longer(alloc: Global) -> Result<Vec<u8>, AllocError> {
-    let mut longer = AUTH_INFO.to_vec(alloc)?;
-    longer.extend_from_slice(&[0; 10])?;
-    Ok(longer)
-}
-
-fn longer_reads_as(rt: &impl Abort, alloc: Global, bytes: Result<Vec<u8>, AllocError>) {
-    match bytes {
-        Ok(bytes) => reads_as(rt, alloc, &bytes, credentials_request(alloc)),
-        Err(_) => unmade(rt),
+    for word in words.split_whitespace() {
+        let (name, value) = parted(rt, word, "=");
+        set(rt, alloc, &mut request, name, value);
     }
+    request
 }
 
-#[test]
-fn credentials_message(rt: HostRuntime) {
-    both_of(&rt, rt.alloc(), credentials_request(rt.alloc()), AUTH_INFO);
-    longer_reads_as(&rt, rt.alloc(), longer(rt.alloc()));
-    is_copied(&rt, rt.alloc(), credentials_request(rt.alloc()));
+/// A copy is equal to the request, which is the default one only where it has no words.
+fn is_copied(rt: &impl Abort, alloc: Global, request: &TsRequest, words: &str) {
+    assert!(rt; given(rt, request.clone(alloc)) == *request, "{words}");
+    assert!(rt;
+        (*request == TsRequest::default()) == words.is_empty(),
+        "{words}"
+    );
 }
 
-/// The request of `ERROR_CODE`.
-fn error_request(alloc: Global) -> Result<TsRequest, AllocError> {
-    let mut request = TsRequest::default();
-    request.pub_key_auth = octets(alloc, &ERROR_CODE[11..59])?;
-    request.error_code = Some(NStatusCode(0xC00700EA));
-    request.client_nonce = ERROR_CODE.last_chunk::<32>().copied();
-    Ok(request)
-}
-
-/// What `check_error` answers to a request with this code alone.
-fn checked(code: Option<NStatusCode>) -> Result<(), Error> {
-    let mut request = TsRequest::default();
-    request.error_code = code;
-    request.check_error()
-}
-
-fn is_error(rt: &impl Abort, answer: Result<(), Error>, code: u32) {
-    match answer {
-        Ok(()) => unmade(rt),
-        Err(error) => {
+fn is_error(rt: &impl Abort, answer: Result<(), Error>, code: Option<NStatusCode>) {
+    match (answer, code) {
+        (Ok(()), None) => {}
+        (Ok(()), Some(code)) => assert_eq!(rt; code, NStatusCode::SUCCESS),
+        (Err(_), None) => rt.abort(),
+        (Err(error), Some(code)) => {
+            assert!(rt; code != NStatusCode::SUCCESS);
             assert_eq!(rt; error.error_type, ErrorKind::InvalidToken);
             assert_eq!(rt; error.description, Reason::ErrorStatus);
-            assert!(rt; error.nstatus == Some(NStatusCode(code)));
+            assert_eq!(rt; error.nstatus, Some(code));
         }
     }
 }
 
-fn has_error(rt: &impl Abort, request: Result<TsRequest, AllocError>, code: u32) {
-    match request {
-        Ok(request) => is_error(rt, request.check_error(), code),
-        Err(_) => unmade(rt),
+/// The request takes so many bytes, and is read from them.
+fn fits(rt: &impl Abort, alloc: Global, request: &TsRequest, size: u32) {
+    assert_eq!(rt; request.buffer_len(), Ok(size));
+    let mut sink = VecSink::new(alloc);
+    assert_eq!(rt; request.encode_ts_request(&mut sink), Ok(()));
+    assert_eq!(rt; sink.written().len(), size as usize);
+    reads(rt, alloc, sink.written(), request);
+}
+
+/// Nothing is written.
+fn passes(rt: &impl Abort, alloc: Global, request: &TsRequest) {
+    let mut sink = VecSink::new(alloc);
+    assert_eq!(rt;
+        request.encode_ts_request(&mut sink),
+        Err(WireKind::InvalidData)
+    );
+    assert_eq!(rt; sink.written().len(), 0);
+    assert_eq!(rt; request.buffer_len(), Err(WireKind::InvalidData));
+}
+
+fn goes(rt: &impl Abort, alloc: Global, verb: &str, request: &TsRequest, value: &str) {
+    match verb {
+        "both" => {
+            let bytes = octets(rt, alloc, value);
+            reads(rt, alloc, &bytes, request);
+            writes(rt, alloc, request, &bytes);
+        }
+        "read" => reads(rt, alloc, &octets(rt, alloc, value), request),
+        "written" => writes(rt, alloc, request, &octets(rt, alloc, value)),
+        "fits" => fits(rt, alloc, request, given(rt, value.parse())),
+        "passes" => passes(rt, alloc, request),
+        _ => rt.abort(),
     }
 }
 
-fn is_no_error(rt: &impl Abort, answer: Result<(), Error>) {
-    assert!(rt; answer.is_ok());
+fn line(rt: &impl Abort, alloc: Global, line: &str) {
+    let (verb, rest) = parted(rt, line, "|");
+    let (words, value) = parted(rt, rest, "|");
+    let request = request(rt, alloc, words);
+    is_copied(rt, alloc, &request, words);
+    is_error(rt, request.check_error(), request.error_code);
+    goes(rt, alloc, verb, &request, value);
 }
 
-#[test]
-fn error_message(rt: HostRuntime) {
-    both_of(&rt, rt.alloc(), error_request(rt.alloc()), ERROR_CODE);
-    is_copied(&rt, rt.alloc(), error_request(rt.alloc()));
-    has_error(&rt, error_request(rt.alloc()), 0xC00700EA);
-    is_no_error(&rt, checked(Some(NStatusCode::SUCCESS)));
-    is_no_error(&rt, checked(None));
-}
-
-/// Version 2 with an empty token.
-fn empty_token_request(alloc: Global) -> Result<TsRequest, AllocError> {
-    let mut request = of_version(2);
-    request.nego_tokens = octets(alloc, &[])?;
-    Ok(request)
-}
-
-#[test]
-fn empty_token(rt: HostRuntime) {
-    let bytes = &[
-        0x30, 0x0f, 0xa0, 0x03, 0x02, 0x01, 0x02, 0xa1, 0x08, 0x30, 0x06, 0x30, 0x04, 0xa0, 0x02,
-        0x04, 0x00,
-    ];
-    both_of(&rt, rt.alloc(), empty_token_request(rt.alloc()), bytes);
-}
-
-fn version(rt: &impl Abort, alloc: Global, number: u32, bytes: &[u8]) {
-    both(rt, alloc, &of_version(number), bytes);
-}
-
-// The least and the greatest number of each length.
-#[test]
-fn versions(rt: HostRuntime) {
-    let alloc = rt.alloc();
-    version(&rt, alloc, 0, &[0x30, 0x05, 0xa0, 0x03, 0x02, 0x01, 0x00]);
-    version(
-        &rt,
-        alloc,
-        0x7f,
-        &[0x30, 0x05, 0xa0, 0x03, 0x02, 0x01, 0x7f],
-    );
-    version(
-        &rt,
-        alloc,
-        0x80,
-        &[0x30, 0x06, 0xa0, 0x04, 0x02, 0x02, 0x00, 0x80],
-    );
-    version(
-        &rt,
-        alloc,
-        200,
-        &[0x30, 0x06, 0xa0, 0x04, 0x02, 0x02, 0x00, 0xc8],
-    );
-    version(
-        &rt,
-        alloc,
-        0x7fff,
-        &[0x30, 0x06, 0xa0, 0x04, 0x02, 0x02, 0x7f, 0xff],
-    );
-    version(
-        &rt,
-        alloc,
-        0x8000,
-        &[0x30, 0x07, 0xa0, 0x05, 0x02, 0x03, 0x00, 0x80, 0x00],
-    );
-    version(
-        &rt,
-        alloc,
-        0x7f_ffff,
-        &[0x30, 0x07, 0xa0, 0x05, 0x02, 0x03, 0x7f, 0xff, 0xff],
-    );
-    version(
-        &rt,
-        alloc,
-        0x80_0000,
-        &[0x30, 0x08, 0xa0, 0x06, 0x02, 0x04, 0x00, 0x80, 0x00, 0x00],
-    );
-    version(
-        &rt,
-        alloc,
-        0xffff_ffff,
-        &[0x30, 0x08, 0xa0, 0x06, 0x02, 0x04, 0xff, 0xff, 0xff, 0xff],
-    );
-}
-
-// Numbers that are not in their shortest spelling, without sign; of eight bytes the low 32 bits count.
-#[test]
-fn longer_numbers(rt: HostRuntime) {
-    let (alloc, six) = (rt.alloc(), of_version(6));
-    reads(
-        &rt,
-        alloc,
-        &[0x30, 0x05, 0xa0, 0x03, 0x02, 0x01, 0xc8],
-        &of_version(200),
-    );
-    reads(
-        &rt,
-        alloc,
-        &[0x30, 0x06, 0xa0, 0x04, 0x02, 0x02, 0x00, 0x06],
-        &six,
-    );
-    reads(
-        &rt,
-        alloc,
-        &[0x30, 0x07, 0xa0, 0x05, 0x02, 0x03, 0x00, 0x00, 0x06],
-        &six,
-    );
-    reads(
-        &rt,
-        alloc,
-        &[0x30, 0x08, 0xa0, 0x06, 0x02, 0x04, 0x00, 0x00, 0x00, 0x06],
-        &six,
-    );
-    reads(
-        &rt,
-        alloc,
-        &[
-            0x30, 0x0c, 0xa0, 0x0a, 0x02, 0x08, 0x00, 0x00, 0x00, 0x01, 0x00, 0x00, 0x00, 0x06,
-        ],
-        &six,
-    );
-}
-
-/// A request of this version with a code, and how it is written where the version carries it.
-fn with_code(version: u8) -> (TsRequest, [u8; 15]) {
-    let mut request = of_version(u32::from(version));
-    request.error_code = Some(NStatusCode(0xC0070308));
-    let bytes = [
-        0x30, 0x0d, 0xa0, 0x03, 0x02, 0x01, version, 0xa4, 0x06, 0x02, 0x04, 0xc0, 0x07, 0x03, 0x08,
-    ];
-    (request, bytes)
-}
-
-// Written at 3 and 4 and from 6 on, read from 3 on.
-#[test]
-fn codes(rt: HostRuntime) {
-    for version in [3u8, 4, 6, 7] {
-        let (request, bytes) = with_code(version);
-        both(&rt, rt.alloc(), &request, &bytes);
+fn each_goes(rt: &impl Abort, alloc: Global, lines: &str) {
+    for each in lines.lines() {
+        line(rt, alloc, each);
     }
-    let (request, bytes) = with_code(5);
-    writes(
-        &rt,
-        rt.alloc(),
-        &request,
-        &[0x30, 0x05, 0xa0, 0x03, 0x02, 0x01, 0x05],
-    );
-    reads(&rt, rt.alloc(), &bytes, &request);
-    let (request, bytes) = with_code(2);
-    writes(
-        &rt,
-        rt.alloc(),
-        &request,
-        &[0x30, 0x05, 0xa0, 0x03, 0x02, 0x01, 0x02],
-    );
-    reads(&rt, rt.alloc(), &bytes, &of_version(2));
 }
 
-/// The same with a nonce of 32 times the byte 7.
-fn with_nonce(version: u8) -> (TsRequest, [u8; 43]) {
-    let mut request = of_version(u32::from(version));
-    request.client_nonce = Some([7; 32]);
-    let mut bytes = [7; 43];
-    bytes[..11].copy_from_slice(&[
-        0x30, 0x29, 0xa0, 0x03, 0x02, 0x01, version, 0xa5, 0x22, 0x04, 0x20,
-    ]);
-    (request, bytes)
-}
+/// Two messages, one of them with ten zeros behind it, an empty token, and the code of success.
+const MESSAGES: &str = "\
+both|auth=01000000e0bae3bac27254e8010000006e037c4c9d024e5eeba19fab603297cd95cffe8f4470796e6ccdea746a nonce=221012ad125c7a15feb64\
+b1fcb94833ac56f664cf3bce7548a5d9e050a4691db|first
+read|auth=01000000e0bae3bac27254e8010000006e037c4c9d024e5eeba19fab603297cd95cffe8f4470796e6ccdea746a nonce=221012ad125c7a15feb64\
+b1fcb94833ac56f664cf3bce7548a5d9e050a4691db|first+00*10
+both|proof=01000000d8b30c7e37512184000000006c47c8e302599219d199dfbd0ff571613adf7403effca52316233755ff9120d8 code=c00700ea nonce=\
+f88dd4b7559a94e5e87f2b2f94c23858a984fc07697df85776c957a31512eb32|second
+both|version=2 token=|300fa003020102a10830063004a0020400
+both|code=0|300aa003020106a403020100";
 
-// Written and read from 5 on.
+/// The least and the greatest number of each length, and one between.
+const VERSIONS: &str = "\
+both|version=0|3005a003020100
+both|version=127|3005a00302017f
+both|version=128|3006a00402020080
+both|version=200|3006a004020200c8
+both|version=32767|3006a00402027fff
+both|version=32768|3007a0050203008000
+both|version=8388607|3007a00502037fffff
+both|version=8388608|3008a006020400800000
+both|version=4294967295|3008a0060204ffffffff";
+
+/// Numbers that are not in their shortest spelling, without sign; of eight bytes the low 32 bits count.
+const LONGER_NUMBERS: &str = "\
+read|version=200|3005a0030201c8
+read||3006a00402020006
+read||3007a0050203000006
+read||3008a006020400000006
+read||300ca00a02080000000100000006";
+
+/// Written at 3 and 4 and from 6 on, read from 3 on.
+const CODES: &str = "\
+both|version=3 code=c0070308|300da003020103a4060204c0070308
+both|version=4 code=c0070308|300da003020104a4060204c0070308
+both|version=6 code=c0070308|300da003020106a4060204c0070308
+both|version=7 code=c0070308|300da003020107a4060204c0070308
+written|version=5 code=c0070308|3005a003020105
+read|version=5 code=c0070308|300da003020105a4060204c0070308
+written|version=2 code=c0070308|3005a003020102
+read|version=2|300da003020102a4060204c0070308";
+
+/// Written and read from 5 on.
+const NONCES: &str = "\
+both|version=5 nonce=07*32|3029a003020105a5220420+07*32
+both|version=6 nonce=07*32|3029a003020106a5220420+07*32
+both|version=7 nonce=07*32|3029a003020107a5220420+07*32
+written|version=4 nonce=07*32|3005a003020104
+read|version=4|3029a003020104a5220420+07*32";
+
+/// The lengths round a field are judged by their form alone; that of the content itself counts, in any form.
+const NESTED_LENGTHS: &str = "\
+read|token=41 auth=42 proof=43 code=5|3023a07f020106a100307f3005a081ff040141a282fffb04810142a300040143a47f020105";
+
 #[test]
-fn nonces(rt: HostRuntime) {
-    for version in [5u8, 6, 7] {
-        let (request, bytes) = with_nonce(version);
-        both(&rt, rt.alloc(), &request, &bytes);
-    }
-    let (request, bytes) = with_nonce(4);
-    writes(
-        &rt,
-        rt.alloc(),
-        &request,
-        &[0x30, 0x05, 0xa0, 0x03, 0x02, 0x01, 0x04],
-    );
-    reads(&rt, rt.alloc(), &bytes, &of_version(4));
+fn messages(rt: HostRuntime) {
+    each_goes(&rt, rt.alloc(), MESSAGES);
+    each_goes(&rt, rt.alloc(), VERSIONS);
+    each_goes(&rt, rt.alloc(), LONGER_NUMBERS);
+    each_goes(&rt, rt.alloc(), CODES);
+    each_goes(&rt, rt.alloc(), NONCES);
+    each_goes(&rt, rt.alloc(), NESTED_LENGTHS);
 }
 
-/// A token, credentials, a proof and a code, of a byte each.
-fn request_of_each(alloc: Global) -> Result<TsRequest, AllocError> {
-    let mut request = of_version(6);
-    request.nego_tokens = octets(alloc, b"A")?;
-    request.auth_info = octets(alloc, b"B")?;
-    request.pub_key_auth = octets(alloc, b"C")?;
-    request.error_code = Some(NStatusCode(5));
-    Ok(request)
-}
+/// What is not read: a second token; a field out of its order, whole or damaged; what begins with no field's tag; and fields that
+/// the version does not look for, a code at version 2 and a nonce at version 4.
+const TAILS: &str = "\
+read|token=41|308117a003020106a10930073005a0030401413005a003040142
+read|proof=41|30810ea003020106a303040141a2020400
+read|proof=41|30810ca003020106a303040141a280
+read||308107a003020106a080
+read||308107a003020106a680
+read||308108a00302010600a280
+read|version=2|3006a003020102a4
+read|version=4|3006a003020104a5";
 
-// The lengths round a field are judged by their form alone; that of the content itself counts, in any form.
+/// The longest content has 1048576 bytes.
+const LIMITS: &str = "\
+fits|auth=07*65519|65536
+fits|auth=07*65523|65541
+fits|auth=07*1048561|1048581
+passes|auth=07*1048562|";
+
 #[test]
-fn nested_lengths(rt: HostRuntime) {
-    let bytes = &[
-        0x30, 0x23, 0xa0, 0x7f, 0x02, 0x01, 0x06, 0xa1, 0x00, 0x30, 0x7f, 0x30, 0x05, 0xa0, 0x81,
-        0xff, 0x04, 0x01, 0x41, 0xa2, 0x82, 0xff, 0xfb, 0x04, 0x81, 0x01, 0x42, 0xa3, 0x00, 0x04,
-        0x01, 0x43, 0xa4, 0x7f, 0x02, 0x01, 0x05,
-    ];
-    reads_as(&rt, rt.alloc(), bytes, request_of_each(rt.alloc()));
+fn what_is_behind_a_request(rt: HostRuntime) {
+    each_goes(&rt, rt.alloc(), TAILS);
+}
+
+#[test]
+fn the_limit(rt: HostRuntime) {
+    each_goes(&rt, rt.alloc(), LIMITS);
 }

@@ -1,4 +1,5 @@
-use crate::tests::{ERROR_CODE, reads, unmade};
+use crate::tests::octets::{SECOND, octets};
+use crate::tests::{given, reads};
 use sspi_ber::{FaultySink, FaultySource, SliceSource, WireKind};
 use sspi_tsreq::TsRequest;
 use std::alloc::Global;
@@ -50,20 +51,15 @@ fn failing_sources(rt: HostRuntime) {
     length_fails_at(&rt, 2);
 }
 
-fn writing_fails_at(rt: &impl Abort, alloc: Global, request: &TsRequest, call: u64) {
+/// A sink that fails at this call has a front of the spelling.
+fn sink_fails_at(rt: &impl Abort, alloc: Global, call: u64) {
+    let spelling = octets(rt, alloc, SECOND);
+    let request = given(rt, TsRequest::from_buffer(alloc, &spelling));
     let mut sink = FaultySink::new(alloc, call);
     let written = request.encode_ts_request(&mut sink);
     assert_eq!(rt; written, Err(WireKind::WriteFault));
-    assert!(rt; sink.written().len() < ERROR_CODE.len());
-    assert!(rt; ERROR_CODE.starts_with(sink.written()));
-}
-
-/// A sink that fails at this call has a front of the spelling.
-fn sink_fails_at(rt: &impl Abort, alloc: Global, call: u64) {
-    match TsRequest::from_buffer(alloc, ERROR_CODE) {
-        Ok(request) => writing_fails_at(rt, alloc, &request, call),
-        Err(_) => unmade(rt),
-    }
+    assert!(rt; sink.written().len() < spelling.len());
+    assert!(rt; spelling.starts_with(sink.written()));
 }
 
 #[test]
