@@ -1,7 +1,7 @@
 //! Each field of each turn and entry of negotiated exchanges, changed by itself, as in `ntlm_changes`.
 
 use crate::tests::negotiated::{EXCHANGE, OLD};
-use crate::tests::tables::{Whole, entries_are_judged, turns_are_judged};
+use crate::tests::tables::{Whole, entries_are_judged, orders_are_judged, turns_are_judged};
 
 /// What is found at version 6 and at 4.
 const TURNS: &str = "\
@@ -84,6 +84,15 @@ delivered ~   | 1  2  3  4  5  6  7
 delivered +00 | y6 y6 y6 y6 y6 y6 y6
 ended =no     | 1  2  3  4  5  6  7";
 
+/// Turns and entries that are missing, doubled or swapped with the next, at either version.
+const ORDERS: &str = "\
+turns missing   | 0  1  2  3  4  5  6  y6
+turns doubled   | 1  2  3  4  5  6  7  8
+turns swapped   | 0  1  2  3  4  5  6  .
+entries missing | 0  1  2  3  4  5  8
+entries doubled | 1  2  3  4  5  6  7
+entries swapped | 0  1  2  3  4  5  .";
+
 const AT_6: Whole<'_> = Whole {
     exchange: EXCHANGE,
     turns: "01234567",
@@ -101,6 +110,7 @@ fn at_version_6(rt: HostRuntime) {
     turns_are_judged(&rt, AT_6, TURNS, 608);
     turns_are_judged(&rt, AT_6, WITH_NONCES, 32);
     entries_are_judged(&rt, AT_6, ENTRIES, 56);
+    orders_are_judged(&rt, AT_6, ORDERS, 43);
 }
 
 #[test]
@@ -108,4 +118,5 @@ fn at_version_4(rt: HostRuntime) {
     turns_are_judged(&rt, AT_4, TURNS, 608);
     turns_are_judged(&rt, AT_4, WITHOUT_NONCES, 18);
     entries_are_judged(&rt, AT_4, ENTRIES, 56);
+    orders_are_judged(&rt, AT_4, ORDERS, 43);
 }

@@ -4,7 +4,7 @@
 //! state.
 
 use crate::tests::ntlm::EXCHANGE;
-use crate::tests::tables::{Whole, entries_are_judged, turns_are_judged};
+use crate::tests::tables::{Whole, entries_are_judged, orders_are_judged, turns_are_judged};
 
 /// The exchange of `ntlm`, with the client at version 3 and the server at 4: the proofs are the key and the key plus one, and no
 /// message has a nonce.
@@ -201,6 +201,24 @@ delivered ~   | 1  2  3  y
 delivered +00 | y  y  y  y
 ended =no     | 1  2  3  y";
 
+/// Turns and entries that are missing, doubled or swapped with the next, at any version.
+const ORDERS: &str = "\
+turns missing   | 0  1  2  3  4  y4
+turns doubled   | 1  2  3  4  5  6
+turns swapped   | 0  1  2  3  4  .
+entries missing | 0  1  2  3  6
+entries doubled | 1  2  3  4  5
+entries swapped | 0  1  2  3  .";
+
+/// The same up to the error message.
+const MIXED_ORDERS: &str = "\
+turns missing   | 0  1  2  3
+turns doubled   | 1  2  3  4
+turns swapped   | 0  1  2  .
+entries missing | 0  1  2  y
+entries doubled | 1  2  3  4
+entries swapped | 0  1  2  .";
+
 const AT_6: Whole<'_> = Whole {
     exchange: EXCHANGE,
     turns: "012345",
@@ -224,6 +242,7 @@ fn at_version_6(rt: HostRuntime) {
     turns_are_judged(&rt, AT_6, TURNS, 450);
     turns_are_judged(&rt, AT_6, WITH_NONCES, 28);
     entries_are_judged(&rt, AT_6, ENTRIES, 40);
+    orders_are_judged(&rt, AT_6, ORDERS, 31);
 }
 
 #[test]
@@ -231,10 +250,12 @@ fn below_version_5(rt: HostRuntime) {
     turns_are_judged(&rt, BELOW_5, TURNS, 450);
     turns_are_judged(&rt, BELOW_5, WITHOUT_NONCES, 14);
     entries_are_judged(&rt, BELOW_5, ENTRIES, 40);
+    orders_are_judged(&rt, BELOW_5, ORDERS, 31);
 }
 
 #[test]
 fn at_versions_that_do_not_match(rt: HostRuntime) {
     turns_are_judged(&rt, AT_BOTH, MIXED_TURNS, 344);
     entries_are_judged(&rt, AT_BOTH, MIXED_ENTRIES, 32);
+    orders_are_judged(&rt, AT_BOTH, MIXED_ORDERS, 22);
 }

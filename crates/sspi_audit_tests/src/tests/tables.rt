@@ -145,3 +145,64 @@ pub fn entries_are_judged(rt: &impl Test, whole: Whole<'_>, rows: &str, count: u
     }
     assert_eq!(rt; seen, count);
 }
+
+/// The names without the one at this place, with it twice, or with it behind the next.
+fn reordered(rt: &impl Test, names: &str, place: usize, how: &str) -> String {
+    let mut ordered = String::new(rt.alloc());
+    let mut kept = None;
+    for (at, name) in names.chars().enumerate() {
+        if at == place && how == "swapped" {
+            kept = Some(name);
+            continue;
+        }
+        let times = match how {
+            _ if at != place => 1,
+            "missing" => 0,
+            "doubled" => 2,
+            _ => rt.abort(),
+        };
+        for _ in 0..times {
+            given(rt, ordered.push(name));
+        }
+        if let Some(name) = kept.take() {
+            given(rt, ordered.push(name));
+        }
+    }
+    ordered
+}
+
+fn order_is_judged(rt: &impl Test, whole: Whole<'_>, row: &str, place: usize, cell: &str) {
+    let (what, how) = halves(rt, row, " ");
+    let record = Record {
+        exchange: whole.exchange,
+        changes: "",
+    };
+    let found = match what {
+        "turns" => {
+            let turns = reordered(rt, whole.turns, place, how);
+            found(rt, record, &turns, whole.entries)
+        }
+        "entries" => {
+            let entries = reordered(rt, whole.entries, place, how);
+            found(rt, record, whole.turns, &entries)
+        }
+        _ => rt.abort(),
+    };
+    assert!(rt; found == verdict(rt, cell), "{row} {place}");
+}
+
+/// Each row of a table whose columns are places: `turns` or `entries`, and `missing`, `doubled` or `swapped` for what is so at
+/// each of them.
+pub fn orders_are_judged(rt: &impl Test, whole: Whole<'_>, rows: &str, count: u32) {
+    let mut seen = 0u32;
+    for line in rows.lines() {
+        let (row, cells) = halves(rt, line, " | ");
+        for (place, cell) in cells.split_whitespace().enumerate() {
+            if cell != "." {
+                order_is_judged(rt, whole, row.trim_end(), place, cell);
+                seen = seen.wrapping_add(1);
+            }
+        }
+    }
+    assert_eq!(rt; seen, count);
+}
