@@ -1,0 +1,3 @@
+pub mod Sessions
+mod Serving
+mod Kept

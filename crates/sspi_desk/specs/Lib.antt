@@ -1,0 +1,4 @@
+pub mod Call
+pub mod Alone
+pub mod Desk
+pub mod All

@@ -1,0 +1,34 @@
+ghost use Rattle.std.specs.Prelude.{◌≡◌, IfErr, IfOk, OnErr};
+ghost use Rattle.sspi_credssp.specs.Context.{either};
+ghost use Rattle.sspi_desk.specs.All.{ServesAll};
+
+use crate::answer::{Call, DeskError, Served};
+use crate::desk::Desk;
+use sspi_credssp::CredentialsProxy;
+use sspi_mech::Mechanism;
+use sspi_types::{Error, ErrorKind};
+use std::alloc::Global;
+
+/// Serves these calls in their order, one answer a call; a call that is not served does not stop the later ones.
+///
+/// For each session the answers at its calls are those that its server gives alone, whatever calls of others stand between.
+///
+/// The only refusal is `InsufficientMemory`, which comes before the first call: the desk is then unchanged. Where memory is wanting in
+/// a call, that call has the answer.
+pub fn serve_all<N: Mechanism, K: Mechanism, C: CredentialsProxy>(
+    alloc: Global,
+    desk: &mut Desk<N, K, C>,
+    calls: &[Call],
+) -> Result<Vec<Result<Served, DeskError>>, Error>
+    ensures served { IfOk result (λ answers. ServesAll (either N.REQUESTS N.meaning K.meaning) C.meaning calls.now answers.items
+        desk.old desk.new) }
+    ensures only { IfErr result (λ error. error.error_type ≡ ErrorKind.InsufficientMemory) }
+    ensures unchanged { OnErr result (desk.new ≡ desk.old) }
+{
+    let mut answers = Vec::with_capacity(alloc, calls.len())?;
+    for call in calls {
+        let answer = desk.serve(call.session, call.bytes.as_slice());
+        answers.push_reserved(answer);
+    }
+    Ok(answers)
+}

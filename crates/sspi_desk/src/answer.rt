@@ -1,0 +1,54 @@
+use sspi_ber::WireKind;
+use sspi_credssp::CredSspServer;
+use sspi_names::AuthIdentity;
+use sspi_types::{Bytes, Error};
+
+/// A message for a session: the number that `Desk::admit` answered, and the bytes that its client sent.
+#[derive(Drop)]
+pub struct Call {
+    pub session: u64,
+    pub bytes: Bytes,
+}
+
+/// What a session came to in one call.
+#[derive(Drop)]
+pub enum Served {
+    /// The bytes of the server's message for its client.
+    Answer(Bytes),
+    /// The credentials that the client delegated. The session is kept until it is closed.
+    Finished(AuthIdentity),
+}
+
+/// Why a session was not served, or its answer cannot be sent.
+#[derive(Drop)]
+pub enum DeskError {
+    /// No session of this number is kept.
+    NoSession,
+    /// The bytes begin with no request. `UnexpectedEof` where they end too early or their header is at fault, and else
+    /// `InvalidData`. The session is unchanged.
+    Unread(WireKind),
+    /// The server refused with this error, and these are the bytes by which it tells its client; none where their content would
+    /// pass the limit of all lengths.
+    Refused(Error, Option<Bytes>),
+    /// The content of the server's message would pass the limit of all lengths. The server has made its turn.
+    TooLong,
+    /// There was no memory. The session is unchanged where it was wanting for the request, and else as the server's turn left it.
+    InsufficientMemory,
+}
+
+/// A server that was not admitted.
+#[derive(Drop)]
+pub struct Turned<N, K, C> {
+    /// The server, as it was handed in.
+    pub server: CredSspServer<N, K, C>,
+    pub why: Why,
+}
+
+/// Why a server was not admitted.
+#[derive(Clone, Copy, Debug, PartialEq, Eq)]
+pub enum Why {
+    /// As many sessions are kept as the desk allows.
+    Full,
+    /// There was no memory for one session more.
+    InsufficientMemory,
+}

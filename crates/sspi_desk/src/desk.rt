@@ -1,0 +1,122 @@
+ghost use Rattle.std.specs.Prelude.{◌≡◌, ℕ, ◌+◌, ◌^◌, ◌<◌, ◌≤◌, [], length, IsSome, MatchResult};
+ghost use Rattle.sspi_credssp.specs.Context.{either};
+ghost use Rattle.sspi_desk.specs.Desk.{session, IsAdmitted, IsRefusedFor, IsClosed, Serves};
+
+use crate::answer::{DeskError, Served, Turned, Why};
+use crate::call::answer;
+use crate::keeping::keep;
+use sspi_credssp::{CredSspServer, CredentialsProxy};
+use sspi_mech::Mechanism;
+use std::alloc::Global;
+use std::collections::HashMap;
+use std::marker::Model;
+
+/// Server sessions under numbers. What one session is sent changes no other.
+///
+/// Sessions share the limit, so one that is kept may leave no room for another, and the numbers, which tell how many were admitted.
+/// They share memory and time as well.
+#[derive(Drop)]
+pub struct Desk<N, K, C> {
+    alloc: Global,
+    limit: u32,
+    admitted: u64,
+    sessions: HashMap<u64, CredSspServer<N, K, C>>,
+}
+
+impl<N, K, C> Model for Desk<N, K, C> {
+    ghost use Rattle.sspi_credssp.specs.declared.context.SspiContext.{SspiContext};
+    ghost use Rattle.sspi_desk.specs.Desk.{DeskView, IsOrderly};
+
+    ghost Value = { DeskView (SspiContext N K) C };
+
+    ghost view = { λ desk. record {
+      limit = desk.limit;
+      admitted = desk.admitted;
+      kept = desk.sessions.entries;
+    } };
+
+    ghost invariant = { λ desk. IsOrderly desk.limit desk.admitted desk.sessions.entries };
+}
+
+impl<N, K, C> Desk<N, K, C> {
+    /// A desk that keeps at most `limit` sessions, and none yet. Takes no memory.
+    pub fn new(alloc: Global, limit: u32) -> Desk<N, K, C>
+        ensures { result ≡ record { limit = limit; admitted = 0; kept = [] } }
+    {
+        Desk {
+            alloc,
+            limit,
+            admitted: 0,
+            sessions: HashMap::new(alloc),
+        }
+    }
+
+    /// Ends a session and hands out its server as its last call left it; `None` exactly where the session is not kept.
+    pub fn close(&mut self, session: u64) -> Option<CredSspServer<N, K, C>>
+        ensures { IsClosed session result self.old self.new }
+    {
+        self.sessions.remove(&session)
+    }
+
+    /// How many sessions are kept.
+    pub fn kept(&self) -> usize
+        ensures count { result ≡ length self.now.kept }
+        ensures within { result ≤ self.now.limit }
+    {
+        self.sessions.len()
+    }
+
+    /// How many sessions were admitted so far; their numbers are those below.
+    pub fn admitted(&self) -> u64
+        ensures count { result ≡ self.now.admitted }
+        ensures below { (s : ℕ) → IsSome (session s self.now) → s < result }
+    {
+        self.admitted
+    }
+}
+
+impl<N: Mechanism, K: Mechanism, C: CredentialsProxy> Desk<N, K, C> {
+    /// Keeps a server as a session, whose number is that of the sessions admitted before. No number is used twice.
+    ///
+    /// `Full` exactly where `limit` sessions are kept. A refusal hands the server back and changes nothing.
+    pub fn admit(&mut self, server: CredSspServer<N, K, C>) -> Result<u64, Turned<N, K, C>>
+        requires { self.old.admitted + 1 < 2 ^ 64 }
+        ensures { MatchResult result
+            (λ number. IsAdmitted server number self.old self.new)
+            (λ turned. (turned.server ≡ server) × IsRefusedFor turned.why self.old × (self.new ≡ self.old)) }
+    {
+        if self.sessions.len() >= self.limit as usize {
+            return Err(Turned {
+                server,
+                why: Why::Full,
+            });
+        }
+        let number = self.admitted;
+        match keep(&mut self.sessions, number, server) {
+            Ok(()) => {
+                self.admitted += 1;
+                Ok(number)
+            }
+            Err(server) => Err(Turned {
+                server,
+                why: Why::InsufficientMemory,
+            }),
+        }
+    }
+
+    /// Hands bytes to a session as what its client sent, and answers what its server makes of them.
+    ///
+    /// `NoSession` exactly where the session is not kept; then nothing changes. Else, each exactly there, want of memory apart:
+    /// `Answer` where the server has a message, with its bytes, and `TooLong` where these would pass the limit of all lengths;
+    /// `Finished` where the server has the client's credentials; `Unread` where the bytes begin with no request; `Refused` where the
+    /// server refused. A session stays until it is closed, whatever it came to. The time does not grow with the number of sessions.
+    pub fn serve(&mut self, session: u64, bytes: &[u8]) -> Result<Served, DeskError>
+        ensures { Serves (either N.REQUESTS N.meaning K.meaning) C.meaning session bytes.now result self.old self.new }
+    {
+        let alloc = self.alloc;
+        let Some(server) = self.sessions.get_mut(&session) else {
+            return Err(DeskError::NoSession);
+        };
+        answer(alloc, server, bytes)
+    }
+}

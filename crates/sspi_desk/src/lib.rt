@@ -1,0 +1,21 @@
+//! Many CredSSP server sessions (MS-CSSP 3.1.5) in one place, each served as if it were alone.
+//!
+//! - `Desk`: admits servers under numbers, serves their clients' messages in any order, and hands servers back.
+//! - `serve_all`: many calls in their order. To each session the answers are those of its server alone.
+//! - `spell`: the bytes of a message.
+//!
+//! `specs/Call.antt` has one call on one server, `specs/Alone.antt` a server's calls one after the other, `specs/Desk.antt` what a desk
+//! is and what its calls do, and `specs/All.antt` what many calls do to each session.
+#![tactic(auto)]
+
+pub mod all;
+pub mod answer;
+mod call;
+pub mod desk;
+mod keeping;
+pub mod spelling;
+
+pub use all::serve_all;
+pub use answer::{Call, DeskError, Served, Turned, Why};
+pub use desk::Desk;
+pub use spelling::spell;

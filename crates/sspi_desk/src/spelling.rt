@@ -1,0 +1,18 @@
+ghost use Rattle.sspi_desk.specs.Call.{Spells};
+
+use sspi_ber::{VecSink, WireKind};
+use sspi_tsreq::TsRequest;
+use sspi_types::Bytes;
+use std::alloc::{AllocError, Global};
+
+/// The bytes of a message; none exactly where its content passes the limit of all lengths.
+pub fn spell(alloc: Global, message: &TsRequest) -> Result<Option<Bytes>, AllocError>
+    ensures { Spells message.now result }
+{
+    let mut sink = VecSink::new(alloc);
+    match message.encode_ts_request(&mut sink) {
+        Ok(()) => Ok(Some(Bytes::from_vec(sink.into_inner()))),
+        Err(WireKind::InsufficientMemory) => Err(AllocError),
+        Err(_) => Ok(None),
+    }
+}

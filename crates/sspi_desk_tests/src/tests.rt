@@ -1,0 +1,4 @@
+mod interleaved;
+mod messages;
+mod sessions;
+mod stage;
