@@ -1,1 +1,2 @@
-pub mod Unasked
+pub mod Ends
+pub mod Matched
