@@ -94,12 +94,12 @@ fn in_order(rt: &impl Test, order: &[u64]) {
 
 #[test]
 fn every_order(rt: HostRuntime) {
-    let mut orders = 0;
+    let mut orders = 0u32;
     for number in 0..19683 {
         let order = order_of(&rt, number);
         if is_fair(&order) {
             in_order(&rt, &order);
-            orders += 1;
+            orders = orders.wrapping_add(1);
         }
     }
     assert_eq!(rt; orders, 1680);
