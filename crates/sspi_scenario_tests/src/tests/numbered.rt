@@ -111,27 +111,31 @@ fn have_same_lists(a: &Scenario, b: &Scenario) -> bool {
         && b.deliver.is_empty()
 }
 
-/// Both are kept by the caller, who drops them once.
 fn check_same(rt: &impl Abort, told: &Scenario, made: &Scenario, line: &str) {
     assert!(rt; have_same_ends(told, made), "{line}");
     assert!(rt; have_same_names(told, made), "{line}");
     assert!(rt; have_same_lists(told, made), "{line}");
 }
 
+/// Compares with the scenario of the number. One scenario is dropped here, and one by the caller: to drop both at once costs more.
+fn is_made(rt: &impl Abort, alloc: Global, number: u32, told: &Scenario, line: &str) {
+    match numbered(alloc, number) {
+        Ok(made) => check_same(rt, told, &made, line),
+        Err(_) => assert!(rt; false, "no memory"),
+    }
+}
+
+fn is_told(rt: &impl Abort, alloc: Global, text: &str, number: u32, line: &str) {
+    match Scenario::parse(alloc, Purpose::Exchange, text.as_bytes()) {
+        Ok(told) => is_made(rt, alloc, number, &told, line),
+        Err(_) => assert!(rt; false, "{line}"),
+    }
+}
+
 fn is_same(rt: &impl Abort, alloc: Global, line: &str) {
-    let made = match text_of(alloc, line) {
-        Ok((text, number)) => (
-            Scenario::parse(alloc, Purpose::Exchange, text.as_bytes()),
-            numbered(alloc, number),
-        ),
-        Err(_) => {
-            assert!(rt; false, "no memory");
-            return;
-        }
-    };
-    match &made {
-        (Ok(told), Ok(made)) => check_same(rt, told, made, line),
-        _ => assert!(rt; false, "{line}"),
+    match text_of(alloc, line) {
+        Ok((text, number)) => is_told(rt, alloc, text.as_str(), number, line),
+        Err(_) => assert!(rt; false, "no memory"),
     }
 }
 
