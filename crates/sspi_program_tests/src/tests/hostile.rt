@@ -11,11 +11,11 @@ fn standing(alloc: Global, record: &Record) -> Result<String, AllocError> {
     let (mut client, mut server, mut sealed) = (0u64, 0u64, 0u64);
     for turn in record.transcript.turns() {
         match turn.end {
-            End::Client => client += 1,
-            End::Server => server += 1,
+            End::Client => client = client.wrapping_add(1),
+            End::Server => server = server.wrapping_add(1),
         }
         if turn.acts.sealed {
-            sealed += 1;
+            sealed = sealed.wrapping_add(1);
         }
     }
     format!(in alloc; "{client} {server} {sealed}")
@@ -146,7 +146,7 @@ fn messages_that_are_cut(rt: HostRuntime) {
         let (length, ends) = parted(line);
         for length in 0..length.parse().unwrap_or(0) {
             is_read_no_further(&rt, rt.alloc(), entry, length, ends);
-            cases += 1;
+            cases = cases.wrapping_add(1);
         }
     }
     assert!(rt; cases == 394);
