@@ -141,7 +141,7 @@ fn is_read_no_further(rt: &impl Abort, alloc: Global, entry: usize, length: usiz
 /// Each message, cut at each byte.
 #[test]
 fn messages_that_are_cut(rt: HostRuntime) {
-    let mut cases = 0;
+    let mut cases = 0u32;
     for (entry, line) in CUTS.lines().enumerate() {
         let (length, ends) = parted(line);
         for length in 0..length.parse().unwrap_or(0) {
