@@ -129,7 +129,7 @@ const CUTS: &str = "19|;read server UnexpectedEof;|1 0 0\n\
 
 /// The report has the messages up to this one, what was read of it where that is not nothing, and the answer.
 fn is_read_no_further(rt: &impl Abort, alloc: Global, entry: usize, length: usize, ends: &str) {
-    let lines = if length > 0 { entry + 3 } else { entry + 2 };
+    let lines = entry.wrapping_add(if length > 0 { 3 } else { 2 });
     match format!(in alloc;
         "edit {entry} cut {length}|1 {lines}|{ends}|edit {entry} cut {length};"
     ) {
