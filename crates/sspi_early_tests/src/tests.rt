@@ -1,6 +1,5 @@
-//! The early result by itself, and behind whole delegations.
+//! The early result by itself. Behind whole delegations it is tried through the program.
 
-mod delegations;
 mod faults;
 mod results;
 mod words;
