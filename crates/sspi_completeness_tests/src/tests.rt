@@ -1,19 +1,17 @@
-ghost use Rattle.std.specs.Prelude.{◌≡◌, ◌≤◌, ◌<◌, length, IfOk, nat_lt};
+ghost use Rattle.std.specs.Prelude.{◌≡◌, ◌≤◌, ◌<◌, [], ◌∷◌, length, IfOk, nat_lt};
+ghost use Rattle.sspi_names.specs.declared.credentials.Credentials.TheVariants as credentials;
 ghost use Rattle.sspi_names.specs.Identity.{IsIdentity};
 ghost use Rattle.sspi_credssp.specs.Client.{IsFreshClient};
 ghost use Rattle.sspi_credssp.specs.Server.{IsFreshServer};
 ghost use Rattle.sspi_completeness.specs.Matching.{IsPlainClient, IsPlainServer, HasChallenge, IsShort, key_limit, delegated_as};
 ghost use Rattle.sspi_completeness.specs.Matching.{AreMatching, messages_in, ComesToOk, ComesToOkIn, IsCutShort};
 ghost use Rattle.sspi_credssp.specs.Table.{table_meaning};
-ghost use Rattle.sspi_completeness.specs.Examples.{example_target};
-ghost use Rattle.sspi_completeness_tests.specs.Ends.{IsClientOf, IsServerOf, NeverFails};
-
-mod examples;
+ghost use Rattle.sspi_completeness_tests.specs.Unasked.{unasked, NeverFails};
 
 use sspi_completeness::delegate_plainly;
 use sspi_credssp::{ClientMode, CredSspClient, CredSspServer, ServerMode, TableProxy};
 use sspi_delegate::{DelegateError, Delegation, MemoryLink, Transcript};
-use sspi_mech::{FailingKdc, Kdc, Kerberos, Ntlm, NtlmConfig};
+use sspi_mech::{FailingKdc, Kerberos, Ntlm, NtlmConfig};
 use sspi_names::{AuthIdentity, Credentials, Username};
 use sspi_tsreq::CredSspMode;
 use sspi_types::{Secret, Text};
@@ -26,7 +24,7 @@ fn copied(alloc: Global, bytes: &[u8]) -> Result<Vec<u8>, AllocError>
     bytes.iter().copied().collect(alloc)
 }
 
-/// A client of plain NTLM that takes every version.
+/// A client that takes every version.
 fn client_of(
     alloc: Global,
     identity: AuthIdentity,
@@ -35,32 +33,11 @@ fn client_of(
     version: u32,
 ) -> Result<CredSspClient<Ntlm, Kerberos>, AllocError>
     ensures fresh { IfOk result IsFreshClient }
-    ensures values { IfOk result (λ client. IsClientOf key.now identity mode version client × IsPlainClient client.mode) }
+    ensures values { IfOk result (λ client. (client.public_key ≡ key.now) × (client.credentials ≡ credentials.AuthIdentity identity)
+        × (client.delegation ≡ mode) × (client.version ≡ version) × (length client.nonce ≡ 32) × (client.least ≡ 0)
+        × IsPlainClient client.mode) }
 {
     let config = NtlmConfig::new(Text::from_text(alloc, "CLIENT")?);
-    client_by(
-        alloc,
-        identity,
-        key,
-        mode,
-        version,
-        ClientMode::Ntlm(config),
-    )
-}
-
-/// A client that authenticates so and takes every version.
-fn client_by(
-    alloc: Global,
-    identity: AuthIdentity,
-    key: &[u8],
-    mode: CredSspMode,
-    version: u32,
-    by: ClientMode,
-) -> Result<CredSspClient<Ntlm, Kerberos>, AllocError>
-    ensures fresh { IfOk result IsFreshClient }
-    ensures values { IfOk result (IsClientOf key.now identity mode version) }
-    ensures by { IfOk result (λ client. (client.mode ≡ by) × (client.target ≡ example_target)) }
-{
     let public_key = copied(alloc, key)?;
     let target = String::from_str(alloc, "TERMSRV/host.example.com")?;
     let client = CredSspClient::new_with_version(
@@ -69,14 +46,14 @@ fn client_by(
         Credentials::AuthIdentity(identity),
         mode,
         version,
-        by,
+        ClientMode::Ntlm(config),
         target,
         [9; 32],
     );
     Ok(client.with_least_version(0))
 }
 
-/// A server of plain NTLM that takes every version, and whose proxy knows this identity alone and never fails.
+/// A server that takes every version, and whose proxy knows this identity alone and never fails.
 fn server_of(
     alloc: Global,
     identity: AuthIdentity,
@@ -84,25 +61,11 @@ fn server_of(
     version: u32,
 ) -> Result<CredSspServer<Ntlm, Kerberos, TableProxy>, AllocError>
     ensures fresh { IfOk result IsFreshServer }
-    ensures values { IfOk result (λ server. IsServerOf key.now identity version server × IsPlainServer server.mode
-        × HasChallenge server.mode) }
+    ensures values { IfOk result (λ server. (server.public_key ≡ key.now) × (server.version ≡ version)
+        × IsPlainServer server.mode × HasChallenge server.mode
+        × (server.proxy ≡ record { entries = identity ∷ []; failing = []; calls = 0; faults = 0 }) × (server.least ≡ 0)) }
 {
     let config = NtlmConfig::new(Text::from_text(alloc, "SERVER")?);
-    server_by(alloc, identity, key, version, ServerMode::Ntlm(config))
-}
-
-/// A server that authenticates so, takes every version, and whose proxy knows this identity alone and never fails.
-fn server_by(
-    alloc: Global,
-    identity: AuthIdentity,
-    key: &[u8],
-    version: u32,
-    by: ServerMode,
-) -> Result<CredSspServer<Ntlm, Kerberos, TableProxy>, AllocError>
-    ensures fresh { IfOk result IsFreshServer }
-    ensures values { IfOk result (IsServerOf key.now identity version) }
-    ensures by { IfOk result (λ server. server.mode ≡ by) }
-{
     let public_key = copied(alloc, key)?;
     let mut known = Vec::new(alloc);
     known.push(identity)?;
@@ -111,24 +74,24 @@ fn server_by(
         public_key,
         TableProxy::new(alloc, known, Vec::new(alloc)),
         version,
-        by,
+        ServerMode::Ntlm(config),
     );
     Ok(server.with_least_version(0))
 }
 
 /// An exchange in memory, over a link that changes nothing.
-fn delegate_ends<D: Kdc>(
+fn delegate_ends(
     alloc: Global,
     mut client: CredSspClient<Ntlm, Kerberos>,
     mut server: CredSspServer<Ntlm, Kerberos, TableProxy>,
-    kdc: &mut D,
+    mut kdc: FailingKdc,
     turns: u32,
 ) -> Result<Delegation, DelegateError>
-    ensures comes { (matching : AreMatching table_meaning (D.told kdc.old) (D.asked kdc.old) client server) → IsFreshClient client →
-        IsFreshServer server → NeverFails server.proxy → messages_in matching ≤ turns →
+    ensures comes { (matching : AreMatching table_meaning unasked kdc client server) → IsFreshClient client → IsFreshServer server →
+        NeverFails server.proxy → messages_in matching ≤ turns →
         ComesToOkIn (messages_in matching) (delegated_as client.delegation matching.identity) result }
-    ensures short { (matching : AreMatching table_meaning (D.told kdc.old) (D.asked kdc.old) client server) → IsFreshClient client →
-        IsFreshServer server → NeverFails server.proxy → turns < messages_in matching → IsCutShort result }
+    ensures short { (matching : AreMatching table_meaning unasked kdc client server) → IsFreshClient client → IsFreshServer server →
+        NeverFails server.proxy → turns < messages_in matching → IsCutShort result }
 {
     let mut link = MemoryLink::new(alloc, Vec::new(alloc));
     let mut transcript = Transcript::new(alloc);
@@ -137,7 +100,7 @@ fn delegate_ends<D: Kdc>(
         &mut client,
         &mut server,
         &mut link,
-        kdc,
+        &mut kdc,
         turns,
         &mut transcript,
     )
@@ -172,7 +135,7 @@ fn delegate_matched(
     let Ok(server) = server_of(alloc, known, key, server_version) else {
         return Err(DelegateError::InsufficientMemory);
     };
-    delegate_ends(alloc, client, server, &mut FailingKdc::new(), turns)
+    delegate_ends(alloc, client, server, FailingKdc::new(), turns)
 }
 
 #[test]

@@ -3,7 +3,7 @@ use Rattle.sspi_credssp.specs.Table.{TableView}
 use Rattle.sspi_delegate.specs.declared.edit.Edit.{Edit}
 use Rattle.sspi_delegate.specs.Edits.{MemoryLinkView}
 use Rattle.sspi_completeness.specs.Matching.{unedited, none_told}
-use Rattle.sspi_completeness_tests.specs.Ends.{NeverFails}
+use Rattle.sspi_completeness_tests.specs.Unasked.{NeverFails}
 use Rattle.sspi_completeness_tests.proofs.tests.delegate_ends.Goals as goal
 
 no_look_up_fails : (proxy : TableView) → NeverFails proxy → (Some proxy.failing ≡ Some []) × (proxy.faults < 2 ^ 64 - 1)
@@ -14,7 +14,7 @@ no_edit : (link : MemoryLinkView) (edits : List Edit) → link ≡ record { log 
 no_edit link edits is empty = (ap (λ (l : MemoryLinkView). Some l.edits) is ∙ ap Some empty, ap (λ (l : MemoryLinkView). l.log) is)
 
 pub returns-clause-comes : goal.returns-clause-comes
-returns-clause-comes g c matching client_fresh server_fresh never enough =
+returns-clause-comes c matching client_fresh server_fresh never enough =
     let proxy = no_look_up_fails c.args.server.proxy never in
     let link = no_edit c.new-link.result _ c.new-link.ensures c.new.ensures.items in
     c.delegate_plainly.ensures.comes matching
@@ -22,7 +22,7 @@ returns-clause-comes g c matching client_fresh server_fresh never enough =
     (unedited link.0 link.1) (none_told proxy.0 proxy.1) enough
 
 pub returns-clause-short : goal.returns-clause-short
-returns-clause-short g c matching client_fresh server_fresh never less =
+returns-clause-short c matching client_fresh server_fresh never less =
     let proxy = no_look_up_fails c.args.server.proxy never in
     let link = no_edit c.new-link.result _ c.new-link.ensures c.new.ensures.items in
     c.delegate_plainly.ensures.short matching
