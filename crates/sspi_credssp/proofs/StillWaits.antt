@@ -14,6 +14,7 @@ use Rattle.sspi_credssp.specs.declared.client_state.Progress.{Progress}
 use Rattle.sspi_credssp.specs.declared.state.CredSspState.TheVariants.{NegoToken}
 use Rattle.sspi_credssp.specs.Acts.{no_acts}
 use Rattle.sspi_credssp.specs.Client.{ClientView}
+use Rattle.sspi_credssp.specs.ClientCall.{Awaits}
 use Rattle.sspi_credssp.specs.ClientStep.{Asked, StepsTo, Walked, still_asked}
 use Rattle.sspi_credssp.specs.ClientTurn.{IsReady, IsUnderway}
 use Rattle.sspi_credssp.specs.Context.{ContextSetting}
@@ -31,7 +32,7 @@ module _ {C : Type 0} (c : Meaning ContextSetting C) (laws : IsContext c) where
       OnErr result (new.acts.status ≡ None → (new ≡ record stepped { kept = new.kept }) × IsErr progress) →
       OnErr result (new.acts.status ≡ None → is_waiting_in c new.context ≡ true → new.kept ≡ Some request) →
       OnErr result (new.acts.status ≡ None → is_waiting_in c new.context ≡ true →
-      IsUnderway c start d new × StepsTo c start d (tries + 1) (record { question = q; reply = reply } ∷ log) (Ask q) new)
+      Awaits c start d (tries + 1) (record { question = q; reply = reply } ∷ log) q new)
   still_waits start d tries log q v stepped new m m2 reply request progress (Ok x) _ _ _ _ _ _ _ _ _ _ _ = tt
   still_waits start d tries log q v stepped new m m2 reply request (Ok x)
       (Err error) same nego output here idle at ready walked resumed refused kept =
@@ -81,7 +82,8 @@ module _ {C : Type 0} (c : Meaning ContextSetting C) (laws : IsContext c) where
       } in
       let steps : StepsTo c start d (tries + 1) (record { question = q; reply = reply } ∷ log) (Ask q)
       (record v { context = Some m2; acts = record no_acts { negotiated = true }; kept = new.kept }) =
-      still_asked m m2 tries log q reply e walked resumed again in (
-        subst (λ x. IsUnderway c start d x) (sym moved) under,
-        subst (λ x. StepsTo c start d (tries + 1) (record { question = q; reply = reply } ∷ log) (Ask q) x) (sym moved) steps,
-      )
+      still_asked m m2 tries log q reply e walked resumed again in
+      record {
+        underway = subst (λ x. IsUnderway c start d x) (sym moved) under;
+        walked = subst (λ x. StepsTo c start d (tries + 1) (record { question = q; reply = reply } ∷ log) (Ask q) x) (sym moved) steps;
+      }

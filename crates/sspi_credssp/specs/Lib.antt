@@ -1,6 +1,8 @@
 pub mod Acts
+pub mod Asks
 pub mod Begun
 pub mod Client
+pub mod ClientCall
 pub mod ClientCause
 pub mod ClientStep
 pub mod ClientTurn
@@ -17,9 +19,11 @@ pub mod Peers
 pub mod Proxy
 pub mod PublicKey
 pub mod Queries
+pub mod Refusal
 pub mod Requests
 pub mod Server
 pub mod ServerAsks
+pub mod ServerCall
 pub mod ServerCause
 pub mod ServerStep
 pub mod ServerTurn

@@ -182,10 +182,10 @@ impl<N, K> CredSspClient<N, K> {
 
 impl<N: Mechanism, K: Mechanism> CredSspClient<N, K> {
     ghost use Rattle.sspi_credssp.specs.Begun.{Begun, BeginCause, IfContext, MadeOr};
-    ghost use Rattle.sspi_credssp.specs.ClientCause.{ClientCause, ResumeCause, StateCause, status_of};
-    ghost use Rattle.sspi_credssp.specs.ClientStep.{Asked, HasStepped, StepsTo, OnSuspended};
-    ghost use Rattle.sspi_credssp.specs.ClientTurn.{ClientGoes, IsReady, IsUnderway, SameClient};
-    ghost use Rattle.sspi_credssp.specs.Heeded.{ClientHeeds};
+    ghost use Rattle.sspi_credssp.specs.ClientCall.{ClientCall, ResumeCall};
+    ghost use Rattle.sspi_credssp.specs.ClientCause.{StateCause};
+    ghost use Rattle.sspi_credssp.specs.ClientStep.{HasStepped};
+    ghost use Rattle.sspi_credssp.specs.ClientTurn.{ClientGoes, IsReady};
 
     /// Whether a turn is suspended.
     pub fn waiting(&self) -> bool
@@ -216,27 +216,7 @@ impl<N: Mechanism, K: Mechanism> CredSspClient<N, K> {
     /// ends before a version was noted; and with the kinds of the context, of the credentials' text, and want of memory. After
     /// a refusal the state, the mode and the acquired credentials are as before, and the request is dropped.
     pub fn process(&mut self, ts_request: TsRequest) -> Result<Progress, Error>
-        ensures turn { ClientGoes (either N.REQUESTS N.meaning K.meaning) self.old ts_request result self.new }
-        ensures step { HasStepped (either N.REQUESTS N.meaning K.meaning) self.old ts_request 0 [] result self.new }
-        ensures cause { IfErr result (λ error. error.error_type ≢ ErrorKind.InsufficientMemory →
-            ClientCause (either N.REQUESTS N.meaning K.meaning) self.old ts_request self.new error.error_type) }
-        ensures code { is_waiting_in (either N.REQUESTS N.meaning K.meaning) self.old.context ≡ false →
-            is_code ts_request.error_code ≡ true →
-            IsErr result × IfErr result (λ error. error.error_type ≡ ErrorKind.InvalidToken)
-            × (self.new ≡ record self.old { acts = no_acts; output = [] }) }
-        ensures altered { is_waiting_in (either N.REQUESTS N.meaning K.meaning) self.old.context ≡ false →
-            is_code ts_request.error_code ≡ false →
-            is_altered_in self.old.context self.old.noted ts_request.version ≡ true →
-            IsErr result × (self.new ≡ record self.old { acts = no_acts; output = [] }) }
-        ensures heeded { ClientHeeds (either N.REQUESTS N.meaning K.meaning) self.old ts_request result self.new }
-        ensures unmade { self.new.context ≡ None → self.new ≡ record self.old { acts = no_acts; output = [] } }
-        ensures status { IfErr result (λ error. error.nstatus ≡ status_of (either N.REQUESTS N.meaning K.meaning) self.old ts_request) }
-        ensures waited { is_waiting_in (either N.REQUESTS N.meaning K.meaning) self.old.context ≡ true →
-            IsErr result × (self.new ≡ record self.old { acts = no_acts; output = [] }) }
-        ensures intruded { let c = either N.REQUESTS N.meaning K.meaning in (start : ClientView (SspiContext N K)) (d : TsRequest)
-            (tries : ℕ) (log : List Asked) (q : NetworkRequest) →
-            IsUnderway c start d self.old → StepsTo c start d tries log (answers.Ask q) self.old →
-            IsUnderway c start d self.new × StepsTo c start d tries log (answers.Ask q) self.new }
+        ensures { ClientCall (either N.REQUESTS N.meaning K.meaning) self.old ts_request result self.new }
     {
         self.forget_last_call();
         if self.waiting() {
@@ -259,31 +239,7 @@ impl<N: Mechanism, K: Mechanism> CredSspClient<N, K> {
     /// sealing the proof; and for want of memory. A refused client is suspended still where its context is, and nowhere else:
     /// the request stays in it, and a later call goes on from there.
     pub fn resume(&mut self, reply: &Reply) -> Result<Progress, Error>
-        ensures same { SameClient (either N.REQUESTS N.meaning K.meaning) self.old self.new }
-        ensures turn { let c = either N.REQUESTS N.meaning K.meaning in (start : ClientView (SspiContext N K)) (d : TsRequest) →
-            IsUnderway c start d self.old → ClientGoes c start d result self.new }
-        ensures step { let c = either N.REQUESTS N.meaning K.meaning in (start : ClientView (SspiContext N K)) (d : TsRequest)
-            (tries : ℕ) (log : List Asked) (q : NetworkRequest) →
-            IsUnderway c start d self.old → StepsTo c start d tries log (answers.Ask q) self.old →
-            HasStepped c start d tries (record { question = q; reply = reply.now } ∷ log) result self.new }
-        ensures still { let c = either N.REQUESTS N.meaning K.meaning in (start : ClientView (SspiContext N K)) (d : TsRequest)
-            (tries : ℕ) (log : List Asked) (q : NetworkRequest) →
-            IsUnderway c start d self.old → StepsTo c start d tries log (answers.Ask q) self.old →
-            OnErr result (self.new.acts.status ≡ None → is_waiting_in c self.new.context ≡ true →
-            IsUnderway c start d self.new
-            × StepsTo c start d (tries + 1) (record { question = q; reply = reply.now } ∷ log) (answers.Ask q) self.new) }
-        ensures falls { let c = either N.REQUESTS N.meaning K.meaning in
-            OnSuspended result (left_in c self.new.context < left_in c self.old.context) }
-        ensures stepped { is_waiting_in (either N.REQUESTS N.meaning K.meaning) self.old.context ≡ true → IsSome self.old.kept →
-            self.new.acts.negotiated ≡ true }
-        ensures cause { IfErr result (λ error. error.error_type ≢ ErrorKind.InsufficientMemory →
-            ResumeCause (either N.REQUESTS N.meaning K.meaning) self.old self.new error.error_type) }
-        ensures heeded { let c = either N.REQUESTS N.meaning K.meaning in (start : ClientView (SspiContext N K)) (d : TsRequest)
-            (tries : ℕ) (log : List Asked) (q : NetworkRequest) →
-            IsUnderway c start d self.old → StepsTo c start d tries log (answers.Ask q) self.old → ClientHeeds c start d result self.new }
-        ensures plain { IfErr result (λ error. error.nstatus ≡ None) }
-        ensures idle { is_waiting_in (either N.REQUESTS N.meaning K.meaning) self.old.context ≡ false →
-            IsErr result × (self.new ≡ record self.old { acts = no_acts; output = [] }) }
+        ensures { ResumeCall (either N.REQUESTS N.meaning K.meaning) self.old reply.now result self.new }
     {
         self.forget_last_call();
         if !self.waiting() {

@@ -56,7 +56,8 @@ fn initialize<N: Mechanism, K: Mechanism>(
 
 impl<N: Mechanism, K: Mechanism> CredSspClient<N, K> {
     ghost use Rattle.sspi_credssp.specs.Client.{ClientView};
-    ghost use Rattle.sspi_credssp.specs.ClientTurn.{ClientGoes, ClientAnswers, IsReady, IsUnderway, ClientProves, SameClient};
+    ghost use Rattle.sspi_credssp.specs.ClientCall.{Awaits};
+    ghost use Rattle.sspi_credssp.specs.ClientTurn.{ClientGoes, ClientAnswers, IsReady, ClientProves, SameClient};
 
     pub(crate) fn negotiate(&mut self, request: TsRequest) -> Result<Progress, Error>
         requires acts { self.old.acts ≡ no_acts }
@@ -107,8 +108,7 @@ impl<N: Mechanism, K: Mechanism> CredSspClient<N, K> {
             request ≡ record d { version = self.old.version } → IsReady c start d self.old → self.old.state ≡ CredSspState.NegoToken →
             self.old.output ≡ [] → StepsTo c start d tries log (answers.Ask q) self.old →
             OnErr result (self.new.acts.status ≡ None → is_waiting_in c self.new.context ≡ true →
-            IsUnderway c start d self.new
-            × StepsTo c start d (tries + 1) (record { question = q; reply = reply.now } ∷ log) (answers.Ask q) self.new) }
+            Awaits c start d (tries + 1) (record { question = q; reply = reply.now } ∷ log) q self.new) }
         ensures falls { let c = either N.REQUESTS N.meaning K.meaning in
             OnSuspended result (left_in c self.new.context < left_in c self.old.context) }
         ensures negotiated { self.new.acts.negotiated ≡ true }

@@ -142,11 +142,11 @@ impl<N, K, C> CredSspServer<N, K, C> {
 }
 
 impl<N: Mechanism, K: Mechanism, C: CredentialsProxy> CredSspServer<N, K, C> {
-    ghost use Rattle.sspi_credssp.specs.Heeded.{ServerHeeds};
     ghost use Rattle.sspi_credssp.specs.Server.{ServerView};
-    ghost use Rattle.sspi_credssp.specs.ServerAsks.{calls_in, look_ups_at};
-    ghost use Rattle.sspi_credssp.specs.ServerCause.{ServerCause, MakeCause, StateCause};
-    ghost use Rattle.sspi_credssp.specs.ServerStep.{HasAcceptedTurn, MakesAlone, server_setting};
+    ghost use Rattle.sspi_credssp.specs.ServerAsks.{look_ups_at};
+    ghost use Rattle.sspi_credssp.specs.ServerCall.{ServerCall};
+    ghost use Rattle.sspi_credssp.specs.ServerCause.{MakeCause, StateCause};
+    ghost use Rattle.sspi_credssp.specs.ServerStep.{HasAcceptedTurn, server_setting};
     ghost use Rattle.sspi_credssp.specs.ServerTurn.{ServerGoes, IsReady, BeginRefused};
 
     /// Takes the client's message and makes the server's next one, or reads the credentials that end the exchange.
@@ -165,18 +165,7 @@ impl<N: Mechanism, K: Mechanism, C: CredentialsProxy> CredSspServer<N, K, C> {
     /// `UnsupportedFunction` once they were read; and want of memory. A refusal hands the request back with its code, and
     /// keeps the state, the mode and the acquired credentials.
     pub fn process(&mut self, ts_request: TsRequest) -> Result<ServerState, ServerError>
-        ensures turn { ServerGoes (either N.REQUESTS N.meaning K.meaning) self.old ts_request result self.new }
-        ensures step { HasAcceptedTurn (either N.REQUESTS N.meaning K.meaning) C.meaning self.old ts_request result self.new }
-        ensures cause { IfErr result (λ refusal. refusal.error.error_type ≢ ErrorKind.InsufficientMemory →
-            ServerCause (either N.REQUESTS N.meaning K.meaning) C.meaning self.old ts_request self.new refusal.error.error_type) }
-        ensures plain { IfErr result (λ refusal. refusal.error.nstatus ≡ None) }
-        ensures altered { differs self.old.noted ts_request.version ≡ true →
-            IsErr result × (self.new ≡ record self.old { acts = no_acts; output = [] }) }
-        ensures made { MakesAlone (either N.REQUESTS N.meaning K.meaning) C.meaning self.old self.new }
-        ensures heeded { ServerHeeds (either N.REQUESTS N.meaning K.meaning) self.old ts_request result self.new }
-        ensures unmade { self.new.context ≡ None → self.new ≡ record self.old { proxy = self.new.proxy; acts = no_acts; output = [] } }
-        ensures proxy { IsAsked C.meaning (calls_in self.old self.new.acts.status) self.old.proxy self.new.proxy }
-        ensures asked { OnOk result (HasAsked C.meaning (calls_in self.old self.new.acts.status) self.old.proxy self.new.proxy) }
+        ensures { ServerCall (either N.REQUESTS N.meaning K.meaning) C.meaning self.old ts_request result self.new }
     {
         self.forget_last_call();
         match self.begin(ts_request.version) {

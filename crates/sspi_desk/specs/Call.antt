@@ -1,5 +1,5 @@
 -- One call on a server (MS-CSSP 3.1.5.2): bytes are read, the server takes their request, and its message is spelled.
-use Rattle.std.specs.Prelude.{◌≡◌, ◌≢◌, ◌⊎◌, ℕ, List, [], Option, None, Some, Result, Ok, Err, IfErr, IsErr, OnOk, true, false}
+use Rattle.std.specs.Prelude.{◌≡◌, ◌≢◌, ◌⊎◌, ℕ, List, Option, None, Some, Result, Ok, Err, true, false}
 use Rattle.sspi_types.specs.declared.error.Error.{Error}
 use Rattle.sspi_types.specs.declared.error_kind.ErrorKind.TheVariants as kinds
 use Rattle.sspi_ber.specs.Fault.{Ended, Invalid}
@@ -14,16 +14,10 @@ use Rattle.sspi_tsreq.specs.Spelling.{fits, spelled}
 use Rattle.sspi_credssp.specs.declared.server_state.ServerError.{ServerError}
 use Rattle.sspi_credssp.specs.declared.server_state.ServerState.{ServerState}
 use Rattle.sspi_credssp.specs.declared.server_state.ServerState.TheVariants.{ReplyNeeded, Finished}
-use Rattle.sspi_credssp.specs.Acts.{no_acts}
 use Rattle.sspi_credssp.specs.Context.{ContextSetting}
-use Rattle.sspi_credssp.specs.Heeded.{ServerHeeds}
-use Rattle.sspi_credssp.specs.Noted.{differs}
-use Rattle.sspi_credssp.specs.Proxy.{ProxyMeaning, IsAsked, HasAsked}
+use Rattle.sspi_credssp.specs.Proxy.{ProxyMeaning}
 use Rattle.sspi_credssp.specs.Server.{ServerView}
-use Rattle.sspi_credssp.specs.ServerAsks.{calls_in}
-use Rattle.sspi_credssp.specs.ServerCause.{ServerCause}
-use Rattle.sspi_credssp.specs.ServerStep.{HasAcceptedTurn, MakesAlone}
-use Rattle.sspi_credssp.specs.ServerTurn.{ServerGoes}
+use Rattle.sspi_credssp.specs.ServerCall.{ServerCall}
 use Rattle.sspi_desk.specs.declared.answer.DeskError.{DeskError}
 use Rattle.sspi_desk.specs.declared.answer.DeskError.TheVariants.{NoSession, Unread, Refused, TooLong, InsufficientMemory}
 use Rattle.sspi_desk.specs.declared.answer.Served.{Served}
@@ -72,28 +66,13 @@ Tells request error InsufficientMemory =
 -- ---- the turn
 
 module _ {C P : Type 0} (c : Meaning ContextSetting C) (p : ProxyMeaning P) where
-  -- what `CredSspServer::process` promises of one call
-  pub record Processes (old : ServerView C P) (d : TsRequest) (result : Result ServerState ServerError) (new : ServerView C P) :
-      Type 0 where
-    pub turn : ServerGoes c old d result new
-    pub step : HasAcceptedTurn c p old d result new
-    pub cause : IfErr result (λ refusal. refusal.error.error_type ≢ kinds.InsufficientMemory →
-        ServerCause c p old d new refusal.error.error_type)
-    pub plain : IfErr result (λ refusal. refusal.error.nstatus ≡ None)
-    pub altered : differs old.noted d.version ≡ true → IsErr result × (new ≡ record old { acts = no_acts; output = [] })
-    pub made : MakesAlone c p old new
-    pub heeded : ServerHeeds c old d result new
-    pub unmade : new.context ≡ None → new ≡ record old { proxy = new.proxy; acts = no_acts; output = [] }
-    pub proxy : IsAsked p (calls_in old new.acts.status) old.proxy new.proxy
-    pub asked : OnOk result (HasAsked p (calls_in old new.acts.status) old.proxy new.proxy)
-
   -- the bytes begin with a request, which the server took and came to this
   pub record Takes (old : ServerView C P) (bytes : List ℕ) (result : Result ServerState ServerError) (new : ServerView C P) :
       Type 0 where
     pub request : TsRequest
     pub count : ℕ
     pub read : IsRequest bytes request count
-    pub process : Processes old request result new
+    pub process : ServerCall c p old request result new
 
   -- ---- the answer
 

@@ -11,11 +11,11 @@ returns-in-Err-resume-clause-turn g c =
     let underway = (rw c.in-Suspended.is at c.loop-progress.invariant.goes).0 in
     let turn = c.in-Err-resume.ensures.turn c.args.client.now c.args.request underway in
     let steps = c.loop-progress.invariant.steps in
-    let step = c.in-Err-resume.ensures.step c.args.client.now c.args.request 0 steps.asked c.in-Suspended.question underway
-    (rw c.in-Suspended.is at steps.step) in (
+    let went = c.in-Err-resume.ensures.steps c.args.client.now c.args.request 0 steps.asked c.in-Suspended.question
+    (record { underway = underway; walked = rw c.in-Suspended.is at steps.step }) in (
       turn,
       resumed_refuses meaning _ c.args.client.now c.args.request c.loop-progress.client c.resume.new.self _ c.in-Err-resume.error underway
-          c.in-Err-resume.ensures.cause c.in-Err-resume.ensures.plain turn step
+          c.in-Err-resume.ensures.cause.kind c.in-Err-resume.ensures.cause.plain turn went.step
           (c.loop-progress.kdc, steps.replied, c.in-Some.ensures.replied)
           (c.in-Err-resume.ensures.stepped underway.waiting (rw underway.kept cc)),
     )
@@ -34,8 +34,8 @@ loop-progress-preserved g c =
       steps = record {
         asked = _;
         replied = (c.loop-progress.kdc, steps.replied, c.in-Some.ensures.replied);
-        step = c.in-Ok-resume.ensures.step c.args.client.now c.args.request 0 steps.asked c.in-Suspended.question underway
-            (rw c.in-Suspended.is at steps.step);
+        step = (c.in-Ok-resume.ensures.steps c.args.client.now c.args.request 0 steps.asked c.in-Suspended.question
+            (record { underway = underway; walked = rw c.in-Suspended.is at steps.step })).step;
         unasked = λ none. absurd (true≢false (sym (c.in-Ok-resume.ensures.stepped underway.waiting (rw underway.kept cc)) ∙ none));
       };
       kdc = kdc_replied g.D.Kdc.told g.D.Kdc.asked g.D.Kdc.faults c.args.kdc.now c.loop-progress.kdc c.ask.new.kdc _ _

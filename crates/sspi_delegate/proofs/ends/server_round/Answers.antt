@@ -17,7 +17,7 @@ returns-in-Ok-ReplyNeeded-clause-server_history g c first history =
     first c.args.server.now c.process.new.self c.record_server.new.server c.args.request (outcome.Reply c.in-Ok-ReplyNeeded.reply)
     c.args.transcript.now.turns c.record_server.new.transcript.turns history
     (rw c.in-Ok-ReplyNeeded.field-0-is at c.in-Ok-ReplyNeeded.ensures.turn, c.in-Ok-ReplyNeeded.ensures.step)
-    c.in-Ok-ReplyNeeded.ensures.made c.in-Ok-ReplyNeeded.ensures.proxy c.in-Ok-ReplyNeeded.ensures.asked
+    c.in-Ok-ReplyNeeded.ensures.kept.made c.in-Ok-ReplyNeeded.ensures.proxy.at_most c.in-Ok-ReplyNeeded.ensures.proxy.exactly
     c.record_server.ensures.rest (rw (← c.in-Ok.ensures.turns, ← c.in-Ok-clone.ensures) c.record_server.ensures.turn)
 
 pub returns-in-Ok-Finished-clause-server_history : goal.returns-in-Ok-Finished-clause-server_history
@@ -26,7 +26,7 @@ returns-in-Ok-Finished-clause-server_history g c first history =
     first c.args.server.now c.process.new.self c.record_server-in-Ok-Finished.new.server c.args.request c.in-Ok-Finished.identity
     c.args.transcript.now.turns c.record_server-in-Ok-Finished.new.transcript.turns history
     (rw c.in-Ok-Finished.field-0-is at c.in-Ok-Finished.ensures.turn) c.in-Ok-Finished.ensures.step
-    c.in-Ok-Finished.ensures.made c.in-Ok-Finished.ensures.proxy c.in-Ok-Finished.ensures.asked
+    c.in-Ok-Finished.ensures.kept.made c.in-Ok-Finished.ensures.proxy.at_most c.in-Ok-Finished.ensures.proxy.exactly
     c.record_server-in-Ok-Finished.ensures.rest (rw (← c.in-Ok.ensures.turns, ← c.in-Ok-clone.ensures)
     c.record_server-in-Ok-Finished.ensures.turn)
 
@@ -36,10 +36,10 @@ returns-in-Err-clause-server_history g c first history =
     first c.args.server.now c.process.new.self c.record_server-in-Err.new.server c.args.request
     c.in-Err.field-0.error c.in-Err.field-0.ts_request c.args.transcript.now.turns c.record_server-in-Err.new.transcript.turns history
     c.in-Err.ensures.turn (record {
-      cause = c.in-Err.ensures.cause;
+      cause = c.in-Err.ensures.cause.kind;
       heeds = λ met. (c.in-Err.ensures.heeded.refuses met).0;
-      status = c.in-Err.ensures.plain;
+      status = c.in-Err.ensures.cause.plain;
       step = c.in-Err.ensures.step;
     })
-    c.in-Err.ensures.made c.in-Err.ensures.proxy
+    c.in-Err.ensures.kept.made c.in-Err.ensures.proxy.at_most
     c.record_server-in-Err.ensures.rest (rw (← c.in-Ok.ensures.turns, ← c.in-Ok-clone.ensures) c.record_server-in-Err.ensures.turn)

@@ -9,23 +9,11 @@ returns g c =
     let m = either g.N.Mechanism.REQUESTS g.N.Mechanism.meaning g.K.Mechanism.meaning in
     let p = g.C.CredentialsProxy.meaning in
     let refusal = c.in-Err-process.refusal in
-    let e = c.in-Err-process.ensures in
     let takes : Takes m p c.args.server.now c.args.bytes.now (Err refusal) c.process.new.self = record {
       request = c.in-Ok.request;
       count = c.in-Ok.ensures.answer.0.0;
       read = c.in-Ok.ensures.answer.0.1;
-      process = record {
-        turn = e.turn;
-        step = e.step;
-        cause = e.cause;
-        plain = e.plain;
-        altered = e.altered;
-        made = e.made;
-        heeded = e.heeded;
-        unmade = e.unmade;
-        proxy = e.proxy;
-        asked = e.asked;
-      };
+      process = c.in-Err-process.ensures;
     } in
     refusal_served m p c.args.server.now c.process.new.self c.args.bytes.now refusal.ts_request refusal.error c.refused.result takes
     c.refused.ensures

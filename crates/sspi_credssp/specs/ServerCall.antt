@@ -1,0 +1,38 @@
+-- What one call of `CredSspServer::process` is, whatever it answers (MS-CSSP 3.1.5.2).
+use Rattle.std.specs.Prelude.{◌≡◌, [], None, Result, IsErr, true}
+use Rattle.sspi_mech.specs.Meaning.{Meaning}
+use Rattle.sspi_tsreq.specs.declared.request.TsRequest.{TsRequest}
+use Rattle.sspi_credssp.specs.declared.server_state.ServerError.{ServerError}
+use Rattle.sspi_credssp.specs.declared.server_state.ServerState.{ServerState}
+use Rattle.sspi_credssp.specs.Acts.{no_acts}
+use Rattle.sspi_credssp.specs.Asks.{Asks}
+use Rattle.sspi_credssp.specs.Context.{ContextSetting}
+use Rattle.sspi_credssp.specs.Heeded.{ServerHeeds}
+use Rattle.sspi_credssp.specs.Noted.{differs}
+use Rattle.sspi_credssp.specs.Proxy.{ProxyMeaning}
+use Rattle.sspi_credssp.specs.Refusal.{IsTurnRefusedBy}
+use Rattle.sspi_credssp.specs.Server.{ServerView}
+use Rattle.sspi_credssp.specs.ServerAsks.{calls_in}
+use Rattle.sspi_credssp.specs.ServerCause.{ServerCause}
+use Rattle.sspi_credssp.specs.ServerStep.{HasAcceptedTurn, MakesAlone}
+use Rattle.sspi_credssp.specs.ServerTurn.{ServerGoes}
+
+module _ {C P : Type 0} (c : Meaning ContextSetting C) (p : ProxyMeaning P) where
+  -- what a call leaves alone: a client that changes its version moves nothing, a call that takes no step makes a context at
+  -- most, and one that makes none only asks the proxy
+  pub record ServerKeeps (old : ServerView C P) (d : TsRequest) (result : Result ServerState ServerError) (new : ServerView C P) :
+      Type 0 where
+    pub altered : differs old.noted d.version ≡ true → IsErr result × (new ≡ record old { acts = no_acts; output = [] })
+    pub made : MakesAlone c p old new
+    pub unmade : new.context ≡ None → new ≡ record old { proxy = new.proxy; acts = no_acts; output = [] }
+
+  -- The call is one turn, with one step of the context where it authenticates. A refusal has its cause; for its version a
+  -- client is refused exactly where that is too old. The proxy is asked as often as the step's status wants it.
+  pub record ServerCall (old : ServerView C P) (d : TsRequest) (result : Result ServerState ServerError) (new : ServerView C P) :
+      Type 0 where
+    pub turn : ServerGoes c old d result new
+    pub step : HasAcceptedTurn c p old d result new
+    pub cause : IsTurnRefusedBy result (ServerCause c p old d new)
+    pub heeded : ServerHeeds c old d result new
+    pub kept : ServerKeeps old d result new
+    pub proxy : Asks p (calls_in old new.acts.status) result old.proxy new.proxy
