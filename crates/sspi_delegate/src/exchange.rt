@@ -94,8 +94,7 @@ fn rounds<N: Mechanism, K: Mechanism, C: CredentialsProxy, L: Link, D: Kdc>(
     ensures told { StaysTold (L.edits link.old) (L.edits link.new) (L.log link.old) (L.log link.new) }
     ensures still { AnswerTold (L.edits link.old) (L.faults link.old) (L.faults link.new) result (L.log link.new)
         (newest_message transcript.new.turns) }
-    ensures none { turns ≡ 0 → result ≡ Err DelegateError.TurnsSpent }
-    ensures within { IfOk result (λ delegation. delegation.turns ≤ turns) }
+    ensures limit { (turns ≡ 0 → result ≡ Err DelegateError.TurnsSpent) × IfOk result (λ delegation. delegation.turns ≤ turns) }
     ensures client_history { transcript.old.turns ≡ [] →
         ClientPast (either N.REQUESTS N.meaning K.meaning) (kdc_calls D.told D.asked D.faults) client.old kdc.old result
         (client_turns transcript.new.turns) client.new kdc.new }
