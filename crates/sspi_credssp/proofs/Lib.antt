@@ -7,6 +7,7 @@ pub mod CredentialRefusals
 pub mod CredentialTexts
 pub mod Deliver
 pub mod LittleEndian
+pub mod Opened
 pub mod Proxies
 pub mod ServerAsking
 pub mod ServerBeginning

@@ -1,5 +1,5 @@
 -- A server's call that is refused while it makes its context or looks at its client's version.
-use Rattle.std.proofs.Common.{inl, ◌≡◌, ◌+◌, ℕ, List, [], Option, None, Some, IsSome, Result, Ok, Err, OnOk, OnErr, Bool, true, false}
+use Rattle.std.proofs.Common.{inl, ◌≡◌, ◌+◌, ℕ, List, [], Option, None, Some, IsSome, Result, Ok, Err, OnErr, Bool, true, false}
 use Rattle.std.proofs.Common.{refl, sym, ◌∙◌, ap, subst, arith}
 use Rattle.sspi_types.specs.declared.credential_use.CredentialUse.TheVariants.{Inbound}
 use Rattle.sspi_types.specs.declared.error.Error.{Error}
@@ -23,9 +23,13 @@ use Rattle.sspi_credssp.specs.ServerStep.{OnStep}
 use Rattle.sspi_credssp.specs.ServerTurn.{BeginRefused, ServerTurn, UnlessMade, IsNew, is_made, IsUnstepped}
 use Rattle.sspi_credssp.proofs.ServerReady.{not_yet}
 
-pub whatever : {T : Type 0} (r : Result T Error) (Q : Type 0) → Q → OnOk r Q
-whatever (Ok x) Q h = h
-whatever (Err e) Q h = tt
+pub refused_both : {T : Type 0} (r : Result T Error) (Q R : Type 0) → OnErr r Q → OnErr r R → OnErr r (Q × R)
+refused_both (Ok x) Q R q r = tt
+refused_both (Err e) Q R q r = (q, r)
+
+pub context_there : {C : Type 0} (o : Option C) (Q : C → Type 0) → IsSome o → OnContext o Q → IfContext o Q
+context_there None Q some h = absurd cc
+context_there (Some m) Q some h = h
 
 pub there_or_not : {C : Type 0} (o : Option C) (Q : C → Type 0) → IfContext o Q → OnContext o Q
 there_or_not None Q h = tt

@@ -15,6 +15,7 @@ use Rattle.sspi_credssp.specs.declared.state.CredSspState.TheVariants.{NegoToken
 use Rattle.sspi_credssp.specs.Acts.{no_acts}
 use Rattle.sspi_credssp.specs.Client.{ClientView}
 use Rattle.sspi_credssp.specs.ClientCall.{Awaits}
+use Rattle.sspi_credssp.specs.ClientStage.{KeepsRequest}
 use Rattle.sspi_credssp.specs.ClientStep.{Asked, StepsTo, Walked, still_asked}
 use Rattle.sspi_credssp.specs.ClientTurn.{IsReady, IsUnderway}
 use Rattle.sspi_credssp.specs.Context.{ContextSetting}
@@ -29,22 +30,21 @@ module _ {C : Type 0} (c : Meaning ContextSetting C) (laws : IsContext c) where
       request ≡ record d { version = v.version } → v.state ≡ NegoToken → v.output ≡ [] → v.context ≡ Some m →
       v.acts ≡ no_acts → stepped ≡ record v { context = Some m2; acts = record v.acts { negotiated = true } } →
       IsReady c start d v → Walked c start v.handle d.nego_tokens tries log (Ask q) m → c.resumes m reply (answer_of progress) m2 →
-      OnErr result (new.acts.status ≡ None → (new ≡ record stepped { kept = new.kept }) × IsErr progress) →
-      OnErr result (new.acts.status ≡ None → is_waiting_in c new.context ≡ true → new.kept ≡ Some request) →
+      OnErr result (new.acts.status ≡ None → KeepsRequest c stepped progress request new) →
       OnErr result (new.acts.status ≡ None → is_waiting_in c new.context ≡ true →
       Awaits c start d (tries + 1) (record { question = q; reply = reply } ∷ log) q new)
-  still_waits start d tries log q v stepped new m m2 reply request progress (Ok x) _ _ _ _ _ _ _ _ _ _ _ = tt
+  still_waits start d tries log q v stepped new m m2 reply request progress (Ok x) _ _ _ _ _ _ _ _ _ _ = tt
   still_waits start d tries log q v stepped new m m2 reply request (Ok x)
-      (Err error) same nego output here idle at ready walked resumed refused kept =
-      λ none waits. absurd (false_ok (refused none).1)
+      (Err error) same nego output here idle at ready walked resumed still =
+      λ none waits. absurd (false_ok (still none).refused.1)
     where
       false_ok : IsErr {T = Progressing} {E = Error} (Ok x) → ⊥
       false_ok h = cc
   still_waits start d tries log q v stepped new m m2 reply request (Err e)
-      (Err error) same nego output here idle at ready walked resumed refused kept =
+      (Err error) same nego output here idle at ready walked resumed still =
       λ none waits.
       let moved : new ≡ record v { context = Some m2; acts = record no_acts { negotiated = true }; kept = new.kept } =
-      (refused none).0 ∙ ap (λ (x : ClientView C). record x { kept = new.kept })
+      (still none).refused.0 ∙ ap (λ (x : ClientView C). record x { kept = new.kept })
       (at ∙ ap (λ (a : Acts). record v { context = Some m2; acts = record a { negotiated = true } }) idle) in
       let again : c.waits m2 ≡ true = subst (λ (x : ClientView C). is_waiting_in c x.context ≡ true) moved waits in
       let ready2 = ready_stepped c start v d m m2 (record no_acts { negotiated = true }) ready nego here
@@ -78,7 +78,7 @@ module _ {C : Type 0} (c : Meaning ContextSetting C) (laws : IsContext c) where
         };
         state = nego;
         waiting = again;
-        kept = kept none waits ∙ ap Some same;
+        kept = (still none).kept waits ∙ ap Some same;
       } in
       let steps : StepsTo c start d (tries + 1) (record { question = q; reply = reply } ∷ log) (Ask q)
       (record v { context = Some m2; acts = record no_acts { negotiated = true }; kept = new.kept }) =

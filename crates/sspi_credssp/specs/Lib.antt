@@ -4,6 +4,7 @@ pub mod Begun
 pub mod Client
 pub mod ClientCall
 pub mod ClientCause
+pub mod ClientStage
 pub mod ClientStep
 pub mod ClientTurn
 pub mod Context
@@ -14,6 +15,7 @@ pub mod Exchange
 pub mod Heeded
 pub mod Held
 pub mod Noted
+pub mod Opened
 pub mod PackageName
 pub mod Peers
 pub mod Proxy
@@ -25,6 +27,7 @@ pub mod Server
 pub mod ServerAsks
 pub mod ServerCall
 pub mod ServerCause
+pub mod ServerStage
 pub mod ServerStep
 pub mod ServerTurn
 pub mod Shown

@@ -8,6 +8,7 @@ ghost use Rattle.sspi_credssp.specs.Client.{ClientView};
 ghost use Rattle.sspi_credssp.specs.Context.{either, ForClient};
 ghost use Rattle.sspi_credssp.specs.Counts.{IsUnusedIn, is_waiting_in, left_in};
 ghost use Rattle.sspi_credssp.specs.Noted.{default_least, is_altered_in, is_old_in, noted_in};
+ghost use Rattle.sspi_credssp.specs.Refusal.{IsRefusedBy};
 ghost use Rattle.sspi_credssp.specs.Requests.{is_code};
 ghost use Rattle.sspi_credssp.specs.Stops.{StopsIf};
 
@@ -301,14 +302,13 @@ impl<N: Mechanism, K: Mechanism> CredSspClient<N, K> {
         ensures passed { OnOk result (IsSome self.new.context × (is_altered_in self.old.context self.old.noted version ≡ false)
             × (is_old_in self.old.context self.old.least self.old.noted version ≡ false)) }
         ensures cause { let c = either N.REQUESTS N.meaning K.meaning in
-            IfErr result (λ error. error.error_type ≢ ErrorKind.InsufficientMemory →
-            StopsIf (is_old_in self.old.context self.old.least self.old.noted version) ErrorKind.DowngradeDetected error.error_type
-            (StopsIf (is_altered_in self.old.context self.old.noted version) ErrorKind.MessageAltered error.error_type
+            IsRefusedBy result (λ kind.
+            StopsIf (is_old_in self.old.context self.old.least self.old.noted version) ErrorKind.DowngradeDetected kind
+            (StopsIf (is_altered_in self.old.context self.old.noted version) ErrorKind.MessageAltered kind
             (MadeOr self.old.context self.new.context (BeginCause c (ForClient self.old.mode) purposes.Outbound
-            (Some self.old.credentials) error.error_type) ⊥))) }
+            (Some self.old.credentials) kind) ⊥))) }
         ensures exact { IfErr result (λ error. is_old_in self.old.context self.old.least self.old.noted version ≡ true →
             error.error_type ≡ ErrorKind.DowngradeDetected) }
-        ensures plain { IfErr result (λ error. error.nstatus ≡ None) }
     {
         match &self.context {
             None => match self.make_context() {
@@ -329,12 +329,9 @@ impl<N: Mechanism, K: Mechanism> CredSspClient<N, K> {
         ensures made { OnOk result (IsSome self.new.context) }
         ensures unused { OnOk result (IsUnusedIn (either N.REQUESTS N.meaning K.meaning) self.new.context) }
         ensures err { OnErr result (self.new ≡ self.old) }
-        ensures noted { self.old.noted ≡ None }
-        ensures state { self.old.state ≡ CredSspState.NegoToken }
+        ensures fresh { (self.old.noted ≡ None) × (self.old.state ≡ CredSspState.NegoToken) }
         ensures cause { let c = either N.REQUESTS N.meaning K.meaning in
-            IfErr result (λ error. error.error_type ≢ ErrorKind.InsufficientMemory →
-            BeginCause c (ForClient self.old.mode) purposes.Outbound (Some self.old.credentials) error.error_type) }
-        ensures plain { IfErr result (λ error. error.nstatus ≡ None) }
+            IsRefusedBy result (BeginCause c (ForClient self.old.mode) purposes.Outbound (Some self.old.credentials)) }
     {
         let mut context = match SspiContext::new_client(self.alloc, &self.client_mode) {
             Ok(context) => context,

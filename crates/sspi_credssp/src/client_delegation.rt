@@ -100,8 +100,7 @@ impl<N: Mechanism, K: Mechanism> CredSspClient<N, K> {
         ensures cause { IfErr result (λ error. error.error_type ≢ ErrorKind.InsufficientMemory →
             DeliverCause (either N.REQUESTS N.meaning K.meaning) request.pub_key_auth self.new error.error_type) }
         ensures plain { IfErr result (λ error. error.nstatus ≡ None) }
-        ensures status { self.new.acts.status ≡ None }
-        ensures negotiated { self.new.acts.negotiated ≡ false }
+        ensures acts { (self.new.acts.status ≡ None) × (self.new.acts.negotiated ≡ false) }
     {
         match self.exchange(&request.pub_key_auth) {
             Ok(credentials) => {

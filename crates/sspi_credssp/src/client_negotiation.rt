@@ -6,6 +6,7 @@ ghost use Rattle.sspi_mech.specs.declared.step.Answer.TheVariants as answers;
 ghost use Rattle.sspi_credssp.specs.Acts.{no_acts};
 ghost use Rattle.sspi_credssp.specs.Begun.{Begun, IfContext};
 ghost use Rattle.sspi_credssp.specs.ClientCause.{NegoCause, ProveCause};
+ghost use Rattle.sspi_credssp.specs.Refusal.{IsRefusedBy};
 ghost use Rattle.sspi_credssp.specs.ClientStep.{Asked, StepsTo, HasStepped, OnSuspended, client_requirements, client_args};
 ghost use Rattle.sspi_credssp.specs.Context.{either, ForClient};
 ghost use Rattle.sspi_credssp.specs.Counts.{SameBut, is_waiting_in, left_in};
@@ -57,7 +58,8 @@ fn initialize<N: Mechanism, K: Mechanism>(
 impl<N: Mechanism, K: Mechanism> CredSspClient<N, K> {
     ghost use Rattle.sspi_credssp.specs.Client.{ClientView};
     ghost use Rattle.sspi_credssp.specs.ClientCall.{Awaits};
-    ghost use Rattle.sspi_credssp.specs.ClientTurn.{ClientGoes, ClientAnswers, IsReady, ClientProves, SameClient};
+    ghost use Rattle.sspi_credssp.specs.ClientStage.{HasDone, HasGoneOn, KeepsStep, KeepsRequest};
+    ghost use Rattle.sspi_credssp.specs.ClientTurn.{ClientGoes, ClientAnswers, IsReady, ClientProves};
 
     pub(crate) fn negotiate(&mut self, request: TsRequest) -> Result<Progress, Error>
         requires acts { self.old.acts ≡ no_acts }
@@ -95,7 +97,7 @@ impl<N: Mechanism, K: Mechanism> CredSspClient<N, K> {
     ) -> Result<Progress, Error>
         requires acts { self.old.acts ≡ no_acts }
         requires begun { IsSome self.old.context }
-        ensures same { SameClient (either N.REQUESTS N.meaning K.meaning) self.old self.new }
+        ensures on { HasGoneOn (either N.REQUESTS N.meaning K.meaning) self.old self.new }
         ensures turn { let c = either N.REQUESTS N.meaning K.meaning in (start : ClientView (SspiContext N K)) (d : TsRequest) →
             request ≡ record d { version = self.old.version } → IsReady c start d self.old → self.old.state ≡ CredSspState.NegoToken →
             self.old.output ≡ [] → ClientGoes c start d result self.new }
@@ -111,10 +113,7 @@ impl<N: Mechanism, K: Mechanism> CredSspClient<N, K> {
             Awaits c start d (tries + 1) (record { question = q; reply = reply.now } ∷ log) q self.new) }
         ensures falls { let c = either N.REQUESTS N.meaning K.meaning in
             OnSuspended result (left_in c self.new.context < left_in c self.old.context) }
-        ensures negotiated { self.new.acts.negotiated ≡ true }
-        ensures cause { IfErr result (λ error. error.error_type ≢ ErrorKind.InsufficientMemory →
-            NegoCause (either N.REQUESTS N.meaning K.meaning) self.new.acts.status self.new error.error_type) }
-        ensures plain { IfErr result (λ error. error.nstatus ≡ None) }
+        ensures cause { IsRefusedBy result (NegoCause (either N.REQUESTS N.meaning K.meaning) self.new.acts.status self.new) }
     {
         self.acts.negotiated = true;
         let Some(context) = &mut self.context else {
@@ -131,10 +130,9 @@ impl<N: Mechanism, K: Mechanism> CredSspClient<N, K> {
         progress: Result<Progressing, Error>,
         request: TsRequest,
     ) -> Result<Progress, Error>
-        requires acts { self.old.acts ≡ record no_acts { negotiated = true } }
-        requires begun { IsSome self.old.context }
+        requires done { HasDone (record no_acts { negotiated = true }) self.old }
         requires plain { IfErr progress (λ error. error.nstatus ≡ None) }
-        ensures same { SameClient (either N.REQUESTS N.meaning K.meaning) self.old self.new }
+        ensures on { HasGoneOn (either N.REQUESTS N.meaning K.meaning) self.old self.new }
         ensures turn { let c = either N.REQUESTS N.meaning K.meaning in (start : ClientView (SspiContext N K)) (d : TsRequest) →
             request ≡ record d { version = self.old.version } → IsReady c start d self.old → self.old.state ≡ CredSspState.NegoToken →
             self.old.output ≡ [] → OnAsk (answer_of progress) (is_waiting_in c self.old.context ≡ true) →
@@ -142,18 +140,12 @@ impl<N: Mechanism, K: Mechanism> CredSspClient<N, K> {
         ensures step { let c = either N.REQUESTS N.meaning K.meaning in
             (start : ClientView (SspiContext N K)) (d : TsRequest) (tries : ℕ) (log : List Asked) →
             StepsTo c start d tries log (answer_of progress) self.old → HasStepped c start d tries log result self.new }
-        ensures refused { OnErr result (self.new.acts.status ≡ None →
-            (self.new ≡ record self.old { kept = self.new.kept }) × IsErr progress) }
-        ensures kept { OnErr result (self.new.acts.status ≡ None →
-            is_waiting_in (either N.REQUESTS N.meaning K.meaning) self.new.context ≡ true → self.new.kept ≡ Some request) }
-        ensures negotiated { self.new.acts.negotiated ≡ true }
+        ensures still { OnErr result (self.new.acts.status ≡ None →
+            KeepsRequest (either N.REQUESTS N.meaning K.meaning) self.old progress request self.new) }
         ensures falls { let c = either N.REQUESTS N.meaning K.meaning in (n : ℕ) →
             OnAsk (answer_of progress) (left_in c self.old.context < n) →
             OnSuspended result (left_in c self.new.context < n) }
-        ensures cause { IfErr result (λ error. error.error_type ≢ ErrorKind.InsufficientMemory →
-            NegoCause (either N.REQUESTS N.meaning K.meaning) self.new.acts.status self.new error.error_type) }
-        ensures plain { IfErr result (λ error. error.nstatus ≡ None) }
-        ensures begun { IsSome self.new.context }
+        ensures cause { IsRefusedBy result (NegoCause (either N.REQUESTS N.meaning K.meaning) self.new.acts.status self.new) }
     {
         match progress {
             Ok(Progressing::Done(step)) => match self.reply(step.status, step.output, request) {
@@ -181,19 +173,11 @@ impl<N: Mechanism, K: Mechanism> CredSspClient<N, K> {
     ) -> Result<ClientState, Error>
         requires acts { self.old.acts ≡ record no_acts { negotiated = true } }
         requires begun { IsSome self.old.context }
-        ensures same { SameClient (either N.REQUESTS N.meaning K.meaning) self.old self.new }
         ensures turn { let c = either N.REQUESTS N.meaning K.meaning in (start : ClientView (SspiContext N K)) (d : TsRequest) →
             request ≡ record d { version = self.old.version } → IsReady c start d self.old → self.old.state ≡ CredSspState.NegoToken →
             ClientAnswers c start d result self.new }
-        ensures moved { SameBut (either N.REQUESTS N.meaning K.meaning) self.old.context self.new.context }
-        ensures handle { self.new.handle ≡ self.old.handle }
-        ensures status { self.new.acts.status ≡ Some status }
-        ensures negotiated { self.new.acts.negotiated ≡ true }
-        ensures output { self.new.output ≡ output }
-        ensures cause { IfErr result (λ error. error.error_type ≢ ErrorKind.InsufficientMemory →
-            NegoCause (either N.REQUESTS N.meaning K.meaning) self.new.acts.status self.new error.error_type) }
-        ensures plain { IfErr result (λ error. error.nstatus ≡ None) }
-        ensures begun { IsSome self.new.context }
+        ensures step { KeepsStep (either N.REQUESTS N.meaning K.meaning) self.old status output self.new }
+        ensures cause { IsRefusedBy result (NegoCause (either N.REQUESTS N.meaning K.meaning) self.new.acts.status self.new) }
     {
         self.acts.status = Some(status);
         self.output = output;
@@ -210,19 +194,11 @@ impl<N: Mechanism, K: Mechanism> CredSspClient<N, K> {
     fn prove(&mut self, request: TsRequest) -> Result<ClientState, Error>
         requires acts { self.old.acts ≡ record no_acts { negotiated = true; status = Some SecurityStatus.Ok } }
         requires begun { IsSome self.old.context }
-        ensures same { SameClient (either N.REQUESTS N.meaning K.meaning) self.old self.new }
         ensures turn { let c = either N.REQUESTS N.meaning K.meaning in (start : ClientView (SspiContext N K)) (d : TsRequest) →
             request ≡ record d { version = self.old.version } → IsReady c start d self.old → self.old.state ≡ CredSspState.NegoToken →
             ClientAnswers c start d result self.new }
-        ensures moved { SameBut (either N.REQUESTS N.meaning K.meaning) self.old.context self.new.context }
-        ensures handle { self.new.handle ≡ self.old.handle }
-        ensures status { self.new.acts.status ≡ self.old.acts.status }
-        ensures negotiated { self.new.acts.negotiated ≡ true }
-        ensures output { self.new.output ≡ self.old.output }
-        ensures cause { IfErr result (λ error. error.error_type ≢ ErrorKind.InsufficientMemory →
-            ProveCause (either N.REQUESTS N.meaning K.meaning) self.new.noted self.new.context self.new error.error_type) }
-        ensures plain { IfErr result (λ error. error.nstatus ≡ None) }
-        ensures begun { IsSome self.new.context }
+        ensures step { KeepsStep (either N.REQUESTS N.meaning K.meaning) self.old SecurityStatus.Ok self.old.output self.new }
+        ensures cause { IsRefusedBy result (ProveCause (either N.REQUESTS N.meaning K.meaning) self.new.noted self.new.context self.new) }
     {
         let tokens = match copy_token(self.alloc, &self.output) {
             Ok(tokens) => tokens,

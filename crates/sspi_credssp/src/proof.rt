@@ -2,7 +2,8 @@
 ghost use Rattle.std.specs.Prelude.{◌≡◌, ◌≢◌, ◌-◌, ◌<◌, ◌≤◌, ◌==◌, None, Some, true, false, IsTrue, length, IfOk, IfErr, OnErr, OnOk};
 ghost use Rattle.sspi_mech.specs.Calls.{one_unsealed, ToUnseal};
 ghost use Rattle.sspi_credssp.specs.Context.{either};
-ghost use Rattle.sspi_credssp.specs.Exchange.{IsSealedBlob, BlobStops, OpensOther};
+ghost use Rattle.sspi_credssp.specs.Exchange.{IsSealedBlob, BlobStops};
+ghost use Rattle.sspi_credssp.specs.Opened.{OpensAs};
 
 use crate::acts::Acts;
 use crate::context::SspiContext;
@@ -37,10 +38,7 @@ pub fn opens_to<N: Mechanism, K: Mechanism>(
         OnOk result (context.new ≡ c.counted context.old (one_unsealed (c.counts context.old))) }
     ensures count { let c = either N.REQUESTS N.meaning K.meaning in
         OnOk result (c.counts context.new ≡ one_unsealed (c.counts context.old)) }
-    ensures same { let c = either N.REQUESTS N.meaning K.meaning in IfOk result (λ same. IsTrue same →
-        c.opens context.new ((c.counts context.new).unsealed - 1) blob.now proof.now) }
-    ensures other { let c = either N.REQUESTS N.meaning K.meaning in IfOk result (λ same. same ≡ false →
-        OpensOther c context.new blob.now proof.now) }
+    ensures opens { IfOk result (OpensAs (either N.REQUESTS N.meaning K.meaning) context.new blob.now proof.now) }
     ensures err { OnErr result (context.new ≡ context.old) }
     ensures err_acts { OnErr result (acts.new ≡ acts.old) }
     ensures plain { IfErr result (λ error. error.nstatus ≡ None) }

@@ -5,8 +5,10 @@ ghost use Rattle.sspi_credssp.specs.Begun.{Begun, IfContext, OnContext, MadeOr};
 ghost use Rattle.sspi_credssp.specs.Context.{either};
 ghost use Rattle.sspi_credssp.specs.Counts.{IsUnusedIn};
 ghost use Rattle.sspi_credssp.specs.Noted.{default_least, differs, is_old, VersionStops};
+ghost use Rattle.sspi_credssp.specs.Asks.{Asks};
 ghost use Rattle.sspi_credssp.specs.Peers.{list_calls, lists_in};
 ghost use Rattle.sspi_credssp.specs.Proxy.{IsAsked, HasAsked, IsLater};
+ghost use Rattle.sspi_credssp.specs.Refusal.{IsRefusedBy};
 
 use crate::acts::Acts;
 use crate::context::SspiContext;
@@ -146,6 +148,7 @@ impl<N: Mechanism, K: Mechanism, C: CredentialsProxy> CredSspServer<N, K, C> {
     ghost use Rattle.sspi_credssp.specs.ServerAsks.{look_ups_at};
     ghost use Rattle.sspi_credssp.specs.ServerCall.{ServerCall};
     ghost use Rattle.sspi_credssp.specs.ServerCause.{MakeCause, StateCause};
+    ghost use Rattle.sspi_credssp.specs.ServerStage.{HasDone, LooksAt, MakesContext};
     ghost use Rattle.sspi_credssp.specs.ServerStep.{HasAcceptedTurn, server_setting};
     ghost use Rattle.sspi_credssp.specs.ServerTurn.{ServerGoes, IsReady, BeginRefused};
 
@@ -191,28 +194,16 @@ impl<N: Mechanism, K: Mechanism, C: CredentialsProxy> CredSspServer<N, K, C> {
         ensures ready { let c = either N.REQUESTS N.meaning K.meaning in
             OnOk result ((start : ServerView (SspiContext N K) C) (d : TsRequest) →
             d.version ≡ version → self.old ≡ record start { acts = no_acts; output = [] } → IsReady c start d self.new) }
-        ensures begun { let c = either N.REQUESTS N.meaning K.meaning in OnOk result (IfContext self.new.context
-            (Begun c self.old.context self.old.handle (server_setting C.meaning self.old) purposes.Inbound None self.new.handle)) }
-        ensures made { let c = either N.REQUESTS N.meaning K.meaning in OnContext self.new.context
-            (Begun c self.old.context self.old.handle (server_setting C.meaning self.old) purposes.Inbound None self.new.handle) }
-        ensures fresh { self.old.context ≡ None → self.old.state ≡ CredSspState.NegoToken }
+        ensures made { MakesContext (either N.REQUESTS N.meaning K.meaning) C.meaning self.old self.new }
         ensures passed { OnOk result (IsSome self.new.context × (differs self.old.noted version ≡ false)
-            × (is_old self.old.least self.old.noted version ≡ false)) }
-        ensures known { OnOk result (IsSome self.new.noted) }
-        ensures refused { OnErr result (BeginRefused (either N.REQUESTS N.meaning K.meaning) self.old version self.new) }
-        ensures err { OnErr result
-            (self.new ≡ record self.old { proxy = self.new.proxy; context = self.new.context; handle = self.new.handle }) }
-        ensures altered { differs self.old.noted version ≡ true → IsErr result × (self.new ≡ self.old) }
-        ensures unmade { self.new.context ≡ None → self.new ≡ record self.old { proxy = self.new.proxy } }
-        ensures cause { let c = either N.REQUESTS N.meaning K.meaning in
-            IfErr result (λ error. error.error_type ≢ ErrorKind.InsufficientMemory →
-            MadeOr self.old.context self.new.context (MakeCause c C.meaning self.old.mode self.old.proxy self.new.proxy error.error_type)
-            (VersionStops self.old.least self.old.noted version error.error_type ⊥)) }
-        ensures exact { IfErr result (λ error. IsSome self.new.context → is_old self.old.least self.old.noted version ≡ true →
-            error.error_type ≡ ErrorKind.DowngradeDetected) }
-        ensures proxy { IsAsked C.meaning (lists_in self.old.context self.old.mode) self.old.proxy self.new.proxy }
-        ensures asked { OnOk result (HasAsked C.meaning (lists_in self.old.context self.old.mode) self.old.proxy self.new.proxy) }
-        ensures plain { IfErr result (λ error. error.nstatus ≡ None) }
+            × (is_old self.old.least self.old.noted version ≡ false) × IsSome self.new.noted) }
+        ensures refused { OnErr result (BeginRefused (either N.REQUESTS N.meaning K.meaning) self.old version self.new
+            × (self.new ≡ record self.old { proxy = self.new.proxy; context = self.new.context; handle = self.new.handle })) }
+        ensures looked { LooksAt version self.old result self.new }
+        ensures cause { let c = either N.REQUESTS N.meaning K.meaning in IsRefusedBy result (λ kind.
+            MadeOr self.old.context self.new.context (MakeCause c C.meaning self.old.mode self.old.proxy self.new.proxy kind)
+            (VersionStops self.old.least self.old.noted version kind ⊥)) }
+        ensures proxy { Asks C.meaning (lists_in self.old.context self.old.mode) result self.old.proxy self.new.proxy }
     {
         match &self.context {
             Some(_) => note_version(&mut self.peer_version, self.least_version, version),
@@ -229,17 +220,12 @@ impl<N: Mechanism, K: Mechanism, C: CredentialsProxy> CredSspServer<N, K, C> {
         ensures frame { self.new ≡ record self.old { proxy = self.new.proxy; context = self.new.context; handle = self.new.handle } }
         ensures begun { let c = either N.REQUESTS N.meaning K.meaning in OnOk result (IfContext self.new.context
             (Begun c self.old.context self.old.handle (server_setting C.meaning self.old) purposes.Inbound None self.new.handle)) }
-        ensures made { OnOk result (IsSome self.new.context) }
-        ensures unused { OnOk result (IsUnusedIn (either N.REQUESTS N.meaning K.meaning) self.new.context) }
+        ensures made { OnOk result (IsSome self.new.context × IsUnusedIn (either N.REQUESTS N.meaning K.meaning) self.new.context) }
         ensures err { OnErr result (self.new ≡ record self.old { proxy = self.new.proxy }) }
-        ensures noted { self.old.noted ≡ None }
-        ensures state { self.old.state ≡ CredSspState.NegoToken }
+        ensures fresh { (self.old.noted ≡ None) × (self.old.state ≡ CredSspState.NegoToken) }
         ensures cause { let c = either N.REQUESTS N.meaning K.meaning in
-            IfErr result (λ error. error.error_type ≢ ErrorKind.InsufficientMemory →
-            MakeCause c C.meaning self.old.mode self.old.proxy self.new.proxy error.error_type) }
-        ensures proxy { IsAsked C.meaning (list_calls self.old.mode) self.old.proxy self.new.proxy }
-        ensures asked { OnOk result (HasAsked C.meaning (list_calls self.old.mode) self.old.proxy self.new.proxy) }
-        ensures plain { IfErr result (λ error. error.nstatus ≡ None) }
+            IsRefusedBy result (MakeCause c C.meaning self.old.mode self.old.proxy self.new.proxy) }
+        ensures proxy { Asks C.meaning (list_calls self.old.mode) result self.old.proxy self.new.proxy }
     {
         let known = match list_peers(self.alloc, &self.server_mode, &mut self.credentials) {
             Ok(known) => known,
@@ -261,9 +247,7 @@ impl<N: Mechanism, K: Mechanism, C: CredentialsProxy> CredSspServer<N, K, C> {
 
     // The turn, once the request's version was looked at.
     fn take(&mut self, request: TsRequest) -> Result<ServerState, ServerError>
-        requires acts { self.old.acts ≡ no_acts }
-        requires begun { IsSome self.old.context }
-        requires noted { IsSome self.old.noted }
+        requires { HasDone no_acts self.old }
         ensures turn { let c = either N.REQUESTS N.meaning K.meaning in (start : ServerView (SspiContext N K) C) (d : TsRequest) →
             request ≡ record d { version = self.old.version } → IsReady c start d self.old → self.old.output ≡ [] →
             ServerGoes c start d result self.new }
@@ -281,8 +265,7 @@ impl<N: Mechanism, K: Mechanism, C: CredentialsProxy> CredSspServer<N, K, C> {
         ensures plain { IfErr result (λ refusal. refusal.error.nstatus ≡ None) }
         ensures begun { IsSome self.new.context }
         ensures negotiated { self.old.state ≡ CredSspState.NegoToken → self.new.acts.negotiated ≡ true }
-        ensures proxy { IsAsked C.meaning (look_ups_at self.new.acts.status) self.old.proxy self.new.proxy }
-        ensures asked { OnOk result (HasAsked C.meaning (look_ups_at self.new.acts.status) self.old.proxy self.new.proxy) }
+        ensures proxy { Asks C.meaning (look_ups_at self.new.acts.status) result self.old.proxy self.new.proxy }
     {
         match self.state {
             CredSspState::NegoToken => self.negotiate(request),

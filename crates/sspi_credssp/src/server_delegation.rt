@@ -139,8 +139,7 @@ impl<N: Mechanism, K: Mechanism, C: CredentialsProxy> CredSspServer<N, K, C> {
             request.client_nonce self.new refusal.error.error_type) }
         ensures plain { IfErr result (λ refusal. refusal.error.nstatus ≡ None) }
         ensures acts { (self.new.acts.status ≡ None) × (self.new.acts.negotiated ≡ false) }
-        ensures begun { IsSome self.new.context }
-        ensures proxy { self.new.proxy ≡ self.old.proxy }
+        ensures kept { IsSome self.new.context × (self.new.proxy ≡ self.old.proxy) }
     {
         match self.exchange(&request) {
             Ok(proof) => {

@@ -167,15 +167,15 @@ fn identify<N: Mechanism, K: Mechanism, C: CredentialsProxy>(
 
 impl<N: Mechanism, K: Mechanism, C: CredentialsProxy> CredSspServer<N, K, C> {
     ghost use Rattle.sspi_credssp.specs.Server.{ServerView};
+    ghost use Rattle.sspi_credssp.specs.Asks.{Asks};
     ghost use Rattle.sspi_credssp.specs.ServerAsks.{look_ups_at};
     ghost use Rattle.sspi_credssp.specs.ServerCause.{NegoCause, OverCause, AfterCause};
+    ghost use Rattle.sspi_credssp.specs.ServerStage.{HasDone, HasReached, KeepsStep};
     ghost use Rattle.sspi_credssp.specs.ServerStep.{Unknown, Accepted, HasCome, CompletedStep, HasAccepted, HasAcceptedTurn};
     ghost use Rattle.sspi_credssp.specs.ServerTurn.{ServerGoes, Answered, IsReady};
 
     pub(crate) fn negotiate(&mut self, request: TsRequest) -> Result<ServerState, ServerError>
-        requires acts { self.old.acts ≡ no_acts }
-        requires begun { IsSome self.old.context }
-        requires noted { IsSome self.old.noted }
+        requires { HasDone no_acts self.old }
         ensures turn { let c = either N.REQUESTS N.meaning K.meaning in (start : ServerView (SspiContext N K) C) (d : TsRequest) →
             request ≡ record d { version = self.old.version } → IsReady c start d self.old → self.old.state ≡ CredSspState.NegoToken →
             self.old.output ≡ [] → ServerGoes c start d result self.new }
@@ -191,10 +191,8 @@ impl<N: Mechanism, K: Mechanism, C: CredentialsProxy> CredSspServer<N, K, C> {
             IfErr result (λ refusal. refusal.error.error_type ≢ ErrorKind.InsufficientMemory →
             NegoCause c C.meaning self.new.acts.status start d self.new refusal.error.error_type) }
         ensures plain { IfErr result (λ refusal. refusal.error.nstatus ≡ None) }
-        ensures begun { IsSome self.new.context }
-        ensures negotiated { self.new.acts.negotiated ≡ true }
-        ensures proxy { IsAsked C.meaning (look_ups_at self.new.acts.status) self.old.proxy self.new.proxy }
-        ensures asked { OnOk result (HasAsked C.meaning (look_ups_at self.new.acts.status) self.old.proxy self.new.proxy) }
+        ensures reached { HasReached self.new.acts.status self.new }
+        ensures proxy { Asks C.meaning (look_ups_at self.new.acts.status) result self.old.proxy self.new.proxy }
     {
         match self.answer(&request) {
             Ok(answer) => Ok(ServerState::ReplyNeeded(with_answer(request, answer))),
@@ -203,9 +201,7 @@ impl<N: Mechanism, K: Mechanism, C: CredentialsProxy> CredSspServer<N, K, C> {
     }
 
     fn answer(&mut self, request: &TsRequest) -> Result<Answer, Error>
-        requires acts { self.old.acts ≡ no_acts }
-        requires begun { IsSome self.old.context }
-        requires noted { IsSome self.old.noted }
+        requires { HasDone no_acts self.old }
         ensures turn { let c = either N.REQUESTS N.meaning K.meaning in (start : ServerView (SspiContext N K) C) (d : TsRequest) →
             request.now ≡ record d { version = self.old.version } → IsReady c start d self.old → self.old.state ≡ CredSspState.NegoToken →
             self.old.output ≡ [] → Answered c start d result self.new }
@@ -214,8 +210,7 @@ impl<N: Mechanism, K: Mechanism, C: CredentialsProxy> CredSspServer<N, K, C> {
             IfContext self.old.context (Begun c start.context start.handle
             (server_setting C.meaning start) purposes.Inbound None self.old.handle) →
             HasAccepted c C.meaning start d result self.new }
-        ensures state { OnErr result (self.new.state ≡ self.old.state) }
-        ensures version { self.new.version ≡ self.old.version }
+        ensures kept { (self.new.version ≡ self.old.version) × OnErr result (self.new.state ≡ self.old.state) }
         ensures cause { let c = either N.REQUESTS N.meaning K.meaning in (start : ServerView (SspiContext N K) C) (d : TsRequest) →
             request.now ≡ record d { version = self.old.version } → IsLater C.meaning start.proxy self.old.proxy →
             IfContext self.old.context (Begun c start.context start.handle
@@ -223,10 +218,8 @@ impl<N: Mechanism, K: Mechanism, C: CredentialsProxy> CredSspServer<N, K, C> {
             IfErr result (λ error. error.error_type ≢ ErrorKind.InsufficientMemory →
             NegoCause c C.meaning self.new.acts.status start d self.new error.error_type) }
         ensures plain { IfErr result (λ error. error.nstatus ≡ None) }
-        ensures begun { IsSome self.new.context }
-        ensures negotiated { self.new.acts.negotiated ≡ true }
-        ensures proxy { IsAsked C.meaning (look_ups_at self.new.acts.status) self.old.proxy self.new.proxy }
-        ensures asked { OnOk result (HasAsked C.meaning (look_ups_at self.new.acts.status) self.old.proxy self.new.proxy) }
+        ensures reached { HasReached self.new.acts.status self.new }
+        ensures proxy { Asks C.meaning (look_ups_at self.new.acts.status) result self.old.proxy self.new.proxy }
     {
         self.acts.negotiated = true;
         let Some(context) = &mut self.context else {
@@ -243,9 +236,7 @@ impl<N: Mechanism, K: Mechanism, C: CredentialsProxy> CredSspServer<N, K, C> {
     }
 
     fn answer_step(&mut self, status: SecurityStatus, request: &TsRequest) -> Result<Answer, Error>
-        requires acts { self.old.acts ≡ record no_acts { negotiated = true; status = Some status } }
-        requires begun { IsSome self.old.context }
-        requires noted { IsSome self.old.noted }
+        requires { HasDone (record no_acts { negotiated = true; status = Some status }) self.old }
         ensures turn { let c = either N.REQUESTS N.meaning K.meaning in (start : ServerView (SspiContext N K) C) (d : TsRequest) →
             request.now ≡ record d { version = self.old.version } → IsReady c start d self.old → self.old.state ≡ CredSspState.NegoToken →
             Answered c start d result self.new }
@@ -254,19 +245,15 @@ impl<N: Mechanism, K: Mechanism, C: CredentialsProxy> CredSspServer<N, K, C> {
             IfContext self.old.context (Accepted c C.meaning start self.old.handle d.nego_tokens Unknown
             (Ok (record { status = status; output = self.old.output }))) →
             HasAccepted c C.meaning start d result self.new }
-        ensures state { OnErr result (self.new.state ≡ self.old.state) }
-        ensures version { self.new.version ≡ self.old.version }
-        ensures status { self.new.acts.status ≡ Some status }
+        ensures kept { KeepsStep self.old result self.new }
         ensures cause { let c = either N.REQUESTS N.meaning K.meaning in (start : ServerView (SspiContext N K) C) (d : TsRequest) →
             request.now ≡ record d { version = self.old.version } → IsLater C.meaning start.proxy self.old.proxy →
             HasCome c C.meaning Unknown status start d self.old →
             IfErr result (λ error. error.error_type ≢ ErrorKind.InsufficientMemory →
             NegoCause c C.meaning (Some status) start d self.new error.error_type) }
         ensures plain { IfErr result (λ error. error.nstatus ≡ None) }
-        ensures begun { IsSome self.new.context }
-        ensures negotiated { self.new.acts.negotiated ≡ true }
-        ensures proxy { IsAsked C.meaning (look_ups_at self.new.acts.status) self.old.proxy self.new.proxy }
-        ensures asked { OnOk result (HasAsked C.meaning (look_ups_at self.new.acts.status) self.old.proxy self.new.proxy) }
+        ensures reached { HasReached (Some status) self.new }
+        ensures proxy { Asks C.meaning (look_ups_at self.new.acts.status) result self.old.proxy self.new.proxy }
     {
         if status == SecurityStatus::ContinueNeeded {
             return match self.copy_output() {
@@ -293,9 +280,7 @@ impl<N: Mechanism, K: Mechanism, C: CredentialsProxy> CredSspServer<N, K, C> {
 
     // The authentication has ended: the peer is looked up and the context completed, and then the client is answered.
     fn complete(&mut self, request: &TsRequest) -> Result<Answer, Error>
-        requires acts { self.old.acts ≡ record no_acts { negotiated = true; status = self.old.acts.status } }
-        requires begun { IsSome self.old.context }
-        requires noted { IsSome self.old.noted }
+        requires { HasDone (record no_acts { negotiated = true; status = self.old.acts.status }) self.old }
         ensures turn { let c = either N.REQUESTS N.meaning K.meaning in (start : ServerView (SspiContext N K) C) (d : TsRequest) →
             request.now ≡ record d { version = self.old.version } → IsReady c start d self.old → self.old.state ≡ CredSspState.NegoToken →
             IsOver self.old.acts.status → Answered c start d result self.new }
@@ -304,12 +289,8 @@ impl<N: Mechanism, K: Mechanism, C: CredentialsProxy> CredSspServer<N, K, C> {
             IsLater C.meaning start.proxy self.old.proxy →
             IfContext self.old.context (Accepted c C.meaning start self.old.handle token Unknown answer) →
             CompletedStep c C.meaning start self.old.handle token answer result self.new.context }
-        ensures handle { self.new.handle ≡ self.old.handle }
-        ensures output { self.new.output ≡ self.old.output }
-        ensures negotiated { self.new.acts.negotiated ≡ true }
-        ensures state { OnErr result (self.new.state ≡ self.old.state) }
-        ensures version { self.new.version ≡ self.old.version }
-        ensures status { self.new.acts.status ≡ self.old.acts.status }
+        ensures kept { KeepsStep self.old result self.new }
+        ensures reached { HasReached self.old.acts.status self.new }
         ensures cause { let c = either N.REQUESTS N.meaning K.meaning in
             (start : ServerView (SspiContext N K) C) (d : TsRequest) (status : SecurityStatus) →
             request.now ≡ record d { version = self.old.version } → IsLater C.meaning start.proxy self.old.proxy →
@@ -317,9 +298,7 @@ impl<N: Mechanism, K: Mechanism, C: CredentialsProxy> CredSspServer<N, K, C> {
             IfErr result (λ error. error.error_type ≢ ErrorKind.InsufficientMemory →
             OverCause c C.meaning status start d self.new error.error_type) }
         ensures plain { IfErr result (λ error. error.nstatus ≡ None) }
-        ensures begun { IsSome self.new.context }
-        ensures proxy { IsAsked C.meaning 1 self.old.proxy self.new.proxy }
-        ensures asked { OnOk result (HasAsked C.meaning 1 self.old.proxy self.new.proxy) }
+        ensures proxy { Asks C.meaning 1 result self.old.proxy self.new.proxy }
     {
         let Some(context) = &mut self.context else {
             return Err(Error::new(ErrorKind::InternalError, Reason::Status));
@@ -336,22 +315,18 @@ impl<N: Mechanism, K: Mechanism, C: CredentialsProxy> CredSspServer<N, K, C> {
 
     // Answers the proof that came already, or asks for it by the last token.
     fn answer_peer(&mut self, request: &TsRequest) -> Result<Answer, Error>
-        requires acts { self.old.acts ≡ record no_acts { negotiated = true; status = self.old.acts.status } }
-        requires begun { IsSome self.old.context }
-        requires noted { IsSome self.old.noted }
+        requires { HasDone (record no_acts { negotiated = true; status = self.old.acts.status }) self.old }
         ensures turn { let c = either N.REQUESTS N.meaning K.meaning in (start : ServerView (SspiContext N K) C) (d : TsRequest) →
             request.now ≡ record d { version = self.old.version } → IsReady c start d self.old → self.old.state ≡ CredSspState.NegoToken →
             IsOver self.old.acts.status → Answered c start d result self.new }
         ensures frame { self.new ≡ record self.old { state = self.new.state; context = self.new.context; acts = self.new.acts } }
         ensures moved { SameBut (either N.REQUESTS N.meaning K.meaning) self.old.context self.new.context }
         ensures state { OnErr result (self.new.state ≡ self.old.state) }
-        ensures status { self.new.acts.status ≡ self.old.acts.status }
-        ensures negotiated { self.new.acts.negotiated ≡ true }
+        ensures reached { HasReached self.old.acts.status self.new }
         ensures cause { IfErr result (λ error. error.error_type ≢ ErrorKind.InsufficientMemory →
             AfterCause (either N.REQUESTS N.meaning K.meaning) request.now.pub_key_auth request.now.client_nonce self.new
             error.error_type) }
         ensures plain { IfErr result (λ error. error.nstatus ≡ None) }
-        ensures begun { IsSome self.new.context }
     {
         match &request.pub_key_auth {
             Some(_) => match self.exchange(request) {

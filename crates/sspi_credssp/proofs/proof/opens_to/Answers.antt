@@ -1,7 +1,10 @@
-use Rattle.std.proofs.Common.{◌∙◌}
-use Rattle.sspi_credssp.specs.Exchange.{opens_other}
+use Rattle.std.proofs.Common.{◌∙◌, sym}
+use Rattle.sspi_credssp.specs.Context.{either}
+use Rattle.sspi_credssp.proofs.Opened.{opened_as}
 use Rattle.sspi_credssp.proofs.proof.opens_to.Goals as goal
 
-pub returns-in-Ok-clause-other : goal.returns-in-Ok-clause-other
-returns-in-Ok-clause-other g c = λ differs.
-    opens_other c.in-Ok.text.items c.in-Ok.ensures.last (λ same. c.same_bytes.ensures.other differs (c.deref.ensures.value ∙ same))
+pub returns-in-Ok-clause-opens : goal.returns-in-Ok-clause-opens
+returns-in-Ok-clause-opens g c =
+    opened_as (either g.N.Mechanism.REQUESTS g.N.Mechanism.meaning g.K.Mechanism.meaning) _ _ c.in-Ok.text.items _ _ c.in-Ok.ensures.last
+    (λ same. sym c.deref.ensures.value ∙ c.same_bytes.ensures.same same)
+    (λ differs same. c.same_bytes.ensures.other differs (c.deref.ensures.value ∙ same))

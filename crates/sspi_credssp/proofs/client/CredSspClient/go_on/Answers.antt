@@ -13,8 +13,8 @@ returns-in-Ok-clause-step g c = λ start d tries log walked.
     let laws = lawful _ _ g.N.Mechanism.meaning g.K.Mechanism.meaning g.met.N.Mechanism.laws g.met.K.Mechanism.laws in
     let done : answer_of c.args.progress ≡ Done c.in-Ok-Done.step = ap answer_of (c.in-Ok-Done.is ∙ ap Ok c.in-Ok-Done.field-0-is) in
     let walked_done = subst (λ a. StepsTo it start d tries log a c.args.self.now) done walked in
-    rw (c.reply.ensures.status, c.reply.ensures.output, c.reply.ensures.handle)
-    (walked_on it laws start c.args.self.now.handle d.nego_tokens tries log _ _ _ c.reply.ensures.moved walked_done)
+    rw (c.reply.ensures.step.status, c.reply.ensures.step.output, c.reply.ensures.step.handle)
+    (walked_on it laws start c.args.self.now.handle d.nego_tokens tries log _ _ _ c.reply.ensures.step.moved walked_done)
 
 pub returns-in-Err-reply-clause-step : goal.returns-in-Err-reply-clause-step
 returns-in-Err-reply-clause-step g c = λ start d tries log walked.
@@ -22,5 +22,5 @@ returns-in-Err-reply-clause-step g c = λ start d tries log walked.
     let laws = lawful _ _ g.N.Mechanism.meaning g.K.Mechanism.meaning g.met.N.Mechanism.laws g.met.K.Mechanism.laws in
     let done : answer_of c.args.progress ≡ Done c.in-Ok-Done.step = ap answer_of (c.in-Ok-Done.is ∙ ap Ok c.in-Ok-Done.field-0-is) in
     let walked_done = subst (λ a. StepsTo it start d tries log a c.args.self.now) done walked in
-    rw (c.reply.ensures.negotiated, c.reply.ensures.status, c.reply.ensures.output, c.reply.ensures.handle)
-    (walked_on it laws start c.args.self.now.handle d.nego_tokens tries log _ _ _ c.reply.ensures.moved walked_done)
+    rw (c.reply.ensures.step.on.negotiated, c.reply.ensures.step.status, c.reply.ensures.step.output, c.reply.ensures.step.handle)
+    (walked_on it laws start c.args.self.now.handle d.nego_tokens tries log _ _ _ c.reply.ensures.step.moved walked_done)

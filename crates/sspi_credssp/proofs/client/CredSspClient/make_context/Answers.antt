@@ -8,4 +8,7 @@ returns-in-Ok-acquire_credentials_handle-clause-begun g c = is_new c.in-Ok.conte
 
 pub returns-in-Err-acquire_credentials_handle-clause-cause :
     goal.returns-in-Err-acquire_credentials_handle-clause-cause
-returns-in-Err-acquire_credentials_handle-clause-cause g c = λ memory. unacquired c.in-Ok.context (search rules) (search rules)
+returns-in-Err-acquire_credentials_handle-clause-cause g c = record {
+  kind = λ memory. unacquired c.in-Ok.context (search rules) (search rules);
+  plain = search rules;
+}

@@ -65,7 +65,7 @@ returns-in-Err-begin g c =
     (subst (λ v. StopsIf (is_old_in v.context v.least v.noted d.version) DowngradeDetected kind
     (StopsIf (is_altered_in v.context v.noted d.version) MessageAltered kind
     (MadeOr v.context new.context (BeginCause it (ForClient v.mode) Outbound (Some v.credentials) kind) ⊥)))
-    c.forget_last_call.ensures (c.in-Err-begin.ensures.cause memory)) in
+    c.forget_last_call.ensures (c.in-Err-begin.ensures.cause.kind memory)) in
     record {
       turn = search rules;
       steps = record {

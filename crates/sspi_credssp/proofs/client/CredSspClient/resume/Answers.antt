@@ -23,12 +23,12 @@ returns-in-Some g c =
             heeded = record {
               refuses = λ met. let old = met.old in let young = under.ready.young in absurd (cc (old, young));
               only = λ never is. absurd (resumed_never it never start d tries _ c.resume_with.result c.resume_with.new.self
-                  c.resume_with.ensures.cause step is);
+                  c.resume_with.ensures.cause.kind step is);
             };
           };
       stepped = search rules;
       falls = search rules;
-      cause = record { kind = search rules; plain = c.resume_with.ensures.plain };
+      cause = record { kind = search rules; plain = c.resume_with.ensures.cause.plain };
       kept = record {
         same = search rules;
         still = λ start d tries log q awaits.

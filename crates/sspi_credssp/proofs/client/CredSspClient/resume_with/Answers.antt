@@ -37,7 +37,7 @@ returns-clause-still g c = λ start d tries log q same ready nego output walked.
     c.resume-progress.result c.go_on.result
     (search rules) (search rules) (search rules) here (search rules) refl ready_inside
     (context_here _ _ _ here walked_inside) c.resume-progress.ensures.step
-    c.go_on.ensures.refused c.go_on.ensures.kept
+    c.go_on.ensures.still
 
 pub returns-clause-falls : goal.returns-clause-falls
 returns-clause-falls g c =

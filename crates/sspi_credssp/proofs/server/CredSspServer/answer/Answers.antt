@@ -60,7 +60,7 @@ returns-in-Ok-clause-cause g c = λ start d same proxy begun.
     let token : d.nego_tokens ≡ c.args.request.now.nego_tokens = ap (λ (x : TsRequest). x.nego_tokens) (sym same) in
     let new = c.answer_step.new.self in
     subst (λ s. IfErr c.answer_step.result (λ error. error.error_type ≢ InsufficientMemory →
-    NegoCause it g.C.CredentialsProxy.meaning s start d new error.error_type)) (sym c.answer_step.ensures.status)
+    NegoCause it g.C.CredentialsProxy.meaning s start d new error.error_type)) (sym c.answer_step.ensures.reached.status)
     (c.answer_step.ensures.cause start d (search rules) (search rules)
     (accepted c.in-Some.context _ _ (context_here _ _ _ here begun_inside)
     (subst (λ t. it.accepts c.in-Some.context (server_args c.self.inside.credentials_handle t) (Ok c.in-Ok.step) c.accept.new.context)

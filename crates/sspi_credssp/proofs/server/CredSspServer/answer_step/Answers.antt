@@ -27,8 +27,8 @@ returns-then-has_ended-clause-step g c = λ start d told accepted.
     let answered : c.complete.new.self.acts.status ≡ Some c.args.status = search rules in
     let over : IsOver (Some c.args.status) = c.has_ended.ensures.ended c.if-has_ended.true in
     turn_completed it laws tells start c.complete.new.self d c.args.status c.args.self.now.handle c.args.self.now.output
-    c.complete.result c.complete.ensures.negotiated answered (known_over it laws tells c.args.status over)
-    c.complete.ensures.handle c.complete.ensures.output (c.complete.ensures.step start d.nego_tokens _ told accepted)
+    c.complete.result c.complete.ensures.reached.negotiated answered (known_over it laws tells c.args.status over)
+    c.complete.ensures.kept.handle c.complete.ensures.kept.output (c.complete.ensures.step start d.nego_tokens _ told accepted)
 
 pub returns-then-has_ended-clause-cause : goal.returns-then-has_ended-clause-cause
 returns-then-has_ended-clause-cause g c = λ start d same proxy come.
@@ -50,11 +50,8 @@ pub returns-then-has_ended-clause-proxy : goal.returns-then-has_ended-clause-pro
 returns-then-has_ended-clause-proxy g c =
     let over : IsOver (Some c.args.status) = c.has_ended.ensures.ended c.if-has_ended.true in
     let answered : c.complete.new.self.acts.status ≡ Some c.args.status = search rules in
-    asked_as g.C.CredentialsProxy.meaning 1 _ _ _ (over_looks c.args.status over ∙ ap look_ups_at (sym answered)) c.complete.ensures.proxy
-
-pub returns-then-has_ended-clause-asked : goal.returns-then-has_ended-clause-asked
-returns-then-has_ended-clause-asked g c =
-    let over : IsOver (Some c.args.status) = c.has_ended.ensures.ended c.if-has_ended.true in
-    let answered : c.complete.new.self.acts.status ≡ Some c.args.status = search rules in
-    on_ok_asked_as g.C.CredentialsProxy.meaning 1 _ _ _ c.complete.result
-    (over_looks c.args.status over ∙ ap look_ups_at (sym answered)) c.complete.ensures.asked
+    let looks = over_looks c.args.status over ∙ ap look_ups_at (sym answered) in
+    record {
+      at_most = asked_as g.C.CredentialsProxy.meaning 1 _ _ _ looks c.complete.ensures.proxy.at_most;
+      exactly = on_ok_asked_as g.C.CredentialsProxy.meaning 1 _ _ _ c.complete.result looks c.complete.ensures.proxy.exactly;
+    }

@@ -3,22 +3,14 @@ use Rattle.sspi_types.specs.declared.credential_use.CredentialUse.TheVariants.{I
 use Rattle.sspi_credssp.specs.Begun.{Begun, IfContext, OnContext}
 use Rattle.sspi_credssp.specs.Context.{either}
 use Rattle.sspi_credssp.specs.ServerStep.{server_setting}
-use Rattle.sspi_credssp.proofs.ServerBeginning.{new_refused, there_or_not, whatever}
+use Rattle.sspi_credssp.proofs.ServerBeginning.{new_refused, there_or_not, refused_both}
 use Rattle.sspi_credssp.proofs.server.CredSspServer.begin.Goals as goal
 
 pub returns-in-Err-clause-cause : goal.returns-in-Err-clause-cause
-returns-in-Err-clause-cause g c = λ memory.
+returns-in-Err-clause-cause g c =
     let none : c.args.self.now.context ≡ None = search rules in
     let gone : c.make_context.new.self.context ≡ None = search rules in
-    rw (none, gone) (c.in-Err.ensures.cause memory)
-
-pub returns-in-Ok-clause-begun : goal.returns-in-Ok-clause-begun
-returns-in-Ok-clause-begun g c =
-    let it = either g.N.Mechanism.REQUESTS g.N.Mechanism.meaning g.K.Mechanism.meaning in
-    let now = c.args.self.now in
-    whatever c.note_version-in-Ok.result _
-    (subst (λ v. IfContext v.context (Begun it now.context now.handle
-    (server_setting g.C.CredentialsProxy.meaning now) Inbound None v.handle)) (sym c.self-in-None.view_is) c.in-Ok.ensures.begun)
+    record { kind = λ memory. rw (none, gone) (c.in-Err.ensures.cause.kind memory); plain = c.in-Err.ensures.cause.plain }
 
 pub returns-in-Ok-clause-made : goal.returns-in-Ok-clause-made
 returns-in-Ok-clause-made g c =
@@ -26,15 +18,21 @@ returns-in-Ok-clause-made g c =
     let now = c.args.self.now in
     let setting = server_setting g.C.CredentialsProxy.meaning now in
     let made = c.make_context.new.self in
-    subst (λ v. OnContext v.context (Begun it now.context now.handle setting Inbound None v.handle)) (sym c.self-in-None.view_is)
-    (there_or_not made.context (Begun it now.context now.handle setting Inbound None made.handle) c.in-Ok.ensures.begun)
+    record {
+      fresh = search rules;
+      made = subst (λ v. OnContext v.context (Begun it now.context now.handle setting Inbound None v.handle)) (sym c.self-in-None.view_is)
+          (there_or_not made.context (Begun it now.context now.handle setting Inbound None made.handle) c.in-Ok.ensures.begun);
+      unmade = search rules;
+    }
 
 pub returns-in-Ok-clause-refused : goal.returns-in-Ok-clause-refused
 returns-in-Ok-clause-refused g c =
     let it = either g.N.Mechanism.REQUESTS g.N.Mechanism.meaning g.K.Mechanism.meaning in
     let now = c.args.self.now in
-    new_refused it _ c.note_version-in-Ok.result now _ c.args.version (search rules) c.in-Ok.ensures.noted c.in-Ok.ensures.state
+    refused_both c.note_version-in-Ok.result _ _
+    (new_refused it _ c.note_version-in-Ok.result now _ c.args.version (search rules) c.in-Ok.ensures.fresh.0 c.in-Ok.ensures.fresh.1
     (search rules)
     (subst (λ v. IfContext v.context (Begun it now.context now.handle
     (server_setting g.C.CredentialsProxy.meaning now) Inbound None v.handle)) (sym c.self-in-None.view_is) c.in-Ok.ensures.begun)
-    (search rules) (search rules)
+    (search rules) (search rules))
+    (search rules)

@@ -1,7 +1,9 @@
-use Rattle.std.proofs.Common.{◌≡◌, ◌≢◌, IfErr, sym, ◌∙◌, ap, subst, rules}
+use Rattle.std.proofs.Common.{◌≡◌, ◌≢◌, IfErr, OnOk, sym, ◌∙◌, ap, subst, rules}
 use Rattle.sspi_types.specs.declared.error.Error.{Error}
 use Rattle.sspi_types.specs.declared.error_kind.ErrorKind.TheVariants.{InsufficientMemory}
 use Rattle.sspi_credssp.specs.Context.{either}
+use Rattle.sspi_credssp.specs.Proxy.{HasAsked}
+use Rattle.sspi_credssp.specs.ServerAsks.{look_ups_at}
 use Rattle.sspi_credssp.specs.ServerCause.{NegoCause}
 use Rattle.sspi_credssp.specs.ServerStep.{HasAcceptedTurn}
 use Rattle.sspi_credssp.proofs.ContextLaws.{lawful}
@@ -13,13 +15,13 @@ use Rattle.sspi_credssp.proofs.server.CredSspServer.negotiate.Goals.{in-Ok, in-E
 pub returns-clause-turn : goal.returns-clause-turn
 returns-clause-turn g c = λ start d same ready nego output.
     let it = either g.N.Mechanism.REQUESTS g.N.Mechanism.meaning g.K.Mechanism.meaning in
-    let own = sym c.answer.ensures.version in
+    let own = sym c.answer.ensures.kept.0 in
     elim c.match-answer.branch [
       | in-Ok w ↦ went_on it start c.answer.new.self d c.args.request _ w.in-Ok.answer w.with_answer.result c.match-answer.result
           w.result-is same own
           w.with_answer.ensures (w.in-Ok.ensures.turn start d same ready nego output)
       | in-Err w ↦
-          let kept = w.in-Err.ensures.state in
+          let kept = w.in-Err.ensures.kept.1 in
           halted_as it start c.answer.new.self d c.args.request c.self.inside.state _ w.in-Err.error w.refusal.result
           c.match-answer.result w.result-is
           same own (search rules) w.refusal.ensures (w.in-Err.ensures.turn start d same ready nego output)
@@ -52,3 +54,17 @@ returns-clause-cause g c = λ start d same proxy begun.
           subst (λ (x : Error). NegoCause it tells new.acts.status start d new x.error_type) (sym e)
           (w.in-Err.ensures.cause start d same proxy begun (λ lacking. memory (ap (λ (x : Error). x.error_type) e ∙ lacking))))
     ]
+
+pub returns-clause-proxy : goal.returns-clause-proxy
+returns-clause-proxy g c =
+    let p = g.C.CredentialsProxy.meaning in
+    let n = look_ups_at c.answer.new.self.acts.status in
+    let before = c.args.self.now.proxy in
+    let now = c.answer.new.self.proxy in
+    record {
+      at_most = c.answer.ensures.proxy.at_most;
+      exactly = elim c.match-answer.branch [
+        | in-Ok w ↦ subst (λ r. OnOk r (HasAsked p n before now)) (sym w.result-is) w.in-Ok.ensures.proxy.exactly
+        | in-Err w ↦ subst (λ r. OnOk r (HasAsked p n before now)) (sym w.result-is) tt
+      ];
+    }

@@ -3,7 +3,7 @@ use Rattle.std.proofs.lemmas.Bool.{true≢false}
 use Rattle.sspi_types.specs.declared.credential_use.CredentialUse.TheVariants.{Inbound}
 use Rattle.sspi_types.specs.declared.error_kind.ErrorKind.TheVariants.{InsufficientMemory}
 use Rattle.sspi_credssp.specs.declared.state.CredSspState.TheVariants.{NegoToken}
-use Rattle.sspi_credssp.specs.Begun.{Begun, IfContext, OnContext, MadeOr}
+use Rattle.sspi_credssp.specs.Begun.{Begun, OnContext, MadeOr}
 use Rattle.sspi_credssp.specs.Context.{either}
 use Rattle.sspi_credssp.specs.Noted.{VersionStops, is_old}
 use Rattle.sspi_credssp.specs.Acts.{no_acts}
@@ -13,7 +13,7 @@ use Rattle.sspi_credssp.specs.ServerCause.{MakeCause, ServerCause}
 use Rattle.sspi_credssp.specs.ServerStep.{HasAcceptedTurn, server_setting}
 use Rattle.sspi_credssp.specs.ServerTurn.{BeginRefused}
 use Rattle.sspi_credssp.proofs.Asked.{later, asked_on, turn_asked}
-use Rattle.sspi_credssp.proofs.ServerBeginning.{begin_halted, no_step}
+use Rattle.sspi_credssp.proofs.ServerBeginning.{begin_halted, context_there, no_step}
 use Rattle.sspi_credssp.proofs.ServerHeeding.{server_only}
 use Rattle.sspi_credssp.proofs.ServerCauses.{server_cause_past, server_cause_begun}
 use Rattle.sspi_credssp.proofs.server.CredSspServer.process.Goals as goal
@@ -26,11 +26,12 @@ returns-in-Ok g c =
     let d = c.args.ts_request in
     let new = c.take-in-Ok.new.self in
     let ready = c.in-Ok.ensures.ready now d refl c.forget_last_call.ensures in
-    let begun = subst (λ v. IfContext c.begin.new.self.context
+    let begun = context_there c.begin.new.self.context _ c.in-Ok.ensures.passed.0
+    (subst (λ v. OnContext c.begin.new.self.context
     (Begun it v.context v.handle (server_setting p v) Inbound None c.begin.new.self.handle)) c.forget_last_call.ensures
-    c.in-Ok.ensures.begun in
+    c.in-Ok.ensures.made.made) in
     let listed = subst (λ v. IsAsked p (lists_in v.context v.mode) v.proxy c.begin.new.self.proxy) c.forget_last_call.ensures
-    c.in-Ok.ensures.proxy in
+    c.in-Ok.ensures.proxy.at_most in
     let since = later p _ _ _ listed in
     let step : HasAcceptedTurn it p now d c.take-in-Ok.result new = c.take-in-Ok.ensures.step now d (search rules) since begun in
     let cause : IfErr c.take-in-Ok.result (λ refusal. refusal.error.error_type ≢ InsufficientMemory →
@@ -51,16 +52,16 @@ returns-in-Ok g c =
         made = λ idle none.
             let none_before : c.forget_last_call.new.self.context ≡ None = rw c.forget_last_call.ensures none in
             let nego : c.begin.new.self.state ≡ NegoToken =
-            ap (λ v. v.state) c.in-Ok.ensures.frame ∙ c.in-Ok.ensures.fresh none_before in
+            ap (λ v. v.state) c.in-Ok.ensures.frame ∙ c.in-Ok.ensures.made.fresh none_before in
             absurd (true≢false (sym (c.take-in-Ok.ensures.negotiated nego) ∙ idle));
         unmade = search rules;
       };
       proxy = record {
-        at_most = asked_on p _ _ _ _ _ listed c.take-in-Ok.ensures.proxy;
+        at_most = asked_on p _ _ _ _ _ listed c.take-in-Ok.ensures.proxy.at_most;
         exactly = turn_asked p now.proxy c.begin.new.self.proxy new.proxy _ _ c.take-in-Ok.result listed.told_same
             (subst (λ v. HasAsked p (lists_in v.context v.mode) v.proxy c.begin.new.self.proxy) c.forget_last_call.ensures
-            c.in-Ok.ensures.asked)
-            c.take-in-Ok.ensures.asked;
+            c.in-Ok.ensures.proxy.exactly)
+            c.take-in-Ok.ensures.proxy.exactly;
       };
     }
 
@@ -80,10 +81,10 @@ returns-in-Err g c =
     (server_cause_begun it p now new d kind
     (subst (λ v. MadeOr v.context new.context (MakeCause it p v.mode v.proxy new.proxy kind)
     (VersionStops v.least v.noted d.version kind ⊥))
-    c.forget_last_call.ensures (c.in-Err.ensures.cause (rw (sym same) memory)))) in
+    c.forget_last_call.ensures (c.in-Err.ensures.cause.kind (rw (sym same) memory)))) in
     record {
       turn = begin_halted it now new d c.in-Err.error c.refusal.result _
-          (subst (λ v. BeginRefused it v d.version new) c.forget_last_call.ensures c.in-Err.ensures.refused)
+          (subst (λ v. BeginRefused it v d.version new) c.forget_last_call.ensures c.in-Err.ensures.refused.0)
           (search rules) (search rules) c.refusal.ensures;
       step = step;
       cause = record { kind = cause; plain = search rules };
@@ -91,15 +92,15 @@ returns-in-Err g c =
         refuses = λ met.
             let old : is_old c.forget_last_call.new.self.least c.forget_last_call.new.self.noted d.version ≡ true =
             rw c.forget_last_call.ensures met.old in
-            (rw same (c.in-Err.ensures.exact met.begun old), search rules);
+            (rw same (c.in-Err.ensures.looked.too_old met.begun old), search rules);
         only = λ never. server_only it never p now d (Err c.refusal.result) new
-            (λ some. (c.in-Err.ensures.refused.handle (rw c.forget_last_call.ensures some)).1) cause step;
+            (λ some. (c.in-Err.ensures.refused.0.handle (rw c.forget_last_call.ensures some)).1) cause step;
       };
       kept = record {
         altered = search rules;
         made = λ idle none.
             subst (λ v. OnContext new.context (Begun it v.context v.handle (server_setting p v) Inbound None new.handle))
-            c.forget_last_call.ensures c.in-Err.ensures.made;
+            c.forget_last_call.ensures c.in-Err.ensures.made.made;
         unmade = search rules;
       };
       proxy = record { at_most = search rules; exactly = tt };
