@@ -34,7 +34,7 @@ module _ {C : Type 0} (c : Meaning ContextSetting C) where
     pub underway : IsUnderway c start d now
     pub walked : StepsTo c start d tries log (Ask q) now
 
-  -- the step that such a turn takes of its context, and that it refuses a server for its version exactly where that is too old
+  -- the step that such a turn takes of its context, and that it is refused for the age of the server's version exactly there
   pub record ClientSteps (start : ClientView C) (d : TsRequest) (tries : ℕ) (log : List Asked) (result : Result Progress Error)
       (new : ClientView C) : Type 0 where
     pub step : HasStepped c start d tries log result new
@@ -47,8 +47,8 @@ module _ {C : Type 0} (c : Meaning ContextSetting C) where
     pub kind : IfErr result (λ error. error.error_type ≢ InsufficientMemory → ClientCause c old d new error.error_type)
     pub status : IfErr result (λ error. error.nstatus ≡ status_of c old d)
 
-  -- What it leaves alone: a suspended turn waits on, and a server that reports an error or changes its version moves nothing;
-  -- nor does a call that makes no context.
+  -- What it leaves alone: a suspended turn waits on, a server that reports an error or changes its version moves nothing, and
+  -- nor does a call that leaves no context.
   pub record ClientKeeps (old : ClientView C) (d : TsRequest) (result : Result Progress Error) (new : ClientView C) : Type 0 where
     pub waited : is_waiting_in c old.context ≡ true → OnlyForgets old result new
     pub intruded : (start : ClientView C) (d : TsRequest) (tries : ℕ) (log : List Asked) (q : NetworkRequest) →

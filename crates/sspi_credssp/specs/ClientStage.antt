@@ -1,5 +1,5 @@
 -- How far a client has come in the authentication of one call.
-use Rattle.std.specs.Prelude.{◌≡◌, List, ℕ, Option, Some, Result, IsSome, IsErr, true}
+use Rattle.std.specs.Prelude.{◌≡◌, List, ℕ, Some, Result, IsSome, IsErr, true}
 use Rattle.sspi_types.specs.declared.error.Error.{Error}
 use Rattle.sspi_types.specs.declared.security_status.SecurityStatus.{SecurityStatus}
 use Rattle.sspi_mech.specs.declared.step.Progressing.{Progressing}

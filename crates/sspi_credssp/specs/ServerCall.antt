@@ -26,8 +26,8 @@ module _ {C P : Type 0} (c : Meaning ContextSetting C) (p : ProxyMeaning P) wher
     pub made : MakesAlone c p old new
     pub unmade : new.context ≡ None → new ≡ record old { proxy = new.proxy; acts = no_acts; output = [] }
 
-  -- The call is one turn, with one step of the context where it authenticates. A refusal has its cause; for its version a
-  -- client is refused exactly where that is too old. The proxy is asked as often as the step's status wants it.
+  -- The call is one turn, with one step of the context where it authenticates. A refusal has its cause, and one for the age
+  -- of the client's version comes exactly there. The proxy is asked as often as the step's status wants it.
   pub record ServerCall (old : ServerView C P) (d : TsRequest) (result : Result ServerState ServerError) (new : ServerView C P) :
       Type 0 where
     pub turn : ServerGoes c old d result new

@@ -1,15 +1,15 @@
 // The client's turns of the authentication (NegoToken).
-ghost use Rattle.std.specs.Prelude.{◌≡◌, ◌≢◌, ◌<◌, ◌+◌, ℕ, List, [], ◌∷◌, None, Some, true, false, IsSome, IsErr, OnOk, OnErr, IfOk, IfErr};
+ghost use Rattle.std.specs.Prelude.{◌≡◌, ◌≢◌, ◌<◌, ◌+◌, ℕ, List, [], ◌∷◌, None, Some, true, false, IsSome, OnErr, IfErr};
 ghost use Rattle.sspi_names.specs.declared.network.NetworkRequest.{NetworkRequest};
 ghost use Rattle.sspi_mech.specs.Answers.{answer_of, OnAsk};
 ghost use Rattle.sspi_mech.specs.declared.step.Answer.TheVariants as answers;
 ghost use Rattle.sspi_credssp.specs.Acts.{no_acts};
 ghost use Rattle.sspi_credssp.specs.Begun.{Begun, IfContext};
 ghost use Rattle.sspi_credssp.specs.ClientCause.{NegoCause, ProveCause};
-ghost use Rattle.sspi_credssp.specs.Refusal.{IsRefusedBy};
 ghost use Rattle.sspi_credssp.specs.ClientStep.{Asked, StepsTo, HasStepped, OnSuspended, client_requirements, client_args};
 ghost use Rattle.sspi_credssp.specs.Context.{either, ForClient};
 ghost use Rattle.sspi_credssp.specs.Counts.{SameBut, is_waiting_in, left_in};
+ghost use Rattle.sspi_credssp.specs.Refusal.{IsRefusedBy};
 ghost use Rattle.sspi_types.specs.declared.credential_use.CredentialUse.TheVariants as purposes;
 
 use crate::client::CredSspClient;

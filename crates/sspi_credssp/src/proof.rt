@@ -1,5 +1,5 @@
 // The peer's proof: the blob that holds it, and what it opens to.
-ghost use Rattle.std.specs.Prelude.{◌≡◌, ◌≢◌, ◌-◌, ◌<◌, ◌≤◌, ◌==◌, None, Some, true, false, IsTrue, length, IfOk, IfErr, OnErr, OnOk};
+ghost use Rattle.std.specs.Prelude.{◌≡◌, ◌≢◌, ◌==◌, None, Some, true, false, IsTrue, IfOk, IfErr, OnErr, OnOk};
 ghost use Rattle.sspi_mech.specs.Calls.{one_unsealed, ToUnseal};
 ghost use Rattle.sspi_credssp.specs.Context.{either};
 ghost use Rattle.sspi_credssp.specs.Exchange.{IsSealedBlob, BlobStops};

@@ -1,13 +1,13 @@
-ghost use Rattle.std.specs.Prelude.{◌≡◌, ◌≢◌, [], None, true, false, IsSome, IsErr, IfErr, OnOk, OnErr};
+ghost use Rattle.std.specs.Prelude.{◌≡◌, ◌≢◌, [], None, true, false, IsSome, IfErr, OnOk, OnErr};
 ghost use Rattle.sspi_types.specs.declared.credential_use.CredentialUse.TheVariants as purposes;
 ghost use Rattle.sspi_credssp.specs.Acts.{no_acts};
-ghost use Rattle.sspi_credssp.specs.Begun.{Begun, IfContext, OnContext, MadeOr};
+ghost use Rattle.sspi_credssp.specs.Asks.{Asks};
+ghost use Rattle.sspi_credssp.specs.Begun.{Begun, IfContext, MadeOr};
 ghost use Rattle.sspi_credssp.specs.Context.{either};
 ghost use Rattle.sspi_credssp.specs.Counts.{IsUnusedIn};
 ghost use Rattle.sspi_credssp.specs.Noted.{default_least, differs, is_old, VersionStops};
-ghost use Rattle.sspi_credssp.specs.Asks.{Asks};
 ghost use Rattle.sspi_credssp.specs.Peers.{list_calls, lists_in};
-ghost use Rattle.sspi_credssp.specs.Proxy.{IsAsked, HasAsked, IsLater};
+ghost use Rattle.sspi_credssp.specs.Proxy.{IsLater};
 ghost use Rattle.sspi_credssp.specs.Refusal.{IsRefusedBy};
 
 use crate::acts::Acts;

@@ -1,13 +1,12 @@
 // The server's turns of the authentication (NegoToken).
-ghost use Rattle.std.specs.Prelude.{ℕ, List, Option, Result, Ok, ◌≡◌, ◌≢◌, [], map, None, Some, true, false, IsSome, IsTrue, OnOk};
+ghost use Rattle.std.specs.Prelude.{ℕ, List, Option, Result, Ok, ◌≡◌, ◌≢◌, [], map, None, Some, true, false, IsTrue, OnOk};
 ghost use Rattle.std.specs.Prelude.{OnErr, IfOk, IfErr};
 ghost use Rattle.sspi_names.specs.declared.credentials.Credentials.TheVariants as credentials;
-ghost use Rattle.sspi_mech.specs.Calls.{ToName};
 ghost use Rattle.sspi_credssp.specs.Acts.{no_acts};
 ghost use Rattle.sspi_types.specs.declared.credential_use.CredentialUse.TheVariants as purposes;
 ghost use Rattle.sspi_credssp.specs.Begun.{Begun, IfContext};
 ghost use Rattle.sspi_credssp.specs.Context.{either};
-ghost use Rattle.sspi_credssp.specs.Counts.{SameBut, IsUnusedIn};
+ghost use Rattle.sspi_credssp.specs.Counts.{SameBut};
 ghost use Rattle.sspi_credssp.specs.Proxy.{IsAsked, HasAsked, IsLater, AreFound};
 ghost use Rattle.sspi_credssp.specs.ServerCause.{IdentifyCause, LookUpRefused};
 ghost use Rattle.sspi_credssp.specs.ServerTurn.{answered_by};
@@ -166,8 +165,8 @@ fn identify<N: Mechanism, K: Mechanism, C: CredentialsProxy>(
 }
 
 impl<N: Mechanism, K: Mechanism, C: CredentialsProxy> CredSspServer<N, K, C> {
-    ghost use Rattle.sspi_credssp.specs.Server.{ServerView};
     ghost use Rattle.sspi_credssp.specs.Asks.{Asks};
+    ghost use Rattle.sspi_credssp.specs.Server.{ServerView};
     ghost use Rattle.sspi_credssp.specs.ServerAsks.{look_ups_at};
     ghost use Rattle.sspi_credssp.specs.ServerCause.{NegoCause, OverCause, AfterCause};
     ghost use Rattle.sspi_credssp.specs.ServerStage.{HasDone, HasReached, KeepsStep};

@@ -1,4 +1,4 @@
-use Rattle.std.proofs.Common.{◌≡◌, ◌≢◌, Some, IfErr, sym, subst, rules}
+use Rattle.std.proofs.Common.{◌≡◌, ◌≢◌, Some, IfErr, sym, subst}
 use Rattle.sspi_types.specs.declared.error_kind.ErrorKind.TheVariants.{InsufficientMemory}
 use Rattle.sspi_types.specs.declared.security_status.SecurityStatus.TheVariants as statuses
 use Rattle.sspi_credssp.specs.ClientCause.{NegoCause}

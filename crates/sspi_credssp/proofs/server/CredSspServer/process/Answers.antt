@@ -1,4 +1,4 @@
-use Rattle.std.proofs.Common.{◌≡◌, ◌≢◌, [], None, Err, IfErr, true, false, refl, sym, ap, ◌∙◌, subst, rules}
+use Rattle.std.proofs.Common.{◌≡◌, ◌≢◌, None, Err, IfErr, true, false, refl, sym, ap, ◌∙◌, subst, rules}
 use Rattle.std.proofs.lemmas.Bool.{true≢false}
 use Rattle.sspi_types.specs.declared.credential_use.CredentialUse.TheVariants.{Inbound}
 use Rattle.sspi_types.specs.declared.error_kind.ErrorKind.TheVariants.{InsufficientMemory}
@@ -6,9 +6,8 @@ use Rattle.sspi_credssp.specs.declared.state.CredSspState.TheVariants.{NegoToken
 use Rattle.sspi_credssp.specs.Begun.{Begun, OnContext, MadeOr}
 use Rattle.sspi_credssp.specs.Context.{either}
 use Rattle.sspi_credssp.specs.Noted.{VersionStops, is_old}
-use Rattle.sspi_credssp.specs.Acts.{no_acts}
 use Rattle.sspi_credssp.specs.Peers.{lists_in}
-use Rattle.sspi_credssp.specs.Proxy.{IsLater, IsAsked, HasAsked}
+use Rattle.sspi_credssp.specs.Proxy.{IsAsked, HasAsked}
 use Rattle.sspi_credssp.specs.ServerCause.{MakeCause, ServerCause}
 use Rattle.sspi_credssp.specs.ServerStep.{HasAcceptedTurn, server_setting}
 use Rattle.sspi_credssp.specs.ServerTurn.{BeginRefused}
