@@ -41,13 +41,17 @@ use crate::package::PKG_NAME;
 use crate::security_buffer_type::{SECBUFFER_ATTRMASK, SecurityBufferType};
 use crate::security_status::SecurityStatus;
 
-/// No two values of a number enum have the same number.
+/// No two values of an enum of errors, statuses, buffers or credentials have the same number.
 pub fn numbers_are_distinct()
     ensures error_kind { AreDistinct error_kind_number }
     ensures security_status { AreDistinct security_status_number }
     ensures buffer_type { AreDistinct buffer_type_number }
     ensures data_representation { AreDistinct data_representation_number }
     ensures credential_use { AreDistinct credential_use_number }
+{}
+
+/// Nor have two values of an enum of connections or certificates.
+pub fn connection_numbers_are_distinct()
     ensures connection_protocol { AreDistinct connection_protocol_number }
     ensures connection_cipher { AreDistinct connection_cipher_number }
     ensures connection_hash { AreDistinct connection_hash_number }
@@ -55,13 +59,17 @@ pub fn numbers_are_distinct()
     ensures cert_encoding_type { AreDistinct cert_encoding_type_number }
 {}
 
-/// What `from_u32` gives at the number of a value is that value.
+/// What `from_u32` gives at the number of a value is that value, at an enum of errors, statuses, buffers or credentials.
 pub fn values_are_read_back()
     ensures error_kind { AreReadBack error_kind_number }
     ensures security_status { AreReadBack security_status_number }
     ensures buffer_type { AreReadBack buffer_type_number }
     ensures data_representation { AreReadBack data_representation_number }
     ensures credential_use { AreReadBack credential_use_number }
+{}
+
+/// So it is at an enum of connections or certificates.
+pub fn connection_values_are_read_back()
     ensures connection_protocol { AreReadBack connection_protocol_number }
     ensures connection_cipher { AreReadBack connection_cipher_number }
     ensures connection_hash { AreReadBack connection_hash_number }
@@ -69,7 +77,7 @@ pub fn values_are_read_back()
     ensures cert_encoding_type { AreReadBack cert_encoding_type_number }
 {}
 
-/// `==` at a number enum and at `NStatusCode` compares the numbers.
+/// `==` at an enum of errors, statuses, buffers or credentials, and at `NStatusCode`, compares the numbers.
 pub fn equality_is_of_numbers()
     ensures error_kind { ComparesNumbers ⟦<ErrorKind as PartialEq>⟧.eq error_kind_number }
     ensures security_status { ComparesNumbers ⟦<SecurityStatus as PartialEq>⟧.eq
@@ -79,6 +87,11 @@ pub fn equality_is_of_numbers()
         data_representation_number }
     ensures credential_use { ComparesNumbers ⟦<CredentialUse as PartialEq>⟧.eq
         credential_use_number }
+    ensures status { ComparesNumbers ⟦<NStatusCode as PartialEq>⟧.eq (λ code. code.0) }
+{}
+
+/// So it does at an enum of connections or certificates.
+pub fn connection_equality_is_of_numbers()
     ensures connection_protocol { ComparesNumbers ⟦<ConnectionProtocol as PartialEq>⟧.eq
         connection_protocol_number }
     ensures connection_cipher { ComparesNumbers ⟦<ConnectionCipher as PartialEq>⟧.eq
@@ -89,7 +102,6 @@ pub fn equality_is_of_numbers()
         connection_key_exchange_number }
     ensures cert_encoding_type { ComparesNumbers ⟦<CertEncodingType as PartialEq>⟧.eq
         cert_encoding_type_number }
-    ensures status { ComparesNumbers ⟦<NStatusCode as PartialEq>⟧.eq (λ code. code.0) }
 {}
 
 /// The named flags of contexts have the numbers of their tables.

@@ -1,4 +1,4 @@
-use Rattle.sspi_types.proofs.Numbers.{error_kind_test, security_status_test, buffer_type_test, data_representation_test, credential_use_test, connection_protocol_test, connection_cipher_test, connection_hash_test, connection_key_exchange_test, cert_encoding_type_test}
+use Rattle.sspi_types.proofs.Numbers.{error_kind_test, security_status_test, buffer_type_test, data_representation_test, credential_use_test}
 use Rattle.sspi_types.proofs.laws.equality_is_of_numbers.Goals as goal
 
 pub returns-clause-error_kind : goal.returns-clause-error_kind
@@ -15,18 +15,3 @@ returns-clause-data_representation c = data_representation_test
 
 pub returns-clause-credential_use : goal.returns-clause-credential_use
 returns-clause-credential_use c = credential_use_test
-
-pub returns-clause-connection_protocol : goal.returns-clause-connection_protocol
-returns-clause-connection_protocol c = connection_protocol_test
-
-pub returns-clause-connection_cipher : goal.returns-clause-connection_cipher
-returns-clause-connection_cipher c = connection_cipher_test
-
-pub returns-clause-connection_hash : goal.returns-clause-connection_hash
-returns-clause-connection_hash c = connection_hash_test
-
-pub returns-clause-connection_key_exchange : goal.returns-clause-connection_key_exchange
-returns-clause-connection_key_exchange c = connection_key_exchange_test
-
-pub returns-clause-cert_encoding_type : goal.returns-clause-cert_encoding_type
-returns-clause-cert_encoding_type c = cert_encoding_type_test
