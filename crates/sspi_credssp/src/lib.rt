@@ -4,9 +4,10 @@
 //! of the same public key, and only then the client seals its credentials. Each call makes one turn of one delivered request.
 //!
 //! - `CredSspClient` and `CredSspServer`: one `process` a message, and the client's `resume` once a KDC has replied. What a
-//!   turn may do and what it replies is in `specs/ClientTurn.antt` and `specs/ServerTurn.antt`; the order and the causes of the
-//!   refusals in `ClientCause.antt` and `ServerCause.antt`; when a version is noted, or refused for its age, in `Noted.antt`
-//!   and `Heeded.antt`; the step of the context in `ClientStep.antt` and `ServerStep.antt`.
+//!   call promises is one record, in `specs/ClientCall.antt` and `specs/ServerCall.antt`. What a turn may do and what it replies
+//!   is in `ClientTurn.antt` and `ServerTurn.antt`; the order and the causes of the refusals in `ClientCause.antt` and
+//!   `ServerCause.antt`; when a version is noted, or refused for its age, in `Noted.antt` and `Heeded.antt`; the step of the
+//!   context in `ClientStep.antt` and `ServerStep.antt`.
 //! - `SspiContext`: the security context that both drive, a mechanism or a negotiation over both; `specs/Context.antt` has what
 //!   it means.
 //! - `CredentialsProxy`: where a server looks its peers up; `TableProxy` has a list, and `FailingProxy` always fails.
