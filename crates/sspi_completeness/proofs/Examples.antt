@@ -60,24 +60,24 @@ never_ip (inr (inl tail)) = never_tail tail
 never_ip (inr (inr elided)) =
     let never : false ≡ true = ap has_colon elided.parts ∙ colon_found elided.head (58 ∷ elided.tail) in cc
 
-not_named : IsTrue false ↔ IsNamedByIp (Some example_target)
+pub not_named : IsTrue false ↔ IsNamedByIp (Some example_target)
 not_named = (λ is. absurd (cc (is)), λ named. absurd (never_ip named))
 
 -- ---- the KDC
 
-length-first_key : (name : List ℕ) → length (first_key name) ≡ 32
+pub length-first_key : (name : List ℕ) → length (first_key name) ≡ 32
 unfolding first_key
 length-first_key name = length-sha256 _
 
-length-session_key : (both : List ℕ) → length (session_key both) ≡ 32
+pub length-session_key : (both : List ℕ) → length (session_key both) ≡ 32
 unfolding session_key
 length-session_key both = length-sha256 _
 
-first_replied : (name url : List ℕ) (call : ℕ) →
+pub first_replied : (name url : List ℕ) (call : ℕ) →
     told_by (name ∷ []) [] call (request_at url (as_request name)) ≡ Answered (as_reply (first_key name))
 first_replied name url call = rw (same_bytes name name refl) refl
 
-session_replied : (users : List (List ℕ)) (key ticket url : List ℕ) (call : ℕ) → length key ≡ 32 → length ticket ≡ 32 →
+pub session_replied : (users : List (List ℕ)) (key ticket url : List ℕ) (call : ℕ) → length key ≡ 32 → length ticket ≡ 32 →
     told_by users [] call (request_at url (tgs_request key ticket)) ≡ Answered (tgs_reply (session_key (key ++ ticket)))
 session_replied users key ticket url call one two =
     let both : length (key ++ ticket) ≡ 64 = omega (arith, length-append key ticket, one, two) in rw both refl
@@ -95,7 +95,7 @@ first_served identity url = record {
 
 -- ---- the picks
 
-picked_kerberos : pick (offered protocols.Kerberos (record { ntlm = true; kerberos = true })) (record { ntlm = true; kerberos = true })
+pub picked_kerberos : pick (offered protocols.Kerberos (record { ntlm = true; kerberos = true })) (record { ntlm = true; kerberos = true })
     protocols.Kerberos ≡ Some (record { choice = choices.MsKerberos; index = 0 })
 unfolding kind_of
 picked_kerberos = refl
@@ -105,7 +105,7 @@ picked_ntlm : pick (offered protocols.Kerberos (record { ntlm = true; kerberos =
 unfolding kind_of
 picked_ntlm = refl
 
-picked_first : pick (offered protocols.Ntlm (record { ntlm = true; kerberos = true })) (record { ntlm = true; kerberos = true })
+pub picked_first : pick (offered protocols.Ntlm (record { ntlm = true; kerberos = true })) (record { ntlm = true; kerberos = true })
     protocols.Ntlm ≡ Some (record { choice = choices.Ntlm; index = 0 })
 unfolding kind_of
 picked_first = refl
@@ -121,7 +121,7 @@ none_served domain = at (length domain == 0)
     at true = refl
     at false = refl
 
-never_served : (domain : Option (List ℕ)) → protocols.Ntlm ≡ begins_with false (record { ntlm = true; kerberos = true }) protocols.Ntlm
+pub never_served : (domain : Option (List ℕ)) → protocols.Ntlm ≡ begins_with false (record { ntlm = true; kerberos = true }) protocols.Ntlm
     (url_for [] domain)
 never_served None = refl
 never_served (Some domain) =

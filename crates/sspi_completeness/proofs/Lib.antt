@@ -39,3 +39,5 @@ pub mod PlainSettled
 pub mod Modes
 pub mod ThreeTurns
 pub mod Examples
+pub mod WorkedEnds
+pub mod WorkedMatches

@@ -1,3 +1,4 @@
 pub mod Examples
 pub mod Matching
 pub mod Negotiating
+pub mod Worked

@@ -6,5 +6,6 @@
 
 pub mod laws;
 pub mod plain;
+pub mod worked;
 
 pub use plain::delegate_plainly;

@@ -1,0 +1,105 @@
+-- Ends made as an example has them match, and come to its answer.
+use Rattle.std.proofs.Common.{◌≡◌, ℕ, ◌<◌, ◌≤◌, ◌-◌, ◌^◌, List, [], ◌∷◌, length, Option, Some, nat_lt, Result, refl, ap, sym, ◌∙◌, subst}
+use Rattle.std.proofs.Common.{arith}
+use Rattle.sspi_names.specs.declared.identity.AuthIdentity.{AuthIdentity}
+use Rattle.sspi_names.specs.Equality.{ignoring_case-equiv}
+use Rattle.sspi_names.specs.declared.network.NetworkRequest.{NetworkRequest}
+use Rattle.sspi_mech.specs.declared.step.Reply.{Reply}
+use Rattle.sspi_tsreq.specs.declared.mode.CredSspMode.{CredSspMode}
+use Rattle.sspi_credssp.specs.declared.mode.ClientMode.{ClientMode}
+use Rattle.sspi_credssp.specs.declared.mode.ServerMode.{ServerMode}
+use Rattle.sspi_credssp.specs.declared.turn.Turn.{Turn}
+use Rattle.sspi_credssp.specs.Client.{ClientView}
+use Rattle.sspi_credssp.specs.Proxy.{entry_of}
+use Rattle.sspi_credssp.specs.Server.{ServerView}
+use Rattle.sspi_credssp.specs.Table.{TableView, table_meaning}
+use Rattle.sspi_delegate.specs.declared.answer.Delegation.{Delegation}
+use Rattle.sspi_delegate.specs.declared.answer.DelegateError.{DelegateError}
+use Rattle.sspi_delegate.specs.declared.carried.Carried.{Carried}
+use Rattle.sspi_delegate.specs.declared.edit.Edit.{Edit}
+use Rattle.sspi_delegate.specs.Edits.{MemoryLinkView}
+use Rattle.sspi_delegate.specs.Headline.{IsFresh}
+use Rattle.sspi_completeness.specs.Examples.{example_target}
+use Rattle.sspi_completeness.specs.Matching.{AreMatching, HasEntry, MatchModes, messages_of, messages_in, delegated_as, ComesToOkIn, IsCutShort}
+use Rattle.sspi_completeness.specs.Matching.{NoneFailed, none_told, IsUndisturbed, unedited}
+use Rattle.sspi_completeness.specs.Worked.{Example, IsClientOf, IsServerOf, Matches, AnswersIn}
+
+-- a table that begins with an identity has it
+pub own_entry : (identity : AuthIdentity) → HasEntry (identity ∷ []) identity
+unfolding entry_of
+own_entry identity = record {
+  entry = identity;
+  found = rw (ignoring_case-equiv.refl identity.username) refl;
+  password = refl;
+}
+
+-- a new link without edits disturbs nothing
+pub undisturbed : {new : List Carried} {before now : ℕ} (link : MemoryLinkView) (edits : List Edit) →
+    link ≡ record { log = []; edits = edits; faults = 0 } → edits ≡ [] → IsUndisturbed (Some link.edits) link.log new before now
+undisturbed link edits is none =
+    unedited (ap (λ (l : MemoryLinkView). Some l.edits) is ∙ ap Some none) (ap (λ (l : MemoryLinkView). l.log) is)
+
+-- what holds of modes holds of equal ones
+module _ (told : Option (ℕ → NetworkRequest → Reply)) (call messages : ℕ) (identity : AuthIdentity) where
+  abbrev pub MatchesAt : List ℕ → ClientMode → ServerMode → Type 0
+  MatchesAt target client server =
+      (modes : MatchModes told call target identity client server)
+      × (messages_of told call target identity client server modes ≡ messages)
+
+  pub carried : (target : List ℕ) (client client2 : ClientMode) (server server2 : ServerMode) → target ≡ example_target → client ≡ client2 →
+      server ≡ server2 → MatchesAt example_target client2 server2 → MatchesAt target client server
+  carried target client client2 server server2 at same same2 matches =
+      subst (λ (t : List ℕ). MatchesAt t client server) (sym at)
+      (subst (λ (c : ClientMode). MatchesAt example_target c server) (sym same)
+      (subst (λ (s : ServerMode). MatchesAt example_target client2 s) (sym same2) matches))
+
+module _ {C : Type 0} (told : Option (ℕ → NetworkRequest → Reply)) (call messages : ℕ) (x : Example) (client : ClientView C)
+    (server : ServerView C TableView) (client_is : IsClientOf x client) (server_is : IsServerOf x server)
+    (matches : Matches told call messages x) where
+  abbrev pub modes : MatchesAt told call messages x.identity client.target client.mode server.mode
+  modes = carried told call messages x.identity client.target client.mode x.client server.mode x.server client_is.target client_is.mode
+      server_is.mode (matches.modes, matches.counted)
+
+  abbrev pub matched : AreMatching table_meaning told call client server
+  matched = record {
+    identity = x.identity;
+    modes = modes.0;
+    key_same = server_is.public_key ∙ sym client_is.public_key;
+    key_short = omega (arith, ap length client_is.public_key, matches.key_short);
+    versions = rw (client_is.version, server_is.version) matches.versions;
+    client_takes = omega (arith, client_is.least, server_is.version, matches.client_takes);
+    server_takes = omega (arith, server_is.least, client_is.version, matches.server_takes);
+    credentials_are = client_is.credentials;
+    short = matches.short;
+    entries = x.identity ∷ [];
+    tells = ap (λ (proxy : TableView). Some proxy.entries) server_is.proxy;
+    entry = own_entry x.identity;
+    identity_is = matches.identity_is;
+    client_version = omega (arith, client_is.version, matches.client_version);
+    server_version = omega (arith, server_is.version, matches.server_version);
+    nonce = client_is.nonce;
+  }
+
+  counted : messages_in matched ≡ messages
+  counted = modes.1
+
+  pub fresh_ends : {turns : List Turn} → turns ≡ [] → IsFresh client server turns
+  fresh_ends none = record { client_is = client_is.fresh; server_is = server_is.fresh; empty = none }
+
+  -- no look-up of its proxy fails
+  pub none_fails : {now : ℕ} → NoneFailed (Some server.proxy.failing) server.proxy.faults now
+  none_fails = none_told (ap (λ (proxy : TableView). Some proxy.failing) server_is.proxy)
+      (let faults = ap (λ (proxy : TableView). proxy.faults) server_is.proxy in omega (arith, faults))
+
+  pub answered : (turns : ℕ) (answer : Result Delegation DelegateError) →
+      ((m : AreMatching table_meaning told call client server) → messages_in m ≤ turns →
+      ComesToOkIn (messages_in m) (delegated_as client.delegation m.identity) answer) →
+      ((m : AreMatching table_meaning told call client server) → turns < messages_in m → IsCutShort answer) →
+      AnswersIn messages turns (delegated_as x.delegation x.identity) answer
+  answered turns answer comes short = record {
+    comes = λ enough.
+        subst (λ (n : ℕ). ComesToOkIn n (delegated_as x.delegation x.identity) answer) counted
+        (subst (λ (d : CredSspMode). ComesToOkIn (messages_in matched) (delegated_as d x.identity) answer) client_is.delegation
+        (comes matched (omega (arith, counted, enough))));
+    short = λ few. short matched (omega (arith, counted, few));
+  }

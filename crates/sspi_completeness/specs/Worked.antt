@@ -1,0 +1,198 @@
+-- Exchanges worked by hand: what the two ends of each are made of, that they match, and what comes of them.
+use Rattle.std.specs.Prelude.{◌≡◌, ℕ, ◌^◌, ◌<◌, ◌≤◌, List, [], ◌∷◌, length, codes, replicate, nat_lt, Option, None, Some, Result}
+use Rattle.sspi_names.specs.declared.credentials.Credentials.TheVariants as credentials
+use Rattle.sspi_names.specs.declared.identity.AuthIdentity.{AuthIdentity}
+use Rattle.sspi_names.specs.declared.kdc_table.KdcEntry.{KdcEntry}
+use Rattle.sspi_names.specs.declared.network.NetworkRequest.{NetworkRequest}
+use Rattle.sspi_names.specs.Identity.{IsIdentity}
+use Rattle.sspi_names.specs.Name.{Name, down_level, principal}
+use Rattle.sspi_mech.specs.declared.config.KerberosConfig.{KerberosConfig}
+use Rattle.sspi_mech.specs.declared.config.NtlmConfig.{NtlmConfig}
+use Rattle.sspi_mech.specs.declared.step.Reply.{Reply}
+use Rattle.sspi_mech.specs.PlainKdc.{PlainKdcState}
+use Rattle.sspi_negotiate.specs.declared.negotiate_config.NegotiateConfig.{NegotiateConfig}
+use Rattle.sspi_negotiate.specs.declared.protocol_config.ProtocolConfig.{ProtocolConfig}
+use Rattle.sspi_negotiate.specs.declared.protocol_config.ProtocolConfig.TheVariants as configs
+use Rattle.sspi_tsreq.specs.declared.mode.CredSspMode.{CredSspMode}
+use Rattle.sspi_tsreq.specs.declared.mode.CredSspMode.TheVariants.{WithCredentials, CredentialLess}
+use Rattle.sspi_credssp.specs.declared.mode.ClientMode.{ClientMode}
+use Rattle.sspi_credssp.specs.declared.mode.ClientMode.TheVariants as client_mode
+use Rattle.sspi_credssp.specs.declared.mode.ServerMode.{ServerMode}
+use Rattle.sspi_credssp.specs.declared.mode.ServerMode.TheVariants as server_mode
+use Rattle.sspi_credssp.specs.Client.{ClientView, IsFreshClient}
+use Rattle.sspi_credssp.specs.Server.{ServerView, IsFreshServer}
+use Rattle.sspi_credssp.specs.Table.{TableView}
+use Rattle.sspi_delegate.specs.declared.answer.Delegation.{Delegation}
+use Rattle.sspi_delegate.specs.declared.answer.DelegateError.{DelegateError}
+use Rattle.sspi_completeness.specs.Examples.{example_target}
+use Rattle.sspi_completeness.specs.Matching.{MatchModes, messages_of, IsShort, key_limit, ComesToOkIn, IsCutShort}
+
+-- ---- what an exchange is made of
+
+-- The key of the channel, whom the client authenticates and the server knows, whether the client delegates its credentials, the
+-- versions, the least that both ends take, and how each end authenticates.
+pub record Example : Type 0 where
+  pub key : List ℕ
+  pub identity : AuthIdentity
+  pub delegation : CredSspMode
+  pub client_version : ℕ
+  pub server_version : ℕ
+  pub least : ℕ
+  pub client : ClientMode
+  pub server : ServerMode
+
+-- its client, to which nothing was delivered
+pub record IsClientOf {C : Type 0} (x : Example) (client : ClientView C) : Type 0 where
+  pub fresh : IsFreshClient client
+  pub public_key : client.public_key ≡ x.key
+  pub credentials : client.credentials ≡ credentials.AuthIdentity x.identity
+  pub delegation : client.delegation ≡ x.delegation
+  pub version : client.version ≡ x.client_version
+  pub least : client.least ≡ x.least
+  pub mode : client.mode ≡ x.client
+  pub target : client.target ≡ example_target
+  pub nonce : length client.nonce ≡ 32
+
+-- its server, to which nothing was delivered, and whose proxy knows the client alone
+pub record IsServerOf {C : Type 0} (x : Example) (server : ServerView C TableView) : Type 0 where
+  pub fresh : IsFreshServer server
+  pub public_key : server.public_key ≡ x.key
+  pub proxy : server.proxy ≡ record { entries = x.identity ∷ []; failing = []; calls = 0; faults = 0 }
+  pub version : server.version ≡ x.server_version
+  pub least : server.least ≡ x.least
+  pub mode : server.mode ≡ x.server
+
+-- The ends match, and the client makes so many messages; `told` and `call` are what its KDC tells, and the number of its next call.
+pub record Matches (told : Option (ℕ → NetworkRequest → Reply)) (call messages : ℕ) (x : Example) : Type 0 where
+  pub identity_is : IsIdentity x.identity
+  pub short : IsShort x.identity
+  pub key_short : length x.key ≤ key_limit
+  pub versions : nat_lt x.client_version 5 ≡ nat_lt x.server_version 5
+  pub client_takes : x.least ≤ x.server_version
+  pub server_takes : x.least ≤ x.client_version
+  pub client_version : x.client_version < 2 ^ 32
+  pub server_version : x.server_version < 2 ^ 32
+  pub modes : MatchModes told call example_target x.identity x.client x.server
+  pub counted : messages_of told call example_target x.identity x.client x.server modes ≡ messages
+
+-- ---- what comes of it
+
+-- Ok after so many messages of the client, with this identity, where it may make as many, and else the turns are spent; or there
+-- was no memory.
+pub record AnswersIn (messages turns : ℕ) (identity : AuthIdentity) (answer : Result Delegation DelegateError) : Type 0 where
+  pub comes : messages ≤ turns → ComesToOkIn messages identity answer
+  pub short : turns < messages → IsCutShort answer
+
+-- ---- who delegates
+
+abbrev pub identity_by : Name → List ℕ → AuthIdentity
+identity_by name password = record { username = name; password = record { value = password } }
+
+-- DOM\ann, and ann@example.com
+abbrev pub ann : AuthIdentity
+ann = identity_by (down_level (codes "ann") (codes "DOM")) (codes "pw")
+
+abbrev pub ann_of_realm : List ℕ → AuthIdentity
+ann_of_realm password = identity_by (principal (codes "ann") (codes "example.com")) password
+
+-- who comes of a client that keeps its credentials
+abbrev pub nobody : AuthIdentity
+nobody = identity_by (down_level [] []) []
+
+-- ---- how the ends authenticate
+
+abbrev pub computer : List ℕ
+computer = codes "CLIENT"
+
+abbrev pub client_ntlm : NtlmConfig
+client_ntlm = record { client_computer_name = Some computer; challenge = replicate 8 0 }
+
+abbrev pub server_ntlm : NtlmConfig
+server_ntlm = record { client_computer_name = None; challenge = replicate 8 0 }
+
+-- the KDC that serves the realm of ann@example.com
+abbrev pub realm_table : List KdcEntry
+realm_table = record { realm = codes "EXAMPLE.COM"; url = codes "tcp://kdc" } ∷ []
+
+-- a KDC that knows ann@example.com alone, and was not asked yet
+abbrev pub realm_kdc : PlainKdcState
+realm_kdc = record { users = codes "ann@example.com" ∷ []; script = []; asked = 0; faults = 0 }
+
+-- a negotiation that begins with this mechanism
+abbrev pub negotiation : ProtocolConfig → Option (List ℕ) → List KdcEntry → NegotiateConfig
+negotiation first packages kdcs = record {
+  protocol_config = first;
+  package_list = packages;
+  client_computer_name = computer;
+  kdcs = kdcs;
+}
+
+abbrev pub with_ntlm : NtlmConfig → NegotiateConfig
+with_ntlm config = negotiation (configs.Ntlm config) None []
+
+-- Kerberos, whose KDC is that of the realm
+abbrev pub realm_kerberos : KerberosConfig
+realm_kerberos = record { kdc_url = None; kdcs = realm_table; client_computer_name = computer }
+
+-- a client with Kerberos in hand, which finds its KDC by the realm of its name
+abbrev pub with_kerberos : NegotiateConfig
+with_kerberos = negotiation (configs.Kerberos realm_kerberos) None realm_table
+
+-- a server with Kerberos in hand and a ticket, and one that may use NTLM alone
+abbrev pub with_ticket : NegotiateConfig
+with_ticket =
+    negotiation (configs.KerberosServer realm_kerberos (record { ticket = Some (replicate 32 0x11) })) None realm_table
+
+abbrev pub with_ntlm_alone : NegotiateConfig
+with_ntlm_alone = negotiation (configs.Ntlm server_ntlm) (Some (codes "ntlm")) realm_table
+
+-- ---- the exchanges
+
+abbrev pub plain : CredSspMode → ℕ → ℕ → ℕ → Example
+plain delegation client_version server_version least = record {
+  key = 1 ∷ 2 ∷ 3 ∷ [];
+  identity = ann;
+  delegation = delegation;
+  client_version = client_version;
+  server_version = server_version;
+  least = least;
+  client = client_mode.Ntlm client_ntlm;
+  server = server_mode.Ntlm server_ntlm;
+}
+
+abbrev pub negotiated : List ℕ → AuthIdentity → ℕ → ℕ → NegotiateConfig → NegotiateConfig → Example
+negotiated key identity version least client server = record {
+  key = key;
+  identity = identity;
+  delegation = WithCredentials;
+  client_version = version;
+  server_version = version;
+  least = least;
+  client = client_mode.Negotiate client;
+  server = server_mode.Negotiate server;
+}
+
+-- NTLM without a negotiation; at versions below 5; and of a client that keeps its credentials
+abbrev pub by_ntlm : Example
+by_ntlm = plain WithCredentials 6 6 5
+
+abbrev pub by_ntlm_of_old : Example
+by_ntlm_of_old = plain WithCredentials 2 4 0
+
+abbrev pub without_credentials : Example
+without_credentials = plain CredentialLess 5 6 5
+
+-- a negotiation of NTLM at version 4; over the key of a channel, of 270 bytes
+abbrev pub negotiated_at_version_4 : Example
+negotiated_at_version_4 = negotiated (1 ∷ 2 ∷ 3 ∷ []) ann 4 4 (with_ntlm client_ntlm) (with_ntlm server_ntlm)
+
+abbrev pub negotiated_with_a_long_key : Example
+negotiated_with_a_long_key =
+    negotiated (replicate 270 0x3B) (ann_of_realm (codes "fourteenletter")) 6 5 (with_ntlm client_ntlm) (with_ntlm server_ntlm)
+
+-- a negotiation that the client begins with Kerberos: the server picks it, or may use NTLM alone
+abbrev pub user_to_user : Example
+user_to_user = negotiated (1 ∷ 2 ∷ 3 ∷ []) (ann_of_realm (codes "pw")) 6 5 with_kerberos with_ticket
+
+abbrev pub given_up_for_ntlm : Example
+given_up_for_ntlm = negotiated (1 ∷ 2 ∷ 3 ∷ []) (ann_of_realm (codes "pw")) 6 5 with_kerberos with_ntlm_alone
