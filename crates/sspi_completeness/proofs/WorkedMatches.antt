@@ -1,6 +1,6 @@
 -- The ends of the examples match.
-use Rattle.std.proofs.Common.{◌≡◌, ℕ, ◌<◌, ◌≤◌, ◌^◌, ◌∷◌, ◌++◌, [], List, length, codes, replicate, false, true, nat_lt, Option, Some, None, Result}
-use Rattle.std.proofs.Common.{Ok, Err, refl, ap, sym, ◌∙◌, subst, arith, lit≤}
+use Rattle.std.proofs.Common.{◌≡◌, ℕ, ◌<◌, ◌≤◌, ◌^◌, ◌∷◌, ◌++◌, [], List, codes, replicate, false, nat_lt, Option, Some, Result}
+use Rattle.std.proofs.Common.{Ok, Err, refl, ap, sym, subst, arith, lit≤}
 use Rattle.std.specs.Prelude.{IfOk}
 use Rattle.std.specs.Str.{IsUtf8, chars, is_utf8}
 use Rattle.std.proofs.lemmas.Str.{IsUtf8-from_is_utf8}
@@ -9,13 +9,12 @@ use Rattle.sspi_names.specs.declared.identity.AuthIdentity.{AuthIdentity}
 use Rattle.sspi_names.specs.declared.network.NetworkRequest.{NetworkRequest}
 use Rattle.sspi_names.specs.Identity.{IsIdentity, buffers_of}
 use Rattle.sspi_names.specs.Kdcs.{url_of}
-use Rattle.sspi_names.specs.Name.{Name, IsName, domain_of, inner_of, parse_name, down_level, principal}
+use Rattle.sspi_names.specs.Name.{domain_of, inner_of, parse_name, down_level, principal}
 use Rattle.sspi_names.specs.Utf16.{units_of, text_of}
 use Rattle.sspi_names.proofs.CodeUnits.{text_of-units_of}
 use Rattle.sspi_mech.specs.declared.step.Reply.{Reply}
 use Rattle.sspi_mech.specs.PlainKdc.{PlainKdcState, told_by, first_key, session_key}
 use Rattle.sspi_tokens.specs.Oids.{kind_of}
-use Rattle.sspi_negotiate.specs.declared.negotiate_config.NegotiateConfig.{NegotiateConfig}
 use Rattle.sspi_negotiate.specs.declared.pick.Choice.TheVariants as choices
 use Rattle.sspi_negotiate.specs.declared.protocol.Protocol.TheVariants as protocols
 use Rattle.sspi_negotiate.specs.declared.protocol_config.ProtocolConfig.TheVariants as configs
@@ -27,11 +26,11 @@ use Rattle.sspi_negotiate.specs.Pick.{pick, offered}
 use Rattle.sspi_negotiate.specs.Rows.{is_guest_text}
 use Rattle.sspi_tsreq.specs.declared.mode.CredSspMode.{CredSspMode}
 use Rattle.sspi_completeness.specs.Examples.{example_target, example_kdc}
-use Rattle.sspi_completeness.specs.Matching.{IsShort, key_limit}
-use Rattle.sspi_completeness.specs.Negotiating.{AreNegotiating, HasFirstKey, kdc_url, messages_by}
-use Rattle.sspi_completeness.specs.Worked.{Example, Matches, identity_by, ann, ann_of_realm, realm_table, realm_kerberos, client_ntlm, server_ntlm}
-use Rattle.sspi_completeness.specs.Worked.{with_ntlm, with_kerberos, with_ticket, with_ntlm_alone, plain, negotiated}
-use Rattle.sspi_completeness.specs.Worked.{by_ntlm, by_ntlm_of_old, without_credentials, negotiated_at_version_4, negotiated_with_a_long_key}
+use Rattle.sspi_completeness.specs.Matching.{IsShort}
+use Rattle.sspi_completeness.specs.Negotiating.{AreNegotiating, HasFirstKey, kdc_url}
+use Rattle.sspi_completeness.specs.Worked.{Example, Matches, ann, ann_of_realm, realm_kerberos, client_ntlm, server_ntlm}
+use Rattle.sspi_completeness.specs.Worked.{with_ntlm, with_kerberos, with_ticket, with_ntlm_alone, plain}
+use Rattle.sspi_completeness.specs.Worked.{negotiated_at_version_4, negotiated_with_a_long_key}
 use Rattle.sspi_completeness.specs.Worked.{user_to_user, given_up_for_ntlm, realm_kdc}
 use Rattle.sspi_completeness.proofs.Examples.{not_named, never_served, picked_kerberos, picked_first, length-first_key, length-session_key}
 use Rattle.sspi_completeness.proofs.Examples.{first_replied, session_replied}
