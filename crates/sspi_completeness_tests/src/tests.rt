@@ -42,13 +42,7 @@ fn ntlm_takes_three_messages(rt: HostRuntime) {
 #[test]
 fn negotiations_take_four_or_five(rt: HostRuntime) {
     let alloc = rt.alloc();
-    comes_to(
-        &rt,
-        negotiated_at_version_4(alloc, 5),
-        4,
-        "DOM\\ann",
-        "pw",
-    );
+    comes_to(&rt, negotiated_at_version_4(alloc, 5), 4, "DOM\\ann", "pw");
     comes_to(
         &rt,
         negotiated_with_a_long_key(alloc, 5),
