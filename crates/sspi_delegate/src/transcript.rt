@@ -40,6 +40,13 @@ impl Transcript {
         &self.turns
     }
 
+    /// The turns themselves, the first one first. Takes no memory.
+    pub fn into_turns(self) -> Vec<Turn>
+        ensures { result.items ≡ reverse self.turns }
+    {
+        self.turns
+    }
+
     /// Makes room for one more turn.
     pub(crate) fn reserve(&mut self) -> Result<(), AllocError>
         ensures turns { self.new.turns ≡ self.old.turns }
@@ -59,8 +66,8 @@ impl Transcript {
         }
     }
 
-    /// The last turn.
-    pub(crate) fn newest(&self) -> Option<&Turn>
+    /// The last turn. Takes no memory.
+    pub fn newest(&self) -> Option<&Turn>
         ensures { option_copied result ≡ slice_get self.now.turns 0 }
     {
         self.turns.last()
