@@ -1,0 +1,166 @@
+-- What a client and its server are as a seat.
+use Rattle.std.proofs.Common.{◌≡◌, ℕ, suc, ◌+◌, ◌⊎◌, inl, inr, ◌≤◌, List, [], ◌∷◌, ◌++◌, length, reverse, Option, None, Some, Err, refl, sym, ap, ◌∙◌, subst, arith}
+use Rattle.std.proofs.lemmas.List.{reverse-reverse, length-append, length-reverse}
+use Rattle.std.specs.List.{slice_get}
+use Rattle.sspi_mech.specs.Meaning.{Meaning}
+use Rattle.sspi_mech.specs.Context.{IsContext}
+use Rattle.sspi_tsreq.specs.declared.request.TsRequest.{TsRequest}
+use Rattle.sspi_credssp.specs.declared.context.SspiContext.{SspiContext}
+use Rattle.sspi_credssp.specs.declared.turn.Turn.{Turn}
+use Rattle.sspi_credssp.specs.Client.{ClientView, IsFreshClient}
+use Rattle.sspi_credssp.specs.Context.{ContextSetting}
+use Rattle.sspi_credssp.specs.Proxy.{ProxyMeaning}
+use Rattle.sspi_credssp.specs.Server.{ServerView}
+use Rattle.sspi_delegate.specs.declared.answer.DelegateError.TheVariants as errors
+use Rattle.sspi_delegate.specs.Asking.{KdcCalls}
+use Rattle.sspi_delegate.specs.ClientRun.{client_end}
+use Rattle.sspi_delegate.specs.EndTurns.{client_turns, server_turns, OthersGoOn}
+use Rattle.sspi_delegate.specs.History.{ClientHistory}
+use Rattle.sspi_delegate.specs.ServerRun.{ServerEnd, server_end}
+use Rattle.sspi_delegate.specs.Turns.{AllGoOn}
+use Rattle.sspi_delegate.proofs.Headline.{sealed_once, seals_after_proof}
+use Rattle.sspi_delegate.proofs.Heeding.{client_past_heeds}
+use Rattle.sspi_delegate.proofs.Histories.{client_stopped_history}
+use Rattle.sspi_delegate.proofs.HistoryRuns.{client_past_ran}
+use Rattle.sspi_desk.specs.Desk.{DeskView, session}
+use Rattle.sspi_desk.specs.declared.answer.DeskError.{DeskError}
+use Rattle.sspi_desk.specs.declared.answer.Served.{Served}
+use Rattle.sspi_seats.specs.Guest.{OthersStay, AreClients, IsSeatOf, Runs, HasEnded, IsVisited, StandsBy}
+use Rattle.sspi_seats.specs.Messages.{AreServed}
+use Rattle.sspi_seats.specs.Outcomes.{Shows}
+use Rattle.sspi_seats.specs.Seat.{Place, ClientCame, ClientRuns, IsSeat}
+use Rattle.sspi_seats.specs.Table.{AreKept, AreSeats, HasLeft, IsKept}
+use Rattle.sspi_seats.specs.declared.guest.Guest.{Guest}
+use Rattle.sspi_seats.specs.declared.seat.Seat.{Seat}
+use Rattle.sspi_seats.specs.declared.seat.SeatOutcome.{SeatOutcome}
+use Rattle.sspi_seats.specs.declared.seat.SeatOutcome.TheVariants as seats
+use Rattle.sspi_seats.proofs.Lists.{last_or_before, get_at, no_element}
+
+-- as many calls as turns
+pub served_count : (turns : List Turn) (calls : List (List ℕ)) (answers : List _) → AreServed turns calls answers → length calls ≡ length turns
+served_count [] [] [] served = refl
+served_count [] [] (answer ∷ answers) served = absurd served
+served_count [] (bytes ∷ calls) answers served = absurd served
+served_count (t ∷ turns) [] answers served = absurd served
+served_count (t ∷ turns) (bytes ∷ calls) [] served = absurd served
+served_count (t ∷ turns) (bytes ∷ calls) (answer ∷ answers) served = ap suc (served_count turns calls answers served.2)
+
+others_of : (turns : List Turn) → AllGoOn turns → OthersGoOn turns
+others_of [] go = tt
+others_of (t ∷ turns) go = go.1
+
+module _ {C D : Type 0} (c : Meaning ContextSetting C) (k : KdcCalls D) (first now : ClientView C) (kdc kdc2 : D) (turns : List Turn) where
+  -- whatever the outcome
+  came_history : (out : SeatOutcome) → ClientCame c k first kdc out turns now kdc2 → ClientHistory c k first kdc turns now kdc2
+  came_history (seats.Ok n identity) came = came
+  came_history (seats.Client error) came = client_stopped_history c k first now kdc kdc2 error turns came
+  came_history (seats.Server error) came = came
+  came_history (seats.Read end kind) came = came
+  came_history (seats.Write end) came = came
+  came_history seats.TurnsSpent came = came
+
+  -- `server` is any
+  runs_by : {P : Type 0} (law : IsContext c) (server : ServerView C P) → IsFreshClient first → AreClients turns → OthersGoOn turns →
+      ClientHistory c k first kdc turns now kdc2 → ClientRuns c first now turns
+  runs_by law server fresh own others history =
+      let ran = client_past_ran c law k first now kdc kdc2 turns (Err errors.TurnsSpent) fresh others history in
+      record {
+        client_ran = ran;
+        client_heeds = client_past_heeds c law k first now kdc kdc2 turns (Err errors.TurnsSpent) fresh others history;
+        credentials_are_sealed_at_most_once = sealed_once c (client_end now) (server_end server) turns (rw own.all ran.each) (rw own.all others)
+            (rw own.none tt);
+        the_client_seals_after_the_proof = seals_after_proof c (client_end now) turns ran.each;
+      }
+
+module _ {N K P D : Type 0} (c : Meaning ContextSetting (SspiContext N K)) (p : ProxyMeaning P) (k : KdcCalls D)
+    (came : Place (SspiContext N K) P D) where
+  -- the same of a client that could go on
+  ended_by : (limit : ℕ) (guest : Guest N K D) (next : Option TsRequest) → StandsBy c p k came next limit guest →
+      Shows limit guest.outcome guest.transcript.turns (reverse guest.calls) (reverse guest.answers)
+      × ClientCame c k came.client came.kdc guest.outcome guest.transcript.turns guest.client guest.kdc
+      × AreClients guest.transcript.turns × OthersGoOn guest.transcript.turns × (length guest.transcript.turns ≤ limit)
+  ended_by limit guest None ended = (ended.shown limit, ended.history, ended.own, ended.others, ended.count)
+  ended_by limit guest (Some request) runs = rw runs.turned.spent (
+    (
+      runs.served,
+      served_count guest.transcript.turns (reverse guest.calls) (reverse guest.answers) runs.served ∙ runs.turned.count,
+      request,
+      runs.next,
+    ),
+    runs.turned.history,
+    runs.turned.own,
+    others_of guest.transcript.turns runs.turned.go,
+    omega (arith, runs.turned.count),
+  )
+
+  pub seat_of : (law : IsContext c) (limit : ℕ) (guest : Guest N K D) (server : ServerView (SspiContext N K) P) (seat : Seat N K P D) →
+      IsVisited c p k came limit guest server → IsSeatOf guest server seat → IsSeat c p k came limit seat
+  seat_of law limit guest server seat visited is =
+      let all = ended_by limit guest guest.next visited.stands in
+      let turns : reverse seat.turns ≡ guest.transcript.turns = ap reverse is.turns ∙ reverse-reverse guest.transcript.turns in
+      record {
+        turns_calls_and_answers_show_the_outcome = rw (is.outcome, turns, is.calls, is.answers) all.0;
+        turns_are_the_clients_calls = rw (is.outcome, turns, is.client_is, is.kdc_is) all.1;
+        the_server_answers_as_if_alone = rw (is.calls, is.answers, is.server_is) visited.alone;
+        no_more_turns_than_may_be = rw is.turns (omega (arith, length-reverse guest.transcript.turns, all.4));
+        the_client_runs = λ fresh. rw (turns, is.client_is)
+            (runs_by c k came.client guest.client came.kdc guest.kdc guest.transcript.turns law server fresh all.2 all.3
+            (came_history c k came.client guest.client came.kdc guest.kdc guest.transcript.turns guest.outcome all.1));
+      }
+
+  -- one more has left
+  pub left_more : (count limit : ℕ) (old new : List (Seat N K P D)) → AreSeats c p k came count limit old → HasLeft c p k came limit old new →
+      AreSeats c p k came (count + 1) limit new
+  left_more count limit old new are left = record {
+    seats_are = omega (arith, ap (λ (l : List (Seat N K P D)). length l) left.added, length-append old (left.seat ∷ []), are.seats_are);
+    each = λ i seat found. elim (last_or_before old left.seat i seat (rw left.added at found)) [
+      | inl before ↦ are.each i seat before
+      | inr last ↦ subst (IsSeat c p k came limit) last.1 left.is
+    ];
+  }
+
+  -- the session of a client that is kept
+  pub kept_at : (limit : ℕ) (guest : Guest N K D) (at : Option (ServerView (SspiContext N K) P)) (server : ServerView (SspiContext N K) P) →
+      at ≡ Some server → IsKept c p k came limit guest at → IsVisited c p k came limit guest server
+  kept_at limit guest None server is kept = absurd kept
+  kept_at limit guest (Some found) server is kept =
+      let same : found ≡ server = cc (is) in
+      subst (λ (s : ServerView (SspiContext N K) P). IsVisited c p k came limit guest s) same kept
+
+  -- the clients that have not left have their sessions
+  pub record HaveLeft (limit : ℕ) (first : DeskView (SspiContext N K) P) (gone : ℕ) (seats : List (Seat N K P D))
+      (desk : DeskView (SspiContext N K) P) : Type 0 where
+    pub seats_are : AreSeats c p k came gone limit seats
+    pub rest : (i : ℕ) → gone ≤ i → session i desk ≡ session i first
+
+  pub none_left : (limit : ℕ) (first : DeskView (SspiContext N K) P) (seats : List (Seat N K P D)) → seats ≡ [] →
+      HaveLeft limit first 0 seats first
+  none_left limit first seats none = record {
+    seats_are = record {
+      seats_are = ap (λ (l : List (Seat N K P D)). length l) none;
+      each = λ i seat found. absurd (no_element seat i (rw none at found));
+    };
+    rest = λ i past. refl;
+  }
+
+  -- the client that leaves stands with its server
+  pub next_kept : (limit : ℕ) (first : DeskView (SspiContext N K) P) (gone rest guests : List (Guest N K D)) (guest : Guest N K D)
+      (seats : List (Seat N K P D)) (desk : DeskView (SspiContext N K) P) → gone ++ guest ∷ rest ≡ guests → AreKept c p k came limit guests first →
+      HaveLeft limit first (length gone) seats desk → IsKept c p k came limit guest (session (length seats) desk)
+  next_kept limit first gone rest guests guest seats desk parts kept left =
+      let found : slice_get guests (length gone) ≡ Some guest = ap (λ (l : List (Guest N K D)). slice_get l (length gone)) (sym parts) ∙ get_at gone guest rest in
+      let count : length seats ≡ length gone = left.seats_are.seats_are in
+      rw (count, left.rest (length gone) (omega arith)) (kept (length gone) guest found)
+
+  pub more_left : (limit : ℕ) (first : DeskView (SspiContext N K) P) (gone : List (Guest N K D)) (guest : Guest N K D)
+      (seats seats2 : List (Seat N K P D)) (desk desk2 : DeskView (SspiContext N K) P) → HaveLeft limit first (length gone) seats desk →
+      HasLeft c p k came limit seats seats2 → OthersStay (length seats) desk desk2 →
+      HaveLeft limit first (length (gone ++ guest ∷ [])) seats2 desk2
+  more_left limit first gone guest seats seats2 desk desk2 left one others =
+      let count : length seats ≡ length gone = left.seats_are.seats_are in
+      let more : length (gone ++ guest ∷ []) ≡ length gone + 1 = length-append gone (guest ∷ []) in
+      record {
+        seats_are = rw more (left_more (length gone) limit seats seats2 left.seats_are one);
+        rest = λ i past. others.others i (λ same. absurd (omega (arith, same, count, more, past)))
+            ∙ left.rest i (omega (arith, more, past));
+      }

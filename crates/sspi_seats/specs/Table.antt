@@ -1,0 +1,56 @@
+-- All seats of a table; the client of each has the session of its number.
+use Rattle.std.specs.Prelude.{◌≡◌, ℕ, ◌+◌, ◌<◌, ◌≤◌, List, [], ◌∷◌, ◌++◌, length, Option, None, Some}
+use Rattle.std.specs.List.{slice_get}
+use Rattle.sspi_mech.specs.Meaning.{Meaning}
+use Rattle.sspi_credssp.specs.declared.context.SspiContext.{SspiContext}
+use Rattle.sspi_credssp.specs.Context.{ContextSetting}
+use Rattle.sspi_credssp.specs.Proxy.{ProxyMeaning}
+use Rattle.sspi_credssp.specs.Server.{ServerView}
+use Rattle.sspi_delegate.specs.Asking.{KdcCalls}
+use Rattle.sspi_desk.specs.Desk.{DeskView, session}
+use Rattle.sspi_seats.specs.Guest.{IsVisited}
+use Rattle.sspi_seats.specs.Seat.{Place, IsSeat}
+use Rattle.sspi_seats.specs.declared.guest.Guest.{Guest}
+use Rattle.sspi_seats.specs.declared.seat.Seat.{Seat}
+use Rattle.sspi_seats.specs.declared.table.Table.{Table}
+
+module _ {N K P D : Type 0} where
+  -- nobody has come yet
+  pub record IsEmpty (table : Table N K P D) : Type 0 where
+    pub guests : table.guests.items ≡ []
+    pub admitted : table.desk.admitted ≡ 0
+
+module _ {N K P D : Type 0} (c : Meaning ContextSetting (SspiContext N K)) (p : ProxyMeaning P) (k : KdcCalls D)
+    (came : Place (SspiContext N K) P D) where
+  -- the session is kept, and its server stands with its client after so many rounds
+  abbrev pub IsKept : ℕ → Guest N K D → Option (ServerView (SspiContext N K) P) → Type 0
+  IsKept rounds guest None = ⊥
+  IsKept rounds guest (Some server) = IsVisited c p k came rounds guest server
+
+  -- each of these clients has the session of its place, and they have had so many rounds
+  abbrev pub AreKept : ℕ → List (Guest N K D) → DeskView (SspiContext N K) P → Type 0
+  AreKept rounds guests desk = (i : ℕ) (guest : Guest N K D) → slice_get guests i ≡ Some guest → IsKept rounds guest (session i desk)
+
+  -- So many clients are seated, each has its session, and they have had so many rounds; those of the seats below `first` one more.
+  pub record AreVisited (count rounds first : ℕ) (table : Table N K P D) : Type 0 where
+    pub early : (i : ℕ) (guest : Guest N K D) → slice_get table.guests.items i ≡ Some guest → i < first →
+        IsKept (rounds + 1) guest (session i table.desk)
+    pub late : (i : ℕ) (guest : Guest N K D) → slice_get table.guests.items i ≡ Some guest → first ≤ i →
+        IsKept rounds guest (session i table.desk)
+    pub seated : length table.guests.items ≡ count
+
+  -- so many have come, and none has made a turn
+  pub record AreSeated (count : ℕ) (table : Table N K P D) : Type 0 where
+    pub visited : AreVisited count 0 0 table
+    pub admitted : table.desk.admitted ≡ count
+
+  -- the seats of so many
+  pub record AreSeats (count limit : ℕ) (seats : List (Seat N K P D)) : Type 0 where
+    pub seats_are : length seats ≡ count
+    pub each : (i : ℕ) (seat : Seat N K P D) → slice_get seats i ≡ Some seat → IsSeat c p k came limit seat
+
+  -- the seat of one client more
+  pub record HasLeft (limit : ℕ) (old new : List (Seat N K P D)) : Type 0 where
+    pub seat : Seat N K P D
+    pub added : new ≡ old ++ seat ∷ []
+    pub is : IsSeat c p k came limit seat

@@ -1,0 +1,211 @@
+ghost use Rattle.std.specs.Prelude.{◌≡◌, ◌+◌, ◌++◌, ℕ, [], ◌∷◌, None, Some, IsErr, OnOk, is_some};
+ghost use Rattle.sspi_credssp.specs.Context.{either};
+ghost use Rattle.sspi_credssp.specs.declared.context.SspiContext.{SspiContext};
+ghost use Rattle.sspi_credssp.specs.Server.{ServerView};
+ghost use Rattle.sspi_delegate.specs.Asking.{kdc_calls};
+ghost use Rattle.sspi_desk.specs.Alone.{Alone};
+ghost use Rattle.sspi_desk.specs.Desk.{session, Serves};
+ghost use Rattle.sspi_seats.specs.Guest.{IsNew, IsSeatOf, IsSpeaking, KeepsCall, OthersStay};
+ghost use Rattle.sspi_seats.specs.Seat.{Place};
+ghost use Rattle.sspi_seats.specs.Table.{IsKept};
+
+use crate::hearing::{Heard, hear, message, refusal};
+use crate::seat::{Seat, SeatOutcome};
+use sspi_credssp::{CredSspClient, CredSspServer, CredentialsProxy, End};
+use sspi_delegate::{ClientRound, Transcript, client_round};
+use sspi_desk::{Desk, DeskError, Served};
+use sspi_mech::{Kdc, Mechanism};
+use sspi_scenario::Rows;
+use sspi_tsreq::TsRequest;
+use sspi_types::Bytes;
+use std::alloc::{AllocError, Global};
+
+/// A client that has a session, and what it did there so far.
+#[derive(Drop)]
+pub(crate) struct Guest<N, K, D> {
+    client: CredSspClient<N, K>,
+    kdc: D,
+    /// The client's turns.
+    transcript: Transcript,
+    calls: Rows<Bytes>,
+    answers: Rows<Result<Served, DeskError>>,
+    /// What the client takes next; none once it came to its outcome.
+    next: Option<TsRequest>,
+    outcome: SeatOutcome,
+}
+
+impl<N, K, D> Guest<N, K, D> {
+    /// A client that has made no turn at its seat.
+    pub(crate) fn new(alloc: Global, client: CredSspClient<N, K>, kdc: D) -> Guest<N, K, D>
+        ensures { IsNew client kdc result }
+    {
+        Guest {
+            client,
+            kdc,
+            transcript: Transcript::new(alloc),
+            calls: Rows::new(alloc),
+            answers: Rows::new(alloc),
+            next: Some(TsRequest::default()),
+            outcome: SeatOutcome::TurnsSpent,
+        }
+    }
+
+    /// Whether the client has not come to its outcome.
+    pub(crate) fn runs(&self) -> bool
+        ensures { result ≡ is_some self.now.next }
+    {
+        self.next.is_some()
+    }
+
+    /// The seat, once the desk has handed out the server.
+    pub(crate) fn seat<C>(self, server: CredSspServer<N, K, C>) -> Seat<N, K, C, D>
+        ensures { IsSeatOf self server result }
+    {
+        let Guest {
+            client,
+            kdc,
+            transcript,
+            calls,
+            answers,
+            next: _next,
+            outcome,
+        } = self;
+        Seat {
+            client,
+            kdc,
+            server,
+            turns: Rows::from_vec(transcript.into_turns()),
+            calls,
+            answers,
+            outcome,
+        }
+    }
+}
+
+impl<N: Mechanism, K: Mechanism, D: Kdc> Guest<N, K, D> {
+    /// A round of a client: where it still runs, it makes its turn with that number, and the desk serves its message.
+    pub(crate) fn visit<C: CredentialsProxy>(
+        &mut self,
+        alloc: Global,
+        desk: &mut Desk<N, K, C>,
+        number: u64,
+        turn: u32,
+    ) -> Result<(), AllocError>
+        ensures visited { let c = either N.REQUESTS N.meaning K.meaning in let k = kdc_calls D.told D.asked D.faults in
+            (came : Place (SspiContext N K) C D) (rounds : ℕ) → turn ≡ rounds + 1 →
+            IsKept c C.meaning k came rounds self.old (session number desk.old) →
+            OnOk result (IsKept c C.meaning k came turn self.new (session number desk.new)) }
+        ensures others { OthersStay number desk.old desk.new }
+    {
+        let Some(request) = self.next.take() else {
+            return Ok(());
+        };
+        match client_round(
+            alloc,
+            &mut self.client,
+            &mut self.kdc,
+            &mut self.transcript,
+            request,
+        ) {
+            ClientRound::Replied => self.speak(alloc, desk, number, turn),
+            ClientRound::Refused(error) => match refusal(error) {
+                Ok(outcome) => {
+                    put(&mut self.outcome, outcome);
+                    Ok(())
+                }
+                Err(error) => Err(error),
+            },
+            ClientRound::Lost => Err(AllocError),
+        }
+    }
+
+    /// The desk serves the message of the client's last turn, which is that of this number.
+    fn speak<C: CredentialsProxy>(
+        &mut self,
+        alloc: Global,
+        desk: &mut Desk<N, K, C>,
+        number: u64,
+        turn: u32,
+    ) -> Result<(), AllocError>
+        ensures visited { let c = either N.REQUESTS N.meaning K.meaning in let k = kdc_calls D.told D.asked D.faults in
+            (came : Place (SspiContext N K) C D) (server : ServerView (SspiContext N K) C) → self.old.next ≡ None →
+            IsSpeaking c C.meaning k came turn self.old → Alone c C.meaning came.server self.old.calls self.old.answers server →
+            session number desk.old ≡ Some server →
+            OnOk result (IsKept c C.meaning k came turn self.new (session number desk.new)) }
+        ensures others { OthersStay number desk.old desk.new }
+    {
+        match message(alloc, &self.transcript) {
+            Ok(Some(bytes)) => {
+                let answer = serve(desk, number, &bytes);
+                let heard = hear(alloc, turn, &answer);
+                self.keep(bytes, answer, heard)
+            }
+            Ok(None) => {
+                put(&mut self.outcome, SeatOutcome::Write(End::Client));
+                Ok(())
+            }
+            Err(error) => Err(error),
+        }
+    }
+}
+
+impl<N, K, D> Guest<N, K, D> {
+    /// Keeps a call and its answer, and goes on by what the answer means.
+    fn keep(
+        &mut self,
+        bytes: Bytes,
+        answer: Result<Served, DeskError>,
+        heard: Result<Heard, AllocError>,
+    ) -> Result<(), AllocError>
+        ensures { OnOk result (KeepsCall bytes answer heard self.old self.new) }
+    {
+        match heard {
+            Ok(Heard::Next(request)) => put(&mut self.next, Some(request)),
+            Ok(Heard::Ends(outcome)) => put(&mut self.outcome, outcome),
+            Err(error) => return lost(bytes, answer, error),
+        }
+        push_both(&mut self.calls, bytes, &mut self.answers, answer)
+    }
+}
+
+/// The desk serves this session.
+fn serve<N: Mechanism, K: Mechanism, C: CredentialsProxy>(
+    desk: &mut Desk<N, K, C>,
+    number: u64,
+    bytes: &Bytes,
+) -> Result<Served, DeskError>
+    ensures serves { Serves (either N.REQUESTS N.meaning K.meaning) C.meaning number bytes.now result desk.old desk.new }
+    ensures others { OthersStay number desk.old desk.new }
+{
+    desk.serve(number, bytes.as_slice())
+}
+
+/// Puts a value in the place of another. Generic, as what follows is, since to drop a value of a type parameter is one step.
+fn put<T: Drop>(place: &mut T, value: T)
+    ensures { place.new ≡ value }
+{
+    *place = value;
+}
+
+fn push_both<A: Drop, B: Drop>(
+    firsts: &mut Rows<A>,
+    first: A,
+    seconds: &mut Rows<B>,
+    second: B,
+) -> Result<(), AllocError>
+    ensures { OnOk result ((firsts.new ≡ firsts.old ++ first ∷ []) × (seconds.new ≡ seconds.old ++ second ∷ [])) }
+{
+    firsts.push(first)?;
+    seconds.push(second)
+}
+
+/// Gives up what cannot be kept.
+pub(crate) fn lost<A: Drop, B: Drop, T>(
+    _first: A,
+    _second: B,
+    error: AllocError,
+) -> Result<T, AllocError>
+    ensures { IsErr result }
+{
+    Err(error)
+}

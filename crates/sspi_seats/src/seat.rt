@@ -1,0 +1,41 @@
+use sspi_ber::WireKind;
+use sspi_credssp::{CredSspClient, CredSspServer, End, Turn};
+use sspi_desk::{DeskError, Served};
+use sspi_names::AuthIdentity;
+use sspi_scenario::Rows;
+use sspi_types::{Bytes, Error};
+
+/// A client that had a session at a desk, and its server, both as they were left.
+#[derive(Drop)]
+pub struct Seat<N, K, C, D> {
+    pub client: CredSspClient<N, K>,
+    /// The KDC that the client asked.
+    pub kdc: D,
+    /// The server, as the desk handed it out.
+    pub server: CredSspServer<N, K, C>,
+    /// The turns of the client, the first one first.
+    pub turns: Rows<Turn>,
+    /// What the session was served, each the bytes of a message of the client, the first one first.
+    pub calls: Rows<Bytes>,
+    /// What the desk answered to each of them.
+    pub answers: Rows<Result<Served, DeskError>>,
+    pub outcome: SeatOutcome,
+}
+
+/// What a client and its session came to.
+#[derive(Drop)]
+pub enum SeatOutcome {
+    /// The server has these credentials, after so many turns of the client.
+    Ok(u32, AuthIdentity),
+    /// The client refused its last turn.
+    Client(Error),
+    /// The server refused.
+    Server(Error),
+    /// What this end was sent is no request. The kind is `UnexpectedEof` where it ends too early or its header is at fault, and else
+    /// `InvalidData`.
+    Read(End, WireKind),
+    /// The message of this end is longer than a message may be.
+    Write(End),
+    /// The client made as many turns as it may, each was served, and the client could go on.
+    TurnsSpent,
+}
