@@ -13,6 +13,8 @@ pub enum Purpose {
     Play,
     /// Its ends carry their messages to each other over a link, and then its server tells who may log on.
     Early,
+    /// Many of its clients are served at one desk, which delivers what was sent.
+    Sessions,
 }
 
 impl Purpose {
@@ -33,6 +35,7 @@ impl Purpose {
             Purpose::Exchange => !matches!(key, Key::Deliver | Key::Admit),
             Purpose::Play => !matches!(key, Key::Turns | Key::Edit | Key::Admit),
             Purpose::Early => !matches!(key, Key::Deliver),
+            Purpose::Sessions => !matches!(key, Key::Edit | Key::Deliver | Key::Admit),
         }
     }
 }

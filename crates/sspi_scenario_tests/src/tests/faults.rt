@@ -84,6 +84,14 @@ const FAULTS_OF_AN_EARLY: [(&str, usize); 4] = [
     ("admit ann", 0),
 ];
 
+/// The same for the sessions of a desk, which have a limit of turns, and no link that changes messages.
+const FAULTS_OF_SESSIONS: [(&str, usize); 4] = [
+    ("turns 5\nproxy-fail 9\nedit 0 drop", 3),
+    ("turns 5\ndeliver client", 2),
+    ("admit ann", 1),
+    ("turns 5\nturns 5", 2),
+];
+
 fn is_refused(rt: &impl Abort, alloc: Global, purpose: Purpose, text: &str, line: usize) {
     match Scenario::parse(alloc, purpose, text.as_bytes()) {
         Err(ScenarioError::Line(found)) => assert!(rt; found == line, "{line} {text}"),
@@ -101,5 +109,8 @@ fn faults_are_found_at_their_lines(rt: HostRuntime) {
     }
     for (text, line) in FAULTS_OF_AN_EARLY {
         is_refused(&rt, rt.alloc(), Purpose::Early, text, line);
+    }
+    for (text, line) in FAULTS_OF_SESSIONS {
+        is_refused(&rt, rt.alloc(), Purpose::Sessions, text, line);
     }
 }
