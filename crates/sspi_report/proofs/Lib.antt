@@ -1,3 +1,4 @@
 pub mod Telling
 pub mod PlayLines
 pub mod SummaryLines
+pub mod SeatLines

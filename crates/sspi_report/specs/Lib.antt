@@ -7,3 +7,4 @@ pub mod Gate
 pub mod Early
 pub mod Audit
 pub mod Summary
+pub mod Seats

@@ -12,6 +12,7 @@ pub mod laws;
 mod names;
 mod outcome;
 pub mod play;
+pub mod seats;
 pub mod summary;
 
 pub use audit::audit_line;
@@ -19,4 +20,5 @@ pub use delegation::report;
 pub use early::early_report;
 pub use gate::gate_line;
 pub use play::play_report;
+pub use seats::{seat_line, seats_report};
 pub use summary::{Kind, Summary, summary_text};

@@ -1,5 +1,6 @@
 mod entries;
 mod outcomes;
+mod seats;
 
 use sspi_delegate::{Carried, DelegateError, Delegation};
 use sspi_report::report;
