@@ -8,7 +8,7 @@ use Rattle.sspi_scenario.specs.Reading.{ReadsText}
 use Rattle.sspi_scenario.specs.Scenario.{scenario_of}
 use Rattle.sspi_program.specs.declared.command.Command.TheVariants.{Told, Gen}
 use Rattle.sspi_program.specs.declared.command.Task.{Task}
-use Rattle.sspi_program.specs.declared.command.Task.TheVariants.{Delegate, Play, Gate, Audit, Early}
+use Rattle.sspi_program.specs.declared.command.Task.TheVariants.{Delegate, Play, Gate, Audit, Early, Desk}
 use Rattle.sspi_program.specs.declared.record.Conducted.{Conducted}
 use Rattle.sspi_program.specs.declared.record.Record.{Record}
 use Rattle.sspi_program.specs.declared.said.Said.{Said}
@@ -16,14 +16,17 @@ use Rattle.sspi_program.specs.declared.said.Said.TheVariants.{Done, NoScenario, 
 use Rattle.sspi_program.specs.Audit.{IsAudited}
 use Rattle.sspi_program.specs.Commands.{purpose_of}
 use Rattle.sspi_program.specs.Delegate.{HasExchange}
+use Rattle.sspi_program.specs.Desk.{HasSeats, SeatsDue, seats_status}
 use Rattle.sspi_program.specs.Early.{HasEarly, IsEarlyTold}
 use Rattle.sspi_program.specs.Gate.{IsGated}
+use Rattle.sspi_report.specs.Seats.{seats_text}
 use Rattle.sspi_report.specs.Summary.{summary_text}
 use Rattle.sspi_program.specs.Generate.{AreNumbered, TallyDue, summary_of}
-use Rattle.sspi_program.specs.Kept.{nothing, keeping, tallying, HasRecordAlone, HasTallyAlone}
+use Rattle.sspi_program.specs.Kept.{nothing, keeping, seating, tallying, HasRecordAlone, HasTallyAlone, HasSeatsAlone}
 use Rattle.sspi_program.specs.Play.{HasPlay}
-use Rattle.sspi_program.specs.Promises.{KeepsRecord, KeepsTally, Keeps, KeptDue}
-use Rattle.sspi_program.specs.Run.{IsTold, Comes, CarriesOut, Conducts, Generates, SumsUp}
+use Rattle.sspi_program.specs.Promises.{KeepsRecord, KeepsTally, KeepsSeats, Keeps, KeptDue}
+use Rattle.sspi_program.specs.Run.{IsTold, Comes, CarriesOut, Conducts, Generates, SumsUp, SaysOfSeats}
+use Rattle.sspi_program.specs.Seats.{PlainSeat}
 use Rattle.sspi_program.specs.Said.{status_of, RecordDue, IsDue, SaysOf, SaysWith}
 
 -- ---- a record that is said
@@ -114,6 +117,33 @@ generates count tally ReadFault has said = said
 generates count tally OtherWords has said = said
 generates count tally NoMemory has said = tt
 
+-- ---- sessions
+
+seats_alone : (c : Conducted) (seats : List PlainSeat) → c ≡ seating c.status seats → c.seats ≡ Some seats → HasSeatsAlone c
+seats_alone c seats made kept = made ∙ ap (λ (k : Option (List PlainSeat)). record (nothing c.status) { seats = k }) (sym kept)
+
+sits : (count : ℕ) (scenario : Scenario) (seats : List PlainSeat) → HasSeats count scenario seats → (c : Conducted) (text : List ℕ) →
+    c ≡ seating c.status seats → IsDue (SeatsDue seats) c.status text →
+    KeepsSeats count (λ s. s ≡ scenario) c × IsDue (λ status t. IsSomeAnd c.seats (λ k. SeatsDue k status t)) c.status text
+sits count scenario seats has c text made told =
+    let kept : c.seats ≡ Some seats = ap (λ (d : Conducted). d.seats) made in
+    ((rw kept (scenario, refl, has), seats_alone c seats made kept), rw kept told)
+
+-- with a text of which there was memory
+pub seats_done : (status : ℕ) (seats : List PlainSeat) (c : Conducted) (text : List ℕ) → c ≡ seating status seats →
+    status ≡ seats_status seats → text ≡ seats_text seats → (c ≡ seating c.status seats) × IsDue (SeatsDue seats) c.status text
+seats_done status seats c text made is told =
+    let same : c.status ≡ status = ap (λ (d : Conducted). d.status) made in
+    (made ∙ ap (λ (n : ℕ). seating n seats) (sym same), inl (same ∙ is, told))
+
+pub conducts_seats : (count : ℕ) (scenario : Scenario) (seats : List PlainSeat) (said : Said) → HasSeats count scenario seats →
+    SaysOfSeats seats said → Conducts (Desk count) scenario said
+conducts_seats count scenario seats (Done c text) has said = sits count scenario seats has c text.items said.0 said.1
+conducts_seats count scenario seats (NoScenario line) has said = said
+conducts_seats count scenario seats ReadFault has said = said
+conducts_seats count scenario seats OtherWords has said = said
+conducts_seats count scenario seats NoMemory has said = tt
+
 pub comes_generated : (count : ℕ) (left : Option (List ℕ)) (before now : ℕ) (said : Said) → Generates count said →
     Comes (Some (Gen count)) left before now said
 comes_generated count left before now (Done c text) made = made
@@ -130,6 +160,12 @@ record_more : (R : Record → Type 0) (P Q : Scenario → Type 0) → ((s : Scen
 record_more R P Q more None h = tt
 record_more R P Q more (Some k) h = (h.0, more k.scenario h.1, h.2)
 
+seats_more : (count : ℕ) (P Q : Scenario → Type 0) → ((s : Scenario) → P s → Q s) → (seats : Option (List PlainSeat)) →
+    IfSome seats (λ k. (scenario : Scenario) × P scenario × HasSeats count scenario k) →
+    IfSome seats (λ k. (scenario : Scenario) × Q scenario × HasSeats count scenario k)
+seats_more count P Q more None h = tt
+seats_more count P Q more (Some k) h = (h.0, more h.0 h.1, h.2)
+
 pub keeps_more : (task : Task) (P Q : Scenario → Type 0) → ((s : Scenario) → P s → Q s) → (c : Conducted) → Keeps (Told task) P c →
     Keeps (Told task) Q c
 keeps_more Delegate P Q more c h = (record_more HasExchange P Q more c.kept h.0, h.1)
@@ -137,6 +173,7 @@ keeps_more Play P Q more c h = (record_more HasPlay P Q more c.kept h.0, h.1)
 keeps_more Gate P Q more c h = (record_more HasExchange P Q more c.kept h.0, h.1)
 keeps_more Audit P Q more c h = (record_more HasExchange P Q more c.kept h.0, h.1)
 keeps_more Early P Q more c h = (record_more HasEarly P Q more c.kept h.0, h.1)
+keeps_more (Desk count) P Q more c h = (seats_more count P Q more c.seats h.0, h.1)
 
 pub carries_out : (task : Task) (text : List ℕ) (scenario : Scenario) (said : Said) → scenario_of (purpose_of task) text ≡ Ok scenario →
     Conducts task scenario said → CarriesOut task text said

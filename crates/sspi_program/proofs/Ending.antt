@@ -14,7 +14,7 @@ use Rattle.sspi_scenario.specs.Scenario.{scenario_of}
 use Rattle.sspi_program.specs.declared.command.Command.{Command}
 use Rattle.sspi_program.specs.declared.command.Command.TheVariants.{Told, Gen}
 use Rattle.sspi_program.specs.declared.command.Task.{Task}
-use Rattle.sspi_program.specs.declared.command.Task.TheVariants.{Delegate, Play, Gate, Audit, Early}
+use Rattle.sspi_program.specs.declared.command.Task.TheVariants.{Delegate, Play, Gate, Audit, Early, Desk}
 use Rattle.sspi_program.specs.declared.record.Conducted.{Conducted}
 use Rattle.sspi_program.specs.declared.record.Record.{Record}
 use Rattle.sspi_program.specs.declared.record.RunOutcome.{RunOutcome}
@@ -24,6 +24,7 @@ use Rattle.sspi_program.specs.declared.said.Said.TheVariants.{Done, NoScenario, 
 use Rattle.sspi_program.specs.Audit.{IsAudited}
 use Rattle.sspi_program.specs.Commands.{task_in, purpose_of}
 use Rattle.sspi_program.specs.Delegate.{HasExchange, DelegateEnds}
+use Rattle.sspi_program.specs.Desk.{HasSeats, SeatsDue}
 use Rattle.sspi_program.specs.Early.{HasEarly, IsEarlyTold, EarlyEnds, admitted_status}
 use Rattle.sspi_program.specs.Gate.{IsGated, GateEnds}
 use Rattle.sspi_program.specs.Generate.{TallyDue}
@@ -32,6 +33,7 @@ use Rattle.sspi_program.specs.Play.{HasPlay, PlayEnds}
 use Rattle.sspi_program.specs.Promises.{Does, Due, KeptDue, EndsSo}
 use Rattle.sspi_program.specs.Run.{Comes}
 use Rattle.sspi_program.specs.Said.{delegated_status, status_of, RecordDue, IsDue, said_status, said_text, read_text, Written}
+use Rattle.sspi_program.specs.Seats.{PlainSeat}
 use Rattle.sspi_program.specs.Status.{IsUnlessWrite, IsUnlessFault, EndsAs, EndsPlainly}
 use Rattle.sspi_program.proofs.EarlyStatus.{plain_early}
 use Rattle.sspi_program.proofs.Running.{unless_write, unless_read, unless_memory, status_due, due_small}
@@ -58,6 +60,14 @@ record_none : (P : Record → Type 0) (D : Record → ℕ → List ℕ → Type 
 record_none P D purpose text own written None keeps told line none = none_due D own written told
 record_none P D purpose text own written (Some k) keeps told line none = absurd (both purpose text k.scenario line keeps.1 none)
 
+seats_none : (count : ℕ) (text : List ℕ) (own : ℕ) (written : List ℕ) (seats : Option (List PlainSeat)) →
+    IfSome seats (λ s. (scenario : Scenario) × (scenario_of purposes.Sessions text ≡ Ok scenario) × HasSeats count scenario s) →
+    IsDue (λ status t. IsSomeAnd seats (λ s. SeatsDue s status t)) own written → (line : ℕ) →
+    scenario_of purposes.Sessions text ≡ Err line → own ≡ 5
+seats_none count text own written None keeps (inl told) line none = absurd told
+seats_none count text own written None keeps (inr h) line none = h.0
+seats_none count text own written (Some seats) keeps told line none = absurd (both purposes.Sessions text keeps.0 line keeps.1 none)
+
 task_none : (task : Task) (text : List ℕ) (c : Conducted) (written : List ℕ) →
     Does (Told task) (λ s. scenario_of (purpose_of task) text ≡ Ok s) c written → (line : ℕ) →
     scenario_of (purpose_of task) text ≡ Err line → c.status ≡ 5
@@ -71,6 +81,7 @@ task_none Audit text c written does line none =
     record_none HasExchange IsAudited purposes.Exchange text c.status written c.kept does.0.0 does.1 line none
 task_none Early text c written does line none =
     record_none HasEarly IsEarlyTold purposes.Early text c.status written c.kept does.0.0 does.1 line none
+task_none (Desk count) text c written does line none = seats_none count text c.status written c.seats does.0.0 does.1 line none
 
 module _ (before now : ℕ) (w w2 : Option (List ℕ)) (f f2 : ℕ) where
   no_memory : (own text_own : ℕ) (text : List ℕ) (status : ℕ) → text_own ≡ 5 → Written text_own text w w2 f f2 status →
@@ -303,6 +314,7 @@ module _ (w w2 : Option (List ℕ)) (f f2 : ℕ) (status : ℕ) where
   command_ends before now (Told Audit) (Some text) said comes written = audit_ends before now text said comes written
   command_ends before now (Told Early) None said comes written = tt
   command_ends before now (Told Early) (Some text) said comes written = early_ends before now text said comes written
+  command_ends before now (Told (Desk count)) left said comes written = tt
   command_ends before now (Gen count) left said comes written = generate_ends before now count left said comes written
 
   pub status_ends : (before now : ℕ) (command : Option Command) (left : Option (List ℕ)) (said : Said) →

@@ -8,3 +8,4 @@ pub mod Conducting
 pub mod Plainly
 pub mod Numbered
 pub mod Tallying
+pub mod SeatedEnds

@@ -3,7 +3,8 @@ use Rattle.std.proofs.Common.{◌≡◌, ◌≢◌, ℕ, ◌<◌, ◌≤◌, ◌
 use Rattle.std.proofs.Common.{◌∙◌, ap, subst, arith}
 use Rattle.std.specs.Io.KnownBytes.{Appends}
 use Rattle.std.specs.Option.{option_map}
-use Rattle.std.specs.Prelude.{IsSome, IsSomeAnd}
+use Rattle.std.specs.List.{list_all}
+use Rattle.std.specs.Prelude.{IsSome, IsSomeAnd, Bool, true, false, if◌then◌else◌}
 use Rattle.sspi_ber.specs.Outside.{Rose, Wrote, WroteFront}
 use Rattle.sspi_gate.specs.declared.answer.GateError.{GateError}
 use Rattle.sspi_gate.specs.declared.answer.Relayed.{Relayed}
@@ -16,7 +17,7 @@ use Rattle.sspi_scenario.specs.Reading.{IsReadWhole}
 use Rattle.sspi_program.specs.declared.command.Command.{Command}
 use Rattle.sspi_program.specs.declared.command.Command.TheVariants.{Told, Gen}
 use Rattle.sspi_program.specs.declared.command.Task.{Task}
-use Rattle.sspi_program.specs.declared.command.Task.TheVariants.{Delegate, Play, Gate, Audit, Early}
+use Rattle.sspi_program.specs.declared.command.Task.TheVariants.{Delegate, Play, Gate, Audit, Early, Desk}
 use Rattle.sspi_program.specs.declared.record.Conducted.{Conducted}
 use Rattle.sspi_program.specs.declared.record.Record.{Record}
 use Rattle.sspi_program.specs.declared.record.RunOutcome.{RunOutcome}
@@ -26,6 +27,7 @@ use Rattle.sspi_program.specs.declared.said.Said.{Said}
 use Rattle.sspi_program.specs.declared.said.Said.TheVariants.{Done, NoScenario, ReadFault, OtherWords, NoMemory}
 use Rattle.sspi_program.specs.Audit.{IsAudited}
 use Rattle.sspi_program.specs.Commands.{task_in, purpose_of}
+use Rattle.sspi_program.specs.Desk.{SeatsDue, is_ok}
 use Rattle.sspi_program.specs.Early.{IsEarlyTold}
 use Rattle.sspi_program.specs.Gate.{IsGated, relayed_status}
 use Rattle.sspi_program.specs.Generate.{TallyDue}
@@ -34,6 +36,7 @@ use Rattle.sspi_program.specs.Promises.{Keeps, KeptDue, Due, Does}
 use Rattle.sspi_program.specs.Run.{Outside, IsToldFor, NoneTold, Comes, IsJudged, KeepsOnly, IsReported, WroteLine, WroteOwed}
 use Rattle.sspi_program.specs.Said.{heard_status, status_of, report_of, record_due, RecordDue, IsDue, said_status, said_text, conducted_as, words_text, read_text}
 use Rattle.sspi_program.specs.Said.{Written}
+use Rattle.sspi_program.specs.Seats.{PlainSeat}
 use Rattle.sspi_program.specs.Status.{IsUnlessWrite, IsUnlessFault}
 
 appends_none : (w : Option (List ℕ)) → Appends w w []
@@ -142,12 +145,22 @@ small_tally : (tally : Option (List Record)) (own : ℕ) (text : List ℕ) → I
 small_tally None own text told = absurd told
 small_tally (Some t) own text told = omega (arith, told.0)
 
+small_seats_status : (all : Bool) → (if all then 0 else 1) ≤ 1
+small_seats_status true = omega arith
+small_seats_status false = omega arith
+
+small_seats : (seats : Option (List PlainSeat)) (own : ℕ) (text : List ℕ) → IsSomeAnd seats (λ s. SeatsDue s own text) → own ≤ 1
+small_seats None own text told = absurd told
+small_seats (Some seats) own text told =
+    subst (λ (n : ℕ). n ≤ 1) (sym told.0) (small_seats_status (list_all (λ seat. is_ok seat.outcome) seats))
+
 pub due_small : (command : Command) (c : Conducted) (own : ℕ) (text : List ℕ) → Due command c own text → own ≤ 1
 due_small (Told Delegate) c own text told = small_due RecordDue small_record c.kept own text told
 due_small (Told Play) c own text told = small_due RecordDue small_record c.kept own text told
 due_small (Told Gate) c own text told = small_due IsGated small_gated c.kept own text told
 due_small (Told Audit) c own text told = small_due IsAudited small_audited c.kept own text told
 due_small (Told Early) c own text told = small_due IsEarlyTold small_early c.kept own text told
+due_small (Told (Desk count)) c own text told = small_seats c.seats own text told
 due_small (Gen count) c own text told = small_tally c.tally own text told
 
 done_by : (command : Command) (c : Conducted) (text : List ℕ) → IsDue (Due command c) c.status text → IsDone c.status
@@ -176,6 +189,7 @@ due_status (Told Play) status c own text h = h
 due_status (Told Gate) status c own text h = h
 due_status (Told Audit) status c own text h = h
 due_status (Told Early) status c own text h = h
+due_status (Told (Desk count)) status c own text h = h
 due_status (Gen count) status c own text h = h
 
 keeps_status : (command : Command) (IsOf : Scenario → Type 0) (status : ℕ) (c : Conducted) → Keeps command IsOf c →
@@ -185,6 +199,7 @@ keeps_status (Told Play) IsOf status c h = (h.0, ap (with_status status) h.1)
 keeps_status (Told Gate) IsOf status c h = (h.0, ap (with_status status) h.1)
 keeps_status (Told Audit) IsOf status c h = (h.0, ap (with_status status) h.1)
 keeps_status (Told Early) IsOf status c h = (h.0, ap (with_status status) h.1)
+keeps_status (Told (Desk count)) IsOf status c h = (h.0, ap (with_status status) h.1)
 keeps_status (Gen count) IsOf status c h = (h.0, ap (with_status status) h.1)
 
 keeps_nothing : (command : Command) (IsOf : Scenario → Type 0) (status : ℕ) → Keeps command IsOf (nothing status)
@@ -193,6 +208,7 @@ keeps_nothing (Told Play) IsOf status = (tt, refl)
 keeps_nothing (Told Gate) IsOf status = (tt, refl)
 keeps_nothing (Told Audit) IsOf status = (tt, refl)
 keeps_nothing (Told Early) IsOf status = (tt, refl)
+keeps_nothing (Told (Desk count)) IsOf status = (tt, refl)
 keeps_nothing (Gen count) IsOf status = (tt, refl)
 
 nothing_own : (c : Conducted) (status : ℕ) → c ≡ nothing status → c ≡ nothing c.status

@@ -4,9 +4,9 @@ use Rattle.std.specs.Option.{option_map}
 use Rattle.std.specs.Str.{bytes_eq}
 use Rattle.sspi_program.specs.declared.command.Command.{Command}
 use Rattle.sspi_program.specs.declared.command.Command.TheVariants.{Told, Gen}
-use Rattle.sspi_program.specs.declared.command.TheConstants.{MOST_SCENARIOS}
+use Rattle.sspi_program.specs.declared.command.TheConstants.{MOST_SCENARIOS, MOST_SESSIONS}
 use Rattle.sspi_program.specs.declared.command.Task.{Task}
-use Rattle.sspi_program.specs.declared.command.Task.TheVariants.{Delegate, Play, Gate, Audit, Early}
+use Rattle.sspi_program.specs.declared.command.Task.TheVariants.{Delegate, Play, Gate, Audit, Early, Desk}
 use Rattle.sspi_scenario.specs.Numbers.{number_of}
 use Rattle.sspi_scenario.specs.declared.purpose.Purpose.{Purpose}
 use Rattle.sspi_scenario.specs.declared.purpose.Purpose.TheVariants as purposes
@@ -28,9 +28,15 @@ within most (Some n) = if nat_le 1 n && nat_le n most then Some n else None
 abbrev pub counted : ℕ → List ℕ → Option ℕ
 counted most digits = within most (number_of digits)
 
+abbrev pub desk_of : ℕ → Command
+desk_of count = Told (Desk count)
+
 -- a word and a number
 abbrev pub numbered_command : List ℕ → List ℕ → Option Command
-numbered_command word digits = if bytes_eq word (codes "gen") then option_map Gen (counted MOST_SCENARIOS digits) else None
+numbered_command word digits =
+    if bytes_eq word (codes "gen") then option_map Gen (counted MOST_SCENARIOS digits)
+    else if bytes_eq word (codes "desk") then option_map desk_of (counted MOST_SESSIONS digits)
+    else None
 
 -- one word names a task
 abbrev pub command_in : List (List ℕ) → Option Command
@@ -54,3 +60,4 @@ purpose_of Play = purposes.Play
 purpose_of Gate = purposes.Exchange
 purpose_of Audit = purposes.Exchange
 purpose_of Early = purposes.Early
+purpose_of (Desk count) = purposes.Sessions

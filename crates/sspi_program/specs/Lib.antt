@@ -13,3 +13,5 @@ pub mod Early
 pub mod Generate
 pub mod Promises
 pub mod Run
+pub mod Seats
+pub mod Desk

@@ -3,15 +3,16 @@ use Rattle.std.specs.Prelude.{ℕ, List, Option, IfSome, IsSome, IsSomeAnd}
 use Rattle.sspi_scenario.specs.declared.scenario.Scenario.{Scenario}
 use Rattle.sspi_program.specs.declared.command.Command.{Command}
 use Rattle.sspi_program.specs.declared.command.Command.TheVariants.{Told, Gen}
-use Rattle.sspi_program.specs.declared.command.Task.TheVariants.{Delegate, Play, Gate, Audit, Early}
+use Rattle.sspi_program.specs.declared.command.Task.TheVariants.{Delegate, Play, Gate, Audit, Early, Desk}
 use Rattle.sspi_program.specs.declared.record.Conducted.{Conducted}
 use Rattle.sspi_program.specs.declared.record.Record.{Record}
 use Rattle.sspi_program.specs.Audit.{IsAudited}
+use Rattle.sspi_program.specs.Desk.{HasSeats, SeatsDue}
 use Rattle.sspi_program.specs.Delegate.{HasExchange, DelegateEnds}
 use Rattle.sspi_program.specs.Early.{HasEarly, IsEarlyTold, EarlyEnds}
 use Rattle.sspi_program.specs.Gate.{IsGated, GateEnds}
 use Rattle.sspi_program.specs.Generate.{AreNumbered, TallyDue}
-use Rattle.sspi_program.specs.Kept.{HasRecordAlone, HasTallyAlone}
+use Rattle.sspi_program.specs.Kept.{HasRecordAlone, HasTallyAlone, HasSeatsAlone}
 use Rattle.sspi_program.specs.Play.{HasPlay, PlayEnds}
 use Rattle.sspi_program.specs.Said.{status_of, RecordDue, IsDue}
 use Rattle.sspi_program.specs.Status.{IsUnlessWrite}
@@ -25,6 +26,11 @@ KeepsRecord P IsOf conducted =
 abbrev pub KeepsTally : (List Record → Type 0) → Conducted → Type 0
 KeepsTally P conducted = IfSome conducted.tally P × HasTallyAlone conducted
 
+-- the sessions of one scenario that is such
+abbrev pub KeepsSeats : ℕ → (Scenario → Type 0) → Conducted → Type 0
+KeepsSeats count IsOf conducted =
+    IfSome conducted.seats (λ seats. (scenario : Scenario) × IsOf scenario × HasSeats count scenario seats) × HasSeatsAlone conducted
+
 -- what a command keeps, of a scenario that is such
 abbrev pub Keeps : Command → (Scenario → Type 0) → Conducted → Type 0
 Keeps (Told Delegate) IsOf conducted = KeepsRecord HasExchange IsOf conducted
@@ -32,6 +38,7 @@ Keeps (Told Play) IsOf conducted = KeepsRecord HasPlay IsOf conducted
 Keeps (Told Gate) IsOf conducted = KeepsRecord HasExchange IsOf conducted
 Keeps (Told Audit) IsOf conducted = KeepsRecord HasExchange IsOf conducted
 Keeps (Told Early) IsOf conducted = KeepsRecord HasEarly IsOf conducted
+Keeps (Told (Desk count)) IsOf conducted = KeepsSeats count IsOf conducted
 Keeps (Gen count) IsOf conducted = KeepsTally (AreNumbered count) conducted
 
 -- a record is kept for which these are due
@@ -45,6 +52,7 @@ Due (Told Play) conducted status text = KeptDue RecordDue conducted.kept status 
 Due (Told Gate) conducted status text = KeptDue IsGated conducted.kept status text
 Due (Told Audit) conducted status text = KeptDue IsAudited conducted.kept status text
 Due (Told Early) conducted status text = KeptDue IsEarlyTold conducted.kept status text
+Due (Told (Desk count)) conducted status text = IsSomeAnd conducted.seats (λ seats. SeatsDue seats status text)
 Due (Gen count) conducted status text = IsSomeAnd conducted.tally (λ tally. TallyDue tally status text)
 
 -- what a command made of a scenario that is such
@@ -58,4 +66,5 @@ EndsSo (Told Play) left status = IfSome left (λ text. PlayEnds text status)
 EndsSo (Told Gate) left status = IfSome left (λ text. GateEnds text status)
 EndsSo (Told Audit) left status = IfSome left (λ text. DelegateEnds text status)
 EndsSo (Told Early) left status = IfSome left (λ text. EarlyEnds text status)
+EndsSo (Told (Desk count)) left status = Unit {0}
 EndsSo (Gen count) left status = IsUnlessWrite 0 status

@@ -13,10 +13,12 @@ use Rattle.sspi_program.specs.declared.record.Record.{Record}
 use Rattle.sspi_program.specs.declared.said.Said.{Said}
 use Rattle.sspi_program.specs.declared.said.Said.TheVariants.{Done, NoScenario, ReadFault, OtherWords, NoMemory}
 use Rattle.sspi_program.specs.Commands.{task_in, purpose_of}
+use Rattle.sspi_program.specs.Desk.{SeatsDue}
 use Rattle.sspi_program.specs.Generate.{TallyDue}
-use Rattle.sspi_program.specs.Kept.{nothing, tallying}
+use Rattle.sspi_program.specs.Kept.{nothing, seating, tallying}
 use Rattle.sspi_program.specs.Promises.{Keeps, Does, Due, EndsSo}
 use Rattle.sspi_program.specs.Said.{IsDue, said_text, conducted_as, words_text, read_text, line_text}
+use Rattle.sspi_program.specs.Seats.{PlainSeat}
 use Rattle.sspi_program.specs.Status.{IsUnlessWrite, IsUnlessFault}
 
 -- what the source and the sink of a run show at one moment: the bytes that are left and those that were written, where these are
@@ -94,6 +96,15 @@ SumsUp tally (NoScenario line) = ⊥
 SumsUp tally ReadFault = ⊥
 SumsUp tally OtherWords = ⊥
 SumsUp tally NoMemory = ⊥
+
+-- what is said of sessions
+abbrev pub SaysOfSeats : List PlainSeat → Said → Type 0
+SaysOfSeats seats (Done conducted written) =
+    (conducted ≡ seating conducted.status seats) × IsDue (SeatsDue seats) conducted.status written.items
+SaysOfSeats seats (NoScenario line) = ⊥
+SaysOfSeats seats ReadFault = ⊥
+SaysOfSeats seats OtherWords = ⊥
+SaysOfSeats seats NoMemory = ⊥
 
 -- ---- what a run promises
 

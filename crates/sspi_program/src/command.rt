@@ -1,13 +1,16 @@
 ghost use Rattle.std.specs.Prelude.{◌≡◌};
 ghost use Rattle.sspi_program.specs.Commands;
 ghost use Rattle.sspi_program.specs.Commands.{command_of, counted, numbered_command, task_named};
-ghost use Rattle.sspi_program.specs.declared.command.TheConstants.{MOST_SCENARIOS};
+ghost use Rattle.sspi_program.specs.declared.command.TheConstants.{MOST_SCENARIOS, MOST_SESSIONS};
 
 use sspi_scenario::Purpose;
 use sspi_scenario::number::number;
 
 /// How many scenarios are made at most.
 pub const MOST_SCENARIOS: u32 = 10_000;
+
+/// How many sessions a desk has at most.
+pub const MOST_SESSIONS: u32 = 64;
 
 /// What the words of the program ask for.
 #[derive(Clone, Copy)]
@@ -31,6 +34,8 @@ pub enum Task {
     Audit,
     /// What `Delegate` does, and then its server tells whether the user may log on.
     Early,
+    /// So many clients of it have a session each at one desk.
+    Desk(u32),
 }
 
 impl Task {
@@ -42,6 +47,7 @@ impl Task {
             Task::Delegate | Task::Gate | Task::Audit => Purpose::Exchange,
             Task::Play => Purpose::Play,
             Task::Early => Purpose::Early,
+            Task::Desk(_) => Purpose::Sessions,
         }
     }
 }
@@ -66,6 +72,10 @@ fn numbered_command(word: &str, digits: &str) -> Option<Command>
     match word {
         "gen" => match counted(MOST_SCENARIOS, digits) {
             Some(count) => Some(Command::Gen(count)),
+            None => None,
+        },
+        "desk" => match counted(MOST_SESSIONS, digits) {
+            Some(count) => Some(Command::Told(Task::Desk(count))),
             None => None,
         },
         _ => None,

@@ -17,4 +17,4 @@ mod words;
 
 pub use command::{Command, Task};
 pub use ends::{Client, Server};
-pub use record::{Conducted, Record, RunOutcome};
+pub use record::{Conducted, PlainSeat, Record, RunOutcome, Seats};

@@ -1,13 +1,15 @@
 ghost use Rattle.std.specs.Prelude.{◌≡◌};
 ghost use Rattle.sspi_program.specs.Kept;
-ghost use Rattle.sspi_program.specs.Kept.{keeping, tallying};
+ghost use Rattle.sspi_program.specs.Kept.{keeping, seating, tallying};
 
 use crate::ends::{Client, Server};
+use sspi_credssp::TableProxy;
 use sspi_delegate::{DelegateError, Delegation, MemoryLink, Transcript};
 use sspi_early::{Early, EarlyError, ListPolicy};
-use sspi_mech::PlainKdc;
+use sspi_mech::{Kerberos, Ntlm, PlainKdc};
 use sspi_play::Played;
 use sspi_scenario::{Rows, Scenario};
+use sspi_seats::Seat;
 
 /// What a run came to.
 #[derive(Drop)]
@@ -18,6 +20,8 @@ pub struct Conducted {
     pub kept: Option<Record>,
     /// What the ends of many scenarios did, where it made them.
     pub tally: Option<Tally>,
+    /// What the sessions of a desk came to, where there was one.
+    pub seats: Option<Seats>,
 }
 
 impl Conducted {
@@ -29,6 +33,7 @@ impl Conducted {
             status,
             kept: None,
             tally: None,
+            seats: None,
         }
     }
 
@@ -40,6 +45,7 @@ impl Conducted {
             status,
             kept: Some(kept),
             tally: None,
+            seats: None,
         }
     }
 
@@ -51,12 +57,31 @@ impl Conducted {
             status,
             kept: None,
             tally: Some(tally),
+            seats: None,
+        }
+    }
+
+    /// The same where these sessions are kept.
+    pub fn seating(status: u8, seats: Seats) -> Conducted
+        ensures { result ≡ seating status seats }
+    {
+        Conducted {
+            status,
+            kept: None,
+            tally: None,
+            seats: Some(seats),
         }
     }
 }
 
 /// What the ends of many scenarios did, the first scenario first.
 pub type Tally = Rows<Record>;
+
+/// What the sessions of a desk came to, that of number 0 first.
+pub type Seats = Rows<PlainSeat>;
+
+/// A client of a scenario and its session.
+pub type PlainSeat = Seat<Ntlm, Kerberos, TableProxy, PlainKdc>;
 
 /// What the ends of a scenario did: the scenario, all that took part as it was left, and the outcome.
 #[derive(Drop)]

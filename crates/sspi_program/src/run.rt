@@ -19,12 +19,13 @@ use std::alloc::{AllocError, Global};
 /// The words are `delegate`, whose ends carry their messages to each other over the link of the scenario; `play`, whose ends take the
 /// deliveries of the scenario; `gate`, which does what `delegate` does and has a relay pass what the link delivered; `audit`, which
 /// does it and has its turns and its log judged; or `early`, which does it and has the server tell whether the user may log on. Or
+/// they are `desk` and a number from 1 to `MOST_SESSIONS`: so many clients of the scenario have a session each at one desk. Or
 /// they are `gen` and a number from 1 to `MOST_SCENARIOS`: the ends of so many scenarios, which are made of their numbers, carry their
 /// messages to each other, and a summary counts what they came to. The exit status is
 ///
 /// - 0 where the server has the credentials, or the deliveries were taken, and 1 where the exchange was refused: its report is
 ///   written. Of `gate` it is 0 where the relay came to an end by itself, and 1 where it had to stop; of `early` 0 where the client
-///   heard that its user may log on, and else 1; of `gen` always 0;
+///   heard that its user may log on, and else 1; of `desk` 0 where every session has its credentials, and else 1; of `gen` always 0;
 /// - 2 where the text is no scenario for this word or has more than `TEXT_LIMIT` bytes: `error: scenario line N`, with the number of
 ///   the first faulty line, from 1, or 0 where no line is to blame;
 /// - 3 where the source failed: `error: read`;
@@ -78,12 +79,13 @@ fn status_of(conducted: Conducted) -> u8
         status,
         kept,
         tally,
+        seats,
     } = conducted;
-    status_without(status, kept, tally)
+    status_without(status, kept, tally, seats)
 }
 
 /// Generic, since to drop a value of a type parameter is one step.
-fn status_without<R: Drop, T: Drop>(status: u8, _kept: R, _tally: T) -> u8
+fn status_without<R: Drop, T: Drop, S: Drop>(status: u8, _kept: R, _tally: T, _seats: S) -> u8
     ensures { result ≡ status }
 {
     status

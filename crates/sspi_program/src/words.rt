@@ -6,6 +6,7 @@ ghost use Rattle.sspi_scenario.specs.Held.{HoldsValues};
 mod audit;
 mod count;
 mod delegate;
+mod desk;
 mod early;
 mod gate;
 pub mod generate;
@@ -26,5 +27,6 @@ pub fn conduct(alloc: Global, task: Task, scenario: Scenario) -> Said
         Task::Gate => gate::gate(alloc, scenario),
         Task::Audit => audit::audit(alloc, scenario),
         Task::Early => early::early(alloc, scenario),
+        Task::Desk(count) => desk::desk(alloc, count, scenario),
     }
 }

@@ -10,6 +10,7 @@ mod many;
 mod negotiation;
 mod plays;
 mod rows;
+mod sessions;
 
 use sspi_ber::{SliceSource, VecSink};
 use sspi_program::run::exit_status;

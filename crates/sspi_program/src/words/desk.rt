@@ -1,0 +1,111 @@
+ghost use Rattle.std.specs.Prelude.{◌≡◌, ℕ, ◌+◌, OnOk};
+ghost use Rattle.std.specs.List.{list_all};
+ghost use Rattle.sspi_program.specs.Desk.{AreSeatedFor, is_ok, seats_status};
+ghost use Rattle.sspi_program.specs.Run.{Conducts, SaysOfSeats};
+ghost use Rattle.sspi_scenario.specs.declared.scenario.Scenario.{Scenario};
+ghost use Rattle.sspi_seats.specs.Table.{IsEmpty};
+
+use crate::command::Task;
+use crate::ends::{Ends, ends_of};
+use crate::record::{Conducted, PlainSeat, Seats};
+use crate::said::{Said, no_memory};
+use crate::status;
+use sspi_credssp::TableProxy;
+use sspi_mech::{Kerberos, Ntlm, PlainKdc};
+use sspi_report::seats_report;
+use sspi_scenario::Scenario;
+use sspi_seats::{SeatOutcome, Table};
+use std::alloc::{AllocError, Global};
+
+/// The clients of a scenario, which have a session each at one desk.
+type PlainTable = Table<Ntlm, Kerberos, TableProxy, PlainKdc>;
+
+/// So many clients of a scenario have a session each at one desk.
+pub fn desk(alloc: Global, count: u32, scenario: Scenario) -> Said
+    ensures { Conducts (Task.Desk count) scenario result }
+{
+    let mut table = PlainTable::new(alloc, count);
+    match seat_all(alloc, count, &scenario, &mut table) {
+        Ok(()) => serve(alloc, scenario.turns, table),
+        Err(error) => no_memory(table, error),
+    }
+}
+
+/// Seats so many clients.
+fn seat_all(
+    alloc: Global,
+    count: u32,
+    scenario: &Scenario,
+    table: &mut PlainTable,
+) -> Result<(), AllocError>
+    ensures { IsEmpty table.old → OnOk result (AreSeatedFor scenario.now count table.new) }
+{
+    for seat in 0..count {
+        seat_one(alloc, scenario, table)?;
+    }
+    Ok(())
+}
+
+/// Seats one client more.
+fn seat_one(alloc: Global, scenario: &Scenario, table: &mut PlainTable) -> Result<(), AllocError>
+    ensures { (count : ℕ) → AreSeatedFor scenario.now count table.old → OnOk result (AreSeatedFor scenario.now (count + 1) table.new) }
+{
+    match ends_of(alloc, scenario) {
+        Ok(
+            Ends {
+                client,
+                server,
+                kdc,
+            },
+        ) => table.join(client, kdc, server),
+        Err(error) => Err(error),
+    }
+}
+
+/// What is said of the clients at a table, once they were served.
+fn serve(alloc: Global, turns: u32, table: PlainTable) -> Said
+    ensures { (count : ℕ) (scenario : Scenario) → AreSeatedFor scenario count table → turns ≡ scenario.turns →
+        Conducts (Task.Desk count) scenario result }
+{
+    match table.finish(turns) {
+        Ok(seats) => said_of_seats(alloc, seats),
+        Err(_) => Said::NoMemory,
+    }
+}
+
+fn said_of_seats(alloc: Global, seats: Seats) -> Said
+    ensures { SaysOfSeats seats result }
+{
+    let status = seats_status(seats.as_slice());
+    match seats_report(alloc, seats.as_slice()) {
+        Ok(text) => Said::Done(Conducted::seating(status, seats), text),
+        Err(_) => Said::Done(
+            Conducted::seating(status::NO_MEMORY, seats),
+            Vec::new(alloc),
+        ),
+    }
+}
+
+/// 0 where every server has the credentials, and else 1.
+fn seats_status(seats: &[PlainSeat]) -> u8
+    ensures { result ≡ seats_status seats.now }
+{
+    if are_ok(seats) {
+        status::DONE
+    } else {
+        status::REFUSED
+    }
+}
+
+/// Whether every server has the credentials.
+fn are_ok(seats: &[PlainSeat]) -> bool
+    ensures { result ≡ list_all (λ seat. is_ok seat.outcome) seats.now }
+{
+    seats.iter().all(|seat| is_ok(&seat.outcome))
+}
+
+fn is_ok(outcome: &SeatOutcome) -> bool
+    ensures { result ≡ is_ok outcome.now }
+{
+    matches!(outcome, SeatOutcome::Ok(_, _))
+}
