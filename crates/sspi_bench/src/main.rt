@@ -2,7 +2,8 @@
 //!
 //! Words: `decode`, `encode` or `both`, how many times, and any of `request` (a TSRequest), `init` and `targ` (the tokens of
 //! SPNEGO); without such a word, `request`. For each of these a line of hex comes on standard input. Or `feed`, how many times,
-//! and a size: one line, a TSRequest, is decoded from pieces of that many bytes. Each line is parsed before its loop, and one
+//! and a size: one line, a TSRequest, is decoded from pieces of that many bytes. Or `desk`, how many times, and a number of sessions:
+//! a desk of so many serves them one line, one session after the other. Each line is parsed before its loop, and one
 //! checksum is printed, so that no result goes unused. docs/PERFORMANCE.md says how it is measured.
 #![tactic(auto)]
 
@@ -12,6 +13,7 @@ use sspi_types::Error;
 use std::alloc::Global;
 use std::env::{self, Env};
 
+mod desk;
 mod init;
 mod request;
 mod sums;
@@ -43,8 +45,12 @@ fn words<R: Env + Alloc<A = Global>>(rt: &R) -> Result<(Job, u32)> {
         let size = args.next().context("a size is wanted")?;
         return Ok((Job::Feed(size.as_str().parse::<usize>()?), times));
     }
+    if word.as_str() == "desk" {
+        let sessions = args.next().context("a number of sessions is wanted")?;
+        return Ok((Job::Desk(sessions.as_str().parse::<u32>()?), times));
+    }
     let Some(work) = work_of(word.as_str()) else {
-        bail!("decode, encode, both or feed is wanted");
+        bail!("decode, encode, both, feed or desk is wanted");
     };
     let mut messages = Vec::new(rt.alloc());
     for word in args {
@@ -90,10 +96,23 @@ fn feed(rt: &HostRuntime, size: usize, times: u32) -> Result<()> {
     Ok(())
 }
 
+fn serve(rt: &HostRuntime, sessions: u32, times: u32) -> Result<()> {
+    if sessions == 0 {
+        bail!("at least 1 session is wanted");
+    }
+    let bytes = next_message(rt)?;
+    match desk::repeat(rt.alloc(), sessions, &bytes, times) {
+        Ok(sum) => println!(rt; "{sum}")?,
+        Err(_) => bail!("no memory"),
+    }
+    Ok(())
+}
+
 fn main(rt: HostRuntime) -> Result<()> {
     let (job, times) = words(&rt)?;
     match job {
         Job::Repeat(work, messages) => repeat_all(&rt, work, &messages, times),
         Job::Feed(size) => feed(&rt, size, times),
+        Job::Desk(sessions) => serve(&rt, sessions, times),
     }
 }

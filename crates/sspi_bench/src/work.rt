@@ -21,6 +21,8 @@ pub enum Job {
     Repeat(Work, Vec<Message>),
     /// A TSRequest is fed in pieces of this many bytes.
     Feed(usize),
+    /// A desk of this many sessions is served.
+    Desk(u32),
 }
 
 pub fn work_of(word: &str) -> Option<Work> {
