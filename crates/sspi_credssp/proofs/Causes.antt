@@ -40,8 +40,8 @@ made_later None None Cause Later some h = cc
 module _ {C : Type 0} (c : Meaning ContextSetting C) where
   pub deliver_cause : (field : Option (List ℕ)) (blob : List ℕ) (new : ClientView C) (noted : ℕ) (m : C) (kind : ErrorKind) →
       IsSealedBlob field blob → new.noted ≡ Some noted → new.context ≡ Some m →
-      OpenedCause c new.acts.checked m blob (prescribed Server noted new.nonce new.public_key)
-      (delegated_text new.credentials new.delegation) kind →
+      OpenedCause c new.acts.checked m blob (prescribed Server noted new.settings.nonce new.settings.public_key)
+      (delegated_text new.settings.credentials new.settings.delegation) kind →
       DeliverCause c field new kind
   deliver_cause None blob new noted m kind long n x h = absurd long
   deliver_cause (Some held) blob new noted m kind long n x h = rw long.passes (rw long.same (rw (n, x) h))
@@ -58,7 +58,7 @@ module _ {C : Type 0} (c : Meaning ContextSetting C) where
   pub client_cause_past : {T : Type 0} (old new : ClientView C) (d request : TsRequest) (state : CredSspState) (v : ℕ)
       (r : Result T Error) →
       is_waiting_in c old.context ≡ false → is_code d.error_code ≡ false →
-      is_old_in old.context old.least old.noted d.version ≡ false → is_altered_in old.context old.noted d.version ≡ false →
+      is_old_in old.context old.settings.least old.noted d.version ≡ false → is_altered_in old.context old.noted d.version ≡ false →
       IsSome new.context → state ≡ old.state → request ≡ record d { version = v } →
       IfErr r (λ e. e.error_type ≢ InsufficientMemory → StateCause c state request new e.error_type) →
       IfErr r (λ e. e.error_type ≢ InsufficientMemory → ClientCause c old d new e.error_type)
@@ -72,12 +72,12 @@ module _ {C : Type 0} (c : Meaning ContextSetting C) where
   -- a turn that was refused as it began
   pub client_cause_begun : (old new : ClientView C) (d : TsRequest) (kind : ErrorKind) →
       is_waiting_in c old.context ≡ false → is_code d.error_code ≡ false →
-      StopsIf (is_old_in old.context old.least old.noted d.version) DowngradeDetected kind
+      StopsIf (is_old_in old.context old.settings.least old.noted d.version) DowngradeDetected kind
       (StopsIf (is_altered_in old.context old.noted d.version) MessageAltered kind
-      (MadeOr old.context new.context (BeginCause c (ForClient old.mode) Outbound (Some old.credentials) kind) ⊥)) →
+      (MadeOr old.context new.context (BeginCause c (ForClient old.settings.mode) Outbound (Some old.settings.credentials) kind) ⊥)) →
       ClientCause c old d new kind
   client_cause_begun old new d kind idle code h =
       rw (idle, code)
-      (stops_map (is_old_in old.context old.least old.noted d.version) DowngradeDetected kind _ _
+      (stops_map (is_old_in old.context old.settings.least old.noted d.version) DowngradeDetected kind _ _
       (stops_map (is_altered_in old.context old.noted d.version) MessageAltered kind _ _
       (made_map old.context new.context _ _ _ (λ none. absurd none))) h)

@@ -80,8 +80,8 @@ module _ {C : Type 0} (c : Meaning ContextSetting C) (never : NeverRefuses c Dow
   walked_other : (start : ClientView C) (handle : Option CredentialsBuffers) (token : Option (List ℕ)) (tries : ℕ) (log : List Asked)
       (answer : Answer) (error : Error) (m : C) → answer ≡ Refused error → Walked c start handle token tries log answer m → IsOther error
   walked_other start handle token tries log answer error m is (stepped m0 m1 a begun step) =
-      never.steps m0 m (client_args handle start.target token) error
-      (subst (λ (x : Answer). c.steps m0 (client_args handle start.target token) x m) is step)
+      never.steps m0 m (client_args handle start.settings.target token) error
+      (subst (λ (x : Answer). c.steps m0 (client_args handle start.settings.target token) x m) is step)
   walked_other start handle token tries log answer error m is (resumed m1 m2 tried before q reply a walked step) =
       never.resumes m1 m reply error (subst (λ (x : Answer). c.resumes m1 reply x m) is step)
   walked_other start handle token tries log answer error m is (still_asked m1 m2 tried before q reply refusal walked step waits) =
@@ -125,8 +125,9 @@ module _ {C : Type 0} (c : Meaning ContextSetting C) (never : NeverRefuses c Dow
   opens_never None context blob new h = h
   opens_never (Some v) None blob new h = h
   opens_never (Some v) (Some m) blob new h =
-      opened_never new.acts.checked m blob (prescribed Server v new.nonce new.public_key) (delegated_text new.credentials new.delegation)
-      (so_delegated IsOther each_other new.credentials new.delegation) h
+      opened_never new.acts.checked m blob (prescribed Server v new.settings.nonce new.settings.public_key)
+      (delegated_text new.settings.credentials new.settings.delegation)
+      (so_delegated IsOther each_other new.settings.credentials new.settings.delegation) h
 
   nego_never : (status : Option SecurityStatus) (new : ClientView C) → (status ≡ None → new.acts.negotiated ≡ true → ⊥) →
       NegoCause c status new DowngradeDetected → ⊥
@@ -157,8 +158,8 @@ module _ {C : Type 0} (c : Meaning ContextSetting C) (never : NeverRefuses c Dow
       record {
         idle = idle.0;
         code = code.0;
-        old = here (is_old_in old.context old.least old.noted d.version) DowngradeDetected _ (λ later.
-            made_never old.context new.context _ _ (begin_never (ForClient old.mode) (Some old.credentials))
+        old = here (is_old_in old.context old.settings.least old.noted d.version) DowngradeDetected _ (λ later.
+            made_never old.context new.context _ _ (begin_never (ForClient old.settings.mode) (Some old.settings.credentials))
             (state_never old.state d new unanswered)
             (not_here (is_altered_in old.context old.noted d.version) MessageAltered DowngradeDetected _ (λ e. absurd (cc (e))) later).1)
             code.1;

@@ -32,16 +32,7 @@ module _ {C : Type 0} (c : Meaning ContextSetting C) where
       record {
         idle = ready.idle;
         code = ready.code;
-        same = record {
-          public_key = ready.same.public_key;
-          credentials = ready.same.credentials;
-          delegation = ready.same.delegation;
-          version = ready.same.version;
-          least = ready.same.least;
-          mode = ready.same.mode;
-          target = ready.same.target;
-          nonce = ready.same.nonce;
-        };
+        same = ready.same;
         handle = λ h. ((ready.handle h).0, refl);
         state = ready.state;
         noted = ready.noted;
@@ -61,16 +52,7 @@ module _ {C : Type 0} (c : Meaning ContextSetting C) where
   ready_forgot start now d acts output kept ready = record {
     idle = ready.idle;
     code = ready.code;
-    same = record {
-      public_key = ready.same.public_key;
-      credentials = ready.same.credentials;
-      delegation = ready.same.delegation;
-      version = ready.same.version;
-      least = ready.same.least;
-      mode = ready.same.mode;
-      target = ready.same.target;
-      nonce = ready.same.nonce;
-    };
+    same = ready.same;
     handle = ready.handle;
     state = ready.state;
     noted = ready.noted;

@@ -59,7 +59,7 @@ module _ {C : Type 0} (c : Meaning ContextSetting C) where
 
   module _ {P : Type 0} where
     as_new : (told : Option (List AuthIdentity)) (old new : ServerView C P) (o : Option C) →
-        IfContext o (λ m. Begun c old.context old.handle (ForServer old.mode told) Inbound None new.handle m) →
+        IfContext o (λ m. Begun c old.context old.handle (ForServer old.settings.mode told) Inbound None new.handle m) →
         IfContext o (IsNew c old new)
     as_new told old new None h = h
     as_new told old new (Some m) h = is_made told h
@@ -67,8 +67,9 @@ module _ {C : Type 0} (c : Meaning ContextSetting C) where
     -- the version was refused that a new context met first
     pub new_refused : {T : Type 0} (told : Option (List AuthIdentity)) (r : Result T Error) (old new : ServerView C P) (version : ℕ) →
         old.context ≡ None → old.noted ≡ None → old.state ≡ NegoToken → IsUnusedIn c new.context →
-        IfContext new.context (λ m. Begun c old.context old.handle (ForServer old.mode told) Inbound None new.handle m) →
-        new.noted ≡ noted_with old.least old.noted version → OnErr r (new.noted ≡ old.noted) → OnErr r (BeginRefused c old version new)
+        IfContext new.context (λ m. Begun c old.context old.handle (ForServer old.settings.mode told) Inbound None new.handle m) →
+        new.noted ≡ noted_with old.settings.least old.noted version → OnErr r (new.noted ≡ old.noted) →
+        OnErr r (BeginRefused c old version new)
     new_refused told (Ok x) old new version none unnoted state unused begun noted same = tt
     new_refused told (Err e) old new version none unnoted state unused begun noted same =
         let fresh = unsealed_so_far new.context unused in
@@ -132,16 +133,11 @@ module _ {C : Type 0} (c : Meaning ContextSetting C) where
             held = record {
               checked = λ was. absurd (cc (was, checked));
               proved = λ was. absurd (cc (was, proved));
-              reply = sym (refused.back new.version);
+              reply = sym (refused.back new.settings.version);
             };
           };
           moves = record {
-            same = record {
-              public_key = ap (λ (v : ServerView C P). v.public_key) is;
-              version = ap (λ (v : ServerView C P). v.version) is;
-              least = ap (λ (v : ServerView C P). v.least) is;
-              mode = ap (λ (v : ServerView C P). v.mode) is;
-            };
+            same = ap (λ (v : ServerView C P). v.settings) is;
             handle = refused.handle;
             state = ap (λ (v : ServerView C P). v.state) is;
             noted = refused.noted;

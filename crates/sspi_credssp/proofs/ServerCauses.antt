@@ -25,18 +25,19 @@ use Rattle.sspi_credssp.proofs.Causes.{stops_map, made_map, made_later}
 module _ {C : Type 0} (c : Meaning ContextSetting C) where
   -- a turn that was refused as it began
   pub server_cause_begun : {P : Type 0} (p : ProxyMeaning P) (old new : ServerView C P) (d : TsRequest) (kind : ErrorKind) →
-      MadeOr old.context new.context (MakeCause c p old.mode old.proxy new.proxy kind)
-      (VersionStops old.least old.noted d.version kind ⊥) →
+      MadeOr old.context new.context (MakeCause c p old.settings.mode old.proxy new.proxy kind)
+      (VersionStops old.settings.least old.noted d.version kind ⊥) →
       ServerCause c p old d new kind
   server_cause_begun p old new d kind h =
       made_map old.context new.context _ _ _
-      (stops_map (is_old old.least old.noted d.version) DowngradeDetected kind _ _
+      (stops_map (is_old old.settings.least old.noted d.version) DowngradeDetected kind _ _
       (stops_map (differs old.noted d.version) MessageAltered kind _ _ (λ none. absurd none))) h
 
   module _ {P : Type 0} (p : ProxyMeaning P) where
     -- a turn that was refused past the version check
     pub server_cause_past : {T : Type 0} (old new : ServerView C P) (d : TsRequest) (state : CredSspState) (r : Result T ServerError) →
-        is_old old.least old.noted d.version ≡ false → differs old.noted d.version ≡ false → IsSome new.context → state ≡ old.state →
+        is_old old.settings.least old.noted d.version ≡ false → differs old.noted d.version ≡ false → IsSome new.context →
+        state ≡ old.state →
         IfErr r (λ refusal. refusal.error.error_type ≢ InsufficientMemory → StateCause c p state old d new refusal.error.error_type) →
         IfErr r (λ refusal. refusal.error.error_type ≢ InsufficientMemory → ServerCause c p old d new refusal.error.error_type)
     server_cause_past old new d state (Ok x) young fits begun same_state h = h

@@ -164,10 +164,10 @@ module _ {C : Type 0} (c : Meaning ContextSetting C) (never : NeverRefuses c Dow
         subst (λ (k : ErrorKind). ServerCause c p old d new k) is (cause (λ memory. absurd (cc (is, memory)))) in
         let unanswered : new.acts.status ≡ None → new.acts.negotiated ≡ true → ⊥ = λ none was.
         stepped_other new.acts.status new.acts.negotiated old new.handle d.nego_tokens new.output error new.context none was step is in
-        let begun = begun_by old.context new.context _ _ (make_never old.mode old.proxy new.proxy) keeps why in
+        let begun = begun_by old.context new.context _ _ (make_never old.settings.mode old.proxy new.proxy) keeps why in
         record {
           begun = begun.0;
-          old = here (is_old old.least old.noted d.version) DowngradeDetected _ (λ later.
+          old = here (is_old old.settings.least old.noted d.version) DowngradeDetected _ (λ later.
               state_never old.state old d new unanswered
               (not_here (differs old.noted d.version) MessageAltered DowngradeDetected _ (λ e. absurd (cc (e))) later).1) begun.1;
         }

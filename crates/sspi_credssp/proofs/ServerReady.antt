@@ -22,12 +22,7 @@ module _ {C P : Type 0} (c : Meaning ContextSetting C) where
   ready_stepped start now d m m2 acts output proxy ready nego here stays =
       let before : StartsUnused c start → IsUnused (c.counts m) = λ su. subst (λ x. IsUnusedIn c x) here (ready.unused su nego) in
       record {
-        same = record {
-          public_key = ready.same.public_key;
-          version = ready.same.version;
-          least = ready.same.least;
-          mode = ready.same.mode;
-        };
+        same = ready.same;
         handle = λ h. ((ready.handle h).0, refl);
         state = ready.state;
         noted = ready.noted;

@@ -26,15 +26,16 @@ same_request Final version v kind d = refl
 module _ {C P : Type 0} (c : Meaning ContextSetting C) where
   halted : (start new : ServerView C P) (d request : TsRequest) (state : CredSspState) (version : ℕ) (error : Error)
       (refusal : ServerError) →
-      request ≡ record d { version = version } → version ≡ new.version → state ≡ start.state →
+      request ≡ record d { version = version } → version ≡ new.settings.version → state ≡ start.state →
       refusal ≡ record { ts_request = Some (error_request state request.version error.error_type request); error = error } →
       HaltedTurn c start d error.error_type new → ServerTurn c start d (outcome.Refused refusal.error.error_type refusal.ts_request) new
   halted start new d request state version error refusal same own stays given h =
-      let told : error_request state request.version error.error_type request ≡ error_request start.state new.version error.error_type d =
+      let told : error_request state request.version error.error_type request
+      ≡ error_request start.state new.settings.version error.error_type d =
       ap (λ (r : TsRequest). error_request state r.version error.error_type r) same
       ∙ same_request state version version error.error_type d
       ∙ ap (λ v. error_request state v error.error_type d) own
-      ∙ ap (λ s. error_request s new.version error.error_type d) stays in
+      ∙ ap (λ s. error_request s new.settings.version error.error_type d) stays in
       subst (λ (r : ServerError). ServerTurn c start d (outcome.Refused r.error.error_type r.ts_request) new) (sym given)
       (subst (λ r. ServerTurn c start d (outcome.Refused error.error_type (Some r)) new) (sym told) h)
 
@@ -42,7 +43,7 @@ module _ {C P : Type 0} (c : Meaning ContextSetting C) where
   pub halted_as : (start new : ServerView C P) (d request : TsRequest) (state : CredSspState) (version : ℕ) (error : Error)
       (refusal : ServerError)
       (result : Result ServerState ServerError) → result ≡ Err refusal →
-      request ≡ record d { version = version } → version ≡ new.version → state ≡ start.state →
+      request ≡ record d { version = version } → version ≡ new.settings.version → state ≡ start.state →
       refusal ≡ record { ts_request = Some (error_request state request.version error.error_type request); error = error } →
       HaltedTurn c start d error.error_type new → ServerGoes c start d result new
   halted_as start new d request state version error refusal result is same own stays given h =
@@ -50,9 +51,10 @@ module _ {C P : Type 0} (c : Meaning ContextSetting C) where
 
   pub went_on : (start new : ServerView C P) (d request : TsRequest) (version : ℕ) (answer : Answer) (reply : TsRequest)
       (result : Result ServerState ServerError) → result ≡ Ok (ReplyNeeded reply) →
-      request ≡ record d { version = version } → version ≡ new.version → reply ≡ answered_by request answer →
-      ServerTurn c start d (outcome.Reply (answered_by (record d { version = new.version }) answer)) new → ServerGoes c start d result new
+      request ≡ record d { version = version } → version ≡ new.settings.version → reply ≡ answered_by request answer →
+      ServerTurn c start d (outcome.Reply (answered_by (record d { version = new.settings.version }) answer)) new →
+      ServerGoes c start d result new
   went_on start new d request version answer reply result is same own given h =
-      let told : answered_by (record d { version = new.version }) answer ≡ reply =
+      let told : answered_by (record d { version = new.settings.version }) answer ≡ reply =
       ap (λ v. answered_by (record d { version = v }) answer) (sym own) ∙ ap (λ r. answered_by r answer) (sym same) ∙ sym given in
       subst (λ r. ServerGoes c start d r new) (sym is) (subst (λ r. ServerTurn c start d (outcome.Reply r) new) told h)

@@ -27,7 +27,7 @@ module _ {C : Type 0} (c : Meaning ContextSetting C) (laws : IsContext c) where
   pub still_waits : (start : ClientView C) (d : TsRequest) (tries : ℕ) (log : List Asked) (q : NetworkRequest)
       (v stepped new : ClientView C)
       (m m2 : C) (reply : Reply) (request : TsRequest) (progress : Result Progressing Error) (result : Result Progress Error) →
-      request ≡ record d { version = v.version } → v.state ≡ NegoToken → v.output ≡ [] → v.context ≡ Some m →
+      request ≡ record d { version = v.settings.version } → v.state ≡ NegoToken → v.output ≡ [] → v.context ≡ Some m →
       v.acts ≡ no_acts → stepped ≡ record v { context = Some m2; acts = record v.acts { negotiated = true } } →
       IsReady c start d v → Walked c start v.handle d.nego_tokens tries log (Ask q) m → c.resumes m reply (answer_of progress) m2 →
       OnErr result (new.acts.status ≡ None → KeepsRequest c stepped progress request new) →
@@ -54,16 +54,7 @@ module _ {C : Type 0} (c : Meaning ContextSetting C) (laws : IsContext c) where
         ready = record {
           idle = ready2.idle;
           code = ready2.code;
-          same = record {
-            public_key = ready2.same.public_key;
-            credentials = ready2.same.credentials;
-            delegation = ready2.same.delegation;
-            version = ready2.same.version;
-            least = ready2.same.least;
-            mode = ready2.same.mode;
-            target = ready2.same.target;
-            nonce = ready2.same.nonce;
-          };
+          same = ready2.same;
           handle = ready2.handle;
           state = ready2.state;
           noted = ready2.noted;

@@ -10,7 +10,8 @@ use Rattle.sspi_credssp.specs.declared.state.CredSspState.{CredSspState}
 use Rattle.sspi_credssp.specs.declared.state.CredSspState.TheVariants.{NegoToken, PubKeyInfo, AuthInfo, Final}
 use Rattle.sspi_credssp.specs.Acts.{no_acts}
 
-pub record ClientView (C : Type 0) : Type 0 where
+-- what a client was made with, which no call changes
+pub record ClientSettings : Type 0 where
   pub public_key : List ℕ
   pub credentials : Credentials
   pub delegation : CredSspMode
@@ -21,6 +22,9 @@ pub record ClientView (C : Type 0) : Type 0 where
   -- the name of the service
   pub target : List ℕ
   pub nonce : List ℕ
+
+pub record ClientView (C : Type 0) : Type 0 where
+  pub settings : ClientSettings
   pub state : CredSspState
   pub context : Option C
   -- the acquired credentials

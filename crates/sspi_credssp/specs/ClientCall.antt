@@ -12,7 +12,7 @@ use Rattle.sspi_credssp.specs.Acts.{no_acts}
 use Rattle.sspi_credssp.specs.Client.{ClientView}
 use Rattle.sspi_credssp.specs.ClientCause.{ClientCause, ResumeCause, status_of}
 use Rattle.sspi_credssp.specs.ClientStep.{Asked, HasStepped, StepsTo, OnSuspended}
-use Rattle.sspi_credssp.specs.ClientTurn.{ClientGoes, IsUnderway, SameClient}
+use Rattle.sspi_credssp.specs.ClientTurn.{ClientGoes, IsUnderway}
 use Rattle.sspi_credssp.specs.Context.{ContextSetting}
 use Rattle.sspi_credssp.specs.Counts.{is_waiting_in, left_in}
 use Rattle.sspi_credssp.specs.Heeded.{ClientHeeds}
@@ -70,7 +70,7 @@ module _ {C : Type 0} (c : Meaning ContextSetting C) where
 
   -- what it leaves alone: a turn that it refuses waits on where the context does, and without one nothing moves
   pub record ResumeKeeps (old : ClientView C) (reply : Reply) (result : Result Progress Error) (new : ClientView C) : Type 0 where
-    pub same : SameClient c old new
+    pub same : new.settings ≡ old.settings
     pub still : (start : ClientView C) (d : TsRequest) (tries : ℕ) (log : List Asked) (q : NetworkRequest) →
         Awaits start d tries log q old → OnErr result (new.acts.status ≡ None → is_waiting_in c new.context ≡ true →
         Awaits start d (tries + 1) (record { question = q; reply = reply } ∷ log) q new)

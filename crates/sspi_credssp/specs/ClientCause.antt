@@ -49,8 +49,8 @@ module _ {C : Type 0} (c : Meaning ContextSetting C) where
   BlobOpens None context blob new kind = ⊥
   BlobOpens (Some noted) None blob new kind = ⊥
   BlobOpens (Some noted) (Some m) blob new kind =
-      OpenedCause new.acts.checked m blob (prescribed Server noted new.nonce new.public_key)
-      (delegated_text new.credentials new.delegation) kind
+      OpenedCause new.acts.checked m blob (prescribed Server noted new.settings.nonce new.settings.public_key)
+      (delegated_text new.settings.credentials new.settings.delegation) kind
 
   -- pubKeyAuth is absent, too short, or what it opens to is refused
   abbrev pub DeliverCause : Option (List ℕ) → ClientView C → ErrorKind → Type 0
@@ -60,7 +60,7 @@ module _ {C : Type 0} (c : Meaning ContextSetting C) where
   abbrev pub ProveCause : Option ℕ → Option C → ClientView C → ErrorKind → Type 0
   ProveCause None context new kind = kind ≡ InternalError
   ProveCause (Some noted) None new kind = ⊥
-  ProveCause (Some noted) (Some m) new kind = c.refuses m (ToSeal (prescribed Client noted new.nonce new.public_key)) kind
+  ProveCause (Some noted) (Some m) new kind = c.refuses m (ToSeal (prescribed Client noted new.settings.nonce new.settings.public_key)) kind
 
   -- the context refused the step, with this error, as the clause on the step says; or its end is refused
   abbrev pub NegoCause : Option SecurityStatus → ClientView C → ErrorKind → Type 0
@@ -78,9 +78,9 @@ module _ {C : Type 0} (c : Meaning ContextSetting C) where
   ClientCause old d new kind =
       StopsIf (is_waiting_in c old.context) OutOfSequence kind
       (StopsIf (is_code d.error_code) InvalidToken kind
-      (StopsIf (is_old_in old.context old.least old.noted d.version) DowngradeDetected kind
+      (StopsIf (is_old_in old.context old.settings.least old.noted d.version) DowngradeDetected kind
       (StopsIf (is_altered_in old.context old.noted d.version) MessageAltered kind
-      (MadeOr old.context new.context (BeginCause c (ForClient old.mode) Outbound (Some old.credentials) kind)
+      (MadeOr old.context new.context (BeginCause c (ForClient old.settings.mode) Outbound (Some old.settings.credentials) kind)
       (StateCause old.state d new kind)))))
 
   abbrev pub KeptCause : Option TsRequest → ClientView C → ErrorKind → Type 0

@@ -7,7 +7,6 @@ use Rattle.sspi_mech.specs.Meaning.{Meaning}
 use Rattle.sspi_tsreq.specs.declared.request.TsRequest.{TsRequest}
 use Rattle.sspi_credssp.specs.declared.acts.Acts.{Acts}
 use Rattle.sspi_credssp.specs.Client.{ClientView}
-use Rattle.sspi_credssp.specs.ClientTurn.{SameClient}
 use Rattle.sspi_credssp.specs.Context.{ContextSetting}
 use Rattle.sspi_credssp.specs.Counts.{SameBut, is_waiting_in}
 
@@ -19,7 +18,7 @@ pub record HasDone {C : Type 0} (did : Acts) (now : ClientView C) : Type 0 where
 module _ {C : Type 0} (c : Meaning ContextSetting C) where
   -- its context has taken its step, and what no call changes is as before
   pub record HasGoneOn (old new : ClientView C) : Type 0 where
-    pub same : SameClient c old new
+    pub same : new.settings ≡ old.settings
     pub negotiated : new.acts.negotiated ≡ true
     pub begun : IsSome new.context
 

@@ -54,8 +54,8 @@ module _ {C : Type 0} (c : Meaning ContextSetting C) where
   pub data Walked (start : ClientView C) (handle : Option CredentialsBuffers) (token : Option (List ℕ)) :
       ℕ → List Asked → Answer → C → Type 0 where
     stepped : (m0 m : C) (answer : Answer) →
-        Begun c start.context start.handle (ForClient start.mode) Outbound (Some start.credentials) handle m0 →
-        c.steps m0 (client_args handle start.target token) answer m → Walked start handle token 0 [] answer m
+        Begun c start.context start.handle (ForClient start.settings.mode) Outbound (Some start.settings.credentials) handle m0 →
+        c.steps m0 (client_args handle start.settings.target token) answer m → Walked start handle token 0 [] answer m
     resumed : (m m2 : C) (tries : ℕ) (log : List Asked) (q : NetworkRequest) (reply : Reply) (answer : Answer) →
         Walked start handle token tries log (Ask q) m → c.resumes m reply answer m2 →
         Walked start handle token tries (record { question = q; reply = reply } ∷ log) answer m2

@@ -51,11 +51,7 @@ module _ {C : Type 0} (c : Meaning ContextSetting C) where
   -- the frame of one call: a turn seals at most one text and opens at most one blob, each the last of the context
   abbrev pub client_frame : ClientView C → ClientView C → ClientFrame C
   client_frame old new = record {
-    public_key = new.public_key;
-    nonce = new.nonce;
-    version = new.version;
-    credentials = new.credentials;
-    delegation = new.delegation;
+    settings = new.settings;
     state = old.state;
     made = sealed_in c new.context - 1;
     opened = unsealed_in c new.context - 1;
@@ -67,17 +63,6 @@ module _ {C : Type 0} (c : Meaning ContextSetting C) where
   abbrev pub client_turn : TsRequest → Outcome → ClientView C → Turn
   client_turn d out new = record { end = Client; delivered = d; acts = new.acts; output = new.output; outcome = out }
 
-  -- what no call changes
-  pub record SameClient (old new : ClientView C) : Type 0 where
-    pub public_key : new.public_key ≡ old.public_key
-    pub credentials : new.credentials ≡ old.credentials
-    pub delegation : new.delegation ≡ old.delegation
-    pub version : new.version ≡ old.version
-    pub least : new.least ≡ old.least
-    pub mode : new.mode ≡ old.mode
-    pub target : new.target ≡ old.target
-    pub nonce : new.nonce ≡ old.nonce
-
   -- a context and the credentials that it acquired are kept
   abbrev pub KeepsHandle : ClientView C → ClientView C → Type 0
   KeepsHandle old new = IsSome old.context → (new.handle ≡ old.handle) × IsSome new.context
@@ -88,7 +73,7 @@ module _ {C : Type 0} (c : Meaning ContextSetting C) where
 
   -- the version that is noted where a call looks at the delivered one
   abbrev pub noted_next : ClientView C → TsRequest → Option ℕ
-  noted_next old d = noted_in old.context old.least old.noted d.version
+  noted_next old d = noted_in old.context old.settings.least old.noted d.version
 
   -- the version that is noted after a call: a call that is refused before it looks at the version notes none
   abbrev pub noted_after : ClientView C → TsRequest → Option ℕ
@@ -96,7 +81,7 @@ module _ {C : Type 0} (c : Meaning ContextSetting C) where
 
   -- how far a turn moves the client
   pub record ClientMoves (old : ClientView C) (d : TsRequest) (out : Outcome) (new : ClientView C) : Type 0 where
-    pub same : SameClient old new
+    pub same : new.settings ≡ old.settings
     pub handle : KeepsHandle old new
     pub state : new.state ≡ state_after old.state out new.acts.proved
     pub noted : new.noted ≡ noted_after old d
@@ -121,7 +106,7 @@ module _ {C : Type 0} (c : Meaning ContextSetting C) where
     pub rest : new ≡ record old { context = new.context; acts = record old.acts { proved = true } }
     pub noted : IsSome old.noted
     pub proof : AtNoted old.noted (λ noted. SealsIn c new.context (sealed_in c new.context - 1)
-        (prescribed Client noted old.nonce old.public_key) (Some blob))
+        (prescribed Client noted old.settings.nonce old.settings.public_key) (Some blob))
     pub sealed : sealed_in c new.context ≡ sealed_in c old.context + 1
     pub unsealed : unsealed_in c new.context ≡ unsealed_in c old.context
     pub begun : IsSome new.context
@@ -137,7 +122,7 @@ module _ {C : Type 0} (c : Meaning ContextSetting C) where
     pub checked : new.acts.checked ≡ true → IsLong field
     pub sealed : new.acts.sealed ≡ true → (new.acts.checked ≡ true) ×
         AtNoted old.noted (λ noted. OpensIn c new.context (unsealed_in c new.context - 1) field
-        (prescribed Server noted old.nonce old.public_key))
+        (prescribed Server noted old.settings.nonce old.settings.public_key))
     pub sealed_count : sealed_in c new.context ≡ sealed_in c old.context + count_of new.acts.sealed
     pub unsealed_count : unsealed_in c new.context ≡ unsealed_in c old.context + count_of new.acts.checked
     pub bare : SameBut c old.context new.context
@@ -147,7 +132,7 @@ module _ {C : Type 0} (c : Meaning ContextSetting C) where
     pub noted : IsSome old.noted
     pub checked : new.acts.checked ≡ true
     pub sealed : new.acts.sealed ≡ true
-    pub credentials : IfText (delegated_text old.credentials old.delegation)
+    pub credentials : IfText (delegated_text old.settings.credentials old.settings.delegation)
         (λ text. SealsIn c new.context (sealed_in c new.context - 1) text (Some blob))
 
   abbrev pub ClientDelivers : ClientView C → Option (List ℕ) → Result (List ℕ) Error → ClientView C → Type 0
@@ -158,12 +143,12 @@ module _ {C : Type 0} (c : Meaning ContextSetting C) where
   pub record IsReady (start : ClientView C) (d : TsRequest) (now : ClientView C) : Type 0 where
     pub idle : is_waiting_in c start.context ≡ false
     pub code : is_code d.error_code ≡ false
-    pub same : SameClient start now
+    pub same : now.settings ≡ start.settings
     pub handle : KeepsHandle start now
     pub state : now.state ≡ start.state
     pub noted : now.noted ≡ noted_next start d
     pub fits : FitsNoted (is_some start.context) now.noted d.version
-    pub young : is_old_in start.context start.least start.noted d.version ≡ false
+    pub young : is_old_in start.context start.settings.least start.noted d.version ≡ false
     pub passed : is_altered_in start.context start.noted d.version ≡ false
     pub begun : IsSome now.context
     pub sealed : StartsUnused start → sealed_in c now.context ≡ sealed_in c start.context
@@ -176,7 +161,7 @@ module _ {C : Type 0} (c : Meaning ContextSetting C) where
     pub ready : IsReady start d now
     pub state : now.state ≡ NegoToken
     pub waiting : is_waiting_in c now.context ≡ true
-    pub kept : now.kept ≡ Some (record d { version = now.version })
+    pub kept : now.kept ≡ Some (record d { version = now.settings.version })
 
   abbrev pub CompletedTurn : ClientView C → TsRequest → ClientState → ClientView C → Type 0
   CompletedTurn old d (ReplyNeeded reply) new = ClientTurn old d (outcome.Reply reply) new

@@ -32,7 +32,7 @@ module _ {C : Type 0} (c : Meaning ContextSetting C) where
   pub record ClientMeetsOld (client : ClientView C) (d : TsRequest) : Type 0 where
     pub idle : is_waiting_in c client.context ≡ false
     pub code : is_code d.error_code ≡ false
-    pub old : is_old_in client.context client.least client.noted d.version ≡ true
+    pub old : is_old_in client.context client.settings.least client.noted d.version ≡ true
 
   -- exactly there it refuses with that kind, and then only forgets its last call
   pub record ClientHeeds (client : ClientView C) (d : TsRequest) (result : Result Progress Error) (new : ClientView C) : Type 0 where
@@ -44,7 +44,7 @@ module _ {C : Type 0} (c : Meaning ContextSetting C) where
     -- the server has a context, or has made one, has noted no version, and would note one below its least
     pub record ServerMeetsOld (server : ServerView C P) (d : TsRequest) (new : ServerView C P) : Type 0 where
       pub begun : IsSome new.context
-      pub old : is_old server.least server.noted d.version ≡ true
+      pub old : is_old server.settings.least server.noted d.version ≡ true
 
     -- exactly there it refuses with that kind, and then has at most a new context
     pub record ServerHeeds (server : ServerView C P) (d : TsRequest) (result : Result ServerState ServerError)

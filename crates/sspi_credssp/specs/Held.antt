@@ -22,8 +22,9 @@ module _ {C : Type 0} (c : Meaning ContextSetting C) where
 
   -- the proof is made over the client's nonce and key
   pub record HoldsProof (f : ClientFrame C) (r : TsRequest) : Type 0 where
-    pub nonce : r.client_nonce ≡ Some f.nonce
-    pub proof : AtNoted f.noted (λ noted. SealsIn c f.context f.made (prescribed Client noted f.nonce f.public_key) r.pub_key_auth)
+    pub nonce : r.client_nonce ≡ Some f.settings.nonce
+    pub proof : AtNoted f.noted (λ noted. SealsIn c f.context f.made
+        (prescribed Client noted f.settings.nonce f.settings.public_key) r.pub_key_auth)
 
   abbrev pub HoldsNego : ClientFrame C → Option SecurityStatus → TsRequest → Type 0
   HoldsNego f (Some statuses.Ok) r = HoldsProof f r
@@ -32,7 +33,7 @@ module _ {C : Type 0} (c : Meaning ContextSetting C) where
   -- the credentials are those of the client
   abbrev pub HoldsReply : ClientFrame C → Option SecurityStatus → Outcome → Type 0
   HoldsReply f status (outcome.Reply r) = HoldsNego f status r
-  HoldsReply f status (outcome.Final r) = IfText (delegated_text f.credentials f.delegation)
+  HoldsReply f status (outcome.Final r) = IfText (delegated_text f.settings.credentials f.settings.delegation)
       (λ text. SealsIn c f.context f.made text r.auth_info)
   HoldsReply f status outcome.Finished = Unit {0}
   HoldsReply f status (outcome.Refused kind reply) = Unit {0}
@@ -40,7 +41,8 @@ module _ {C : Type 0} (c : Meaning ContextSetting C) where
   -- the credentials are sealed only once the delivered pubKeyAuth opened to the proof that the server owes
   pub record HoldsClient (f : ClientFrame C) (t : Turn) : Type 0 where
     pub sealed : t.acts.sealed ≡ true →
-        AtNoted f.noted (λ noted. OpensIn c f.context f.opened t.delivered.pub_key_auth (prescribed Server noted f.nonce f.public_key))
+        AtNoted f.noted (λ noted. OpensIn c f.context f.opened t.delivered.pub_key_auth
+        (prescribed Server noted f.settings.nonce f.settings.public_key))
     pub reply : HoldsReply f t.acts.status t.outcome
 
   -- ---- the server
@@ -53,17 +55,17 @@ module _ {C : Type 0} (c : Meaning ContextSetting C) where
   -- the server's proof is made over the delivered nonce and its own key
   abbrev pub HoldsProofBack : ServerFrame C → TsRequest → TsRequest → Type 0
   HoldsProofBack f d r = AtNoted f.noted (λ noted. SealsIn c f.context f.made
-      (prescribed Server noted (nonce_of d.client_nonce) f.public_key) r.pub_key_auth)
+      (prescribed Server noted (nonce_of d.client_nonce) f.settings.public_key) r.pub_key_auth)
 
   abbrev pub HoldsAnswer : ServerFrame C → Turn → Outcome → Type 0
   HoldsAnswer f t (outcome.Reply r) = t.acts.proved ≡ true → HoldsProofBack f t.delivered r
   HoldsAnswer f t (outcome.Final r) = Unit {0}
   HoldsAnswer f t outcome.Finished = Unit {0}
   HoldsAnswer f t (outcome.Refused kind None) = Unit {0}
-  HoldsAnswer f t (outcome.Refused kind (Some r)) = r.version ≡ version_back f.context f.noted t.delivered.version f.version
+  HoldsAnswer f t (outcome.Refused kind (Some r)) = r.version ≡ version_back f.context f.noted t.delivered.version f.settings.version
 
   -- the server proves nothing before the client's proof was the right one
   pub record HoldsServer (f : ServerFrame C) (t : Turn) : Type 0 where
     pub checked : t.acts.checked ≡ true → AtNoted f.noted (λ noted. HasNonce (nat_lt noted 5) t.delivered.client_nonce)
-    pub proved : t.acts.proved ≡ true → AtNoted f.noted (Proven f.context f.opened f.public_key t.delivered)
+    pub proved : t.acts.proved ≡ true → AtNoted f.noted (Proven f.context f.opened f.settings.public_key t.delivered)
     pub reply : HoldsAnswer f t t.outcome

@@ -7,14 +7,18 @@ use Rattle.sspi_credssp.specs.declared.state.CredSspState.{CredSspState}
 use Rattle.sspi_credssp.specs.declared.state.CredSspState.TheVariants.{NegoToken}
 use Rattle.sspi_credssp.specs.Acts.{no_acts}
 
--- P is its proxy, where it looks its peers up
-pub record ServerView (C P : Type 0) : Type 0 where
+-- what a server was made with, which no call changes
+pub record ServerSettings : Type 0 where
   pub public_key : List ℕ
-  pub proxy : P
   pub version : ℕ
   -- the least version of a client that it takes
   pub least : ℕ
   pub mode : ServerMode
+
+-- P is its proxy, where it looks its peers up
+pub record ServerView (C P : Type 0) : Type 0 where
+  pub settings : ServerSettings
+  pub proxy : P
   pub state : CredSspState
   pub context : Option C
   -- the acquired credentials

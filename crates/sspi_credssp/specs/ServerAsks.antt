@@ -14,4 +14,4 @@ look_ups_at (Some other) = 0
 
 -- all calls of a turn
 abbrev pub calls_in : {C P : Type 0} → ServerView C P → Option SecurityStatus → ℕ
-calls_in old status = lists_in old.context old.mode + look_ups_at status
+calls_in old status = lists_in old.context old.settings.mode + look_ups_at status

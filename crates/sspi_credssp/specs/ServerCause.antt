@@ -78,8 +78,8 @@ module _ {C : Type 0} (c : Meaning ContextSetting C) where
     abbrev pub BlobCause : ℕ → Option C → Option (List ℕ) → List ℕ → ServerView C P → ErrorKind → Type 0
     BlobCause noted None sent_nonce blob new kind = ⊥
     BlobCause noted (Some m) sent_nonce blob new kind =
-        ProofCause new.acts.checked m blob (prescribed Client noted (nonce_of sent_nonce) new.public_key)
-        (prescribed Server noted (nonce_of sent_nonce) new.public_key) kind
+        ProofCause new.acts.checked m blob (prescribed Client noted (nonce_of sent_nonce) new.settings.public_key)
+        (prescribed Server noted (nonce_of sent_nonce) new.settings.public_key) kind
 
     -- the field with the proof and the nonce that came with it: presence, nonce, length, and what the blob opens to
     abbrev pub ExchangeCause : Option (List ℕ) → Option ℕ → Option (List ℕ) → ServerView C P → ErrorKind → Type 0
@@ -128,6 +128,6 @@ module _ {C : Type 0} (c : Meaning ContextSetting C) where
 
     abbrev pub ServerCause : ServerView C P → TsRequest → ServerView C P → ErrorKind → Type 0
     ServerCause old d new kind =
-        MadeOr old.context new.context (MakeCause old.mode old.proxy new.proxy kind)
-        (VersionStops old.least old.noted d.version kind
+        MadeOr old.context new.context (MakeCause old.settings.mode old.proxy new.proxy kind)
+        (VersionStops old.settings.least old.noted d.version kind
         (StateCause old.state old d new kind))

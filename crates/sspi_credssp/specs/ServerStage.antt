@@ -28,7 +28,7 @@ pub record HasReached {C P : Type 0} (came : Option SecurityStatus) (now : Serve
 
 -- what follows the answer of a step keeps that answer, and advances only where it is not refused
 pub record KeepsStep {C P T : Type 0} (old : ServerView C P) (result : Result T Error) (new : ServerView C P) : Type 0 where
-  pub version : new.version ≡ old.version
+  pub version : new.settings.version ≡ old.settings.version
   pub handle : new.handle ≡ old.handle
   pub output : new.output ≡ old.output
   pub state : OnErr result (new.state ≡ old.state)
@@ -37,7 +37,8 @@ pub record KeepsStep {C P T : Type 0} (old : ServerView C P) (result : Result T 
 -- its own kind.
 pub record LooksAt {C P T : Type 0} (version : ℕ) (old : ServerView C P) (result : Result T Error) (new : ServerView C P) : Type 0 where
   pub altered : differs old.noted version ≡ true → IsErr result × (new ≡ old)
-  pub too_old : IfErr result (λ error. IsSome new.context → is_old old.least old.noted version ≡ true → error.error_type ≡ DowngradeDetected)
+  pub too_old : IfErr result (λ error. IsSome new.context → is_old old.settings.least old.noted version ≡ true →
+      error.error_type ≡ DowngradeDetected)
 
 -- A context that is there is the one that it had, or a new one that has acquired credentials, with which the authentication
 -- begins; and where there is none, it only asked its proxy.

@@ -42,7 +42,7 @@ pub data Knowing : Type 0 where
 
 -- what a server's context is made of
 abbrev pub server_setting : {C P : Type 0} → ProxyMeaning P → ServerView C P → ContextSetting
-server_setting p start = ForServer start.mode (p.told start.proxy).entries
+server_setting p start = ForServer start.settings.mode (p.told start.proxy).entries
 
 module _ {C : Type 0} (c : Meaning ContextSetting C) where
   -- the peer's name was looked up, some identities were found, and the context took one of them

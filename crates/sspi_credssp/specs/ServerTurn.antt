@@ -86,8 +86,7 @@ module _ {C : Type 0} (c : Meaning ContextSetting C) where
     -- the frame of one call: a turn seals at most one text and opens at most one blob, each the last of the context
     abbrev pub server_frame : ServerView C P → ServerView C P → ServerFrame C
     server_frame old new = record {
-      public_key = new.public_key;
-      version = new.version;
+      settings = new.settings;
       state = old.state;
       made = sealed_in c new.context - 1;
       opened = unsealed_in c new.context - 1;
@@ -97,13 +96,6 @@ module _ {C : Type 0} (c : Meaning ContextSetting C) where
 
     abbrev pub server_turn : TsRequest → Outcome → ServerView C P → Turn
     server_turn d out new = record { end = Server; delivered = d; acts = new.acts; output = new.output; outcome = out }
-
-    -- what no call changes
-    pub record SameServer (old new : ServerView C P) : Type 0 where
-      pub public_key : new.public_key ≡ old.public_key
-      pub version : new.version ≡ old.version
-      pub least : new.least ≡ old.least
-      pub mode : new.mode ≡ old.mode
 
     -- a context and the credentials that it acquired are kept
     abbrev pub KeepsHandle : ServerView C P → ServerView C P → Type 0
@@ -115,23 +107,23 @@ module _ {C : Type 0} (c : Meaning ContextSetting C) where
 
     -- the context is the one that the server had, but for its counts, or a new one that has acquired credentials; or there is none
     pub data IsNew (old new : ServerView C P) (m : C) : Type 0 where
-      is_made : (told : Option (List AuthIdentity)) → Begun c old.context old.handle (ForServer old.mode told) Inbound None new.handle m →
-          IsNew old new m
+      is_made : (told : Option (List AuthIdentity)) →
+          Begun c old.context old.handle (ForServer old.settings.mode told) Inbound None new.handle m → IsNew old new m
 
     abbrev pub IsUnstepped : ServerView C P → ServerView C P → Type 0
     IsUnstepped old new = UnlessMade old.context new.context (IsNew old new)
 
     -- how far a turn moves the server
     pub record ServerMoves (old : ServerView C P) (d : TsRequest) (out : Outcome) (new : ServerView C P) : Type 0 where
-      pub same : SameServer old new
+      pub same : new.settings ≡ old.settings
       pub handle : KeepsHandle old new
       pub state : new.state ≡ server_state_after old.state out new.acts.proved new.acts.status
-      pub noted : IsSome new.context → new.noted ≡ noted_with old.least old.noted d.version
+      pub noted : IsSome new.context → new.noted ≡ noted_with old.settings.least old.noted d.version
       pub unnoted : new.context ≡ None → new.noted ≡ old.noted
       pub begun : UnlessRefused out (IsSome new.context)
-      pub noted_proved : new.acts.proved ≡ true → new.noted ≡ noted_with old.least old.noted d.version
-      pub noted_checked : new.acts.checked ≡ true → new.noted ≡ noted_with old.least old.noted d.version
-      pub noted_opened : new.acts.opened ≡ true → new.noted ≡ noted_with old.least old.noted d.version
+      pub noted_proved : new.acts.proved ≡ true → new.noted ≡ noted_with old.settings.least old.noted d.version
+      pub noted_checked : new.acts.checked ≡ true → new.noted ≡ noted_with old.settings.least old.noted d.version
+      pub noted_opened : new.acts.opened ≡ true → new.noted ≡ noted_with old.settings.least old.noted d.version
       pub sealed : StartsUnused old → sealed_in c new.context ≡ sealed_in c old.context + sealed_by new.acts
       pub unsealed : StartsUnused old → unsealed_in c new.context ≡ unsealed_in c old.context + unsealed_by new.acts
       -- no step of the context follows its first message, but in the authentication
@@ -142,12 +134,12 @@ module _ {C : Type 0} (c : Meaning ContextSetting C) where
 
     -- A turn on d that began at `start` has come past the version check. What follows speaks of the context as it is now.
     pub record IsReady (start : ServerView C P) (d : TsRequest) (now : ServerView C P) : Type 0 where
-      pub same : SameServer start now
+      pub same : now.settings ≡ start.settings
       pub handle : KeepsHandle start now
       pub state : now.state ≡ start.state
-      pub noted : now.noted ≡ noted_with start.least start.noted d.version
+      pub noted : now.noted ≡ noted_with start.settings.least start.noted d.version
       pub fits : AtNoted now.noted (λ noted. d.version ≡ noted)
-      pub young : is_old start.least start.noted d.version ≡ false
+      pub young : is_old start.settings.least start.noted d.version ≡ false
       pub passed : differs start.noted d.version ≡ false
       pub begun : IsSome now.context
       pub sealed : StartsUnused start → sealed_in c now.context ≡ sealed_in c start.context
@@ -162,7 +154,7 @@ module _ {C : Type 0} (c : Meaning ContextSetting C) where
       pub checked : new.acts.checked ≡ true → IsLong d.pub_key_auth
           × AtNoted old.noted (λ noted. HasNonce (nat_lt noted 5) d.client_nonce)
       pub proved : new.acts.proved ≡ true → (new.acts.checked ≡ true) ×
-          AtNoted old.noted (Proven c new.context (unsealed_in c new.context - 1) old.public_key d)
+          AtNoted old.noted (Proven c new.context (unsealed_in c new.context - 1) old.settings.public_key d)
       pub sealed_count : sealed_in c new.context ≡ sealed_in c old.context + count_of new.acts.proved
       pub unsealed_count : unsealed_in c new.context ≡ unsealed_in c old.context + count_of new.acts.checked
       pub bare : SameBut c old.context new.context
@@ -171,7 +163,7 @@ module _ {C : Type 0} (c : Meaning ContextSetting C) where
       pub checked : new.acts.checked ≡ true
       pub proved : new.acts.proved ≡ true
       pub proof : AtNoted old.noted (λ noted.
-          SealsIn c new.context (sealed_in c new.context - 1) (prescribed Server noted (nonce_of d.client_nonce) old.public_key)
+          SealsIn c new.context (sealed_in c new.context - 1) (prescribed Server noted (nonce_of d.client_nonce) old.settings.public_key)
           (Some blob))
 
     abbrev pub ServerExchanges : ServerView C P → TsRequest → Result (List ℕ) Error → ServerView C P → Type 0
@@ -199,7 +191,7 @@ module _ {C : Type 0} (c : Meaning ContextSetting C) where
     -- a call that is refused before it looks at the version, or by it, keeps what the server had, or the new context
     pub record BeginRefused (old : ServerView C P) (version : ℕ) (new : ServerView C P) : Type 0 where
       pub handle : KeepsHandle old new
-      pub noted : IsSome new.context → new.noted ≡ noted_with old.least old.noted version
+      pub noted : IsSome new.context → new.noted ≡ noted_with old.settings.least old.noted version
       pub unnoted : new.context ≡ None → new.noted ≡ old.noted
       pub unstepped : IsUnstepped old new
       pub back : (own : ℕ) → version_back new.context new.noted version own ≡ version
@@ -209,10 +201,10 @@ module _ {C : Type 0} (c : Meaning ContextSetting C) where
 
     -- a turn past the version check that is refused, with the request that tells the client
     abbrev pub HaltedTurn : ServerView C P → TsRequest → ErrorKind → ServerView C P → Type 0
-    HaltedTurn old d kind new = ServerTurn old d (outcome.Refused kind (Some (error_request old.state new.version kind d))) new
+    HaltedTurn old d kind new = ServerTurn old d (outcome.Refused kind (Some (error_request old.state new.settings.version kind d))) new
 
     abbrev pub Answered : ServerView C P → TsRequest → Result Answer Error → ServerView C P → Type 0
-    Answered old d (Ok answer) new = ServerTurn old d (outcome.Reply (answered_by (record d { version = new.version }) answer)) new
+    Answered old d (Ok answer) new = ServerTurn old d (outcome.Reply (answered_by (record d { version = new.settings.version }) answer)) new
     Answered old d (Err error) new = HaltedTurn old d error.error_type new
 
     abbrev pub EndedTurn : ServerView C P → TsRequest → ServerState → ServerView C P → Type 0

@@ -23,10 +23,10 @@ pub record ShownFrame : Type 0 where
   pub version : Option ℕ
 
 abbrev pub client_shown : {C : Type 0} → ClientFrame C → ShownFrame
-client_shown f = record { state = f.state; looks = f.looks; noted = f.noted; version = Some f.version }
+client_shown f = record { state = f.state; looks = f.looks; noted = f.noted; version = Some f.settings.version }
 
 abbrev pub server_shown : {C : Type 0} → ServerFrame C → ShownFrame
-server_shown f = record { state = f.state; looks = true; noted = f.noted; version = Some f.version }
+server_shown f = record { state = f.state; looks = true; noted = f.noted; version = Some f.settings.version }
 
 -- a message has its end's own version, where that is known
 abbrev pub IsOwn : Option ℕ → ℕ → Type 0

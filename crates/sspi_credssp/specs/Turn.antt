@@ -1,9 +1,9 @@
 -- One turn of an end: the message that it has for the peer, and what the end is at it.
-use Rattle.std.specs.Prelude.{◌≡◌, ℕ, List, Option, None, Some, Bool, true, false}
-use Rattle.sspi_names.specs.declared.credentials.Credentials.{Credentials}
-use Rattle.sspi_tsreq.specs.declared.mode.CredSspMode.{CredSspMode}
+use Rattle.std.specs.Prelude.{◌≡◌, ℕ, Option, None, Some, Bool, true, false}
 use Rattle.sspi_tsreq.specs.declared.request.TsRequest.{TsRequest}
 use Rattle.sspi_credssp.specs.declared.state.CredSspState.{CredSspState}
+use Rattle.sspi_credssp.specs.Client.{ClientSettings}
+use Rattle.sspi_credssp.specs.Server.{ServerSettings}
 use Rattle.sspi_credssp.specs.declared.turn.Outcome.{Outcome}
 use Rattle.sspi_credssp.specs.declared.turn.Outcome.TheVariants.{Reply, Final, Finished, Refused}
 
@@ -31,15 +31,11 @@ abbrev pub FitsNoted : Bool → Option ℕ → ℕ → Type 0
 FitsNoted false noted version = Unit {0}
 FitsNoted true noted version = AtNoted noted (λ n. version ≡ n)
 
--- What a client is at a turn: its own values; its state before the turn; the numbers that the messages of this turn have
+-- What a client is at a turn: its settings; its state before the turn; the numbers that the messages of this turn have
 -- among those that its context sealed and opened; whether it looks at the delivered version, as in each turn but its first;
 -- the version that is noted once the turn is over; and its context.
 pub record ClientFrame (C : Type 0) : Type 0 where
-  pub public_key : List ℕ
-  pub nonce : List ℕ
-  pub version : ℕ
-  pub credentials : Credentials
-  pub delegation : CredSspMode
+  pub settings : ClientSettings
   pub state : CredSspState
   pub made : ℕ
   pub opened : ℕ
@@ -49,8 +45,7 @@ pub record ClientFrame (C : Type 0) : Type 0 where
 
 -- what a server is at a turn
 pub record ServerFrame (C : Type 0) : Type 0 where
-  pub public_key : List ℕ
-  pub version : ℕ
+  pub settings : ServerSettings
   pub state : CredSspState
   pub made : ℕ
   pub opened : ℕ

@@ -53,14 +53,16 @@ impl<N, K> Model for CredSspClient<N, K> {
     ghost Value = { ClientView (SspiContext N K) };
 
     ghost view = { λ a. record {
-      public_key = a.public_key;
-      credentials = a.credentials;
-      delegation = a.cred_ssp_mode;
-      version = a.ts_request_version;
-      least = a.least_version;
-      mode = a.client_mode;
-      target = a.service_principal_name;
-      nonce = a.client_nonce;
+      settings = record {
+        public_key = a.public_key;
+        credentials = a.credentials;
+        delegation = a.cred_ssp_mode;
+        version = a.ts_request_version;
+        least = a.least_version;
+        mode = a.client_mode;
+        target = a.service_principal_name;
+        nonce = a.client_nonce;
+      };
       state = a.state;
       context = a.context;
       handle = a.credentials_handle;
@@ -87,9 +89,16 @@ impl<N, K> CredSspClient<N, K> {
         client_nonce: [u8; 32],
     ) -> CredSspClient<N, K>
         ensures fresh { IsFreshClient result }
-        ensures values { (result.public_key ≡ public_key.items) × (result.credentials ≡ credentials) × (result.delegation ≡ cred_ssp_mode)
-            × (result.version ≡ 6) × (result.least ≡ default_least) × (result.mode ≡ client_mode)
-            × (result.target ≡ string_bytes service_principal_name) × (result.nonce ≡ client_nonce) }
+        ensures settings { result.settings ≡ record {
+          public_key = public_key.items;
+          credentials = credentials;
+          delegation = cred_ssp_mode;
+          version = 6;
+          least = default_least;
+          mode = client_mode;
+          target = string_bytes service_principal_name;
+          nonce = client_nonce;
+        } }
     {
         CredSspClient::new_with_version(
             alloc,
@@ -119,9 +128,16 @@ impl<N, K> CredSspClient<N, K> {
         client_nonce: [u8; 32],
     ) -> CredSspClient<N, K>
         ensures fresh { IsFreshClient result }
-        ensures values { (result.public_key ≡ public_key.items) × (result.credentials ≡ credentials) × (result.delegation ≡ cred_ssp_mode)
-            × (result.version ≡ ts_request_version) × (result.least ≡ default_least) × (result.mode ≡ client_mode)
-            × (result.target ≡ string_bytes service_principal_name) × (result.nonce ≡ client_nonce) }
+        ensures settings { result.settings ≡ record {
+          public_key = public_key.items;
+          credentials = credentials;
+          delegation = cred_ssp_mode;
+          version = ts_request_version;
+          least = default_least;
+          mode = client_mode;
+          target = string_bytes service_principal_name;
+          nonce = client_nonce;
+        } }
     {
         CredSspClient {
             alloc,
@@ -147,7 +163,7 @@ impl<N, K> CredSspClient<N, K> {
     /// the least is 5: below it the proofs are the key itself and one more than it (MS-CSSP 3.1.5), which whoever relays the
     /// exchange can choose. Takes no memory.
     pub fn with_least_version(self, least: u32) -> CredSspClient<N, K>
-        ensures { result ≡ record self { least = least } }
+        ensures { result ≡ record self { settings = record self.settings { least = least } } }
     {
         let mut client = self;
         client.least_version = least;
@@ -156,8 +172,8 @@ impl<N, K> CredSspClient<N, K> {
 
     /// The nonce that goes into the proofs from version 5 on: the 32 bytes that the client was made with.
     pub fn client_nonce(&self) -> &[u8; 32]
-        ensures nonce { result.now ≡ self.now.nonce }
-        ensures size { length self.now.nonce ≡ 32 }
+        ensures nonce { result.now ≡ self.now.settings.nonce }
+        ensures size { length self.now.settings.nonce ≡ 32 }
     {
         &self.client_nonce
     }
@@ -262,12 +278,12 @@ impl<N: Mechanism, K: Mechanism> CredSspClient<N, K> {
         requires acts { self.old.acts ≡ no_acts }
         requires begun { IsSome self.old.context }
         ensures turn { let c = either N.REQUESTS N.meaning K.meaning in (start : ClientView (SspiContext N K)) (d : TsRequest) →
-            request ≡ record d { version = self.old.version } → IsReady c start d self.old → self.old.output ≡ [] →
+            request ≡ record d { version = self.old.settings.version } → IsReady c start d self.old → self.old.output ≡ [] →
             ClientGoes c start d result self.new }
         ensures step { let c = either N.REQUESTS N.meaning K.meaning in (start : ClientView (SspiContext N K)) (d : TsRequest) →
-            d.nego_tokens ≡ request.nego_tokens → start.target ≡ self.old.target →
-            IfContext self.old.context (Begun c start.context start.handle (ForClient start.mode) purposes.Outbound
-            (Some start.credentials) self.old.handle) →
+            d.nego_tokens ≡ request.nego_tokens → start.settings.target ≡ self.old.settings.target →
+            IfContext self.old.context (Begun c start.context start.handle (ForClient start.settings.mode) purposes.Outbound
+            (Some start.settings.credentials) self.old.handle) →
             HasStepped c start d 0 [] result self.new }
         ensures cause { IfErr result (λ error. error.error_type ≢ ErrorKind.InsufficientMemory →
             StateCause (either N.REQUESTS N.meaning K.meaning) self.old.state request self.new error.error_type) }
@@ -293,19 +309,19 @@ impl<N: Mechanism, K: Mechanism> CredSspClient<N, K> {
             d.version ≡ version → self.old ≡ record start { acts = no_acts; output = [] } →
             is_waiting_in c start.context ≡ false → is_code d.error_code ≡ false → IsReady c start d self.new) }
         ensures begun { let c = either N.REQUESTS N.meaning K.meaning in OnOk result (IfContext self.new.context
-            (Begun c self.old.context self.old.handle (ForClient self.old.mode) purposes.Outbound
-            (Some self.old.credentials) self.new.handle)) }
+            (Begun c self.old.context self.old.handle (ForClient self.old.settings.mode) purposes.Outbound
+            (Some self.old.settings.credentials) self.new.handle)) }
         ensures err { OnErr result (self.new ≡ self.old) }
-        ensures noted { OnErr result (self.new.noted ≡ noted_in self.old.context self.old.least self.old.noted version) }
+        ensures noted { OnErr result (self.new.noted ≡ noted_in self.old.context self.old.settings.least self.old.noted version) }
         ensures passed { OnOk result (IsSome self.new.context × (is_altered_in self.old.context self.old.noted version ≡ false)
-            × (is_old_in self.old.context self.old.least self.old.noted version ≡ false)) }
+            × (is_old_in self.old.context self.old.settings.least self.old.noted version ≡ false)) }
         ensures cause { let c = either N.REQUESTS N.meaning K.meaning in
             IsRefusedBy result (λ kind.
-            StopsIf (is_old_in self.old.context self.old.least self.old.noted version) ErrorKind.DowngradeDetected kind
+            StopsIf (is_old_in self.old.context self.old.settings.least self.old.noted version) ErrorKind.DowngradeDetected kind
             (StopsIf (is_altered_in self.old.context self.old.noted version) ErrorKind.MessageAltered kind
-            (MadeOr self.old.context self.new.context (BeginCause c (ForClient self.old.mode) purposes.Outbound
-            (Some self.old.credentials) kind) ⊥))) }
-        ensures exact { IfErr result (λ error. is_old_in self.old.context self.old.least self.old.noted version ≡ true →
+            (MadeOr self.old.context self.new.context (BeginCause c (ForClient self.old.settings.mode) purposes.Outbound
+            (Some self.old.settings.credentials) kind) ⊥))) }
+        ensures exact { IfErr result (λ error. is_old_in self.old.context self.old.settings.least self.old.noted version ≡ true →
             error.error_type ≡ ErrorKind.DowngradeDetected) }
     {
         match &self.context {
@@ -322,14 +338,14 @@ impl<N: Mechanism, K: Mechanism> CredSspClient<N, K> {
         requires { self.old.context ≡ None }
         ensures frame { self.new ≡ record self.old { context = self.new.context; handle = self.new.handle } }
         ensures begun { let c = either N.REQUESTS N.meaning K.meaning in OnOk result (IfContext self.new.context
-            (Begun c self.old.context self.old.handle (ForClient self.old.mode) purposes.Outbound
-            (Some self.old.credentials) self.new.handle)) }
+            (Begun c self.old.context self.old.handle (ForClient self.old.settings.mode) purposes.Outbound
+            (Some self.old.settings.credentials) self.new.handle)) }
         ensures made { OnOk result (IsSome self.new.context) }
         ensures unused { OnOk result (IsUnusedIn (either N.REQUESTS N.meaning K.meaning) self.new.context) }
         ensures err { OnErr result (self.new ≡ self.old) }
         ensures fresh { (self.old.noted ≡ None) × (self.old.state ≡ CredSspState.NegoToken) }
         ensures cause { let c = either N.REQUESTS N.meaning K.meaning in
-            IsRefusedBy result (BeginCause c (ForClient self.old.mode) purposes.Outbound (Some self.old.credentials)) }
+            IsRefusedBy result (BeginCause c (ForClient self.old.settings.mode) purposes.Outbound (Some self.old.settings.credentials)) }
     {
         let mut context = match SspiContext::new_client(self.alloc, &self.client_mode) {
             Ok(context) => context,

@@ -94,7 +94,8 @@ impl<N: Mechanism, K: Mechanism> CredSspClient<N, K> {
         requires begun { IsSome self.old.context }
         requires noted { IsSome self.old.noted }
         ensures turn { let c = either N.REQUESTS N.meaning K.meaning in (start : ClientView (SspiContext N K)) (d : TsRequest) →
-            request ≡ record d { version = self.old.version } → IsReady c start d self.old → self.old.state ≡ CredSspState.AuthInfo →
+            request ≡ record d { version = self.old.settings.version } → IsReady c start d self.old →
+            self.old.state ≡ CredSspState.AuthInfo →
             self.old.output ≡ [] → ClientAnswers c start d result self.new }
         ensures begun { IsSome self.new.context }
         ensures cause { IfErr result (λ error. error.error_type ≢ ErrorKind.InsufficientMemory →

@@ -65,12 +65,13 @@ impl<N: Mechanism, K: Mechanism> CredSspClient<N, K> {
         requires acts { self.old.acts ≡ no_acts }
         requires begun { IsSome self.old.context }
         ensures turn { let c = either N.REQUESTS N.meaning K.meaning in (start : ClientView (SspiContext N K)) (d : TsRequest) →
-            request ≡ record d { version = self.old.version } → IsReady c start d self.old → self.old.state ≡ CredSspState.NegoToken →
+            request ≡ record d { version = self.old.settings.version } → IsReady c start d self.old →
+            self.old.state ≡ CredSspState.NegoToken →
             self.old.output ≡ [] → ClientGoes c start d result self.new }
         ensures step { let c = either N.REQUESTS N.meaning K.meaning in (start : ClientView (SspiContext N K)) (d : TsRequest) →
-            d.nego_tokens ≡ request.nego_tokens → start.target ≡ self.old.target →
-            IfContext self.old.context (Begun c start.context start.handle (ForClient start.mode) purposes.Outbound
-            (Some start.credentials) self.old.handle) →
+            d.nego_tokens ≡ request.nego_tokens → start.settings.target ≡ self.old.settings.target →
+            IfContext self.old.context (Begun c start.context start.handle (ForClient start.settings.mode) purposes.Outbound
+            (Some start.settings.credentials) self.old.handle) →
             HasStepped c start d 0 [] result self.new }
         ensures cause { IfErr result (λ error. error.error_type ≢ ErrorKind.InsufficientMemory →
             NegoCause (either N.REQUESTS N.meaning K.meaning) self.new.acts.status self.new error.error_type) }
@@ -99,7 +100,8 @@ impl<N: Mechanism, K: Mechanism> CredSspClient<N, K> {
         requires begun { IsSome self.old.context }
         ensures on { HasGoneOn (either N.REQUESTS N.meaning K.meaning) self.old self.new }
         ensures turn { let c = either N.REQUESTS N.meaning K.meaning in (start : ClientView (SspiContext N K)) (d : TsRequest) →
-            request ≡ record d { version = self.old.version } → IsReady c start d self.old → self.old.state ≡ CredSspState.NegoToken →
+            request ≡ record d { version = self.old.settings.version } → IsReady c start d self.old →
+            self.old.state ≡ CredSspState.NegoToken →
             self.old.output ≡ [] → ClientGoes c start d result self.new }
         ensures step { let c = either N.REQUESTS N.meaning K.meaning in (start : ClientView (SspiContext N K)) (d : TsRequest)
             (tries : ℕ) (log : List Asked) (q : NetworkRequest) →
@@ -107,7 +109,8 @@ impl<N: Mechanism, K: Mechanism> CredSspClient<N, K> {
             HasStepped c start d tries (record { question = q; reply = reply.now } ∷ log) result self.new }
         ensures still { let c = either N.REQUESTS N.meaning K.meaning in (start : ClientView (SspiContext N K)) (d : TsRequest)
             (tries : ℕ) (log : List Asked) (q : NetworkRequest) →
-            request ≡ record d { version = self.old.version } → IsReady c start d self.old → self.old.state ≡ CredSspState.NegoToken →
+            request ≡ record d { version = self.old.settings.version } → IsReady c start d self.old →
+            self.old.state ≡ CredSspState.NegoToken →
             self.old.output ≡ [] → StepsTo c start d tries log (answers.Ask q) self.old →
             OnErr result (self.new.acts.status ≡ None → is_waiting_in c self.new.context ≡ true →
             Awaits c start d (tries + 1) (record { question = q; reply = reply.now } ∷ log) q self.new) }
@@ -134,7 +137,8 @@ impl<N: Mechanism, K: Mechanism> CredSspClient<N, K> {
         requires plain { IfErr progress (λ error. error.nstatus ≡ None) }
         ensures on { HasGoneOn (either N.REQUESTS N.meaning K.meaning) self.old self.new }
         ensures turn { let c = either N.REQUESTS N.meaning K.meaning in (start : ClientView (SspiContext N K)) (d : TsRequest) →
-            request ≡ record d { version = self.old.version } → IsReady c start d self.old → self.old.state ≡ CredSspState.NegoToken →
+            request ≡ record d { version = self.old.settings.version } → IsReady c start d self.old →
+            self.old.state ≡ CredSspState.NegoToken →
             self.old.output ≡ [] → OnAsk (answer_of progress) (is_waiting_in c self.old.context ≡ true) →
             ClientGoes c start d result self.new }
         ensures step { let c = either N.REQUESTS N.meaning K.meaning in
@@ -174,7 +178,8 @@ impl<N: Mechanism, K: Mechanism> CredSspClient<N, K> {
         requires acts { self.old.acts ≡ record no_acts { negotiated = true } }
         requires begun { IsSome self.old.context }
         ensures turn { let c = either N.REQUESTS N.meaning K.meaning in (start : ClientView (SspiContext N K)) (d : TsRequest) →
-            request ≡ record d { version = self.old.version } → IsReady c start d self.old → self.old.state ≡ CredSspState.NegoToken →
+            request ≡ record d { version = self.old.settings.version } → IsReady c start d self.old →
+            self.old.state ≡ CredSspState.NegoToken →
             ClientAnswers c start d result self.new }
         ensures step { KeepsStep (either N.REQUESTS N.meaning K.meaning) self.old status output self.new }
         ensures cause { IsRefusedBy result (NegoCause (either N.REQUESTS N.meaning K.meaning) self.new.acts.status self.new) }
@@ -195,7 +200,8 @@ impl<N: Mechanism, K: Mechanism> CredSspClient<N, K> {
         requires acts { self.old.acts ≡ record no_acts { negotiated = true; status = Some SecurityStatus.Ok } }
         requires begun { IsSome self.old.context }
         ensures turn { let c = either N.REQUESTS N.meaning K.meaning in (start : ClientView (SspiContext N K)) (d : TsRequest) →
-            request ≡ record d { version = self.old.version } → IsReady c start d self.old → self.old.state ≡ CredSspState.NegoToken →
+            request ≡ record d { version = self.old.settings.version } → IsReady c start d self.old →
+            self.old.state ≡ CredSspState.NegoToken →
             ClientAnswers c start d result self.new }
         ensures step { KeepsStep (either N.REQUESTS N.meaning K.meaning) self.old SecurityStatus.Ok self.old.output self.new }
         ensures cause { IsRefusedBy result (ProveCause (either N.REQUESTS N.meaning K.meaning) self.new.noted self.new.context self.new) }

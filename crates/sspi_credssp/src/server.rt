@@ -52,11 +52,13 @@ impl<N, K, C> Model for CredSspServer<N, K, C> {
     ghost Value = { ServerView (SspiContext N K) C };
 
     ghost view = { λ a. record {
-      public_key = a.public_key;
+      settings = record {
+        public_key = a.public_key;
+        version = a.ts_request_version;
+        least = a.least_version;
+        mode = a.server_mode;
+      };
       proxy = a.credentials;
-      version = a.ts_request_version;
-      least = a.least_version;
-      mode = a.server_mode;
       state = a.state;
       context = a.context;
       handle = a.credentials_handle;
@@ -79,8 +81,13 @@ impl<N, K, C> CredSspServer<N, K, C> {
         client_mode: ServerMode,
     ) -> CredSspServer<N, K, C>
         ensures fresh { IsFreshServer result }
-        ensures values { (result.public_key ≡ public_key.items) × (result.proxy ≡ credentials) × (result.version ≡ 6)
-            × (result.least ≡ default_least) × (result.mode ≡ client_mode) }
+        ensures settings { result.settings ≡ record {
+          public_key = public_key.items;
+          version = 6;
+          least = default_least;
+          mode = client_mode;
+        } }
+        ensures proxy { result.proxy ≡ credentials }
     {
         CredSspServer::new_with_version(alloc, public_key, credentials, 6, client_mode)
     }
@@ -97,8 +104,13 @@ impl<N, K, C> CredSspServer<N, K, C> {
         client_mode: ServerMode,
     ) -> CredSspServer<N, K, C>
         ensures fresh { IsFreshServer result }
-        ensures values { (result.public_key ≡ public_key.items) × (result.proxy ≡ credentials) × (result.version ≡ ts_request_version)
-            × (result.least ≡ default_least) × (result.mode ≡ client_mode) }
+        ensures settings { result.settings ≡ record {
+          public_key = public_key.items;
+          version = ts_request_version;
+          least = default_least;
+          mode = client_mode;
+        } }
+        ensures proxy { result.proxy ≡ credentials }
     {
         CredSspServer {
             alloc,
@@ -120,7 +132,7 @@ impl<N, K, C> CredSspServer<N, K, C> {
     /// the least is 5: below it the proofs are the key itself and one more than it (MS-CSSP 3.1.5), which whoever relays the
     /// exchange can choose. Takes no memory.
     pub fn with_least_version(self, least: u32) -> CredSspServer<N, K, C>
-        ensures { result ≡ record self { least = least } }
+        ensures { result ≡ record self { settings = record self.settings { least = least } } }
     {
         let mut server = self;
         server.least_version = least;
@@ -196,14 +208,14 @@ impl<N: Mechanism, K: Mechanism, C: CredentialsProxy> CredSspServer<N, K, C> {
             d.version ≡ version → self.old ≡ record start { acts = no_acts; output = [] } → IsReady c start d self.new) }
         ensures made { MakesContext (either N.REQUESTS N.meaning K.meaning) C.meaning self.old self.new }
         ensures passed { OnOk result (IsSome self.new.context × (differs self.old.noted version ≡ false)
-            × (is_old self.old.least self.old.noted version ≡ false) × IsSome self.new.noted) }
+            × (is_old self.old.settings.least self.old.noted version ≡ false) × IsSome self.new.noted) }
         ensures refused { OnErr result (BeginRefused (either N.REQUESTS N.meaning K.meaning) self.old version self.new
             × (self.new ≡ record self.old { proxy = self.new.proxy; context = self.new.context; handle = self.new.handle })) }
         ensures looked { LooksAt version self.old result self.new }
         ensures cause { let c = either N.REQUESTS N.meaning K.meaning in IsRefusedBy result (λ kind.
-            MadeOr self.old.context self.new.context (MakeCause c C.meaning self.old.mode self.old.proxy self.new.proxy kind)
-            (VersionStops self.old.least self.old.noted version kind ⊥)) }
-        ensures proxy { Asks C.meaning (lists_in self.old.context self.old.mode) result self.old.proxy self.new.proxy }
+            MadeOr self.old.context self.new.context (MakeCause c C.meaning self.old.settings.mode self.old.proxy self.new.proxy kind)
+            (VersionStops self.old.settings.least self.old.noted version kind ⊥)) }
+        ensures proxy { Asks C.meaning (lists_in self.old.context self.old.settings.mode) result self.old.proxy self.new.proxy }
     {
         match &self.context {
             Some(_) => note_version(&mut self.peer_version, self.least_version, version),
@@ -224,8 +236,8 @@ impl<N: Mechanism, K: Mechanism, C: CredentialsProxy> CredSspServer<N, K, C> {
         ensures err { OnErr result (self.new ≡ record self.old { proxy = self.new.proxy }) }
         ensures fresh { (self.old.noted ≡ None) × (self.old.state ≡ CredSspState.NegoToken) }
         ensures cause { let c = either N.REQUESTS N.meaning K.meaning in
-            IsRefusedBy result (MakeCause c C.meaning self.old.mode self.old.proxy self.new.proxy) }
-        ensures proxy { Asks C.meaning (list_calls self.old.mode) result self.old.proxy self.new.proxy }
+            IsRefusedBy result (MakeCause c C.meaning self.old.settings.mode self.old.proxy self.new.proxy) }
+        ensures proxy { Asks C.meaning (list_calls self.old.settings.mode) result self.old.proxy self.new.proxy }
     {
         let known = match list_peers(self.alloc, &self.server_mode, &mut self.credentials) {
             Ok(known) => known,
@@ -249,7 +261,7 @@ impl<N: Mechanism, K: Mechanism, C: CredentialsProxy> CredSspServer<N, K, C> {
     fn take(&mut self, request: TsRequest) -> Result<ServerState, ServerError>
         requires { HasDone no_acts self.old }
         ensures turn { let c = either N.REQUESTS N.meaning K.meaning in (start : ServerView (SspiContext N K) C) (d : TsRequest) →
-            request ≡ record d { version = self.old.version } → IsReady c start d self.old → self.old.output ≡ [] →
+            request ≡ record d { version = self.old.settings.version } → IsReady c start d self.old → self.old.output ≡ [] →
             ServerGoes c start d result self.new }
         ensures step { let c = either N.REQUESTS N.meaning K.meaning in (start : ServerView (SspiContext N K) C) (d : TsRequest) →
             d.nego_tokens ≡ request.nego_tokens → IsLater C.meaning start.proxy self.old.proxy →
@@ -257,7 +269,7 @@ impl<N: Mechanism, K: Mechanism, C: CredentialsProxy> CredSspServer<N, K, C> {
             (server_setting C.meaning start) purposes.Inbound None self.old.handle) →
             HasAcceptedTurn c C.meaning start d result self.new }
         ensures cause { let c = either N.REQUESTS N.meaning K.meaning in (start : ServerView (SspiContext N K) C) (d : TsRequest) →
-            request ≡ record d { version = self.old.version } → IsLater C.meaning start.proxy self.old.proxy →
+            request ≡ record d { version = self.old.settings.version } → IsLater C.meaning start.proxy self.old.proxy →
             IfContext self.old.context (Begun c start.context start.handle
             (server_setting C.meaning start) purposes.Inbound None self.old.handle) →
             IfErr result (λ refusal. refusal.error.error_type ≢ ErrorKind.InsufficientMemory →

@@ -132,7 +132,8 @@ impl<N: Mechanism, K: Mechanism, C: CredentialsProxy> CredSspServer<N, K, C> {
         requires begun { IsSome self.old.context }
         requires noted { IsSome self.old.noted }
         ensures turn { let c = either N.REQUESTS N.meaning K.meaning in (start : ServerView (SspiContext N K) C) (d : TsRequest) →
-            request ≡ record d { version = self.old.version } → IsReady c start d self.old → self.old.state ≡ CredSspState.PubKeyInfo →
+            request ≡ record d { version = self.old.settings.version } → IsReady c start d self.old →
+            self.old.state ≡ CredSspState.PubKeyInfo →
             self.old.output ≡ [] → ServerGoes c start d result self.new }
         ensures cause { IfErr result (λ refusal. refusal.error.error_type ≢ ErrorKind.InsufficientMemory →
             ExchangeCause (either N.REQUESTS N.meaning K.meaning) request.pub_key_auth self.new.noted
@@ -154,7 +155,8 @@ impl<N: Mechanism, K: Mechanism, C: CredentialsProxy> CredSspServer<N, K, C> {
         requires acts { self.old.acts ≡ no_acts }
         requires begun { IsSome self.old.context }
         ensures turn { let c = either N.REQUESTS N.meaning K.meaning in (start : ServerView (SspiContext N K) C) (d : TsRequest) →
-            request ≡ record d { version = self.old.version } → IsReady c start d self.old → self.old.state ≡ CredSspState.AuthInfo →
+            request ≡ record d { version = self.old.settings.version } → IsReady c start d self.old →
+            self.old.state ≡ CredSspState.AuthInfo →
             self.old.output ≡ [] → ServerGoes c start d result self.new }
         ensures cause { let c = either N.REQUESTS N.meaning K.meaning in
             IfErr result (λ refusal. refusal.error.error_type ≢ ErrorKind.InsufficientMemory →

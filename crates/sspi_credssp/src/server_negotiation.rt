@@ -176,7 +176,8 @@ impl<N: Mechanism, K: Mechanism, C: CredentialsProxy> CredSspServer<N, K, C> {
     pub(crate) fn negotiate(&mut self, request: TsRequest) -> Result<ServerState, ServerError>
         requires { HasDone no_acts self.old }
         ensures turn { let c = either N.REQUESTS N.meaning K.meaning in (start : ServerView (SspiContext N K) C) (d : TsRequest) →
-            request ≡ record d { version = self.old.version } → IsReady c start d self.old → self.old.state ≡ CredSspState.NegoToken →
+            request ≡ record d { version = self.old.settings.version } → IsReady c start d self.old →
+            self.old.state ≡ CredSspState.NegoToken →
             self.old.output ≡ [] → ServerGoes c start d result self.new }
         ensures step { let c = either N.REQUESTS N.meaning K.meaning in (start : ServerView (SspiContext N K) C) (d : TsRequest) →
             d.nego_tokens ≡ request.nego_tokens → IsLater C.meaning start.proxy self.old.proxy →
@@ -184,7 +185,7 @@ impl<N: Mechanism, K: Mechanism, C: CredentialsProxy> CredSspServer<N, K, C> {
             (server_setting C.meaning start) purposes.Inbound None self.old.handle) →
             HasAcceptedTurn c C.meaning start d result self.new }
         ensures cause { let c = either N.REQUESTS N.meaning K.meaning in (start : ServerView (SspiContext N K) C) (d : TsRequest) →
-            request ≡ record d { version = self.old.version } → IsLater C.meaning start.proxy self.old.proxy →
+            request ≡ record d { version = self.old.settings.version } → IsLater C.meaning start.proxy self.old.proxy →
             IfContext self.old.context (Begun c start.context start.handle
             (server_setting C.meaning start) purposes.Inbound None self.old.handle) →
             IfErr result (λ refusal. refusal.error.error_type ≢ ErrorKind.InsufficientMemory →
@@ -202,16 +203,17 @@ impl<N: Mechanism, K: Mechanism, C: CredentialsProxy> CredSspServer<N, K, C> {
     fn answer(&mut self, request: &TsRequest) -> Result<Answer, Error>
         requires { HasDone no_acts self.old }
         ensures turn { let c = either N.REQUESTS N.meaning K.meaning in (start : ServerView (SspiContext N K) C) (d : TsRequest) →
-            request.now ≡ record d { version = self.old.version } → IsReady c start d self.old → self.old.state ≡ CredSspState.NegoToken →
+            request.now ≡ record d { version = self.old.settings.version } → IsReady c start d self.old →
+            self.old.state ≡ CredSspState.NegoToken →
             self.old.output ≡ [] → Answered c start d result self.new }
         ensures step { let c = either N.REQUESTS N.meaning K.meaning in (start : ServerView (SspiContext N K) C) (d : TsRequest) →
             d.nego_tokens ≡ request.now.nego_tokens → IsLater C.meaning start.proxy self.old.proxy →
             IfContext self.old.context (Begun c start.context start.handle
             (server_setting C.meaning start) purposes.Inbound None self.old.handle) →
             HasAccepted c C.meaning start d result self.new }
-        ensures kept { (self.new.version ≡ self.old.version) × OnErr result (self.new.state ≡ self.old.state) }
+        ensures kept { (self.new.settings.version ≡ self.old.settings.version) × OnErr result (self.new.state ≡ self.old.state) }
         ensures cause { let c = either N.REQUESTS N.meaning K.meaning in (start : ServerView (SspiContext N K) C) (d : TsRequest) →
-            request.now ≡ record d { version = self.old.version } → IsLater C.meaning start.proxy self.old.proxy →
+            request.now ≡ record d { version = self.old.settings.version } → IsLater C.meaning start.proxy self.old.proxy →
             IfContext self.old.context (Begun c start.context start.handle
             (server_setting C.meaning start) purposes.Inbound None self.old.handle) →
             IfErr result (λ error. error.error_type ≢ ErrorKind.InsufficientMemory →
@@ -237,7 +239,8 @@ impl<N: Mechanism, K: Mechanism, C: CredentialsProxy> CredSspServer<N, K, C> {
     fn answer_step(&mut self, status: SecurityStatus, request: &TsRequest) -> Result<Answer, Error>
         requires { HasDone (record no_acts { negotiated = true; status = Some status }) self.old }
         ensures turn { let c = either N.REQUESTS N.meaning K.meaning in (start : ServerView (SspiContext N K) C) (d : TsRequest) →
-            request.now ≡ record d { version = self.old.version } → IsReady c start d self.old → self.old.state ≡ CredSspState.NegoToken →
+            request.now ≡ record d { version = self.old.settings.version } → IsReady c start d self.old →
+            self.old.state ≡ CredSspState.NegoToken →
             Answered c start d result self.new }
         ensures step { let c = either N.REQUESTS N.meaning K.meaning in (start : ServerView (SspiContext N K) C) (d : TsRequest) →
             IsLater C.meaning start.proxy self.old.proxy →
@@ -246,7 +249,7 @@ impl<N: Mechanism, K: Mechanism, C: CredentialsProxy> CredSspServer<N, K, C> {
             HasAccepted c C.meaning start d result self.new }
         ensures kept { KeepsStep self.old result self.new }
         ensures cause { let c = either N.REQUESTS N.meaning K.meaning in (start : ServerView (SspiContext N K) C) (d : TsRequest) →
-            request.now ≡ record d { version = self.old.version } → IsLater C.meaning start.proxy self.old.proxy →
+            request.now ≡ record d { version = self.old.settings.version } → IsLater C.meaning start.proxy self.old.proxy →
             HasCome c C.meaning Unknown status start d self.old →
             IfErr result (λ error. error.error_type ≢ ErrorKind.InsufficientMemory →
             NegoCause c C.meaning (Some status) start d self.new error.error_type) }
@@ -281,7 +284,8 @@ impl<N: Mechanism, K: Mechanism, C: CredentialsProxy> CredSspServer<N, K, C> {
     fn complete(&mut self, request: &TsRequest) -> Result<Answer, Error>
         requires { HasDone (record no_acts { negotiated = true; status = self.old.acts.status }) self.old }
         ensures turn { let c = either N.REQUESTS N.meaning K.meaning in (start : ServerView (SspiContext N K) C) (d : TsRequest) →
-            request.now ≡ record d { version = self.old.version } → IsReady c start d self.old → self.old.state ≡ CredSspState.NegoToken →
+            request.now ≡ record d { version = self.old.settings.version } → IsReady c start d self.old →
+            self.old.state ≡ CredSspState.NegoToken →
             IsOver self.old.acts.status → Answered c start d result self.new }
         ensures step { let c = either N.REQUESTS N.meaning K.meaning in
             (start : ServerView (SspiContext N K) C) (token : Option (List ℕ)) (answer : Result Step Error) →
@@ -292,7 +296,7 @@ impl<N: Mechanism, K: Mechanism, C: CredentialsProxy> CredSspServer<N, K, C> {
         ensures reached { HasReached self.old.acts.status self.new }
         ensures cause { let c = either N.REQUESTS N.meaning K.meaning in
             (start : ServerView (SspiContext N K) C) (d : TsRequest) (status : SecurityStatus) →
-            request.now ≡ record d { version = self.old.version } → IsLater C.meaning start.proxy self.old.proxy →
+            request.now ≡ record d { version = self.old.settings.version } → IsLater C.meaning start.proxy self.old.proxy →
             HasCome c C.meaning Unknown status start d self.old →
             IfErr result (λ error. error.error_type ≢ ErrorKind.InsufficientMemory →
             OverCause c C.meaning status start d self.new error.error_type) }
@@ -316,7 +320,8 @@ impl<N: Mechanism, K: Mechanism, C: CredentialsProxy> CredSspServer<N, K, C> {
     fn answer_peer(&mut self, request: &TsRequest) -> Result<Answer, Error>
         requires { HasDone (record no_acts { negotiated = true; status = self.old.acts.status }) self.old }
         ensures turn { let c = either N.REQUESTS N.meaning K.meaning in (start : ServerView (SspiContext N K) C) (d : TsRequest) →
-            request.now ≡ record d { version = self.old.version } → IsReady c start d self.old → self.old.state ≡ CredSspState.NegoToken →
+            request.now ≡ record d { version = self.old.settings.version } → IsReady c start d self.old →
+            self.old.state ≡ CredSspState.NegoToken →
             IsOver self.old.acts.status → Answered c start d result self.new }
         ensures frame { self.new ≡ record self.old { state = self.new.state; context = self.new.context; acts = self.new.acts } }
         ensures moved { SameBut (either N.REQUESTS N.meaning K.meaning) self.old.context self.new.context }

@@ -22,8 +22,9 @@ pub returns-clause-step : goal.returns-clause-step
 returns-clause-step g c = λ start d token target begun.
     let it = either g.N.Mechanism.REQUESTS g.N.Mechanism.meaning g.K.Mechanism.meaning in
     let begun_inside = subst (λ v. IfContext v.context
-    (Begun it start.context start.handle (ForClient start.mode) Outbound (Some start.credentials) v.handle)) (sym c.self.view_is) begun in
+    (Begun it start.context start.handle (ForClient start.settings.mode) Outbound (Some start.settings.credentials) v.handle))
+    (sym c.self.view_is) begun in
     let here : c.self.inside.context ≡ Some c.in-Some.context = search rules in
-    let same_target : start.target ≡ c.self.inside.service_principal_name = search rules in
+    let same_target : start.settings.target ≡ c.self.inside.service_principal_name = search rules in
     c.go_on.ensures.step start d _ _ (stepped c.in-Some.context _ _ (context_here _ _ _ here begun_inside)
     (rw (same_target, token) c.initialize-progress.ensures.step))

@@ -19,11 +19,12 @@ returns-in-Ok-begin g c =
     let d = c.args.ts_request in
     let new = c.take-in-Ok-begin.new.self in
     let idle : is_waiting_in it now.context ≡ false = search rules in
-    let young : is_old_in now.context now.least now.noted d.version ≡ false = search rules in
+    let young : is_old_in now.context now.settings.least now.noted d.version ≡ false = search rules in
     let same : is_altered_in now.context now.noted d.version ≡ false = search rules in
     let ready = c.in-Ok-begin.ensures.ready now d refl c.forget_last_call.ensures idle c.in-Ok.ensures.passed in
     let begun = subst (λ v. IfContext c.begin.new.self.context
-    (Begun it v.context v.handle (ForClient v.mode) Outbound (Some v.credentials) c.begin.new.self.handle)) c.forget_last_call.ensures
+    (Begun it v.context v.handle (ForClient v.settings.mode) Outbound (Some v.settings.credentials) c.begin.new.self.handle))
+    c.forget_last_call.ensures
     c.in-Ok-begin.ensures.begun in
     let step : HasStepped it now d 0 [] c.take-in-Ok-begin.result new =
     c.take-in-Ok-begin.ensures.step now d (search rules) (search rules) begun in
@@ -62,9 +63,9 @@ returns-in-Err-begin g c =
     let step : HasStepped it now d 0 [] (Err c.in-Err-begin.error) new = no_step it _ _ unstepped in
     let cause : kind ≢ InsufficientMemory → ClientCause it now d new kind = λ memory.
     client_cause_begun it now _ d kind idle c.in-Ok.ensures.passed
-    (subst (λ v. StopsIf (is_old_in v.context v.least v.noted d.version) DowngradeDetected kind
+    (subst (λ v. StopsIf (is_old_in v.context v.settings.least v.noted d.version) DowngradeDetected kind
     (StopsIf (is_altered_in v.context v.noted d.version) MessageAltered kind
-    (MadeOr v.context new.context (BeginCause it (ForClient v.mode) Outbound (Some v.credentials) kind) ⊥)))
+    (MadeOr v.context new.context (BeginCause it (ForClient v.settings.mode) Outbound (Some v.settings.credentials) kind) ⊥)))
     c.forget_last_call.ensures (c.in-Err-begin.ensures.cause.kind memory)) in
     record {
       turn = search rules;
@@ -72,8 +73,8 @@ returns-in-Err-begin g c =
         step = step;
         heeded = record {
           refuses = λ met.
-              let old : is_old_in c.forget_last_call.new.self.context c.forget_last_call.new.self.least c.forget_last_call.new.self.noted
-              d.version ≡ true =
+              let old : is_old_in c.forget_last_call.new.self.context c.forget_last_call.new.self.settings.least
+              c.forget_last_call.new.self.noted d.version ≡ true =
               rw c.forget_last_call.ensures met.old in
               (c.in-Err-begin.ensures.exact old, search rules);
           only = λ never. client_only it never now d 0 [] (Err c.in-Err-begin.error) new cause step;

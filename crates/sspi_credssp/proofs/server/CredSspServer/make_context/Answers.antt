@@ -12,7 +12,7 @@ returns-in-Err-clause-cause g c =
     let p = g.C.CredentialsProxy.meaning in
     record {
       kind = λ memory.
-          unlisted (subst (λ v. ListRefused v.mode (p.faults v.proxy) (p.faults c.list_peers.new.proxy) c.in-Err.error.error_type)
+          unlisted (subst (λ v. ListRefused v.settings.mode (p.faults v.proxy) (p.faults c.list_peers.new.proxy) c.in-Err.error.error_type)
           c.self.view_is
           (c.in-Err.ensures.cause memory));
       plain = search rules;
@@ -45,8 +45,8 @@ returns-in-Err-acquire_credentials_handle-clause-proxy g c =
     let p = g.C.CredentialsProxy.meaning in
     let same : c.match-context.self.proxy ≡ c.list_peers.new.proxy = search rules in
     record {
-      at_most = subst (λ x. IsAsked p (list_calls c.args.self.now.mode) c.args.self.now.proxy x) (sym same)
-          (subst (λ v. IsAsked p (list_calls v.mode) v.proxy c.list_peers.new.proxy) c.self.view_is c.in-Ok.ensures.proxy);
+      at_most = subst (λ x. IsAsked p (list_calls c.args.self.now.settings.mode) c.args.self.now.proxy x) (sym same)
+          (subst (λ v. IsAsked p (list_calls v.settings.mode) v.proxy c.list_peers.new.proxy) c.self.view_is c.in-Ok.ensures.proxy);
       exactly = tt;
     }
 

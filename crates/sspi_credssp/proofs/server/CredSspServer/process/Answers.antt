@@ -29,7 +29,7 @@ returns-in-Ok g c =
     (subst (λ v. OnContext c.begin.new.self.context
     (Begun it v.context v.handle (server_setting p v) Inbound None c.begin.new.self.handle)) c.forget_last_call.ensures
     c.in-Ok.ensures.made.made) in
-    let listed = subst (λ v. IsAsked p (lists_in v.context v.mode) v.proxy c.begin.new.self.proxy) c.forget_last_call.ensures
+    let listed = subst (λ v. IsAsked p (lists_in v.context v.settings.mode) v.proxy c.begin.new.self.proxy) c.forget_last_call.ensures
     c.in-Ok.ensures.proxy.at_most in
     let since = later p _ _ _ listed in
     let step : HasAcceptedTurn it p now d c.take-in-Ok.result new = c.take-in-Ok.ensures.step now d (search rules) since begun in
@@ -37,7 +37,7 @@ returns-in-Ok g c =
     ServerCause it p now d new refusal.error.error_type) =
     server_cause_past it p now new d _ _ (search rules) (search rules) c.take-in-Ok.ensures.begun (search rules)
     (c.take-in-Ok.ensures.cause now d (search rules) since begun) in
-    let young : is_old now.least now.noted d.version ≡ false = search rules in
+    let young : is_old now.settings.least now.noted d.version ≡ false = search rules in
     record {
       turn = c.take-in-Ok.ensures.turn now d (search rules) ready (search rules);
       step = step;
@@ -58,7 +58,7 @@ returns-in-Ok g c =
       proxy = record {
         at_most = asked_on p _ _ _ _ _ listed c.take-in-Ok.ensures.proxy.at_most;
         exactly = turn_asked p now.proxy c.begin.new.self.proxy new.proxy _ _ c.take-in-Ok.result listed.told_same
-            (subst (λ v. HasAsked p (lists_in v.context v.mode) v.proxy c.begin.new.self.proxy) c.forget_last_call.ensures
+            (subst (λ v. HasAsked p (lists_in v.context v.settings.mode) v.proxy c.begin.new.self.proxy) c.forget_last_call.ensures
             c.in-Ok.ensures.proxy.exactly)
             c.take-in-Ok.ensures.proxy.exactly;
       };
@@ -78,8 +78,8 @@ returns-in-Err g c =
     let cause : c.refusal.result.error.error_type ≢ InsufficientMemory → ServerCause it p now d new c.refusal.result.error.error_type =
     λ memory. rw same
     (server_cause_begun it p now new d kind
-    (subst (λ v. MadeOr v.context new.context (MakeCause it p v.mode v.proxy new.proxy kind)
-    (VersionStops v.least v.noted d.version kind ⊥))
+    (subst (λ v. MadeOr v.context new.context (MakeCause it p v.settings.mode v.proxy new.proxy kind)
+    (VersionStops v.settings.least v.noted d.version kind ⊥))
     c.forget_last_call.ensures (c.in-Err.ensures.cause.kind (rw (sym same) memory)))) in
     record {
       turn = begin_halted it now new d c.in-Err.error c.refusal.result _
@@ -89,7 +89,7 @@ returns-in-Err g c =
       cause = record { kind = cause; plain = search rules };
       heeded = record {
         refuses = λ met.
-            let old : is_old c.forget_last_call.new.self.least c.forget_last_call.new.self.noted d.version ≡ true =
+            let old : is_old c.forget_last_call.new.self.settings.least c.forget_last_call.new.self.noted d.version ≡ true =
             rw c.forget_last_call.ensures met.old in
             (rw same (c.in-Err.ensures.looked.too_old met.begun old), search rules);
         only = λ never. server_only it never p now d (Err c.refusal.result) new
