@@ -19,12 +19,12 @@ use Rattle.sspi_credssp.specs.Begun.{Begun, IfContext, OnContext}
 use Rattle.sspi_credssp.specs.Client.{ClientView, IsFreshClient}
 use Rattle.sspi_credssp.specs.ClientStep.{Asked, Walked, stepped, resumed, still_asked, recounted, OnStep, StepsTo, DoneStep}
 use Rattle.sspi_credssp.specs.ClientStep.{refused_answer}
-use Rattle.sspi_credssp.specs.ClientTurn.{ClientTurn, SameClient, client_frame, client_turn}
+use Rattle.sspi_credssp.specs.ClientTurn.{ClientTurn, client_frame, client_turn}
 use Rattle.sspi_credssp.specs.Context.{ContextSetting}
 use Rattle.sspi_credssp.specs.Proxy.{ProxyMeaning}
 use Rattle.sspi_credssp.specs.Server.{ServerView, IsFreshServer}
 use Rattle.sspi_credssp.specs.ServerStep as accept
-use Rattle.sspi_credssp.specs.ServerTurn.{UnlessMade, IsNew, ServerTurn, SameServer, server_frame, server_turn}
+use Rattle.sspi_credssp.specs.ServerTurn.{UnlessMade, IsNew, ServerTurn, server_frame, server_turn}
 use Rattle.sspi_credssp.specs.Shown.{ShowsNego, ShowsNegoBack, ShowsStateBack, client_shown, server_shown}
 use Rattle.sspi_delegate.specs.declared.answer.Delegation.{Delegation}
 use Rattle.sspi_delegate.specs.declared.answer.DelegateError.{DelegateError}
@@ -49,27 +49,26 @@ module _ {C : Type 0} (c : Meaning ContextSetting C) where
   -- ---- the client
 
   -- a step looks at no more of the client than this
-  walked_at : (a b : ClientView C) → b.context ≡ a.context → b.handle ≡ a.handle → b.mode ≡ a.mode → b.credentials ≡ a.credentials →
-      b.target ≡ a.target →
+  walked_at : (a b : ClientView C) → b.context ≡ a.context → b.handle ≡ a.handle → b.settings ≡ a.settings →
       (handle : Option CredentialsBuffers) (token : Option (List ℕ)) (tries : ℕ) (log : List Asked) (answer : Answer) (m : C) →
       Walked c a handle token tries log answer m → Walked c b handle token tries log answer m
-  walked_at a b context had mode credentials target handle token tries log answer m (stepped m0 m1 x begun steps) =
-      stepped m0 m answer (rw (context, had, mode, credentials) begun) (rw target steps)
-  walked_at a b context had mode credentials target handle token tries log answer m (resumed m1 m2 tried before q reply x walked goes) =
-      resumed m1 m tried before q reply answer (walked_at a b context had mode credentials target handle token tried before
+  walked_at a b context had same handle token tries log answer m (stepped m0 m1 x begun steps) =
+      stepped m0 m answer (rw (context, had, same) begun) (rw same steps)
+  walked_at a b context had same handle token tries log answer m (resumed m1 m2 tried before q reply x walked goes) =
+      resumed m1 m tried before q reply answer (walked_at a b context had same handle token tried before
       (Ask q) m1 walked) goes
-  walked_at a b context had mode credentials target handle token tries log answer m
+  walked_at a b context had same handle token tries log answer m
       (still_asked m1 m2 tried before q reply error walked goes waits) =
-      still_asked m1 m tried before q reply error (walked_at a b context had mode credentials target handle token tried before
+      still_asked m1 m tried before q reply error (walked_at a b context had same handle token tried before
       (Ask q) m1 walked) goes waits
-  walked_at a b context had mode credentials target handle token tries log answer m
+  walked_at a b context had same handle token tries log answer m
       (recounted m1 m2 n tried before x walked counted quiet) =
-      recounted m1 m n tried before answer (walked_at a b context had mode credentials target handle token tried before answer m1 walked)
+      recounted m1 m n tried before answer (walked_at a b context had same handle token tried before answer m1 walked)
       counted quiet
 
   module _ {D : Type 0} (k : KdcCalls D) (first : ClientView C) where
     client_stepped : (old mid : ClientView C) (kdc kdc2 : D) (d : TsRequest) (asked : List Asked) (answer : Answer) →
-        SameClient c first old →
+        old.settings ≡ first.settings →
         k.replies kdc asked kdc2 → StepsTo c old d 0 asked answer mid →
         ClientStepped c k first (client_stage old kdc) d.nego_tokens answer (client_stage mid kdc2)
     client_stepped old mid kdc kdc2 d asked answer same replied step = record {
@@ -77,7 +76,7 @@ module _ {C : Type 0} (c : Meaning ContextSetting C) where
       replied = replied;
       walked = on_context mid.context (Walked c old mid.handle d.nego_tokens 0 asked answer)
           (Walked c (client_at c k first (client_stage old kdc)) mid.handle d.nego_tokens 0 asked answer)
-          (walked_at old (client_at c k first (client_stage old kdc)) refl refl (sym same.mode) (sym same.credentials) (sym same.target)
+          (walked_at old (client_at c k first (client_stage old kdc)) refl refl (sym same)
           mid.handle d.nego_tokens 0 asked answer) step;
     }
 
@@ -93,7 +92,7 @@ module _ {C : Type 0} (c : Meaning ContextSetting C) where
 
     client_replied : (old mid : ClientView C) (kdc kdc2 : D) (d reply : TsRequest) (asked : List Asked) (negotiated : Bool)
         (status : Option SecurityStatus) →
-        SameClient c first old → k.replies kdc asked kdc2 → (IsSome status → negotiated ≡ true) →
+        old.settings ≡ first.settings → k.replies kdc asked kdc2 → (IsSome status → negotiated ≡ true) →
         ShowsNego (client_shown (client_frame c old mid)) (client_turn c d (outcome.Reply reply) mid) status reply →
         DoneStep c status old d 0 asked mid →
         ClientMovedBy c k first negotiated status (outcome.Reply reply) d.nego_tokens mid.output (client_stage old kdc)
@@ -117,7 +116,7 @@ module _ {C : Type 0} (c : Meaning ContextSetting C) where
 
     client_stopped : (old mid : ClientView C) (kdc kdc2 : D) (d : TsRequest) (error : Error) (asked : List Asked) (negotiated : Bool)
         (status : Option SecurityStatus) →
-        mid.acts.negotiated ≡ negotiated → SameClient c first old → ClientTurn c old d (outcome.Refused error.error_type None) mid →
+        mid.acts.negotiated ≡ negotiated → old.settings ≡ first.settings → ClientTurn c old d (outcome.Refused error.error_type None) mid →
         k.replies kdc asked kdc2 → (mid.acts.negotiated ≡ false → asked ≡ []) →
         OnStep c negotiated (StepsTo c old d 0 asked (refused_answer status mid.output error) mid) →
         ClientMovedBy c k first negotiated status (outcome.Refused error.error_type None) d.nego_tokens mid.output (client_stage old kdc)
@@ -129,7 +128,7 @@ module _ {C : Type 0} (c : Meaning ContextSetting C) where
     client_stopped old mid kdc kdc2 d error asked true None is same turn replied unasked step =
         (error, refl, client_stepped old mid kdc kdc2 d asked (Refused error) same replied step)
 
-    client_moved : (old mid : ClientView C) (kdc kdc2 : D) (d : TsRequest) (came : Outcome) → SameClient c first old →
+    client_moved : (old mid : ClientView C) (kdc kdc2 : D) (d : TsRequest) (came : Outcome) → old.settings ≡ first.settings →
         ClientMakes c k old kdc d came mid kdc2 →
         ClientMovedBy c k first mid.acts.negotiated mid.acts.status came d.nego_tokens mid.output (client_stage old kdc)
         (client_stage mid kdc2)
@@ -205,53 +204,56 @@ module _ {C : Type 0} (c : Meaning ContextSetting C) where
 
   module _ {P : Type 0} (p : ProxyMeaning P) where
     -- a step looks at no more of the server than this
-    accepted_at : (a b : ServerView C P) → b.context ≡ a.context → b.handle ≡ a.handle → b.mode ≡ a.mode → p.told b.proxy ≡ p.told a.proxy →
+    accepted_at : (a b : ServerView C P) → b.context ≡ a.context → b.handle ≡ a.handle → b.settings ≡ a.settings →
+        p.told b.proxy ≡ p.told a.proxy →
         (handle : Option CredentialsBuffers) (token : Option (List ℕ)) (known : accept.Knowing) (answer : Result Step Error) (m : C) →
         accept.Accepted c p a handle token known answer m → accept.Accepted c p b handle token known answer m
-    accepted_at a b context had mode entries handle token known answer m (accept.accepted m0 m1 x begun accepts) =
-        accept.accepted m0 m answer (rw (context, had, mode, entries) begun) accepts
-    accepted_at a b context had mode entries handle token known answer m (accept.identified m1 m2 x step peer) =
-        accept.identified m1 m answer (accepted_at a b context had mode entries handle token accept.Unknown answer m1 step)
+    accepted_at a b context had same entries handle token known answer m (accept.accepted m0 m1 x begun accepts) =
+        accept.accepted m0 m answer (rw (context, had, same, entries) begun) accepts
+    accepted_at a b context had same entries handle token known answer m (accept.identified m1 m2 x step peer) =
+        accept.identified m1 m answer (accepted_at a b context had same entries handle token accept.Unknown answer m1 step)
         (rw entries peer)
-    accepted_at a b context had mode entries handle token known answer m (accept.completed m1 x step permits) =
-        accept.completed m answer (accepted_at a b context had mode entries handle token accept.Identified answer m step) permits
-    accepted_at a b context had mode entries handle token known answer m (accept.recounted m1 m2 n so x step counted quiet) =
-        accept.recounted m1 m n known answer (accepted_at a b context had mode entries handle token known answer m1 step) counted quiet
+    accepted_at a b context had same entries handle token known answer m (accept.completed m1 x step permits) =
+        accept.completed m answer (accepted_at a b context had same entries handle token accept.Identified answer m step) permits
+    accepted_at a b context had same entries handle token known answer m (accept.recounted m1 m2 n so x step counted quiet) =
+        accept.recounted m1 m n known answer (accepted_at a b context had same entries handle token known answer m1 step) counted quiet
 
-    so_far_at : (a b : ServerView C P) → b.context ≡ a.context → b.handle ≡ a.handle → b.mode ≡ a.mode → p.told b.proxy ≡ p.told a.proxy →
+    so_far_at : (a b : ServerView C P) → b.context ≡ a.context → b.handle ≡ a.handle → b.settings ≡ a.settings →
+        p.told b.proxy ≡ p.told a.proxy →
         (handle : Option CredentialsBuffers) (token : Option (List ℕ)) (answer : Result Step Error) (m : C) →
         accept.AcceptedSoFar c p a handle token answer m → accept.AcceptedSoFar c p b handle token answer m
-    so_far_at a b context had mode entries handle token answer m (accept.so_far known step) =
-        accept.so_far known (accepted_at a b context had mode entries handle token known answer m step)
+    so_far_at a b context had same entries handle token answer m (accept.so_far known step) =
+        accept.so_far known (accepted_at a b context had same entries handle token known answer m step)
 
-    refused_at : (a b : ServerView C P) → b.context ≡ a.context → b.handle ≡ a.handle → b.mode ≡ a.mode → p.told b.proxy ≡ p.told a.proxy →
+    refused_at : (a b : ServerView C P) → b.context ≡ a.context → b.handle ≡ a.handle → b.settings ≡ a.settings →
+        p.told b.proxy ≡ p.told a.proxy →
         (status : Option SecurityStatus) (handle : Option CredentialsBuffers) (token : Option (List ℕ)) (answer : Result Step Error)
         (m : C) →
         accept.RefusedAt c p status a handle token answer m → accept.RefusedAt c p status b handle token answer m
-    refused_at a b context had mode entries None handle token answer m step =
-        accepted_at a b context had mode entries handle token accept.Unknown answer m step
-    refused_at a b context had mode entries (Some statuses.Ok) handle token answer m step =
-        so_far_at a b context had mode entries handle token answer m step
-    refused_at a b context had mode entries (Some statuses.CompleteNeeded) handle token answer m step =
-        so_far_at a b context had mode entries handle token answer m step
-    refused_at a b context had mode entries (Some statuses.ContinueNeeded) handle token answer m step =
-        accepted_at a b context had mode entries handle token accept.Unknown answer m step
-    refused_at a b context had mode entries (Some statuses.CompleteAndContinue) handle token answer m step =
-        accepted_at a b context had mode entries handle token accept.Unknown answer m step
-    refused_at a b context had mode entries (Some statuses.LocalLogon) handle token answer m step =
-        accepted_at a b context had mode entries handle token accept.Unknown answer m step
-    refused_at a b context had mode entries (Some statuses.ContextExpired) handle token answer m step =
-        accepted_at a b context had mode entries handle token accept.Unknown answer m step
-    refused_at a b context had mode entries (Some statuses.IncompleteCredentials) handle token answer m step =
-        accepted_at a b context had mode entries handle token accept.Unknown answer m step
-    refused_at a b context had mode entries (Some statuses.Renegotiate) handle token answer m step =
-        accepted_at a b context had mode entries handle token accept.Unknown answer m step
-    refused_at a b context had mode entries (Some statuses.NoLsaContext) handle token answer m step =
-        accepted_at a b context had mode entries handle token accept.Unknown answer m step
+    refused_at a b context had same entries None handle token answer m step =
+        accepted_at a b context had same entries handle token accept.Unknown answer m step
+    refused_at a b context had same entries (Some statuses.Ok) handle token answer m step =
+        so_far_at a b context had same entries handle token answer m step
+    refused_at a b context had same entries (Some statuses.CompleteNeeded) handle token answer m step =
+        so_far_at a b context had same entries handle token answer m step
+    refused_at a b context had same entries (Some statuses.ContinueNeeded) handle token answer m step =
+        accepted_at a b context had same entries handle token accept.Unknown answer m step
+    refused_at a b context had same entries (Some statuses.CompleteAndContinue) handle token answer m step =
+        accepted_at a b context had same entries handle token accept.Unknown answer m step
+    refused_at a b context had same entries (Some statuses.LocalLogon) handle token answer m step =
+        accepted_at a b context had same entries handle token accept.Unknown answer m step
+    refused_at a b context had same entries (Some statuses.ContextExpired) handle token answer m step =
+        accepted_at a b context had same entries handle token accept.Unknown answer m step
+    refused_at a b context had same entries (Some statuses.IncompleteCredentials) handle token answer m step =
+        accepted_at a b context had same entries handle token accept.Unknown answer m step
+    refused_at a b context had same entries (Some statuses.Renegotiate) handle token answer m step =
+        accepted_at a b context had same entries handle token accept.Unknown answer m step
+    refused_at a b context had same entries (Some statuses.NoLsaContext) handle token answer m step =
+        accepted_at a b context had same entries handle token accept.Unknown answer m step
 
     module _ (first : ServerView C P) where
       -- a context that was made in the turn was made with what the proxy tells
-      rested_context : (old mid : ServerView C P) (x y : Option C) → SameServer c first old → p.told first.proxy ≡ p.told old.proxy →
+      rested_context : (old mid : ServerView C P) (x y : Option C) → old.settings ≡ first.settings → p.told first.proxy ≡ p.told old.proxy →
           old.context ≡ x → mid.context ≡ y →
           UnlessMade c x y (IsNew c old mid) → (old.context ≡ None →
           OnContext mid.context (Begun c old.context old.handle (accept.server_setting p old) Inbound None mid.handle)) →
@@ -260,11 +262,11 @@ module _ {C : Type 0} (c : Meaning ContextSetting C) where
       rested_context old mid None (Some m) same entries is at h alone =
           let begun = subst (λ (o : Option C). OnContext o (Begun c old.context old.handle
           (accept.server_setting p old) Inbound None mid.handle)) at (alone is) in
-          rw (sym same.mode, entries) begun
+          rw (sym same, entries) begun
       rested_context old mid (Some m) None same entries is at h alone = absurd h
       rested_context old mid (Some m) (Some m2) same entries is at h alone = h
 
-      server_rested : (old mid : ServerView C P) (d : TsRequest) (came : Outcome) → SameServer c first old →
+      server_rested : (old mid : ServerView C P) (d : TsRequest) (came : Outcome) → old.settings ≡ first.settings →
           p.told first.proxy ≡ p.told old.proxy →
           accept.MakesAlone c p old mid → ServerTurn c old d came mid →
           mid.acts.negotiated ≡ false → ServerRested c p first (server_stage old) (server_stage mid)
@@ -274,18 +276,18 @@ module _ {C : Type 0} (c : Meaning ContextSetting C) where
       }
 
       server_stepped : (old mid : ServerView C P) (d : TsRequest) (known : accept.Knowing) (answer : Result Step Error) →
-          SameServer c first old →
+          old.settings ≡ first.settings →
           p.told first.proxy ≡ p.told old.proxy → IfContext mid.context (accept.Accepted c p old mid.handle d.nego_tokens known answer) →
           ServerStepped c p first known (server_stage old) d.nego_tokens answer (server_stage mid)
       server_stepped old mid d known answer same entries step =
           on_context mid.context (accept.Accepted c p old mid.handle d.nego_tokens known answer)
           (accept.Accepted c p (server_at c p first (server_stage old)) mid.handle d.nego_tokens known answer)
           (accepted_at old (server_at c p first (server_stage old)) refl refl
-          (sym same.mode) entries mid.handle d.nego_tokens known answer) step
+          (sym same) entries mid.handle d.nego_tokens known answer) step
 
       server_replied : (old mid : ServerView C P) (d reply : TsRequest) (negotiated : Bool) (status : Option SecurityStatus) →
           mid.acts.negotiated ≡ negotiated →
-          SameServer c first old → p.told first.proxy ≡ p.told old.proxy → accept.MakesAlone c p old mid →
+          old.settings ≡ first.settings → p.told first.proxy ≡ p.told old.proxy → accept.MakesAlone c p old mid →
           ServerTurn c old d (outcome.Reply reply) mid →
           ShowsStateBack (server_shown (server_frame c old mid)) (server_turn c d (outcome.Reply reply) mid) old.state reply →
           mid.acts.status ≡ status →
@@ -303,7 +305,7 @@ module _ {C : Type 0} (c : Meaning ContextSetting C) where
 
       server_finished : (old mid : ServerView C P) (d : TsRequest) (negotiated : Bool) (status : Option SecurityStatus) →
           mid.acts.negotiated ≡ negotiated →
-          SameServer c first old → p.told first.proxy ≡ p.told old.proxy → accept.MakesAlone c p old mid →
+          old.settings ≡ first.settings → p.told first.proxy ≡ p.told old.proxy → accept.MakesAlone c p old mid →
           ServerTurn c old d outcome.Finished mid →
           ServerMovedBy c p first negotiated status outcome.Finished d.nego_tokens mid.output (server_stage old) (server_stage mid)
       server_finished old mid d false status is same entries alone turn =
@@ -313,7 +315,7 @@ module _ {C : Type 0} (c : Meaning ContextSetting C) where
 
       server_stopped : (old mid : ServerView C P) (d : TsRequest) (error : Error) (reply : Option TsRequest) (negotiated : Bool)
           (status : Option SecurityStatus) →
-          mid.acts.negotiated ≡ negotiated → SameServer c first old → p.told first.proxy ≡ p.told old.proxy →
+          mid.acts.negotiated ≡ negotiated → old.settings ≡ first.settings → p.told first.proxy ≡ p.told old.proxy →
           accept.MakesAlone c p old mid → ServerTurn c old d (outcome.Refused error.error_type reply) mid →
           accept.OnStep c p negotiated (IfContext mid.context
           (accept.RefusedAt c p status old mid.handle d.nego_tokens (accept.refused_step status mid.output error))) →
@@ -325,12 +327,12 @@ module _ {C : Type 0} (c : Meaning ContextSetting C) where
           let answer : Result Step Error = Ok (record { status = status; output = mid.output }) in
           on_context mid.context (accept.RefusedAt c p (Some status) old mid.handle d.nego_tokens answer)
           (accept.RefusedAt c p (Some status) (server_at c p first (server_stage old)) mid.handle d.nego_tokens answer)
-          (refused_at old (server_at c p first (server_stage old)) refl refl (sym same.mode) entries
+          (refused_at old (server_at c p first (server_stage old)) refl refl (sym same) entries
           (Some status) mid.handle d.nego_tokens answer) step
       server_stopped old mid d error reply true None is same entries alone turn step =
           (error, refl, server_stepped old mid d accept.Unknown (Err error) same entries step)
 
-      server_moved : (old mid : ServerView C P) (d : TsRequest) (came : Outcome) → SameServer c first old →
+      server_moved : (old mid : ServerView C P) (d : TsRequest) (came : Outcome) → old.settings ≡ first.settings →
           p.told first.proxy ≡ p.told old.proxy →
           accept.MakesAlone c p old mid → ServerMakes c p old d came mid →
           ServerMovedBy c p first mid.acts.negotiated mid.acts.status came d.nego_tokens mid.output (server_stage old) (server_stage mid)

@@ -8,6 +8,7 @@ use Rattle.sspi_types.specs.declared.security_status.SecurityStatus.{SecuritySta
 use Rattle.sspi_types.specs.declared.security_status.SecurityStatus.TheVariants as statuses
 use Rattle.sspi_credssp.specs.declared.public_key.EndpointType.TheVariants.{Client, Server}
 use Rattle.sspi_types.specs.declared.error.Error.{Error}
+use Rattle.sspi_credssp.specs.Client.{ClientSettings}
 use Rattle.sspi_credssp.specs.ClientTurn.{IsClientTurn}
 use Rattle.sspi_credssp.specs.Credentials.{IfText, delegated_text}
 use Rattle.sspi_credssp.specs.Context.{ContextSetting}
@@ -22,11 +23,7 @@ use Rattle.sspi_credssp.specs.declared.turn.Turn.{Turn}
 
 -- a frame as another turn over the same end sees it, as far as the turn speaks of it
 pub record SameFrame {C : Type 0} (c : Meaning ContextSetting C) (f g : ClientFrame C) (t : Turn) : Type 0 where
-  pub public_key : g.public_key ≡ f.public_key
-  pub nonce : g.nonce ≡ f.nonce
-  pub version : g.version ≡ f.version
-  pub credentials : g.credentials ≡ f.credentials
-  pub delegation : g.delegation ≡ f.delegation
+  pub settings : g.settings ≡ f.settings
   pub state : g.state ≡ f.state
   pub looks : g.looks ≡ f.looks
   pub noted : UnlessRefused t.outcome (g.noted ≡ f.noted)
@@ -85,13 +82,13 @@ module _ {C : Type 0} (c : Meaning ContextSetting C) (law : IsContext c) where
   nego_over f g t (Some statuses.Ok) reply same h = record {
     state = same.state ∙ h.state;
     proved = h.proved;
-    version = h.version ∙ sym same.version;
+    version = h.version ∙ sym (ap (λ (s : ClientSettings). s.version) same.settings);
     nonce = h.nonce;
     reply = h.reply;
   }
   nego_over f g t (Some other) reply same h = record {
     state = same.state ∙ h.state;
-    version = h.version ∙ sym same.version;
+    version = h.version ∙ sym (ap (λ (s : ClientSettings). s.version) same.settings);
     reply = h.reply;
   }
 
@@ -102,7 +99,7 @@ module _ {C : Type 0} (c : Meaning ContextSetting C) (law : IsContext c) where
     state = same.state ∙ h.state;
     checked = h.checked;
     sealed = h.sealed;
-    version = h.version ∙ sym same.version;
+    version = h.version ∙ sym (ap (λ (s : ClientSettings). s.version) same.settings);
     reply = h.reply;
   }
   replies_over f g t outcome.Finished same h = h
@@ -123,10 +120,10 @@ module _ {C : Type 0} (c : Meaning ContextSetting C) (law : IsContext c) where
       ShowsNego (client_shown f) t answered reply → HoldsNego c f answered reply → HoldsNego c g answered reply
   proof_over f g t None reply same shows h = tt
   proof_over f g t (Some statuses.Ok) reply same shows h = let k = same.proved shows.proved in record {
-    nonce = rw same.nonce h.nonce;
+    nonce = rw same.settings h.nonce;
     proof = at_noted f.noted g.noted _ _ k.0 (λ version seals.
-        rw (k.1, same.nonce, same.public_key) (seals_still f.context g.context f.made
-        (prescribed Client version f.nonce f.public_key) reply.pub_key_auth k.2 seals)) h.proof;
+        rw (k.1, same.settings) (seals_still f.context g.context f.made
+        (prescribed Client version f.settings.nonce f.settings.public_key) reply.pub_key_auth k.2 seals)) h.proof;
   }
   proof_over f g t (Some other) reply same shows h = tt
 
@@ -138,8 +135,8 @@ module _ {C : Type 0} (c : Meaning ContextSetting C) (law : IsContext c) where
       HoldsReply c f t.acts.status out → HoldsReply c g t.acts.status out
   holds_over f g t (outcome.Reply reply) same shows h = proof_over f g t t.acts.status reply same shows h
   holds_over f g t (outcome.Final reply) same shows h = let k = same.checked shows.checked in
-      rw (same.credentials, same.delegation, same.sealed shows.sealed)
-      (text_over (delegated_text f.credentials f.delegation) _ _
+      rw (same.settings, same.sealed shows.sealed)
+      (text_over (delegated_text f.settings.credentials f.settings.delegation) _ _
       (λ text seals. seals_still f.context g.context f.made text reply.auth_info k.2 seals) h)
   holds_over f g t outcome.Finished same shows h = tt
   holds_over f g t (outcome.Refused kind reply) same shows h = tt
@@ -155,8 +152,8 @@ module _ {C : Type 0} (c : Meaning ContextSetting C) (law : IsContext c) where
     held = record {
       sealed = λ was. let k = same.checked (shown.acts.sealed was) in
           at_noted f.noted g.noted _ _ k.0 (λ version h.
-          rw (k.1, same.nonce, same.public_key) (opens_still f.context g.context f.opened t.delivered.pub_key_auth
-          (prescribed Server version f.nonce f.public_key) k.2 h))
+          rw (k.1, same.settings) (opens_still f.context g.context f.opened t.delivered.pub_key_auth
+          (prescribed Server version f.settings.nonce f.settings.public_key) k.2 h))
           (turn.held.sealed was);
       reply = holds_over f g t t.outcome same shown.reply turn.held.reply;
     };

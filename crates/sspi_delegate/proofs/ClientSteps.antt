@@ -9,8 +9,8 @@ use Rattle.sspi_tsreq.specs.declared.request.TsRequest.{TsRequest}
 use Rattle.sspi_credssp.specs.declared.state.CredSspState.{CredSspState}
 use Rattle.sspi_credssp.specs.declared.state.CredSspState.TheVariants.{NegoToken, PubKeyInfo, AuthInfo, Final}
 use Rattle.sspi_credssp.specs.Acts.{sealed_by, unsealed_by}
-use Rattle.sspi_credssp.specs.Client.{ClientView, IsFreshClient}
-use Rattle.sspi_credssp.specs.ClientTurn.{ClientTurn, IsUnderway, SameClient, StartsUnused, client_frame, client_turn, noted_next}
+use Rattle.sspi_credssp.specs.Client.{ClientSettings, ClientView, IsFreshClient}
+use Rattle.sspi_credssp.specs.ClientTurn.{ClientTurn, IsUnderway, StartsUnused, client_frame, client_turn, noted_next}
 use Rattle.sspi_credssp.specs.ClientTurn.{state_after, OnceNegotiated}
 use Rattle.sspi_names.specs.declared.credentials.CredentialsBuffers.{CredentialsBuffers}
 use Rattle.sspi_mech.specs.declared.step.Answer.{Answer}
@@ -78,16 +78,18 @@ noted_second (Some m) least (Some noted) version begun none = absurd (cc (none))
 module _ {C : Type 0} (c : Meaning ContextSetting C) where
   -- each turn past the first has noted a version
   pub noted_by_two : (e : ClientEnd C) (t u : Turn) (past : List Turn) → EachClientTurn c e (t ∷ u ∷ past) → AllGoOn (t ∷ u ∷ past) →
-      IsSome (client_noted e.least (t ∷ u ∷ past))
-  noted_by_two e t u past each going = went_noted (client_noted e.least (t ∷ u ∷ past)) t.delivered.version t.outcome going.0
+      IsSome (client_noted e.settings.least (t ∷ u ∷ past))
+  noted_by_two e t u past each going = went_noted (client_noted e.settings.least (t ∷ u ∷ past)) t.delivered.version t.outcome going.0
       each.0.shown.version
 
-  noted_more : (old : ClientView C) (t : Turn) (past : List Turn) → HasBegun c old.context past → old.noted ≡ client_noted old.least past →
-      EachClientTurn c (client_end old) past → AllGoOn past → noted_next c old t.delivered ≡ client_noted old.least (t ∷ past)
+  noted_more : (old : ClientView C) (t : Turn) (past : List Turn) → HasBegun c old.context past →
+      old.noted ≡ client_noted old.settings.least past →
+      EachClientTurn c (client_end old) past → AllGoOn past → noted_next c old t.delivered ≡ client_noted old.settings.least (t ∷ past)
   noted_more old t [] begun is each going = rw (begun, is) refl
-  noted_more old t (u ∷ []) begun is each going = noted_second old.context old.least old.noted t.delivered.version begun is
+  noted_more old t (u ∷ []) begun is each going = noted_second old.context old.settings.least old.noted t.delivered.version begun is
   noted_more old t (u ∷ v ∷ past) begun is each going =
-      noted_kept old.context old.least old.noted t.delivered.version (rw is (noted_by_two (client_end old) u v past each going)) ∙ is
+      noted_kept old.context old.settings.least old.noted t.delivered.version
+      (rw is (noted_by_two (client_end old) u v past each going)) ∙ is
 
   looks_more : (context : Option C) (past : List Turn) → HasBegun c context past → has_turn past ≡ is_some context
   looks_more context [] begun = rw begun refl
@@ -137,29 +139,18 @@ module _ {C : Type 0} (c : Meaning ContextSetting C) where
 
   -- ---- the turns before, over the context that the newest one left
 
-  pub record SameEnd (e e2 : ClientEnd C) : Type 0 where
-    pub public_key : e2.public_key ≡ e.public_key
-    pub nonce : e2.nonce ≡ e.nonce
-    pub version : e2.version ≡ e.version
-    pub least : e2.least ≡ e.least
-    pub credentials : e2.credentials ≡ e.credentials
-    pub delegation : e2.delegation ≡ e.delegation
-
-  each_over : (law : IsContext c) (e e2 : ClientEnd C) (past : List Turn) → SameEnd e e2 → Touched (SameBut c e.context e2.context) past →
+  each_over : (law : IsContext c) (e e2 : ClientEnd C) (past : List Turn) → e2.settings ≡ e.settings →
+      Touched (SameBut c e.context e2.context) past →
       EachClientTurn c e past → EachClientTurn c e2 past
   each_over law e e2 [] same touch each = tt
   each_over law e e2 (t ∷ past) same touch each = (
     client_over c law (client_frame_at e past t) (client_frame_at e2 past t) t (record {
-      public_key = same.public_key;
-      nonce = same.nonce;
-      version = same.version;
-      credentials = same.credentials;
-      delegation = same.delegation;
+      settings = same;
       state = refl;
       looks = refl;
-      noted = unless_given t.outcome _ (ap (λ (n : ℕ). client_noted n (t ∷ past)) same.least);
-      proved = λ was. (ap (λ (n : ℕ). client_noted n (t ∷ past)) same.least, refl, touch.0 was);
-      checked = λ was. (ap (λ (n : ℕ). client_noted n (t ∷ past)) same.least, refl, touch.1 was);
+      noted = unless_given t.outcome _ (ap (λ (s : ClientSettings). client_noted s.least (t ∷ past)) same);
+      proved = λ was. (ap (λ (s : ClientSettings). client_noted s.least (t ∷ past)) same, refl, touch.0 was);
+      checked = λ was. (ap (λ (s : ClientSettings). client_noted s.least (t ∷ past)) same, refl, touch.1 was);
       sealed = λ was. refl;
     }) each.0,
     each_over law e e2 past same touch.2 each.1,
@@ -174,35 +165,13 @@ module _ {C : Type 0} (c : Meaning ContextSetting C) where
   touched_by e AuthInfo past P is each went bare = touched P past bare
   touched_by e Final past P is each went bare = touched P past bare
 
-  same_end : (old new : ClientView C) → SameClient c old new → SameEnd (client_end old) (client_end new)
-  same_end old new same = record {
-    public_key = same.public_key;
-    nonce = same.nonce;
-    version = same.version;
-    least = same.least;
-    credentials = same.credentials;
-    delegation = same.delegation;
-  }
-
-  same_on : (a b d : ClientView C) → SameClient c a b → SameClient c b d → SameClient c a d
-  same_on a b d first after = record {
-    public_key = after.public_key ∙ first.public_key;
-    credentials = after.credentials ∙ first.credentials;
-    delegation = after.delegation ∙ first.delegation;
-    version = after.version ∙ first.version;
-    least = after.least ∙ first.least;
-    mode = after.mode ∙ first.mode;
-    target = after.target ∙ first.target;
-    nonce = after.nonce ∙ first.nonce;
-  }
-
   -- ---- one more turn
 
-  noted_of : (first old new : ClientView C) (t : Turn) (past : List Turn) → ClientFollows c first old past → new.least ≡ old.least →
-      noted_next c old t.delivered ≡ client_noted new.least (t ∷ past)
+  noted_of : (first old new : ClientView C) (t : Turn) (past : List Turn) → ClientFollows c first old past → new.settings ≡ old.settings →
+      noted_next c old t.delivered ≡ client_noted new.settings.least (t ∷ past)
   noted_of first old new t past follows same =
       noted_more c old t past follows.begun follows.noted follows.ran.each follows.going ∙ sym
-      (ap (λ (n : ℕ). client_noted n (t ∷ past)) same)
+      (ap (λ (s : ClientSettings). client_noted s.least (t ∷ past)) same)
 
   -- a turn that proves seals nothing else, and one that seals the credentials proves nothing
   proved_alone : (f : ClientFrame C) (t : Turn) → ShowsClientActs (client_shown f) t → t.acts.proved ≡ true → t.acts.sealed ≡ false
@@ -223,18 +192,14 @@ module _ {C : Type 0} (c : Meaning ContextSetting C) where
       turn.moves.sealed unused ∙ ap (λ (n : ℕ). n + sealed_by new.acts) follows.ran.made in
       let opened : unsealed_in c new.context ≡ opened_in past + unsealed_by new.acts =
       turn.moves.unsealed unused ∙ ap (λ (n : ℕ). n + unsealed_by new.acts) follows.ran.opened in
-      let noted : noted_next c old d ≡ client_noted new.least (t ∷ past) = noted_of first old new t past follows turn.moves.same.least in
+      let noted : noted_next c old d ≡ client_noted new.settings.least (t ∷ past) = noted_of first old new t past follows turn.moves.same in
       record {
-        same = same_on first old new follows.ran.same turn.moves.same;
+        same = turn.moves.same ∙ follows.ran.same;
         made = made;
         opened = opened;
         each = (
           client_over c law (client_frame c old new) (client_frame_at (client_end new) past t) t (record {
-            public_key = refl;
-            nonce = refl;
-            version = refl;
-            credentials = refl;
-            delegation = refl;
+            settings = refl;
             state = sym follows.state;
             looks = looks_more c old.context past follows.begun;
             noted = unless_map out _ _ (λ h. sym (h ∙ noted)) turn.moves.noted_going;
@@ -252,7 +217,7 @@ module _ {C : Type 0} (c : Meaning ContextSetting C) where
             sealed = λ was. made_by_seal new.acts (made_in past) (sealed_in c new.context) made was
                 (sealed_alone (client_frame c old new) t turn.turn.shown.acts was);
           }) turn.turn,
-          each_over law (client_end old) (client_end new) past (same_end old new turn.moves.same)
+          each_over law (client_end old) (client_end new) past turn.moves.same
               (touched_by (client_end old) old.state past (SameBut c old.context new.context) follows.state follows.ran.each follows.going
               turn.moves.bare)
               follows.ran.each,
@@ -280,8 +245,8 @@ module _ {C : Type 0} (c : Meaning ContextSetting C) where
       (log : List Asked)
       (answer : Answer) (step : Step) (m : C) → answer ≡ Done step → Walked c start handle token tries log answer m → c.waits m ≡ false
   walked_idle law start handle token tries log answer step m is (stepped m0 m1 a begun stepped_so) =
-      law.step_done m0 m (client_args handle start.target token) step
-      (subst (λ (x : Answer). c.steps m0 (client_args handle start.target token) x m) is stepped_so)
+      law.step_done m0 m (client_args handle start.settings.target token) step
+      (subst (λ (x : Answer). c.steps m0 (client_args handle start.settings.target token) x m) is stepped_so)
   walked_idle law start handle token tries log answer step m is (resumed m1 m2 tried before q reply a walked resumed_so) =
       law.resume_done m1 m reply step (subst (λ (x : Answer). c.resumes m1 reply x m) is resumed_so)
   walked_idle law start handle token tries log answer step m is (still_asked m1 m2 tried before q reply error walked resumed_so waits) =
@@ -320,7 +285,7 @@ module _ {C : Type 0} (c : Meaning ContextSetting C) where
     state = turn.moves.state
         ∙ replied_state (client_frame c old new) (client_turn c d (outcome.Reply reply) new) past reply follows.state refl
         turn.turn.shown.reply;
-    noted = turn.moves.noted_going ∙ noted_of first old new (client_turn c d (outcome.Reply reply) new) past follows turn.moves.same.least;
+    noted = turn.moves.noted_going ∙ noted_of first old new (client_turn c d (outcome.Reply reply) new) past follows turn.moves.same;
     begun = turn.moves.begun;
     idle = idle_in law old d steps.asked new.acts.status new (client_frame c old new)
         (client_turn c d (outcome.Reply reply) new) reply turn.turn.shown.reply steps.step;
@@ -341,7 +306,7 @@ module _ {C : Type 0} (c : Meaning ContextSetting C) where
   client_ended law first old new past d reply follows turn = record {
     ran = client_turned law first old new past d (outcome.Final reply) follows turn;
     state = turn.moves.state;
-    noted = turn.moves.noted_going ∙ noted_of first old new (client_turn c d (outcome.Final reply) new) past follows turn.moves.same.least;
+    noted = turn.moves.noted_going ∙ noted_of first old new (client_turn c d (outcome.Final reply) new) past follows turn.moves.same;
     begun = turn.moves.begun;
     idle = ended_idle law old.state old.context new.context turn.turn.shown.reply.state turn.moves.bare follows.idle;
     going = (tt, follows.going);
@@ -353,10 +318,10 @@ module _ {C : Type 0} (c : Meaning ContextSetting C) where
   client_underway law first old now past d follows way =
       let unused = starts_unused first old past follows in
       record {
-        same = same_on first old now follows.ran.same way.ready.same;
+        same = way.ready.same ∙ follows.ran.same;
         made = way.ready.sealed unused ∙ follows.ran.made;
         opened = way.ready.unsealed unused ∙ follows.ran.opened;
-        each = each_over law (client_end old) (client_end now) past (same_end old now way.ready.same)
+        each = each_over law (client_end old) (client_end now) past way.ready.same
             (touched_by (client_end old) old.state past (SameBut c old.context now.context) follows.state follows.ran.each follows.going
             way.ready.bare)
             follows.ran.each;
@@ -367,16 +332,7 @@ module _ {C : Type 0} (c : Meaning ContextSetting C) where
   pub client_emptied : (first now : ClientView C) (past : List Turn) → ClientRan c first now past →
       ClientRan c first (record now { output = [] }) past
   client_emptied first now past ran = record {
-    same = record {
-      public_key = ran.same.public_key;
-      credentials = ran.same.credentials;
-      delegation = ran.same.delegation;
-      version = ran.same.version;
-      least = ran.same.least;
-      mode = ran.same.mode;
-      target = ran.same.target;
-      nonce = ran.same.nonce;
-    };
+    same = ran.same;
     made = ran.made;
     opened = ran.opened;
     each = ran.each;
@@ -386,16 +342,7 @@ module _ {C : Type 0} (c : Meaning ContextSetting C) where
   pub client_fresh : (first : ClientView C) → IsFreshClient first → ClientFollows c first first []
   client_fresh first fresh = record {
     ran = record {
-      same = record {
-        public_key = refl;
-        credentials = refl;
-        delegation = refl;
-        version = refl;
-        least = refl;
-        mode = refl;
-        target = refl;
-        nonce = refl;
-      };
+      same = refl;
       made = rw fresh.context refl;
       opened = rw fresh.context refl;
       each = tt;

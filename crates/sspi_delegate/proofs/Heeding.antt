@@ -10,12 +10,12 @@ use Rattle.sspi_credssp.specs.declared.server_state.ServerState.{ServerState}
 use Rattle.sspi_credssp.specs.declared.turn.Outcome.{Outcome}
 use Rattle.sspi_credssp.specs.declared.turn.Outcome.TheVariants as outcome
 use Rattle.sspi_credssp.specs.declared.turn.Turn.{Turn}
-use Rattle.sspi_credssp.specs.Client.{ClientView, IsFreshClient}
+use Rattle.sspi_credssp.specs.Client.{ClientSettings, ClientView, IsFreshClient}
 use Rattle.sspi_credssp.specs.ClientTurn.{client_turn}
 use Rattle.sspi_credssp.specs.Context.{ContextSetting}
 use Rattle.sspi_credssp.specs.Noted.{is_old, is_old_in, noted_with}
 use Rattle.sspi_credssp.specs.Proxy.{ProxyMeaning}
-use Rattle.sspi_credssp.specs.Server.{ServerView, IsFreshServer}
+use Rattle.sspi_credssp.specs.Server.{ServerSettings, ServerView, IsFreshServer}
 use Rattle.sspi_credssp.specs.ServerTurn.{server_turn}
 use Rattle.sspi_credssp.specs.Turn.{AtNoted}
 use Rattle.sspi_credssp.proofs.ClientHeeding.{client_met}
@@ -90,40 +90,44 @@ module _ {C : Type 0} (c : Meaning ContextSetting C) where
 
   some_noted : (e : ClientEnd C) (t : Turn) (past : List Turn) → EachClientTurn c e (t ∷ past) → AllGoOn (t ∷ past) →
       is_second past ≡ true →
-      IsSome (client_noted e.least (t ∷ past))
+      IsSome (client_noted e.settings.least (t ∷ past))
   some_noted e t [] each going second = absurd (cc (second))
   some_noted e t (u ∷ past) each going second = noted_by_two c e t u past each going
 
   -- turns that went on
-  went_heeds : (e : ClientEnd C) (past : List Turn) → EachClientTurn c e past → AllGoOn past → EachHeedsServer c e.least past
+  went_heeds : (e : ClientEnd C) (past : List Turn) → EachClientTurn c e past → AllGoOn past → EachHeedsServer c e.settings.least past
   went_heeds e [] each going = tt
   went_heeds e (t ∷ past) each going = (
     record {
-      refuses = λ found. absurd (second_noted e.least t past (some_noted e t past each going) found);
+      refuses = λ found. absurd (second_noted e.settings.least t past (some_noted e t past each going) found);
       only = λ never is. absurd (goes_apart t.outcome going.0 is);
     },
     went_heeds e past each.1 going.1,
   )
 
-  met_at : (old : ClientView C) (past : List Turn) (version : ℕ) → HasBegun c old.context past → old.noted ≡ client_noted old.least past →
-      is_second past ≡ true → nat_lt version old.least ≡ true → is_old_in old.context old.least old.noted version ≡ true
+  met_at : (old : ClientView C) (past : List Turn) (version : ℕ) → HasBegun c old.context past →
+      old.noted ≡ client_noted old.settings.least past →
+      is_second past ≡ true → nat_lt version old.settings.least ≡ true → is_old_in old.context old.settings.least old.noted version ≡ true
   met_at old [] version begun noted second below = absurd (cc (second))
-  met_at old (u ∷ []) version begun noted second below = old_in old.context old.least old.noted version begun noted below
+  met_at old (u ∷ []) version begun noted second below = old_in old.context old.settings.least old.noted version begun noted below
   met_at old (u ∷ v ∷ past) version begun noted second below = absurd (cc (second))
 
-  found_at : (old : ClientView C) (past : List Turn) (version : ℕ) → HasBegun c old.context past → old.noted ≡ client_noted old.least past →
-      EachClientTurn c (client_end old) past → AllGoOn past → is_old_in old.context old.least old.noted version ≡ true →
-      (is_second past ≡ true) × (nat_lt version old.least ≡ true)
+  found_at : (old : ClientView C) (past : List Turn) (version : ℕ) → HasBegun c old.context past →
+      old.noted ≡ client_noted old.settings.least past →
+      EachClientTurn c (client_end old) past → AllGoOn past → is_old_in old.context old.settings.least old.noted version ≡ true →
+      (is_second past ≡ true) × (nat_lt version old.settings.least ≡ true)
   found_at old [] version begun noted each going met = absurd (true≢false (sym met ∙ rw begun refl))
-  found_at old (u ∷ []) version begun noted each going met = (refl, first_in old.context old.least old.noted version noted met)
+  found_at old (u ∷ []) version begun noted each going met = (refl, first_in old.context old.settings.least old.noted version noted met)
   found_at old (u ∷ v ∷ past) version begun noted each going met =
-      absurd (young_in old.context old.least old.noted version (rw noted (noted_by_two c (client_end old) u v past each going)) met)
+      absurd (young_in old.context old.settings.least old.noted version
+      (rw noted (noted_by_two c (client_end old) u v past each going)) met)
 
   module _ (law : IsContext c) where
     module _ {D : Type 0} (k : KdcCalls D) where
       newest_heeds : (first old mid : ClientView C) (kdc kdc2 : D) (past : List Turn) (d : TsRequest) (out : Outcome) →
           ClientFollows c first old past →
-          ClientMakes c k old kdc d out mid kdc2 → mid.least ≡ old.least → HeedsServer c mid.least past (client_turn c d out mid)
+          ClientMakes c k old kdc d out mid kdc2 → mid.settings.least ≡ old.settings.least →
+          HeedsServer c mid.settings.least past (client_turn c d out mid)
       newest_heeds first old mid kdc kdc2 past d (outcome.Reply reply) follows makes same =
           let after = client_went c law k first old mid kdc kdc2 past d (outcome.Reply reply) tt follows makes in
           (went_heeds (client_end mid) (client_turn c d (outcome.Reply reply) mid ∷ past) after.ran.each after.going).0
@@ -138,33 +142,34 @@ module _ {C : Type 0} (c : Meaning ContextSetting C) where
             refuses = λ found. sym makes.1 ∙ why.heeds (record {
               idle = follows.idle;
               code = found.code;
-              old = met_at old past d.version follows.begun follows.noted found.second (lt-ltb d.version old.least (rw (← same) found.old));
+              old = met_at old past d.version follows.begun follows.noted found.second
+                  (lt-ltb d.version old.settings.least (rw (← same) found.old));
             });
             only = λ never is.
                 let met = client_met c never old d 0 why.steps.asked error mid why.cause why.steps.step (makes.1 ∙ is) in
                 let found = found_at old past d.version follows.begun follows.noted follows.ran.each follows.going met.old in
-                record { second = found.0; code = met.code; old = rw same (ltb-true d.version old.least found.1) };
+                record { second = found.0; code = met.code; old = rw same (ltb-true d.version old.settings.least found.1) };
           }
       newest_heeds first old mid kdc kdc2 past d (outcome.Refused kind (Some reply)) follows makes same = absurd makes
 
       history_heeds : (first now : ClientView C) (kdc kdc2 : D) (turns : List Turn) → IsFreshClient first → OthersGoOn turns →
-          ClientHistory c k first kdc turns now kdc2 → EachHeedsServer c now.least turns
+          ClientHistory c k first kdc turns now kdc2 → EachHeedsServer c now.settings.least turns
       history_heeds first now kdc kdc2 [] fresh others h = tt
       history_heeds first now kdc kdc2 (t ∷ past) fresh others h =
           let made = h.3 in
           let follows = history_follows c law k first h.0 kdc h.1 past fresh others h.2 in
           let turn = client_turn_of c law k h.0 made.mid h.1 kdc2 t.delivered t.outcome made.makes in
-          let same : made.mid.least ≡ h.0.least = turn.moves.same.least in
-          let least : now.least ≡ made.mid.least = ap (λ (v : ClientView C). v.least) made.rest in (
+          let same : made.mid.settings.least ≡ h.0.settings.least = ap (λ (s : ClientSettings). s.least) turn.moves.same in
+          let least : now.settings.least ≡ made.mid.settings.least = ap (λ (v : ClientView C). v.settings.least) made.rest in (
             subst (λ (n : ℕ). HeedsServer c n past t) (sym least)
-                (subst (λ (x : Turn). HeedsServer c made.mid.least past x) (sym made.turn)
+                (subst (λ (x : Turn). HeedsServer c made.mid.settings.least past x) (sym made.turn)
                 (newest_heeds first h.0 made.mid h.1 kdc2 past t.delivered t.outcome follows made.makes same)),
             subst (λ (n : ℕ). EachHeedsServer c n past) (sym (least ∙ same))
                 (went_heeds (client_end h.0) past follows.ran.each follows.going),
           )
 
       left_heeds : (first now : ClientView C) (kdc kdc2 : D) (turns : List Turn) → IsFreshClient first → OthersGoOn turns →
-          ClientLeft c k first kdc turns now kdc2 → EachHeedsServer c now.least turns
+          ClientLeft c k first kdc turns now kdc2 → EachHeedsServer c now.settings.least turns
       left_heeds first now kdc kdc2 turns fresh others (between h) = history_heeds first now kdc kdc2 turns fresh others h
       left_heeds first now kdc kdc2 turns fresh others (waiting old kdc1 d went h way) =
           let ran = client_underway c law first old now turns d
@@ -173,7 +178,7 @@ module _ {C : Type 0} (c : Meaning ContextSetting C) where
 
       stops_heeds : (first now : ClientView C) (kdc kdc2 : D) (turns : List Turn) (error : DelegateError) → IsFreshClient first →
           OthersGoOn turns →
-          ClientStops c k first kdc error turns now kdc2 → EachHeedsServer c now.least turns
+          ClientStops c k first kdc error turns now kdc2 → EachHeedsServer c now.settings.least turns
       stops_heeds first now kdc kdc2 turns (errors.Client error) fresh others s =
           history_heeds first now kdc kdc2 turns fresh others (client_stopped_history c k first now kdc kdc2 error turns s)
       stops_heeds first now kdc kdc2 turns (errors.Server error) fresh others h = history_heeds first now kdc kdc2 turns fresh others h
@@ -184,7 +189,8 @@ module _ {C : Type 0} (c : Meaning ContextSetting C) where
       stops_heeds first now kdc kdc2 turns errors.InsufficientMemory fresh others h = left_heeds first now kdc kdc2 turns fresh others h
 
       pub client_past_heeds : (first now : ClientView C) (kdc kdc2 : D) (turns : List Turn) (result : Result Delegation DelegateError) →
-          IsFreshClient first → OthersGoOn turns → ClientPast c k first kdc result turns now kdc2 → EachHeedsServer c now.least turns
+          IsFreshClient first → OthersGoOn turns → ClientPast c k first kdc result turns now kdc2 →
+          EachHeedsServer c now.settings.least turns
       client_past_heeds first now kdc kdc2 turns (Ok delegation) fresh others h = history_heeds first now kdc kdc2 turns fresh others h
       client_past_heeds first now kdc kdc2 turns (Err error) fresh others h = stops_heeds first now kdc kdc2 turns error fresh others h
 
@@ -196,33 +202,34 @@ module _ {C : Type 0} (c : Meaning ContextSetting C) where
   first_noted context least t (u ∷ past) noted found = let s = found.first in absurd (cc (s))
 
   went_heeds_client : (context : Option C) (e : ServerEnd C) (past : List Turn) → EachServerTurn c e past → NoneRefused past →
-      EachHeedsClient c context e.least past
+      EachHeedsClient c context e.settings.least past
   went_heeds_client context e [] each going = tt
   went_heeds_client context e (t ∷ past) each going = (
     record {
-      refuses = λ found. absurd (first_noted context e.least t past (noted_by_one c e t past each going) found);
+      refuses = λ found. absurd (first_noted context e.settings.least t past (noted_by_one c e t past each going) found);
       only = λ never is. absurd (unrefused_apart t.outcome going.0 is);
     },
     went_heeds_client context e past each.1 going.1,
   )
 
-  met_first : {P : Type 0} (old : ServerView C P) (past : List Turn) (version : ℕ) → old.noted ≡ server_noted old.least past →
+  met_first : {P : Type 0} (old : ServerView C P) (past : List Turn) (version : ℕ) → old.noted ≡ server_noted old.settings.least past →
       is_first past ≡ true →
-      nat_lt version old.least ≡ true → is_old old.least old.noted version ≡ true
+      nat_lt version old.settings.least ≡ true → is_old old.settings.least old.noted version ≡ true
   met_first old [] version noted first below = rw noted below
   met_first old (u ∷ past) version noted first below = absurd (cc (first))
 
-  found_first : {P : Type 0} (old : ServerView C P) (past : List Turn) (version : ℕ) → old.noted ≡ server_noted old.least past →
-      EachServerTurn c (server_end old) past → NoneRefused past → is_old old.least old.noted version ≡ true →
-      (is_first past ≡ true) × (nat_lt version old.least ≡ true)
+  found_first : {P : Type 0} (old : ServerView C P) (past : List Turn) (version : ℕ) → old.noted ≡ server_noted old.settings.least past →
+      EachServerTurn c (server_end old) past → NoneRefused past → is_old old.settings.least old.noted version ≡ true →
+      (is_first past ≡ true) × (nat_lt version old.settings.least ≡ true)
   found_first old [] version noted each going met = (refl, rw noted at met)
   found_first old (u ∷ past) version noted each going met =
-      absurd (young_in (Some old) old.least old.noted version (rw noted (noted_by_one c (server_end old) u past each going)) met)
+      absurd (young_in (Some old) old.settings.least old.noted version (rw noted (noted_by_one c (server_end old) u past each going)) met)
 
   module _ (law : IsContext c) {P : Type 0} (p : ProxyMeaning P) where
     newest_heeds_client : (first old mid : ServerView C P) (past : List Turn) (d : TsRequest) (out : Outcome) →
         ServerFollows c first old past →
-        ServerMakes c p old d out mid → mid.least ≡ old.least → HeedsClient c mid.context mid.least past (server_turn c d out mid)
+        ServerMakes c p old d out mid → mid.settings.least ≡ old.settings.least →
+        HeedsClient c mid.context mid.settings.least past (server_turn c d out mid)
     newest_heeds_client first old mid past d (outcome.Reply reply) follows makes same =
         let after = server_went c law p first old mid past d (outcome.Reply reply) tt follows makes in
         (went_heeds_client mid.context (server_end mid) (server_turn c d (outcome.Reply reply) mid ∷ past) after.ran.each after.unrefused).0
@@ -231,8 +238,8 @@ module _ {C : Type 0} (c : Meaning ContextSetting C) where
         let t : Turn = server_turn c d outcome.Finished mid in
         let ran = server_turned c law first old mid past d outcome.Finished follows makes.0 in
         record {
-          refuses = λ found. absurd (first_noted mid.context mid.least t past
-              (at_some (server_noted mid.least (t ∷ past)) _ ran.each.0.shown.version) found);
+          refuses = λ found. absurd (first_noted mid.context mid.settings.least t past
+              (at_some (server_noted mid.settings.least (t ∷ past)) _ ran.each.0.shown.version) found);
           only = λ never is. absurd is;
         }
     newest_heeds_client first old mid past d (outcome.Refused kind reply) follows makes same =
@@ -241,33 +248,33 @@ module _ {C : Type 0} (c : Meaning ContextSetting C) where
         record {
           refuses = λ found. sym makes.1 ∙ why.heeds (record {
             begun = found.begun;
-            old = met_first old past d.version follows.noted found.first (lt-ltb d.version old.least (rw (← same) found.old));
+            old = met_first old past d.version follows.noted found.first (lt-ltb d.version old.settings.least (rw (← same) found.old));
           });
           only = λ never is.
               let met = server_met c never p ServerState old d error mid (λ some. (makes.2.moves.handle some).1) why.cause why.step
               (makes.1 ∙ is) in
               let found = found_first old past d.version follows.noted follows.ran.each follows.unrefused met.old in
-              record { first = found.0; begun = met.begun; old = rw same (ltb-true d.version old.least found.1) };
+              record { first = found.0; begun = met.begun; old = rw same (ltb-true d.version old.settings.least found.1) };
         }
 
     server_history_heeds : (first now : ServerView C P) (turns : List Turn) → IsFreshServer first → OthersUnrefused turns →
-        ServerHistory c p first turns now → EachHeedsClient c now.context now.least turns
+        ServerHistory c p first turns now → EachHeedsClient c now.context now.settings.least turns
     server_history_heeds first now [] fresh others h = tt
     server_history_heeds first now (t ∷ past) fresh others h =
         let made = h.2 in
         let follows = server_history_follows c law p first h.0 past fresh others h.1 in
         let turn = server_turn_of c law p h.0 made.mid t.delivered t.outcome made.makes in
-        let same : made.mid.least ≡ h.0.least = turn.moves.same.least in (
-          subst (λ (v : ServerView C P). HeedsClient c v.context v.least past t) (sym made.rest)
-              (subst (λ (x : Turn). HeedsClient c made.mid.context made.mid.least past x) (sym made.turn)
+        let same : made.mid.settings.least ≡ h.0.settings.least = ap (λ (s : ServerSettings). s.least) turn.moves.same in (
+          subst (λ (v : ServerView C P). HeedsClient c v.context v.settings.least past t) (sym made.rest)
+              (subst (λ (x : Turn). HeedsClient c made.mid.context made.mid.settings.least past x) (sym made.turn)
               (newest_heeds_client first h.0 made.mid past t.delivered t.outcome follows made.makes same)),
-          subst (λ (v : ServerView C P). EachHeedsClient c v.context v.least past) (sym made.rest)
+          subst (λ (v : ServerView C P). EachHeedsClient c v.context v.settings.least past) (sym made.rest)
               (subst (λ (n : ℕ). EachHeedsClient c made.mid.context n past) (sym same)
               (went_heeds_client made.mid.context (server_end h.0) past follows.ran.each follows.unrefused)),
         )
 
     pub server_past_heeds : (first now : ServerView C P) (turns : List Turn) (result : Result Delegation DelegateError) →
         IsFreshServer first →
-        OthersUnrefused turns → ServerPast c p first result turns now → EachHeedsClient c now.context now.least turns
+        OthersUnrefused turns → ServerPast c p first result turns now → EachHeedsClient c now.context now.settings.least turns
     server_past_heeds first now turns result fresh others past =
         server_history_heeds first now turns fresh others (server_past_history c p first now turns result past)

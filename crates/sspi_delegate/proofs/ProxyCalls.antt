@@ -16,7 +16,7 @@ use Rattle.sspi_credssp.specs.declared.turn.Turn.{Turn}
 use Rattle.sspi_credssp.specs.Context.{ContextSetting}
 use Rattle.sspi_credssp.specs.Peers.{list_calls, lists_in}
 use Rattle.sspi_credssp.specs.Proxy.{ProxyMeaning, HasAsked}
-use Rattle.sspi_credssp.specs.Server.{ServerView, IsFreshServer}
+use Rattle.sspi_credssp.specs.Server.{ServerSettings, ServerView, IsFreshServer}
 use Rattle.sspi_credssp.specs.ServerAsks.{look_ups_at}
 use Rattle.sspi_credssp.specs.ServerTurn.{ServerTurn, after_reply, after_status, server_state_after, server_frame, server_turn}
 use Rattle.sspi_credssp.specs.Turn.{UnlessRefused, ServerFrame}
@@ -118,17 +118,17 @@ module _ {C : Type 0} (c : Meaning ContextSetting C) where
 
   module _ {P : Type 0} (p : ProxyMeaning P) where
     record SoFar (first now : ServerView C P) : Type 0 where
-      pub mode_same : now.mode ≡ first.mode
+      pub same : now.settings ≡ first.settings
       pub told_same : p.told now.proxy ≡ p.told first.proxy
       pub begins : now.context ≡ None → now.state ≡ NegoToken
-      pub asked : HasAsked p (calls_made now.context first.mode now.state) first.proxy now.proxy
+      pub asked : HasAsked p (calls_made now.context first.settings.mode now.state) first.proxy now.proxy
 
     fresh_so_far : (first : ServerView C P) → IsFreshServer first → SoFar first first
     fresh_so_far first fresh = record {
-      mode_same = refl;
+      same = refl;
       told_same = refl;
       begins = λ none. fresh.state;
-      asked = has_not_asked p _ _ _ (ap (λ (o : Option C). calls_made o first.mode first.state) fresh.context) refl;
+      asked = has_not_asked p _ _ _ (ap (λ (o : Option C). calls_made o first.settings.mode first.state) fresh.context) refl;
     }
 
     turn_of : (old mid : ServerView C P) (d : TsRequest) (out : Outcome) → IsUnrefused out → ServerMakes c p old d out mid →
@@ -147,14 +147,14 @@ module _ {C : Type 0} (c : Meaning ContextSetting C) where
         λ some. turn.turn.shown.acts.negotiated (turn.turn.shown.acts.answered some) in
         let more = unless_refused t.outcome _ un made.asked in
         let total = has_asked_on p _ _ _ _ _ so_far.told_same so_far.asked more in
-        let count = some_calls made.mid.context first.mode made.mid.state _ begun (λ m.
-        ap (λ mode. calls_made old.context first.mode old.state + (lists_in old.context mode + look_ups_at made.mid.acts.status))
-        so_far.mode_same
-        ∙ turn_calls (server_frame c old made.mid) (server_turn c t.delivered t.outcome made.mid) t.outcome old.context m first.mode
-        old.state refl un so_far.begins stepped turn.turn.shown.reply
-        ∙ ap (calls_made (Some m) first.mode) (sym turn.moves.state)) in
+        let count = some_calls made.mid.context first.settings.mode made.mid.state _ begun (λ m.
+        ap (λ (s : ServerSettings). calls_made old.context first.settings.mode old.state
+        + (lists_in old.context s.mode + look_ups_at made.mid.acts.status)) so_far.same
+        ∙ turn_calls (server_frame c old made.mid) (server_turn c t.delivered t.outcome made.mid) t.outcome old.context m
+        first.settings.mode old.state refl un so_far.begins stepped turn.turn.shown.reply
+        ∙ ap (calls_made (Some m) first.settings.mode) (sym turn.moves.state)) in
         subst (λ v. SoFar first v) (sym made.rest) (record {
-          mode_same = turn.moves.same.mode ∙ so_far.mode_same;
+          same = turn.moves.same ∙ so_far.same;
           told_same = made.proxy.told_same ∙ so_far.told_same;
           begins = λ none. absurd (cc (none, begun));
           asked = has_asked_as p _ _ _ _ count total;
@@ -168,7 +168,7 @@ module _ {C : Type 0} (c : Meaning ContextSetting C) where
 
     finished_asked : (first now : ServerView C P) (t : Turn) (past : List Turn) → IsFreshServer first → IsFinished t.outcome →
         AllGoOn past →
-        ServerHistory c p first (t ∷ past) now → HasAsked p (list_calls first.mode + 1) first.proxy now.proxy
+        ServerHistory c p first (t ∷ past) now → HasAsked p (list_calls first.settings.mode + 1) first.proxy now.proxy
     finished_asked first now t past fresh finished going h =
         let made = h.2 in
         let un : IsUnrefused t.outcome = finished_unrefused t.outcome finished in
@@ -178,8 +178,8 @@ module _ {C : Type 0} (c : Meaning ContextSetting C) where
         let ended : made.mid.state ≡ Final = turn.moves.state ∙ finished_state h.0.state t.outcome _ _ finished in
         let state : now.state ≡ Final = ap (λ (v : ServerView C P). v.state) made.rest ∙ ended in
         let context : now.context ≡ made.mid.context = ap (λ (v : ServerView C P). v.context) made.rest in
-        has_asked_as p _ _ _ _ (at_end now.context now.state first.mode (subst (λ (o : Option C). IsSome o) (sym context) begun) state)
-        so_far.asked
+        has_asked_as p _ _ _ _
+        (at_end now.context now.state first.settings.mode (subst (λ (o : Option C). IsSome o) (sym context) begun) state) so_far.asked
       where
         finished_unrefused : (out : Outcome) → IsFinished out → IsUnrefused out
         finished_unrefused (outcome.Reply reply) is = tt
@@ -202,7 +202,7 @@ module _ {C : Type 0} (c : Meaning ContextSetting C) where
     newest_asked : (first now : ServerView C P) (n : End) (t : Turn) (past : List Turn) → IsFreshServer first → n ≡ Server →
         IsFinished t.outcome →
         OthersGoOn (onto_server n t past) → ServerHistory c p first (onto_server n t past) now →
-        HasAsked p (list_calls first.mode + 1) first.proxy now.proxy
+        HasAsked p (list_calls first.settings.mode + 1) first.proxy now.proxy
     newest_asked first now Client t past fresh is finished others h = absurd (cc is)
     newest_asked first now Server t past fresh is finished others h = finished_asked first now t past fresh finished others h
 
@@ -211,7 +211,8 @@ module _ {C : Type 0} (c : Meaning ContextSetting C) where
         (log : List Carried) (faults : ℕ)
         (first now : ServerView C P) → IsFreshServer first → RunEnds base start limit result turns log faults →
         OthersGoOn (server_turns turns) →
-        ServerPast c p first result (server_turns turns) now → OnOk result (HasAsked p (list_calls first.mode + 1) first.proxy now.proxy)
+        ServerPast c p first result (server_turns turns) now →
+        OnOk result (HasAsked p (list_calls first.settings.mode + 1) first.proxy now.proxy)
     ok_asked base start limit (Ok delegation) [] log faults first now fresh ends others past = absurd ends.0.newest
     ok_asked base start limit (Ok delegation) (t ∷ turns) log faults first now fresh ends others past =
         newest_asked first now t.end t (server_turns turns) fresh ends.0.newest.0 ends.0.newest.1 others

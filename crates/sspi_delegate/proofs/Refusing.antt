@@ -74,7 +74,7 @@ module _ {C : Type 0} (c : Meaning ContextSetting C) where
       turn.turn.shown.acts.answered nego in
       stops_past (is_waiting_in c start.context) OutOfSequence error.error_type _ way.ready.idle
       (stops_past _ InvalidToken error.error_type _ way.ready.code
-      (stops_past (is_old_in start.context start.least start.noted d.version) DowngradeDetected error.error_type _ way.ready.young
+      (stops_past (is_old_in start.context start.settings.least start.noted d.version) DowngradeDetected error.error_type _ way.ready.young
       (stops_past (is_altered_in start.context start.noted d.version) MessageAltered error.error_type _ way.ready.passed
       (made_past start.context new.context _ _ _ (on_step new.acts.negotiated _ negotiated step)
       (state_cause start.state d new error.error_type (sym way.ready.state ∙ way.state) nego)))))

@@ -14,6 +14,7 @@ use Rattle.sspi_credssp.specs.Counts.{SameBut}
 use Rattle.sspi_credssp.specs.ErrorRequest.{version_back, error_request}
 use Rattle.sspi_credssp.specs.PublicKey.{prescribed}
 use Rattle.sspi_credssp.specs.Requests.{nonce_of}
+use Rattle.sspi_credssp.specs.Server.{ServerSettings}
 use Rattle.sspi_credssp.specs.ServerTurn.{IsServerTurn}
 use Rattle.sspi_credssp.specs.Held.{Proven, HoldsAnswer}
 use Rattle.sspi_credssp.specs.Shown.{server_shown, MayCheck, ShowsServerActs, ShowsTokenBack, ShowsProofBack, ShowsOver, ShowsNegoBack}
@@ -33,8 +34,7 @@ OnceRefused (outcome.Refused kind reply) P = P
 
 -- a frame as another turn over the same end sees it, as far as the turn speaks of it
 pub record SameFrame {C : Type 0} (c : Meaning ContextSetting C) (f g : ServerFrame C) (t : Turn) : Type 0 where
-  pub public_key : g.public_key ≡ f.public_key
-  pub version : g.version ≡ f.version
+  pub settings : g.settings ≡ f.settings
   pub state : g.state ≡ f.state
   pub noted : UnlessRefused t.outcome (g.noted ≡ f.noted)
   pub proved : t.acts.proved ≡ true → (g.noted ≡ f.noted) × (g.made ≡ f.made) × (g.opened ≡ f.opened) × SameBut c f.context g.context
@@ -43,11 +43,12 @@ pub record SameFrame {C : Type 0} (c : Meaning ContextSetting C) (f g : ServerFr
 
 module _ {C : Type 0} (c : Meaning ContextSetting C) (law : IsContext c) where
   proven_over : (f g : ServerFrame C) (t : Turn) (noted : ℕ) → SameFrame c f g t → t.acts.proved ≡ true →
-      Proven c f.context f.opened f.public_key t.delivered noted → Proven c g.context g.opened g.public_key t.delivered noted
+      Proven c f.context f.opened f.settings.public_key t.delivered noted →
+      Proven c g.context g.opened g.settings.public_key t.delivered noted
   proven_over f g t noted same was h = let k = same.proved was in record {
-    opens = rw (k.2, same.public_key)
+    opens = rw (k.2, same.settings)
         (opens_still c law f.context g.context f.opened t.delivered.pub_key_auth
-        (prescribed Client noted (nonce_of t.delivered.client_nonce) f.public_key) k.3 h.opens);
+        (prescribed Client noted (nonce_of t.delivered.client_nonce) f.settings.public_key) k.3 h.opens);
     nonce = h.nonce;
   }
 
@@ -65,11 +66,20 @@ module _ {C : Type 0} (c : Meaning ContextSetting C) (law : IsContext c) where
 
   token_over : (f g : ServerFrame C) (t : Turn) (reply : TsRequest) → SameFrame c f g t →
       ShowsTokenBack (server_shown f) t reply → ShowsTokenBack (server_shown g) t reply
-  token_over f g t reply same h = record { unproved = h.unproved; version = h.version ∙ sym same.version; reply = h.reply }
+  token_over f g t reply same h = record {
+    unproved = h.unproved;
+    version = h.version ∙ sym (ap (λ (s : ServerSettings). s.version) same.settings);
+    reply = h.reply;
+  }
 
   proof_over : (f g : ServerFrame C) (t : Turn) (reply : TsRequest) → SameFrame c f g t →
       ShowsProofBack (server_shown f) t reply → ShowsProofBack (server_shown g) t reply
-  proof_over f g t reply same h = record { checked = h.checked; proved = h.proved; version = h.version ∙ sym same.version; reply = h.reply }
+  proof_over f g t reply same h = record {
+    checked = h.checked;
+    proved = h.proved;
+    version = h.version ∙ sym (ap (λ (s : ServerSettings). s.version) same.settings);
+    reply = h.reply;
+  }
 
   over_over : (f g : ServerFrame C) (t : Turn) (blob : Option (List ℕ)) (reply : TsRequest) → SameFrame c f g t →
       ShowsOver (server_shown f) t blob reply → ShowsOver (server_shown g) t blob reply
@@ -99,7 +109,8 @@ module _ {C : Type 0} (c : Meaning ContextSetting C) (law : IsContext c) where
   replies_over f g t outcome.Finished same h = (same.state ∙ h.0, h.1)
   replies_over f g t (outcome.Refused kind None) same h = h
   replies_over f g t (outcome.Refused kind (Some reply)) same h = record {
-    version = subst (λ (own : ℕ). (reply.version ≡ t.delivered.version) ⊎ (reply.version ≡ own)) (sym same.version) h.version;
+    version = subst (λ (s : ServerSettings). (reply.version ≡ t.delivered.version) ⊎ (reply.version ≡ s.version)) (sym same.settings)
+        h.version;
     reply = subst (λ (s : CredSspState). reply ≡ error_request s reply.version kind t.delivered) (sym same.state) h.reply;
   }
 
@@ -121,18 +132,18 @@ module _ {C : Type 0} (c : Meaning ContextSetting C) (law : IsContext c) where
       OnceRefused out ((g.context ≡ f.context) × (IsSome f.context → g.noted ≡ f.noted)) → HoldsAnswer c f t out → HoldsAnswer c g t out
   holds_over f g t (outcome.Reply reply) same once h = λ was. let k = same.proved was in
       at_noted c law f.noted g.noted _ _ k.0 (λ noted seals.
-      rw (k.1, same.public_key)
-      (seals_still c law f.context g.context f.made (prescribed Server noted (nonce_of t.delivered.client_nonce) f.public_key)
+      rw (k.1, same.settings)
+      (seals_still c law f.context g.context f.made (prescribed Server noted (nonce_of t.delivered.client_nonce) f.settings.public_key)
       reply.pub_key_auth k.3 seals)) (h was)
   holds_over f g t (outcome.Final reply) same once h = tt
   holds_over f g t outcome.Finished same once h = tt
   holds_over f g t (outcome.Refused kind None) same once h = tt
   holds_over f g t (outcome.Refused kind (Some reply)) same once h =
-      let back : version_back g.context g.noted t.delivered.version g.version ≡ version_back f.context f.noted t.delivered.version
-      f.version =
-      ap (λ (x : Option C). version_back x g.noted t.delivered.version g.version) once.0
-      ∙ ap (λ (v : ℕ). version_back f.context g.noted t.delivered.version v) same.version
-      ∙ back_over f.context f.noted g.noted t.delivered.version f.version once.1 in
+      let back : version_back g.context g.noted t.delivered.version g.settings.version ≡ version_back f.context f.noted t.delivered.version
+      f.settings.version =
+      ap (λ (x : Option C). version_back x g.noted t.delivered.version g.settings.version) once.0
+      ∙ ap (λ (s : ServerSettings). version_back f.context g.noted t.delivered.version s.version) same.settings
+      ∙ back_over f.context f.noted g.noted t.delivered.version f.settings.version once.1 in
       h ∙ sym back
 
   pub server_over : (f g : ServerFrame C) (t : Turn) → SameFrame c f g t → IsServerTurn c f t → IsServerTurn c g t

@@ -12,8 +12,8 @@ use Rattle.sspi_credssp.specs.Acts.{sealed_by, unsealed_by}
 use Rattle.sspi_credssp.specs.Context.{ContextSetting}
 use Rattle.sspi_credssp.specs.Counts.{sealed_in, unsealed_in, SameBut}
 use Rattle.sspi_credssp.specs.Noted.{noted_with}
-use Rattle.sspi_credssp.specs.Server.{ServerView, IsFreshServer}
-use Rattle.sspi_credssp.specs.ServerTurn.{ServerTurn, SameServer, StartsUnused, server_frame, server_turn, after_reply, OnceNegotiated}
+use Rattle.sspi_credssp.specs.Server.{ServerSettings, ServerView, IsFreshServer}
+use Rattle.sspi_credssp.specs.ServerTurn.{ServerTurn, StartsUnused, server_frame, server_turn, after_reply, OnceNegotiated}
 use Rattle.sspi_credssp.specs.Shown.{IsOver, MayCheck, ShowsAnswer, ShowsNegoBack, ShowsServerActs, ShowsStateBack, server_shown}
 use Rattle.sspi_credssp.specs.Turn.{ServerFrame, UnlessRefused, FitsNoted}
 use Rattle.sspi_delegate.specs.EndTurns.{made_in, opened_in, is_replied, is_finished, any_proved, any_finished}
@@ -58,15 +58,15 @@ unrefused_noted None version (outcome.Refused kind reply) went fits = absurd wen
 module _ {C : Type 0} (c : Meaning ContextSetting C) where
   -- each turn that was not refused has noted a version
   pub noted_by_one : (e : ServerEnd C) (t : Turn) (past : List Turn) → EachServerTurn c e (t ∷ past) → NoneRefused (t ∷ past) →
-      IsSome (server_noted e.least (t ∷ past))
-  noted_by_one e t past each going = unrefused_noted (server_noted e.least (t ∷ past)) t.delivered.version t.outcome going.0
+      IsSome (server_noted e.settings.least (t ∷ past))
+  noted_by_one e t past each going = unrefused_noted (server_noted e.settings.least (t ∷ past)) t.delivered.version t.outcome going.0
       each.0.shown.version
 
-  noted_more : (e : ServerEnd C) (noted : Option ℕ) (t : Turn) (past : List Turn) → noted ≡ server_noted e.least past →
+  noted_more : (e : ServerEnd C) (noted : Option ℕ) (t : Turn) (past : List Turn) → noted ≡ server_noted e.settings.least past →
       EachServerTurn c e past → NoneRefused past →
-      noted_with e.least noted t.delivered.version ≡ server_noted e.least (t ∷ past)
+      noted_with e.settings.least noted t.delivered.version ≡ server_noted e.settings.least (t ∷ past)
   noted_more e noted t [] is each going = rw is refl
-  noted_more e noted t (u ∷ past) is each going = noted_kept e.least noted t.delivered.version
+  noted_more e noted t (u ∷ past) is each going = noted_kept e.settings.least noted t.delivered.version
       (rw is (noted_by_one e u past each going)) ∙ is
 
   -- ---- turns that came before the end of the authentication
@@ -120,29 +120,23 @@ module _ {C : Type 0} (c : Meaning ContextSetting C) where
 
   -- ---- the turns before, over the context that the newest one left
 
-  pub record SameEnd (e e2 : ServerEnd C) : Type 0 where
-    pub public_key : e2.public_key ≡ e.public_key
-    pub version : e2.version ≡ e.version
-    pub least : e2.least ≡ e.least
-
   went_once : (out : Outcome) (P : Type 0) → IsUnrefused out → OnceRefused out P
   went_once (outcome.Reply reply) P went = tt
   went_once (outcome.Final reply) P went = tt
   went_once outcome.Finished P went = tt
   went_once (outcome.Refused kind reply) P went = absurd went
 
-  each_over : (law : IsContext c) (e e2 : ServerEnd C) (past : List Turn) → SameEnd e e2 → NoneRefused past →
+  each_over : (law : IsContext c) (e e2 : ServerEnd C) (past : List Turn) → e2.settings ≡ e.settings → NoneRefused past →
       Touched (SameBut c e.context e2.context) past →
       EachServerTurn c e past → EachServerTurn c e2 past
   each_over law e e2 [] same went touch each = tt
   each_over law e e2 (t ∷ past) same went touch each = (
     server_over c law (server_frame_at e past t) (server_frame_at e2 past t) t (record {
-      public_key = same.public_key;
-      version = same.version;
+      settings = same;
       state = refl;
-      noted = unless_given t.outcome _ (ap (λ (n : ℕ). server_noted n (t ∷ past)) same.least);
-      proved = λ was. (ap (λ (n : ℕ). server_noted n (t ∷ past)) same.least, refl, refl, touch.0 was);
-      checked = λ was. ap (λ (n : ℕ). server_noted n (t ∷ past)) same.least;
+      noted = unless_given t.outcome _ (ap (λ (s : ServerSettings). server_noted s.least (t ∷ past)) same);
+      proved = λ was. (ap (λ (s : ServerSettings). server_noted s.least (t ∷ past)) same, refl, refl, touch.0 was);
+      checked = λ was. ap (λ (s : ServerSettings). server_noted s.least (t ∷ past)) same;
       refused = went_once t.outcome _ went.0;
     }) each.0,
     each_over law e e2 past same went.1 touch.2 each.1,
@@ -231,22 +225,12 @@ module _ {C : Type 0} (c : Meaning ContextSetting C) where
 
     -- ---- one more turn
 
-    same_on : (a b d : ServerView C P) → SameServer c a b → SameServer c b d → SameServer c a d
-    same_on a b d first after = record {
-      public_key = after.public_key ∙ first.public_key;
-      version = after.version ∙ first.version;
-      least = after.least ∙ first.least;
-      mode = after.mode ∙ first.mode;
-    }
-
-    same_end : (old new : ServerView C P) → SameServer c old new → SameEnd (server_end old) (server_end new)
-    same_end old new same = record { public_key = same.public_key; version = same.version; least = same.least }
-
-    noted_of : (first old new : ServerView C P) (t : Turn) (past : List Turn) → ServerFollows c first old past → new.least ≡ old.least →
-        noted_with old.least old.noted t.delivered.version ≡ server_noted new.least (t ∷ past)
+    noted_of : (first old new : ServerView C P) (t : Turn) (past : List Turn) → ServerFollows c first old past →
+        new.settings ≡ old.settings →
+        noted_with old.settings.least old.noted t.delivered.version ≡ server_noted new.settings.least (t ∷ past)
     noted_of first old new t past follows same =
         noted_more (server_end old) old.noted t past follows.noted follows.ran.each follows.unrefused
-        ∙ sym (ap (λ (n : ℕ). server_noted n (t ∷ past)) same)
+        ∙ sym (ap (λ (s : ServerSettings). server_noted s.least (t ∷ past)) same)
 
     pub server_turned : (law : IsContext c) (first old new : ServerView C P) (past : List Turn) (d : TsRequest) (out : Outcome) →
         ServerFollows c first old past → ServerTurn c old d out new → ServerRan c first new (server_turn c d out new ∷ past)
@@ -257,16 +241,15 @@ module _ {C : Type 0} (c : Meaning ContextSetting C) where
         turn.moves.sealed unused ∙ ap (λ (n : ℕ). n + sealed_by new.acts) follows.ran.made in
         let opened : unsealed_in c new.context ≡ opened_in past + unsealed_by new.acts =
         turn.moves.unsealed unused ∙ ap (λ (n : ℕ). n + unsealed_by new.acts) follows.ran.opened in
-        let noted : noted_with old.least old.noted d.version ≡ server_noted new.least (t ∷ past) =
-        noted_of first old new t past follows turn.moves.same.least in
+        let noted : noted_with old.settings.least old.noted d.version ≡ server_noted new.settings.least (t ∷ past) =
+        noted_of first old new t past follows turn.moves.same in
         record {
-          same = same_on first old new follows.ran.same turn.moves.same;
+          same = turn.moves.same ∙ follows.ran.same;
           made = made;
           opened = opened;
           each = (
             server_over c law (server_frame c old new) (server_frame_at (server_end new) past t) t (record {
-              public_key = refl;
-              version = refl;
+              settings = refl;
               state = sym follows.state;
               noted = unless_map out _ _ (λ some. sym (turn.moves.noted some ∙ noted)) turn.moves.begun;
               proved = λ was. (
@@ -279,7 +262,7 @@ module _ {C : Type 0} (c : Meaning ContextSetting C) where
               checked = λ was. sym (turn.moves.noted_checked was ∙ noted);
               refused = once out _ (refl, λ some. sym (turn.moves.noted some ∙ noted));
             }) turn.turn,
-            each_over law (server_end old) (server_end new) past (same_end old new turn.moves.same) follows.unrefused
+            each_over law (server_end old) (server_end new) past turn.moves.same follows.unrefused
                 (touched_by (server_end old) old.state past (SameBut c old.context new.context) follows.state follows.ran.each
                 follows.unrefused turn.moves.bare)
                 follows.ran.each,
@@ -296,7 +279,7 @@ module _ {C : Type 0} (c : Meaning ContextSetting C) where
           ∙ state_moved (server_frame c old new) (server_turn c d (outcome.Reply reply) new) past old.state reply follows.state refl
           turn.turn.shown.reply;
       noted = turn.moves.noted turn.moves.begun ∙ noted_of first old new
-          (server_turn c d (outcome.Reply reply) new) past follows turn.moves.same.least;
+          (server_turn c d (outcome.Reply reply) new) past follows turn.moves.same;
       unrefused = (tt, follows.unrefused);
     }
 
@@ -307,14 +290,14 @@ module _ {C : Type 0} (c : Meaning ContextSetting C) where
       ran = server_turned law first old new past d outcome.Finished follows turn;
       state = turn.moves.state;
       noted = turn.moves.noted turn.moves.begun ∙ noted_of first old new
-          (server_turn c d outcome.Finished new) past follows turn.moves.same.least;
+          (server_turn c d outcome.Finished new) past follows turn.moves.same;
       unrefused = (tt, follows.unrefused);
     }
 
     pub server_emptied : (first now : ServerView C P) (past : List Turn) → ServerRan c first now past →
         ServerRan c first (record now { output = [] }) past
     server_emptied first now past ran = record {
-      same = record { public_key = ran.same.public_key; version = ran.same.version; least = ran.same.least; mode = ran.same.mode };
+      same = ran.same;
       made = ran.made;
       opened = ran.opened;
       each = ran.each;
@@ -324,7 +307,7 @@ module _ {C : Type 0} (c : Meaning ContextSetting C) where
     pub server_fresh : (first : ServerView C P) → IsFreshServer first → ServerFollows c first first []
     server_fresh first fresh = record {
       ran = record {
-        same = record { public_key = refl; version = refl; least = refl; mode = refl };
+        same = refl;
         made = rw fresh.context refl;
         opened = rw fresh.context refl;
         each = tt;

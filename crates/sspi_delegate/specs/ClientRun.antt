@@ -2,12 +2,10 @@
 -- that its turns say.
 use Rattle.std.specs.Prelude.{◌≡◌, ℕ, List, [], ◌∷◌, Option, None, IsSome, Bool, true, false, if◌then◌else◌}
 use Rattle.sspi_mech.specs.Meaning.{Meaning}
-use Rattle.sspi_names.specs.declared.credentials.Credentials.{Credentials}
-use Rattle.sspi_tsreq.specs.declared.mode.CredSspMode.{CredSspMode}
 use Rattle.sspi_credssp.specs.declared.state.CredSspState.{CredSspState}
 use Rattle.sspi_credssp.specs.declared.state.CredSspState.TheVariants.{NegoToken, AuthInfo, Final}
-use Rattle.sspi_credssp.specs.Client.{ClientView}
-use Rattle.sspi_credssp.specs.ClientTurn.{IsClientTurn, SameClient}
+use Rattle.sspi_credssp.specs.Client.{ClientSettings, ClientView}
+use Rattle.sspi_credssp.specs.ClientTurn.{IsClientTurn}
 use Rattle.sspi_credssp.specs.Context.{ContextSetting}
 use Rattle.sspi_credssp.specs.Counts.{sealed_in, unsealed_in, is_waiting_in}
 use Rattle.sspi_credssp.specs.Noted.{noted_with}
@@ -34,38 +32,21 @@ has_turn (t ∷ past) = true
 
 -- what a client keeps over its turns, and its context
 pub record ClientEnd (C : Type 0) : Type 0 where
-  pub public_key : List ℕ
-  pub nonce : List ℕ
-  pub version : ℕ
-  pub least : ℕ
-  pub credentials : Credentials
-  pub delegation : CredSspMode
+  pub settings : ClientSettings
   pub context : Option C
 
 abbrev pub client_end : {C : Type 0} → ClientView C → ClientEnd C
-client_end client = record {
-  public_key = client.public_key;
-  nonce = client.nonce;
-  version = client.version;
-  least = client.least;
-  credentials = client.credentials;
-  delegation = client.delegation;
-  context = client.context;
-}
+client_end client = record { settings = client.settings; context = client.context }
 
 -- what the client is at the turn t after these turns
 abbrev pub client_frame_at : {C : Type 0} → ClientEnd C → List Turn → Turn → ClientFrame C
 client_frame_at e past t = record {
-  public_key = e.public_key;
-  nonce = e.nonce;
-  version = e.version;
-  credentials = e.credentials;
-  delegation = e.delegation;
+  settings = e.settings;
   state = client_state past;
   made = made_in past;
   opened = opened_in past;
   looks = has_turn past;
-  noted = client_noted e.least (t ∷ past);
+  noted = client_noted e.settings.least (t ∷ past);
   context = e.context;
 }
 
@@ -77,7 +58,7 @@ module _ {C : Type 0} (c : Meaning ContextSetting C) where
   -- A client that was `first` and has made these turns: each is a turn over the context that it has now, which sealed and
   -- opened exactly what the turns say.
   pub record ClientRan (first now : ClientView C) (past : List Turn) : Type 0 where
-    pub same : SameClient c first now
+    pub same : now.settings ≡ first.settings
     pub made : sealed_in c now.context ≡ made_in past
     pub opened : unsealed_in c now.context ≡ opened_in past
     pub each : EachClientTurn (client_end now) past
@@ -92,7 +73,7 @@ module _ {C : Type 0} (c : Meaning ContextSetting C) where
   pub record ClientFollows (first now : ClientView C) (past : List Turn) : Type 0 where
     pub ran : ClientRan first now past
     pub state : now.state ≡ client_state past
-    pub noted : now.noted ≡ client_noted now.least past
+    pub noted : now.noted ≡ client_noted now.settings.least past
     pub begun : HasBegun now.context past
     -- no turn is suspended
     pub idle : is_waiting_in c now.context ≡ false

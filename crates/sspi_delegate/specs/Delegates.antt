@@ -103,7 +103,7 @@ module _ {C P L D : Type 0} (c : Meaning ContextSetting C) (around : Around P L 
     pub both_proofs_came_before_ok : OnOk result (HasExchanged (server_turns new.turns))
     -- the list where a negotiation was made with it, and the look-up of the peer
     pub no_call_of_the_proxy_before_ok_was_to_fail : OnOk result
-        (HasAsked around.proxy (list_calls old.server.mode + 1) old.server.proxy new.server.proxy)
+        (HasAsked around.proxy (list_calls old.server.settings.mode + 1) old.server.proxy new.server.proxy)
     -- so what an end offered, chose, signed and verified in a turn is what its context did in that step
     pub the_client_has_the_context_of_its_chain : ClientChained c (calls_of_kdc around) old.client old.kdc result (client_turns new.turns)
         (client_stage new.client new.kdc)

@@ -51,8 +51,9 @@ module _ {C : Type 0} (c : Meaning ContextSetting C) where
   SealsAfterProof e [] = Unit {0}
   SealsAfterProof e (t ∷ past) =
       (t.acts.sealed ≡ true → (client_state past ≡ AuthInfo)
-      × AtNoted (client_noted e.least (t ∷ past)) (λ noted.
-      OpensIn c e.context (opened_in past) t.delivered.pub_key_auth (prescribed endpoint.Server noted e.nonce e.public_key)))
+      × AtNoted (client_noted e.settings.least (t ∷ past)) (λ noted.
+      OpensIn c e.context (opened_in past) t.delivered.pub_key_auth
+      (prescribed endpoint.Server noted e.settings.nonce e.settings.public_key)))
       × SealsAfterProof e past
 
   module _ {P : Type 0} where
@@ -64,5 +65,5 @@ module _ {C : Type 0} (c : Meaning ContextSetting C) where
       pub entries : HasLog base turns log
       pub client_ran : ClientRan c client client2 (client_turns turns)
       pub server_ran : ServerRan c server server2 (server_turns turns)
-      pub client_heeds : EachHeedsServer c client2.least (client_turns turns)
-      pub server_heeds : EachHeedsClient c server2.context server2.least (server_turns turns)
+      pub client_heeds : EachHeedsServer c client2.settings.least (client_turns turns)
+      pub server_heeds : EachHeedsClient c server2.context server2.settings.least (server_turns turns)

@@ -10,8 +10,8 @@ use Rattle.sspi_credssp.specs.declared.state.CredSspState.TheVariants.{NegoToken
 use Rattle.sspi_credssp.specs.Context.{ContextSetting}
 use Rattle.sspi_credssp.specs.Counts.{sealed_in, unsealed_in}
 use Rattle.sspi_credssp.specs.Noted.{noted_with}
-use Rattle.sspi_credssp.specs.Server.{ServerView}
-use Rattle.sspi_credssp.specs.ServerTurn.{IsServerTurn, SameServer, HoldsIdentity}
+use Rattle.sspi_credssp.specs.Server.{ServerSettings, ServerView}
+use Rattle.sspi_credssp.specs.ServerTurn.{IsServerTurn, HoldsIdentity}
 use Rattle.sspi_credssp.specs.Turn.{ServerFrame}
 use Rattle.sspi_delegate.specs.EndTurns.{made_in, opened_in, is_replied, any_proved, any_finished, OthersUnrefused}
 use Rattle.sspi_delegate.specs.Turns.{NoneRefused}
@@ -41,23 +41,20 @@ server_noted least (t ∷ u ∷ past) = server_noted least (u ∷ past)
 
 -- what a server keeps over its turns, and its context
 pub record ServerEnd (C : Type 0) : Type 0 where
-  pub public_key : List ℕ
-  pub version : ℕ
-  pub least : ℕ
+  pub settings : ServerSettings
   pub context : Option C
 
 abbrev pub server_end : {C P : Type 0} → ServerView C P → ServerEnd C
-server_end server = record { public_key = server.public_key; version = server.version; least = server.least; context = server.context }
+server_end server = record { settings = server.settings; context = server.context }
 
 -- what the server is at the turn t after these turns
 abbrev pub server_frame_at : {C : Type 0} → ServerEnd C → List Turn → Turn → ServerFrame C
 server_frame_at e past t = record {
-  public_key = e.public_key;
-  version = e.version;
+  settings = e.settings;
   state = server_state past;
   made = made_in past;
   opened = opened_in past;
-  noted = server_noted e.least (t ∷ past);
+  noted = server_noted e.settings.least (t ∷ past);
   context = e.context;
 }
 
@@ -75,7 +72,7 @@ module _ {C : Type 0} (c : Meaning ContextSetting C) where
     -- A server that was `first` and has made these turns: each is a turn over the context that it has now, which sealed
     -- and opened exactly what the turns say.
     pub record ServerRan (first now : ServerView C P) (past : List Turn) : Type 0 where
-      pub same : SameServer c first now
+      pub same : now.settings ≡ first.settings
       pub made : sealed_in c now.context ≡ made_in past
       pub opened : unsealed_in c now.context ≡ opened_in past
       pub each : EachServerTurn (server_end now) past
@@ -86,5 +83,5 @@ module _ {C : Type 0} (c : Meaning ContextSetting C) where
     pub record ServerFollows (first now : ServerView C P) (past : List Turn) : Type 0 where
       pub ran : ServerRan first now past
       pub state : now.state ≡ server_state past
-      pub noted : now.noted ≡ server_noted now.least past
+      pub noted : now.noted ≡ server_noted now.settings.least past
       pub unrefused : NoneRefused past
