@@ -93,12 +93,12 @@ module _ {C : Type 0} (c : Meaning ContextSetting C) (kept : Option C → List (
   -- the first text that the client sealed is the one that the server opened
   client_proved : (past : List Turn) (text : List ℕ) (texts : List (List ℕ)) → texts ≡ text ∷ [] →
       AreFirstOf texts (client_sealed client (client_turns past)) → ClientProofIn c client past →
-      (p : ClientProof c client past) × (prescribed whose.Client p.version client.nonce client.public_key ≡ text)
+      (p : ClientProof c client past) × (prescribed whose.Client p.version client.settings.nonce client.settings.public_key ≡ text)
   client_proved past text texts is first (inl none) =
       none_last first.0 text (sym none.1 ∙ first.1 ∙ ap (λ (l : List (List ℕ)). first.0 ++ l) is)
   client_proved past text texts is first (inr p) = (
     p,
-    last_same p.more first.0 (prescribed whose.Client p.version client.nonce client.public_key) text
+    last_same p.more first.0 (prescribed whose.Client p.version client.settings.nonce client.settings.public_key) text
         (sym p.first ∙ first.1 ∙ ap (λ (l : List (List ℕ)). first.0 ++ l) is),
   )
 
@@ -107,35 +107,38 @@ module _ {C : Type 0} (c : Meaning ContextSetting C) (kept : Option C → List (
   module _ (tags : OpensBehindTag c) where
     -- the turn in which the server proved opened the text of a client's proof, over its own key and the delivered nonce
     proven_text : (t : Turn) (past : List Turn) (version : ℕ) → EachServerTurn c server (t ∷ past) → t.acts.proved ≡ true →
-        server_noted server.least (t ∷ past) ≡ Some version →
-        behind_tag t.delivered.pub_key_auth ≡ prescribed whose.Client version (nonce_of t.delivered.client_nonce) server.public_key ∷ []
+        server_noted server.settings.least (t ∷ past) ≡ Some version →
+        behind_tag t.delivered.pub_key_auth ≡ prescribed whose.Client version
+        (nonce_of t.delivered.client_nonce) server.settings.public_key ∷ []
     proven_text t past version each was noted =
-        let proven = at_version (server_noted server.least (t ∷ past)) version
-        (Proven c server.context (opened_in past) server.public_key t.delivered) noted (each.0.held.proved was) in
+        let proven = at_version (server_noted server.settings.least (t ∷ past)) version
+        (Proven c server.context (opened_in past) server.settings.public_key t.delivered) noted (each.0.held.proved was) in
         opens_text c tags server.context (opened_in past) t.delivered.pub_key_auth
-        (prescribed whose.Client version (nonce_of t.delivered.client_nonce) server.public_key) proven.opens
+        (prescribed whose.Client version (nonce_of t.delivered.client_nonce) server.settings.public_key) proven.opens
 
     proven_nonce : (t : Turn) (past : List Turn) (version : ℕ) → EachServerTurn c server (t ∷ past) → t.acts.proved ≡ true →
-        server_noted server.least (t ∷ past) ≡ Some version → nat_lt version 5 ≡ false → length (nonce_of t.delivered.client_nonce) ≡ 32
+        server_noted server.settings.least (t ∷ past) ≡ Some version → nat_lt version 5 ≡ false →
+        length (nonce_of t.delivered.client_nonce) ≡ 32
     proven_nonce t past version each was noted old =
-        let proven = at_version (server_noted server.least (t ∷ past)) version
-        (Proven c server.context (opened_in past) server.public_key t.delivered) noted (each.0.held.proved was) in
+        let proven = at_version (server_noted server.settings.least (t ∷ past)) version
+        (Proven c server.context (opened_in past) server.settings.public_key t.delivered) noted (each.0.held.proved was) in
         nonce_length (nat_lt version 5) t.delivered.client_nonce old proven.nonce
 
     -- the text that a client opened that seals
     sealing_text : (t : Turn) (past : List Turn) (version : ℕ) → EachClientTurn c client (t ∷ past) → t.acts.sealed ≡ true →
-        client_noted client.least (t ∷ past) ≡ Some version →
-        behind_tag t.delivered.pub_key_auth ≡ prescribed whose.Server version client.nonce client.public_key ∷ []
+        client_noted client.settings.least (t ∷ past) ≡ Some version →
+        behind_tag t.delivered.pub_key_auth ≡ prescribed whose.Server version client.settings.nonce client.settings.public_key ∷ []
     sealing_text t past version each was noted =
         opens_text c tags client.context (opened_in past) t.delivered.pub_key_auth
-        (prescribed whose.Server version client.nonce client.public_key)
-        (at_version (client_noted client.least (t ∷ past)) version
+        (prescribed whose.Server version client.settings.nonce client.settings.public_key)
+        (at_version (client_noted client.settings.least (t ∷ past)) version
         (λ v. OpensIn c client.context (opened_in past) t.delivered.pub_key_auth
-        (prescribed whose.Server v client.nonce client.public_key)) noted (each.0.held.sealed was))
+        (prescribed whose.Server v client.settings.nonce client.settings.public_key)) noted (each.0.held.sealed was))
 
     agreed_by : (turns later past : List Turn) (t : Turn) → turns ≡ later ++ (t ∷ past) → t.end ≡ Client → (seen : ℕ) →
-        client_noted client.least (t ∷ client_turns past) ≡ Some seen →
-        AllTurns c kept client server turns → IsFaithful c kept client server turns → NoEcho client server → length client.nonce ≡ 32 →
+        client_noted client.settings.least (t ∷ client_turns past) ≡ Some seen →
+        AllTurns c kept client server turns → IsFaithful c kept client server turns → NoEcho client server →
+        length client.settings.nonce ≡ 32 →
         AllTurns c kept client server past → ServerProof c server past → Agrees client server turns past
     agreed_by turns later past t parts is seen noted all faithful echo long before s =
         let u = s.at.turn in
@@ -143,7 +146,7 @@ module _ {C : Type 0} (c : Meaning ContextSetting C) (kept : Option C → List (
         (subst (λ (l : List Turn). AllTurns c kept client server l) s.at.parts before) in
         let peer = server_at u s.at.before s.end there in
         let opened : opened_texts (u ∷ server_turns s.at.before) ≡ prescribed whose.Client s.version
-        (nonce_of u.delivered.client_nonce) server.public_key ∷ [] =
+        (nonce_of u.delivered.client_nonce) server.settings.public_key ∷ [] =
         opened_by_proof c server (server_turns s.at.before) u peer.0 peer.1 s.none s.proved
         ∙ proven_text u (server_turns s.at.before) s.version peer.0 s.proved s.noted in
         let first = all_before c kept client server (u ∷ []) s.at.before there in
@@ -154,15 +157,17 @@ module _ {C : Type 0} (c : Meaning ContextSetting C) (kept : Option C → List (
         let servers : server_turns turns ≡ server_turns (later ++ (t ∷ s.at.later)) ++ (u ∷ server_turns s.at.before) =
         ap server_turns whole ∙ server_split (later ++ (t ∷ s.at.later)) (u ∷ s.at.before)
         ∙ ap (λ (l : List Turn). server_turns (later ++ (t ∷ s.at.later)) ++ l) (server_more u s.at.before s.end) in
-        let client_seen : client_noted client.least (client_turns turns) ≡ Some p.0.version =
-        subst (λ (l : List Turn). client_noted client.least (client_turns l) ≡ Some p.0.version)
+        let client_seen : client_noted client.settings.least (client_turns turns) ≡ Some p.0.version =
+        subst (λ (l : List Turn). client_noted client.settings.least (client_turns l) ≡ Some p.0.version)
         (sym (whole ∙ sym (append_assoc (later ++ (t ∷ s.at.later)) (u ∷ []) s.at.before)))
-        (client_noted_later client.least ((later ++ (t ∷ s.at.later)) ++ (u ∷ [])) s.at.before p.0.version p.0.noted) in
-        let server_seen : server_noted server.least (server_turns turns) ≡ Some s.version =
-        subst (λ (l : List Turn). server_noted server.least (server_turns l) ≡ Some s.version) (sym whole)
-        (server_noted_later server.least (later ++ (t ∷ s.at.later)) (u ∷ s.at.before) s.version
-        (subst (λ (l : List Turn). server_noted server.least l ≡ Some s.version) (sym (server_more u s.at.before s.end)) s.noted)) in
-        let same = same_texts client.public_key server.public_key client.nonce (nonce_of u.delivered.client_nonce) p.0.version s.version
+        (client_noted_later client.settings.least ((later ++ (t ∷ s.at.later)) ++ (u ∷ [])) s.at.before p.0.version p.0.noted) in
+        let server_seen : server_noted server.settings.least (server_turns turns) ≡ Some s.version =
+        subst (λ (l : List Turn). server_noted server.settings.least (server_turns l) ≡ Some s.version) (sym whole)
+        (server_noted_later server.settings.least (later ++ (t ∷ s.at.later)) (u ∷ s.at.before) s.version
+        (subst (λ (l : List Turn). server_noted server.settings.least l ≡ Some s.version) (sym
+        (server_more u s.at.before s.end)) s.noted)) in
+        let same = same_texts client.settings.public_key server.settings.public_key client.settings.nonce
+        (nonce_of u.delivered.client_nonce) p.0.version s.version
         (faithful.no_collision _ _ (by_client whose.Client)
         (by_server whose.Client (server_turns (later ++ (t ∷ s.at.later))) (server_turns s.at.before) u servers))
         long (proven_nonce u (server_turns s.at.before) s.version peer.0 s.proved s.noted)
@@ -185,14 +190,16 @@ module _ {C : Type 0} (c : Meaning ContextSetting C) (kept : Option C → List (
 
     -- of a client that sealed in one of its turns
     pub agreed : (turns later past : List Turn) (t : Turn) → turns ≡ later ++ (t ∷ past) → t.end ≡ Client → t.acts.sealed ≡ true →
-        AllTurns c kept client server turns → IsFaithful c kept client server turns → NoEcho client server → length client.nonce ≡ 32 →
+        AllTurns c kept client server turns → IsFaithful c kept client server turns → NoEcho client server →
+        length client.settings.nonce ≡ 32 →
         Agrees client server turns past
     agreed turns later past t parts is was all faithful echo long =
         let here = all_before c kept client server later (t ∷ past)
         (subst (λ (l : List Turn). AllTurns c kept client server l) parts all) in
         let own = client_at t past is here in
-        let seen = at_some (client_noted client.least (t ∷ client_turns past)) _ (own.0.0.held.sealed was) in
-        let opened : opened_texts (t ∷ client_turns past) ≡ prescribed whose.Server seen.0 client.nonce client.public_key ∷ [] =
+        let seen = at_some (client_noted client.settings.least (t ∷ client_turns past)) _ (own.0.0.held.sealed was) in
+        let opened : opened_texts
+        (t ∷ client_turns past) ≡ prescribed whose.Server seen.0 client.settings.nonce client.settings.public_key ∷ [] =
         seals_once_opened c client (client_turns past) t own.0 own.1 was ∙ sealing_text t (client_turns past) seen.0 own.0 was seen.1 in
         let before = all_before c kept client server (t ∷ []) past here in
         let s = server_proved past _ (opened_texts (t ∷ client_turns past)) opened own.2 (server_proof c server past before.server_each) in
@@ -233,7 +240,7 @@ module _ {C : Type 0} (c : Meaning ContextSetting C) (kept : Option C → List (
         let sealed = second_seal c client place.past text.0 one.0 turn.2.0
         (sealed_in c client place.past before.client_each before.client_others)
         (turn.2.1 ∙ ap (λ (l : List (List ℕ)). turn.2.0 ++ l) opened) in
-        let own = has_password client.credentials client.delegation text.0 sealed.1 in
+        let own = has_password client.settings.credentials client.settings.delegation text.0 sealed.1 in
         record {
           at = record { later = place.later; turn = t; before = place.past; parts = place.parts };
           end = place.end;
@@ -244,13 +251,14 @@ module _ {C : Type 0} (c : Meaning ContextSetting C) (kept : Option C → List (
           read = text.2;
           own = own.0;
           credentials_are = own.1;
-          identity_is = own_identity client.credentials client.delegation own.0 identity text.0 own.1 sealed.1 text.2;
+          identity_is = own_identity client.settings.credentials client.settings.delegation own.0 identity text.0 own.1 sealed.1 text.2;
         }
 
     pub agreement : {P : Type 0} (p : ProxyMeaning P) (first : ServerView C P) (turns : List Turn) (identity : Option AuthIdentity) →
         ((given : AuthIdentity) → identity ≡ Some given → GaveIn c p first given (server_turns turns)) →
         AllTurns c kept client server turns →
-        length client.nonce ≡ 32 → IsFaithful c kept client server turns → NoEcho client server → Agreement client server turns identity
+        length client.settings.nonce ≡ 32 → IsFaithful c kept client server turns → NoEcho client server →
+        Agreement client server turns identity
     agreement p first turns identity gave all long faithful echo = record {
       a_client_that_sealed = λ at end sealed. agreed turns at.later at.before at.turn at.parts end sealed all faithful echo long;
       a_server_that_finished = λ given is. held p first given turns (gave given is) all;

@@ -281,7 +281,7 @@ module _ {N K : Type 0} (r q : ℕ) (n : Meaning Setting N) (k : Meaning Setting
   walks_next Has start handle token tries log x m none h (stepped m0 m1 y begun steps) =
       holds_stepped r q n k ln lk (OffersBy n k Has) (Next n k x Has) m0 m _ x
       (λ s s2 moves offers. steps_next Has s s2 _ x moves offers) steps
-      (begun_offers Has start.context start.handle handle start.mode (Some start.credentials) m0 h begun)
+      (begun_offers Has start.context start.handle handle start.settings.mode (Some start.settings.credentials) m0 h begun)
   walks_next Has start handle token tries log x m none h (resumed m1 m2 tried before question reply y walked goes) =
       holds_resumed r q n k ln lk (OffersBy n k Has) (Next n k x Has) m1 m reply x
       (λ s s2 moves offers. resumes_next Has s s2 reply x moves offers) goes

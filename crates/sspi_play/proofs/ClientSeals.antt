@@ -135,11 +135,13 @@ module _ {C : Type 0} (c : Meaning ContextSetting C) (e : ClientEnd C) where
   -- before it has ended it has sealed its proof at most
   one_more : (t : Turn) (past : List Turn) (proved : Bool) → (proved ≡ true → client_sealed e past ≡ []) →
       length (client_sealed e past) ≤ 1 →
-      length (where_done proved (proof_text whose.Client (client_noted e.least (t ∷ past)) e.nonce e.public_key) ++ client_sealed e past)
+      length (where_done proved
+      (proof_text whose.Client (client_noted e.settings.least (t ∷ past)) e.settings.nonce e.settings.public_key) ++ client_sealed e past)
       ≤ 1
   one_more t past true none few =
-      rw (none refl, length-append (proof_text whose.Client (client_noted e.least (t ∷ past)) e.nonce e.public_key) [])
-      (omega (arith, proof_few whose.Client (client_noted e.least (t ∷ past)) e.nonce e.public_key))
+      rw (none refl, length-append
+      (proof_text whose.Client (client_noted e.settings.least (t ∷ past)) e.settings.nonce e.settings.public_key) [])
+      (omega (arith, proof_few whose.Client (client_noted e.settings.least (t ∷ past)) e.settings.nonce e.settings.public_key))
   one_more t past false none few = few
 
   one_at_most : (past : List Turn) → EachClientTurn c e past → AllGoOn past → any_ended past ≡ false → length (client_sealed e past) ≤ 1
@@ -166,9 +168,9 @@ module _ {C : Type 0} (c : Meaning ContextSetting C) (e : ClientEnd C) where
     pub end : at.turn.end ≡ Client
     pub proved : at.turn.acts.proved ≡ true
     pub version : ℕ
-    pub noted : client_noted e.least (client_turns turns) ≡ Some version
+    pub noted : client_noted e.settings.least (client_turns turns) ≡ Some version
     pub more : List (List ℕ)
-    pub first : client_sealed e (client_turns turns) ≡ more ++ (prescribed whose.Client version e.nonce e.public_key ∷ [])
+    pub first : client_sealed e (client_turns turns) ≡ more ++ (prescribed whose.Client version e.settings.nonce e.settings.public_key ∷ [])
 
   abbrev pub ClientProofIn : List Turn → Type 0
   ClientProofIn turns = (NoneProved (client_turns turns) × (client_sealed e (client_turns turns) ≡ [])) ⊎ ClientProof turns
@@ -189,10 +191,11 @@ module _ {C : Type 0} (c : Meaning ContextSetting C) (e : ClientEnd C) where
     end = p.end;
     proved = p.proved;
     version = p.version;
-    noted = rw (client_more t past is) (noted_on e.least t (client_turns past) p.version p.noted);
+    noted = rw (client_more t past is) (noted_on e.settings.least t (client_turns past) p.version p.noted);
     more = client_texts e (client_turns past) t ++ p.more;
     first = rw (client_more t past is) (ap (λ (l : List (List ℕ)). client_texts e (client_turns past) t ++ l) p.first
-        ∙ sym (append_assoc (client_texts e (client_turns past) t) p.more (prescribed whose.Client p.version e.nonce e.public_key ∷ [])));
+        ∙ sym (append_assoc (client_texts e (client_turns past) t) p.more
+        (prescribed whose.Client p.version e.settings.nonce e.settings.public_key ∷ [])));
   }
 
   proof_over : (t : Turn) (past : List Turn) → t.end ≡ Server → ClientProof past → ClientProof (t ∷ past)
@@ -207,8 +210,8 @@ module _ {C : Type 0} (c : Meaning ContextSetting C) (e : ClientEnd C) where
   }
 
   proof_alone : (t : Turn) (past : List Turn) (version : ℕ) → t.acts.sealed ≡ false → t.acts.proved ≡ true →
-      client_noted e.least (t ∷ past) ≡ Some version → client_sealed e past ≡ [] →
-      client_sealed e (t ∷ past) ≡ prescribed whose.Client version e.nonce e.public_key ∷ []
+      client_noted e.settings.least (t ∷ past) ≡ Some version → client_sealed e past ≡ [] →
+      client_sealed e (t ∷ past) ≡ prescribed whose.Client version e.settings.nonce e.settings.public_key ∷ []
   proof_alone t past version un was noted nothing = rw (un, was, noted, nothing) refl
 
   proof_of : (t : Turn) (past : List Turn) → t.end ≡ Client → EachClientTurn c e (t ∷ client_turns past) → NoneProved (client_turns past) →
@@ -224,13 +227,13 @@ module _ {C : Type 0} (c : Meaning ContextSetting C) (e : ClientEnd C) where
 
       proof_by : (proved : Bool) → t.acts.proved ≡ proved → ClientProofIn (t ∷ past)
       proof_by true was =
-          let v = some_there (client_noted e.least (t ∷ client_turns past)) (each.0.shown.acts.proved was).1 in
+          let v = some_there (client_noted e.settings.least (t ∷ client_turns past)) (each.0.shown.acts.proved was).1 in
           inr (record {
             at = record { later = []; turn = t; before = past; parts = refl };
             end = is;
             proved = was;
             version = v.0;
-            noted = ap (λ (l : List Turn). client_noted e.least l) (client_more t past is) ∙ v.1;
+            noted = ap (λ (l : List Turn). client_noted e.settings.least l) (client_more t past is) ∙ v.1;
             more = [];
             first = ap (λ (l : List Turn). client_sealed e l) (client_more t past is)
                 ∙ proof_alone t (client_turns past) v.0 unsealed_yet was v.1 nothing;
@@ -257,7 +260,7 @@ module _ {C : Type 0} (c : Meaning ContextSetting C) (e : ClientEnd C) where
   pub record SealedText (turns : List Turn) : Type 0 where
     pub sealed : HasSealed turns
     pub text : List ℕ
-    pub delegated : delegated_text e.credentials e.delegation ≡ Ok text
+    pub delegated : delegated_text e.settings.credentials e.settings.delegation ≡ Ok text
     pub rest : List (List ℕ)
     pub few : length rest ≤ 1
     pub all : client_sealed e (client_turns turns) ≡ text ∷ rest
@@ -282,7 +285,8 @@ module _ {C : Type 0} (c : Meaning ContextSetting C) (e : ClientEnd C) where
   })
 
   sealed_of : (t : Turn) (past : List Turn) → t.end ≡ Client → EachClientTurn c e (t ∷ client_turns past) → AllGoOn (client_turns past) →
-      t.acts.sealed ≡ true → (text : Result (List ℕ) Error) → delegated_text e.credentials e.delegation ≡ text → SealedIn (t ∷ past)
+      t.acts.sealed ≡ true → (text : Result (List ℕ) Error) → delegated_text e.settings.credentials e.settings.delegation ≡ text →
+      SealedIn (t ∷ past)
   sealed_of t past is each went was text delegated = by text delegated
     where
       frame : ClientFrame C
@@ -297,7 +301,7 @@ module _ {C : Type 0} (c : Meaning ContextSetting C) (e : ClientEnd C) where
       few : length (client_sealed e (client_turns past)) ≤ 1
       few = one_at_most (client_turns past) each.1 went (state_auth (any_ended (client_turns past)) (any_proved (client_turns past)) auth).0
 
-      by : (text : Result (List ℕ) Error) → delegated_text e.credentials e.delegation ≡ text → SealedIn (t ∷ past)
+      by : (text : Result (List ℕ) Error) → delegated_text e.settings.credentials e.settings.delegation ≡ text → SealedIn (t ∷ past)
       by (Ok text) delegated = inr (record {
         sealed = record {
           at = record { later = []; turn = t; before = past; parts = refl };
@@ -327,7 +331,7 @@ module _ {C : Type 0} (c : Meaning ContextSetting C) (e : ClientEnd C) where
   sealed_by t past Server sealed is was each others found = silent_on t past
       (ap (λ (l : List Turn). client_sealed e l) (client_skip t past is)) found
   sealed_by t past Client true is was each others found = sealed_of t past is each others was
-      (delegated_text e.credentials e.delegation) refl
+      (delegated_text e.settings.credentials e.settings.delegation) refl
   sealed_by t past Client false is was each others found = unsealed_of t past is each others was t.acts.proved refl found
 
   others_before : (end : End) (t : Turn) (past : List Turn) → OthersGoOn (onto_client end t past) → OthersGoOn past
@@ -342,7 +346,8 @@ module _ {C : Type 0} (c : Meaning ContextSetting C) (e : ClientEnd C) where
       (sealed_in past (each_before t.end t (client_turns past) each) (others_before t.end t (client_turns past) others))
 
   pub second_seal : (turns : List Turn) (z y : List ℕ) (later : List (List ℕ)) → SealedIn turns →
-      client_sealed e (client_turns turns) ≡ later ++ (z ∷ (y ∷ [])) → HasSealed turns × (delegated_text e.credentials e.delegation ≡ Ok z)
+      client_sealed e (client_turns turns) ≡ later ++ (z ∷ (y ∷ [])) →
+      HasSealed turns × (delegated_text e.settings.credentials e.settings.delegation ≡ Ok z)
   second_seal turns z y later (inl few) is = two_are_more z y (client_sealed e (client_turns turns)) later few is
   second_seal turns z y later (inr s) is =
       (s.sealed, s.delegated ∙ ap Ok (head_of_two s.text z y s.rest later s.few (sym s.all ∙ is)))

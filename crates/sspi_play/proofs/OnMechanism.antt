@@ -98,7 +98,7 @@ module _ {N K : Type 0} (r q : ℕ) (n : Meaning Setting N) (k : Meaning Setting
     pub negotiates_if_faithful : (schedule : List Delivery) (old new : Both (SspiContext N K) P D)
         (result : Result Played DelegateError) → IsFreshClient old.client → IsFreshServer old.server →
         IsPlay (either r n k) old new → Accounts (either r n k) p kdcs schedule old result new →
-        NegotiatesIfFaithful r n k (client_end new.client) (server_end new.server) old.server.mode new.turns
+        NegotiatesIfFaithful r n k (client_end new.client) (server_end new.server) old.server.settings.mode new.turns
     negotiates_if_faithful schedule old new result client_fresh server_fresh play accounts faithful =
         let law = lawful r q n k ln lk in
         let offers : ShowsOffered n k (client_turns new.turns) new.client.context =
@@ -108,7 +108,7 @@ module _ {N K : Type 0} (r q : ℕ) (n : Meaning Setting N) (k : Meaning Setting
         (Err errors.InsufficientMemory) play.client_ran.others
         (played_left (either r n k) kdcs result old.client new.client old.kdc new.kdc (client_turns new.turns)
         accounts.client_turns_are_its_calls)) in
-        let shows : Shows r q n k ln lk old.server.mode (server_turns new.turns) new.server.context =
+        let shows : Shows r q n k ln lk old.server.settings.mode (server_turns new.turns) new.server.context =
         chain_shows r q n k ln lk p old.server (server_turns new.turns) (server_stage new.server) server_fresh.context
         play.server_ran.others
         (server_chained (either r n k) p old.server law server_fresh new.server (server_turns new.turns) play.server_ran.others
@@ -117,13 +117,13 @@ module _ {N K : Type 0} (r q : ℕ) (n : Meaning Setting N) (k : Meaning Setting
           a_server_that_verified = λ some.
               let lists = faithful.server_verifies.lists some in
               let signed : 1 ≤ signed_in (either r n k) new.client.context = omega (arith, some, faithful.server_verifies.count) in (
-                subst (λ (l : List (List ℕ)). IsPickOf new.server.context old.server.mode l) lists
-                    (picked_mechanism old.server.mode (server_turns new.turns) new.server.context
+                subst (λ (l : List (List ℕ)). IsPickOf new.server.context old.server.settings.mode l) lists
+                    (picked_mechanism old.server.settings.mode (server_turns new.turns) new.server.context
                     (verified_is new.server.context some) shows),
                 offered_list (client_turns new.turns) new.client.context (signed_is new.client.context signed) offers,
               );
           a_client_that_verified = λ some.
               let signed : 1 ≤ signed_in (either r n k) new.server.context = omega (arith, some, faithful.client_verifies.count) in
               subst (λ (l : List (List ℕ)). HasRead (server_turns new.turns) l) (sym (faithful.client_verifies.lists some))
-              (read_list old.server.mode (server_turns new.turns) new.server.context (signed_is new.server.context signed) shows);
+              (read_list old.server.settings.mode (server_turns new.turns) new.server.context (signed_is new.server.context signed) shows);
         }

@@ -4,7 +4,7 @@ use Rattle.std.proofs.Common.{subst}
 use Rattle.sspi_mech.specs.Context.{IsContext}
 use Rattle.sspi_mech.specs.Meaning.{Meaning}
 use Rattle.sspi_names.specs.declared.identity.AuthIdentity.{AuthIdentity}
-use Rattle.sspi_credssp.specs.Client.{ClientView, IsFreshClient}
+use Rattle.sspi_credssp.specs.Client.{ClientSettings, ClientView, IsFreshClient}
 use Rattle.sspi_credssp.specs.Context.{ContextSetting}
 use Rattle.sspi_credssp.specs.Proxy.{ProxyMeaning}
 use Rattle.sspi_credssp.specs.Server.{ServerView, IsFreshServer}
@@ -98,7 +98,7 @@ module _ {C P D : Type 0} (c : Meaning ContextSetting C) (law : IsContext c) (p 
   identity_gave schedule old new (Err error) accounts given is = absurd (cc (is))
 
   pub agrees_if_faithful : (kept : Option C → List (List ℕ)) (schedule : List Delivery) (old new : Both C P D)
-      (result : Result Played DelegateError) → length old.client.nonce ≡ 32 →
+      (result : Result Played DelegateError) → length old.client.settings.nonce ≡ 32 →
       IsPlay c old new → Accounts c p k schedule old result new →
       AgreesIfFaithful c kept (client_end new.client) (server_end new.server) new.turns (identity_of result)
   agrees_if_faithful kept schedule old new result long play accounts = λ faithful tags echo.
@@ -110,4 +110,4 @@ module _ {C P D : Type 0} (c : Meaning ContextSetting C) (law : IsContext c) (p 
         server_each = play.server_ran.each;
         server_others = play.server_ran.others;
         opens = faithful.opens;
-      }) (ap (λ (l : List ℕ). length l) play.client_ran.same.nonce ∙ long) faithful echo
+      }) (ap (λ (s : ClientSettings). length s.nonce) play.client_ran.same ∙ long) faithful echo

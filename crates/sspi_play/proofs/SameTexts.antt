@@ -65,13 +65,13 @@ no_young version least high at young =
     let up : least ≤ version = ltb-false version least at in absurd (omega (arith, high, low, up))
 
 pub no_client_echo : {C : Type 0} (client : ClientEnd C) (server : ServerEnd C) (turns : List Turn) (version : ℕ) → NoEcho client server →
-    client_noted client.least turns ≡ Some version → nat_lt version 5 ≡ true → length client.public_key ≡ 32 → ⊥
+    client_noted client.settings.least turns ≡ Some version → nat_lt version 5 ≡ true → length client.settings.public_key ≡ 32 → ⊥
 no_client_echo client server turns version (by_length c s) noted young long = omega (arith, c, long)
 no_client_echo client server turns version (by_least_versions c s) noted young long =
-    no_young version client.least c (client_noted_least client.least turns version noted) young
+    no_young version client.settings.least c (client_noted_least client.settings.least turns version noted) young
 
 pub no_server_echo : {C : Type 0} (client : ClientEnd C) (server : ServerEnd C) (turns : List Turn) (version : ℕ) → NoEcho client server →
-    server_noted server.least turns ≡ Some version → nat_lt version 5 ≡ true → length server.public_key ≡ 32 → ⊥
+    server_noted server.settings.least turns ≡ Some version → nat_lt version 5 ≡ true → length server.settings.public_key ≡ 32 → ⊥
 no_server_echo client server turns version (by_length c s) noted young long = omega (arith, s, long)
 no_server_echo client server turns version (by_least_versions c s) noted young long =
-    no_young version server.least s (server_noted_least server.least turns version noted) young
+    no_young version server.settings.least s (server_noted_least server.settings.least turns version noted) young

@@ -148,10 +148,10 @@ module _ {C : Type 0} (c : Meaning ContextSetting C) (s : ServerEnd C) where
     pub proved : at.turn.acts.proved ≡ true
     pub none : any_proved (server_turns at.before) ≡ false
     pub version : ℕ
-    pub noted : server_noted s.least (at.turn ∷ server_turns at.before) ≡ Some version
+    pub noted : server_noted s.settings.least (at.turn ∷ server_turns at.before) ≡ Some version
     pub more : List (List ℕ)
     pub first : server_sealed s (server_turns turns)
-        ≡ more ++ (prescribed whose.Server version (nonce_of at.turn.delivered.client_nonce) s.public_key ∷ [])
+        ≡ more ++ (prescribed whose.Server version (nonce_of at.turn.delivered.client_nonce) s.settings.public_key ∷ [])
 
   abbrev pub ServerProofIn : List Turn → Type 0
   ServerProofIn turns = (NoneProved (server_turns turns) × (server_sealed s (server_turns turns) ≡ [])) ⊎ ServerProof turns
@@ -170,7 +170,7 @@ module _ {C : Type 0} (c : Meaning ContextSetting C) (s : ServerEnd C) where
     more = server_texts s (server_turns past) t ++ p.more;
     first = rw (server_more t past is) (ap (λ (l : List (List ℕ)). server_texts s (server_turns past) t ++ l) p.first
         ∙ sym (append_assoc (server_texts s (server_turns past) t) p.more
-        (prescribed whose.Server p.version (nonce_of p.at.turn.delivered.client_nonce) s.public_key ∷ [])));
+        (prescribed whose.Server p.version (nonce_of p.at.turn.delivered.client_nonce) s.settings.public_key ∷ [])));
   }
 
   proof_over : (t : Turn) (past : List Turn) → t.end ≡ Client → ServerProof past → ServerProof (t ∷ past)
@@ -185,16 +185,17 @@ module _ {C : Type 0} (c : Meaning ContextSetting C) (s : ServerEnd C) where
     first = rw (server_skip t past is) p.first;
   }
 
-  proof_alone : (t : Turn) (past : List Turn) (version : ℕ) → t.acts.proved ≡ true → server_noted s.least (t ∷ past) ≡ Some version →
+  proof_alone : (t : Turn) (past : List Turn) (version : ℕ) → t.acts.proved ≡ true →
+      server_noted s.settings.least (t ∷ past) ≡ Some version →
       server_sealed s past ≡ [] →
-      server_sealed s (t ∷ past) ≡ prescribed whose.Server version (nonce_of t.delivered.client_nonce) s.public_key ∷ []
+      server_sealed s (t ∷ past) ≡ prescribed whose.Server version (nonce_of t.delivered.client_nonce) s.settings.public_key ∷ []
   proof_alone t past version was noted nothing = rw (was, noted, nothing) refl
 
   proof_of : (t : Turn) (past : List Turn) (proved : Bool) → t.end ≡ Server → EachServerTurn c s (t ∷ server_turns past) →
       NoneProved (server_turns past) →
       server_sealed s (server_turns past) ≡ [] → t.acts.proved ≡ proved → ServerProofIn (t ∷ past)
   proof_of t past true is each none nothing was =
-      let v = at_some (server_noted s.least (t ∷ server_turns past)) _ (each.0.shown.acts.proved was).1 in
+      let v = at_some (server_noted s.settings.least (t ∷ server_turns past)) _ (each.0.shown.acts.proved was).1 in
       inr (record {
         at = record { later = []; turn = t; before = past; parts = refl };
         end = is;

@@ -36,8 +36,8 @@ OpensBehindTag {C} c = (m : C) (n : ℕ) (blob text : List ℕ) → c.opens m n 
 
 -- no hash, which has 32 octets, is taken for the echo of a key, which is what a peer below version 5 proves with
 pub data NoEcho {C : Type 0} (client : ClientEnd C) (server : ServerEnd C) : Type 0 where
-  by_length : 32 < length client.public_key → 32 < length server.public_key → NoEcho client server
-  by_least_versions : 5 ≤ client.least → 5 ≤ server.least → NoEcho client server
+  by_length : 32 < length client.settings.public_key → 32 < length server.settings.public_key → NoEcho client server
+  by_least_versions : 5 ≤ client.settings.least → 5 ≤ server.settings.least → NoEcho client server
 
 -- ---- what is delegated
 
@@ -83,11 +83,12 @@ module _ {C : Type 0} (client : ClientEnd C) (server : ServerEnd C) where
   -- of a client that sealed, where these are the turns before it did
   pub record Agrees (turns before : List Turn) : Type 0 where
     pub exchanged : HasExchanged before
-    pub keys : client.public_key ≡ server.public_key
-    pub versions : AreAlike (client_noted client.least (client_turns turns)) (server_noted server.least (server_turns turns))
+    pub keys : client.settings.public_key ≡ server.settings.public_key
+    pub versions : AreAlike
+        (client_noted client.settings.least (client_turns turns)) (server_noted server.settings.least (server_turns turns))
     -- from version 5 on the server checked a proof that was made with this client's nonce
-    pub nonce : (version : ℕ) → server_noted server.least (server_turns turns) ≡ Some version → 5 ≤ version →
-        nonce_of exchanged.at.turn.delivered.client_nonce ≡ client.nonce
+    pub nonce : (version : ℕ) → server_noted server.settings.least (server_turns turns) ≡ Some version → 5 ≤ version →
+        nonce_of exchanged.at.turn.delivered.client_nonce ≡ client.settings.nonce
 
   -- of a server that finished with this identity: before it did the client had sealed, and the identity is the one that it sealed
   pub record HoldsSealed (turns : List Turn) (identity : AuthIdentity) : Type 0 where
@@ -96,12 +97,12 @@ module _ {C : Type 0} (client : ClientEnd C) (server : ServerEnd C) where
     pub finished : IsFinished at.turn.outcome
     pub client_sealed : HasSealed at.before
     pub text : List ℕ
-    pub delegated : delegated_text client.credentials client.delegation ≡ Ok text
+    pub delegated : delegated_text client.settings.credentials client.settings.delegation ≡ Ok text
     pub read : delegated_identity text ≡ Ok identity
     -- so the client has a name and a password; and the identity is its own, unless it keeps its credentials
     pub own : AuthIdentity
-    pub credentials_are : client.credentials ≡ credentials.AuthIdentity own
-    pub identity_is : IsIdentity own → identity ≡ delegated_as client.delegation own
+    pub credentials_are : client.settings.credentials ≡ credentials.AuthIdentity own
+    pub identity_is : IsIdentity own → identity ≡ delegated_as client.settings.delegation own
 
   pub record Agreement (turns : List Turn) (identity : Option AuthIdentity) : Type 0 where
     pub a_client_that_sealed : (at : TurnOf turns) → at.turn.end ≡ Client → at.turn.acts.sealed ≡ true → Agrees turns at.before

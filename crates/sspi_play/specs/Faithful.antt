@@ -38,8 +38,9 @@ module _ {C : Type 0} where
   -- a client seals its proof, and then its credentials; the turns before this one say which version it had noted
   abbrev pub client_texts : ClientEnd C → List Turn → Turn → List (List ℕ)
   client_texts e past t =
-      where_done t.acts.sealed (text_in (delegated_text e.credentials e.delegation))
-      ++ where_done t.acts.proved (proof_text whose.Client (client_noted e.least (t ∷ past)) e.nonce e.public_key)
+      where_done t.acts.sealed (text_in (delegated_text e.settings.credentials e.settings.delegation))
+      ++ where_done t.acts.proved
+      (proof_text whose.Client (client_noted e.settings.least (t ∷ past)) e.settings.nonce e.settings.public_key)
 
   abbrev pub client_sealed : ClientEnd C → List Turn → List (List ℕ)
   client_sealed e [] = []
@@ -48,7 +49,8 @@ module _ {C : Type 0} where
   -- a server seals its proof
   abbrev pub server_texts : ServerEnd C → List Turn → Turn → List (List ℕ)
   server_texts e past t =
-      where_done t.acts.proved (proof_text whose.Server (server_noted e.least (t ∷ past)) (nonce_of t.delivered.client_nonce) e.public_key)
+      where_done t.acts.proved
+      (proof_text whose.Server (server_noted e.settings.least (t ∷ past)) (nonce_of t.delivered.client_nonce) e.settings.public_key)
 
   abbrev pub server_sealed : ServerEnd C → List Turn → List (List ℕ)
   server_sealed e [] = []
@@ -71,9 +73,9 @@ AreFirstOf texts all = (later : List (List ℕ)) × (all ≡ later ++ texts)
 
 -- so is one of the run's hashes made: an end's magic, a nonce and its own key, joined; a server's nonce is a delivered one
 pub data IsHashed {C : Type 0} (client : ClientEnd C) (server : ServerEnd C) (turns : List Turn) : List ℕ → Type 0 where
-  by_client : (end : EndpointType) → IsHashed client server turns (magic end ++ client.nonce ++ client.public_key)
+  by_client : (end : EndpointType) → IsHashed client server turns (magic end ++ client.settings.nonce ++ client.settings.public_key)
   by_server : (end : EndpointType) (later before : List Turn) (t : Turn) → server_turns turns ≡ later ++ (t ∷ before) →
-      IsHashed client server turns (magic end ++ nonce_of t.delivered.client_nonce ++ server.public_key)
+      IsHashed client server turns (magic end ++ nonce_of t.delivered.client_nonce ++ server.settings.public_key)
 
 -- how many MICs a context made and verified
 module _ {C : Type 0} (c : Meaning ContextSetting C) where

@@ -67,6 +67,6 @@ module _ {C P D : Type 0} (c : Meaning ContextSetting C) where
   pub record IsPlay (old new : Both C P D) : Type 0 where
     pub client_ran : ClientRan c old.client new.client (client_turns new.turns)
     pub server_ran : ServerRan c old.server new.server (server_turns new.turns)
-    pub client_heeds : EachHeedsServer c new.client.least (client_turns new.turns)
-    pub server_heeds : EachHeedsClient c new.server.context new.server.least (server_turns new.turns)
+    pub client_heeds : EachHeedsServer c new.client.settings.least (client_turns new.turns)
+    pub server_heeds : EachHeedsClient c new.server.context new.server.settings.least (server_turns new.turns)
     pub credentials_are_sealed_at_most_once : sealed_turns new.turns ≤ 1

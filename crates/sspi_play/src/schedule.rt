@@ -49,7 +49,7 @@ pub fn play<N: Mechanism, K: Mechanism, C: CredentialsProxy, D: Kdc>(
     ensures agrees { IsFresh client.old server.old transcript.old.turns → AgreesIfFaithful (either N.REQUESTS N.meaning K.meaning) kept_list
         (client_end client.new) (server_end server.new) transcript.new.turns (identity_of result) }
     ensures negotiates { IsFresh client.old server.old transcript.old.turns → NegotiatesIfFaithful N.REQUESTS N.meaning K.meaning
-        (client_end client.new) (server_end server.new) server.old.mode transcript.new.turns }
+        (client_end client.new) (server_end server.new) server.old.settings.mode transcript.new.turns }
     ensures kdc { KdcStays D.told D.faults kdc.old kdc.new }
     ensures proxy { ProxyStays C.meaning server.old.proxy server.new.proxy }
 {
