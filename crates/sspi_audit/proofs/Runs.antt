@@ -135,17 +135,19 @@ own_answer f own t outcome.Finished is shows = ((λ r same. absurd (cc (same))),
 own_answer f own t (outcome.Refused kind reply) is shows = ((λ r same. absurd (cc (same))), (λ r same. absurd (cc (same))))
 
 module _ {C : Type 0} (c : Meaning ContextSetting C) (laws : IsContext c) where
-  client_told : (e : ClientEnd C) (past : List Turn) → EachClientTurn c e past → (own_version past ≡ None) ⊎ (own_version past ≡ Some e.version)
+  client_told : (e : ClientEnd C) (past : List Turn) → EachClientTurn c e past →
+      (own_version past ≡ None) ⊎ (own_version past ≡ Some e.settings.version)
   client_told e [] each = inl refl
   client_told e (t ∷ past) each =
-      let own = own_reply (client_shown (client_frame_at e past t)) e.version t t.outcome refl each.0.shown.reply in
-      told_on e.version (own_version past) t.outcome (client_told e past each.1) own.0 own.1
+      let own = own_reply (client_shown (client_frame_at e past t)) e.settings.version t t.outcome refl each.0.shown.reply in
+      told_on e.settings.version (own_version past) t.outcome (client_told e past each.1) own.0 own.1
 
-  server_told : (e : ServerEnd C) (past : List Turn) → EachServerTurn c e past → (own_version past ≡ None) ⊎ (own_version past ≡ Some e.version)
+  server_told : (e : ServerEnd C) (past : List Turn) → EachServerTurn c e past →
+      (own_version past ≡ None) ⊎ (own_version past ≡ Some e.settings.version)
   server_told e [] each = inl refl
   server_told e (t ∷ past) each =
-      let own = own_answer (server_shown (server_frame_at e past t)) e.version t t.outcome refl each.0.shown.reply in
-      told_on e.version (own_version past) t.outcome (server_told e past each.1) own.0 own.1
+      let own = own_answer (server_shown (server_frame_at e past t)) e.settings.version t t.outcome refl each.0.shown.reply in
+      told_on e.settings.version (own_version past) t.outcome (server_told e past each.1) own.0 own.1
 
   -- ---- blobs
 
@@ -186,7 +188,7 @@ module _ {C : Type 0} (c : Meaning ContextSetting C) (laws : IsContext c) where
   client_knows e past t each = record {
     state = refl;
     looks = refl;
-    noted = client_any e.least (t ∷ past);
+    noted = client_any e.settings.least (t ∷ past);
     version = client_told e past each;
   }
 
@@ -195,7 +197,7 @@ module _ {C : Type 0} (c : Meaning ContextSetting C) (laws : IsContext c) where
   server_knows e past t each = record {
     state = refl;
     looks = refl;
-    noted = server_any e.least (t ∷ past);
+    noted = server_any e.settings.least (t ∷ past);
     version = server_told e past each;
   }
 

@@ -164,8 +164,8 @@ module _ {C : Type 0} (c : Meaning ContextSetting C) (kept : Option C → List (
         let server_seen : server_noted server.settings.least (server_turns turns) ≡ Some s.version =
         subst (λ (l : List Turn). server_noted server.settings.least (server_turns l) ≡ Some s.version) (sym whole)
         (server_noted_later server.settings.least (later ++ (t ∷ s.at.later)) (u ∷ s.at.before) s.version
-        (subst (λ (l : List Turn). server_noted server.settings.least l ≡ Some s.version) (sym
-        (server_more u s.at.before s.end)) s.noted)) in
+        (subst (λ (l : List Turn). server_noted server.settings.least l ≡ Some s.version)
+        (sym (server_more u s.at.before s.end)) s.noted)) in
         let same = same_texts client.settings.public_key server.settings.public_key client.settings.nonce
         (nonce_of u.delivered.client_nonce) p.0.version s.version
         (faithful.no_collision _ _ (by_client whose.Client)
@@ -198,8 +198,8 @@ module _ {C : Type 0} (c : Meaning ContextSetting C) (kept : Option C → List (
         (subst (λ (l : List Turn). AllTurns c kept client server l) parts all) in
         let own = client_at t past is here in
         let seen = at_some (client_noted client.settings.least (t ∷ client_turns past)) _ (own.0.0.held.sealed was) in
-        let opened : opened_texts
-        (t ∷ client_turns past) ≡ prescribed whose.Server seen.0 client.settings.nonce client.settings.public_key ∷ [] =
+        let opened : opened_texts (t ∷ client_turns past)
+        ≡ prescribed whose.Server seen.0 client.settings.nonce client.settings.public_key ∷ [] =
         seals_once_opened c client (client_turns past) t own.0 own.1 was ∙ sealing_text t (client_turns past) seen.0 own.0 was seen.1 in
         let before = all_before c kept client server (t ∷ []) past here in
         let s = server_proved past _ (opened_texts (t ∷ client_turns past)) opened own.2 (server_proof c server past before.server_each) in
