@@ -119,17 +119,18 @@ module _ {D P : Type 0} (meet : Meeting D P) where
         (led_kerberos client_config i matching.identity_is come.ip (record { ntlm = true; kerberos = true }) states.InProgress
         (offer Kerberos true) true ((told_token meet by first) (server_steps_c 0).output) (paired meet by first) refl refl away
         ∙ by_ntlm.changes client_config i matching.identity_is (short meet) suits.no_guest challenge suits.challenge Kerberos true
-        a.target (paired meet by first))
+        a.settings.target (paired meet by first))
     leads_c (suc zero) less = at_once
         (led_ntlm client_config i matching.identity_is come.ip states.InProgress (offer Kerberos true) true
         ((told_token meet by first) (server_steps_c 1).output) (client_objects_c 1) refl refl
         ∙ by_ntlm.answers_challenge client_config i matching.identity_is (short meet) suits.no_guest challenge suits.challenge Kerberos
-        a.target
+        a.settings.target
         zeros)
     leads_c (suc (suc zero)) less = at_once
         (led_ntlm client_config i matching.identity_is come.ip states.VerifyMic (offer Kerberos true) true
         ((told_token meet by first) (server_steps_c 2).output) (client_objects_c 2) refl refl
-        ∙ by_ntlm.ends client_config i matching.identity_is (short meet) suits.no_guest challenge suits.challenge Kerberos a.target zeros)
+        ∙ by_ntlm.ends client_config i matching.identity_is (short meet)
+        suits.no_guest challenge suits.challenge Kerberos a.settings.target zeros)
     leads_c (suc (suc (suc n))) less = absurd (omega (arith, less))
 
     accepts_c : (n : ℕ) → suc n ≤ 2 →

@@ -15,7 +15,7 @@ use Rattle.sspi_credssp.specs.declared.state.CredSspState.{CredSspState}
 use Rattle.sspi_credssp.specs.declared.state.CredSspState.TheVariants.{NegoToken, AuthInfo}
 use Rattle.sspi_credssp.specs.Acts.{sealed_by, unsealed_by}
 use Rattle.sspi_credssp.specs.Begun.{BeginCause}
-use Rattle.sspi_credssp.specs.Client.{ClientView}
+use Rattle.sspi_credssp.specs.Client.{ClientSettings, ClientView}
 use Rattle.sspi_credssp.specs.ClientCause.{ClientCause, StateCause, DeliverCause, BlobOpens, OpenedCause, CheckedCause, SealsCause}
 use Rattle.sspi_credssp.specs.ClientCause.{altered, unsealed}
 use Rattle.sspi_credssp.specs.ClientTurn.{StartsUnused, OnceNegotiated, client_frame, client_turn}
@@ -48,9 +48,9 @@ module _ {C D : Type 0} (c : Meaning ContextSetting C) (k : KdcCalls D) where
     pub taker : IsTaker c y peers
     pub version : d.version ≡ w
     pub code : is_code d.error_code ≡ false
-    pub proof : d.pub_key_auth ≡ Some (peers 0 (prescribed Server w a.nonce a.public_key))
-    pub text_is : delegated_text a.credentials a.delegation ≡ Ok text
-    pub begins : (kind : ErrorKind) → BeginCause c (ForClient a.mode) Outbound (Some a.credentials) kind → ⊥
+    pub proof : d.pub_key_auth ≡ Some (peers 0 (prescribed Server w a.settings.nonce a.settings.public_key))
+    pub text_is : delegated_text a.settings.credentials a.settings.delegation ≡ Ok text
+    pub begins : (kind : ErrorKind) → BeginCause c (ForClient a.settings.mode) Outbound (Some a.settings.credentials) kind → ⊥
 
   reply_nego : (frame : ClientFrame C) (t : Turn) (status : Option SecurityStatus) (reply : TsRequest) →
       ShowsNego (client_shown frame) t status reply → frame.state ≡ NegoToken
@@ -64,7 +64,7 @@ module _ {C D : Type 0} (c : Meaning ContextSetting C) (k : KdcCalls D) where
   module _ (a old : View) (w : ℕ) (d : TsRequest) (y : C) (own peers : ℕ → List ℕ → List ℕ) (text : List ℕ)
       (given : DeliveryGiven a old w d y own peers text) (kdc : D) where
     abbrev proof_text : List ℕ
-    proof_text = prescribed Server w a.nonce a.public_key
+    proof_text = prescribed Server w a.settings.nonce a.settings.public_key
 
     never_replies : (mid : View) (kdc2 : D) (r : TsRequest) → ClientMakes c k old kdc d (outcome.Reply r) mid kdc2 → ⊥
     never_replies mid kdc2 r makes =
@@ -77,12 +77,12 @@ module _ {C D : Type 0} (c : Meaning ContextSetting C) (k : KdcCalls D) where
     held_now : (mid : View) → OnceNegotiated old.state (SameBut c old.context mid.context) → Holds c mid.context y
     held_now mid bare = holds_still c old.context mid.context y (bare_at old.state _ given.is.state_is bare) given.holds
 
-    texts_of : (mid : View) → mid.credentials ≡ old.credentials → mid.delegation ≡ old.delegation →
-        delegated_text mid.credentials mid.delegation ≡ Ok text
-    texts_of mid one two = (rw (one, given.is.same.credentials, two, given.is.same.delegation) refl) ∙ given.text_is
+    texts_of : (mid : View) → mid.settings ≡ old.settings →
+        delegated_text mid.settings.credentials mid.settings.delegation ≡ Ok text
+    texts_of mid same = ap (λ (s : ClientSettings). delegated_text s.credentials s.delegation) (same ∙ given.is.same) ∙ given.text_is
 
     delivered : (mid : View) (kdc2 : D) (r : TsRequest) → ClientMakes c k old kdc d (outcome.Final r) mid kdc2 →
-        r ≡ record d { version = a.version; nego_tokens = None; pub_key_auth = None; auth_info = Some (own 1 text) }
+        r ≡ record d { version = a.settings.version; nego_tokens = None; pub_key_auth = None; auth_info = Some (own 1 text) }
     delivered mid kdc2 r makes =
         let turn = makes.0 in
         let final = turn.turn.shown.reply in
@@ -94,16 +94,16 @@ module _ {C D : Type 0} (c : Meaning ContextSetting C) (k : KdcCalls D) where
         let sealed_now : sealed_in c mid.context ≡ 2 = turn.moves.sealed unused ∙ (rw (given.is.sealed_is, one) refl) in
         let seals = subst (λ (x : Result (List ℕ) Error). IfText x
         (λ text. SealsIn c mid.context (sealed_in c mid.context - 1) text r.auth_info))
-        (texts_of mid turn.moves.same.credentials turn.moves.same.delegation) turn.turn.held.reply in
+        (texts_of mid turn.moves.same) turn.turn.held.reply in
         let field = sealed_field c mid.context y own _ text r.auth_info holds given.maker seals in
         let field_is : r.auth_info ≡ Some (own 1 text) = field ∙ (rw sealed_now refl) in
-        let version = turn.moves.same.version ∙ given.is.same.version in
-        final_is (client_frame c old mid) (client_turn c d (outcome.Final r) mid) r final ∙ (rw (version, field_is) refl)
+        let same = turn.moves.same ∙ given.is.same in
+        final_is (client_frame c old mid) (client_turn c d (outcome.Final r) mid) r final ∙ (rw (same, field_is) refl)
 
-    never_made : (kind : ErrorKind) → BeginCause c (ForClient old.mode) Outbound (Some old.credentials) kind → ⊥
+    never_made : (kind : ErrorKind) → BeginCause c (ForClient old.settings.mode) Outbound (Some old.settings.credentials) kind → ⊥
     never_made kind h =
-        given.begins kind (subst (λ x. BeginCause c (ForClient x) Outbound (Some a.credentials) kind) given.is.same.mode
-        (subst (λ x. BeginCause c (ForClient old.mode) Outbound (Some x) kind) given.is.same.credentials h))
+        given.begins kind
+        (subst (λ (s : ClientSettings). BeginCause c (ForClient s.mode) Outbound (Some s.credentials) kind) given.is.same h)
 
     deliver_cause : (mid : View) (kind : ErrorKind) → ClientCause c old d mid kind → DeliverCause c d.pub_key_auth mid kind
     deliver_cause mid kind cause =
@@ -147,11 +147,10 @@ module _ {C D : Type 0} (c : Meaning ContextSetting C) (k : KdcCalls D) where
         let noted_now : mid.noted ≡ Some w = turn.moves.noted ∙ (rw (given.is.idle, given.code, given.version) given.is.notes) in
         let opens = subst (λ (x : Option C). BlobOpens c (Some w) x blob mid error.error_type) holds.there
         (subst (λ (x : Option ℕ). BlobOpens c x mid.context blob mid error.error_type) noted_now later) in
-        let nonce = turn.moves.same.nonce ∙ given.is.same.nonce in
-        let public_key = turn.moves.same.public_key ∙ given.is.same.public_key in
-        let proof_is : prescribed Server w mid.nonce mid.public_key ≡ proof_text = rw (nonce, public_key) refl in
+        let proof_is : prescribed Server w mid.settings.nonce mid.settings.public_key ≡ proof_text =
+        ap (λ (s : ClientSettings). prescribed Server w s.nonce s.public_key) (turn.moves.same ∙ given.is.same) in
         let at = subst (λ (p : List ℕ). OpenedCause c mid.acts.checked holds.held blob p
-        (delegated_text mid.credentials mid.delegation) error.error_type) proof_is opens in
+        (delegated_text mid.settings.credentials mid.settings.delegation) error.error_type) proof_is opens in
         let sealed = turn.moves.sealed unused in
         let opened = turn.moves.unsealed unused in
         let sealed_before = given.is.sealed_is in
@@ -159,15 +158,16 @@ module _ {C D : Type 0} (c : Meaning ContextSetting C) (k : KdcCalls D) where
         let sealed_here : sealed_in c mid.context ≡ (c.counts holds.held).sealed = ap (sealed_in c) holds.there in
         let opened_here : unsealed_in c mid.context ≡ (c.counts holds.held).unsealed = ap (unsealed_in c) holds.there in
         let two = sealed_few mid.acts in
-        opened_never mid.acts.checked holds.held error.error_type (delegated_text mid.credentials mid.delegation)
-        (texts_of mid turn.moves.same.credentials turn.moves.same.delegation) holds.same
+        opened_never mid.acts.checked holds.held error.error_type (delegated_text mid.settings.credentials mid.settings.delegation)
+        (texts_of mid turn.moves.same) holds.same
         (omega (arith, sealed, sealed_before, sealed_here, two))
         (λ unchecked. let none : unsealed_by mid.acts ≡ 0 = rw (unchecked, turn.turn.shown.acts.opened) refl in omega
         (arith, opened, opened_before, opened_here, none))
         at
 
     pub last_turn : (out : Outcome) (mid : View) (kdc2 : D) → ClientMakes c k old kdc d out mid kdc2 →
-        Comes out (λ r. r ≡ record d { version = a.version; nego_tokens = None; pub_key_auth = None; auth_info = Some (own 1 text) })
+        Comes out (λ r.
+        r ≡ record d { version = a.settings.version; nego_tokens = None; pub_key_auth = None; auth_info = Some (own 1 text) })
     last_turn (outcome.Reply r) mid kdc2 makes = absurd (never_replies mid kdc2 r makes)
     last_turn (outcome.Final r) mid kdc2 makes = delivered mid kdc2 r makes
     last_turn outcome.Finished mid kdc2 makes = makes

@@ -20,11 +20,11 @@ use Rattle.sspi_credssp.specs.declared.state.CredSspState.{CredSspState}
 use Rattle.sspi_credssp.specs.declared.state.CredSspState.TheVariants.{NegoToken, AuthInfo}
 use Rattle.sspi_credssp.specs.Acts.{sealed_by, unsealed_by}
 use Rattle.sspi_credssp.specs.Begun.{BeginCause}
-use Rattle.sspi_credssp.specs.Client.{ClientView}
+use Rattle.sspi_credssp.specs.Client.{ClientSettings, ClientView}
 use Rattle.sspi_credssp.specs.ClientCause.{ClientCause, StateCause, NegoCause, ProveCause}
 use Rattle.sspi_credssp.specs.ClientStep.{Asked, Walked, stepped, resumed, still_asked, recounted, StepsTo, DoneStep, OnStep}
 use Rattle.sspi_credssp.specs.ClientStep.{refused_answer, client_args}
-use Rattle.sspi_credssp.specs.ClientTurn.{ClientTurn, SameClient, StartsUnused, client_frame, client_turn, noted_next}
+use Rattle.sspi_credssp.specs.ClientTurn.{ClientTurn, StartsUnused, client_frame, client_turn, noted_next}
 use Rattle.sspi_credssp.specs.Context.{ContextSetting, ForClient}
 use Rattle.sspi_credssp.specs.Counts.{sealed_in, SealsIn, is_waiting_in, cleared}
 use Rattle.sspi_credssp.specs.Noted.{noted_in}
@@ -51,8 +51,8 @@ module _ {C : Type 0} (c : Meaning ContextSetting C) (laws : IsContext c) where
       (answer : Answer)
       (step : Step) (m : C) → answer ≡ Done step → Walked c start handle token tries log answer m → c.waits m ≡ false
   done_idle start handle token tries log answer step m is (stepped m0 m1 a begun steps) =
-      laws.step_done m0 m (client_args handle start.target token) step
-      (subst (λ (x : Answer). c.steps m0 (client_args handle start.target token) x m) is steps)
+      laws.step_done m0 m (client_args handle start.settings.target token) step
+      (subst (λ (x : Answer). c.steps m0 (client_args handle start.settings.target token) x m) is steps)
   done_idle start handle token tries log answer step m is (resumed m1 m2 tried before q reply a walked resumes) =
       laws.resume_done m1 m reply step (subst (λ (x : Answer). c.resumes m1 reply x m) is resumes)
   done_idle start handle token tries log answer step m is (still_asked m1 m2 tried before q reply error walked resumes waits) =
@@ -67,18 +67,6 @@ module _ {C : Type 0} (c : Meaning ContextSetting C) (laws : IsContext c) where
       let unchecked : t.acts.checked ≡ false = is_false t.acts.checked (λ was. let s = (acts.checked was).0 in cc (s, nego)) in
       let unsealed_so : t.acts.sealed ≡ false = is_false t.acts.sealed (λ was. let s = acts.sealed was in cc (s, unchecked)) in
       (unchecked, unsealed_so, acts.opened)
-
-  same_on : (a old mid : View) → SameClient c a old → SameClient c old mid → SameClient c a mid
-  same_on a old mid one two = record {
-    public_key = two.public_key ∙ one.public_key;
-    credentials = two.credentials ∙ one.credentials;
-    delegation = two.delegation ∙ one.delegation;
-    version = two.version ∙ one.version;
-    least = two.least ∙ one.least;
-    mode = two.mode ∙ one.mode;
-    target = two.target ∙ one.target;
-    nonce = two.nonce ∙ one.nonce;
-  }
 
   module _ {D : Type 0} (k : KdcCalls D) where
     -- all that a mode says of the step of a turn: its answer, the context, the credentials and the KDC after it
@@ -97,7 +85,7 @@ module _ {C : Type 0} (c : Meaning ContextSetting C) (laws : IsContext c) where
       pub walks : Walks old kdc d.nego_tokens step y handle After
       pub version : d.version ≡ w
       pub code : is_code d.error_code ≡ false
-      pub begins : (kind : ErrorKind) → BeginCause c (ForClient a.mode) Outbound (Some a.credentials) kind → ⊥
+      pub begins : (kind : ErrorKind) → BeginCause c (ForClient a.settings.mode) Outbound (Some a.settings.credentials) kind → ⊥
 
     -- what its step left
     record Left (mid : View) (y : C) (handle : Option CredentialsBuffers) (After : D → Type 0) (kdc2 : D) (step : Step) : Type 0 where
@@ -145,10 +133,10 @@ module _ {C : Type 0} (c : Meaning ContextSetting C) (laws : IsContext c) where
       refused_at mid kdc2 (Some st) true log error replied was others h = let s = walked_at mid kdc2 st log replied h in (ap Some s.0, s.1)
       refused_at mid kdc2 status false log error replied was others h = absurd cc
 
-      never_made : (kind : ErrorKind) → BeginCause c (ForClient old.mode) Outbound (Some old.credentials) kind → ⊥
+      never_made : (kind : ErrorKind) → BeginCause c (ForClient old.settings.mode) Outbound (Some old.settings.credentials) kind → ⊥
       never_made kind h =
-          given.begins kind (subst (λ x. BeginCause c (ForClient x) Outbound (Some a.credentials) kind) given.is.same.mode
-          (subst (λ x. BeginCause c (ForClient old.mode) Outbound (Some x) kind) given.is.same.credentials h))
+          given.begins kind
+          (subst (λ (s : ClientSettings). BeginCause c (ForClient s.mode) Outbound (Some s.credentials) kind) given.is.same h)
 
       -- a refusal is past what a turn looks at first
       nego_cause : (mid : View) (kind : ErrorKind) → ClientCause c old d mid kind → NegoCause c mid.acts.status mid kind
@@ -192,14 +180,14 @@ module _ {C : Type 0} (c : Meaning ContextSetting C) (laws : IsContext c) where
       never_ends mid kdc2 r makes = let auth = makes.0.turn.shown.reply.state in let nego = given.is.state_is in cc
 
       noted_now : (mid : View) → mid.noted ≡ noted_next c old d → mid.noted ≡ noted_at first w
-      noted_now mid noted = noted ∙ ap (noted_in old.context old.least old.noted) given.version ∙ given.is.notes
+      noted_now mid noted = noted ∙ ap (noted_in old.context old.settings.least old.noted) given.version ∙ given.is.notes
 
       -- ---- a token
 
       token_replied : (w2 : ℕ) (mid : View) (kdc2 : D) (r : TsRequest) → step.status ≡ statuses.ContinueNeeded → (first ≡ false → w2 ≡ w) →
-          nat_lt w2 a.least ≡ false →
+          nat_lt w2 a.settings.least ≡ false →
           ClientMakes c k old kdc d (outcome.Reply r) mid kdc2 →
-          (r ≡ record d { version = a.version; nego_tokens = Some step.output }) × ClientIs c a mid w2 false NegoToken 0 0 ×
+          (r ≡ record d { version = a.settings.version; nego_tokens = Some step.output }) × ClientIs c a mid w2 false NegoToken 0 0 ×
           Holds c mid.context y
           × (mid.handle ≡ handle) × After kdc2
       token_replied w2 mid kdc2 r goes peer takes makes =
@@ -214,10 +202,10 @@ module _ {C : Type 0} (c : Meaning ContextSetting C) (laws : IsContext c) where
           let unproved : mid.acts.proved ≡ false = is_false mid.acts.proved (λ was. let ok = (turn.turn.shown.acts.proved was).0 in cc) in
           let none_sealed : sealed_by mid.acts ≡ 0 = rw (unproved, quiet.1) refl in
           let none_opened : unsealed_by mid.acts ≡ 0 = rw (quiet.0, quiet.2) refl in
-          let same = same_on a old mid given.is.same turn.moves.same in
-          let later = takes_later c mid s.1.holds.held first w w2 peer (rw same.least takes) s.1.holds.there
+          let same = turn.moves.same ∙ given.is.same in
+          let later = takes_later c mid s.1.holds.held first w w2 peer (rw same takes) s.1.holds.there
           (noted_now mid turn.moves.noted_going) in (
-            token_is frame t r token ∙ (rw (same.version, s.1.output_is) refl),
+            token_is frame t r token ∙ (rw (same, s.1.output_is) refl),
             record {
               same = same;
               state_is = turn.moves.state ∙ (rw (unproved, given.is.state_is) refl);
@@ -234,9 +222,9 @@ module _ {C : Type 0} (c : Meaning ContextSetting C) (laws : IsContext c) where
           )
 
       pub token_turn : (w2 : ℕ) (out : Outcome) (mid : View) (kdc2 : D) → step.status ≡ statuses.ContinueNeeded → (first ≡ false → w2 ≡ w) →
-          nat_lt w2 a.least ≡ false →
+          nat_lt w2 a.settings.least ≡ false →
           ClientMakes c k old kdc d out mid kdc2 →
-          Comes out (λ r. (r ≡ record d { version = a.version; nego_tokens = Some step.output }) ×
+          Comes out (λ r. (r ≡ record d { version = a.settings.version; nego_tokens = Some step.output }) ×
           ClientIs c a mid w2 false NegoToken 0 0 × Holds c mid.context y
           × (mid.handle ≡ handle) × After kdc2)
       token_turn w2 (outcome.Reply r) mid kdc2 goes peer takes makes = token_replied w2 mid kdc2 r goes peer takes makes
@@ -252,10 +240,10 @@ module _ {C : Type 0} (c : Meaning ContextSetting C) (laws : IsContext c) where
         proof_replied : (mid : View) (kdc2 : D) (r : TsRequest) → step.status ≡ statuses.Ok →
             ClientMakes c k old kdc d (outcome.Reply r) mid kdc2 →
             (r ≡ record d {
-              version = a.version;
+              version = a.settings.version;
               nego_tokens = unless_empty step.output;
-              client_nonce = Some a.nonce;
-              pub_key_auth = Some (blob 0 (prescribed Client w a.nonce a.public_key));
+              client_nonce = Some a.settings.nonce;
+              pub_key_auth = Some (blob 0 (prescribed Client w a.settings.nonce a.settings.public_key));
             }) × ClientIs c a mid w false AuthInfo 1 0 × Holds c mid.context y × After kdc2
         proof_replied mid kdc2 r ends makes =
             let turn = makes.0 in
@@ -272,14 +260,14 @@ module _ {C : Type 0} (c : Meaning ContextSetting C) (laws : IsContext c) where
             let sealed_now : sealed_in c mid.context ≡ 1 = turn.moves.sealed unused ∙ (rw (given.is.sealed_is, one) refl) in
             let noted : mid.noted ≡ Some w = noted_now mid turn.moves.noted_going ∙ ap (λ (x : Bool). noted_at x w) later in
             let more = takes_noted c mid s.1.holds.held w s.1.holds.there noted in
-            let same = same_on a old mid given.is.same turn.moves.same in
+            let same = turn.moves.same ∙ given.is.same in
             let seals = subst (λ (x : Option ℕ). AtNoted x (λ n. SealsIn c mid.context (sealed_in c mid.context - 1)
-            (prescribed Client n mid.nonce mid.public_key) r.pub_key_auth))
+            (prescribed Client n mid.settings.nonce mid.settings.public_key) r.pub_key_auth))
             noted held.proof in
             let field = sealed_field c mid.context y blob _ _ r.pub_key_auth s.1.holds maker seals in
-            let field_is : r.pub_key_auth ≡ Some (blob 0 (prescribed Client w a.nonce a.public_key)) =
-            field ∙ (rw (sealed_now, same.nonce, same.public_key) refl) in (
-              proof_is frame t r proof held.nonce ∙ (rw (same.version, s.1.output_is, same.nonce, field_is) refl),
+            let field_is : r.pub_key_auth ≡ Some (blob 0 (prescribed Client w a.settings.nonce a.settings.public_key)) =
+            field ∙ (rw (sealed_now, same) refl) in (
+              proof_is frame t r proof held.nonce ∙ (rw (same, s.1.output_is, field_is) refl),
               record {
                 same = same;
                 state_is = turn.moves.state ∙ (rw proof.proved refl);
@@ -320,10 +308,10 @@ module _ {C : Type 0} (c : Meaning ContextSetting C) (laws : IsContext c) where
 
         pub proof_turn : (out : Outcome) (mid : View) (kdc2 : D) → step.status ≡ statuses.Ok → ClientMakes c k old kdc d out mid kdc2 →
             Comes out (λ r. (r ≡ record d {
-              version = a.version;
+              version = a.settings.version;
               nego_tokens = unless_empty step.output;
-              client_nonce = Some a.nonce;
-              pub_key_auth = Some (blob 0 (prescribed Client w a.nonce a.public_key));
+              client_nonce = Some a.settings.nonce;
+              pub_key_auth = Some (blob 0 (prescribed Client w a.settings.nonce a.settings.public_key));
             }) × ClientIs c a mid w false AuthInfo 1 0 × Holds c mid.context y × After kdc2)
         proof_turn (outcome.Reply r) mid kdc2 ends makes = proof_replied mid kdc2 r ends makes
         proof_turn (outcome.Final r) mid kdc2 ends makes = absurd (never_ends mid kdc2 r makes)

@@ -39,17 +39,15 @@ use Rattle.sspi_credssp.specs.declared.mode.ClientMode.TheVariants as client_mod
 use Rattle.sspi_credssp.specs.declared.mode.ServerMode.{ServerMode}
 use Rattle.sspi_credssp.specs.declared.mode.ServerMode.TheVariants as server_mode
 use Rattle.sspi_credssp.specs.Begun.{Begun, goes_on, is_new, BeginCause, unmade, unacquired}
-use Rattle.sspi_credssp.specs.Client.{ClientView}
+use Rattle.sspi_credssp.specs.Client.{ClientSettings, ClientView}
 use Rattle.sspi_credssp.specs.ClientStep.{client_args}
-use Rattle.sspi_credssp.specs.ClientTurn.{SameClient}
 use Rattle.sspi_credssp.specs.Context.{ContextSetting, ForClient, ForServer}
 use Rattle.sspi_credssp.specs.Counts.{cleared}
 use Rattle.sspi_credssp.specs.Proxy.{ProxyMeaning, ProxyTells, AreFound, AreCandidates, IsTold, candidates_of}
-use Rattle.sspi_credssp.specs.Server.{ServerView}
+use Rattle.sspi_credssp.specs.Server.{ServerSettings, ServerView}
 use Rattle.sspi_credssp.specs.ServerCause.{MakeCause, unlisted, unbegun, ListRefused, failed, nobody, IdentifyCause, nameless, looked}
 use Rattle.sspi_credssp.specs.ServerCause.{unset}
 use Rattle.sspi_credssp.specs.ServerStep.{IsIdentified, is_identified, server_args, server_setting}
-use Rattle.sspi_credssp.specs.ServerTurn.{SameServer}
 use Rattle.sspi_credssp.specs.Shown.{IsOver}
 use Rattle.sspi_delegate.specs.Asking.{kdc_calls}
 use Rattle.sspi_completeness.specs.Matching.{AreMatching}
@@ -104,9 +102,9 @@ pub record Meeting (D P : Type 0) : Type 0 where
   pub matching : AreMatching proxy (told kdc) (calls kdc) client server
   pub client_config : NegotiateConfig
   pub server_config : NegotiateConfig
-  pub client_is : client.mode ≡ client_mode.Negotiate client_config
-  pub server_is : server.mode ≡ server_mode.Negotiate server_config
-  pub come : AreNegotiating (told kdc) (calls kdc) client_config server_config client.target matching.identity
+  pub client_is : client.settings.mode ≡ client_mode.Negotiate client_config
+  pub server_is : server.settings.mode ≡ server_mode.Negotiate server_config
+  pub come : AreNegotiating (told kdc) (calls kdc) client_config server_config client.settings.target matching.identity
 
 module _ {D P : Type 0} (meet : Meeting D P) where
   open meet use {told, calls, faults, laws, proxy as p, client as a, server as b, kdc as kdc_first, matching, client_config, server_config}
@@ -162,13 +160,13 @@ module _ {D P : Type 0} (meet : Meeting D P) where
       client_acquired s2 g (subst (λ (t : Negotiation M). Acquires ntlm_meaning kerberos_meaning t Outbound asked g s2) begun
       (subst (λ (x : Credentials). Acquires ntlm_meaning kerberos_meaning s Outbound (Some x) g s2) is acquires))
 
-  client_begins : (old : ClientView C) (g : Option CredentialsBuffers) (m : C) → SameClient c a old → old.context ≡ None →
-      Begun c old.context old.handle (ForClient old.mode) Outbound (Some old.credentials) g m →
+  client_begins : (old : ClientView C) (g : Option CredentialsBuffers) (m : C) → old.settings ≡ a.settings → old.context ≡ None →
+      Begun c old.context old.handle (ForClient old.settings.mode) Outbound (Some old.settings.credentials) g m →
       (m ≡ holding client_start client_new) × (g ≡ handle)
   client_begins old g m same none (goes_on is had) = absurd (cc (is, none))
   client_begins old g m same none (is_new m0 is made acquires) =
-      client_made old.credentials g m0 m (same.credentials ∙ matching.credentials_are)
-      (subst (λ (mode : ClientMode). c.made (ForClient mode) m0) (same.mode ∙ client_is) made) acquires
+      client_made old.settings.credentials g m0 m (ap (λ (s : ClientSettings). s.credentials) same ∙ matching.credentials_are)
+      (subst (λ (mode : ClientMode). c.made (ForClient mode) m0) (ap (λ (s : ClientSettings). s.mode) same ∙ client_is) made) acquires
 
   went_on : (setting : ContextSetting) (context : Option C) (asked_for : Option Credentials) (had g : Option CredentialsBuffers) (m x : C)
       (purpose : CredentialUse) → context ≡ Some x → Begun c context had setting purpose asked_for g m → (m ≡ x) × (g ≡ had)
@@ -208,13 +206,15 @@ module _ {D P : Type 0} (meet : Meeting D P) where
       ∙ ap (fresh Server server_config matching.entries) (first_is come.server_hand _ s.mech come.server_first made.1.0) in
       server_acquired s2 g (subst (λ (t : Negotiation M). Acquires ntlm_meaning kerberos_meaning t Inbound None g s2) begun acquires)
 
-  server_begins : (old : ServerView C P) (g : Option CredentialsBuffers) (m : C) → SameServer c b old → p.told old.proxy ≡ p.told b.proxy →
+  server_begins : (old : ServerView C P) (g : Option CredentialsBuffers) (m : C) → old.settings ≡ b.settings →
+      p.told old.proxy ≡ p.told b.proxy →
       old.context ≡ None → Begun c old.context old.handle (server_setting p old) Inbound None g m →
       (m ≡ holding server_start server_new) × (g ≡ None)
   server_begins old g m same tells none (goes_on is had) = absurd (cc (is, none))
   server_begins old g m same tells none (is_new m0 is made acquires) =
       server_made (p.told old.proxy).entries g m0 m (ap (λ (t : ProxyTells). t.entries) tells ∙ matching.tells)
-      (subst (λ (mode : ServerMode). c.made (ForServer mode (p.told old.proxy).entries) m0) (same.mode ∙ server_is) made) acquires
+      (subst (λ (mode : ServerMode). c.made (ForServer mode (p.told old.proxy).entries) m0) server_is
+      (subst (λ (s : ServerSettings). c.made (ForServer s.mode (p.told old.proxy).entries) m0) same made)) acquires
 
   server_never : (mode : ServerMode) (before now : P) (kind : ErrorKind) → mode ≡ server_mode.Negotiate server_config →
       p.faults now ≡ p.faults before → p.faults before < 2 ^ 64 - 1 → MakeCause c p mode before now kind → ⊥
@@ -233,7 +233,7 @@ module _ {D P : Type 0} (meet : Meeting D P) where
   -- ---- the course of their steps
 
   abbrev given : Option (List ℕ) → StepArgs
-  given token = client_args handle a.target token
+  given token = client_args handle a.settings.target token
 
   -- The steps of both ends by their numbers, with the values and the mechanism that each leaves, and the number of the KDC's next call:
   -- j + 1 of the client that ask for more and one that ends, `early` where the server's end before that.
@@ -279,24 +279,26 @@ module _ {D P : Type 0} (meet : Meeting D P) where
     abbrev peer_context : C
     peer_context = holding (it.server_value last) (it.server_object last)
 
-    walks_first : (old : ClientView C) (kdc : D) → SameClient c a old → old.context ≡ None →
+    walks_first : (old : ClientView C) (kdc : D) → old.settings ≡ a.settings → old.context ≡ None →
         KdcIs told calls faults kdc_first (calls kdc_first) kdc →
         Walks c laws (kdc_calls told calls faults) old kdc None (it.client_step 0) (holding (it.client_value 0) (it.client_object 0)) handle
         (KdcIs told calls faults kdc_first (it.call 0))
     walks_first old kdc same none at =
+        let target = ap (λ (s : ClientSettings). s.target) same in
         walks_by told calls faults laws old kdc_first kdc None client_start (it.client_value 0) client_new (it.client_object 0)
         (it.client_step 0) handle (calls kdc_first) (it.call 0) at (it.client_rests 0) (λ g m begun. client_begins old g m same none begun)
         _ it.leads_first
-        (λ ip is. ap (λ (x : Bool). runs (spnego_client x client_start (client_args handle old.target None)) client_new)
-        (bool_same ip come.ip _ (subst (λ (t : List ℕ). IsTrue ip ↔ IsNamedByIp (Some t)) same.target is) come.ip_is)
-        ∙ ap (λ (t : List ℕ). runs (spnego_client come.ip client_start (client_args handle t None)) client_new) same.target)
+        (λ ip is. ap (λ (x : Bool). runs (spnego_client x client_start (client_args handle old.settings.target None)) client_new)
+        (bool_same ip come.ip _ (subst (λ (t : List ℕ). IsTrue ip ↔ IsNamedByIp (Some t)) target is) come.ip_is)
+        ∙ ap (λ (t : List ℕ). runs (spnego_client come.ip client_start (client_args handle t None)) client_new) target)
 
-    walks : (n : ℕ) (old : ClientView C) (kdc : D) → n ≤ j → SameClient c a old →
+    walks : (n : ℕ) (old : ClientView C) (kdc : D) → n ≤ j → old.settings ≡ a.settings →
         old.context ≡ Some (holding (it.client_value n) (it.client_object n)) → old.handle ≡ handle →
         KdcIs told calls faults kdc_first (it.call n) kdc →
         Walks c laws (kdc_calls told calls faults) old kdc (Some (it.server_step n).output) (it.client_step (suc n))
         (holding (it.client_value (suc n)) (it.client_object (suc n))) handle (KdcIs told calls faults kdc_first (it.call (suc n)))
     walks n old kdc less same there had at =
+        let target = ap (λ (s : ClientSettings). s.target) same in
         let v = named_by (it.client_value n) (it.client_object n) in
         walks_by told calls faults laws old kdc_first kdc (Some (it.server_step n).output) (it.client_value n) (it.client_value (suc n))
         (it.client_object n) (it.client_object (suc n)) (it.client_step (suc n)) handle (it.call n) (it.call (suc n)) at
@@ -304,19 +306,19 @@ module _ {D P : Type 0} (meet : Meeting D P) where
         (λ g m begun. let w = went_on _ _ _ _ g m (holding (it.client_value n) (it.client_object n)) Outbound there begun in
         (w.0, w.1 ∙ had))
         _ (it.leads n less)
-        (λ ip is. ap (λ (x : Bool). runs (spnego_client x v (client_args handle old.target (Some (it.server_step n).output)))
+        (λ ip is. ap (λ (x : Bool). runs (spnego_client x v (client_args handle old.settings.target (Some (it.server_step n).output)))
         (it.client_object n))
-        (bool_same ip come.ip _ (subst (λ (t : List ℕ). IsTrue ip ↔ IsNamedByIp (Some t)) same.target is) come.ip_is)
+        (bool_same ip come.ip _ (subst (λ (t : List ℕ). IsTrue ip ↔ IsNamedByIp (Some t)) target is) come.ip_is)
         ∙ ap (λ (t : List ℕ). runs (spnego_client come.ip v (client_args handle t (Some (it.server_step n).output))) (it.client_object n))
-        same.target)
+        target)
 
-    takes_first : (old : ServerView C P) → SameServer c b old → p.told old.proxy ≡ p.told b.proxy → old.context ≡ None →
+    takes_first : (old : ServerView C P) → old.settings ≡ b.settings → p.told old.proxy ≡ p.told b.proxy → old.context ≡ None →
         Takes c laws p old (Some (it.client_step 0).output) (it.server_step 0) (holding (it.server_value 0) (it.server_object 0)) None
     takes_first old same tells none =
         takes_by laws p old (Some (it.client_step 0).output) server_start (it.server_value 0) server_new (it.server_object 0)
         (it.server_step 0) (it.server_rests 0) (λ g m begun. server_begins old g m same tells none begun) it.accepts_first
 
-    takes : (n : ℕ) (old : ServerView C P) → suc n ≤ last → SameServer c b old →
+    takes : (n : ℕ) (old : ServerView C P) → suc n ≤ last → old.settings ≡ b.settings →
         old.context ≡ Some (holding (it.server_value n) (it.server_object n)) → old.handle ≡ None →
         Takes c laws p old (Some (it.client_step (suc n)).output) (it.server_step (suc n))
         (holding (it.server_value (suc n)) (it.server_object (suc n))) None
@@ -414,9 +416,9 @@ module _ {D P : Type 0} (meet : Meeting D P) where
       peer_context = peer_context;
       ups = blob_of it.key FromClient;
       downs = blob_of it.key FromServer;
-      client_begins = λ kind cause. client_never a.credentials kind matching.credentials_are
-          (subst (λ (mode : ClientMode). BeginCause c (ForClient mode) Outbound (Some a.credentials) kind) client_is cause);
-      server_begins = λ before now kind still calm. server_never b.mode before now kind server_is still calm;
+      client_begins = λ kind cause. client_never a.settings.credentials kind matching.credentials_are
+          (subst (λ (mode : ClientMode). BeginCause c (ForClient mode) Outbound (Some a.settings.credentials) kind) client_is cause);
+      server_begins = λ before now kind still calm. server_never b.settings.mode before now kind server_is still calm;
       kdc_start = record { same = refl; called = refl };
       walks_first = walks_first;
       walks = walks;

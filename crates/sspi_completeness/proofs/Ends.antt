@@ -13,12 +13,10 @@ use Rattle.sspi_credssp.specs.declared.state.CredSspState.TheVariants.{NegoToken
 use Rattle.sspi_credssp.specs.Acts.{count_of, sealed_by}
 use Rattle.sspi_credssp.specs.Begun.{IfContext, MadeOr}
 use Rattle.sspi_credssp.specs.Client.{ClientView, IsFreshClient}
-use Rattle.sspi_credssp.specs.ClientTurn.{SameClient}
 use Rattle.sspi_credssp.specs.Context.{ContextSetting}
 use Rattle.sspi_credssp.specs.Counts.{sealed_in, unsealed_in, IsUnusedIn, SameBut, SealsIn, is_waiting_in, silent, cleared}
 use Rattle.sspi_credssp.specs.Noted.{differs, is_altered_in, is_old, is_old_in, noted_in, noted_with}
 use Rattle.sspi_credssp.specs.Server.{ServerView, IsFreshServer}
-use Rattle.sspi_credssp.specs.ServerTurn.{SameServer}
 use Rattle.sspi_credssp.specs.Stops.{StopsIf}
 use Rattle.sspi_credssp.specs.declared.turn.Outcome.{Outcome}
 use Rattle.sspi_credssp.specs.declared.turn.Outcome.TheVariants.{Reply, Final, Finished, Refused}
@@ -116,27 +114,18 @@ module _ {C : Type 0} (c : Meaning ContextSetting C) where
   -- the client v, which began as a: whether its next turn is its first, w the version that it is given then, its state, and
   -- how many messages its context sealed and opened
   pub record ClientIs (a v : ClientView C) (w : ℕ) (first : Bool) (state : CredSspState) (sealed unsealed : ℕ) : Type 0 where
-    pub same : SameClient c a v
+    pub same : v.settings ≡ a.settings
     pub state_is : v.state ≡ state
     pub idle : is_waiting_in c v.context ≡ false
     pub fits : is_altered_in v.context v.noted w ≡ false
-    pub young : is_old_in v.context v.least v.noted w ≡ false
-    pub notes : noted_in v.context v.least v.noted w ≡ noted_at first w
+    pub young : is_old_in v.context v.settings.least v.noted w ≡ false
+    pub notes : noted_in v.context v.settings.least v.noted w ≡ noted_at first w
     pub sealed_is : sealed_in c v.context ≡ sealed
     pub unsealed_is : unsealed_in c v.context ≡ unsealed
 
   pub fresh_client : (a : ClientView C) (w : ℕ) → IsFreshClient a → ClientIs a a w true NegoToken 0 0
   fresh_client a w fresh = record {
-    same = record {
-      public_key = refl;
-      credentials = refl;
-      delegation = refl;
-      version = refl;
-      least = refl;
-      mode = refl;
-      target = refl;
-      nonce = refl;
-    };
+    same = refl;
     state_is = fresh.state;
     idle = rw fresh.context refl;
     fits = rw fresh.context refl;
@@ -149,8 +138,8 @@ module _ {C : Type 0} (c : Meaning ContextSetting C) where
   -- what a client does that is given this version next: it does not refuse it, and has it noted then
   pub record Takes (v : ClientView C) (w : ℕ) : Type 0 where
     pub fits : is_altered_in v.context v.noted w ≡ false
-    pub young : is_old_in v.context v.least v.noted w ≡ false
-    pub notes : noted_in v.context v.least v.noted w ≡ Some w
+    pub young : is_old_in v.context v.settings.least v.noted w ≡ false
+    pub notes : noted_in v.context v.settings.least v.noted w ≡ Some w
 
   -- it is the noted version
   pub takes_noted : (v : ClientView C) (m : C) (w : ℕ) → v.context ≡ Some m → v.noted ≡ Some w → Takes v w
@@ -161,35 +150,23 @@ module _ {C : Type 0} (c : Meaning ContextSetting C) where
   }
 
   -- or none is noted yet, and this one is not below the least
-  takes_first : (v : ClientView C) (m : C) (w : ℕ) → nat_lt w v.least ≡ false → v.context ≡ Some m → v.noted ≡ None → Takes v w
+  takes_first : (v : ClientView C) (m : C) (w : ℕ) → nat_lt w v.settings.least ≡ false → v.context ≡ Some m → v.noted ≡ None → Takes v w
   takes_first v m w takes there none = record {
     fits = rw (there, none) refl;
     young = rw (there, none) takes;
     notes = rw (there, none, takes) refl;
   }
 
-  pub takes_later : (v : ClientView C) (m : C) (first : Bool) (w w2 : ℕ) → (first ≡ false → w2 ≡ w) → nat_lt w2 v.least ≡ false →
+  pub takes_later : (v : ClientView C) (m : C) (first : Bool) (w w2 : ℕ) → (first ≡ false → w2 ≡ w) → nat_lt w2 v.settings.least ≡ false →
       v.context ≡ Some m →
       v.noted ≡ noted_at first w → Takes v w2
   takes_later v m true w w2 same takes there noted = takes_first v m w2 takes there noted
   takes_later v m false w w2 same takes there noted = takes_noted v m w2 there (noted ∙ ap Some (sym (same refl)))
 
-  same_emptied : (a v : ClientView C) → SameClient c a v → SameClient c a (record v { output = [] })
-  same_emptied a v same = record {
-    public_key = same.public_key;
-    credentials = same.credentials;
-    delegation = same.delegation;
-    version = same.version;
-    least = same.least;
-    mode = same.mode;
-    target = same.target;
-    nonce = same.nonce;
-  }
-
   pub client_emptied : (a v : ClientView C) (w : ℕ) (first : Bool) (state : CredSspState) (sealed unsealed : ℕ) →
       ClientIs a v w first state sealed unsealed → ClientIs a (record v { output = [] }) w first state sealed unsealed
   client_emptied a v w first state sealed unsealed is = record {
-    same = same_emptied a v is.same;
+    same = is.same;
     state_is = is.state_is;
     idle = is.idle;
     fits = is.fits;
@@ -202,17 +179,17 @@ module _ {C : Type 0} (c : Meaning ContextSetting C) where
   module _ {P : Type 0} where
     -- the server v, which began as b; w is its client's version
     pub record ServerIs (b v : ServerView C P) (w : ℕ) (state : CredSspState) (sealed unsealed : ℕ) : Type 0 where
-      pub same : SameServer c b v
+      pub same : v.settings ≡ b.settings
       pub state_is : v.state ≡ state
       pub fits : differs v.noted w ≡ false
-      pub young : is_old v.least v.noted w ≡ false
-      pub notes : noted_with v.least v.noted w ≡ Some w
+      pub young : is_old v.settings.least v.noted w ≡ false
+      pub notes : noted_with v.settings.least v.noted w ≡ Some w
       pub sealed_is : sealed_in c v.context ≡ sealed
       pub unsealed_is : unsealed_in c v.context ≡ unsealed
 
-    pub fresh_server : (b : ServerView C P) (w : ℕ) → nat_lt w b.least ≡ false → IsFreshServer b → ServerIs b b w NegoToken 0 0
+    pub fresh_server : (b : ServerView C P) (w : ℕ) → nat_lt w b.settings.least ≡ false → IsFreshServer b → ServerIs b b w NegoToken 0 0
     fresh_server b w takes fresh = record {
-      same = record { public_key = refl; version = refl; least = refl; mode = refl };
+      same = refl;
       state_is = fresh.state;
       fits = rw fresh.noted refl;
       young = rw fresh.noted takes;
@@ -225,7 +202,7 @@ module _ {C : Type 0} (c : Meaning ContextSetting C) where
         ServerIs b v w state sealed unsealed →
         ServerIs b (record v { output = [] }) w state sealed unsealed
     server_emptied b v w state sealed unsealed is = record {
-      same = record { public_key = is.same.public_key; version = is.same.version; least = is.same.least; mode = is.same.mode };
+      same = is.same;
       state_is = is.state_is;
       fits = is.fits;
       young = is.young;

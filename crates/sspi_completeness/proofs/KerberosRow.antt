@@ -133,7 +133,7 @@ module _ {D P : Type 0} (meet : Meeting D P) where
     calls_k (suc n) = counted_on (counted_on (calls kdc_first))
 
     abbrev given_k : ℕ → StepArgs
-    given_k n = client_args (handle_of i) a.target (Some (server_steps_k n).output)
+    given_k n = client_args (handle_of i) a.settings.target (Some (server_steps_k n).output)
 
     second_leads : Leads (told kdc_first) (counted_on (calls kdc_first))
         (runs (spnego_client come.ip (client_values_k 0) (given_k 0)) (client_objects_k 0))
@@ -155,7 +155,7 @@ module _ {D P : Type 0} (meet : Meeting D P) where
         ∙ by_kerberos.asks_session client_config i matching.identity_is (short meet) start_by.realms start_by.ticket session.first.at
         found_by
         (mine meet).ntlm session.first.key session.first.key_length session.sent session.ticket_length session_key session.key_length
-        a.target)
+        a.settings.target)
         session.reply
         (by_kerberos.sends_session client_config i matching.identity_is (short meet) start_by.realms start_by.ticket session.first.at
         found_by
@@ -172,7 +172,7 @@ module _ {D P : Type 0} (meet : Meeting D P) where
         (and_false come.ip)
         ∙ by_kerberos.ends client_config i matching.identity_is (short meet) start_by.realms start_by.ticket session.first.at found_by
         (mine meet).ntlm session.first.key session.first.key_length session.sent session.ticket_length session_key session.key_length
-        a.target)
+        a.settings.target)
     leads_k (suc (suc n)) less = absurd (omega (arith, less))
 
     accepts_first_k :

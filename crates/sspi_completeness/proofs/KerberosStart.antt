@@ -64,7 +64,7 @@ module _ {D P : Type 0} (meet : Meeting D P) where
     abbrev pub opening : Values
     opening = by_kerberos.opening client_config i matching.identity_is (short meet) start.realms start.ticket first.at found
         (mine meet).ntlm first.key
-        first.key_length a.target
+        first.key_length a.settings.target
 
     abbrev pub first_question : NetworkRequest
     first_question = by_kerberos.first_question client_config i matching.identity_is (short meet) start.realms start.ticket first.at
@@ -85,7 +85,7 @@ module _ {D P : Type 0} (meet : Meeting D P) where
         (hands.Kerberos (kerberos_with start.realms.kdc_url start.realms.kdcs start.ticket))) both_may
         ∙ by_kerberos.begins client_config i matching.identity_is (short meet) start.realms start.ticket first.at found (mine meet).ntlm
         first.key
-        first.key_length a.target
+        first.key_length a.settings.target
 
     pub first_leads : Leads (told kdc_first) (calls kdc_first)
         (runs (spnego_client come.ip ((v_of meet) (hand_of (new meet)) (mine meet) states.Initial [] true) (first_args meet)) (new meet))
@@ -98,8 +98,8 @@ module _ {D P : Type 0} (meet : Meeting D P) where
         first.at found (mine meet).ntlm first.key first.key_length) sealed unsealed)) first.tells first_wait first.reply
         (by_kerberos.offers_it client_config i matching.identity_is (short meet) start.realms start.ticket first.at found
         (mine meet).ntlm first.key
-        first.key_length a.target)
+        first.key_length a.settings.target)
         (λ sealed unsealed. refl)
 
     abbrev pub told_token : List ℕ → StepArgs
-    told_token output = client_args (handle_of i) a.target (Some output)
+    told_token output = client_args (handle_of i) a.settings.target (Some output)

@@ -74,7 +74,7 @@ module _ {C D P : Type 0} (c : Meaning ContextSetting C) (laws : IsContext c) (k
   -- the version that it is given next, and whether that is its first turn
   abbrev peer_version : ℕ → ℕ
   peer_version zero = first_request.version
-  peer_version (suc n) = b.version
+  peer_version (suc n) = b.settings.version
 
   abbrev is_first : ℕ → Bool
   is_first zero = true
@@ -90,7 +90,7 @@ module _ {C D P : Type 0} (c : Meaning ContextSetting C) (laws : IsContext c) (k
     pub kdc_at : it.KdcAt n kdc
 
   record ClientLast (x : CView) : Type 0 where
-    pub is : ClientIs c a x b.version false AuthInfo 1 0
+    pub is : ClientIs c a x b.settings.version false AuthInfo 1 0
     pub holds : Holds c x.context (it.client_context (suc (suc j)))
 
   abbrev ClientAt : Round j → CView → D → Type 0
@@ -105,15 +105,15 @@ module _ {C D P : Type 0} (c : Meaning ContextSetting C) (laws : IsContext c) (k
   ServerHas (suc n) y = (y.context ≡ Some (it.server_context (suc n))) × (y.handle ≡ it.server_handle)
 
   record ServerNego (n : ℕ) (y : SView) : Type 0 where
-    pub is : ServerIs c b y a.version NegoToken 0 0
+    pub is : ServerIs c b y a.settings.version NegoToken 0 0
     pub has : ServerHas n y
 
   record ServerKeyed (y : SView) : Type 0 where
-    pub is : ServerIs c b y a.version PubKeyInfo 0 0
+    pub is : ServerIs c b y a.settings.version PubKeyInfo 0 0
     pub holds : Holds c y.context it.peer_context
 
   record ServerLast (y : SView) : Type 0 where
-    pub is : ServerIs c b y a.version AuthInfo 1 1
+    pub is : ServerIs c b y a.settings.version AuthInfo 1 1
     pub holds : Holds c y.context it.peer_context
 
   abbrev BeforeProof : Bool → SView → Type 0
@@ -216,7 +216,7 @@ module _ {C D P : Type 0} (c : Meaning ContextSetting C) (laws : IsContext c) (k
   version_given zero = refl
   version_given (suc n) = refl
 
-  peer_speaks : (n : ℕ) → is_first n ≡ false → b.version ≡ peer_version n
+  peer_speaks : (n : ℕ) → is_first n ≡ false → b.settings.version ≡ peer_version n
   peer_speaks zero first = absurd cc
   peer_speaks (suc n) first = refl
 
@@ -237,16 +237,16 @@ module _ {C D P : Type 0} (c : Meaning ContextSetting C) (laws : IsContext c) (k
   client_token n x mid kdc kdc2 d out less at is makes =
       comes_map out _ _
       (λ r h. (
-        h.0 ∙ ap (λ (q : TsRequest). record q { version = a.version; nego_tokens = Some (it.client_step n).output }) is,
+        h.0 ∙ ap (λ (q : TsRequest). record q { version = a.settings.version; nego_tokens = Some (it.client_step n).output }) is,
         record {
-          is = client_emptied c a mid b.version false NegoToken 0 0 h.1;
+          is = client_emptied c a mid b.settings.version false NegoToken 0 0 h.1;
           has = (held_is c laws mid.context _ h.2 h.1.sealed_is h.1.unsealed_is, h.3);
           kdc_at = h.4;
         },
       ))
       (client.token_turn c laws k a x (peer_version n) (is_first n) kdc d (it.client_step n) (it.client_context (suc n)) it.client_handle
       (it.KdcAt (suc n))
-      (client_given n x kdc d (omega (arith, less)) at is) b.version out mid kdc2 (it.client_goes n less)
+      (client_given n x kdc d (omega (arith, less)) at is) b.settings.version out mid kdc2 (it.client_goes n less)
       (peer_speaks n) alike.client_takes makes)
 
   client_proof : (x mid : CView) (kdc kdc2 : D) (d : TsRequest) (out : Outcome) → ClientNego (suc j) x kdc → d ≡ carried (down_of j) →
@@ -255,45 +255,49 @@ module _ {C D P : Type 0} (c : Meaning ContextSetting C) (laws : IsContext c) (k
       comes_map out _ _
       (λ r h. (
         h.0 ∙ ap (λ (q : TsRequest). record q {
-          version = a.version;
+          version = a.settings.version;
           nego_tokens = unless_empty (it.client_step (suc j)).output;
-          client_nonce = Some a.nonce;
-          pub_key_auth = Some (it.ups 0 (prescribed endpoint.Client b.version a.nonce a.public_key));
+          client_nonce = Some a.settings.nonce;
+          pub_key_auth = Some (it.ups 0 (prescribed endpoint.Client b.settings.version a.settings.nonce a.settings.public_key));
         }) is,
         record {
-          is = client_emptied c a mid b.version false AuthInfo 1 0 h.1;
+          is = client_emptied c a mid b.settings.version false AuthInfo 1 0 h.1;
           holds = record { held = h.2.held; there = h.2.there; same = h.2.same };
         },
       ))
-      (client.proof_turn c laws k a x b.version false kdc d (it.client_step (suc j)) (it.client_context (suc (suc j))) it.client_handle
+      (client.proof_turn c laws k a x b.settings.version false kdc d
+      (it.client_step (suc j)) (it.client_context (suc (suc j))) it.client_handle
       (it.KdcAt (suc (suc j)))
       (client_given (suc j) x kdc d (omega arith) at is) it.ups it.client_maker refl out mid kdc2 it.client_ends makes)
 
   -- both ends owe the same proofs
-  same_text : (end : EndpointType) → prescribed end b.version a.nonce a.public_key ≡ prescribed end a.version
-      (nonce_of nonce_sent) b.public_key
+  same_text : (end : EndpointType) →
+      prescribed end b.settings.version a.settings.nonce a.settings.public_key ≡ prescribed end a.settings.version
+      (nonce_of nonce_sent) b.settings.public_key
   same_text end =
-      sym (same_proof end a.version b.version (nonce_of nonce_sent) a.nonce a.public_key alike.versions (carried_nonce a.version a.nonce))
-      ∙ ap (prescribed end a.version (nonce_of nonce_sent)) (sym alike.key_same)
+      sym (same_proof end a.settings.version b.settings.version (nonce_of nonce_sent) a.settings.nonce a.settings.public_key alike.versions
+      (carried_nonce a.settings.version a.settings.nonce))
+      ∙ ap (prescribed end a.settings.version (nonce_of nonce_sent)) (sym alike.key_same)
 
   client_delivery : (x mid : CView) (kdc kdc2 : D) (d : TsRequest) (out : Outcome) → ClientLast x → d ≡ carried answer_of →
       ClientMakes c k x kdc d out mid kdc2 → Comes out (λ r. r ≡ last_of)
   client_delivery x mid kdc kdc2 d out at is makes =
       comes_map out _ _
       (λ r h. h ∙ ap (λ (q : TsRequest). record q {
-        version = a.version;
+        version = a.settings.version;
         nego_tokens = None;
         pub_key_auth = None;
         auth_info = Some (it.ups 1 text);
       }) is)
-      (client_last.last_turn c k a x b.version d (it.client_context (suc (suc j))) it.ups it.downs text (record {
+      (client_last.last_turn c k a x b.settings.version d (it.client_context (suc (suc j))) it.ups it.downs text (record {
         is = at.is;
         holds = at.holds;
         maker = it.client_maker;
         taker = it.client_taker;
         version = ap (λ (r : TsRequest). r.version) is;
         code = is_no_code d (ap (λ (r : TsRequest). r.error_code) is
-            ∙ no_code (carries_code b.version) answer_of.error_code (answer_code c laws k p a b kdc_first j early it text identity alike));
+            ∙ no_code (carries_code b.settings.version) answer_of.error_code
+            (answer_code c laws k p a b kdc_first j early it text identity alike));
         proof = ap (λ (r : TsRequest). r.pub_key_auth) is ∙ ap (λ (p : List ℕ). Some (it.downs 0 p)) (sym (same_text endpoint.Server));
         text_is = alike.text_is;
         begins = it.client_begins;
@@ -331,9 +335,9 @@ module _ {C D P : Type 0} (c : Meaning ContextSetting C) (laws : IsContext c) (k
   takes_some y step z handle [] takes = record { done = takes.done; never = takes.never }
   takes_some y step z handle (x ∷ token) takes = takes
 
-  server_given : (n : ℕ) (y : SView) (d : TsRequest) → ServerNego n y → d.version ≡ a.version →
+  server_given : (n : ℕ) (y : SView) (d : TsRequest) → ServerNego n y → d.version ≡ a.settings.version →
       Takes c laws p y d.nego_tokens (it.server_step n) (it.server_context (suc n)) it.server_handle →
-      server.NegoGiven c laws p b y a.version d (it.server_step n) (it.server_context (suc n)) it.server_handle
+      server.NegoGiven c laws p b y a.settings.version d (it.server_step n) (it.server_context (suc n)) it.server_handle
   server_given n y d at version takes = record { is = at.is; takes = takes; version = version; begins = it.server_begins }
 
   server_token : (n : ℕ) (y mid : SView) (d : TsRequest) (out : Outcome) → n < last_step early j → ServerNego n y → d ≡ carried (up_of n) →
@@ -342,18 +346,18 @@ module _ {C D P : Type 0} (c : Meaning ContextSetting C) (laws : IsContext c) (k
   server_token n y mid d out less at is tells still calm makes =
       comes_map out _ _
       (λ r h. (
-        h.0 ∙ ap (λ (q : TsRequest). record q { version = b.version; nego_tokens = Some (it.server_step n).output }) is,
+        h.0 ∙ ap (λ (q : TsRequest). record q { version = b.settings.version; nego_tokens = Some (it.server_step n).output }) is,
         record {
-          is = server_emptied c b mid a.version NegoToken 0 0 h.1;
+          is = server_emptied c b mid a.settings.version NegoToken 0 0 h.1;
           has = (held_is c laws mid.context _ h.2 h.1.sealed_is h.1.unsealed_is, h.3);
         },
       ))
-      (server.token_turn c laws p b y a.version d (it.server_step n) (it.server_context (suc n)) it.server_handle
+      (server.token_turn c laws p b y a.settings.version d (it.server_step n) (it.server_context (suc n)) it.server_handle
       (server_given n y d at (ap (λ (r : TsRequest). r.version) is)
       (takes_at n y d (omega (arith, less)) at tells (ap (λ (r : TsRequest). r.nego_tokens) is)))
       out mid (it.server_goes n less) still calm makes)
 
-  proof_given : (d : TsRequest) → d ≡ carried proof_of → proofs.ProofGiven c laws p b a.version d it.peer_context it.downs it.ups
+  proof_given : (d : TsRequest) → d ≡ carried proof_of → proofs.ProofGiven c laws p b a.settings.version d it.peer_context it.downs it.ups
   proof_given d is =
       let nonce : d.client_nonce ≡ nonce_sent = ap (λ (r : TsRequest). r.client_nonce) is in
       record {
@@ -361,26 +365,27 @@ module _ {C D P : Type 0} (c : Meaning ContextSetting C) (laws : IsContext c) (k
         taker = it.server_taker;
         proof = ap (λ (r : TsRequest). r.pub_key_auth) is
             ∙ ap (λ (p : List ℕ). Some (it.ups 0 p)) (same_text endpoint.Client ∙ ap
-            (λ (n : Option (List ℕ)). prescribed endpoint.Client a.version (nonce_of n) b.public_key) (sym nonce));
-        nonce = rw nonce (nonce_there a.version a.nonce);
+            (λ (n : Option (List ℕ)). prescribed endpoint.Client a.settings.version (nonce_of n) b.settings.public_key) (sym nonce));
+        nonce = rw nonce (nonce_there a.settings.version a.settings.nonce);
       }
 
   abbrev answered : TsRequest → TsRequest
   answered d = record d {
-    version = b.version;
+    version = b.settings.version;
     nego_tokens = None;
-    pub_key_auth = Some (it.downs 0 (prescribed endpoint.Server a.version (nonce_of d.client_nonce) b.public_key));
+    pub_key_auth = Some (it.downs 0 (prescribed endpoint.Server a.settings.version (nonce_of d.client_nonce) b.settings.public_key));
   }
 
-  keyed_last : (mid : SView) → ServerIs c b mid a.version AuthInfo 1 1 → Holds c mid.context it.peer_context →
+  keyed_last : (mid : SView) → ServerIs c b mid a.settings.version AuthInfo 1 1 → Holds c mid.context it.peer_context →
       ServerLast (record mid { output = [] })
   keyed_last mid is holds = record {
-    is = server_emptied c b mid a.version AuthInfo 1 1 is;
+    is = server_emptied c b mid a.settings.version AuthInfo 1 1 is;
     holds = record { held = holds.held; there = holds.there; same = holds.same };
   }
 
   -- what a server that has its peer's name makes of a proof
-  answer_more : (mid : SView) (d r : TsRequest) → d ≡ carried proof_of → (r ≡ answered d) × ServerIs c b mid a.version AuthInfo 1 1 ×
+  answer_more : (mid : SView) (d r : TsRequest) → d ≡ carried proof_of →
+      (r ≡ answered d) × ServerIs c b mid a.settings.version AuthInfo 1 1 ×
       Holds c mid.context it.peer_context →
       (r ≡ answer_of) × ServerLast (record mid { output = [] })
   answer_more mid d r is h = (h.0 ∙ ap answered is, keyed_last mid h.1 h.2)
@@ -408,13 +413,13 @@ module _ {C D P : Type 0} (c : Meaning ContextSetting C) (laws : IsContext c) (k
       let m : last_step early j ≡ n = ap (λ (x : Bool). last_step x j) when ∙ sym is_last in
       comes_map out _ _
       (λ r h. (
-        h.0 ∙ ap (λ (q : TsRequest). record q { version = b.version; nego_tokens = Some (it.server_step n).output }) is,
+        h.0 ∙ ap (λ (q : TsRequest). record q { version = b.settings.version; nego_tokens = Some (it.server_step n).output }) is,
         record {
-          is = server_emptied c b mid a.version PubKeyInfo 0 0 h.1;
+          is = server_emptied c b mid a.settings.version PubKeyInfo 0 0 h.1;
           holds = record { held = h.2.held; there = h.2.there; same = h.2.same };
         },
       ))
-      (proofs.over_turn c laws p b y a.version d (it.server_step n) (it.server_context (suc n)) it.peer_context it.server_handle
+      (proofs.over_turn c laws p b y a.settings.version d (it.server_step n) (it.server_context (suc n)) it.peer_context it.server_handle
       (server_given n y d at (ap (λ (r : TsRequest). r.version) is)
       (takes_at n y d (omega (arith, m)) at tells (ap (λ (r : TsRequest). r.nego_tokens) is)))
       (peer_at y n m tells) (over_at n m)
@@ -432,7 +437,7 @@ module _ {C D P : Type 0} (c : Meaning ContextSetting C) (laws : IsContext c) (k
       Comes out (λ r. (r ≡ answer_of) × ServerLast (record mid { output = [] }))
   answers_proof true when y mid d out at is tells still calm makes =
       comes_map out _ _ (λ r h. answer_more mid d r is h)
-      (proofs.proof_turn c laws p b y a.version d it.peer_context it.downs it.ups (proof_given d is) at.is at.holds
+      (proofs.proof_turn c laws p b y a.settings.version d it.peer_context it.downs it.ups (proof_given d is) at.is at.holds
       (ap (λ (r : TsRequest). r.version) is)
       out mid makes)
   answers_proof false when y mid d out at is tells still calm makes =
@@ -442,7 +447,7 @@ module _ {C D P : Type 0} (c : Meaning ContextSetting C) (laws : IsContext c) (k
       (it.server_context (suc (suc j))) it.server_handle) (sym token)
       (takes_some y _ _ it.server_handle (it.client_step (suc j)).output (it.takes j y (omega (arith, m)) at.is.same at.has.0 at.has.1)) in
       comes_map out _ _ (λ r h. answer_more mid d r is h)
-      (proofs.exchange_turn c laws p b y a.version d (it.server_step (suc j))
+      (proofs.exchange_turn c laws p b y a.settings.version d (it.server_step (suc j))
       (it.server_context (suc (suc j))) it.peer_context it.server_handle
       (server_given (suc j) y d at (ap (λ (r : TsRequest). r.version) is) takes) (peer_at y (suc j) m tells)
       (over_at (suc j) m) it.downs it.ups (proof_given d is)
@@ -465,7 +470,7 @@ module _ {C D P : Type 0} (c : Meaning ContextSetting C) (laws : IsContext c) (k
   server_ends (Token n rest e) y mid d out last at is makes = absurd cc
   server_ends Proof y mid d out last at is makes = absurd cc
   server_ends Last y mid d out last at is makes =
-      server_last.last_turn c laws p b y a.version d it.peer_context it.ups text identity (record {
+      server_last.last_turn c laws p b y a.settings.version d it.peer_context it.ups text identity (record {
         is = at.is;
         holds = at.holds;
         taker = it.server_taker;
@@ -499,7 +504,7 @@ module _ {C D P : Type 0} (c : Meaning ContextSetting C) (laws : IsContext c) (k
     ClientAt = ClientAt;
     ServerAt = ServerAt;
     client_start = record { is = fresh_client c a first_request.version client_new; has = client_new.context; kdc_at = it.kdc_start };
-    server_start = record { is = fresh_server c b a.version alike.server_takes server_new; has = server_new.context };
+    server_start = record { is = fresh_server c b a.settings.version alike.server_takes server_new; has = server_new.context };
     client_goes = client_goes;
     server_goes = server_goes;
     server_ends = server_ends;

@@ -15,7 +15,6 @@ use Rattle.sspi_mech.specs.Meaning.{Meaning}
 use Rattle.sspi_credssp.specs.declared.public_key.EndpointType.TheVariants as endpoint
 use Rattle.sspi_credssp.specs.Begun.{BeginCause}
 use Rattle.sspi_credssp.specs.Client.{ClientView}
-use Rattle.sspi_credssp.specs.ClientTurn.{SameClient}
 use Rattle.sspi_credssp.specs.Context.{ContextSetting, ForClient}
 use Rattle.sspi_credssp.specs.Credentials.{delegated_text, delegated_identity}
 use Rattle.sspi_credssp.specs.PublicKey.{prescribed}
@@ -23,7 +22,6 @@ use Rattle.sspi_credssp.specs.Requests.{nonce_of, unless_empty}
 use Rattle.sspi_credssp.specs.Proxy.{ProxyMeaning}
 use Rattle.sspi_credssp.specs.ServerCause.{MakeCause}
 use Rattle.sspi_credssp.specs.Server.{ServerView}
-use Rattle.sspi_credssp.specs.ServerTurn.{SameServer}
 use Rattle.sspi_credssp.specs.Shown.{IsOver}
 use Rattle.sspi_delegate.specs.Asking.{KdcCalls}
 use Rattle.sspi_completeness.proofs.Accepting.{IsPeer, Takes}
@@ -34,15 +32,15 @@ use Rattle.sspi_completeness.proofs.Lengths.{size_of, no_code}
 
 -- What the ends of every mode have: one key and one kind of proof, and credentials with a text that delegates this identity.
 pub record AreAlike {C P : Type 0} (a : ClientView C) (b : ServerView C P) (text : List ℕ) (identity : AuthIdentity) : Type 0 where
-  pub key_same : b.public_key ≡ a.public_key
-  pub key_short : length a.public_key ≤ 262144
-  pub versions : nat_lt a.version 5 ≡ nat_lt b.version 5
-  pub client_takes : nat_lt b.version a.least ≡ false
-  pub server_takes : nat_lt a.version b.least ≡ false
-  pub client_version : a.version < 2 ^ 32
-  pub server_version : b.version < 2 ^ 32
-  pub nonce : length a.nonce ≡ 32
-  pub text_is : delegated_text a.credentials a.delegation ≡ Ok text
+  pub key_same : b.settings.public_key ≡ a.settings.public_key
+  pub key_short : length a.settings.public_key ≤ 262144
+  pub versions : nat_lt a.settings.version 5 ≡ nat_lt b.settings.version 5
+  pub client_takes : nat_lt b.settings.version a.settings.least ≡ false
+  pub server_takes : nat_lt a.settings.version b.settings.least ≡ false
+  pub client_version : a.settings.version < 2 ^ 32
+  pub server_version : b.settings.version < 2 ^ 32
+  pub nonce : length a.settings.nonce ≡ 32
+  pub text_is : delegated_text a.settings.credentials a.settings.delegation ≡ Ok text
   pub text_short : length text ≤ 294972
   pub delegates : delegated_identity text ≡ Ok identity
 
@@ -68,20 +66,20 @@ module _ {C D P : Type 0} (c : Meaning ContextSetting C) (laws : IsContext c) (k
     pub peer_context : C
     pub ups : ℕ → List ℕ → List ℕ
     pub downs : ℕ → List ℕ → List ℕ
-    pub client_begins : (kind : ErrorKind) → BeginCause c (ForClient a.mode) Outbound (Some a.credentials) kind → ⊥
+    pub client_begins : (kind : ErrorKind) → BeginCause c (ForClient a.settings.mode) Outbound (Some a.settings.credentials) kind → ⊥
     pub server_begins : (before now : P) (kind : ErrorKind) → p.faults now ≡ p.faults before → p.faults before < 2 ^ 64 - 1 →
-        MakeCause c p b.mode before now kind → ⊥
+        MakeCause c p b.settings.mode before now kind → ⊥
     pub kdc_start : KdcAt 0 kdc_first
-    pub walks_first : (old : ClientView C) (kdc : D) → SameClient c a old → old.context ≡ None → KdcAt 0 kdc →
+    pub walks_first : (old : ClientView C) (kdc : D) → old.settings ≡ a.settings → old.context ≡ None → KdcAt 0 kdc →
         Walks c laws k old kdc None (client_step 0) (client_context 1) client_handle (KdcAt 1)
-    pub walks : (n : ℕ) (old : ClientView C) (kdc : D) → n ≤ j → SameClient c a old → old.context ≡ Some (client_context (suc n)) →
+    pub walks : (n : ℕ) (old : ClientView C) (kdc : D) → n ≤ j → old.settings ≡ a.settings → old.context ≡ Some (client_context (suc n)) →
         old.handle ≡ client_handle →
         KdcAt (suc n) kdc →
         Walks c laws k old kdc (Some (server_step n).output) (client_step (suc n)) (client_context (suc (suc n))) client_handle
         (KdcAt (suc (suc n)))
-    pub takes_first : (old : ServerView C P) → SameServer c b old → p.told old.proxy ≡ p.told b.proxy → old.context ≡ None →
+    pub takes_first : (old : ServerView C P) → old.settings ≡ b.settings → p.told old.proxy ≡ p.told b.proxy → old.context ≡ None →
         Takes c laws p old (Some (client_step 0).output) (server_step 0) (server_context 1) server_handle
-    pub takes : (n : ℕ) (old : ServerView C P) → suc n ≤ last_step early j → SameServer c b old →
+    pub takes : (n : ℕ) (old : ServerView C P) → suc n ≤ last_step early j → old.settings ≡ b.settings →
         old.context ≡ Some (server_context (suc n)) →
         old.handle ≡ server_handle →
         Takes c laws p old (Some (client_step (suc n)).output) (server_step (suc n)) (server_context (suc (suc n))) server_handle
@@ -146,24 +144,24 @@ module _ {C D P : Type 0} (c : Meaning ContextSetting C) (laws : IsContext c) (k
   abbrev pub given_token : ℕ → TsRequest
   given_token zero = first_request
   given_token (suc n) = carried (record (carried (record (given_token n)
-      { version = a.version; nego_tokens = Some (it.client_step n).output })) {
-        version = b.version;
+      { version = a.settings.version; nego_tokens = Some (it.client_step n).output })) {
+        version = b.settings.version;
         nego_tokens = Some (it.server_step n).output;
       })
 
   -- the client's token of a number and the server's answer
   abbrev pub up_token : ℕ → TsRequest
-  up_token n = record (given_token n) { version = a.version; nego_tokens = Some (it.client_step n).output }
+  up_token n = record (given_token n) { version = a.settings.version; nego_tokens = Some (it.client_step n).output }
 
   abbrev pub down_token : ℕ → TsRequest
-  down_token n = record (carried (up_token n)) { version = b.version; nego_tokens = Some (it.server_step n).output }
+  down_token n = record (carried (up_token n)) { version = b.settings.version; nego_tokens = Some (it.server_step n).output }
 
   abbrev pub proof_message : TsRequest
   proof_message = record (carried (down_token j)) {
-    version = a.version;
+    version = a.settings.version;
     nego_tokens = unless_empty (it.client_step (suc j)).output;
-    client_nonce = Some a.nonce;
-    pub_key_auth = Some (it.ups 0 (prescribed endpoint.Client b.version a.nonce a.public_key));
+    client_nonce = Some a.settings.nonce;
+    pub_key_auth = Some (it.ups 0 (prescribed endpoint.Client b.settings.version a.settings.nonce a.settings.public_key));
   }
 
   abbrev pub sent_nonce : Option (List ℕ)
@@ -171,14 +169,14 @@ module _ {C D P : Type 0} (c : Meaning ContextSetting C) (laws : IsContext c) (k
 
   abbrev pub answer_message : TsRequest
   answer_message = record (carried proof_message) {
-    version = b.version;
+    version = b.settings.version;
     nego_tokens = None;
-    pub_key_auth = Some (it.downs 0 (prescribed endpoint.Server a.version (nonce_of sent_nonce) b.public_key));
+    pub_key_auth = Some (it.downs 0 (prescribed endpoint.Server a.settings.version (nonce_of sent_nonce) b.settings.public_key));
   }
 
   abbrev pub last_message : TsRequest
   last_message = record (carried answer_message) {
-    version = a.version;
+    version = a.settings.version;
     nego_tokens = None;
     pub_key_auth = None;
     auth_info = Some (it.ups 1 text);
@@ -209,11 +207,11 @@ module _ {C D P : Type 0} (c : Meaning ContextSetting C) (laws : IsContext c) (k
   taken_only n = carried_only (up_token n) (up_only n)
 
   pub up_fits : (n : ℕ) → n ≤ j → IsMessage (up_token n)
-  up_fits n within = token_fits (given_token n) a.version (it.client_step n).output (given_only n) alike.client_version
+  up_fits n within = token_fits (given_token n) a.settings.version (it.client_step n).output (given_only n) alike.client_version
       (it.client_short n (omega (arith, within)))
 
   pub down_fits : (n : ℕ) → n ≤ j → IsMessage (down_token n)
-  down_fits n within = token_fits (carried (up_token n)) b.version (it.server_step n).output (taken_only n) alike.server_version
+  down_fits n within = token_fits (carried (up_token n)) b.settings.version (it.server_step n).output (taken_only n) alike.server_version
       (it.server_short n within)
 
   proof_code : proof_message.error_code ≡ None
@@ -224,36 +222,37 @@ module _ {C D P : Type 0} (c : Meaning ContextSetting C) (laws : IsContext c) (k
       let only = given_only (suc j) in
       let token = unless_size (it.client_step (suc j)).output in
       let short = it.client_short (suc j) (omega arith) in
-      let blob = it.ups_short 0 (prescribed endpoint.Client b.version a.nonce a.public_key) in
-      let proof = prescribed_length endpoint.Client b.version a.nonce a.public_key alike.key_short in
+      let blob = it.ups_short 0 (prescribed endpoint.Client b.settings.version a.settings.nonce a.settings.public_key) in
+      let proof = prescribed_length endpoint.Client b.settings.version a.settings.nonce a.settings.public_key alike.key_short in
       let credentials = none_size proof_message.auth_info only.credentials in
       is_message proof_message alike.client_version proof_code alike.nonce
       (omega (arith, token, short, blob, proof, credentials, alike.nonce))
 
   answer_nonce : IsNonce answer_message.client_nonce
-  answer_nonce = nonce_kept (carries_nonce a.version) (Some a.nonce) alike.nonce
+  answer_nonce = nonce_kept (carries_nonce a.settings.version) (Some a.settings.nonce) alike.nonce
 
   pub answer_code : answer_message.error_code ≡ None
-  answer_code = no_code (carries_code a.version) proof_message.error_code proof_code
+  answer_code = no_code (carries_code a.settings.version) proof_message.error_code proof_code
 
-  server_key_short : length b.public_key ≤ 262144
+  server_key_short : length b.settings.public_key ≤ 262144
   server_key_short = omega (arith, ap length alike.key_same, alike.key_short)
 
   pub answer_fits : IsMessage answer_message
   answer_fits =
       let only = given_only (suc j) in
-      let blob = it.downs_short 0 (prescribed endpoint.Server a.version (nonce_of sent_nonce) b.public_key) in
-      let proof = prescribed_length endpoint.Server a.version (nonce_of sent_nonce) b.public_key server_key_short in
+      let blob = it.downs_short 0 (prescribed endpoint.Server a.settings.version (nonce_of sent_nonce) b.settings.public_key) in
+      let proof = prescribed_length endpoint.Server a.settings.version (nonce_of sent_nonce) b.settings.public_key server_key_short in
       let size = nonce_size answer_message.client_nonce answer_nonce in
       let credentials = none_size answer_message.auth_info only.credentials in
       is_message answer_message alike.server_version answer_code answer_nonce (omega (arith, blob, proof, size, credentials))
 
   last_nonce : IsNonce last_message.client_nonce
-  last_nonce = nonce_kept (carries_nonce b.version) answer_message.client_nonce answer_nonce
+  last_nonce = nonce_kept (carries_nonce b.settings.version) answer_message.client_nonce answer_nonce
 
   pub last_fits : IsMessage last_message
   last_fits =
       let blob = it.ups_short 1 text in
       let size = nonce_size last_message.client_nonce last_nonce in
-      is_message last_message alike.client_version (no_code (carries_code b.version) answer_message.error_code answer_code) last_nonce
+      is_message last_message alike.client_version
+      (no_code (carries_code b.settings.version) answer_message.error_code answer_code) last_nonce
       (omega (arith, blob, alike.text_short, size))

@@ -106,11 +106,11 @@ module _ {K : Type 0} (k : Meaning Setting K) where
   pub stepped_once : (laws : IsContext meaning) (begun : NtlmState → Type 0) (start : ClientView (SspiContext NtlmState K))
       (handle : Option CredentialsBuffers)
       (token : Option (List ℕ)) (tries : ℕ) (log : List Asked) (answer : Answer) (m : SspiContext NtlmState K) →
-      ((m0 : SspiContext NtlmState K) → Begun meaning start.context start.handle (ForClient start.mode) Outbound
-      (Some start.credentials) handle m0 → IfNtlm m0 begun) →
-      Walked meaning start handle token tries log answer m → Stepped begun (client_args handle start.target token) answer m
+      ((m0 : SspiContext NtlmState K) → Begun meaning start.context start.handle (ForClient start.settings.mode) Outbound
+      (Some start.settings.credentials) handle m0 → IfNtlm m0 begun) →
+      Walked meaning start handle token tries log answer m → Stepped begun (client_args handle start.settings.target token) answer m
   stepped_once laws begun start handle token tries log answer m begins (stepped m0 m1 a b steps) =
-      step_at begun (client_args handle start.target token) answer m0 m (begins m0 b) steps
+      step_at begun (client_args handle start.settings.target token) answer m0 m (begins m0 b) steps
   stepped_once laws begun start handle token tries log answer m begins (resumed m1 m2 tried before q reply a walked resumes) =
       absurd (stepped_once laws begun start handle token tried before (Ask q) m1 begins walked).steps
   stepped_once laws begun start handle token tries log answer m begins (still_asked m1 m2 tried before q reply error walked resumes waits) =

@@ -97,10 +97,10 @@ module _ {D P : Type 0} (meet : Meeting D P) where
         first_object.1
         ∙ by_ntlm.begins client_config i matching.identity_is (short meet) suits.no_guest (challenge_of come.server_hand)
         suits.challenge left
-        a.target own
+        a.settings.target own
 
     abbrev given : List ℕ → StepArgs
-    given output = client_args (handle_of i) a.target (Some output)
+    given output = client_args (handle_of i) a.settings.target (Some output)
 
     abbrev client_steps : ℕ → Step
     client_steps zero = record { status = statuses.ContinueNeeded; output = init_text Ntlm true }
@@ -152,9 +152,9 @@ module _ {D P : Type 0} (meet : Meeting D P) where
             (object_first x Ntlm client_config.client_computer_name (by_ntlm.sent own)) ≡
             Ends (client_values_at 1) (client_steps 1) (client_objects 1)
         at true = by_ntlm.answers_pick client_config i matching.identity_is (short meet) suits.no_guest (challenge_of come.server_hand)
-            suits.challenge Ntlm false a.target own
+            suits.challenge Ntlm false a.settings.target own
         at false = by_ntlm.answers_pick client_config i matching.identity_is (short meet) suits.no_guest (challenge_of come.server_hand)
-            suits.challenge Ntlm left a.target own
+            suits.challenge Ntlm left a.settings.target own
 
     leads : (n : ℕ) → n ≤ 1 → Leads (told kdc_first) (calls kdc_first)
         (runs (spnego_client come.ip (named_by (client_values_at n) (client_objects n)) (given (server_steps n).output)) (client_objects n))
@@ -164,7 +164,7 @@ module _ {D P : Type 0} (meet : Meeting D P) where
         (led_ntlm client_config i matching.identity_is come.ip states.VerifyMic (offer Ntlm true) true (given (server_steps 1).output)
         (client_objects 1) refl refl
         ∙ by_ntlm.ends client_config i matching.identity_is (short meet) suits.no_guest (challenge_of come.server_hand) suits.challenge Ntlm
-        a.target own)
+        a.settings.target own)
     leads (suc (suc n)) less = absurd (omega (arith, less))
 
     accepts : (n : ℕ) → suc n ≤ 1 →

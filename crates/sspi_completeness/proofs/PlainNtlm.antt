@@ -37,17 +37,15 @@ use Rattle.sspi_credssp.specs.declared.mode.ClientMode.TheVariants as client_mod
 use Rattle.sspi_credssp.specs.declared.mode.ServerMode.{ServerMode}
 use Rattle.sspi_credssp.specs.declared.mode.ServerMode.TheVariants as server_mode
 use Rattle.sspi_credssp.specs.Begun.{Begun, BeginCause, unmade, unacquired}
-use Rattle.sspi_credssp.specs.Client.{ClientView}
-use Rattle.sspi_credssp.specs.ClientTurn.{SameClient}
+use Rattle.sspi_credssp.specs.Client.{ClientSettings, ClientView}
 use Rattle.sspi_credssp.specs.Context.{ContextSetting, ForClient, ForServer, either, has_password}
 use Rattle.sspi_credssp.specs.Counts.{cleared}
 use Rattle.sspi_credssp.specs.Proxy.{ProxyMeaning, AreFound}
 use Rattle.sspi_credssp.specs.Requests.{token_of}
-use Rattle.sspi_credssp.specs.Server.{ServerView}
+use Rattle.sspi_credssp.specs.Server.{ServerSettings, ServerView}
 use Rattle.sspi_credssp.specs.ServerCause.{MakeCause, unlisted, unbegun, ListRefused, LookUpRefused, IdentifyCause}
 use Rattle.sspi_credssp.specs.ServerCause.{nameless, looked, unset}
 use Rattle.sspi_credssp.specs.ServerStep.{IsIdentified, is_identified, server_args, server_setting}
-use Rattle.sspi_credssp.specs.ServerTurn.{SameServer}
 use Rattle.sspi_delegate.specs.Asking.{KdcCalls}
 use Rattle.sspi_completeness.specs.Matching.{AreMatching}
 use Rattle.sspi_completeness.proofs.Accepting.{IsPeer, Takes}
@@ -75,8 +73,8 @@ module _ {K D P : Type 0} (k : Meaning Setting K) (laws : IsContext (either 0 nt
   walks_by : (old : ClientView C) (kdc : D) (token : Option (List ℕ)) (begun : Option CredentialsBuffers → NtlmState → Type 0)
       (y : NtlmState) (step : Step)
       (handle : Option CredentialsBuffers) →
-      ((h : Option CredentialsBuffers) (m0 : C) → Begun c old.context old.handle (ForClient old.mode) Outbound
-      (Some old.credentials) h m0 → IfNtlm k m0 (begun h)) →
+      ((h : Option CredentialsBuffers) (m0 : C) → Begun c old.context old.handle (ForClient old.settings.mode) Outbound
+      (Some old.settings.credentials) h m0 → IfNtlm k m0 (begun h)) →
       ((h : Option CredentialsBuffers) (m : NtlmState) → begun h m → client_step m.stage m h (token_of token) ≡ Goes y step) →
       ((h : Option CredentialsBuffers) (m : NtlmState) → begun h m → h ≡ handle) →
       Walks c laws calls old kdc token step (Ntlm (at_rest y)) handle NoKdc
@@ -140,7 +138,7 @@ module _ {K D P : Type 0} (k : Meaning Setting K) (laws : IsContext (either 0 nt
 
   module _ (told : Option (ℕ → NetworkRequest → Reply)) (call : ℕ) (a : ClientView C) (b : ServerView C P) (kdc_first : D)
       (matching : AreMatching p told call a b) (client_config server_config : NtlmConfig)
-      (client_is : a.mode ≡ client_mode.Ntlm client_config) (server_is : b.mode ≡ server_mode.Ntlm server_config)
+      (client_is : a.settings.mode ≡ client_mode.Ntlm client_config) (server_is : b.settings.mode ≡ server_mode.Ntlm server_config)
       (challenge_length : length server_config.challenge ≡ 8) where
     abbrev i : AuthIdentity
     i = matching.identity
@@ -207,26 +205,26 @@ module _ {K D P : Type 0} (k : Meaning Setting K) (laws : IsContext (either 0 nt
     never_begins config cr kind is (unacquired (Kerberos m) made refuses) = made
     never_begins config cr kind is (unacquired (Negotiate m) made refuses) = made
 
-    walks_first : (old : ClientView C) (kdc : D) → SameClient c a old → old.context ≡ None → NoKdc kdc →
+    walks_first : (old : ClientView C) (kdc : D) → old.settings ≡ a.settings → old.context ≡ None → NoKdc kdc →
         Walks c laws calls old kdc None (client_steps 0) (client_context 1) handle NoKdc
     walks_first old kdc same none at =
-        walks_by old kdc None (λ h m. (m ≡ client_new) × (acquired Outbound (Some a.credentials) ≡ Ok h)) client_sent
+        walks_by old kdc None (λ h m. (m ≡ client_new) × (acquired Outbound (Some a.settings.credentials) ≡ Ok h)) client_sent
         (client_steps 0) handle
-        (λ h m0 start. client_first k client_config a.credentials old.context old.handle h m0 none
-        (subst (λ (mode : ClientMode). Begun c old.context old.handle (ForClient mode) Outbound (Some a.credentials) h m0)
-        (same.mode ∙ client_is)
-        (subst (λ (cr : Credentials). Begun c old.context old.handle (ForClient old.mode) Outbound (Some cr) h m0) same.credentials start)))
+        (λ h m0 start. client_first k client_config a.settings.credentials old.context old.handle h m0 none
+        (subst (λ (mode : ClientMode). Begun c old.context old.handle (ForClient mode) Outbound (Some a.settings.credentials) h m0)
+        client_is
+        (subst (λ (s : ClientSettings). Begun c old.context old.handle (ForClient s.mode) Outbound (Some s.credentials) h m0) same start)))
         (λ h m begun. subst (λ (x : NtlmState). client_step x.stage x h [] ≡ Goes client_sent (client_steps 0)) (sym begun.0) refl)
-        (λ h m begun. acquires_buffers a.credentials i h matching.credentials_are begun.1)
+        (λ h m begun. acquires_buffers a.settings.credentials i h matching.credentials_are begun.1)
 
-    walks : (n : ℕ) (old : ClientView C) (kdc : D) → n ≤ 0 → SameClient c a old → old.context ≡ Some (client_context (suc n)) →
+    walks : (n : ℕ) (old : ClientView C) (kdc : D) → n ≤ 0 → old.settings ≡ a.settings → old.context ≡ Some (client_context (suc n)) →
         old.handle ≡ handle → NoKdc kdc →
         Walks c laws calls old kdc (Some (server_steps n).output) (client_steps (suc n)) (client_context (suc (suc n))) handle NoKdc
     walks zero old kdc less same there had at =
         walks_by old kdc (Some (challenge_message challenge)) (λ h m. (m ≡ client_sent) × (h ≡ old.handle)) client_on
         (client_steps 1) handle
-        (λ h m0 start. goes_on_as k (ForClient old.mode) old.context
-        (Some old.credentials) old.handle h m0 client_sent Outbound there start)
+        (λ h m0 start. goes_on_as k (ForClient old.settings.mode) old.context
+        (Some old.settings.credentials) old.handle h m0 client_sent Outbound there start)
         (λ h m begun. subst (λ (x : NtlmState). client_step x.stage x h (challenge_message challenge) ≡ Goes client_on (client_steps 1))
         (sym begun.0)
         (client_outcome client_sent NegotiateSent h (challenge_message challenge) challenge i matching.identity_is
@@ -249,18 +247,18 @@ module _ {K D P : Type 0} (k : Meaning Setting K) (laws : IsContext (either 0 nt
     server_never mode before now kind is (unbegun h) = never_acquires server_config _ kind
         (subst (λ (x : ServerMode). BeginCause c (ForServer x (p.told before).entries) Inbound None kind) is h)
 
-    takes_first : (old : ServerView C P) → SameServer c b old → p.told old.proxy ≡ p.told b.proxy → old.context ≡ None →
+    takes_first : (old : ServerView C P) → old.settings ≡ b.settings → p.told old.proxy ≡ p.told b.proxy → old.context ≡ None →
         Takes c laws p old (Some negotiate_message) (server_steps 0) (server_context 1) None
     takes_first old same tells none =
         takes_by old (Some negotiate_message) (λ h m. (m ≡ server_new) × (h ≡ None)) server_sent (server_steps 0) None
         (λ h m0 start. server_first k server_config _ old.context old.handle h m0 none
         (subst (λ (mode : ServerMode). Begun c old.context old.handle (ForServer mode (p.told old.proxy).entries) Inbound None h m0)
-        (same.mode ∙ server_is) start))
+        (ap (λ (s : ServerSettings). s.mode) same ∙ server_is) start))
         (λ h m begun. subst (λ (x : NtlmState). server_step x.stage x negotiate_message ≡ Goes server_sent (server_steps 0))
         (sym begun.0) refl)
         (λ h m begun. begun.1)
 
-    takes : (n : ℕ) (old : ServerView C P) → suc n ≤ 1 → SameServer c b old → old.context ≡ Some (server_context (suc n)) →
+    takes : (n : ℕ) (old : ServerView C P) → suc n ≤ 1 → old.settings ≡ b.settings → old.context ≡ Some (server_context (suc n)) →
         old.handle ≡ None →
         Takes c laws p old (Some (client_steps (suc n)).output) (server_steps (suc n)) (server_context (suc (suc n))) None
     takes zero old less same there had =
@@ -368,9 +366,9 @@ module _ {K D P : Type 0} (k : Meaning Setting K) (laws : IsContext (either 0 nt
       peer_context = Ntlm server_keyed;
       ups = blob_of key FromClient;
       downs = blob_of key FromServer;
-      client_begins = λ kind cause. never_begins client_config a.credentials kind matching.credentials_are
-          (subst (λ (mode : ClientMode). BeginCause c (ForClient mode) Outbound (Some a.credentials) kind) client_is cause);
-      server_begins = λ before now kind still calm. server_never b.mode before now kind server_is;
+      client_begins = λ kind cause. never_begins client_config a.settings.credentials kind matching.credentials_are
+          (subst (λ (mode : ClientMode). BeginCause c (ForClient mode) Outbound (Some a.settings.credentials) kind) client_is cause);
+      server_begins = λ before now kind still calm. server_never b.settings.mode before now kind server_is;
       kdc_start = tt;
       walks_first = walks_first;
       walks = walks;

@@ -73,20 +73,20 @@ cut_short messages limit identity (Err errors.InsufficientMemory) few within set
 
 module _ {C P : Type 0} (p : ProxyMeaning P) (told : Option (ℕ → NetworkRequest → Reply)) (call : ℕ) (a : ClientView C) (b : ServerView C P)
     (matching : AreMatching p told call a b) where
-  pub delegated : HasDelegated a.delegation matching.identity
-  delegated = delegates a.delegation matching.identity matching.identity_is matching.short
+  pub delegated : HasDelegated a.settings.delegation matching.identity
+  delegated = delegates a.settings.delegation matching.identity matching.identity_is matching.short
 
-  pub alike : AreAlike a b delegated.text (delegated_as a.delegation matching.identity)
+  pub alike : AreAlike a b delegated.text (delegated_as a.settings.delegation matching.identity)
   alike = record {
     key_same = matching.key_same;
     key_short = matching.key_short;
     versions = matching.versions;
-    client_takes = le-ltb b.version a.least matching.client_takes;
-    server_takes = le-ltb a.version b.least matching.server_takes;
+    client_takes = le-ltb b.settings.version a.settings.least matching.client_takes;
+    server_takes = le-ltb a.settings.version b.settings.least matching.server_takes;
     client_version = matching.client_version;
     server_version = matching.server_version;
     nonce = matching.nonce;
-    text_is = ap (λ (cr : Credentials). delegated_text cr a.delegation) matching.credentials_are ∙ delegated.is;
+    text_is = ap (λ (cr : Credentials). delegated_text cr a.settings.delegation) matching.credentials_are ∙ delegated.is;
     text_short = delegated.short;
     delegates = delegated.holds;
   }
@@ -95,7 +95,7 @@ module _ {D P : Type 0} (told : D → Option (ℕ → NetworkRequest → Reply))
     (a : ClientView C) (b : ServerView C P) (kdc : D) (client_new : IsFreshClient a) (server_new : IsFreshServer b)
     (matching : AreMatching p (told kdc) (calls kdc) a b) where
   abbrev given : AuthIdentity
-  given = delegated_as a.delegation matching.identity
+  given = delegated_as a.settings.delegation matching.identity
 
   abbrev Known : ℕ → Type 1
   Known last = IsKnown c (kdc_calls told calls faults) p a b kdc last given
@@ -128,9 +128,9 @@ module _ {D P : Type 0} (told : D → Option (ℕ → NetworkRequest → Reply))
   counted Kerberos choices.Kerberos = refl
   counted Kerberos choices.MsKerberos = refl
 
-  known_by : (cm : ClientMode) (sm : ServerMode) → a.mode ≡ cm → b.mode ≡ sm →
-      (modes : MatchModes (told kdc) (calls kdc) a.target matching.identity cm sm) →
-      (last : ℕ) × Known last × (suc last ≡ messages_of (told kdc) (calls kdc) a.target matching.identity cm sm modes)
+  known_by : (cm : ClientMode) (sm : ServerMode) → a.settings.mode ≡ cm → b.settings.mode ≡ sm →
+      (modes : MatchModes (told kdc) (calls kdc) a.settings.target matching.identity cm sm) →
+      (last : ℕ) × Known last × (suc last ≡ messages_of (told kdc) (calls kdc) a.settings.target matching.identity cm sm modes)
   known_by (client_mode.Ntlm config) (server_mode.Ntlm config2) client_is server_is eight = (
     2,
     known_so 0 false (plain.negotiation kerberos_meaning laws (kdc_calls told calls faults) p (told kdc) (calls kdc) a b kdc matching
@@ -173,7 +173,7 @@ module _ {D P : Type 0} (told : D → Option (ℕ → NetworkRequest → Reply))
       IfOk result (λ delegation. GivesNewest c (server_end y) (server_turns turns) delegation.credentials) →
       Settled (messages_in matching) limit given result
   settled_plainly kdc2 base start now limit x y edits edits2 result turns log undisturbed ends stays still clients servers calm gives =
-      let it = known_by a.mode b.mode refl refl matching.modes in
+      let it = known_by a.settings.mode b.settings.mode refl refl matching.modes in
       subst (λ (n : ℕ). Settled n limit given result) it.2
       (settled c (kdc_calls told calls faults) p a b kdc it.0 given it.1 base start now limit x kdc2 y edits edits2 result turns log
       undisturbed ends stays still clients servers calm gives)

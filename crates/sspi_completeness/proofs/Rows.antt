@@ -149,7 +149,7 @@ module _ {D P : Type 0} (meet : Meeting D P) where
   v_of = client_values client_config i matching.identity_is
 
   abbrev pub first_args : StepArgs
-  first_args = client_args (handle_of i) a.target None
+  first_args = client_args (handle_of i) a.settings.target None
 
   pub picked : IsPick come.begins mine.ntlm come.picked
   picked = picked_by come.begins mine.ntlm ((packages_in server_config).kerberos && is_kerberos_hand (protocol_of come.server_hand))

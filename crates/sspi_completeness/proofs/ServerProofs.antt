@@ -22,7 +22,7 @@ use Rattle.sspi_credssp.specs.Exchange.{opens_other}
 use Rattle.sspi_credssp.specs.PublicKey.{prescribed}
 use Rattle.sspi_credssp.specs.Requests.{nonce_of, IsLong}
 use Rattle.sspi_credssp.specs.Proxy.{ProxyMeaning}
-use Rattle.sspi_credssp.specs.Server.{ServerView}
+use Rattle.sspi_credssp.specs.Server.{ServerSettings, ServerView}
 use Rattle.sspi_credssp.specs.ServerCause.{IdentifyCause, OverCause, unknown, incomplete, known, AfterCause, ExchangeCause}
 use Rattle.sspi_credssp.specs.ServerCause.{BlobCause, ProofCause, AnswerCause, altered, unsealed, lacks_nonce}
 use Rattle.sspi_credssp.specs.ServerStep.{Unknown, Identified, Completed}
@@ -38,7 +38,7 @@ use Rattle.sspi_delegate.specs.History.{ServerMakes}
 use Rattle.sspi_completeness.proofs.Accepting.{IsPeer, named_is, come_at}
 use Rattle.sspi_completeness.proofs.Ends.{Comes, is_false, stops_later, sealed_few, Holds, IsMaker, IsTaker, holds_still, sealed_field}
 use Rattle.sspi_completeness.proofs.Ends.{ServerIs}
-use Rattle.sspi_completeness.proofs.ServerTurns.{NegoGiven, nego_acts, same_on, stands_noted, cause_past, over_answer, over_cause}
+use Rattle.sspi_completeness.proofs.ServerTurns.{NegoGiven, nego_acts, stands_noted, cause_past, over_answer, over_cause}
 use Rattle.sspi_completeness.proofs.ServerTurns.{unused, noted_now, replies, over_left, never_finishes, refusal}
 use Rattle.sspi_completeness.proofs.Replies.{proof_back_is, token_back_is}
 
@@ -61,32 +61,32 @@ module _ {C P : Type 0} (c : Meaning ContextSetting C) (laws : IsContext c) (p :
   pub record ProofGiven (b : View) (w : ℕ) (d : TsRequest) (z : C) (own peers : ℕ → List ℕ → List ℕ) : Type 0 where
     pub maker : IsMaker c z own
     pub taker : IsTaker c z peers
-    pub proof : d.pub_key_auth ≡ Some (peers 0 (prescribed Client w (nonce_of d.client_nonce) b.public_key))
+    pub proof : d.pub_key_auth ≡ Some (peers 0 (prescribed Client w (nonce_of d.client_nonce) b.settings.public_key))
     pub nonce : lacks_nonce (nat_lt w 5) d.client_nonce ≡ false
 
   module _ (b old : View) (w : ℕ) (d : TsRequest) (z : C) (own peers : ℕ → List ℕ → List ℕ)
       (proof_given : ProofGiven b w d z own peers) where
     abbrev client_text : List ℕ
-    client_text = prescribed Client w (nonce_of d.client_nonce) b.public_key
+    client_text = prescribed Client w (nonce_of d.client_nonce) b.settings.public_key
 
     abbrev pub answer : TsRequest
     answer = record d {
-      version = b.version;
+      version = b.settings.version;
       nego_tokens = None;
-      pub_key_auth = Some (own 0 (prescribed Server w (nonce_of d.client_nonce) b.public_key));
+      pub_key_auth = Some (own 0 (prescribed Server w (nonce_of d.client_nonce) b.settings.public_key));
     }
 
     answered : (mid : View) (r : TsRequest) → ShowsProofBack (server_shown (server_frame c old mid))
         (server_turn c d (outcome.Reply r) mid) r → HoldsProofBack c (server_frame c old mid) d r → Holds c mid.context z →
         mid.noted ≡ Some w →
-        mid.public_key ≡ b.public_key → mid.version ≡ b.version → sealed_in c mid.context ≡ 1 → r ≡ answer
-    answered mid r proof held holds noted public_key version one =
+        mid.settings ≡ b.settings → sealed_in c mid.context ≡ 1 → r ≡ answer
+    answered mid r proof held holds noted same one =
         let seals = subst (λ (x : Option ℕ). AtNoted x (λ n. SealsIn c mid.context (sealed_in c mid.context - 1)
-        (prescribed Server n (nonce_of d.client_nonce) mid.public_key) r.pub_key_auth)) noted held in
+        (prescribed Server n (nonce_of d.client_nonce) mid.settings.public_key) r.pub_key_auth)) noted held in
         let field = sealed_field c mid.context z own _ _ r.pub_key_auth holds proof_given.maker seals in
-        let field_is : r.pub_key_auth ≡ Some (own 0 (prescribed Server w (nonce_of d.client_nonce) b.public_key)) =
-        field ∙ (rw (one, public_key) refl) in
-        proof_back_is (server_frame c old mid) (server_turn c d (outcome.Reply r) mid) r proof ∙ (rw (version, field_is) refl)
+        let field_is : r.pub_key_auth ≡ Some (own 0 (prescribed Server w (nonce_of d.client_nonce) b.settings.public_key)) =
+        field ∙ (rw (one, same) refl) in
+        proof_back_is (server_frame c old mid) (server_turn c d (outcome.Reply r) mid) r proof ∙ (rw (same, field_is) refl)
 
     answer_never : (m : C) (text : List ℕ) (kind : ErrorKind) → cleared c m ≡ z → (c.counts m).sealed < 2 ^ 64 - 1 →
         AnswerCause c m (peers 0 client_text) client_text text kind → ⊥
@@ -99,18 +99,19 @@ module _ {C P : Type 0} (c : Meaning ContextSetting C) (laws : IsContext c) (p :
     proof_never false m text kind same few next h = proof_given.taker.never m 0 client_text kind same (next refl) (omega arith) h
     proof_never true m text kind same few next h = answer_never m text kind same few h
 
-    exchange_never : (mid : View) (kind : ErrorKind) → Holds c mid.context z → mid.noted ≡ Some w → mid.public_key ≡ b.public_key →
+    exchange_never : (mid : View) (kind : ErrorKind) → Holds c mid.context z → mid.noted ≡ Some w → mid.settings ≡ b.settings →
         sealed_in c mid.context < 2 ^ 64 - 1 →
         (mid.acts.checked ≡ false → unsealed_in c mid.context ≡ 0) → ExchangeCause c d.pub_key_auth mid.noted d.client_nonce mid kind → ⊥
-    exchange_never mid kind holds noted public_key few next cause =
+    exchange_never mid kind holds noted same few next cause =
         let blob = peers 0 client_text in
         let at_noted = subst (λ (n : Option ℕ). ExchangeCause c (Some blob) n d.client_nonce mid kind) noted
         (subst (λ (f : Option (List ℕ)). ExchangeCause c f mid.noted d.client_nonce mid kind) proof_given.proof cause) in
         let later = stops_later _ InvalidToken kind _ (proof_given.taker.long 0 client_text)
         (stops_later _ InvalidToken kind _ proof_given.nonce at_noted) in
         let at = subst (λ (x : Option C). BlobCause c w x d.client_nonce blob mid kind) holds.there later in
-        let exact = subst (λ (p : List ℕ). ProofCause c mid.acts.checked holds.held blob (prescribed Client w (nonce_of d.client_nonce) p)
-        (prescribed Server w (nonce_of d.client_nonce) p) kind) public_key at in
+        let exact = subst (λ (s : ServerSettings). ProofCause c mid.acts.checked holds.held blob
+        (prescribed Client w (nonce_of d.client_nonce) s.public_key) (prescribed Server w (nonce_of d.client_nonce) s.public_key) kind)
+        same at in
         let sealed_here : sealed_in c mid.context ≡ (c.counts holds.held).sealed = ap (sealed_in c) holds.there in
         let opened_here : unsealed_in c mid.context ≡ (c.counts holds.held).unsealed = ap (unsealed_in c) holds.there in
         proof_never mid.acts.checked holds.held _ kind holds.same (omega (arith, few, sealed_here))
@@ -129,8 +130,8 @@ module _ {C P : Type 0} (c : Meaning ContextSetting C) (laws : IsContext c) (p :
       held_now mid bare = holds_still c old.context mid.context z (bare_at old.state _ is.state_is bare) holds
 
       noted_at : (mid : View) (m : C) → mid.context ≡ Some m →
-          (IsSome mid.context → mid.noted ≡ noted_with old.least old.noted d.version) → mid.noted ≡ Some w
-      noted_at mid m there noted = noted (rw there refl) ∙ ap (noted_with old.least old.noted) version ∙ is.notes
+          (IsSome mid.context → mid.noted ≡ noted_with old.settings.least old.noted d.version) → mid.noted ≡ Some w
+      noted_at mid m there noted = noted (rw there refl) ∙ ap (noted_with old.settings.least old.noted) version ∙ is.notes
 
       unopened : (mid : View) (out : Outcome) → ServerTurn c old d out mid → mid.acts.opened ≡ false
       unopened mid out turn = is_false mid.acts.opened (λ was. let auth = (turn.turn.shown.acts.opened was).0 in let at = is.state_is in cc)
@@ -147,9 +148,9 @@ module _ {C P : Type 0} (c : Meaning ContextSetting C) (laws : IsContext c) (p :
           let opened_one : unsealed_by mid.acts ≡ 1 = rw (proof.checked, unopened mid _ turn) refl in
           let sealed_now : sealed_in c mid.context ≡ 1 = turn.moves.sealed unstarted ∙ (rw (is.sealed_is, one) refl) in
           let noted = noted_at mid h.held h.there turn.moves.noted in
-          let same = same_on c laws p b old mid is.same turn.moves.same in
-          let still = stands_noted c laws p mid.least mid.noted w noted in (
-            answered mid r proof (turn.turn.held.reply proof.proved) h noted same.public_key same.version sealed_now,
+          let same = turn.moves.same ∙ is.same in
+          let still = stands_noted c laws p mid.settings.least mid.noted w noted in (
+            answered mid r proof (turn.turn.held.reply proof.proved) h noted same sealed_now,
             record {
               same = same;
               state_is = turn.moves.state ∙ (rw proof.proved refl);
@@ -176,7 +177,7 @@ module _ {C P : Type 0} (c : Meaning ContextSetting C) (laws : IsContext c) (p :
           let opened_before = is.unsealed_is in
           let two = sealed_few mid.acts in
           exchange_never mid makes.0.error_type h (noted_at mid h.held h.there turn.moves.noted)
-          (turn.moves.same.public_key ∙ is.same.public_key)
+          (turn.moves.same ∙ is.same)
           (omega (arith, sealed, sealed_before, two))
           (λ unchecked. let none : unsealed_by mid.acts ≡ 0 =
           rw (unchecked, unopened mid _ turn) refl in omega (arith, opened, opened_before, none)) cause
@@ -241,10 +242,10 @@ module _ {C P : Type 0} (c : Meaning ContextSetting C) (laws : IsContext c) (p :
           let opened_one : unsealed_by mid.acts ≡ 1 = rw (proof.checked, quiet.1) refl in
           let sealed_now : sealed_in c mid.context ≡ 1 = turn.moves.sealed start ∙ (rw (given.is.sealed_is, one) refl) in
           let noted = noted_now c laws p b old w d step y handle given mid h.held h.there turn.moves.noted in
-          let same = same_on c laws p b old mid given.is.same turn.moves.same in
-          let still = stands_noted c laws p mid.least mid.noted w noted in (
+          let same = turn.moves.same ∙ given.is.same in
+          let still = stands_noted c laws p mid.settings.least mid.noted w noted in (
             answered b old w d z own peers proof_given mid r proof
-                (turn.turn.held.reply proof.proved) h noted same.public_key same.version sealed_now,
+                (turn.turn.held.reply proof.proved) h noted same sealed_now,
             record {
               same = same;
               state_is = turn.moves.state ∙ (rw proof.proved refl);
@@ -279,7 +280,7 @@ module _ {C P : Type 0} (c : Meaning ContextSetting C) (laws : IsContext c) (p :
           let two = sealed_few mid.acts in
           exchange_never b old w d z own peers proof_given mid kind after.0
           (noted_now c laws p b old w d step y handle given mid after.0.held after.0.there x.turn.moves.noted)
-          (x.turn.moves.same.public_key ∙ given.is.same.public_key) (omega (arith, sealed, sealed_before, two))
+          (x.turn.moves.same ∙ given.is.same) (omega (arith, sealed, sealed_before, two))
           (λ unchecked. let none : unsealed_by mid.acts ≡ 0 = rw (unchecked, quiet.1) refl in omega (arith, opened, opened_before, none))
           (exchange_at d.pub_key_auth _ mid kind proof_given.proof after.2)
 
@@ -295,7 +296,8 @@ module _ {C P : Type 0} (c : Meaning ContextSetting C) (laws : IsContext c) (p :
 
     module _ (absent : d.pub_key_auth ≡ None) (speaks : step.output ≢ []) where
       over_replied : (mid : View) (r : TsRequest) → ServerMakes c p old d (outcome.Reply r) mid →
-          (r ≡ record d { version = b.version; nego_tokens = Some step.output }) × ServerIs c b mid w PubKeyInfo 0 0 × Holds c mid.context z
+          (r ≡ record d { version = b.settings.version; nego_tokens = Some step.output }) × ServerIs c b mid w PubKeyInfo 0 0 ×
+          Holds c mid.context z
       over_replied mid r makes =
           let turn = makes.0 in
           let frame = server_frame c old mid in
@@ -315,10 +317,10 @@ module _ {C P : Type 0} (c : Meaning ContextSetting C) (laws : IsContext c) (p :
           (λ was. subst IsLong absent (turn.turn.shown.acts.checked was).1) in
           let none_sealed : sealed_by mid.acts ≡ 0 = rw (token.0.unproved, quiet.0) refl in
           let none_opened : unsealed_by mid.acts ≡ 0 = rw (unchecked, quiet.1) refl in
-          let same = same_on c laws p b old mid given.is.same turn.moves.same in
-          let still = stands_noted c laws p mid.least mid.noted w
+          let same = turn.moves.same ∙ given.is.same in
+          let still = stands_noted c laws p mid.settings.least mid.noted w
           (noted_now c laws p b old w d step y handle given mid h.held h.there turn.moves.noted) in (
-            token_back_is frame t r token.0 ∙ (rw (same.version, left.output_is) refl),
+            token_back_is frame t r token.0 ∙ (rw (same, left.output_is) refl),
             record {
               same = same;
               state_is = turn.moves.state ∙ (rw (given.is.state_is, token.0.unproved, s.status_is) (asks_proof step.status over));
@@ -343,7 +345,8 @@ module _ {C P : Type 0} (c : Meaning ContextSetting C) (laws : IsContext c) (p :
 
       pub over_turn : (out : Outcome) (mid : View) → p.faults mid.proxy ≡ p.faults old.proxy → p.faults old.proxy < 2 ^ 64 - 1 →
           ServerMakes c p old d out mid →
-          Comes out (λ r. (r ≡ record d { version = b.version; nego_tokens = Some step.output }) × ServerIs c b mid w PubKeyInfo 0 0 ×
+          Comes out (λ r. (r ≡ record d { version = b.settings.version; nego_tokens = Some step.output }) ×
+          ServerIs c b mid w PubKeyInfo 0 0 ×
           Holds c mid.context z)
       over_turn (outcome.Reply r) mid still calm makes = over_replied mid r makes
       over_turn (outcome.Final r) mid still calm makes = absurd makes

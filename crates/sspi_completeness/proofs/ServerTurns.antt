@@ -15,10 +15,10 @@ use Rattle.sspi_credssp.specs.declared.state.CredSspState.TheVariants.{NegoToken
 use Rattle.sspi_credssp.specs.Acts.{sealed_by, unsealed_by}
 use Rattle.sspi_credssp.specs.Context.{ContextSetting}
 use Rattle.sspi_credssp.specs.Proxy.{ProxyMeaning}
-use Rattle.sspi_credssp.specs.Server.{ServerView}
+use Rattle.sspi_credssp.specs.Server.{ServerSettings, ServerView}
 use Rattle.sspi_credssp.specs.ServerCause.{ServerCause, MakeCause, StateCause, NegoCause, OverCause}
 use Rattle.sspi_credssp.specs.ServerStep.{Knowing, Unknown, Completed, DoneStep, HasCome, known_at}
-use Rattle.sspi_credssp.specs.ServerTurn.{ServerTurn, SameServer, StartsUnused, server_frame, server_turn}
+use Rattle.sspi_credssp.specs.ServerTurn.{ServerTurn, StartsUnused, server_frame, server_turn}
 use Rattle.sspi_credssp.specs.Shown.{IsOver, MayCheck, ShowsNegoBack, ShowsOver, ShowsServerActs, ShowsStateBack, server_shown}
 use Rattle.sspi_credssp.specs.Noted.{differs, is_old, noted_with}
 use Rattle.sspi_credssp.specs.Turn.{ServerFrame}
@@ -39,15 +39,6 @@ module _ {C P : Type 0} (c : Meaning ContextSetting C) (laws : IsContext c) (p :
       (t.acts.sealed ≡ false) × (t.acts.opened ≡ false)
   nego_acts frame t acts nego = (acts.sealed, is_false t.acts.opened (λ was. let s = (acts.opened was).0 in cc (s, nego)))
 
-  pub same_on : (b old mid : View) → SameServer c b old → SameServer c old mid → SameServer c b mid
-  same_on b old mid one two =
-      record {
-        public_key = two.public_key ∙ one.public_key;
-        version = two.version ∙ one.version;
-        least = two.least ∙ one.least;
-        mode = two.mode ∙ one.mode;
-      }
-
   -- the version stays noted
   pub stands_noted : (least : ℕ) (noted : Option ℕ) (w : ℕ) → noted ≡ Some w →
       (differs noted w ≡ false) × (noted_with least noted w ≡ Some w) × (is_old least noted w ≡ false)
@@ -55,11 +46,12 @@ module _ {C P : Type 0} (c : Meaning ContextSetting C) (laws : IsContext c) (p :
 
   -- a refusal is past what a turn looks at first
   pub cause_past : (b old mid : View) (w : ℕ) (d : TsRequest) (state : CredSspState) (sealed unsealed : ℕ) (kind : ErrorKind) →
-      ServerIs c b old w state sealed unsealed → d.version ≡ w → (old.context ≡ None → MakeCause c p b.mode old.proxy mid.proxy kind → ⊥) →
+      ServerIs c b old w state sealed unsealed → d.version ≡ w →
+      (old.context ≡ None → MakeCause c p b.settings.mode old.proxy mid.proxy kind → ⊥) →
       ServerCause c p old d mid kind → StateCause c p state old d mid kind
   cause_past b old mid w d state sealed unsealed kind is version begins cause =
-      let never : old.context ≡ None → MakeCause c p old.mode old.proxy mid.proxy kind → ⊥ =
-      λ none h. begins none (subst (λ x. MakeCause c p x old.proxy mid.proxy kind) is.same.mode h) in
+      let never : old.context ≡ None → MakeCause c p old.settings.mode old.proxy mid.proxy kind → ⊥ =
+      λ none h. begins none (subst (λ (s : ServerSettings). MakeCause c p s.mode old.proxy mid.proxy kind) is.same h) in
       subst (λ (s : CredSspState). StateCause c p s old d mid kind) is.state_is
       (stops_later _ MessageAltered kind _ (rw version is.fits)
       (stops_later _ DowngradeDetected kind _ (rw version is.young) (made_past old.context mid.context _ _ never cause)))
@@ -106,7 +98,7 @@ module _ {C P : Type 0} (c : Meaning ContextSetting C) (laws : IsContext c) (p :
     pub takes : Takes c laws p old d.nego_tokens step y handle
     pub version : d.version ≡ w
     pub begins : (before now : P) (kind : ErrorKind) → p.faults now ≡ p.faults before → p.faults before < 2 ^ 64 - 1 →
-        MakeCause c p b.mode before now kind → ⊥
+        MakeCause c p b.settings.mode before now kind → ⊥
 
   module _ (b old : View) (w : ℕ) (d : TsRequest) (step : Step) (y : C) (handle : Option CredentialsBuffers)
       (given : NegoGiven b old w d step y handle) where
@@ -117,8 +109,8 @@ module _ {C P : Type 0} (c : Meaning ContextSetting C) (laws : IsContext c) (p :
     unused = λ nego. unused_in c old.context given.is.sealed_is given.is.unsealed_is
 
     pub noted_now : (mid : View) (m : C) → mid.context ≡ Some m →
-        (IsSome mid.context → mid.noted ≡ noted_with old.least old.noted d.version) → mid.noted ≡ Some w
-    noted_now mid m there noted = noted (rw there refl) ∙ ap (noted_with old.least old.noted) given.version ∙ given.is.notes
+        (IsSome mid.context → mid.noted ≡ noted_with old.settings.least old.noted d.version) → mid.noted ≡ Some w
+    noted_now mid m there noted = noted (rw there refl) ∙ ap (noted_with old.settings.least old.noted) given.version ∙ given.is.notes
 
     out : (mid : View) (status : Option SecurityStatus) (r : TsRequest) →
         ShowsNegoBack (server_shown (server_frame c old mid)) (server_turn c d (outcome.Reply r) mid) status r →
@@ -183,7 +175,7 @@ module _ {C P : Type 0} (c : Meaning ContextSetting C) (laws : IsContext c) (p :
     -- ---- a token, and more to come
 
     token_replied : (mid : View) (r : TsRequest) → step.status ≡ statuses.ContinueNeeded → ServerMakes c p old d (outcome.Reply r) mid →
-        (r ≡ record d { version = b.version; nego_tokens = Some step.output }) × ServerIs c b mid w NegoToken 0 0 ×
+        (r ≡ record d { version = b.settings.version; nego_tokens = Some step.output }) × ServerIs c b mid w NegoToken 0 0 ×
         Holds c mid.context y × (mid.handle ≡ handle)
     token_replied mid r goes makes =
         let turn = makes.0 in
@@ -200,10 +192,10 @@ module _ {C P : Type 0} (c : Meaning ContextSetting C) (laws : IsContext c) (p :
         (subst (λ (x : CredSspState). MayCheck x mid.acts.status) given.is.state_is (turn.turn.shown.acts.checked was).0)) in
         let none_sealed : sealed_by mid.acts ≡ 0 = rw (unproved, quiet.0) refl in
         let none_opened : unsealed_by mid.acts ≡ 0 = rw (unchecked, quiet.1) refl in
-        let noted = stands_noted mid.least mid.noted w (noted_now mid left.held left.there turn.moves.noted) in
-        let same = same_on b old mid given.is.same turn.moves.same in (
+        let noted = stands_noted mid.settings.least mid.noted w (noted_now mid left.held left.there turn.moves.noted) in
+        let same = turn.moves.same ∙ given.is.same in (
           token_back_is (server_frame c old mid) (server_turn c d (outcome.Reply r) mid) r answer ∙
-              (rw (same.version, left.output_is) refl),
+              (rw (same, left.output_is) refl),
           record {
             same = same;
             state_is = turn.moves.state ∙ (rw (given.is.state_is, unproved, status) refl);
@@ -219,7 +211,7 @@ module _ {C P : Type 0} (c : Meaning ContextSetting C) (laws : IsContext c) (p :
 
     pub token_turn : (out : Outcome) (mid : View) → step.status ≡ statuses.ContinueNeeded → p.faults mid.proxy ≡ p.faults old.proxy →
         p.faults old.proxy < 2 ^ 64 - 1 → ServerMakes c p old d out mid →
-        Comes out (λ r. (r ≡ record d { version = b.version; nego_tokens = Some step.output }) × ServerIs c b mid w NegoToken 0 0 ×
+        Comes out (λ r. (r ≡ record d { version = b.settings.version; nego_tokens = Some step.output }) × ServerIs c b mid w NegoToken 0 0 ×
         Holds c mid.context y × (mid.handle ≡ handle))
     token_turn (outcome.Reply r) mid goes still calm makes = token_replied mid r goes makes
     token_turn (outcome.Final r) mid goes still calm makes = absurd makes

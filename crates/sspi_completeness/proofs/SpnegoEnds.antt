@@ -279,10 +279,11 @@ module _ {D : Type 0} (told : D → Option (ℕ → NetworkRequest → Reply)) (
   module _ (laws : IsContext c) (old : ClientView C) (first kdc : D) (token : Option (List ℕ)) (v v2 : Values) (m m2 : M) (step : Step)
       (handle : Option CredentialsBuffers) (call call2 : ℕ) (at : KdcIs first call kdc) (rests : at_rest m2 ≡ m2)
       (begins : (g : Option CredentialsBuffers) (m0 : C) →
-      Begun c old.context old.handle (ForClient old.mode) Outbound (Some old.credentials) g m0 → (m0 ≡ holding v m) × (g ≡ handle))
+      Begun c old.context old.handle (ForClient old.settings.mode) Outbound (Some old.settings.credentials) g m0 →
+      (m0 ≡ holding v m) × (g ≡ handle))
       (e : End) (leads : Leads (told first) call e v2 step m2 call2)
-      (ends : (ip : Bool) → (IsTrue ip ↔ IsNamedByIp (Some old.target)) →
-      runs (spnego_client ip (named_by v m) (client_args handle old.target token)) m ≡ e) where
+      (ends : (ip : Bool) → (IsTrue ip ↔ IsNamedByIp (Some old.settings.target)) →
+      runs (spnego_client ip (named_by v m) (client_args handle old.settings.target token)) m ≡ e) where
     -- how far a walk came, by whether it asked
     abbrev HasCome : List Asked → D → Answer → C → Type 0
     HasCome [] kdc2 r z = (kdc2 ≡ kdc) × (w : C) × (cleared c z ≡ cleared c w) × IsAt e r w
@@ -347,9 +348,9 @@ module _ {D : Type 0} (told : D → Option (ℕ → NetworkRequest → Reply)) (
             replies,
             z,
             refl,
-            client_at (with_values v m) (client_args handle old.target token) r z e ends decided
-                (subst (λ (x : Option CredentialsBuffers). c.steps (holding v m) (client_args x old.target token) r z) b.1
-                (subst (λ (y : C). c.steps y (client_args g old.target token) r z) b.0 steps)),
+            client_at (with_values v m) (client_args handle old.settings.target token) r z e ends decided
+                (subst (λ (x : Option CredentialsBuffers). c.steps (holding v m) (client_args x old.settings.target token) r z) b.1
+                (subst (λ (y : C). c.steps y (client_args g old.settings.target token) r z) b.0 steps)),
           ),
           b.1,
         )

@@ -85,11 +85,11 @@ module _ {K P : Type 0} (k : Meaning Setting K) (p : ProxyMeaning P) where
 
   first_step : (start : ServerView (SspiContext NtlmState K) P) (handle : Option CredentialsBuffers) (token : Option (List ℕ))
       (known : Knowing) (answer : Result Step Error)
-      (step : Step) (m : SspiContext NtlmState K) → IsPlainServer start.mode → start.context ≡ None → answer ≡ Ok step →
+      (step : Step) (m : SspiContext NtlmState K) → IsPlainServer start.settings.mode → start.context ≡ None → answer ≡ Ok step →
       Accepted (either 0 ntlm_meaning k) p start handle token known answer m →
       step.status ≡ statuses.ContinueNeeded
   first_step start handle token known answer step m plain none is (accepted m0 m1 a begun accepts) =
-      first_begun start.mode _ start.context start.handle handle m0 m (server_args handle token) step plain none begun
+      first_begun start.settings.mode _ start.context start.handle handle m0 m (server_args handle token) step plain none begun
       (subst (λ (x : Result Step Error). (either 0 ntlm_meaning k).accepts m0 (server_args handle token) x m) is accepts)
   first_step start handle token known answer step m plain none is (identified m1 m2 a before names) =
       first_step start handle token Unknown answer step m1 plain none is before
@@ -99,7 +99,7 @@ module _ {K P : Type 0} (k : Meaning Setting K) (p : ProxyMeaning P) where
       first_step start handle token known answer step m1 plain none is before
 
   first_goes_on : (start now : ServerView (SspiContext NtlmState K) P) (d : TsRequest) (status : SecurityStatus) →
-      IsPlainServer start.mode → start.context ≡ None →
+      IsPlainServer start.settings.mode → start.context ≡ None →
       IfContext now.context (Accepted (either 0 ntlm_meaning k) p start now.handle d.nego_tokens Completed
       (Ok (record { status = status; output = now.output }))) →
       status ≡ statuses.ContinueNeeded
@@ -108,7 +108,7 @@ module _ {K P : Type 0} (k : Meaning Setting K) (p : ProxyMeaning P) where
 
   -- the first step of a server does not end the authentication
   first_not_over : (start now : ServerView (SspiContext NtlmState K) P) (d : TsRequest) (status : Option SecurityStatus) →
-      IsPlainServer start.mode → start.context ≡ None →
+      IsPlainServer start.settings.mode → start.context ≡ None →
       DoneStep (either 0 ntlm_meaning k) p status start d now → IsOver status → ⊥
   first_not_over start now d None plain none step over = over
   first_not_over start now d (Some statuses.Ok) plain none step over = let e = first_goes_on start now d statuses.Ok plain none step in cc
@@ -120,7 +120,7 @@ module _ {K P : Type 0} (k : Meaning Setting K) (p : ProxyMeaning P) where
   nego_check state status nego may = subst (λ (s : CredSspState). MayCheck s status) nego may
 
   -- a server checks no proof in its first turn
-  first_checks : (first mid : ServerView (SspiContext NtlmState K) P) (d : TsRequest) (out : Outcome) → IsPlainServer first.mode →
+  first_checks : (first mid : ServerView (SspiContext NtlmState K) P) (d : TsRequest) (out : Outcome) → IsPlainServer first.settings.mode →
       IsFreshServer first → GoesOn out →
       ServerMakes (either 0 ntlm_meaning k) p first d out mid → mid.acts.checked ≡ true → ⊥
   first_checks first mid d (outcome.Reply reply) plain fresh went makes checked =
@@ -130,7 +130,7 @@ module _ {K P : Type 0} (k : Meaning Setting K) (p : ProxyMeaning P) where
   first_checks first mid d outcome.Finished plain fresh went makes checked = went
   first_checks first mid d (outcome.Refused kind reply) plain fresh went makes checked = went
 
-  made_checks : (first old now : ServerView (SspiContext NtlmState K) P) (u : Turn) → old ≡ first → IsPlainServer first.mode →
+  made_checks : (first old now : ServerView (SspiContext NtlmState K) P) (u : Turn) → old ≡ first → IsPlainServer first.settings.mode →
       IsFreshServer first → GoesOn u.outcome →
       ServerMade (either 0 ntlm_meaning k) p old u now → u.acts.checked ≡ true → ⊥
   made_checks first old now u same plain fresh went made checked =
@@ -143,7 +143,7 @@ module _ {K P : Type 0} (k : Meaning Setting K) (p : ProxyMeaning P) where
   exchange_alone true proved h = refl
   exchange_alone false proved h = absurd cc
 
-  pub three_of_server : (first now : ServerView (SspiContext NtlmState K) P) (turns : List Turn) → IsPlainServer first.mode →
+  pub three_of_server : (first now : ServerView (SspiContext NtlmState K) P) (turns : List Turn) → IsPlainServer first.settings.mode →
       IsFreshServer first → OthersGoOn turns → HasExchanged turns →
       ServerHistory (either 0 ntlm_meaning k) p first turns now → 3 ≤ length turns
   three_of_server first now [] plain fresh others has history = absurd has
@@ -182,7 +182,8 @@ three_turns (t ∷ past) order newest three =
 module _ {K P : Type 0} (k : Meaning Setting K) (p : ProxyMeaning P) where
   -- an exchange that is Ok had three messages of the client
   pub ok_three : (base log : List Carried) (start now limit : ℕ) (result : Result Delegation DelegateError) (turns : List Turn)
-      (first server : ServerView (SspiContext NtlmState K) P) → RunEnds base start limit result turns log now → IsPlainServer first.mode →
+      (first server : ServerView (SspiContext NtlmState K) P) → RunEnds base start limit result turns log now →
+      IsPlainServer first.settings.mode →
       IsFreshServer first →
       OthersGoOn (server_turns turns) → OnOk result (HasExchanged (server_turns turns)) →
       ServerHistory (either 0 ntlm_meaning k) p first (server_turns turns) server → IfOk result (λ delegation. 3 ≤ delegation.turns)

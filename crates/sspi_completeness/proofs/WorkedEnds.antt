@@ -1,5 +1,5 @@
 -- Ends made as an example has them match, and come to its answer.
-use Rattle.std.proofs.Common.{◌≡◌, ℕ, ◌<◌, ◌≤◌, List, [], ◌∷◌, length, Option, Some, Result, refl, ap, sym, ◌∙◌, subst}
+use Rattle.std.proofs.Common.{◌≡◌, ℕ, ◌<◌, ◌≤◌, List, [], ◌∷◌, length, Option, None, Some, Result, refl, ap, sym, ◌∙◌, subst}
 use Rattle.std.proofs.Common.{arith}
 use Rattle.sspi_names.specs.declared.identity.AuthIdentity.{AuthIdentity}
 use Rattle.sspi_names.specs.Equality.{ignoring_case-equiv}
@@ -35,7 +35,7 @@ own_entry identity = record {
 
 -- a new link without edits disturbs nothing
 pub undisturbed : {new : List Carried} {before now : ℕ} (link : MemoryLinkView) (edits : List Edit) →
-    link ≡ record { log = []; edits = edits; faults = 0 } → edits ≡ [] → IsUndisturbed (Some link.edits) link.log new before now
+    link ≡ record { log = []; edits = edits; faults = 0; most = None } → edits ≡ [] → IsUndisturbed (Some link.edits) link.log new before now
 undisturbed link edits is none =
     unedited (ap (λ (l : MemoryLinkView). Some l.edits) is ∙ ap Some none) (ap (λ (l : MemoryLinkView). l.log) is)
 
@@ -56,9 +56,9 @@ module _ (told : Option (ℕ → NetworkRequest → Reply)) (call messages : ℕ
 module _ {C : Type 0} (told : Option (ℕ → NetworkRequest → Reply)) (call messages : ℕ) (x : Example) (client : ClientView C)
     (server : ServerView C TableView) (client_is : IsClientOf x client) (server_is : IsServerOf x server)
     (matches : Matches told call messages x) where
-  abbrev pub modes : MatchesAt told call messages x.identity client.target client.mode server.mode
-  modes = carried told call messages x.identity client.target client.mode x.client server.mode x.server client_is.target client_is.mode
-      server_is.mode (matches.modes, matches.counted)
+  abbrev pub modes : MatchesAt told call messages x.identity client.settings.target client.settings.mode server.settings.mode
+  modes = carried told call messages x.identity client.settings.target client.settings.mode x.client server.settings.mode x.server
+      client_is.target client_is.mode server_is.mode (matches.modes, matches.counted)
 
   abbrev pub matched : AreMatching table_meaning told call client server
   matched = record {
@@ -93,7 +93,7 @@ module _ {C : Type 0} (told : Option (ℕ → NetworkRequest → Reply)) (call m
 
   pub answered : (turns : ℕ) (answer : Result Delegation DelegateError) →
       ((m : AreMatching table_meaning told call client server) → messages_in m ≤ turns →
-      ComesToOkIn (messages_in m) (delegated_as client.delegation m.identity) answer) →
+      ComesToOkIn (messages_in m) (delegated_as client.settings.delegation m.identity) answer) →
       ((m : AreMatching table_meaning told call client server) → turns < messages_in m → IsCutShort answer) →
       AnswersIn messages turns (delegated_as x.delegation x.identity) answer
   answered turns answer comes short = record {

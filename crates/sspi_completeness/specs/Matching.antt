@@ -77,27 +77,27 @@ messages_of told call target identity (client_mode.Negotiate config) (server_mod
 pub record AreMatching {C D P : Type 0} (p : ProxyMeaning P) (told : Option (ℕ → NetworkRequest → Reply)) (call : ℕ)
     (client : ClientView C) (server : ServerView D P) : Type 0 where
   pub identity : AuthIdentity
-  pub modes : MatchModes told call client.target identity client.mode server.mode
-  pub key_same : server.public_key ≡ client.public_key
-  pub key_short : length client.public_key ≤ key_limit
-  pub versions : nat_lt client.version 5 ≡ nat_lt server.version 5
-  pub client_takes : client.least ≤ server.version
-  pub server_takes : server.least ≤ client.version
-  pub credentials_are : client.credentials ≡ credentials.AuthIdentity identity
+  pub modes : MatchModes told call client.settings.target identity client.settings.mode server.settings.mode
+  pub key_same : server.settings.public_key ≡ client.settings.public_key
+  pub key_short : length client.settings.public_key ≤ key_limit
+  pub versions : nat_lt client.settings.version 5 ≡ nat_lt server.settings.version 5
+  pub client_takes : client.settings.least ≤ server.settings.version
+  pub server_takes : server.settings.least ≤ client.settings.version
+  pub credentials_are : client.settings.credentials ≡ credentials.AuthIdentity identity
   pub short : IsShort identity
   pub entries : List AuthIdentity
   pub tells : (p.told server.proxy).entries ≡ Some entries
   pub entry : HasEntry entries identity
   pub identity_is : IsIdentity identity
-  pub client_version : client.version < 2 ^ 32
-  pub server_version : server.version < 2 ^ 32
-  pub nonce : length client.nonce ≡ 32
+  pub client_version : client.settings.version < 2 ^ 32
+  pub server_version : server.settings.version < 2 ^ 32
+  pub nonce : length client.settings.nonce ≡ 32
 
 -- how many messages the client of matching ends makes
 abbrev pub messages_in : {C D P : Type 0} {p : ProxyMeaning P} {told : Option (ℕ → NetworkRequest → Reply)} {call : ℕ}
     {client : ClientView C} {server : ServerView D P} → AreMatching p told call client server → ℕ
 messages_in {C = C} {D = D} {P = P} {p = p} {told = told} {call = call} {client = client} {server = server} matching =
-    messages_of told call client.target matching.identity client.mode server.mode matching.modes
+    messages_of told call client.settings.target matching.identity client.settings.mode server.settings.mode matching.modes
 
 -- a count of faults that did not rise, and that does not stand at its last value
 pub record IsCalm (before now : ℕ) : Type 0 where

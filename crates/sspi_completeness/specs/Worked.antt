@@ -44,23 +44,23 @@ pub record Example : Type 0 where
 -- its client, to which nothing was delivered
 pub record IsClientOf {C : Type 0} (x : Example) (client : ClientView C) : Type 0 where
   pub fresh : IsFreshClient client
-  pub public_key : client.public_key ≡ x.key
-  pub credentials : client.credentials ≡ credentials.AuthIdentity x.identity
-  pub delegation : client.delegation ≡ x.delegation
-  pub version : client.version ≡ x.client_version
-  pub least : client.least ≡ x.least
-  pub mode : client.mode ≡ x.client
-  pub target : client.target ≡ example_target
-  pub nonce : length client.nonce ≡ 32
+  pub public_key : client.settings.public_key ≡ x.key
+  pub credentials : client.settings.credentials ≡ credentials.AuthIdentity x.identity
+  pub delegation : client.settings.delegation ≡ x.delegation
+  pub version : client.settings.version ≡ x.client_version
+  pub least : client.settings.least ≡ x.least
+  pub mode : client.settings.mode ≡ x.client
+  pub target : client.settings.target ≡ example_target
+  pub nonce : length client.settings.nonce ≡ 32
 
 -- its server, to which nothing was delivered, and whose proxy knows the client alone
 pub record IsServerOf {C : Type 0} (x : Example) (server : ServerView C TableView) : Type 0 where
   pub fresh : IsFreshServer server
-  pub public_key : server.public_key ≡ x.key
+  pub public_key : server.settings.public_key ≡ x.key
   pub proxy : server.proxy ≡ record { entries = x.identity ∷ []; failing = []; calls = 0; faults = 0 }
-  pub version : server.version ≡ x.server_version
-  pub least : server.least ≡ x.least
-  pub mode : server.mode ≡ x.server
+  pub version : server.settings.version ≡ x.server_version
+  pub least : server.settings.least ≡ x.least
+  pub mode : server.settings.mode ≡ x.server
 
 -- The ends match, and the client makes so many messages; `told` and `call` are what its KDC tells, and the number of its next call.
 pub record Matches (told : Option (ℕ → NetworkRequest → Reply)) (call messages : ℕ) (x : Example) : Type 0 where

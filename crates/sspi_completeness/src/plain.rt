@@ -40,14 +40,15 @@ pub fn delegate_plainly<C: CredentialsProxy, L: Link, D: Kdc>(
     ensures stays { Stays (around_by C.meaning L.log L.edits L.faults D.told D.asked D.faults)
         (parties client.old server.old link.old kdc.old transcript.old.turns) turns result
         (parties client.new server.new link.new kdc.new transcript.new.turns) }
-    ensures three { IsPlainServer server.old.mode → IsFresh client.old server.old transcript.old.turns →
+    ensures three { IsPlainServer server.old.settings.mode → IsFresh client.old server.old transcript.old.turns →
         IfOk result (λ delegation. 3 ≤ delegation.turns) }
-    ensures few { IsPlainServer server.old.mode → IsFresh client.old server.old transcript.old.turns → turns < 3 → IsErr result }
+    ensures few { IsPlainServer server.old.settings.mode → IsFresh client.old server.old transcript.old.turns → turns < 3 → IsErr result }
     ensures comes { (matching : AreMatching C.meaning (D.told kdc.old) (D.asked kdc.old) client.old server.old) →
         IsFresh client.old server.old transcript.old.turns →
         IsUndisturbed (L.edits link.old) (L.log link.old) (L.log link.new) (L.faults link.old) (L.faults link.new) →
         NoneFailed (C.meaning.told server.old.proxy).failing (C.meaning.faults server.old.proxy) (C.meaning.faults server.new.proxy) →
-        messages_in matching ≤ turns → ComesToOkIn (messages_in matching) (delegated_as client.old.delegation matching.identity) result }
+        messages_in matching ≤ turns →
+        ComesToOkIn (messages_in matching) (delegated_as client.old.settings.delegation matching.identity) result }
     ensures short { (matching : AreMatching C.meaning (D.told kdc.old) (D.asked kdc.old) client.old server.old) →
         IsFresh client.old server.old transcript.old.turns →
         IsUndisturbed (L.edits link.old) (L.log link.old) (L.log link.new) (L.faults link.old) (L.faults link.new) →
