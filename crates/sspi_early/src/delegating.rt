@@ -51,7 +51,7 @@ pub fn delegate_early<C: CredentialsProxy, L: Link, D: Kdc, P: Policy>(
         IsUndisturbed (L.edits link.old) (L.log link.old) (L.log link.new) (L.faults link.old) (L.faults link.new) →
         NoneFailed (C.meaning.told server.old.proxy).failing (C.meaning.faults server.old.proxy) (C.meaning.faults server.new.proxy) →
         IsCalm (P.meaning.faults policy.old) (P.meaning.faults policy.new) → messages_in matching ≤ turns →
-        ComesToOkEarly (messages_in matching) (delegated_as client.old.delegation matching.identity) result }
+        ComesToOkEarly (messages_in matching) (delegated_as client.old.settings.delegation matching.identity) result }
     ensures short { (matching : AreMatching C.meaning (D.told kdc.old) (D.asked kdc.old) client.old server.old) →
         IsFresh client.old server.old transcript.old.turns →
         IsUndisturbed (L.edits link.old) (L.log link.old) (L.log link.new) (L.faults link.old) (L.faults link.new) →
