@@ -39,7 +39,7 @@ module _ {C : Type 0} (c : Meaning ContextSetting C) where
   -- server that is too old is refused as that. It seals its credentials at most once, after it opened the proof that its server owes.
   pub record ClientRuns (first now : ClientView C) (turns : List Turn) : Type 0 where
     pub client_ran : ClientRan c first now turns
-    pub client_heeds : EachHeedsServer c now.least turns
+    pub client_heeds : EachHeedsServer c now.settings.least turns
     pub credentials_are_sealed_at_most_once : sealed_turns turns ≤ 1
     pub the_client_seals_after_the_proof : SealsAfterProof c (client_end now) turns
 
