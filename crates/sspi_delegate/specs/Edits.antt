@@ -53,11 +53,13 @@ abbrev pub IsNewestText : List Edit → List Carried → List ℕ → Type 0
 IsNewestText edits [] text = Unit {0}
 IsNewestText edits (e ∷ log) text = edited edits (sent_texts (reverse log)) e.sent ≡ Some text
 
--- a link in memory: its log, the newest entry first, its edits, and how often it failed
+-- a link in memory: its log, the newest entry first, its edits, how often it failed, and how many bytes a piece may have
 pub record MemoryLinkView : Type 0 where
   pub log : List Carried
   pub edits : List Edit
   pub faults : ℕ
+  -- None: any number
+  pub most : Option ℕ
 
 -- what a link in memory keeps: its log follows its edits, and the text that is served is that of the newest entry
 pub record IsServed (edits : List Edit) (log : List Carried) (text : List ℕ) : Type 0 where

@@ -1,5 +1,5 @@
 -- What the calls of a link answer.
-use Rattle.std.specs.Prelude.{◌≡◌, ℕ, ◌≤◌, List, length, Option, Some, None, Result, Ok, Err, reverse}
+use Rattle.std.specs.Prelude.{◌≡◌, ℕ, ◌≤◌, List, length, Option, Some, None, Result, Ok, Err, IfOk, reverse}
 use Rattle.sspi_delegate.specs.declared.carried.Carried.{Carried}
 use Rattle.sspi_delegate.specs.declared.edit.Edit.{Edit}
 use Rattle.sspi_delegate.specs.declared.link.LinkError.{LinkError}
@@ -18,6 +18,11 @@ LinkCause before now (Err InsufficientMemory) = now ≡ before
 abbrev pub PieceGives : List Carried → List Carried → Result ℕ LinkError → List ℕ → Type 0
 PieceGives old new (Ok n) into = (n ≤ length into) × Grows old new n into
 PieceGives old new (Err error) into = new ≡ old
+
+-- a piece has at most so many bytes, where the link tells how many
+abbrev pub IsWithin : Option ℕ → Result ℕ LinkError → Type 0
+IsWithin None result = Unit {0}
+IsWithin (Some most) result = IfOk result (λ n. n ≤ most)
 
 -- where the edits give this, `carry` fails exactly where they give nothing, and then alone a fault is counted: one
 abbrev pub CarriesEdited : Option (List ℕ) → ℕ → ℕ → Result (Unit {0}) LinkError → Type 0

@@ -72,6 +72,8 @@ impl<R: Carrier> Link for KeptLink<R> {
 
     ghost faults = { λ link. R.faults link.carrier };
 
+    ghost most = { λ _. None };
+
     fn carry(&mut self, from: End, sent: &[u8]) -> Result<(), LinkError> {
         let sent_copy = Bytes::from_slice(self.alloc, sent)?;
         self.log.reserve()?;

@@ -41,7 +41,7 @@ pub trait Link: Drop {
     ghost use Rattle.std.specs.Prelude.{◌≡◌, [], ◌∷◌, ℕ, List, Option, OnOk, OnErr};
     ghost use Rattle.sspi_delegate.specs.declared.carried.Carried.{Carried};
     ghost use Rattle.sspi_delegate.specs.declared.edit.Edit.{Edit};
-    ghost use Rattle.sspi_delegate.specs.Link.{LinkCause, PieceGives, CarryTold, NeverFails, FollowsTold};
+    ghost use Rattle.sspi_delegate.specs.Link.{LinkCause, PieceGives, IsWithin, CarryTold, NeverFails, FollowsTold};
     ghost use Rattle.sspi_delegate.specs.Log.{begun};
 
     /// What was carried, the newest entry first.
@@ -51,6 +51,9 @@ pub trait Link: Drop {
     ghost edits: { Self → Option (List Edit) };
 
     ghost faults: { Self → ℕ };
+
+    /// At most so many bytes are in a piece, where the link tells that.
+    ghost most: { Self → Option ℕ };
 
     /// Gives `sent` to the link, and begins its delivery: what was left of the last one is dropped.
     /// A call that is not `Ok` adds no entry to the log.
@@ -67,6 +70,7 @@ pub trait Link: Drop {
     /// A call that is not `Ok` leaves the log.
     fn piece(&mut self, into: &mut [u8]) -> Result<usize, LinkError>
         ensures gives { PieceGives (log self.old) (log self.new) result into.new }
+        ensures within { IsWithin (most self.old) result }
         ensures cause { LinkCause (faults self.old) (faults self.new) result }
         ensures edits { edits self.new ≡ edits self.old }
         ensures none { log self.old ≡ [] → (result ≡ Ok 0) × (self.new ≡ self.old) }

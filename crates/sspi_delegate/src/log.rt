@@ -9,6 +9,9 @@ use crate::link::LinkError;
 use std::alloc::{AllocError, Global};
 use std::marker::Model;
 
+// Room for the messages of most exchanges is taken with the first one.
+const USUAL_ENTRIES: usize = 8;
+
 /// The log of a link in memory.
 #[derive(Drop)]
 pub struct Log {
@@ -45,7 +48,12 @@ impl Log {
         ensures entries { self.new.entries ≡ self.old.entries }
         ensures room { OnOk result (0 < self.new.room) }
     {
-        self.entries.reserve(1)
+        let more = if self.entries.is_empty() {
+            USUAL_ENTRIES
+        } else {
+            1
+        };
+        self.entries.reserve(more)
     }
 
     /// Adds an entry, for which there is room.
@@ -53,10 +61,7 @@ impl Log {
         requires { 0 < self.old.room }
         ensures { self.new.entries ≡ entry ∷ self.old.entries }
     {
-        let pushed = self.entries.push(entry);
-        if pushed.is_err() {
-            unreachable!()
-        }
+        self.entries.push_reserved(entry);
     }
 
     /// Hands out the next bytes of `text`, at most so many, of which the newest entry has had some already.

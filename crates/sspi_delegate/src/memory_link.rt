@@ -1,4 +1,4 @@
-ghost use Rattle.std.specs.Prelude.{◌≡◌, [], reverse};
+ghost use Rattle.std.specs.Prelude.{◌≡◌, ◌<◌, [], None, Some, IfSome, max, reverse};
 
 use crate::carried::Carried;
 use crate::edit::{Edit, deliver_edited};
@@ -21,15 +21,22 @@ pub struct MemoryLink {
     text: Bytes,
     faults: u64,
     /// A piece has at most so many bytes, or one where this is 0.
-    most: usize,
+    most: Option<usize>,
 }
 
 impl Model for MemoryLink {
+    ghost use Rattle.std.specs.Prelude.{max};
+    ghost use Rattle.std.specs.Option.{option_map};
     ghost use Rattle.sspi_delegate.specs.Edits.{MemoryLinkView, IsServed};
 
     ghost Value = { MemoryLinkView };
 
-    ghost view = { λ link. record { log = link.log.entries; edits = link.edits.items; faults = link.faults } };
+    ghost view = { λ link. record {
+      log = link.log.entries;
+      edits = link.edits.items;
+      faults = link.faults;
+      most = option_map (λ most. max 1 most) link.most;
+    } };
 
     ghost invariant = { λ link. IsServed link.edits.items link.log.entries link.text };
 }
@@ -37,7 +44,7 @@ impl Model for MemoryLink {
 impl MemoryLink {
     /// A link with these edits and an empty log.
     pub fn new(alloc: Global, edits: Vec<Edit>) -> MemoryLink
-        ensures { result ≡ record { log = []; edits = edits.items; faults = 0 } }
+        ensures { result ≡ record { log = []; edits = edits.items; faults = 0; most = None } }
     {
         MemoryLink {
             alloc,
@@ -45,15 +52,25 @@ impl MemoryLink {
             log: Log::new(alloc),
             text: Bytes::new(alloc),
             faults: 0,
-            most: usize::MAX,
+            most: None,
         }
     }
 
     /// Limits each piece to `most` bytes from here on; 0 counts as 1. What is delivered stays the same.
     pub fn set_piece(&mut self, most: usize)
-        ensures { self.new ≡ self.old }
+        ensures { self.new ≡ record self.old { most = Some (max 1 most) } }
     {
-        self.most = most;
+        self.most = Some(most);
+    }
+
+    fn most(&self) -> usize
+        ensures some { 0 < result }
+        ensures told { IfSome self.now.most (λ most. result ≡ most) }
+    {
+        match self.most {
+            Some(most) => most.max(1),
+            None => usize::MAX,
+        }
     }
 
     /// The log, the first entry first. Takes no memory.
@@ -73,6 +90,8 @@ impl Link for MemoryLink {
 
     ghost faults = { λ link. link.faults };
 
+    ghost most = { λ link. link.most };
+
     fn carry(&mut self, from: End, sent: &[u8]) -> Result<(), LinkError> {
         let Some(text) = deliver_edited(self.alloc, &self.edits, self.log.as_slice(), sent)? else {
             self.faults = self.faults.saturating_add(1);
@@ -91,7 +110,7 @@ impl Link for MemoryLink {
     }
 
     fn piece(&mut self, into: &mut [u8]) -> Result<usize, LinkError> {
-        self.log
-            .hand_out(self.text.as_slice(), self.most.max(1), into)
+        let most = self.most();
+        self.log.hand_out(self.text.as_slice(), most, into)
     }
 }

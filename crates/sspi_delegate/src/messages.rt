@@ -14,7 +14,8 @@ use std::alloc::Global;
 /// At most so many bytes of one delivery are read: the longest message, whose header has five.
 pub const DELIVERY_LIMIT: usize = 5 + MAX_CONTENT;
 
-const PIECE_LENGTH: usize = 2048;
+// A message of an exchange is some hundred bytes, and the room is cleared for each delivery.
+const PIECE_LENGTH: usize = 1024;
 
 /// A reader that was fed with the newest delivery, piece by piece as the link gives it, to its end or to the limit.
 pub(crate) fn take_delivery<L: Link>(alloc: Global, link: &mut L) -> Result<TsReader, LinkError>
@@ -79,9 +80,8 @@ pub(crate) fn send<L: Link>(
 fn encode(alloc: Global, message: &TsRequest) -> Result<VecSink, WireKind>
     ensures { Encodes message.now result }
 {
-    let mut sink = VecSink::new(alloc);
-    match message.encode_ts_request(&mut sink) {
-        Ok(()) => Ok(sink),
-        Err(kind) => Err(kind),
-    }
+    let room = message.buffer_len()?;
+    let mut sink = VecSink::with_capacity(alloc, room as usize)?;
+    message.encode_ts_request(&mut sink)?;
+    Ok(sink)
 }

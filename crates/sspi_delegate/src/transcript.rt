@@ -5,6 +5,9 @@ use sspi_credssp::Turn;
 use std::alloc::{AllocError, Global};
 use std::marker::Model;
 
+// Room for the turns of most exchanges is taken with the first one.
+const USUAL_TURNS: usize = 8;
+
 /// The turns of an exchange, in their order.
 #[derive(Drop)]
 pub struct Transcript {
@@ -52,7 +55,12 @@ impl Transcript {
         ensures turns { self.new.turns ≡ self.old.turns }
         ensures room { OnOk result (0 < self.new.room) }
     {
-        self.turns.reserve(1)
+        let more = if self.turns.is_empty() {
+            USUAL_TURNS
+        } else {
+            1
+        };
+        self.turns.reserve(more)
     }
 
     /// Adds a turn, for which there is room.
@@ -60,10 +68,7 @@ impl Transcript {
         requires { 0 < self.old.room }
         ensures { self.new.turns ≡ turn ∷ self.old.turns }
     {
-        let pushed = self.turns.push(turn);
-        if pushed.is_err() {
-            unreachable!()
-        }
+        self.turns.push_reserved(turn);
     }
 
     /// The last turn. Takes no memory.
