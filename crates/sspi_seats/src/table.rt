@@ -1,4 +1,4 @@
-ghost use Rattle.std.specs.Prelude.{◌≡◌, ◌+◌, ◌++◌, ℕ, [], ◌∷◌, IfOk, OnOk, is_some, length};
+ghost use Rattle.std.specs.Prelude.{◌≡◌, ◌+◌, ◌++◌, ◌<◌, ℕ, [], ◌∷◌, IfOk, OnOk, is_some, length};
 ghost use Rattle.std.specs.List.{list_any};
 ghost use Rattle.sspi_credssp.specs.Context.{either};
 ghost use Rattle.sspi_credssp.specs.declared.context.SspiContext.{SspiContext};
@@ -27,7 +27,8 @@ pub struct Table<N, K, C, D> {
 impl<N, K, C, D> Table<N, K, C, D> {
     /// A table for at most so many clients, and none yet. Takes no memory.
     pub fn new(alloc: Global, limit: u32) -> Table<N, K, C, D>
-        ensures { IsEmpty result }
+        ensures empty { IsEmpty result }
+        ensures limit { result.desk.limit ≡ limit }
     {
         Table {
             alloc,
@@ -38,16 +39,19 @@ impl<N, K, C, D> Table<N, K, C, D> {
 }
 
 impl<N: Mechanism, K: Mechanism, C: CredentialsProxy, D: Kdc + Drop> Table<N, K, C, D> {
-    /// Seats a client with its KDC, and admits its server to the desk. Fails where there was no memory, or no seat left.
+    /// Seats a client with its KDC, and admits its server to the desk. Fails where there was no memory, and where as many clients are
+    /// seated as may be.
     pub fn join(
         &mut self,
         client: CredSspClient<N, K>,
         kdc: D,
         server: CredSspServer<N, K, C>,
     ) -> Result<(), AllocError>
-        ensures { let c = either N.REQUESTS N.meaning K.meaning in let k = kdc_calls D.told D.asked D.faults in
+        ensures seated { let c = either N.REQUESTS N.meaning K.meaning in let k = kdc_calls D.told D.asked D.faults in
             (came : Place (SspiContext N K) C D) (count : ℕ) → came ≡ place client kdc server →
             AreSeated c C.meaning k came count self.old → OnOk result (AreSeated c C.meaning k came (count + 1) self.new) }
+        ensures room { OnOk result (length self.old.desk.kept < self.old.desk.limit) }
+        ensures limit { self.new.desk.limit ≡ self.old.desk.limit }
     {
         if self.desk.admitted() == u64::MAX {
             return lost(client, (kdc, server), AllocError);

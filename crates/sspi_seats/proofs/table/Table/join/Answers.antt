@@ -6,8 +6,8 @@ use Rattle.sspi_seats.proofs.Speaking.{kept_done}
 use Rattle.sspi_seats.proofs.Seating.{joined}
 use Rattle.sspi_seats.proofs.table.Table.join.Goals as goal
 
-pub returns-in-Ok : goal.returns-in-Ok
-returns-in-Ok g c came count is seated =
+pub returns-in-Ok-clause-seated : goal.returns-in-Ok-clause-seated
+returns-in-Ok-clause-seated g c came count is seated =
     let m = either g.N.Mechanism.REQUESTS g.N.Mechanism.meaning g.K.Mechanism.meaning in
     let p = g.C.CredentialsProxy.meaning in
     let k = kdc_calls g.D.Kdc.told g.D.Kdc.asked g.D.Kdc.faults in
