@@ -77,35 +77,37 @@ impl Kind {
     }
 }
 
+// Room for nine lines with numbers of a few digits.
+const USUAL_LENGTH: usize = 128;
+
 /// The summary as a text of nine lines, each a name, a space and a number. Each ends with LF. Fails only for want of memory.
 pub fn summary_text(alloc: Global, summary: Summary) -> Result<String, AllocError>
     ensures { IfOk result (λ text. string_bytes text ≡ summary_text summary) }
 {
-    let mut text = String::new(alloc);
-    push_counts(alloc, &mut text, summary)?;
+    let mut text = String::with_capacity(alloc, USUAL_LENGTH)?;
+    push_counts(&mut text, summary)?;
     Ok(text)
 }
 
 /// Appends all lines.
-fn push_counts(alloc: Global, text: &mut String, summary: Summary) -> Result<(), AllocError>
+fn push_counts(text: &mut String, summary: Summary) -> Result<(), AllocError>
     ensures { OnOk result (string_bytes text.new ≡ string_bytes text.old ++ summary_text summary) }
 {
-    push_count(alloc, text, "runs", summary.runs as u128)?;
-    push_count(alloc, text, "ok", summary.ok as u128)?;
-    push_count(alloc, text, "client", summary.client as u128)?;
-    push_count(alloc, text, "server", summary.server as u128)?;
-    push_count(alloc, text, "read", summary.read as u128)?;
-    push_count(alloc, text, "write", summary.write as u128)?;
-    push_count(alloc, text, "link", summary.link as u128)?;
-    push_count(alloc, text, "turns", summary.turns as u128)?;
-    push_count(alloc, text, "messages", summary.messages)?;
+    push_count(text, "runs", summary.runs as u128)?;
+    push_count(text, "ok", summary.ok as u128)?;
+    push_count(text, "client", summary.client as u128)?;
+    push_count(text, "server", summary.server as u128)?;
+    push_count(text, "read", summary.read as u128)?;
+    push_count(text, "write", summary.write as u128)?;
+    push_count(text, "link", summary.link as u128)?;
+    push_count(text, "turns", summary.turns as u128)?;
+    push_count(text, "messages", summary.messages)?;
     Ok(())
 }
 
 /// Appends the line of a count.
-fn push_count(alloc: Global, text: &mut String, name: &str, count: u128) -> Result<(), AllocError>
+fn push_count(text: &mut String, name: &str, count: u128) -> Result<(), AllocError>
     ensures { OnOk result (string_bytes text.new ≡ string_bytes text.old ++ count_line name.now count) }
 {
-    let line = format!(in alloc; "{name} {count}\n")?;
-    text.push_str(&line)
+    write!(text, "{name} {count}\n")
 }
