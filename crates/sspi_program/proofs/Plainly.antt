@@ -5,8 +5,8 @@ use Rattle.sspi_mech.specs.declared.step.Reply.{Reply}
 use Rattle.sspi_mech.specs.PlainKdc.{PlainKdcState, told_by}
 use Rattle.sspi_credssp.specs.declared.mode.ClientMode.{ClientMode}
 use Rattle.sspi_credssp.specs.declared.mode.ServerMode.{ServerMode}
-use Rattle.sspi_credssp.specs.Client.{ClientView}
-use Rattle.sspi_credssp.specs.Server.{ServerView}
+use Rattle.sspi_credssp.specs.Client.{ClientSettings, ClientView}
+use Rattle.sspi_credssp.specs.Server.{ServerSettings, ServerView}
 use Rattle.sspi_credssp.specs.Table.{TableView, table_meaning}
 use Rattle.sspi_delegate.specs.Edits.{MemoryLinkView}
 use Rattle.sspi_delegate.specs.declared.carried.Carried.{Carried}
@@ -20,8 +20,10 @@ use Rattle.sspi_program.specs.Ends.{PlainContext, credentials_by, client_mode_in
 use Rattle.sspi_program.specs.Outcome.{user_identity, kdc_told, messages_in, IsPlain}
 
 pub plain_server : (s : Scenario) (server : ServerView PlainContext TableView) → IsServerOf s server → s.mode ≡ Ntlm →
-    IsPlainServer server.mode
-plain_server s server named plain = subst IsPlainServer (sym (named.mode ∙ ap (λ (mode : Mode). server_mode_by mode s) plain)) tt
+    IsPlainServer server.settings.mode
+plain_server s server named plain =
+    subst (λ (v : ServerSettings). IsPlainServer v.mode) (sym named.settings)
+    (subst (λ (mode : Mode). IsPlainServer (server_mode_by mode s)) (sym plain) tt)
 
 -- the same of the ends and of the KDC that the scenario names, and as many messages
 pub record Modes (s : Scenario) (plain : IsPlain s) (told : Option (ℕ → NetworkRequest → Reply)) (call : ℕ) (target : List ℕ)
@@ -31,13 +33,13 @@ pub record Modes (s : Scenario) (plain : IsPlain s) (told : Option (ℕ → Netw
 
 pub modes_at : (s : Scenario) (plain : IsPlain s) (client : ClientView PlainContext) (server : ServerView PlainContext TableView)
     (kdc : PlainKdcState) → IsClientOf s client → IsServerOf s server → kdc ≡ kdc_in s →
-    Modes s plain (Some (told_by kdc.users kdc.script)) kdc.asked client.target client.mode server.mode
+    Modes s plain (Some (told_by kdc.users kdc.script)) kdc.asked client.settings.target client.settings.mode server.settings.mode
 modes_at s plain client server kdc client_named server_named made =
-    subst (λ (k : PlainKdcState). Modes s plain (Some (told_by k.users k.script)) k.asked client.target client.mode server.mode) (sym made)
-    (subst (λ (target : List ℕ). Modes s plain (kdc_told s) 0 target client.mode server.mode) (sym client_named.target)
-    (subst (λ (mode : ClientMode). Modes s plain (kdc_told s) 0 s.target mode server.mode) (sym client_named.mode)
-    (subst (λ (mode : ServerMode). Modes s plain (kdc_told s) 0 s.target (client_mode_in s) mode) (sym server_named.mode)
-    (record { modes = plain.mode; messages = refl }))))
+    subst (λ (k : PlainKdcState). Modes s plain (Some (told_by k.users k.script)) k.asked client.settings.target client.settings.mode
+    server.settings.mode) (sym made)
+    (subst (λ (c : ClientSettings). Modes s plain (kdc_told s) 0 c.target c.mode server.settings.mode) (sym client_named)
+    (subst (λ (v : ServerSettings). Modes s plain (kdc_told s) 0 s.target (client_mode_in s) v.mode) (sym server_named.settings)
+    (record { modes = plain.mode; messages = refl })))
 
 abbrev pub plain_match : (s : Scenario) (client : ClientView PlainContext) (server : ServerView PlainContext TableView)
     (kdc : PlainKdcState) → IsClientOf s client → IsServerOf s server → kdc ≡ kdc_in s → HoldsValues s → IsPlain s →
@@ -45,20 +47,22 @@ abbrev pub plain_match : (s : Scenario) (client : ClientView PlainContext) (serv
 plain_match s client server kdc client_named server_named made held plain = record {
   identity = user_identity s;
   modes = (modes_at s plain client server kdc client_named server_named made).modes;
-  key_same = server_named.public_key ∙ plain.key_same ∙ sym client_named.public_key;
-  key_short = omega (arith, ap length client_named.public_key, plain.key_short);
-  versions = rw (client_named.version, server_named.version) plain.versions;
-  client_takes = rw (client_named.least, server_named.version) plain.client_takes;
-  server_takes = rw (server_named.least, client_named.version) plain.server_takes;
-  credentials_are = client_named.credentials ∙ ap (λ (keytab : Option (List ℕ)). credentials_by keytab s.user s.password) plain.no_keytab;
+  key_same = ap (λ (v : ServerSettings). v.public_key) server_named.settings ∙ plain.key_same
+      ∙ sym (ap (λ (c : ClientSettings). c.public_key) client_named);
+  key_short = omega (arith, ap (λ (c : ClientSettings). length c.public_key) client_named, plain.key_short);
+  versions = rw (client_named, server_named.settings) plain.versions;
+  client_takes = rw (client_named, server_named.settings) plain.client_takes;
+  server_takes = rw (server_named.settings, client_named) plain.server_takes;
+  credentials_are = ap (λ (c : ClientSettings). c.credentials) client_named
+      ∙ ap (λ (keytab : Option (List ℕ)). credentials_by keytab s.user s.password) plain.no_keytab;
   short = plain.short;
   entries = s.account;
   tells = ap (λ (p : TableView). Some p.entries) server_named.proxy;
   entry = plain.entry;
   identity_is = record { name = held.name; password_text = held.password_text };
-  client_version = omega (arith, client_named.version, held.client_bits);
-  server_version = omega (arith, server_named.version, held.server_bits);
-  nonce = ap length client_named.nonce ∙ held.nonce_length;
+  client_version = omega (arith, ap (λ (c : ClientSettings). c.version) client_named, held.client_bits);
+  server_version = omega (arith, ap (λ (v : ServerSettings). v.version) server_named.settings, held.server_bits);
+  nonce = ap (λ (c : ClientSettings). length c.nonce) client_named ∙ held.nonce_length;
 }
 
 pub plain_messages : (s : Scenario) (client : ClientView PlainContext) (server : ServerView PlainContext TableView) (kdc : PlainKdcState)

@@ -13,36 +13,26 @@ use Rattle.sspi_program.specs.Ends.{PlainContext, IsClientOf, IsServerOf, AreEnd
 client_is : (scenario : Scenario) (a : ClientView PlainContext) → IsFreshClient a → IsClientOf scenario a → a ≡ client_in scenario
 client_is scenario a fresh named =
     let made = client_in scenario in
-    ap (λ x. record a { public_key = x }) named.public_key
-    ∙ ap (λ x. record a { public_key = made.public_key; credentials = x }) named.credentials
-    ∙ ap (λ x. record a { public_key = made.public_key; credentials = made.credentials; delegation = x }) named.delegation
-    ∙ ap (λ x. record a { public_key = made.public_key; credentials = made.credentials; delegation = made.delegation; version = x }) named.version
-    ∙ ap (λ x. record a { public_key = made.public_key; credentials = made.credentials; delegation = made.delegation; version = made.version; least = x }) named.least
-    ∙ ap (λ x. record a { public_key = made.public_key; credentials = made.credentials; delegation = made.delegation; version = made.version; least = made.least; mode = x }) named.mode
-    ∙ ap (λ x. record a { public_key = made.public_key; credentials = made.credentials; delegation = made.delegation; version = made.version; least = made.least; mode = made.mode; target = x }) named.target
-    ∙ ap (λ x. record a { public_key = made.public_key; credentials = made.credentials; delegation = made.delegation; version = made.version; least = made.least; mode = made.mode; target = made.target; nonce = x }) named.nonce
-    ∙ ap (λ x. record a { public_key = made.public_key; credentials = made.credentials; delegation = made.delegation; version = made.version; least = made.least; mode = made.mode; target = made.target; nonce = made.nonce; state = x }) fresh.state
-    ∙ ap (λ x. record a { public_key = made.public_key; credentials = made.credentials; delegation = made.delegation; version = made.version; least = made.least; mode = made.mode; target = made.target; nonce = made.nonce; state = made.state; context = x }) fresh.context
-    ∙ ap (λ x. record a { public_key = made.public_key; credentials = made.credentials; delegation = made.delegation; version = made.version; least = made.least; mode = made.mode; target = made.target; nonce = made.nonce; state = made.state; context = made.context; handle = x }) fresh.handle
-    ∙ ap (λ x. record a { public_key = made.public_key; credentials = made.credentials; delegation = made.delegation; version = made.version; least = made.least; mode = made.mode; target = made.target; nonce = made.nonce; state = made.state; context = made.context; handle = made.handle; noted = x }) fresh.noted
-    ∙ ap (λ x. record a { public_key = made.public_key; credentials = made.credentials; delegation = made.delegation; version = made.version; least = made.least; mode = made.mode; target = made.target; nonce = made.nonce; state = made.state; context = made.context; handle = made.handle; noted = made.noted; acts = x }) fresh.acts
-    ∙ ap (λ x. record a { public_key = made.public_key; credentials = made.credentials; delegation = made.delegation; version = made.version; least = made.least; mode = made.mode; target = made.target; nonce = made.nonce; state = made.state; context = made.context; handle = made.handle; noted = made.noted; acts = made.acts; output = x }) fresh.output
-    ∙ ap (λ x. record a { public_key = made.public_key; credentials = made.credentials; delegation = made.delegation; version = made.version; least = made.least; mode = made.mode; target = made.target; nonce = made.nonce; state = made.state; context = made.context; handle = made.handle; noted = made.noted; acts = made.acts; output = made.output; kept = x }) fresh.kept
+    ap (λ x. record a { settings = x }) named
+    ∙ ap (λ x. record a { settings = made.settings; state = x }) fresh.state
+    ∙ ap (λ x. record a { settings = made.settings; state = made.state; context = x }) fresh.context
+    ∙ ap (λ x. record a { settings = made.settings; state = made.state; context = made.context; handle = x }) fresh.handle
+    ∙ ap (λ x. record a { settings = made.settings; state = made.state; context = made.context; handle = made.handle; noted = x }) fresh.noted
+    ∙ ap (λ x. record a { settings = made.settings; state = made.state; context = made.context; handle = made.handle; noted = made.noted; acts = x }) fresh.acts
+    ∙ ap (λ x. record a { settings = made.settings; state = made.state; context = made.context; handle = made.handle; noted = made.noted; acts = made.acts; output = x }) fresh.output
+    ∙ ap (λ x. record a { settings = made.settings; state = made.state; context = made.context; handle = made.handle; noted = made.noted; acts = made.acts; output = made.output; kept = x }) fresh.kept
 
 server_is : (scenario : Scenario) (a : ServerView PlainContext TableView) → IsFreshServer a → IsServerOf scenario a → a ≡ server_in scenario
 server_is scenario a fresh named =
     let made = server_in scenario in
-    ap (λ x. record a { public_key = x }) named.public_key
-    ∙ ap (λ x. record a { public_key = made.public_key; proxy = x }) named.proxy
-    ∙ ap (λ x. record a { public_key = made.public_key; proxy = made.proxy; version = x }) named.version
-    ∙ ap (λ x. record a { public_key = made.public_key; proxy = made.proxy; version = made.version; least = x }) named.least
-    ∙ ap (λ x. record a { public_key = made.public_key; proxy = made.proxy; version = made.version; least = made.least; mode = x }) named.mode
-    ∙ ap (λ x. record a { public_key = made.public_key; proxy = made.proxy; version = made.version; least = made.least; mode = made.mode; state = x }) fresh.state
-    ∙ ap (λ x. record a { public_key = made.public_key; proxy = made.proxy; version = made.version; least = made.least; mode = made.mode; state = made.state; context = x }) fresh.context
-    ∙ ap (λ x. record a { public_key = made.public_key; proxy = made.proxy; version = made.version; least = made.least; mode = made.mode; state = made.state; context = made.context; handle = x }) fresh.handle
-    ∙ ap (λ x. record a { public_key = made.public_key; proxy = made.proxy; version = made.version; least = made.least; mode = made.mode; state = made.state; context = made.context; handle = made.handle; noted = x }) fresh.noted
-    ∙ ap (λ x. record a { public_key = made.public_key; proxy = made.proxy; version = made.version; least = made.least; mode = made.mode; state = made.state; context = made.context; handle = made.handle; noted = made.noted; acts = x }) fresh.acts
-    ∙ ap (λ x. record a { public_key = made.public_key; proxy = made.proxy; version = made.version; least = made.least; mode = made.mode; state = made.state; context = made.context; handle = made.handle; noted = made.noted; acts = made.acts; output = x }) fresh.output
+    ap (λ x. record a { settings = x }) named.settings
+    ∙ ap (λ x. record a { settings = made.settings; proxy = x }) named.proxy
+    ∙ ap (λ x. record a { settings = made.settings; proxy = made.proxy; state = x }) fresh.state
+    ∙ ap (λ x. record a { settings = made.settings; proxy = made.proxy; state = made.state; context = x }) fresh.context
+    ∙ ap (λ x. record a { settings = made.settings; proxy = made.proxy; state = made.state; context = made.context; handle = x }) fresh.handle
+    ∙ ap (λ x. record a { settings = made.settings; proxy = made.proxy; state = made.state; context = made.context; handle = made.handle; noted = x }) fresh.noted
+    ∙ ap (λ x. record a { settings = made.settings; proxy = made.proxy; state = made.state; context = made.context; handle = made.handle; noted = made.noted; acts = x }) fresh.acts
+    ∙ ap (λ x. record a { settings = made.settings; proxy = made.proxy; state = made.state; context = made.context; handle = made.handle; noted = made.noted; acts = made.acts; output = x }) fresh.output
 
 pub place_is : (scenario : Scenario) (ends : Ends) → AreEndsOf scenario ends → place_in scenario ≡ place ends.client ends.kdc ends.server
 place_is scenario ends are = sym (rw (

@@ -14,7 +14,7 @@ use Rattle.sspi_seats.specs.Seat.{Place, place}
 use Rattle.sspi_seats.specs.Table.{AreSeated, AreSeats}
 use Rattle.sspi_seats.specs.declared.seat.SeatOutcome.{SeatOutcome}
 use Rattle.sspi_seats.specs.declared.seat.SeatOutcome.TheVariants as seats
-use Rattle.sspi_program.specs.Ends.{PlainContext, credentials_in, client_mode_in, server_mode_in, kdc_in}
+use Rattle.sspi_program.specs.Ends.{PlainContext, client_settings_in, server_settings_in, kdc_in}
 use Rattle.sspi_program.specs.Exchange.{plain_meaning, around}
 use Rattle.sspi_program.specs.Seats.{PlainSeat, PlainTable}
 
@@ -23,14 +23,7 @@ use Rattle.sspi_program.specs.Seats.{PlainSeat, PlainTable}
 -- the client that the scenario names, as it is made
 abbrev pub client_in : Scenario → ClientView PlainContext
 client_in scenario = record {
-  public_key = scenario.key;
-  credentials = credentials_in scenario;
-  delegation = scenario.delegation;
-  version = scenario.client_version;
-  least = scenario.client_least;
-  mode = client_mode_in scenario;
-  target = scenario.target;
-  nonce = scenario.nonce;
+  settings = client_settings_in scenario;
   state = NegoToken;
   context = None;
   handle = None;
@@ -43,11 +36,8 @@ client_in scenario = record {
 -- the server, whose table was not asked yet
 abbrev pub server_in : Scenario → ServerView PlainContext TableView
 server_in scenario = record {
-  public_key = scenario.server_key;
+  settings = server_settings_in scenario;
   proxy = record { entries = scenario.account; failing = scenario.proxy_fail; calls = 0; faults = 0 };
-  version = scenario.server_version;
-  least = scenario.server_least;
-  mode = server_mode_in scenario;
   state = NegoToken;
   context = None;
   handle = None;

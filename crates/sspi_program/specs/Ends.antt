@@ -16,8 +16,8 @@ use Rattle.sspi_credssp.specs.declared.mode.ClientMode.{ClientMode}
 use Rattle.sspi_credssp.specs.declared.mode.ClientMode.TheVariants as client
 use Rattle.sspi_credssp.specs.declared.mode.ServerMode.{ServerMode}
 use Rattle.sspi_credssp.specs.declared.mode.ServerMode.TheVariants as server
-use Rattle.sspi_credssp.specs.Client.{ClientView, IsFreshClient}
-use Rattle.sspi_credssp.specs.Server.{ServerView, IsFreshServer}
+use Rattle.sspi_credssp.specs.Client.{ClientSettings, ClientView, IsFreshClient}
+use Rattle.sspi_credssp.specs.Server.{ServerSettings, ServerView, IsFreshServer}
 use Rattle.sspi_credssp.specs.Table.{TableView}
 use Rattle.sspi_delegate.specs.Edits.{MemoryLinkView}
 use Rattle.sspi_program.specs.declared.ends.Ends.{Ends}
@@ -91,28 +91,38 @@ server_mode_by mode.Negotiate scenario =
 abbrev pub server_mode_in : Scenario → ServerMode
 server_mode_in scenario = server_mode_by scenario.mode scenario
 
+abbrev pub client_settings_in : Scenario → ClientSettings
+client_settings_in scenario = record {
+  public_key = scenario.key;
+  credentials = credentials_in scenario;
+  delegation = scenario.delegation;
+  version = scenario.client_version;
+  least = scenario.client_least;
+  mode = client_mode_in scenario;
+  target = scenario.target;
+  nonce = scenario.nonce;
+}
+
+abbrev pub server_settings_in : Scenario → ServerSettings
+server_settings_in scenario = record {
+  public_key = scenario.server_key;
+  version = scenario.server_version;
+  least = scenario.server_least;
+  mode = server_mode_in scenario;
+}
+
 -- the client has what the scenario names
-pub record IsClientOf (scenario : Scenario) (a : ClientView PlainContext) : Type 0 where
-  pub public_key : a.public_key ≡ scenario.key
-  pub credentials : a.credentials ≡ credentials_in scenario
-  pub delegation : a.delegation ≡ scenario.delegation
-  pub version : a.version ≡ scenario.client_version
-  pub least : a.least ≡ scenario.client_least
-  pub mode : a.mode ≡ client_mode_in scenario
-  pub target : a.target ≡ scenario.target
-  pub nonce : a.nonce ≡ scenario.nonce
+abbrev pub IsClientOf : Scenario → ClientView PlainContext → Type 0
+IsClientOf scenario a = a.settings ≡ client_settings_in scenario
 
 -- the server has what the scenario names, a table of which no call was made included
 pub record IsServerOf (scenario : Scenario) (a : ServerView PlainContext TableView) : Type 0 where
-  pub public_key : a.public_key ≡ scenario.server_key
+  pub settings : a.settings ≡ server_settings_in scenario
   pub proxy : a.proxy ≡ record { entries = scenario.account; failing = scenario.proxy_fail; calls = 0; faults = 0 }
-  pub version : a.version ≡ scenario.server_version
-  pub least : a.least ≡ scenario.server_least
-  pub mode : a.mode ≡ server_mode_in scenario
 
 -- the link has the scenario's edits, and carried nothing yet
 abbrev pub link_in : Scenario → MemoryLinkView
-link_in scenario = record { log = []; edits = scenario.edit; faults = 0 }
+link_in scenario = record { log = []; edits = scenario.edit; faults = 0; most = None }
 
 -- the KDC knows the scenario's names and answers by its script, and was not asked yet
 abbrev pub kdc_in : Scenario → PlainKdcState

@@ -1,5 +1,5 @@
 -- What the word `play` promises.
-use Rattle.std.specs.Prelude.{◌≡◌, ℕ, List, [], Result, Ok}
+use Rattle.std.specs.Prelude.{◌≡◌, ℕ, List, [], None, Result, Ok}
 use Rattle.sspi_credssp.specs.Client.{ClientView}
 use Rattle.sspi_credssp.specs.Server.{ServerView}
 use Rattle.sspi_credssp.specs.Table.{TableView, table_meaning}
@@ -25,7 +25,7 @@ use Rattle.sspi_program.specs.Status.{IsUnlessFault}
 
 -- a link that carried nothing, and would change nothing
 abbrev pub no_link : MemoryLinkView
-no_link = record { log = []; edits = []; faults = 0 }
+no_link = record { log = []; edits = []; faults = 0; most = None }
 
 -- The ends that the scenario names took its deliveries, and the client asked the KDC that it names: all that `play` promises holds
 -- from these as they were made, and from an empty transcript, to what the record keeps.

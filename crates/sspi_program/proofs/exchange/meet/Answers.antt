@@ -1,4 +1,4 @@
-use Rattle.std.proofs.Common.{◌≡◌, ℕ, List, [], Some, refl, subst}
+use Rattle.std.proofs.Common.{◌≡◌, ℕ, List, [], Some, refl, ap, subst}
 use Rattle.sspi_delegate.specs.Edits.{MemoryLinkView, FollowsEdits}
 use Rattle.sspi_delegate.specs.declared.edit.Edit.{Edit}
 use Rattle.sspi_delegate.specs.Headline.{IsFresh}
@@ -11,6 +11,7 @@ use Rattle.sspi_mech.specs.Ntlm.{ntlm_meaning}
 use Rattle.sspi_mech.specs.NtlmLaws.{ntlm_laws}
 use Rattle.sspi_credssp.proofs.ContextLaws.{lawful}
 use Rattle.sspi_tsreq.specs.declared.mode.CredSspMode.{CredSspMode}
+use Rattle.sspi_credssp.specs.Client.{ClientSettings}
 use Rattle.sspi_credssp.specs.Table.{table_meaning}
 use Rattle.sspi_completeness.specs.Matching.{delegated_as, ComesToOkIn}
 use Rattle.sspi_completeness.proofs.ThreeTurns.{ok_three}
@@ -46,8 +47,9 @@ returns-clause-exchange c ends link_is held =
     delegates.accounts.server_turns_are_its_calls in
     let laws = lawful 0 2 ntlm_meaning kerberos_meaning ntlm_laws kerberos_laws in
     let kdc = c.args.ends.kdc in
-    let settles : (plain : IsPlain s) → Settled (messages_in s plain) s.turns (delegated_as client.delegation (user_identity s)) answer =
-    λ plain. subst (λ (n : ℕ). Settled n s.turns (delegated_as client.delegation (user_identity s)) answer)
+    let settles : (plain : IsPlain s) →
+    Settled (messages_in s plain) s.turns (delegated_as client.settings.delegation (user_identity s)) answer =
+    λ plain. subst (λ (n : ℕ). Settled n s.turns (delegated_as client.settings.delegation (user_identity s)) answer)
     (plain_messages s client server kdc ends.client_named ends.server_named ends.kdc held plain)
     (settled_plainly told_replies kdc_asked kdc_faults laws table_meaning client server kdc ends.client_fresh ends.server_fresh
     (plain_match s client server kdc ends.client_named ends.server_named ends.kdc held plain) _ _ _ _ s.turns made.client made.server _ _ _ _ _
@@ -76,9 +78,10 @@ returns-clause-exchange c ends link_is held =
             (servers_others _ delegates.the_turns_are_a_run.order)
             delegates.both_proofs_came_before_ok server_history;
         comes = λ plain enough. subst (λ (mode : CredSspMode). ComesToOkIn (messages_in s plain)
-            (delegated_as mode (user_identity s)) answer) ends.client_named.delegation
-            (comes_to_ok (messages_in s plain) s.turns (delegated_as client.delegation (user_identity s)) answer enough (settles plain));
+            (delegated_as mode (user_identity s)) answer) (ap (λ (s : ClientSettings). s.delegation) ends.client_named)
+            (comes_to_ok (messages_in s plain) s.turns (delegated_as client.settings.delegation (user_identity s)) answer enough
+            (settles plain));
         short = λ plain few. cut_short (messages_in s plain) s.turns
-            (delegated_as client.delegation (user_identity s)) answer few stays.ok_comes_within_the_limit (settles plain);
+            (delegated_as client.settings.delegation (user_identity s)) answer few stays.ok_comes_within_the_limit (settles plain);
       };
     }

@@ -2,4 +2,4 @@ use Rattle.std.proofs.Common.{refl}
 use Rattle.sspi_program.proofs.words.desk.desk.Goals as goal
 
 pub returns-in-Ok : goal.returns-in-Ok
-returns-in-Ok c = c.serve.ensures c.args.count c.args.scenario (c.in-Ok.ensures c.new-table.ensures) refl
+returns-in-Ok c = c.serve.ensures c.args.count c.args.scenario (c.in-Ok.ensures c.new-table.ensures.empty) refl
