@@ -1,6 +1,7 @@
 -- Octets, numbers and the nonce on the way through a piece.
 use Rattle.std.proofs.Common.{◌≡◌, ℕ, ◌+◌, ◌-◌, ◌*◌, ◌%◌, ◌^◌, ◌<◌, ◌≤◌, List, [], ◌∷◌, ◌++◌, length, take, drop, Ok, Err, refl, sym}
 use Rattle.std.proofs.Common.{ap, ◌∙◌, append_assoc, arith, slice_set}
+use Rattle.std.specs.Prelude.{◌==◌, if◌then◌else◌}
 use Rattle.std.proofs.lemmas.Bool.{lt-ltb, le-ltb}
 use Rattle.std.proofs.lemmas.List.{length-append, take-append-le, drop-append-le, append-nil, take_more_set, length-set}
 use Rattle.std.proofs.Math.Seq.{take-length}
@@ -138,6 +139,21 @@ nonce_end r nonce have byte more size last =
     ∙ ap (λ (l : List ℕ). read_of l more) (append-nil (take (have + 1) (slice_set nonce have byte)))
     ∙ ap (λ (n : ℕ). read_of (take n (slice_set nonce have byte)) more) (omega (arith, size, last, length-set nonce have byte))
     ∙ ap (λ (l : List ℕ). read_of l more) (take-length (slice_set nonce have byte)))
+
+nonce_at_once : (r : TsRequest) (nonce rest more : List ℕ) → 32 ≤ length rest → nonce ≡ take 32 rest
+    → (bytes_at 32 (rest ++ more) >>= nonce_then r) ≡ nonce_then r (nonce, drop 32 rest ++ more)
+nonce_at_once r nonce rest more le copied =
+    ap (λ (z : Read (List ℕ)). z >>= nonce_then r)
+    (bytes_there 32 (rest ++ more) (omega (arith, le, length-append rest more))
+    ∙ ap (λ (l : List ℕ). read_of l (drop 32 (rest ++ more))) (take-append-le 32 rest more le ∙ sym copied)
+    ∙ ap (λ (l : List ℕ). read_of nonce l) (drop-append-le 32 rest more le))
+
+-- a nonce whose bytes are all there
+pub nonce_there : (r : TsRequest) (nonce : List ℕ) (len : ℕ) (rest more : List ℕ) → len ≡ 32 → 32 ≤ length rest → nonce ≡ take 32 rest
+    → ((if len == 32 then bytes_at len (rest ++ more) else Err Invalid) >>= nonce_then r) ≡ nonce_then r (nonce, drop 32 rest ++ more)
+nonce_there r nonce len rest more e le copied =
+    ap (λ (n : ℕ). (if n == 32 then bytes_at n (rest ++ more) else Err Invalid) >>= nonce_then r) e
+    ∙ nonce_at_once r nonce rest more le copied
 
 pub nonce_over : (r : TsRequest) (nonce : List ℕ) (have : ℕ) (bytes : List ℕ) → 32 ≤ have → nonce_from nonce have r bytes ≡ Err Invalid
 nonce_over r nonce have bytes le = rw (le-ltb have 32 le) refl

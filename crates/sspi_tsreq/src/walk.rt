@@ -289,7 +289,8 @@ impl<'a> Walk<'a> {
             (behind element (filled base self.old) len (rest.now ++ more)) ≡ goes_on self.new base (result.now ++ more) }
         ensures text { IsInText self.new.place → result.now ≡ [] }
         ensures shorter { length result.now ≤ length rest.now }
-        ensures quiet { IsQuiet self.old → (IsOctetsElement element → ⊥) → IsQuiet self.new × (result.now ≡ rest.now) }
+        ensures quiet { IsQuiet self.old → (IsOctetsElement element → ⊥) → IsQuiet self.new
+            × (IsWithout 0x04 rest.now → IsWithout 0x04 result.now) }
     {
         match element {
             Element::Optional(field) => {
@@ -305,7 +306,8 @@ impl<'a> Walk<'a> {
             (behind (Element.Required inner) (filled base self.old) len (rest.now ++ more)) ≡ goes_on self.new base (result.now ++ more) }
         ensures text { IsInText self.new.place → result.now ≡ [] }
         ensures shorter { length result.now ≤ length rest.now }
-        ensures quiet { IsQuiet self.old → (IsOctetsHeader inner → ⊥) → IsQuiet self.new × (result.now ≡ rest.now) }
+        ensures quiet { IsQuiet self.old → (IsOctetsHeader inner → ⊥) → IsQuiet self.new
+            × (IsWithout 0x04 rest.now → IsWithout 0x04 result.now) }
     {
         self.place = match inner {
             Inner::Octets(text) => return self.octets(text, len as usize, rest),
@@ -315,9 +317,30 @@ impl<'a> Walk<'a> {
             Inner::Token => Place::AtTag(Element::Required(Inner::Octets(Text::NegoTokens))),
             Inner::VersionNumber => version_place(len),
             Inner::CodeNumber => code_place(len),
-            Inner::NonceOctets => nonce_place(len),
+            Inner::NonceOctets => return self.nonce_octets(len, rest),
         };
         rest
+    }
+
+    /// The nonce, at once where it is whole in the piece.
+    fn nonce_octets(&mut self, len: u32, rest: &'a [u8]) -> &'a [u8]
+        ensures goes { (base : TsRequest) (more : List ℕ) → answered
+            (behind (Element.Required Inner.NonceOctets) (filled base self.old) len (rest.now ++ more)) ≡ goes_on self.new base
+            (result.now ++ more) }
+        ensures text { IsInText self.new.place → ⊥ }
+        ensures shorter { length result.now ≤ length rest.now }
+        ensures quiet { IsQuiet self.old → IsQuiet self.new }
+        ensures without { IsWithout 0x04 rest.now → IsWithout 0x04 result.now }
+    {
+        if len != 32 || rest.len() < 32 {
+            self.place = nonce_place(len);
+            return rest;
+        }
+        let (here, behind) = rest.split_at(32);
+        self.nonce.copy_from_slice(here);
+        self.client_nonce = Some(self.nonce);
+        self.place = Place::Whole;
+        behind
     }
 
     fn length_byte(
@@ -331,7 +354,8 @@ impl<'a> Walk<'a> {
             (length_from element part (filled base self.old) (byte ∷ (rest.now ++ more))) ≡ goes_on self.new base (result.now ++ more) }
         ensures text { IsInText self.new.place → result.now ≡ [] }
         ensures shorter { length result.now ≤ length rest.now }
-        ensures quiet { IsQuiet self.old → (IsOctetsElement element → ⊥) → IsQuiet self.new × (result.now ≡ rest.now) }
+        ensures quiet { IsQuiet self.old → (IsOctetsElement element → ⊥) → IsQuiet self.new
+            × (IsWithout 0x04 rest.now → IsWithout 0x04 result.now) }
     {
         match next_length(part, byte) {
             LengthStep::Part(part) => {
