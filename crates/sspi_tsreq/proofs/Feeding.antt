@@ -2,7 +2,8 @@
 use Rattle.std.proofs.Common.{◌≡◌, ℕ, ◌+◌, ◌-◌, ◌<◌, ◌≤◌, min, true, false, cond, eqb, List, [], ◌∷◌, ◌++◌, length, take, drop, get_or}
 use Rattle.std.proofs.Common.{Option, Result, Ok, Err, refl, sym, ap, ◌∙◌, subst, inl, inr, append_assoc, arith}
 use Rattle.std.proofs.lemmas.Bool.{cases_lt, eq-eqb, ne_eqb}
-use Rattle.std.proofs.lemmas.List.{length-append, length-drop, append-nil, take-append-le, take-append-drop, take_all, take_more, take_min}
+use Rattle.std.proofs.lemmas.List.{length-append, length-drop, append-nil, take-append-le, take-append-drop}
+use Rattle.std.proofs.lemmas.List.{length-take-le, take_all, take_more, take_min}
 use Rattle.std.proofs.Math.Seq.{take-nil, take-append-add}
 use Rattle.sspi_ber.specs.declared.wire_kind.WireKind.{WireKind}
 use Rattle.sspi_ber.specs.declared.wire_kind.WireKind.TheVariants.{UnexpectedEof, InvalidData, ReadFault, WriteFault, InsufficientMemory}
@@ -74,7 +75,7 @@ outer_steps nonce r bytes part byte (Known n) s h = record {
   body = [];
   header = h (byte ∷ []) ∙ s [];
   counted = omega arith;
-  goes = λ more. ap (λ (l : List ℕ). answered (body_at (l ++ more))) (take-nil {A = ℕ} n);
+  goes = λ more le. ap (λ (l : List ℕ). answered (body_at (l ++ more))) (take-nil {A = ℕ} n);
   quiet = λ without opened. opened;
 }
 outer_steps nonce r bytes part byte Bad s h = h (byte ∷ []) ∙ s []
@@ -116,12 +117,13 @@ inside_on nonce left len place r bytes behind reader s e w = record {
         body = s.body ++ behind;
         header = (header_steady 0x30).goes bytes s.size s.body behind s.header;
         counted = omega (arith, e, s.counted, length-append s.body behind);
-        goes = λ more.
+        goes = λ more le.
             ap (λ (l : List ℕ). answered (body_at (l ++ more)))
             (take_both s.size s.body behind ∙ ap (λ (l : List ℕ). take s.size s.body ++ l)
             (some_taken s.size left len s.body behind s.counted e))
             ∙ ap (λ (l : List ℕ). answered (body_at l)) (append_assoc (take s.size s.body) (take len behind) more)
             ∙ s.goes (take len behind ++ more)
+            (omega (arith, le, e, length-append (take len behind) more, length-take-le len behind (omega (arith, e))))
             ∙ w.goes more;
         quiet = λ without. let parts = without_parts 0x04 bytes behind without in w.quiet (s.quiet parts.0)
             (without_front 0x04 len behind parts.1);
@@ -348,7 +350,7 @@ at_end : (nonce : List ℕ) (left : ℕ) (place : Place) (r : TsRequest) (bytes 
     → EndsAs (answered (rest_at nonce place r [])) result → EndsAs (answered (body_at (take s.size s.body))) result
 at_end nonce left place r bytes s result h =
     subst (λ (z : Result TsRequest Fault). EndsAs z result)
-    (sym (ap (λ (l : List ℕ). answered (body_at l)) (sym (append-nil (take s.size s.body))) ∙ s.goes [])) h
+    (sym (ap (λ (l : List ℕ). answered (body_at l)) (sym (append-nil (take s.size s.body))) ∙ s.goes [] (omega arith))) h
 
 inside : (reader : TsReader) (left : ℕ) (place : Place) (bytes : List ℕ) → reader.stage ≡ Content left place → Stands reader bytes
     → StandsInside reader.nonce left place reader.request bytes

@@ -1,3 +1,4 @@
+pub mod AtOnce
 pub mod Blocks
 pub mod Contents
 pub mod CredsBack

@@ -18,14 +18,14 @@ use Rattle.sspi_tsreq.specs.Reading.{body_at}
 use Rattle.sspi_tsreq.specs.Places.{answered, length_rest, rest_at, text_of, with_text}
 use Rattle.sspi_tsreq.specs.Walks.{IsWithout, Opened}
 
--- Inside a content: its header was read, `left` of its bytes are to come, and whatever comes, the fields that were read
--- and the place lead to what the whole content reads as.
+-- Inside a content: its header was read, `left` of its bytes are to come, and whatever these are, the fields that were
+-- read and the place lead to what the whole content reads as.
 pub record StandsInside (nonce : List ℕ) (left : ℕ) (place : Place) (r : TsRequest) (bytes : List ℕ) : Type 0 where
   pub size : ℕ
   pub body : List ℕ
   pub header : header_at 0x30 bytes ≡ Ok (size, body)
   pub counted : left ≡ size - length body
-  pub goes : (more : List ℕ) → answered (body_at (take size body ++ more)) ≡ answered (rest_at nonce place r more)
+  pub goes : (more : List ℕ) → length more ≤ left → answered (body_at (take size body ++ more)) ≡ answered (rest_at nonce place r more)
   pub quiet : IsWithout 0x04 bytes → Opened place → ⊥
 
 abbrev pub StandsAt : List ℕ → Stage → TsRequest → List ℕ → Type 0

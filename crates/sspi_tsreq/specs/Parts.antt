@@ -11,7 +11,7 @@ seen parts = record {
   auth_info = option_copied parts.auth_info;
   pub_key_auth = option_copied parts.pub_key_auth;
   error_code = parts.error_code;
-  client_nonce = parts.client_nonce;
+  client_nonce = option_copied parts.client_nonce;
 }
 
 -- the request has an OCTET STRING that is copied; the nonce is none, since it has its place in the request

@@ -9,7 +9,7 @@ use sspi_ber::WireKind;
 use sspi_types::{Bytes, NStatusCode};
 use std::alloc::{AllocError, Global};
 
-/// The fields of a request, each OCTET STRING where it stands in the bytes.
+/// The fields of a request, each OCTET STRING and the nonce where they stand in the bytes.
 #[derive(Clone, Copy)]
 pub(crate) struct Parts<'a> {
     pub version: u32,
@@ -17,7 +17,7 @@ pub(crate) struct Parts<'a> {
     pub auth_info: Option<&'a [u8]>,
     pub pub_key_auth: Option<&'a [u8]>,
     pub error_code: Option<NStatusCode>,
-    pub client_nonce: Option<[u8; 32]>,
+    pub client_nonce: Option<&'a [u8; 32]>,
 }
 
 /// A copy, which takes memory exactly where there is something to copy.
@@ -45,6 +45,6 @@ pub(crate) fn copy_request(alloc: Global, parts: &Parts<'_>) -> Result<TsRequest
         auth_info,
         pub_key_auth,
         error_code: parts.error_code,
-        client_nonce: parts.client_nonce,
+        client_nonce: parts.client_nonce.copied(),
     })
 }

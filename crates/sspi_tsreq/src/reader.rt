@@ -8,14 +8,17 @@ ghost use Rattle.sspi_tsreq.specs.Answer.{IsAnswer};
 ghost use Rattle.sspi_tsreq.specs.Feeding.{EndsAs, IsOuter, IsPast, IsPastReading, lengthened, numbered, stage_of, Stands, StandsAt};
 ghost use Rattle.sspi_tsreq.specs.Feeding.{StandsInside, WentOn};
 ghost use Rattle.sspi_tsreq.specs.Grammar.{IsRequest};
+ghost use Rattle.sspi_tsreq.specs.Parts.{HasOctets, seen};
 ghost use Rattle.sspi_tsreq.specs.Places.{answered, from_tag, nonce_from, octets_of, rest_at, text_from, text_of, with_text};
 ghost use Rattle.sspi_tsreq.specs.Walks.{filled, from_field, from_inner, slot, IsHere, IsInText, IsQuiet, IsWithout, Opened};
 
 use crate::length::next_length;
+use crate::parts::{Parts, copy_request};
 use crate::place::{Element, Field, Inner, LengthPart, LengthStep, Place, Stage, Text};
+use crate::reading::read_request;
 use crate::request::TsRequest;
 use crate::walk::{Slot, Walk, after_text};
-use sspi_ber::WireKind;
+use sspi_ber::{SliceSource, WireKind};
 use sspi_types::Bytes;
 use std::alloc::{AllocError, Global};
 
@@ -272,6 +275,34 @@ impl TsReader {
         ensures free { (bytes : List ℕ) → Stands self.old bytes → IsWithout 0x04 (bytes ++ piece.now) → IsOk result }
         ensures past { (bytes : List ℕ) → Stands self.old bytes → IsPastReading bytes → IsOk result }
     {
+        if let Stage::OuterTag = self.stage
+            && let Ok(parts) = read_request(&mut SliceSource::new(piece))
+        {
+            return self.keep(&parts);
+        }
+        self.feed_on(piece)
+    }
+
+    /// The request that the first piece has whole.
+    fn keep(&mut self, parts: &Parts<'_>) -> Result<(), WireKind>
+        ensures ok { OnOk result (self.new ≡ record self.old { stage = Stage.Content 0 Place.Whole; request = seen parts.now }) }
+        ensures err { OnErr result (self.new ≡ self.old) }
+        ensures memory { IfErr result (λ kind. (kind ≡ WireKind.InsufficientMemory) × HasOctets (seen parts.now)) }
+    {
+        self.request = copy_request(self.alloc, parts)?;
+        self.stage = Stage::Content(0, Place::Whole);
+        Ok(())
+    }
+
+    /// Field by field, from where the reader stands.
+    #[inline(never)]
+    fn feed_on(&mut self, piece: &[u8]) -> Result<(), WireKind>
+        ensures ok { (bytes : List ℕ) → Stands self.old bytes → OnOk result (Stands self.new (bytes ++ piece.now)) }
+        ensures err { OnErr result (self.new ≡ self.old) }
+        ensures kind { IfErr result (λ kind. kind ≡ WireKind.InsufficientMemory) }
+        ensures free { (bytes : List ℕ) → Stands self.old bytes → IsWithout 0x04 (bytes ++ piece.now) → IsOk result }
+        ensures past { (bytes : List ℕ) → Stands self.old bytes → IsPastReading bytes → IsOk result }
+    {
         let (stage, taken) = read_outer(self.stage, piece);
         match stage {
             Stage::Content(left, place) => self.feed_content(left, place, &piece[taken..]),
@@ -284,6 +315,19 @@ impl TsReader {
     /// What `from_buffer` answers on all that was fed: the request that it begins with, or its first fault. A fault of the
     /// content is told only where the content is whole, and else `UnexpectedEof`. Takes no memory.
     pub fn finish(self) -> Result<TsRequest, WireKind>
+        ensures answer { (bytes : List ℕ) → Stands self bytes → IsAnswer bytes result }
+        ensures only { (bytes : List ℕ) → Stands self bytes → (r : TsRequest) (count : ℕ) → IsRequest bytes r count → result ≡ Ok r }
+        ensures memory { NeedsNoMemory result }
+    {
+        if let Stage::Content(0, Place::Whole) = self.stage {
+            return Ok(self.request);
+        }
+        self.conclude()
+    }
+
+    /// The answer at any place.
+    #[inline(never)]
+    fn conclude(self) -> Result<TsRequest, WireKind>
         ensures answer { (bytes : List ℕ) → Stands self bytes → IsAnswer bytes result }
         ensures only { (bytes : List ℕ) → Stands self bytes → (r : TsRequest) (count : ℕ) → IsRequest bytes r count → result ≡ Ok r }
         ensures memory { NeedsNoMemory result }

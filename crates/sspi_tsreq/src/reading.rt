@@ -101,8 +101,8 @@ fn read_code_field(source: &mut SliceSource<'_>) -> Result<Option<NStatusCode>, 
 }
 
 #[tactic(auto, unfolding(crate::specs::Reading::nonce_at))]
-fn read_nonce(source: &mut SliceSource<'_>) -> Result<[u8; 32], WireKind>
-    ensures read { Gives (λ nonce. nonce) source.new result (nonce_at source.old) }
+fn read_nonce<'a>(source: &mut SliceSource<'a>) -> Result<&'a [u8; 32], WireKind>
+    ensures read { Gives (λ nonce. nonce.now) source.new result (nonce_at source.old) }
     ensures memory { NeedsNoMemory result }
 {
     let len = read_header(source, 0x04)?;
@@ -110,14 +110,15 @@ fn read_nonce(source: &mut SliceSource<'_>) -> Result<[u8; 32], WireKind>
         return Err(WireKind::InvalidData);
     }
     let text = source.take(32)?;
-    let mut nonce = [0u8; 32];
-    nonce.copy_from_slice(text);
-    Ok(nonce)
+    match text.try_into() {
+        Ok(nonce) => Ok(nonce),
+        Err(_) => Err(WireKind::InvalidData),
+    }
 }
 
 #[tactic(auto, unfolding(sspi_ber::specs::Pieces::field_at))]
-fn read_nonce_field(source: &mut SliceSource<'_>) -> Result<Option<[u8; 32]>, WireKind>
-    ensures read { Gives (λ field. field) source.new result (field_at 0xA5 nonce_at source.old) }
+fn read_nonce_field<'a>(source: &mut SliceSource<'a>) -> Result<Option<&'a [u8; 32]>, WireKind>
+    ensures read { Gives (λ field. option_copied field) source.new result (field_at 0xA5 nonce_at source.old) }
     ensures memory { NeedsNoMemory result }
 {
     match read_tag_or_absent(source, 0xA5)? {

@@ -10,6 +10,7 @@ ghost use Rattle.sspi_tsreq.specs.declared.request.TsRequest.{TsRequest};
 ghost use Rattle.sspi_tsreq.specs.Value.{bare, first_request};
 
 use crate::parts::copy_request;
+use crate::reader::TsReader;
 use crate::reading::read_request;
 use crate::sizes::fields_size;
 use crate::writing::write_request;
@@ -95,10 +96,23 @@ impl TsRequest {
     ///
     /// `UnexpectedEof` where the outer header is bad, the buffer is shorter than header and content, or the content ends
     /// inside an element; `InvalidData` where the first element that is not spelled as it must be is refused for another
-    /// reason. Lengths of tags are judged by their form alone. Memory is taken only for the OCTET STRINGs of a request that was
-    /// found whole, so want of memory never comes in place of a fault, nor for a request that has none.
-    #[tactic(auto, using(crate::proofs::FromBuffer::refused_answer))]
+    /// reason. Lengths of tags are judged by their form alone. Want of memory is told only for the OCTET STRINGs of a request
+    /// that was found whole, so it never comes in place of a fault, nor for a request that has none.
     pub fn from_buffer(alloc: Global, buffer: &[u8]) -> Result<TsRequest, WireKind>
+        ensures answer { IsAnswer buffer.now result }
+        ensures only { (r : TsRequest) (count : ℕ) → IsRequest buffer.now r count → IsUnlessMemory result r }
+    {
+        let mut reader = TsReader::new(alloc);
+        match reader.feed(buffer) {
+            Ok(()) => reader.finish(),
+            Err(_) => TsRequest::read_slice(alloc, buffer),
+        }
+    }
+
+    /// What is said where memory was wanting, which a fault anywhere in the buffer comes before.
+    #[cold]
+    #[tactic(auto, using(crate::proofs::FromBuffer::refused_answer))]
+    fn read_slice(alloc: Global, buffer: &[u8]) -> Result<TsRequest, WireKind>
         ensures answer { IsAnswer buffer.now result }
         ensures only { (r : TsRequest) (count : ℕ) → IsRequest buffer.now r count → IsUnlessMemory result r }
     {

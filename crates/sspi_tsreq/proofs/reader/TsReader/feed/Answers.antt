@@ -1,16 +1,16 @@
-use Rattle.sspi_tsreq.proofs.Feeding.{fed_closed, fed_behind, past_content, stage_past}
+use Rattle.sspi_tsreq.specs.Parts.{seen}
+use Rattle.sspi_tsreq.proofs.AtOnce.{kept_free, kept_stands, unfed_past}
 use Rattle.sspi_tsreq.proofs.reader.TsReader.feed.Goals as goal
 
-pub returns-in-Content-clause-free : goal.returns-in-Content-clause-free
-returns-in-Content-clause-free c = λ bytes s without.
-    c.feed_content.ensures.free
-    (fed_closed c.args.self.now c.read_outer-stage.result.0 c.in-Content.left c.in-Content.place bytes c.args.piece.now
-    c.read_outer-stage.result.1
-    (c.read_outer-stage.ensures.stands _ bytes _ s.at) c.in-Content.is without)
-    (fed_behind bytes c.args.piece.now c.read_outer-stage.result.1 without)
+pub returns-clause-ok : goal.returns-clause-ok
+returns-clause-ok c = λ bytes s.
+    kept_stands c.args.self.now c.keep.new.self c.keep.result bytes c.args.piece.now _ (seen c.in-Ok.parts) c.in-OuterTag.is s
+    (rw c.new.ensures at c.in-Ok.ensures.read) c.keep.ensures.ok
 
-pub returns-in-Content-clause-past : goal.returns-in-Content-clause-past
-returns-in-Content-clause-past c = λ bytes s past.
-    c.feed_content.ensures.past
-    (past_content c.read_outer-stage.result.0 c.in-Content.left c.in-Content.place c.in-Content.is
-    (c.read_outer-stage.ensures.past (stage_past c.args.self.now.nonce c.args.self.now.stage c.args.self.now.request bytes s.at past)))
+pub returns-clause-free : goal.returns-clause-free
+returns-clause-free c = λ bytes s without.
+    kept_free c.keep.result bytes c.args.piece.now _ (seen c.in-Ok.parts) (rw c.new.ensures at c.in-Ok.ensures.read)
+    c.keep.ensures.memory without
+
+pub returns-clause-past : goal.returns-clause-past
+returns-clause-past c = λ bytes s past. absurd (unfed_past c.args.self.now bytes c.in-OuterTag.is s past)
