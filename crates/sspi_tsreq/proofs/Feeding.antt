@@ -352,7 +352,7 @@ at_end nonce left place r bytes s result h =
     subst (λ (z : Result TsRequest Fault). EndsAs z result)
     (sym (ap (λ (l : List ℕ). answered (body_at l)) (sym (append-nil (take s.size s.body))) ∙ s.goes [] (omega arith))) h
 
-inside : (reader : TsReader) (left : ℕ) (place : Place) (bytes : List ℕ) → reader.stage ≡ Content left place → Stands reader bytes
+pub inside : (reader : TsReader) (left : ℕ) (place : Place) (bytes : List ℕ) → reader.stage ≡ Content left place → Stands reader bytes
     → StandsInside reader.nonce left place reader.request bytes
 inside reader left place bytes e s = subst (λ (g : Stage). StandsAt reader.nonce g reader.request bytes) e s.at
 

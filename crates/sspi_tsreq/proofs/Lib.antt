@@ -1,4 +1,5 @@
 pub mod AtOnce
+pub mod Bytewise
 pub mod Blocks
 pub mod Contents
 pub mod CredsBack

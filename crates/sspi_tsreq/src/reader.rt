@@ -5,19 +5,21 @@ ghost use Rattle.std.specs.Prelude.{MatchBool, OnOk, OnErr};
 ghost use Rattle.sspi_ber.specs.Outside.{NeedsNoMemory};
 ghost use Rattle.sspi_tsreq.specs.declared.request.TsRequest.{TsRequest};
 ghost use Rattle.sspi_tsreq.specs.Answer.{IsAnswer};
-ghost use Rattle.sspi_tsreq.specs.Feeding.{EndsAs, IsOuter, IsPast, IsPastReading, lengthened, numbered, stage_of, Stands, StandsAt};
+ghost use Rattle.sspi_tsreq.specs.Feeding.{IsOuter, IsPast, IsPastReading, lengthened, numbered, stage_of, Stands, StandsAt};
 ghost use Rattle.sspi_tsreq.specs.Feeding.{StandsInside, WentOn};
 ghost use Rattle.sspi_tsreq.specs.Grammar.{IsRequest};
 ghost use Rattle.sspi_tsreq.specs.Parts.{HasOctets, seen};
-ghost use Rattle.sspi_tsreq.specs.Places.{answered, from_tag, nonce_from, octets_of, rest_at, text_from, text_of, with_text};
-ghost use Rattle.sspi_tsreq.specs.Walks.{filled, from_field, from_inner, slot, IsHere, IsInText, IsQuiet, IsWithout, Opened};
+ghost use Rattle.sspi_tsreq.specs.Places.{octets_of, rest_at, text_from, text_of, with_text};
+ghost use Rattle.sspi_tsreq.specs.Walks.{filled, slot, IsHere, IsInText, IsQuiet, IsWithout, Opened};
 
+use crate::ending::ended;
 use crate::length::next_length;
+use crate::next::next_place;
 use crate::parts::{Parts, copy_request};
-use crate::place::{Element, Field, Inner, LengthPart, LengthStep, Place, Stage, Text};
+use crate::place::{Element, Inner, LengthPart, LengthStep, Place, Stage, Text};
 use crate::reading::read_request;
 use crate::request::TsRequest;
-use crate::walk::{Slot, Walk, after_text};
+use crate::walk::{Slot, Walk, after_text, with_byte};
 use sspi_ber::{SliceSource, WireKind};
 use sspi_types::Bytes;
 use std::alloc::{AllocError, Global};
@@ -132,6 +134,20 @@ fn lengthen(alloc: Global, field: &mut Option<Bytes>, octets: &[u8]) -> Result<(
     }
 }
 
+/// The same for one byte, which is no copy of a slice.
+fn push_octet(alloc: Global, field: &mut Option<Bytes>, byte: u8) -> Result<(), AllocError>
+    ensures ok { OnOk result (field.new ≡ Some (octets_of field.old ++ byte ∷ [])) }
+    ensures err { OnErr result (field.new ≡ field.old) }
+{
+    match field {
+        Some(bytes) => bytes.push_slice(&[byte]),
+        None => {
+            *field = Some(Bytes::from_slice(alloc, &[byte])?);
+            Ok(())
+        }
+    }
+}
+
 /// The bytes of the piece that belong to the field in which the reader stands, and the place behind them.
 fn first_octets<'a>(place: Place, body: &'a [u8]) -> (&'a [u8], Place)
     ensures front { result.0.now ≡ take (length result.0.now) body.now }
@@ -170,87 +186,6 @@ fn octets_of_field<'a>(text: Text, more: u32, body: &'a [u8]) -> (&'a [u8], Plac
     }
 }
 
-/// The request without the fields from this one on.
-fn without(field: Field, request: TsRequest) -> TsRequest
-    ensures { answered (from_field field request []) ≡ Ok result }
-{
-    let mut request = request;
-    match field {
-        Field::Nego => {
-            request.nego_tokens = None;
-            request.auth_info = None;
-            request.pub_key_auth = None;
-            request.error_code = None;
-            request.client_nonce = None;
-        }
-        Field::Auth => {
-            request.auth_info = None;
-            request.pub_key_auth = None;
-            request.error_code = None;
-            request.client_nonce = None;
-        }
-        Field::Key => {
-            request.pub_key_auth = None;
-            request.error_code = None;
-            request.client_nonce = None;
-        }
-        Field::Code => {
-            request.error_code = None;
-            request.client_nonce = None;
-        }
-        Field::Nonce => request.client_nonce = None,
-    }
-    request
-}
-
-/// What a content is that ends where this element may stand.
-fn tag_ended(element: Element, request: TsRequest) -> Result<TsRequest, WireKind>
-    ensures ends { EndsAs (answered (from_tag element request [])) result }
-    ensures memory { NeedsNoMemory result }
-{
-    match element {
-        Element::Optional(field) => Ok(without(field, request)),
-        Element::Required(inner) => missing(inner),
-    }
-}
-
-fn missing(inner: Inner) -> Result<TsRequest, WireKind>
-    ensures ends { (request : TsRequest) → EndsAs (answered (from_inner inner request [])) result }
-    ensures memory { NeedsNoMemory result }
-{
-    let _ = inner;
-    Err(WireKind::UnexpectedEof)
-}
-
-/// What is wrong with a nonce that ends here.
-fn nonce_fault(have: u32) -> WireKind
-    ensures ends { (nonce : List ℕ) (r : TsRequest) → EndsAs (answered (nonce_from nonce have r [])) (Err result) }
-    ensures memory { NeedsNoMemory {X = TsRequest} (Err result) }
-{
-    if have >= 32 {
-        WireKind::InvalidData
-    } else {
-        WireKind::UnexpectedEof
-    }
-}
-
-/// What a content is that ends here.
-fn ended(place: Place, request: TsRequest) -> Result<TsRequest, WireKind>
-    ensures ends { (nonce : List ℕ) → EndsAs (answered (rest_at nonce place request [])) result }
-    ensures memory { NeedsNoMemory result }
-{
-    match place {
-        Place::AtTag(element) => tag_ended(element, request),
-        Place::InLength(_, _) => Err(WireKind::UnexpectedEof),
-        Place::InVersion(_, _) => Err(WireKind::UnexpectedEof),
-        Place::InCode(_, _) => Err(WireKind::UnexpectedEof),
-        Place::InText(_, _) => Err(WireKind::UnexpectedEof),
-        Place::InNonce(have) => Err(nonce_fault(have)),
-        Place::Whole => Ok(request),
-        Place::Faulty => Err(WireKind::InvalidData),
-    }
-}
-
 impl TsReader {
     /// A reader that was fed nothing. Takes no memory.
     pub fn new(alloc: Global) -> TsReader
@@ -275,6 +210,9 @@ impl TsReader {
         ensures free { (bytes : List ℕ) → Stands self.old bytes → IsWithout 0x04 (bytes ++ piece.now) → IsOk result }
         ensures past { (bytes : List ℕ) → Stands self.old bytes → IsPastReading bytes → IsOk result }
     {
+        if let [byte] = piece {
+            return self.feed_byte(*byte);
+        }
         if let Stage::OuterTag = self.stage
             && let Ok(parts) = read_request(&mut SliceSource::new(piece))
         {
@@ -292,6 +230,66 @@ impl TsReader {
         self.request = copy_request(self.alloc, parts)?;
         self.stage = Stage::Content(0, Place::Whole);
         Ok(())
+    }
+
+    /// One byte.
+    #[inline(never)]
+    fn feed_byte(&mut self, byte: u8) -> Result<(), WireKind>
+        ensures ok { (bytes : List ℕ) → Stands self.old bytes → OnOk result (Stands self.new (bytes ++ byte ∷ [])) }
+        ensures err { OnErr result (self.new ≡ self.old) }
+        ensures kind { IfErr result (λ kind. kind ≡ WireKind.InsufficientMemory) }
+        ensures free { (bytes : List ℕ) → Stands self.old bytes → IsWithout 0x04 (bytes ++ byte ∷ []) → IsOk result }
+        ensures past { (bytes : List ℕ) → Stands self.old bytes → IsPastReading bytes → IsOk result }
+    {
+        if let Stage::Content(left, place) = self.stage
+            && left > 0
+        {
+            self.read_byte(left - 1, place, byte)?;
+            return Ok(());
+        }
+        self.feed_on(&[byte])
+    }
+
+    /// One byte of the content, behind which `left` are to come. Where no field begins or ends with it, it changes the reader in
+    /// place.
+    fn read_byte(&mut self, left: u32, place: Place, byte: u8) -> Result<(), AllocError>
+        ensures ok { OnOk result (WentOn self.old.nonce place self.old.request (byte ∷ []) left self.new) }
+        ensures err { OnErr result (self.new ≡ self.old) }
+        ensures free { (Opened place → ⊥) → (byte ≡ 0x04 → ⊥) → IsOk result }
+    {
+        match place {
+            Place::InText(text, more) if more > 0 => {
+                self.push_byte(text, byte)?;
+                self.stage = Stage::Content(left, Place::InText(text, more - 1));
+                return Ok(());
+            }
+            Place::InNonce(have) if have < 31 => {
+                self.nonce = with_byte(self.nonce, have as usize, byte);
+                self.stage = Stage::Content(left, Place::InNonce(have + 1));
+                return Ok(());
+            }
+            _ => {}
+        }
+        match next_place(place, byte) {
+            Some(next) => {
+                self.stage = Stage::Content(left, next);
+                Ok(())
+            }
+            None => self.read_content(left, place, &[byte]),
+        }
+    }
+
+    fn push_byte(&mut self, text: Text, byte: u8) -> Result<(), AllocError>
+        ensures ok { OnOk result (self.new ≡ record self.old {
+          request = with_text text self.old.request (text_of text self.old.request ++ byte ∷ []);
+        }) }
+        ensures err { OnErr result (self.new ≡ self.old) }
+    {
+        match text {
+            Text::NegoTokens => push_octet(self.alloc, &mut self.request.nego_tokens, byte),
+            Text::AuthInfo => push_octet(self.alloc, &mut self.request.auth_info, byte),
+            Text::PubKeyAuth => push_octet(self.alloc, &mut self.request.pub_key_auth, byte),
+        }
     }
 
     /// Field by field, from where the reader stands.

@@ -39,7 +39,7 @@ pub(crate) struct Walk<'a> {
 }
 
 /// The identifier octet of what has to come.
-fn tag_of(inner: Inner) -> u8
+pub(crate) fn tag_of(inner: Inner) -> u8
     ensures { result ≡ inner_tag inner }
 {
     match inner {
@@ -71,7 +71,7 @@ fn begins(version: u32, least: u32, byte: u8, tag: u8) -> bool
 }
 
 /// The nonce with this byte in this place.
-fn with_byte(nonce: [u8; 32], at: usize, byte: u8) -> [u8; 32]
+pub(crate) fn with_byte(nonce: [u8; 32], at: usize, byte: u8) -> [u8; 32]
     requires { at < 32 }
     ensures put { result ≡ slice_set nonce at byte }
     ensures size { length nonce ≡ 32 }
@@ -82,7 +82,7 @@ fn with_byte(nonce: [u8; 32], at: usize, byte: u8) -> [u8; 32]
 }
 
 /// The low 32 bits of a number, with one byte more.
-fn push_low(value: u32, byte: u8) -> u32
+pub(crate) fn push_low(value: u32, byte: u8) -> u32
     ensures { result ≡ (value * 256 + byte) % 2 ^ 32 }
 {
     ((u64::from(value) * 256 + u64::from(byte)) % 0x1_0000_0000) as u32
@@ -406,7 +406,7 @@ impl<'a> Walk<'a> {
 }
 
 /// What stands inside a field.
-fn inside(field: Field) -> Inner
+pub(crate) fn inside(field: Field) -> Inner
     ensures { (r : TsRequest) (len : ℕ) (more : List ℕ) → behind (Element.Optional field) r len more ≡ from_inner result r more }
 {
     match field {
@@ -429,7 +429,7 @@ pub(crate) fn after_text(text: Text) -> Field
     }
 }
 
-fn version_place(len: u32) -> Place
+pub(crate) fn version_place(len: u32) -> Place
     ensures goes { (nonce : List ℕ) (r : TsRequest) (more : List ℕ) →
         behind (Element.Required Inner.VersionNumber) r len more ≡ rest_at nonce result r more }
     ensures text { IsInText result → ⊥ }
@@ -442,7 +442,7 @@ fn version_place(len: u32) -> Place
     }
 }
 
-fn code_place(len: u32) -> Place
+pub(crate) fn code_place(len: u32) -> Place
     ensures goes { (nonce : List ℕ) (r : TsRequest) (more : List ℕ) →
         behind (Element.Required Inner.CodeNumber) r len more ≡ rest_at nonce result r more }
     ensures text { IsInText result → ⊥ }
@@ -455,7 +455,7 @@ fn code_place(len: u32) -> Place
     }
 }
 
-fn nonce_place(len: u32) -> Place
+pub(crate) fn nonce_place(len: u32) -> Place
     ensures goes { (nonce : List ℕ) (r : TsRequest) (more : List ℕ) →
         behind (Element.Required Inner.NonceOctets) r len more ≡ rest_at nonce result r more }
     ensures text { IsInText result → ⊥ }

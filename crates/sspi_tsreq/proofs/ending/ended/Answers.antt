@@ -3,7 +3,7 @@ use Rattle.sspi_tsreq.specs.declared.place.Place.{Place}
 use Rattle.sspi_tsreq.specs.Feeding.{EndsAs}
 use Rattle.sspi_tsreq.specs.Places.{answered, rest_at}
 use Rattle.sspi_tsreq.proofs.Ends.{length_from_end, version_from_end, code_from_end, text_from_end}
-use Rattle.sspi_tsreq.proofs.reader.ended.Goals as goal
+use Rattle.sspi_tsreq.proofs.ending.ended.Goals as goal
 
 pub returns-in-InLength-clause-ends : goal.returns-in-InLength-clause-ends
 returns-in-InLength-clause-ends c = rw c.in-InLength.is (λ nonce. ap answered

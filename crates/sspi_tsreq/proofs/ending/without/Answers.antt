@@ -1,5 +1,5 @@
 use Rattle.sspi_tsreq.proofs.Ends.{no_nego, no_auth, no_key, no_code, no_nonce}
-use Rattle.sspi_tsreq.proofs.reader.without.Goals as goal
+use Rattle.sspi_tsreq.proofs.ending.without.Goals as goal
 
 pub returns-in-Nego : goal.returns-in-Nego
 returns-in-Nego c = rw c.in-Nego.is (no_nego c.args.request)

@@ -1,0 +1,55 @@
+-- One byte of a content.
+use Rattle.std.proofs.Common.{◌≡◌, ℕ, ◌+◌, ◌-◌, ◌<◌, List, [], ◌∷◌, ◌++◌, length, sym, ap, ◌∙◌, subst, arith, slice_set}
+use Rattle.sspi_tsreq.specs.declared.place.Place.{Place}
+use Rattle.sspi_tsreq.specs.declared.place.Place.TheVariants.{InText, InNonce}
+use Rattle.sspi_tsreq.specs.declared.place.Stage.TheVariants.{Content}
+use Rattle.sspi_tsreq.specs.declared.place.Text.{Text}
+use Rattle.sspi_tsreq.specs.declared.reader.TsReader.{TsReader}
+use Rattle.sspi_tsreq.specs.declared.request.TsRequest.{TsRequest}
+use Rattle.sspi_tsreq.specs.Feeding.{Stands, WentOn}
+use Rattle.sspi_tsreq.specs.Places.{answered, nonce_from, rest_at, text_from, text_of, with_text}
+use Rattle.sspi_tsreq.specs.Walks.{IsWithout, Opened}
+use Rattle.sspi_tsreq.proofs.Feeding.{inside, inside_on, without_parts}
+use Rattle.sspi_tsreq.proofs.Walks.{nonce_more, text_part}
+
+-- an octet of a field, with more behind it
+pub text_went : (nonce : List ℕ) (left more byte : ℕ) (place : Place) (text : Text) (r : TsRequest) (reader : TsReader) → 0 < more
+    → place ≡ InText text more → reader.stage ≡ Content left (InText text (more - 1))
+    → reader.request ≡ with_text text r (text_of text r ++ byte ∷ []) → WentOn nonce place r (byte ∷ []) left reader
+text_went nonce left more byte place text r reader some is stage-is request-is = record {
+  now = InText text (more - 1);
+  stage = stage-is;
+  goes = λ rest.
+      ap (λ (p : Place). answered (rest_at nonce p r (byte ∷ rest))) is
+      ∙ ap answered (text_part text more r (byte ∷ []) rest (omega (arith, some)))
+      ∙ ap (λ (q : TsRequest). answered (text_from text (more - 1) q rest)) (sym request-is);
+  quiet = λ closed without opened. closed (subst (λ (p : Place). Opened p) (sym is) tt);
+}
+
+-- a byte of the nonce, with more behind it
+pub nonce_went : (nonce : List ℕ) (left have byte : ℕ) (place : Place) (r : TsRequest) (reader : TsReader) → length nonce ≡ 32
+    → have < 31 → place ≡ InNonce have → reader.stage ≡ Content left (InNonce (have + 1)) → reader.nonce ≡ slice_set nonce have byte
+    → reader.request ≡ r → WentOn nonce place r (byte ∷ []) left reader
+nonce_went nonce left have byte place r reader size lt is stage-is nonce-is request-is = record {
+  now = InNonce (have + 1);
+  stage = stage-is;
+  goes = λ rest.
+      ap (λ (p : Place). answered (rest_at nonce p r (byte ∷ rest))) is
+      ∙ ap answered (nonce_more r nonce have byte rest size (omega (arith, lt)) (λ last. omega (arith, lt, last)))
+      ∙ ap (λ (n : List ℕ). answered (nonce_from n (have + 1) r rest)) (sym nonce-is)
+      ∙ ap (λ (q : TsRequest). answered (nonce_from reader.nonce (have + 1) q rest)) (sym request-is);
+  quiet = λ closed without opened. opened;
+}
+
+pub byte_stands : (before after : TsReader) (left : ℕ) (place : Place) (bytes : List ℕ) (byte : ℕ) → before.stage ≡ Content left place
+    → 0 < left → Stands before bytes → WentOn before.nonce place before.request (byte ∷ []) (left - 1) after
+    → Stands after (bytes ++ byte ∷ [])
+byte_stands before after left place bytes byte e some s w =
+    inside_on before.nonce left 1 place before.request bytes (byte ∷ []) after (inside before left place bytes e s) (omega (arith, some)) w
+
+-- no byte was the tag of an OCTET STRING
+pub byte_closed : (reader : TsReader) (left : ℕ) (place : Place) (bytes : List ℕ) (byte : ℕ) → reader.stage ≡ Content left place
+    → Stands reader bytes → IsWithout 0x04 (bytes ++ byte ∷ []) → (Opened place → ⊥) × (byte ≡ 0x04 → ⊥)
+byte_closed reader left place bytes byte e s without =
+    let parts = without_parts 0x04 bytes (byte ∷ []) without in
+    ((inside reader left place bytes e s).quiet parts.0, parts.1.0)
