@@ -3,7 +3,7 @@ use Rattle.std.proofs.Common.{◌≡◌, ◌≤◌, ℕ, List, [], ◌∷◌, �
 use Rattle.std.proofs.Common.{inl, inr, refl, sym, ap, ◌∙◌, subst, arith}
 use Rattle.std.proofs.lemmas.List.{append-nil, length-append, take_at}
 use Rattle.std.specs.Option.{IsSome}
-use Rattle.std.specs.Result.{IfErr, IsOk, OnOk}
+use Rattle.std.specs.Result.{IfErr, OnOk}
 use Rattle.sspi_ber.specs.declared.wire_kind.WireKind.{WireKind}
 use Rattle.sspi_ber.specs.declared.wire_kind.WireKind.TheVariants.{InsufficientMemory}
 use Rattle.sspi_ber.specs.Forms.{IsField, IsWrapped}
@@ -24,6 +24,7 @@ use Rattle.sspi_tsreq.specs.Reading.{body_at, request_at}
 use Rattle.sspi_tsreq.specs.Walks.{IsWithout}
 use Rattle.sspi_tsreq.proofs.BodyMatch.{body_again}
 use Rattle.sspi_tsreq.proofs.Feeding.{last_answer, last_only, never, stage_past, without_parts}
+use Rattle.sspi_tsreq.proofs.FromBuffer.{unkept_answer}
 use Rattle.sspi_tsreq.proofs.RequestMatch.{request_takes}
 
 -- ---- the reader stands behind it
@@ -89,28 +90,42 @@ request_marked bytes r count t octets without =
       ]
     ]
 
-pub read_marked : (bytes rest : List ℕ) (r : TsRequest) → request_at bytes ≡ Ok (r, rest) → HasOctets r → IsWithout 0x04 bytes → ⊥
-read_marked bytes rest r e = let t = request_takes bytes r rest e in request_marked bytes r t.0 t.1
-
 -- ---- a reader that was fed nothing
 
 nothing_fed : (reader : TsReader) (bytes : List ℕ) → reader.stage ≡ OuterTag → Stands reader bytes → bytes ≡ []
 nothing_fed reader bytes e s = subst (λ (g : Stage). StandsAt reader.nonce g reader.request bytes) e s.at
 
-pub kept_stands : (before after : TsReader) (result : Result (Unit {0}) WireKind) (bytes piece rest : List ℕ) (r : TsRequest)
-    → before.stage ≡ OuterTag → Stands before bytes → request_at piece ≡ Ok (r, rest)
-    → OnOk result (after ≡ record before { stage = Content 0 Whole; request = r }) → OnOk result (Stands after (bytes ++ piece))
-kept_stands before after (Ok x) bytes piece rest r e s f h =
-    let none : bytes ++ piece ≡ piece = ap (λ (l : List ℕ). l ++ piece) (nothing_fed before bytes e s) in
+pub kept_stands : (before after : TsReader) (result : Result (Unit {0}) WireKind) (piece rest : List ℕ) (r : TsRequest)
+    → request_at piece ≡ Ok (r, rest) → OnOk result (after ≡ record before { stage = Content 0 Whole; request = r })
+    → OnOk result (Stands after piece)
+kept_stands before after (Ok x) piece rest r f h =
     let kept : Stands (record before { stage = Content 0 Whole; request = r }) piece =
     record { at = read_stands before.nonce piece rest r f } in
-    subst (λ (l : List ℕ). Stands after l) (sym none) (subst (λ (reader : TsReader). Stands reader piece) (sym h) kept)
-kept_stands before after (Err kind) bytes piece rest r e s f h = tt
+    subst (λ (reader : TsReader). Stands reader piece) (sym h) kept
+kept_stands before after (Err kind) piece rest r f h = tt
 
-pub kept_free : (result : Result (Unit {0}) WireKind) (bytes piece rest : List ℕ) (r : TsRequest) → request_at piece ≡ Ok (r, rest)
-    → IfErr result (λ kind. (kind ≡ InsufficientMemory) × HasOctets r) → IsWithout 0x04 (bytes ++ piece) → IsOk result
-kept_free (Ok x) bytes piece rest r e h without = refl
-kept_free (Err kind) bytes piece rest r e h without = absurd (read_marked piece rest r e h.1 (without_parts 0x04 bytes piece without).1)
+abbrev Unkept : Result (Unit {0}) WireKind → TsRequest → Type 0
+Unkept result r = IfErr result (λ kind. (kind ≡ InsufficientMemory) × HasOctets r)
+
+pub unkept_answers : (result : Result (Unit {0}) WireKind) (piece rest : List ℕ) (r : TsRequest) → request_at piece ≡ Ok (r, rest)
+    → Unkept result r → IfErr result (λ kind. IsAnswer piece (Err kind))
+unkept_answers (Ok x) piece rest r e h = tt
+unkept_answers (Err kind) piece rest r e h =
+    subst (λ (k : WireKind). IsAnswer piece (Err k)) (sym h.0) (unkept_answer piece rest r e h.1)
+
+pub unkept_only : (result : Result (Unit {0}) WireKind) (r s : TsRequest) → Unkept result r
+    → IfErr result (λ kind. IsUnlessMemory {X = TsRequest} (Err kind) s)
+unkept_only (Ok x) r s h = tt
+unkept_only (Err kind) r s h = subst (λ (k : WireKind). IsUnlessMemory {X = TsRequest} (Err k) s) (sym h.0) tt
+
+pub first_stands : (before after : TsReader) (bytes piece : List ℕ) → before.stage ≡ OuterTag → Stands before bytes → Stands after piece
+    → Stands after (bytes ++ piece)
+first_stands before after bytes piece e s t =
+    subst (λ (l : List ℕ). Stands after l) (sym (ap (λ (l : List ℕ). l ++ piece) (nothing_fed before bytes e s))) t
+
+pub unkept_marked : (bytes piece : List ℕ) → IsAnswer piece (Err InsufficientMemory) → IsWithout 0x04 (bytes ++ piece) → ⊥
+unkept_marked bytes piece (r, count, t, octets) without =
+    request_marked piece r count t octets (without_parts 0x04 bytes piece without).1
 
 pub unfed_past : (reader : TsReader) (bytes : List ℕ) → reader.stage ≡ OuterTag → Stands reader bytes → IsPastReading bytes → ⊥
 unfed_past reader bytes e s past = stage_past reader.nonce OuterTag reader.request bytes (nothing_fed reader bytes e s) past

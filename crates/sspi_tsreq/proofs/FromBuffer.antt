@@ -1,11 +1,9 @@
 -- What the reader gives is the answer that the grammar and the first fault ask for.
-use Rattle.std.proofs.Common.{◌≡◌, ℕ, List, Result, Ok, Err, sym, ap, subst, ◌∙◌, drop}
-use Rattle.std.specs.Result.{IfOk, IfErr}
+use Rattle.std.proofs.Common.{◌≡◌, ℕ, List, Ok, Err, sym, ap, ◌∙◌, drop}
 use Rattle.sspi_ber.specs.declared.wire_kind.WireKind.{WireKind}
 use Rattle.sspi_ber.specs.declared.wire_kind.WireKind.TheVariants.{UnexpectedEof, InvalidData, ReadFault, WriteFault, InsufficientMemory}
 use Rattle.sspi_ber.specs.Fault.{Fault, Ended, Invalid, Read, fault_of}
 use Rattle.sspi_ber.specs.Outside.{Gives, NeedsNoMemory}
-use Rattle.sspi_ber.proofs.Match.{both_are}
 use Rattle.sspi_tsreq.specs.declared.request.TsRequest.{TsRequest}
 use Rattle.sspi_tsreq.specs.Answer.{fault, IsAnswer, IsUnlessMemory}
 use Rattle.sspi_tsreq.specs.Parts.{HasOctets}
@@ -46,20 +44,3 @@ refused_only view bytes after InvalidData h m r count t = not_fault bytes r (dro
 refused_only view bytes after ReadFault h m r count t = h
 refused_only view bytes after WriteFault h m r count t = h
 refused_only view bytes after InsufficientMemory h m r count t = tt
-
-abbrev Copied : TsRequest → Result TsRequest WireKind → Type 0
-Copied s result = IfOk result (λ r. r ≡ s) × IfErr result (λ kind. (kind ≡ InsufficientMemory) × HasOctets s)
-
-pub copied_answer : (bytes after : List ℕ) (s : TsRequest) (result : Result TsRequest WireKind) → request_at bytes ≡ Ok (s, after) →
-    Copied s result → IsAnswer bytes result
-copied_answer bytes after s (Ok r) h (same, none) = kept_answer bytes after r s h same
-copied_answer bytes after s (Err kind) h (none, (is, octets)) =
-    subst (λ (k : WireKind). IsAnswer bytes (Err k)) (sym is) (unkept_answer bytes after s h octets)
-
-pub copied_only : (bytes after : List ℕ) (s : TsRequest) (result : Result TsRequest WireKind) → request_at bytes ≡ Ok (s, after) →
-    Copied s result
-    → (r : TsRequest) (count : ℕ) → IsRequest bytes r count → IsUnlessMemory result r
-copied_only bytes after s (Ok x) h (same, none) r count t = same ∙
-    (both_are s r after (drop count bytes) (sym h ∙ request_again bytes r count t)).0
-copied_only bytes after s (Err kind) h (none, (is, octets)) r count t =
-    subst (λ (k : WireKind). IsUnlessMemory {X = TsRequest} (Err k) r) (sym is) tt

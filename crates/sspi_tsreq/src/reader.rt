@@ -4,7 +4,7 @@ ghost use Rattle.std.specs.Prelude.{◌≡◌, ◌≤◌, ℕ, List, [], ◌∷�
 ghost use Rattle.std.specs.Prelude.{MatchBool, OnOk, OnErr};
 ghost use Rattle.sspi_ber.specs.Outside.{NeedsNoMemory};
 ghost use Rattle.sspi_tsreq.specs.declared.request.TsRequest.{TsRequest};
-ghost use Rattle.sspi_tsreq.specs.Answer.{IsAnswer};
+ghost use Rattle.sspi_tsreq.specs.Answer.{IsAnswer, IsUnlessMemory};
 ghost use Rattle.sspi_tsreq.specs.Feeding.{IsOuter, IsPast, IsPastReading, lengthened, numbered, stage_of, Stands, StandsAt};
 ghost use Rattle.sspi_tsreq.specs.Feeding.{StandsInside, WentOn};
 ghost use Rattle.sspi_tsreq.specs.Grammar.{IsRequest};
@@ -213,15 +213,41 @@ impl TsReader {
         if let [byte] = piece {
             return self.feed_byte(*byte);
         }
-        if let Stage::OuterTag = self.stage
-            && let Ok(parts) = read_request(&mut SliceSource::new(piece))
-        {
-            return self.keep(&parts);
+        if let Stage::OuterTag = self.stage {
+            return self.feed_first(piece);
         }
         self.feed_on(piece)
     }
 
-    /// The request that the first piece has whole.
+    /// The first piece.
+    fn feed_first(&mut self, piece: &[u8]) -> Result<(), WireKind>
+        requires { self.old.stage ≡ Stage.OuterTag }
+        ensures ok { (bytes : List ℕ) → Stands self.old bytes → OnOk result (Stands self.new (bytes ++ piece.now)) }
+        ensures err { OnErr result (self.new ≡ self.old) }
+        ensures kind { IfErr result (λ kind. kind ≡ WireKind.InsufficientMemory) }
+        ensures free { (bytes : List ℕ) → Stands self.old bytes → IsWithout 0x04 (bytes ++ piece.now) → IsOk result }
+        ensures past { (bytes : List ℕ) → Stands self.old bytes → IsPastReading bytes → IsOk result }
+    {
+        match self.read_whole(piece) {
+            Ok(()) => Ok(()),
+            Err(WireKind::InsufficientMemory) => Err(WireKind::InsufficientMemory),
+            Err(_) => self.feed_on(piece),
+        }
+    }
+
+    /// The request that `piece` has whole, with nothing before it. A fault comes before want of memory.
+    #[inline(never)]
+    pub(crate) fn read_whole(&mut self, piece: &[u8]) -> Result<(), WireKind>
+        ensures ok { OnOk result (Stands self.new piece.now) }
+        ensures err { OnErr result (self.new ≡ self.old) }
+        ensures answer { IfErr result (λ kind. IsAnswer piece.now (Err kind)) }
+        ensures only { (r : TsRequest) (count : ℕ) → IsRequest piece.now r count →
+            IfErr result (λ kind. IsUnlessMemory {X = TsRequest} (Err kind) r) }
+    {
+        let parts = read_request(&mut SliceSource::new(piece))?;
+        self.keep(&parts)
+    }
+
     fn keep(&mut self, parts: &Parts<'_>) -> Result<(), WireKind>
         ensures ok { OnOk result (self.new ≡ record self.old { stage = Stage.Content 0 Place.Whole; request = seen parts.now }) }
         ensures err { OnErr result (self.new ≡ self.old) }
@@ -250,8 +276,7 @@ impl TsReader {
         self.feed_on(&[byte])
     }
 
-    /// One byte of the content, behind which `left` are to come. Where no field begins or ends with it, it changes the reader in
-    /// place.
+    /// One byte of the content, behind which `left` are to come.
     fn read_byte(&mut self, left: u32, place: Place, byte: u8) -> Result<(), AllocError>
         ensures ok { OnOk result (WentOn self.old.nonce place self.old.request (byte ∷ []) left self.new) }
         ensures err { OnErr result (self.new ≡ self.old) }
@@ -261,15 +286,24 @@ impl TsReader {
             Place::InText(text, more) if more > 0 => {
                 self.push_byte(text, byte)?;
                 self.stage = Stage::Content(left, Place::InText(text, more - 1));
-                return Ok(());
+                Ok(())
             }
             Place::InNonce(have) if have < 31 => {
                 self.nonce = with_byte(self.nonce, have as usize, byte);
                 self.stage = Stage::Content(left, Place::InNonce(have + 1));
-                return Ok(());
+                Ok(())
             }
-            _ => {}
+            _ => self.step_byte(left, place, byte),
         }
+    }
+
+    /// One byte that is not among the octets of a field.
+    #[inline(never)]
+    fn step_byte(&mut self, left: u32, place: Place, byte: u8) -> Result<(), AllocError>
+        ensures ok { OnOk result (WentOn self.old.nonce place self.old.request (byte ∷ []) left self.new) }
+        ensures err { OnErr result (self.new ≡ self.old) }
+        ensures free { (Opened place → ⊥) → (byte ≡ 0x04 → ⊥) → IsOk result }
+    {
         match next_place(place, byte) {
             Some(next) => {
                 self.stage = Stage::Content(left, next);

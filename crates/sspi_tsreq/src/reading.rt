@@ -43,6 +43,7 @@ fn read_octets<'a>(source: &mut SliceSource<'a>) -> Result<&'a [u8], WireKind>
     read_element(source, 0x04)
 }
 
+#[inline(always)]
 #[tactic(auto, unfolding(sspi_ber::specs::Pieces::field_at))]
 fn read_octets_field<'a>(
     source: &mut SliceSource<'a>,

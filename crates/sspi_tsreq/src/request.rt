@@ -9,9 +9,7 @@ ghost use Rattle.sspi_tsreq.specs.Status.{ChecksCode};
 ghost use Rattle.sspi_tsreq.specs.declared.request.TsRequest.{TsRequest};
 ghost use Rattle.sspi_tsreq.specs.Value.{bare, first_request};
 
-use crate::parts::copy_request;
 use crate::reader::TsReader;
-use crate::reading::read_request;
 use crate::sizes::fields_size;
 use crate::writing::write_request;
 use sspi_ber::{
@@ -105,19 +103,19 @@ impl TsRequest {
         let mut reader = TsReader::new(alloc);
         match reader.feed(buffer) {
             Ok(()) => reader.finish(),
-            Err(_) => TsRequest::read_slice(alloc, buffer),
+            Err(_) => TsRequest::unkept(alloc, buffer),
         }
     }
 
-    /// What is said where memory was wanting, which a fault anywhere in the buffer comes before.
+    /// What is said where memory was wanting: a fault comes before it.
     #[cold]
-    #[tactic(auto, using(crate::proofs::FromBuffer::refused_answer))]
-    fn read_slice(alloc: Global, buffer: &[u8]) -> Result<TsRequest, WireKind>
+    fn unkept(alloc: Global, buffer: &[u8]) -> Result<TsRequest, WireKind>
         ensures answer { IsAnswer buffer.now result }
         ensures only { (r : TsRequest) (count : ℕ) → IsRequest buffer.now r count → IsUnlessMemory result r }
     {
-        let parts = read_request(&mut SliceSource::new(buffer))?;
-        copy_request(alloc, &parts)
+        let mut reader = TsReader::new(alloc);
+        reader.read_whole(buffer)?;
+        reader.finish()
     }
 
     /// How many bytes the request takes that the source begins with: those of its header, which are read, and those of the
