@@ -298,7 +298,6 @@ impl TsReader {
     }
 
     /// One byte that is not among the octets of a field.
-    #[inline(never)]
     fn step_byte(&mut self, left: u32, place: Place, byte: u8) -> Result<(), AllocError>
         ensures ok { OnOk result (WentOn self.old.nonce place self.old.request (byte ∷ []) left self.new) }
         ensures err { OnErr result (self.new ≡ self.old) }
