@@ -109,6 +109,7 @@ fn copied(alloc: Global, octets: Slot<'_>) -> Result<Option<Bytes>, AllocError>
     }
 }
 
+#[inline(always)]
 fn settle(field: &mut Option<Bytes>, octets: Slot<'_>, copy: Option<Bytes>)
     requires { copy ≡ slot octets None }
     ensures { field.new ≡ slot octets.entry field.old }
