@@ -1,5 +1,5 @@
 -- One byte of a content.
-use Rattle.std.proofs.Common.{◌≡◌, ℕ, ◌+◌, ◌-◌, ◌<◌, List, [], ◌∷◌, ◌++◌, length, sym, ap, ◌∙◌, subst, arith, slice_set}
+use Rattle.std.proofs.Common.{◌≡◌, ℕ, ◌+◌, ◌-◌, ◌<◌, ◌≤◌, List, [], ◌∷◌, ◌++◌, length, sym, ap, ◌∙◌, subst, arith, slice_set}
 use Rattle.sspi_tsreq.specs.declared.place.Place.{Place}
 use Rattle.sspi_tsreq.specs.declared.place.Place.TheVariants.{InText, InNonce}
 use Rattle.sspi_tsreq.specs.declared.place.Stage.TheVariants.{Content}
@@ -12,17 +12,17 @@ use Rattle.sspi_tsreq.specs.Walks.{IsWithout, Opened}
 use Rattle.sspi_tsreq.proofs.Feeding.{inside, inside_on, without_parts}
 use Rattle.sspi_tsreq.proofs.Walks.{nonce_more, text_part}
 
--- an octet of a field, with more behind it
-pub text_went : (nonce : List ℕ) (left more byte : ℕ) (place : Place) (text : Text) (r : TsRequest) (reader : TsReader) → 0 < more
-    → place ≡ InText text more → reader.stage ≡ Content left (InText text (more - 1))
-    → reader.request ≡ with_text text r (text_of text r ++ byte ∷ []) → WentOn nonce place r (byte ∷ []) left reader
-text_went nonce left more byte place text r reader some is stage-is request-is = record {
-  now = InText text (more - 1);
+-- octets of a field, with more behind them
+pub text_went : (nonce : List ℕ) (left more : ℕ) (octets : List ℕ) (place : Place) (text : Text) (r : TsRequest) (reader : TsReader)
+    → length octets ≤ more → place ≡ InText text more → reader.stage ≡ Content left (InText text (more - length octets))
+    → reader.request ≡ with_text text r (text_of text r ++ octets) → WentOn nonce place r octets left reader
+text_went nonce left more octets place text r reader some is stage-is request-is = record {
+  now = InText text (more - length octets);
   stage = stage-is;
   goes = λ rest.
-      ap (λ (p : Place). answered (rest_at nonce p r (byte ∷ rest))) is
-      ∙ ap answered (text_part text more r (byte ∷ []) rest (omega (arith, some)))
-      ∙ ap (λ (q : TsRequest). answered (text_from text (more - 1) q rest)) (sym request-is);
+      ap (λ (p : Place). answered (rest_at nonce p r (octets ++ rest))) is
+      ∙ ap answered (text_part text more r octets rest some)
+      ∙ ap (λ (q : TsRequest). answered (text_from text (more - length octets) q rest)) (sym request-is);
   quiet = λ closed without opened. closed (subst (λ (p : Place). Opened p) (sym is) tt);
 }
 

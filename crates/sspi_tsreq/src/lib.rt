@@ -27,6 +27,7 @@ pub mod laws;
 mod length;
 pub mod mode;
 mod next;
+mod outer;
 mod parts;
 mod place;
 mod reader;

@@ -1,22 +1,21 @@
 //! A request that is read from pieces, as a stream gives them.
 
 ghost use Rattle.std.specs.Prelude.{◌≡◌, ◌≤◌, ℕ, List, [], ◌∷◌, ◌++◌, length, take, drop, None, Some, Ok, Err, IfOk, IfErr, IsOk};
-ghost use Rattle.std.specs.Prelude.{MatchBool, OnOk, OnErr};
+ghost use Rattle.std.specs.Prelude.{OnOk, OnErr};
 ghost use Rattle.sspi_ber.specs.Outside.{NeedsNoMemory};
 ghost use Rattle.sspi_tsreq.specs.declared.request.TsRequest.{TsRequest};
 ghost use Rattle.sspi_tsreq.specs.Answer.{IsAnswer, IsUnlessMemory};
-ghost use Rattle.sspi_tsreq.specs.Feeding.{IsOuter, IsPast, IsPastReading, lengthened, numbered, stage_of, Stands, StandsAt};
-ghost use Rattle.sspi_tsreq.specs.Feeding.{StandsInside, WentOn};
+ghost use Rattle.sspi_tsreq.specs.Feeding.{IsPastReading, lengthened, numbered, Stands, StandsInside, WentOn};
 ghost use Rattle.sspi_tsreq.specs.Grammar.{IsRequest};
 ghost use Rattle.sspi_tsreq.specs.Parts.{HasOctets, seen};
 ghost use Rattle.sspi_tsreq.specs.Places.{octets_of, rest_at, text_from, text_of, with_text};
 ghost use Rattle.sspi_tsreq.specs.Walks.{filled, slot, IsHere, IsInText, IsQuiet, IsWithout, Opened};
 
 use crate::ending::ended;
-use crate::length::next_length;
 use crate::next::next_place;
+use crate::outer::read_outer;
 use crate::parts::{Parts, copy_request};
-use crate::place::{Element, Inner, LengthPart, LengthStep, Place, Stage, Text};
+use crate::place::{Element, Place, Stage, Text};
 use crate::reading::read_request;
 use crate::request::TsRequest;
 use crate::walk::{Slot, Walk, after_text, with_byte};
@@ -32,69 +31,6 @@ pub struct TsReader {
     stage: Stage,
     nonce: [u8; 32],
     request: TsRequest,
-}
-
-/// What one byte makes of the outer header.
-fn outer_step(stage: Stage, byte: u8) -> Stage
-    requires { IsOuter stage }
-    ensures stands { (nonce bytes : List ℕ) (r : TsRequest) → StandsAt nonce stage r bytes → StandsAt nonce result r (bytes ++ byte ∷ []) }
-    ensures past { IsPast stage → IsPast result }
-{
-    match stage {
-        Stage::OuterTag => {
-            if byte == 0x30 {
-                Stage::OuterLength(LengthPart::First)
-            } else {
-                Stage::Refused
-            }
-        }
-        Stage::OuterLength(part) => outer_stage(next_length(part, byte)),
-        Stage::Content(_, _) => stage,
-        Stage::Refused => Stage::Refused,
-    }
-}
-
-fn outer_stage(step: LengthStep) -> Stage
-    ensures { result ≡ stage_of step }
-{
-    match step {
-        LengthStep::Part(part) => Stage::OuterLength(part),
-        LengthStep::Known(len) => {
-            Stage::Content(len, Place::AtTag(Element::Required(Inner::Version)))
-        }
-        LengthStep::Bad => Stage::Refused,
-    }
-}
-
-fn is_outer(stage: Stage) -> bool
-    ensures { MatchBool result (IsOuter stage) (IsOuter stage → ⊥) }
-{
-    match stage {
-        Stage::OuterTag => true,
-        Stage::OuterLength(_) => true,
-        Stage::Content(_, _) => false,
-        Stage::Refused => true,
-    }
-}
-
-/// The outer header, as far as the piece has it, and how many of its bytes were read.
-fn read_outer(stage: Stage, piece: &[u8]) -> (Stage, usize)
-    ensures stands { (nonce bytes : List ℕ) (r : TsRequest) → StandsAt nonce stage r bytes →
-        StandsAt nonce result.0 r (bytes ++ take result.1 piece.now) }
-    ensures within { result.1 ≤ length piece.now }
-    ensures whole { IsOuter result.0 → result.1 ≡ length piece.now }
-    ensures past { IsPast stage → IsPast result.0 }
-{
-    let mut stage = stage;
-    let mut taken = 0;
-    while taken < piece.len() {
-        if !is_outer(stage) {
-            return (stage, taken);
-        }
-        stage = outer_step(stage, piece[taken]);
-        taken += 1;
-    }
-    (stage, taken)
 }
 
 /// A copy of what stands in the piece.
@@ -406,6 +342,22 @@ impl TsReader {
 
     /// These bytes of the content, behind which `left` are to come.
     fn read_content(&mut self, left: u32, place: Place, body: &[u8]) -> Result<(), AllocError>
+        ensures ok { OnOk result (WentOn self.old.nonce place self.old.request body.now left self.new) }
+        ensures err { OnErr result (self.new ≡ self.old) }
+        ensures free { (Opened place → ⊥) → IsWithout 0x04 body.now → IsOk result }
+    {
+        if let Place::InText(text, more) = place
+            && body.len() <= more as usize
+        {
+            self.lengthen_field(place, body)?;
+            self.stage = Stage::Content(left, Place::InText(text, more - body.len() as u32));
+            return Ok(());
+        }
+        self.read_fields(left, place, body)
+    }
+
+    /// The same where more than octets of one field may come.
+    fn read_fields(&mut self, left: u32, place: Place, body: &[u8]) -> Result<(), AllocError>
         ensures ok { OnOk result (WentOn self.old.nonce place self.old.request body.now left self.new) }
         ensures err { OnErr result (self.new ≡ self.old) }
         ensures free { (Opened place → ⊥) → IsWithout 0x04 body.now → IsOk result }

@@ -1,5 +1,5 @@
 use Rattle.sspi_tsreq.proofs.Feeding.{outer_begins, outer_refused, outer_stays, outer_steps}
-use Rattle.sspi_tsreq.proofs.reader.outer_step.Goals as goal
+use Rattle.sspi_tsreq.proofs.outer.outer_step.Goals as goal
 
 pub returns-then-byte-eq48-clause-stands : goal.returns-then-byte-eq48-clause-stands
 returns-then-byte-eq48-clause-stands c = rw c.in-OuterTag.is (λ nonce bytes r e. outer_begins bytes c.args.byte e c.if-byte-eq48.true)
