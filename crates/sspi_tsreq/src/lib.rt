@@ -10,7 +10,8 @@
 //!
 //! `TsReader` (`reader.rt`) reads the same from pieces, as a stream gives them, and `from_buffer` is one piece. A request that
 //! the first piece has whole is read at once (`reading.rt`), and else `walk.rt` goes byte by byte, over the places of
-//! `place.rt`; `specs/Feeding.antt` says which bytes a reader stands for.
+//! `place.rt`; `next.rt` takes a single byte, and `ending.rt` says what a content is that ends. `specs/Feeding.antt` says which
+//! bytes a reader stands for.
 //!
 //! `request.rt` has the message with its calls, `reading.rt` and `writing.rt` what stands behind them, one function for each
 //! field and for what follows it. What is in one piece is read without memory; `parts.rt` copies what was found whole. `specs/Reading.antt` has the same chain on lists, and `specs/Spelling.antt` the spelling.
