@@ -118,11 +118,6 @@ pub unkept_only : (result : Result (Unit {0}) WireKind) (r s : TsRequest) → Un
 unkept_only (Ok x) r s h = tt
 unkept_only (Err kind) r s h = subst (λ (k : WireKind). IsUnlessMemory {X = TsRequest} (Err k) s) (sym h.0) tt
 
-pub first_stands : (before after : TsReader) (bytes piece : List ℕ) → before.stage ≡ OuterTag → Stands before bytes → Stands after piece
-    → Stands after (bytes ++ piece)
-first_stands before after bytes piece e s t =
-    subst (λ (l : List ℕ). Stands after l) (sym (ap (λ (l : List ℕ). l ++ piece) (nothing_fed before bytes e s))) t
-
 pub unkept_marked : (bytes piece : List ℕ) → IsAnswer piece (Err InsufficientMemory) → IsWithout 0x04 (bytes ++ piece) → ⊥
 unkept_marked bytes piece (r, count, t, octets) without =
     request_marked piece r count t octets (without_parts 0x04 bytes piece without).1
