@@ -1,3 +1,4 @@
+pub mod Adopting
 pub mod Asked
 pub mod Causes
 pub mod ClientReady

@@ -11,6 +11,7 @@ ghost use Rattle.sspi_credssp.specs.Requests.{is_code};
 ghost use Rattle.sspi_credssp.specs.Stops.{StopsIf};
 
 use crate::acts::Acts;
+use crate::both_ends::{adopt, forget};
 use crate::client_state::{ClientState, Progress};
 use crate::context::SspiContext;
 use crate::mode::ClientMode;
@@ -269,8 +270,7 @@ impl<N: Mechanism, K: Mechanism> CredSspClient<N, K> {
     fn forget_last_call(&mut self)
         ensures { self.new ≡ record self.old { acts = no_acts; output = [] } }
     {
-        self.acts = Acts::none();
-        self.output = Bytes::new(self.alloc);
+        forget(self.alloc, &mut self.acts, &mut self.output);
     }
 
     // The turn, once the request's code and version were looked at.
@@ -347,16 +347,14 @@ impl<N: Mechanism, K: Mechanism> CredSspClient<N, K> {
         ensures cause { let c = either N.REQUESTS N.meaning K.meaning in
             IsRefusedBy result (BeginCause c (ForClient self.old.settings.mode) purposes.Outbound (Some self.old.settings.credentials)) }
     {
-        let mut context = match SspiContext::new_client(self.alloc, &self.client_mode) {
-            Ok(context) => context,
-            Err(error) => return Err(error),
-        };
-        match context.acquire_credentials_handle(CredentialUse::Outbound, Some(&self.credentials)) {
-            Ok(handle) => {
-                self.credentials_handle = handle;
-                self.context = Some(context);
-                Ok(())
-            }
+        match SspiContext::new_client(self.alloc, &self.client_mode) {
+            Ok(context) => adopt(
+                context,
+                CredentialUse::Outbound,
+                Some(&self.credentials),
+                &mut self.context,
+                &mut self.credentials_handle,
+            ),
             Err(error) => Err(error),
         }
     }

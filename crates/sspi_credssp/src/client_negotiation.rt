@@ -15,6 +15,7 @@ ghost use Rattle.sspi_types.specs.declared.credential_use.CredentialUse.TheVaria
 use crate::client::CredSspClient;
 use crate::client_state::{ClientState, Progress};
 use crate::context::SspiContext;
+use crate::proof::seal_proof;
 use crate::public_key::{EndpointType, prescribed_proof};
 use crate::request::{with_proof, with_tokens};
 use crate::state::CredSspState;
@@ -244,12 +245,6 @@ impl<N: Mechanism, K: Mechanism> CredSspClient<N, K> {
             Ok(proof) => proof,
             Err(error) => return Err(Error::from(error)),
         };
-        match context.seal(proof.as_slice()) {
-            Ok(blob) => {
-                self.acts.proved = true;
-                Ok(Bytes::from_vec(blob))
-            }
-            Err(error) => Err(error),
-        }
+        seal_proof(context, &mut self.acts, proof.as_slice())
     }
 }

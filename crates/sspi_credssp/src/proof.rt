@@ -1,8 +1,8 @@
-// The peer's proof: the blob that holds it, and what it opens to.
-ghost use Rattle.std.specs.Prelude.{◌≡◌, ◌≢◌, ◌==◌, None, Some, true, false, IsTrue, IfOk, IfErr, OnErr, OnOk};
-ghost use Rattle.sspi_mech.specs.Calls.{one_unsealed, ToUnseal};
+// Proofs of the channel's key: the blob that holds the peer's, what it opens to, and the sealing of one's own.
+ghost use Rattle.std.specs.Prelude.{◌≡◌, ◌≢◌, ◌==◌, ◌-◌, None, Some, true, false, length, nat_lt, IsTrue, IfOk, IfErr, OnErr, OnOk};
+ghost use Rattle.sspi_mech.specs.Calls.{one_sealed, one_unsealed, ToSeal, ToUnseal};
 ghost use Rattle.sspi_credssp.specs.Context.{either};
-ghost use Rattle.sspi_credssp.specs.Exchange.{IsSealedBlob, BlobStops};
+ghost use Rattle.sspi_credssp.specs.Exchange.{IsLongBlob, IsSealedBlob, BlobStops};
 ghost use Rattle.sspi_credssp.specs.Opened.{OpensAs};
 
 use crate::acts::Acts;
@@ -10,19 +10,41 @@ use crate::context::SspiContext;
 use sspi_mech::Mechanism;
 use sspi_types::{Bytes, Error, ErrorKind, Reason};
 
-// The blob to be opened, which must be there and be long enough to hold a seal.
+// The field that holds a blob, which must be there.
+pub fn present(field: &Option<Bytes>, absent: Reason) -> Result<&Bytes, Error>
+    ensures there { IfOk result (λ blob. field.now ≡ Some blob.now) }
+    ensures absent { OnErr result (field.now ≡ None) }
+    ensures kind { IfErr result (λ error. error.error_type ≡ ErrorKind.InvalidToken) }
+    ensures plain { IfErr result (λ error. error.nstatus ≡ None) }
+{
+    match field {
+        Some(blob) => Ok(blob),
+        None => Err(Error::new(ErrorKind::InvalidToken, absent)),
+    }
+}
+
+// Its bytes, which must be enough to hold a seal.
+pub fn long_enough(blob: &Bytes) -> Result<&[u8], Error>
+    ensures long { IfOk result (λ bytes. IsLongBlob blob.now bytes.now) }
+    ensures short { OnErr result (nat_lt (length blob.now) 16 ≡ true) }
+    ensures kind { IfErr result (λ error. error.error_type ≡ ErrorKind.InvalidToken) }
+    ensures plain { IfErr result (λ error. error.nstatus ≡ None) }
+{
+    if blob.len() < 16 {
+        return Err(Error::new(ErrorKind::InvalidToken, Reason::ShortBlob));
+    }
+    Ok(blob.as_slice())
+}
+
+// The blob to be opened.
 pub fn sealed_blob(field: &Option<Bytes>, absent: Reason) -> Result<&[u8], Error>
     ensures blob { IfOk result (λ blob. IsSealedBlob field.now blob.now) }
     ensures cause { IfErr result (λ error. BlobStops field.now error.error_type (λ _. ⊥)) }
     ensures plain { IfErr result (λ error. error.nstatus ≡ None) }
 {
-    match field {
-        None => Err(Error::new(ErrorKind::InvalidToken, absent)),
-        Some(blob) if blob.len() < 16 => Err(Error::new(
-            ErrorKind::InvalidToken,
-            Reason::ShortBlob,
-        )),
-        Some(blob) => Ok(blob.as_slice()),
+    match present(field, absent) {
+        Ok(blob) => long_enough(blob),
+        Err(error) => Err(error),
     }
 }
 
@@ -49,6 +71,34 @@ pub fn opens_to<N: Mechanism, K: Mechanism>(
         Ok(text) => {
             acts.checked = true;
             Ok(same_bytes(&text, proof))
+        }
+        Err(error) => Err(error),
+    }
+}
+
+// Seals a proof of the channel's key.
+pub fn seal_proof<N: Mechanism, K: Mechanism>(
+    context: &mut SspiContext<N, K>,
+    acts: &mut Acts,
+    proof: &[u8],
+) -> Result<Bytes, Error>
+    ensures blob { let c = either N.REQUESTS N.meaning K.meaning in IfOk result (λ blob.
+        c.seals context.new ((c.counts context.new).sealed - 1) proof.now blob) }
+    ensures acts { OnOk result (acts.new ≡ record acts.old { proved = true }) }
+    ensures ok { let c = either N.REQUESTS N.meaning K.meaning in
+        OnOk result (context.new ≡ c.counted context.old (one_sealed (c.counts context.old))) }
+    ensures count { let c = either N.REQUESTS N.meaning K.meaning in
+        OnOk result (c.counts context.new ≡ one_sealed (c.counts context.old)) }
+    ensures err { OnErr result (context.new ≡ context.old) }
+    ensures err_acts { OnErr result (acts.new ≡ acts.old) }
+    ensures plain { IfErr result (λ error. error.nstatus ≡ None) }
+    ensures cause { IfErr result (λ error. error.error_type ≢ ErrorKind.InsufficientMemory →
+        (either N.REQUESTS N.meaning K.meaning).refuses context.new (ToSeal proof.now) error.error_type) }
+{
+    match context.seal(proof) {
+        Ok(blob) => {
+            acts.proved = true;
+            Ok(Bytes::from_vec(blob))
         }
         Err(error) => Err(error),
     }

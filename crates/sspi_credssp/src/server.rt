@@ -11,6 +11,7 @@ ghost use Rattle.sspi_credssp.specs.Proxy.{IsLater};
 ghost use Rattle.sspi_credssp.specs.Refusal.{IsRefusedBy};
 
 use crate::acts::Acts;
+use crate::both_ends::{adopt, forget};
 use crate::context::SspiContext;
 use crate::mode::ServerMode;
 use crate::peer_version::{DEFAULT_LEAST_VERSION, note_version};
@@ -192,8 +193,7 @@ impl<N: Mechanism, K: Mechanism, C: CredentialsProxy> CredSspServer<N, K, C> {
     fn forget_last_call(&mut self)
         ensures { self.new ≡ record self.old { acts = no_acts; output = [] } }
     {
-        self.acts = Acts::none();
-        self.output = Bytes::new(self.alloc);
+        forget(self.alloc, &mut self.acts, &mut self.output);
     }
 
     fn begin(&mut self, version: u32) -> Result<(), Error>
@@ -243,16 +243,14 @@ impl<N: Mechanism, K: Mechanism, C: CredentialsProxy> CredSspServer<N, K, C> {
             Ok(known) => known,
             Err(error) => return Err(error),
         };
-        let mut context = match SspiContext::new_server(self.alloc, &self.server_mode, known) {
-            Ok(context) => context,
-            Err(error) => return Err(error),
-        };
-        match context.acquire_credentials_handle(CredentialUse::Inbound, None) {
-            Ok(handle) => {
-                self.credentials_handle = handle;
-                self.context = Some(context);
-                Ok(())
-            }
+        match SspiContext::new_server(self.alloc, &self.server_mode, known) {
+            Ok(context) => adopt(
+                context,
+                CredentialUse::Inbound,
+                None,
+                &mut self.context,
+                &mut self.credentials_handle,
+            ),
             Err(error) => Err(error),
         }
     }

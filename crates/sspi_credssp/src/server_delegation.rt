@@ -1,6 +1,5 @@
 // The server's turns past the authentication: the exchange of proofs, and the credentials.
 ghost use Rattle.std.specs.Prelude.{◌≡◌, ◌≢◌, ◌-◌, [], None, Some, true, false, nat_lt, IsSome, OnOk, OnErr, IfOk, IfErr};
-ghost use Rattle.sspi_mech.specs.Calls.{one_sealed, ToSeal};
 ghost use Rattle.sspi_credssp.specs.Acts.{no_acts};
 ghost use Rattle.sspi_credssp.specs.Context.{either};
 ghost use Rattle.sspi_credssp.specs.Exchange.{BlobStops, Exchanges, Opens, OpensIdentity};
@@ -11,7 +10,7 @@ ghost use Rattle.sspi_credssp.specs.Shown.{HasNonce};
 use crate::acts::Acts;
 use crate::context::SspiContext;
 use crate::credentials::read_identity;
-use crate::proof::{altered, opens_to, sealed_blob};
+use crate::proof::{altered, long_enough, opens_to, present, seal_proof, sealed_blob};
 use crate::proxy::CredentialsProxy;
 use crate::public_key::{EndpointType, prescribed_proof};
 use crate::request::with_exchange;
@@ -38,33 +37,6 @@ fn nonce_for(version: u32, nonce: &Option<[u8; 32]>) -> Result<&[u8], Error>
         Some(nonce) => Ok(nonce),
         None if version < 5 => Ok(&[]),
         None => Err(Error::new(ErrorKind::InvalidToken, Reason::NoNonce)),
-    }
-}
-
-fn seal_proof<N: Mechanism, K: Mechanism>(
-    context: &mut SspiContext<N, K>,
-    acts: &mut Acts,
-    proof: &[u8],
-) -> Result<Bytes, Error>
-    ensures blob { let c = either N.REQUESTS N.meaning K.meaning in IfOk result (λ blob.
-        c.seals context.new ((c.counts context.new).sealed - 1) proof.now blob) }
-    ensures acts { OnOk result (acts.new ≡ record acts.old { proved = true }) }
-    ensures ok { let c = either N.REQUESTS N.meaning K.meaning in
-        OnOk result (context.new ≡ c.counted context.old (one_sealed (c.counts context.old))) }
-    ensures count { let c = either N.REQUESTS N.meaning K.meaning in
-        OnOk result (c.counts context.new ≡ one_sealed (c.counts context.old)) }
-    ensures err { OnErr result (context.new ≡ context.old) }
-    ensures err_acts { OnErr result (acts.new ≡ acts.old) }
-    ensures plain { IfErr result (λ error. error.nstatus ≡ None) }
-    ensures cause { IfErr result (λ error. error.error_type ≢ ErrorKind.InsufficientMemory →
-        (either N.REQUESTS N.meaning K.meaning).refuses context.new (ToSeal proof.now) error.error_type) }
-{
-    match context.seal(proof) {
-        Ok(blob) => {
-            acts.proved = true;
-            Ok(Bytes::from_vec(blob))
-        }
-        Err(error) => Err(error),
     }
 }
 
@@ -215,16 +187,18 @@ impl<N: Mechanism, K: Mechanism, C: CredentialsProxy> CredSspServer<N, K, C> {
         let Some(context) = &mut self.context else {
             return Err(Error::new(ErrorKind::InternalError, Reason::NoVersion));
         };
-        let Some(blob) = &request.pub_key_auth else {
-            return Err(Error::new(ErrorKind::InvalidToken, Reason::NoPubKey));
+        let blob = match present(&request.pub_key_auth, Reason::NoPubKey) {
+            Ok(blob) => blob,
+            Err(error) => return Err(error),
         };
         let nonce = match nonce_for(version, &request.client_nonce) {
             Ok(nonce) => nonce,
             Err(error) => return Err(error),
         };
-        if blob.len() < 16 {
-            return Err(Error::new(ErrorKind::InvalidToken, Reason::ShortBlob));
-        }
+        let blob = match long_enough(blob) {
+            Ok(blob) => blob,
+            Err(error) => return Err(error),
+        };
         let key = self.public_key.as_slice();
         let expected = match prescribed_proof(
             self.alloc,
@@ -243,7 +217,7 @@ impl<N: Mechanism, K: Mechanism, C: CredentialsProxy> CredSspServer<N, K, C> {
         match answer_proof(
             context,
             &mut self.acts,
-            blob.as_slice(),
+            blob,
             expected.as_slice(),
             proof.as_slice(),
             version,

@@ -1,14 +1,25 @@
-use Rattle.std.proofs.Common.{rules}
-use Rattle.sspi_credssp.specs.Begun.{is_new, unacquired}
+use Rattle.std.proofs.Common.{subst}
+use Rattle.std.specs.Prelude.{◌≢◌, Some, OnOk, IfErr}
+use Rattle.sspi_types.specs.declared.credential_use.CredentialUse.TheVariants.{Outbound}
+use Rattle.sspi_types.specs.declared.error_kind.ErrorKind.TheVariants.{InsufficientMemory}
+use Rattle.sspi_mech.specs.Calls.{ToAcquire}
+use Rattle.sspi_credssp.specs.Begun.{IfContext}
+use Rattle.sspi_credssp.specs.Context.{either, ForClient}
+use Rattle.sspi_credssp.proofs.Adopting.{adopted, unadopted}
 use Rattle.sspi_credssp.proofs.client.CredSspClient.make_context.Goals as goal
 
-pub returns-in-Ok-acquire_credentials_handle-clause-begun :
-    goal.returns-in-Ok-acquire_credentials_handle-clause-begun
-returns-in-Ok-acquire_credentials_handle-clause-begun g c = is_new c.in-Ok.context c.requires (search rules) (search rules)
+pub returns-in-Ok-clause-begun : goal.returns-in-Ok-clause-begun
+returns-in-Ok-clause-begun g c =
+    let it = either g.N.Mechanism.REQUESTS g.N.Mechanism.meaning g.K.Mechanism.meaning in
+    adopted it _ _ _ c.in-Ok.context (subst (λ v. it.made (ForClient v.settings.mode) c.in-Ok.context) c.self.view_is c.in-Ok.ensures.made)
+    c.adopt.result _ _ _ _ c.requires
+    (subst (λ v. OnOk c.adopt.result (IfContext c.adopt.new.place (it.acquires c.in-Ok.context Outbound (Some v.settings.credentials)
+    c.adopt.new.handle))) c.self.view_is c.adopt.ensures.acquired)
 
-pub returns-in-Err-acquire_credentials_handle-clause-cause :
-    goal.returns-in-Err-acquire_credentials_handle-clause-cause
-returns-in-Err-acquire_credentials_handle-clause-cause g c = record {
-  kind = λ memory. unacquired c.in-Ok.context (search rules) (search rules);
-  plain = search rules;
-}
+pub returns-in-Ok-clause-cause : goal.returns-in-Ok-clause-cause
+returns-in-Ok-clause-cause g c =
+    let it = either g.N.Mechanism.REQUESTS g.N.Mechanism.meaning g.K.Mechanism.meaning in
+    unadopted it _ _ _ c.in-Ok.context (subst (λ v. it.made (ForClient v.settings.mode) c.in-Ok.context) c.self.view_is c.in-Ok.ensures.made)
+    _ c.adopt.result (λ kind cause. cause) c.adopt.ensures.plain
+    (subst (λ v. IfErr c.adopt.result (λ error. error.error_type ≢ InsufficientMemory →
+    it.refuses c.in-Ok.context (ToAcquire Outbound (Some v.settings.credentials)) error.error_type)) c.self.view_is c.adopt.ensures.cause)

@@ -1,0 +1,53 @@
+// What both ends do in one way, whatever they do it for.
+ghost use Rattle.std.specs.Prelude.{◌≡◌, ◌≢◌, [], None, OnOk, OnErr, IfErr};
+ghost use Rattle.std.specs.Option.{option_copied};
+ghost use Rattle.sspi_mech.specs.Calls.{ToAcquire};
+ghost use Rattle.sspi_mech.specs.Context.{IsUnused};
+ghost use Rattle.sspi_credssp.specs.Acts.{no_acts};
+ghost use Rattle.sspi_credssp.specs.Begun.{IfContext};
+ghost use Rattle.sspi_credssp.specs.Context.{either};
+ghost use Rattle.sspi_credssp.specs.Counts.{IsUnusedIn};
+
+use crate::acts::Acts;
+use crate::context::SspiContext;
+use sspi_mech::Mechanism;
+use sspi_names::{Credentials, CredentialsBuffers};
+use sspi_types::{Bytes, CredentialUse, Error, ErrorKind};
+use std::alloc::Global;
+
+// Has a new context acquire credentials, and keeps both, or neither.
+pub fn adopt<N: Mechanism, K: Mechanism>(
+    context: SspiContext<N, K>,
+    purpose: CredentialUse,
+    credentials: Option<&Credentials>,
+    place: &mut Option<SspiContext<N, K>>,
+    handle: &mut Option<CredentialsBuffers>,
+) -> Result<(), Error>
+    ensures acquired { let c = either N.REQUESTS N.meaning K.meaning in OnOk result (IfContext place.new
+        (c.acquires context purpose (option_copied credentials.entry) handle.new)) }
+    ensures unused { let c = either N.REQUESTS N.meaning K.meaning in IsUnused (c.counts context) →
+        OnOk result (IsUnusedIn c place.new) }
+    ensures err { OnErr result ((place.new ≡ place.old) × (handle.new ≡ handle.old)) }
+    ensures plain { IfErr result (λ error. error.nstatus ≡ None) }
+    ensures cause { IfErr result (λ error. error.error_type ≢ ErrorKind.InsufficientMemory →
+        (either N.REQUESTS N.meaning K.meaning).refuses context (ToAcquire purpose (option_copied credentials.entry)) error.error_type) }
+{
+    let mut context = context;
+    match context.acquire_credentials_handle(purpose, credentials) {
+        Ok(acquired) => {
+            *handle = acquired;
+            *place = Some(context);
+            Ok(())
+        }
+        Err(error) => Err(error),
+    }
+}
+
+// Forgets what the last call did and gave.
+pub fn forget(alloc: Global, acts: &mut Acts, output: &mut Bytes)
+    ensures acts { acts.new ≡ no_acts }
+    ensures output { output.new ≡ [] }
+{
+    *acts = Acts::none();
+    *output = Bytes::new(alloc);
+}
