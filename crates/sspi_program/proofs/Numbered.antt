@@ -378,11 +378,3 @@ module _ (i : ℕ) (fits : i < 2 ^ 32) (r : Record) (is : r.scenario ≡ numbere
     spent = λ e. has.exchange.outcome_is
         ∙ cut_by (numbered i) has.exchange.answer outcome answered 3 2 (matches_few i fits e) (omega arith);
   }
-
--- the same of one that is kept
-pub numbered_kept : {E : Type 0} (i : ℕ) (fits : i < 2 ^ 32) (r : Record) (kept : Result Record E) → r.scenario ≡ numbered i →
-    HasExchange r → IfOk kept (λ k. (k ≡ r) × IsSome (status_of k.outcome)) → IfOk kept (IsNumbered i)
-numbered_kept i fits r (Ok k) is has held =
-    let memory : IsSome (status_of r.outcome) = subst (λ (q : Record). IsSome (status_of q.outcome)) held.0 held.1 in
-    subst (IsNumbered i) (sym held.0) (numbered_exchange i fits r is has memory)
-numbered_kept i fits r (Err e) is has held = tt

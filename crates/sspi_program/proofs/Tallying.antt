@@ -4,19 +4,9 @@ use Rattle.std.proofs.Common.{arith}
 use Rattle.std.proofs.lemmas.List.{length-append}
 use Rattle.std.specs.List.{slice_get}
 use Rattle.std.specs.Prelude.{OnOk, zero}
+use Rattle.sspi_seats.proofs.Lists.{last_or_before}
 use Rattle.sspi_program.specs.declared.record.Record.{Record}
 use Rattle.sspi_program.specs.Generate.{AreNumbered, IsNumbered}
-
--- an element of a list with one more is one of the list, or the last
-last_or_before : {X : Type 0} (xs : List X) (x : X) (i : ℕ) (y : X) → slice_get (xs ++ x ∷ []) i ≡ Some y →
-    (slice_get xs i ≡ Some y) ⊎ ((i ≡ length xs) × (x ≡ y))
-last_or_before [] x zero y e = inr (refl, cc)
-last_or_before [] x (suc i) y e = absurd cc
-last_or_before (z ∷ xs) x zero y e = inl e
-last_or_before (z ∷ xs) x (suc i) y e = elim (last_or_before xs x i y e) [
-  | inl before ↦ inl before
-  | inr last ↦ inr (ap suc last.0, last.1)
-]
 
 pub tally_none : (tally : List Record) → tally ≡ [] → AreNumbered 0 tally
 tally_none tally none = subst (AreNumbered 0) (sym none) (record { counted = refl; each = λ i r e. absurd cc })

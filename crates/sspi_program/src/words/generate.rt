@@ -1,7 +1,8 @@
-ghost use Rattle.std.specs.Prelude.{◌≡◌, ◌+◌, true, IfOk, IsSome, OnOk};
-ghost use Rattle.sspi_program.specs.Generate.{AreNumbered, IsNumbered};
+ghost use Rattle.std.specs.Prelude.{◌≡◌, ◌+◌, IfOk, OnOk};
+ghost use Rattle.sspi_program.specs.Delegate.{HasExchange};
+ghost use Rattle.sspi_program.specs.Generate.{AreNumbered};
 ghost use Rattle.sspi_program.specs.Run.{Generates, SumsUp};
-ghost use Rattle.sspi_program.specs.Said.{status_of};
+ghost use Rattle.sspi_scenario.specs.Numbered.{numbered};
 
 use crate::exchange::exchange;
 use crate::record::{Conducted, Record, Tally};
@@ -47,40 +48,21 @@ fn add_exchanges(alloc: Global, count: u32, tally: &mut Tally) -> Result<(), All
     Ok(())
 }
 
-/// Adds the exchange of a number.
+/// Adds the exchange of a number. Fails also where memory was wanting in it.
 fn add_exchange(alloc: Global, number: u32, tally: &mut Tally) -> Result<(), AllocError>
     ensures { AreNumbered number tally.old → OnOk result (AreNumbered (number + 1) tally.new) }
 {
-    match exchange_at(alloc, number) {
-        Ok(made) => tally.push(made),
-        Err(error) => Err(error),
-    }
-}
-
-/// The exchange of a number. Fails also where memory was wanting in it.
-fn exchange_at(alloc: Global, number: u32) -> Result<Record, AllocError>
-    ensures { IfOk result (IsNumbered number) }
-{
-    match numbered(alloc, number) {
-        Ok(scenario) => match exchange(alloc, scenario) {
-            Ok(made) => with_memory(made),
-            Err(error) => Err(error),
-        },
-        Err(error) => Err(error),
-    }
-}
-
-/// A record in which memory was not wanting.
-fn with_memory(made: Record) -> Result<Record, AllocError>
-    ensures { IfOk result (λ kept. (kept ≡ made) × IsSome (status_of kept.outcome)) }
-{
+    let made = exchange_at(alloc, number)?;
     let had_memory = status_of(&made.outcome).is_some();
-    kept_if(had_memory, made)
+    tally.push(made)?;
+    if had_memory { Ok(()) } else { Err(AllocError) }
 }
 
-/// Generic, since to drop a value of a type parameter is one step.
-fn kept_if<T: Drop>(is_kept: bool, made: T) -> Result<T, AllocError>
-    ensures { IfOk result (λ kept. (kept ≡ made) × (is_kept ≡ true)) }
+/// The exchange of a number.
+fn exchange_at(alloc: Global, number: u32) -> Result<Record, AllocError>
+    ensures scenario { IfOk result (λ made. made.scenario ≡ numbered number) }
+    ensures exchange { IfOk result HasExchange }
 {
-    if is_kept { Ok(made) } else { Err(AllocError) }
+    let scenario = numbered(alloc, number)?;
+    exchange(alloc, scenario)
 }
