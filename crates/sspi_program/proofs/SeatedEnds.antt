@@ -34,9 +34,9 @@ server_is scenario a fresh named =
     ∙ ap (λ x. record a { settings = made.settings; proxy = made.proxy; state = made.state; context = made.context; handle = made.handle; noted = made.noted; acts = x }) fresh.acts
     ∙ ap (λ x. record a { settings = made.settings; proxy = made.proxy; state = made.state; context = made.context; handle = made.handle; noted = made.noted; acts = made.acts; output = x }) fresh.output
 
-pub place_is : (scenario : Scenario) (ends : Ends) → AreEndsOf scenario ends → place_in scenario ≡ place ends.client ends.kdc ends.server
+pub place_is : (scenario : Scenario) (ends : Ends) → AreEndsOf scenario ends → place_in scenario ≡ place ends.client.value ends.kdc ends.server.value
 place_is scenario ends are = sym (rw (
-  client_is scenario ends.client are.client_fresh are.client_named,
+  client_is scenario ends.client.value are.client_fresh are.client_named,
   are.kdc,
-  server_is scenario ends.server are.server_fresh are.server_named,
+  server_is scenario ends.server.value are.server_fresh are.server_named,
 ) refl)

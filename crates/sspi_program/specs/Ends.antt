@@ -130,8 +130,8 @@ kdc_in scenario = record { users = scenario.kdc_user; script = scenario.kdc_answ
 
 -- both ends and the KDC are the scenario's, as they were made
 pub record AreEndsOf (scenario : Scenario) (ends : Ends) : Type 0 where
-  pub client_fresh : IsFreshClient ends.client
-  pub client_named : IsClientOf scenario ends.client
-  pub server_fresh : IsFreshServer ends.server
-  pub server_named : IsServerOf scenario ends.server
+  pub client_fresh : IsFreshClient ends.client.value
+  pub client_named : IsClientOf scenario ends.client.value
+  pub server_fresh : IsFreshServer ends.server.value
+  pub server_named : IsServerOf scenario ends.server.value
   pub kdc : ends.kdc ≡ kdc_in scenario

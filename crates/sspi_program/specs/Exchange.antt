@@ -66,4 +66,4 @@ pub record IsExchange (r : Record) : Type 0 where
   pub outcome_is : r.outcome ≡ Delegated answer
   pub delegates : Delegates plain_meaning around (parties client server (link_in r.scenario) (kdc_in r.scenario) []) r.scenario.turns
       answer
-      (parties r.client r.server r.link r.kdc r.transcript.turns)
+      (parties r.client.value r.server.value r.link r.kdc r.transcript.turns)

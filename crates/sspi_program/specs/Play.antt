@@ -43,12 +43,12 @@ pub record HasPlay (r : Record) : Type 0 where
   pub answer : Result Played DelegateError
   pub outcome_is : r.outcome ≡ outcomes.Played answer
   pub accounts : Accounts plain_meaning table_meaning (calls_of_kdc around) r.scenario.deliver
-      (both client server (kdc_in r.scenario) []) answer (both r.client r.server r.kdc r.transcript.turns)
-  pub plays : IsPlay plain_meaning (both client server (kdc_in r.scenario) []) (both r.client r.server r.kdc r.transcript.turns)
-  pub agrees : AgreesIfFaithful plain_meaning kept_list (client_end r.client) (server_end r.server) r.transcript.turns
+      (both client server (kdc_in r.scenario) []) answer (both r.client.value r.server.value r.kdc r.transcript.turns)
+  pub plays : IsPlay plain_meaning (both client server (kdc_in r.scenario) []) (both r.client.value r.server.value r.kdc r.transcript.turns)
+  pub agrees : AgreesIfFaithful plain_meaning kept_list (client_end r.client.value) (server_end r.server.value) r.transcript.turns
       (identity_of answer)
   pub kdc : KdcStays told_replies kdc_faults (kdc_in r.scenario) r.kdc
-  pub proxy : ProxyStays table_meaning server.proxy r.server.proxy
+  pub proxy : ProxyStays table_meaning server.proxy r.server.value.proxy
 
 -- what is delivered refuses no play
 abbrev pub PlayEnds : List ℕ → ℕ → Type 0

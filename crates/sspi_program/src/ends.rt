@@ -21,8 +21,9 @@ pub type Server = CredSspServer<Ntlm, Kerberos, TableProxy>;
 /// Both ends of a scenario, and the KDC that the client asks.
 #[derive(Drop)]
 pub struct Ends {
-    pub client: Client,
-    pub server: Server,
+    // An end is some thousand bytes, so that it is moved by its address.
+    pub client: Box<Client>,
+    pub server: Box<Server>,
     pub kdc: PlainKdc,
 }
 
@@ -41,10 +42,11 @@ pub fn ends_of(alloc: Global, scenario: &Scenario) -> Result<Ends, AllocError>
 fn with_client(
     alloc: Global,
     scenario: &Scenario,
-    server: Server,
+    server: Box<Server>,
     kdc: PlainKdc,
 ) -> Result<Ends, AllocError>
-    ensures { IsFreshServer server → IsServerOf scenario.now server → kdc ≡ kdc_in scenario.now → IfOk result (AreEndsOf scenario.now) }
+    ensures { IsFreshServer server.value → IsServerOf scenario.now server.value → kdc ≡ kdc_in scenario.now →
+        IfOk result (AreEndsOf scenario.now) }
 {
     match client_of(alloc, scenario) {
         Ok(client) => Ok(Ends {
@@ -57,15 +59,15 @@ fn with_client(
 }
 
 /// The client that the scenario names, to which nothing was delivered.
-fn client_of(alloc: Global, scenario: &Scenario) -> Result<Client, AllocError>
-    ensures fresh { IfOk result IsFreshClient }
-    ensures named { IfOk result (IsClientOf scenario.now) }
+fn client_of(alloc: Global, scenario: &Scenario) -> Result<Box<Client>, AllocError>
+    ensures fresh { IfOk result (λ client. IsFreshClient client.value) }
+    ensures named { IfOk result (λ client. IsClientOf scenario.now client.value) }
 {
     let key = scenario.key.clone(alloc)?.into_inner();
     let credentials = credentials_of(alloc, scenario)?;
     let mode = client_mode(alloc, scenario)?;
     let target = scenario.target.clone(alloc)?.into_inner();
-    Ok(CredSspClient::new_with_version(
+    let client = CredSspClient::new_with_version(
         alloc,
         key,
         credentials,
@@ -74,8 +76,15 @@ fn client_of(alloc: Global, scenario: &Scenario) -> Result<Client, AllocError>
         mode,
         target,
         scenario.nonce,
-    )
-    .with_least_version(scenario.client_least))
+    );
+    boxed(alloc, client.with_least_version(scenario.client_least))
+}
+
+/// Generic, since to drop a value of a type parameter is one step.
+fn boxed<T: Drop>(alloc: Global, value: T) -> Result<Box<T>, AllocError>
+    ensures { IfOk result (λ made. made.value ≡ value) }
+{
+    Ok(Box::new(alloc, value)?)
 }
 
 fn credentials_of(alloc: Global, scenario: &Scenario) -> Result<Credentials, AllocError>
@@ -97,22 +106,22 @@ fn credentials_of(alloc: Global, scenario: &Scenario) -> Result<Credentials, All
 }
 
 /// The server that the scenario names, to which nothing was delivered.
-fn server_of(alloc: Global, scenario: &Scenario) -> Result<Server, AllocError>
-    ensures fresh { IfOk result IsFreshServer }
-    ensures named { IfOk result (IsServerOf scenario.now) }
+fn server_of(alloc: Global, scenario: &Scenario) -> Result<Box<Server>, AllocError>
+    ensures fresh { IfOk result (λ server. IsFreshServer server.value) }
+    ensures named { IfOk result (λ server. IsServerOf scenario.now server.value) }
 {
     let key = scenario.server_key.clone(alloc)?.into_inner();
     let accounts = copy_accounts(alloc, scenario.account.as_slice())?;
     let failing = Vec::from_slice(alloc, scenario.proxy_fail.as_slice())?;
     let mode = server_mode(alloc, scenario)?;
-    Ok(CredSspServer::new_with_version(
+    let server = CredSspServer::new_with_version(
         alloc,
         key,
         TableProxy::new(alloc, accounts, failing),
         scenario.server_version,
         mode,
-    )
-    .with_least_version(scenario.server_least))
+    );
+    boxed(alloc, server.with_least_version(scenario.server_least))
 }
 
 fn copy_accounts(alloc: Global, accounts: &[AuthIdentity]) -> Result<Vec<AuthIdentity>, AllocError>

@@ -39,8 +39,8 @@ fn meet(alloc: Global, scenario: Scenario, ends: Ends, link: MemoryLink) -> Reco
     let mut transcript = Transcript::new(alloc);
     let answer = delegate(
         alloc,
-        &mut client,
-        &mut server,
+        &mut *client,
+        &mut *server,
         &mut link,
         &mut kdc,
         scenario.turns,

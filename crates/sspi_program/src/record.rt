@@ -87,8 +87,8 @@ pub type PlainSeat = Seat<Ntlm, Kerberos, TableProxy, PlainKdc>;
 #[derive(Drop)]
 pub struct Record {
     pub scenario: Scenario,
-    pub client: Client,
-    pub server: Server,
+    pub client: Box<Client>,
+    pub server: Box<Server>,
     /// In a play it carried nothing, and has no edits.
     pub link: MemoryLink,
     pub kdc: PlainKdc,

@@ -57,7 +57,7 @@ fn seat_one(alloc: Global, scenario: &Scenario, table: &mut PlainTable) -> Resul
                 server,
                 kdc,
             },
-        ) => table.join(client, kdc, server),
+        ) => table.join(Box::into_inner(client), kdc, Box::into_inner(server)),
         Err(error) => Err(error),
     }
 }

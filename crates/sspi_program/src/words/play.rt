@@ -45,8 +45,8 @@ fn hand_out(alloc: Global, scenario: Scenario, ends: Ends) -> Record
     let mut transcript = Transcript::new(alloc);
     let answer = sspi_play::play(
         alloc,
-        &mut client,
-        &mut server,
+        &mut *client,
+        &mut *server,
         scenario.deliver.as_slice(),
         &mut kdc,
         &mut transcript,

@@ -1,4 +1,4 @@
-use Rattle.std.proofs.Common.{◌≡◌, ℕ, List, [], Some, refl, ap, subst}
+use Rattle.std.proofs.Common.{◌≡◌, ℕ, List, [], Some, refl, ap, subst, sym}
 use Rattle.sspi_delegate.specs.Edits.{MemoryLinkView, FollowsEdits}
 use Rattle.sspi_delegate.specs.declared.edit.Edit.{Edit}
 use Rattle.sspi_delegate.specs.Headline.{IsFresh}
@@ -11,12 +11,14 @@ use Rattle.sspi_mech.specs.Ntlm.{ntlm_meaning}
 use Rattle.sspi_mech.specs.NtlmLaws.{ntlm_laws}
 use Rattle.sspi_credssp.proofs.ContextLaws.{lawful}
 use Rattle.sspi_tsreq.specs.declared.mode.CredSspMode.{CredSspMode}
-use Rattle.sspi_credssp.specs.Client.{ClientSettings}
-use Rattle.sspi_credssp.specs.Table.{table_meaning}
+use Rattle.sspi_credssp.specs.Client.{ClientSettings, ClientView, IsFreshClient}
+use Rattle.sspi_credssp.specs.Server.{ServerView, IsFreshServer}
+use Rattle.sspi_credssp.specs.Table.{TableView, table_meaning}
 use Rattle.sspi_completeness.specs.Matching.{delegated_as, ComesToOkIn}
 use Rattle.sspi_completeness.proofs.ThreeTurns.{ok_three}
 use Rattle.sspi_completeness.proofs.PlainSettled.{comes_to_ok, cut_short, settled_plainly}
 use Rattle.sspi_completeness.proofs.Settling.{calm_by, Settled}
+use Rattle.sspi_program.specs.Ends.{PlainContext, IsClientOf, IsServerOf}
 use Rattle.sspi_program.specs.Exchange.{plain_meaning, told_replies, kdc_asked, kdc_faults}
 use Rattle.sspi_program.specs.Outcome.{user_identity, messages_in, IsPlain}
 use Rattle.sspi_program.proofs.Plainly.{plain_match, plain_messages, plain_server, plain_link, plain_proxy}
@@ -28,15 +30,19 @@ some_edits edits edits2 is = cc
 pub returns-clause-exchange : goal.returns-clause-exchange
 returns-clause-exchange c ends link_is held =
     let s = c.args.scenario in
-    let client = c.args.ends.client in
-    let server = c.args.ends.server in
+    let client = c.deref_mut.result.now in
+    let server = c.deref_mut-2.result.now in
+    let client_fresh = subst (λ (a : ClientView PlainContext). IsFreshClient a) (sym c.deref_mut.ensures.value) ends.client_fresh in
+    let client_named = subst (λ (a : ClientView PlainContext). IsClientOf s a) (sym c.deref_mut.ensures.value) ends.client_named in
+    let server_fresh = subst (λ (a : ServerView PlainContext TableView). IsFreshServer a) (sym c.deref_mut-2.ensures.value) ends.server_fresh in
+    let server_named = subst (λ (a : ServerView PlainContext TableView). IsServerOf s a) (sym c.deref_mut-2.ensures.value) ends.server_named in
     let made = c.delegate-answer.new in
     let edits = s.edit in
     let answer = c.delegate-answer.result in
     let ensures = c.delegate-answer.ensures in
     let empty = c.new-transcript.ensures in
     let fresh : IsFresh client server c.new-transcript.result.turns =
-    record { client_is = ends.client_fresh; server_is = ends.server_fresh; empty = empty } in
+    record { client_is = client_fresh; server_is = server_fresh; empty = empty } in
     let delegates = ensures.delegates fresh in
     let stays = ensures.stays in
     let told : StaysTold (Some edits) (Some made.link.edits) [] made.link.log =
@@ -50,21 +56,21 @@ returns-clause-exchange c ends link_is held =
     let settles : (plain : IsPlain s) →
     Settled (messages_in s plain) s.turns (delegated_as client.settings.delegation (user_identity s)) answer =
     λ plain. subst (λ (n : ℕ). Settled n s.turns (delegated_as client.settings.delegation (user_identity s)) answer)
-    (plain_messages s client server kdc ends.client_named ends.server_named ends.kdc held plain)
-    (settled_plainly told_replies kdc_asked kdc_faults laws table_meaning client server kdc ends.client_fresh ends.server_fresh
-    (plain_match s client server kdc ends.client_named ends.server_named ends.kdc held plain) _ _ _ _ s.turns made.client made.server _ _ _ _ _
+    (plain_messages s client server kdc client_named server_named ends.kdc held plain)
+    (settled_plainly told_replies kdc_asked kdc_faults laws table_meaning client server kdc client_fresh server_fresh
+    (plain_match s client server kdc client_named server_named ends.kdc held plain) _ _ _ _ s.turns made.client made.server _ _ _ _ _
     (plain_link s c.args.link made.link.log made.link.faults link_is plain)
     delegates.accounts.turns_and_log_show_the_answer stays.the_link_tells_what_it_told stays.the_link_fails_where_its_edits_say_so
     delegates.accounts.client_turns_are_its_calls server_history
-    (calm_by _ _ _ (plain_proxy s server made.server.proxy.faults ends.server_named plain) stays.the_proxy_tells_what_it_told.calm)
+    (calm_by _ _ _ (plain_proxy s server made.server.proxy.faults server_named plain) stays.the_proxy_tells_what_it_told.calm)
     delegates.the_identity_is_what_was_opened_last) in
     record {
       exchange = record {
         client = client;
         server = server;
-        fresh = record { client_is = ends.client_fresh; server_is = ends.server_fresh; empty = refl };
-        client_named = ends.client_named;
-        server_named = ends.server_named;
+        fresh = record { client_is = client_fresh; server_is = server_fresh; empty = refl };
+        client_named = client_named;
+        server_named = server_named;
         edits = same;
         follows = subst (λ (these : List Edit). FollowsEdits these made.link.log) same (told.follows tt);
         policy = rw c.new.ensures.items at c.new-2.ensures;
@@ -74,11 +80,11 @@ returns-clause-exchange c ends link_is held =
       };
       comes = record {
         three = λ plain. ok_three kerberos_meaning table_meaning _ _ _ _ _ _ _ _ _
-            delegates.accounts.turns_and_log_show_the_answer (plain_server s server ends.server_named plain) fresh.server_is
+            delegates.accounts.turns_and_log_show_the_answer (plain_server s server server_named plain) fresh.server_is
             (servers_others _ delegates.the_turns_are_a_run.order)
             delegates.both_proofs_came_before_ok server_history;
         comes = λ plain enough. subst (λ (mode : CredSspMode). ComesToOkIn (messages_in s plain)
-            (delegated_as mode (user_identity s)) answer) (ap (λ (s : ClientSettings). s.delegation) ends.client_named)
+            (delegated_as mode (user_identity s)) answer) (ap (λ (s : ClientSettings). s.delegation) client_named)
             (comes_to_ok (messages_in s plain) s.turns (delegated_as client.settings.delegation (user_identity s)) answer enough
             (settles plain));
         short = λ plain few. cut_short (messages_in s plain) s.turns
