@@ -2,7 +2,7 @@
 
 use crate::tests::asks::Asks;
 use crate::tests::ends::{Client, Server, client, server};
-use crate::tests::words::{Test, given, parted};
+use crate::tests::words::{Test, given, lend, parted};
 use sspi_delegate::{DelegateError, Delegation, MemoryLink, Transcript, delegate};
 use sspi_mech::{Kdc, KdcError, Mechanism};
 use sspi_names::NetworkRequest;
@@ -112,9 +112,22 @@ fn exchange<M: Mechanism>(
 /// An exchange with this KDC: what came, how many turns are recorded, how often the KDC was asked, and whether the client was
 /// left waiting.
 fn exchanged<M: Mechanism>(rt: &impl Test, word: &str) -> String {
-    let mut client = client::<M>(rt, "");
+    lend(client::<M>(rt, ""), |client| {
+        lend(
+            server::<M>(rt, ""),
+            |server| exchanged_by(rt, client, server, word),
+        )
+    })
+}
+
+fn exchanged_by<M: Mechanism>(
+    rt: &impl Test,
+    client: &mut Client<M>,
+    server: &mut Server<M>,
+    word: &str,
+) -> String {
     let mut kdc = kdc(rt, word);
-    let came = exchange(rt, &mut client, &mut server(rt, ""), &mut kdc);
+    let came = exchange(rt, client, server, &mut kdc);
     let calls = kdc.calls;
     let waits = client.waiting();
     given(rt, format!(in rt.alloc(); "{came} {calls} {waits}"))

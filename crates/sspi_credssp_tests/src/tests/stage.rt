@@ -14,7 +14,7 @@
 use crate::tests::ends::{Client, Server, client, knows_words, server};
 use crate::tests::message::{compose, has};
 use crate::tests::said::{by_client, by_server};
-use crate::tests::words::{Test, acts, number, octets, parted};
+use crate::tests::words::{Test, acts, lend, number, octets, parted, put};
 use sspi_credssp::Acts;
 use sspi_mech::{Mechanism, Reply};
 use sspi_tsreq::TsRequest;
@@ -44,8 +44,8 @@ impl<M: Mechanism> Stage<M> {
 
     fn make_ends(&mut self, rt: &impl Test, words: &str) {
         knows_words(rt, words);
-        self.client = client(rt, words);
-        self.server = server(rt, words);
+        put(&mut self.client, client(rt, words));
+        put(&mut self.server, server(rt, words));
     }
 
     fn client_turn(&mut self, rt: &impl Test) {
@@ -145,12 +145,15 @@ impl<M: Mechanism> Stage<M> {
     }
 }
 
-/// Plays a script between ends of one mechanism.
-pub fn plays<M: Mechanism>(rt: &impl Test, script: &str) {
-    let mut stage = Stage::<M>::new(rt);
+fn play<M: Mechanism>(rt: &impl Test, stage: &mut Stage<M>, script: &str) {
     for line in script.lines() {
         if !line.is_empty() {
             stage.line(rt, line);
         }
     }
+}
+
+/// Plays a script between ends of one mechanism.
+pub fn plays<M: Mechanism>(rt: &impl Test, script: &str) {
+    lend(Stage::<M>::new(rt), |stage| play(rt, stage, script));
 }

@@ -19,6 +19,20 @@ pub fn given<T, E: Drop>(rt: &impl Abort, answer: Result<T, E>) -> T {
     }
 }
 
+/// Puts a value in the place of another. Generic, as `lend` is: to drop a value of a type parameter is one step of a proof, and to drop
+/// an end is many.
+pub fn put<A: Drop>(place: &mut A, value: A) {
+    *place = value;
+}
+
+/// Lends a value, and drops it then.
+pub fn lend<A: Drop, R, F: FnOnce(&mut A) -> R>(value: A, act: F) -> R
+    requires { F.IsAlwaysCallable act }
+{
+    let mut value = value;
+    act(&mut value)
+}
+
 /// What stands before this mark, and what after it.
 pub fn parted<'a>(rt: &impl Abort, text: &'a str, mark: &str) -> (&'a str, &'a str) {
     match text.split_once(mark) {

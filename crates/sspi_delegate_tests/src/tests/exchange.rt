@@ -2,11 +2,13 @@
 
 use crate::tests::links::{Kind, echoing, edit};
 use sspi_ber::WireKind;
-use sspi_credssp::{ClientMode, CredSspClient, CredSspServer, ServerMode, TableProxy};
+use sspi_credssp::{
+    ClientMode, CredSspClient, CredSspServer, CredentialsProxy, ServerMode, TableProxy,
+};
 use sspi_delegate::{
     Carried, DelegateError, Delegation, End, KeptLink, Link, MemoryLink, Transcript, delegate,
 };
-use sspi_mech::{FailingKdc, Ntlm, NtlmConfig};
+use sspi_mech::{FailingKdc, Mechanism, Ntlm, NtlmConfig};
 use sspi_names::{AuthIdentity, Credentials, Username};
 use sspi_tsreq::CredSspMode;
 use sspi_types::{Error, ErrorKind, NStatusCode, Secret, Text};
@@ -149,21 +151,51 @@ fn memory_link(alloc: Global, setting: &Setting) -> Result<MemoryLink, AllocErro
     Ok(link)
 }
 
-fn exchange<L: Link>(alloc: Global, setting: &Setting, link: &mut L) -> Result<Exchanged, Fail> {
+/// Both, where there are both. Generic, since to drop a value of a type parameter is one step.
+fn both<A: Drop, B>(first: A, second: Result<B, Fail>) -> Result<(A, B), Fail> {
+    match second {
+        Ok(second) => Ok((first, second)),
+        Err(fail) => Err(fail),
+    }
+}
+
+fn carry<N: Mechanism, K: Mechanism, C: CredentialsProxy, L: Link>(
+    alloc: Global,
+    client: &mut CredSspClient<N, K>,
+    server: &mut CredSspServer<N, K, C>,
+    link: &mut L,
+    turns: u32,
+) -> Exchanged {
     let mut transcript = Transcript::new(alloc);
     let answer = delegate(
         alloc,
-        &mut client_of(alloc, setting)?,
-        &mut server_of(alloc, setting)?,
+        client,
+        server,
         link,
         &mut FailingKdc::new(),
-        setting.turns,
+        turns,
         &mut transcript,
     );
-    Ok(Exchanged {
+    Exchanged {
         answer,
         turns: transcript.turns().len(),
-    })
+    }
+}
+
+/// Lends both and drops them then. Generic, since to drop a value of a type parameter is one step.
+fn between<A: Drop, B: Drop, R, F: FnOnce(&mut A, &mut B) -> R>(first: A, second: B, act: F) -> R
+    requires { F.IsAlwaysCallable act }
+{
+    let mut first = first;
+    let mut second = second;
+    act(&mut first, &mut second)
+}
+
+fn exchange<L: Link>(alloc: Global, setting: &Setting, link: &mut L) -> Result<Exchanged, Fail> {
+    let (client, server) = both(client_of(alloc, setting)?, server_of(alloc, setting))?;
+    Ok(between(client, server, |client, server| {
+        carry(alloc, client, server, link, setting.turns)
+    }))
 }
 
 fn is_wanted(answer: &Result<Delegation, DelegateError>, wanted: Wanted) -> bool {

@@ -1,7 +1,7 @@
 //! Three sessions of three calls each, in every order that keeps each session's own.
 
 use crate::tests::messages::octets;
-use crate::tests::stage::{Answer, NtlmDesk, Test, given, is_answer, server};
+use crate::tests::stage::{Answer, NtlmDesk, Test, given, is_answer, lend, server};
 use sspi_desk::{Call, Desk, serve_all};
 use sspi_types::Bytes;
 
@@ -64,15 +64,13 @@ fn calls(rt: &impl Test, order: &[u64]) -> Vec<Call> {
     calls
 }
 
-fn desk(rt: &impl Test) -> NtlmDesk {
-    let mut desk = Desk::new(rt.alloc(), 3);
+fn admit_all(rt: &impl Test, desk: &mut NtlmDesk) {
     for session in 0..3 {
         if desk.admitted() == u64::MAX {
             rt.abort()
         }
         assert_eq!(rt; given(rt, desk.admit(server(rt, session < 2))), session);
     }
-    desk
 }
 
 fn are_answered(rt: &impl Test, order: &[u64], answers: &[Answer]) {
@@ -85,11 +83,17 @@ fn are_answered(rt: &impl Test, order: &[u64], answers: &[Answer]) {
     }
 }
 
-fn in_order(rt: &impl Test, order: &[u64]) {
-    let mut desk = desk(rt);
-    let answers = given(rt, serve_all(rt.alloc(), &mut desk, &calls(rt, order)));
+fn serves(rt: &impl Test, desk: &mut NtlmDesk, order: &[u64]) {
+    let answers = given(rt, serve_all(rt.alloc(), desk, &calls(rt, order)));
     are_answered(rt, order, &answers);
     assert_eq!(rt; desk.kept(), 3);
+}
+
+fn in_order(rt: &impl Test, order: &[u64]) {
+    lend(Desk::new(rt.alloc(), 3), |desk| {
+        admit_all(rt, desk);
+        serves(rt, desk, order);
+    });
 }
 
 #[test]

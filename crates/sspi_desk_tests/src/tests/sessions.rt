@@ -1,8 +1,8 @@
 //! What a desk of at most three sessions answers, call by call.
 
 use crate::tests::messages::octets;
-use crate::tests::stage::{NtlmDesk, Test, given, is_answer, server};
-use sspi_desk::{Desk, Why};
+use crate::tests::stage::{NtlmDesk, Test, given, is_answer, lend, server, was_there};
+use sspi_desk::{Desk, Turned, Why};
 
 /// Numbers are handed out in order and never again, and a full desk hands a server back.
 const ADMITTED: &str = "\
@@ -78,18 +78,21 @@ fn admit(rt: &impl Test, desk: &mut NtlmDesk, wanted: &str) {
     }
     match desk.admit(server(rt, true)) {
         Ok(number) => assert_eq!(rt; wanted.parse::<u64>(), Ok(number)),
-        Err(turned) => {
+        Err(Turned { server, why }) => {
+            assert!(rt; was_there(Some(server)));
             assert_eq!(rt; wanted, "full");
-            assert_eq!(rt; turned.why, Why::Full);
+            assert_eq!(rt; why, Why::Full);
         }
     }
 }
 
 fn close(rt: &impl Test, desk: &mut NtlmDesk, session: u64, wanted: &str) {
-    match desk.close(session) {
-        Some(_) => assert_eq!(rt; wanted, "server"),
-        None => assert_eq!(rt; wanted, "none"),
-    }
+    let found = if was_there(desk.close(session)) {
+        "server"
+    } else {
+        "none"
+    };
+    assert_eq!(rt; wanted, found);
 }
 
 fn serve(rt: &impl Test, desk: &mut NtlmDesk, session: u64, words: &str) {
@@ -118,24 +121,27 @@ fn step(rt: &impl Test, desk: &mut NtlmDesk, line: &str) {
     }
 }
 
-fn steps(rt: &impl Test, lines: &str) {
-    let mut desk = Desk::new(rt.alloc(), 3);
+fn steps(rt: &impl Test, desk: &mut NtlmDesk, lines: &str) {
     for line in lines.lines() {
-        step(rt, &mut desk, line);
+        step(rt, desk, line);
     }
+}
+
+fn on_a_desk(rt: &impl Test, lines: &str) {
+    lend(Desk::new(rt.alloc(), 3), |desk| steps(rt, desk, lines));
 }
 
 #[test]
 fn admitted(rt: HostRuntime) {
-    steps(&rt, ADMITTED);
+    on_a_desk(&rt, ADMITTED);
 }
 
 #[test]
 fn served(rt: HostRuntime) {
-    steps(&rt, SERVED);
+    on_a_desk(&rt, SERVED);
 }
 
 #[test]
 fn long(rt: HostRuntime) {
-    steps(&rt, LONG);
+    on_a_desk(&rt, LONG);
 }

@@ -31,6 +31,20 @@ pub(crate) fn given<T, E: Drop>(rt: &impl Abort, answer: Result<T, E>) -> T {
     }
 }
 
+/// Lends a value, and drops it then. Generic, since to drop a value of a type parameter is one step of a proof, and to drop an end is
+/// many.
+pub(crate) fn lend<A: Drop, R, F: FnOnce(&mut A) -> R>(value: A, act: F) -> R
+    requires { F.IsAlwaysCallable act }
+{
+    let mut value = value;
+    act(&mut value)
+}
+
+/// Whether there is a value, which is dropped.
+pub(crate) fn was_there<A: Drop>(value: Option<A>) -> bool {
+    value.is_some()
+}
+
 fn identity(rt: &impl Test) -> AuthIdentity {
     let password = given(rt, Text::from_text(rt.alloc(), "pw"));
     AuthIdentity {

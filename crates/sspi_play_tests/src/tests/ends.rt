@@ -23,6 +23,15 @@ pub fn given<T, E: Drop>(rt: &impl Abort, answer: Result<T, E>) -> T {
     }
 }
 
+/// Lends a value, and drops it then. Generic, since to drop a value of a type parameter is one step of a proof, and to drop an end is
+/// many.
+pub fn lend<A: Drop, R, F: FnOnce(&mut A) -> R>(value: A, act: F) -> R
+    requires { F.IsAlwaysCallable act }
+{
+    let mut value = value;
+    act(&mut value)
+}
+
 /// The messages of `DOM\ann` with the password `pw` and the key 010203 to a server of that key, by their numbers: two tokens,
 /// two proofs and the credentials. With an `n` the two proofs of a session with a nonce of octets 11, with a `k` those of one with
 /// the key 010204. Other words are octets themselves.
@@ -157,9 +166,11 @@ pub fn comes_to(
     turns: &str,
     wanted: (Ending, Ending, Option<&str>),
 ) {
-    let mut client = client(rt, key(rt, "010203"), ANN, ClientMode::Ntlm(config(rt)));
-    let mut server = server(rt, key(rt, digits), ANN, ServerMode::Ntlm(config(rt)));
-    let transcript = turns_of(rt, &mut client, &mut server, words, wanted);
+    let client = client(rt, key(rt, "010203"), ANN, ClientMode::Ntlm(config(rt)));
+    let server = server(rt, key(rt, digits), ANN, ServerMode::Ntlm(config(rt)));
+    let transcript = lend(client, |client| {
+        lend(server, |server| turns_of(rt, client, server, words, wanted))
+    });
     assert!(rt; made_by(transcript.turns(), turns), "{words}");
 }
 

@@ -1,7 +1,7 @@
 //! A play of two ends that negotiate NTLM, of `ann@example.com` over a key of 270 octets, as an instance of what agreement rests on. The
 //! messages, texts, MICs and hashes were computed apart.
 
-use crate::tests::ends::{Account, Test, client, config, given, made_by, server, turns_of};
+use crate::tests::ends::{Account, Test, client, config, given, lend, made_by, server, turns_of};
 use sha2::{Digest, Sha256};
 use sspi_credssp::{ClientMode, ServerMode};
 use sspi_delegate::{Transcript, Turn};
@@ -54,10 +54,12 @@ fn negotiates(
     server_stands: Ending,
     name: Option<&str>,
 ) -> Transcript {
-    let mut client = client(rt, key(rt), ANN, ClientMode::Negotiate(mode(rt)));
-    let mut server = server(rt, key(rt), ANN, ServerMode::Negotiate(mode(rt)));
+    let client = client(rt, key(rt), ANN, ClientMode::Negotiate(mode(rt)));
+    let server = server(rt, key(rt), ANN, ServerMode::Negotiate(mode(rt)));
     let wanted = (Ending::Running, server_stands, name);
-    turns_of(rt, &mut client, &mut server, words, wanted)
+    lend(client, |client| {
+        lend(server, |server| turns_of(rt, client, server, words, wanted))
+    })
 }
 
 fn exchange(rt: &impl Test) -> Transcript {
