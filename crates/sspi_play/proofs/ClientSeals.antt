@@ -139,8 +139,11 @@ module _ {C : Type 0} (c : Meaning ContextSetting C) (e : ClientEnd C) where
       (proof_text whose.Client (client_noted e.settings.least (t ∷ past)) e.settings.nonce e.settings.public_key) ++ client_sealed e past)
       ≤ 1
   one_more t past true none few =
-      rw (none refl, length-append
-      (proof_text whose.Client (client_noted e.settings.least (t ∷ past)) e.settings.nonce e.settings.public_key) [])
+      rw (
+        none refl,
+        length-append
+            (proof_text whose.Client (client_noted e.settings.least (t ∷ past)) e.settings.nonce e.settings.public_key) [],
+      )
       (omega (arith, proof_few whose.Client (client_noted e.settings.least (t ∷ past)) e.settings.nonce e.settings.public_key))
   one_more t past false none few = few
 
