@@ -1,4 +1,4 @@
-ghost use Rattle.std.specs.Prelude.{◌≡◌, ◌+◌, ◌≤◌, ◌↔◌, [], ◌++◌, length, take, drop, IsTrue, IfOk, OnOk, OnErr};
+ghost use Rattle.std.specs.Prelude.{◌≡◌, ◌+◌, ◌≤◌, ◌↔◌, [], ◌∷◌, ◌++◌, length, take, drop, IsTrue, IfOk, OnOk, OnErr};
 
 use std::alloc::{AllocError, Global};
 use std::marker::Model;
@@ -97,6 +97,17 @@ impl Bytes {
         ensures err { OnErr result (self.new ≡ self.old) }
     {
         self.content.extend_from_slice(piece)
+    }
+
+    /// Appends one byte, or leaves the list as it was where memory is wanting. Room grows by doubling, from 8 bytes on.
+    pub fn push(&mut self, byte: u8) -> Result<(), AllocError>
+        ensures ok { OnOk result (self.new ≡ self.old ++ byte ∷ []) }
+        ensures err { OnErr result (self.new ≡ self.old) }
+    {
+        match self.content.push(byte) {
+            Ok(()) => Ok(()),
+            Err(_) => Err(AllocError),
+        }
     }
 
     /// Keeps the first `len` bytes; a longer `len` changes nothing. Takes no memory.
