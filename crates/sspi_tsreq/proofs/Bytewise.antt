@@ -1,16 +1,16 @@
 -- One byte of a content.
-use Rattle.std.proofs.Common.{◌≡◌, ℕ, ◌+◌, ◌-◌, ◌<◌, ◌≤◌, List, [], ◌∷◌, ◌++◌, length, sym, ap, ◌∙◌, subst, arith, slice_set}
+use Rattle.std.proofs.Common.{◌≡◌, ℕ, ◌-◌, ◌<◌, ◌≤◌, List, [], ◌∷◌, ◌++◌, length, sym, ap, ◌∙◌, subst, arith}
 use Rattle.sspi_tsreq.specs.declared.place.Place.{Place}
-use Rattle.sspi_tsreq.specs.declared.place.Place.TheVariants.{InText, InNonce}
+use Rattle.sspi_tsreq.specs.declared.place.Place.TheVariants.{InText}
 use Rattle.sspi_tsreq.specs.declared.place.Stage.TheVariants.{Content}
 use Rattle.sspi_tsreq.specs.declared.place.Text.{Text}
 use Rattle.sspi_tsreq.specs.declared.reader.TsReader.{TsReader}
 use Rattle.sspi_tsreq.specs.declared.request.TsRequest.{TsRequest}
 use Rattle.sspi_tsreq.specs.Feeding.{Stands, WentOn}
-use Rattle.sspi_tsreq.specs.Places.{answered, nonce_from, rest_at, text_from, text_of, with_text}
+use Rattle.sspi_tsreq.specs.Places.{answered, rest_at, text_from, text_left, text_of, with_text}
 use Rattle.sspi_tsreq.specs.Walks.{IsWithout, Opened}
 use Rattle.sspi_tsreq.proofs.Feeding.{inside, inside_on, without_parts}
-use Rattle.sspi_tsreq.proofs.Walks.{nonce_more, text_part}
+use Rattle.sspi_tsreq.proofs.Walks.{octet_more, text_part}
 
 -- octets of a field, with more behind them
 pub text_went : (nonce : List ℕ) (left more : ℕ) (octets : List ℕ) (place : Place) (text : Text) (r : TsRequest) (reader : TsReader)
@@ -26,20 +26,30 @@ text_went nonce left more octets place text r reader some is stage-is request-is
   quiet = λ closed without opened. closed (subst (λ (p : Place). Opened p) (sym is) tt);
 }
 
--- a byte of the nonce, with more behind it
-pub nonce_went : (nonce : List ℕ) (left have byte : ℕ) (place : Place) (r : TsRequest) (reader : TsReader) → length nonce ≡ 32
-    → have < 31 → place ≡ InNonce have → reader.stage ≡ Content left (InNonce (have + 1)) → reader.nonce ≡ slice_set nonce have byte
-    → reader.request ≡ r → WentOn nonce place r (byte ∷ []) left reader
-nonce_went nonce left have byte place r reader size lt is stage-is nonce-is request-is = record {
-  now = InNonce (have + 1);
+-- one byte, which leads from a place over a request to another
+pub byte_went : (nonce : List ℕ) (left byte : ℕ) (place now : Place) (r : TsRequest) (reader : TsReader) → reader.stage ≡ Content left now
+    → ((more : List ℕ) → answered (rest_at nonce place r (byte ∷ more)) ≡ answered (rest_at reader.nonce now reader.request more))
+    → ((Opened place → ⊥) → (byte ≡ 0x04 → ⊥) → Opened now → ⊥) → WentOn nonce place r (byte ∷ []) left reader
+byte_went nonce left byte place now r reader stage-is goes quiet = record {
+  now = now;
   stage = stage-is;
-  goes = λ rest.
-      ap (λ (p : Place). answered (rest_at nonce p r (byte ∷ rest))) is
-      ∙ ap answered (nonce_more r nonce have byte rest size (omega (arith, lt)) (λ last. omega (arith, lt, last)))
-      ∙ ap (λ (n : List ℕ). answered (nonce_from n (have + 1) r rest)) (sym nonce-is)
-      ∙ ap (λ (q : TsRequest). answered (nonce_from reader.nonce (have + 1) q rest)) (sym request-is);
-  quiet = λ closed without opened. opened;
+  goes = goes;
+  quiet = λ closed without. quiet closed without.0;
 }
+
+-- a byte of a field
+pub octet_went : (nonce : List ℕ) (left more byte : ℕ) (place now : Place) (text : Text) (r : TsRequest) (reader : TsReader)
+    → ((nonce rest octets : List ℕ) (r : TsRequest) → text_left text more (with_text text r octets) rest ≡
+    rest_at nonce now (with_text text r octets) rest)
+    → place ≡ InText text more → reader.stage ≡ Content left now → reader.request ≡ with_text text r (text_of text r ++ byte ∷ [])
+    → WentOn nonce place r (byte ∷ []) left reader
+octet_went nonce left more byte place now text r reader goes is stage-is request-is =
+    byte_went nonce left byte place now r reader stage-is
+    (λ rest.
+    ap (λ (p : Place). answered (rest_at nonce p r (byte ∷ rest))) is
+    ∙ ap answered (octet_more text more r byte rest ∙ goes reader.nonce rest (text_of text r ++ byte ∷ []) r)
+    ∙ ap (λ (q : TsRequest). answered (rest_at reader.nonce now q rest)) (sym request-is))
+    (λ closed other opened. closed (subst (λ (p : Place). Opened p) (sym is) tt))
 
 pub byte_stands : (before after : TsReader) (left : ℕ) (place : Place) (bytes : List ℕ) (byte : ℕ) → before.stage ≡ Content left place
     → 0 < left → Stands before bytes → WentOn before.nonce place before.request (byte ∷ []) (left - 1) after

@@ -11,7 +11,7 @@ use Rattle.sspi_ber.proofs.Match.{read_of}
 use Rattle.sspi_tsreq.specs.declared.request.TsRequest.{TsRequest}
 use Rattle.sspi_tsreq.specs.declared.place.Text.{Text}
 use Rattle.sspi_tsreq.specs.declared.place.Text.TheVariants.{NegoTokens, AuthInfo, PubKeyAuth}
-use Rattle.sspi_tsreq.specs.Places.{low_from, nonce_from, nonce_rest, nonce_then, text_of, text_from, text_then, with_text}
+use Rattle.sspi_tsreq.specs.Places.{low_from, nonce_from, nonce_rest, nonce_then, text_of, text_from, text_left, text_more, text_then, with_text}
 use Rattle.sspi_tsreq.specs.Places.{version_from, version_then, code_from, code_then}
 use Rattle.sspi_tsreq.proofs.Numbers.{bytes_there, bytes_behind, byte_behind, low_step, low_last, none_left, put_before}
 
@@ -71,20 +71,17 @@ octets_begun text r len rest more lt =
     ∙ ap (λ (z : Read (List ℕ)). z >>= text_then text r) (bytes_behind rest more (len - length rest - 1 + 1))
     ∙ more_octets text r rest (bytes_at (len - length rest - 1 + 1) more)
 
-abbrev text_tail : Text → TsRequest → List ℕ × List ℕ → Read TsRequest
-text_tail text r x = text_then text r (text_of text r ++ x.0, x.1)
-
 -- the last bytes of a field, behind those that it has
 pub text_whole : (text : Text) (more : ℕ) (r : TsRequest) (octets rest : List ℕ) → length octets ≡ more + 1
     → text_from text more r (octets ++ rest) ≡ text_then text r (text_of text r ++ octets, rest)
 text_whole text more r octets rest e =
-    ap (λ (n : ℕ). bytes_at n (octets ++ rest) >>= text_tail text r) (omega (arith, e))
-    ∙ ap (λ (z : Read (List ℕ)). z >>= text_tail text r)
+    ap (λ (n : ℕ). bytes_at n (octets ++ rest) >>= text_more text r) (omega (arith, e))
+    ∙ ap (λ (z : Read (List ℕ)). z >>= text_more text r)
     (bytes_behind octets rest 0 ∙ ap (λ (z : Read (List ℕ)). z >>= put_before octets) (none_left rest) ∙ ap
     (λ (l : List ℕ). read_of l rest) (append-nil octets))
 
 tail_behind : (text : Text) (r : TsRequest) (octets : List ℕ) (z : Read (List ℕ))
-    → ((z >>= put_before octets) >>= text_tail text r) ≡ (z >>= text_tail text (with_text text r (text_of text r ++ octets)))
+    → ((z >>= put_before octets) >>= text_more text r) ≡ (z >>= text_more text (with_text text r (text_of text r ++ octets)))
 tail_behind NegoTokens r octets (Ok x) = ap (λ (l : List ℕ). text_then NegoTokens r (l, x.1))
     (sym (append_assoc (text_of NegoTokens r) octets x.0))
 tail_behind AuthInfo r octets (Ok x) = ap (λ (l : List ℕ). text_then AuthInfo r (l, x.1))
@@ -96,9 +93,47 @@ tail_behind text r octets (Err fault) = refl
 pub text_part : (text : Text) (more : ℕ) (r : TsRequest) (octets rest : List ℕ) → length octets ≤ more
     → text_from text more r (octets ++ rest) ≡ text_from text (more - length octets) (with_text text r (text_of text r ++ octets)) rest
 text_part text more r octets rest le =
-    ap (λ (n : ℕ). bytes_at n (octets ++ rest) >>= text_tail text r) (omega (arith, le))
-    ∙ ap (λ (z : Read (List ℕ)). z >>= text_tail text r) (bytes_behind octets rest (more - length octets + 1))
+    ap (λ (n : ℕ). bytes_at n (octets ++ rest) >>= text_more text r) (omega (arith, le))
+    ∙ ap (λ (z : Read (List ℕ)). z >>= text_more text r) (bytes_behind octets rest (more - length octets + 1))
     ∙ tail_behind text r octets (bytes_at (more - length octets + 1) rest)
+
+-- ---- one byte of a field
+
+pub octet_more : (text : Text) (more : ℕ) (r : TsRequest) (byte : ℕ) (rest : List ℕ) → text_from text more r (byte ∷ rest) ≡
+    text_left text more (with_text text r (text_of text r ++ byte ∷ [])) rest
+octet_more text more r byte rest =
+    ap (λ (z : Read (List ℕ)). z >>= text_more text r) (byte_behind byte rest more) ∙ tail_behind text r (byte ∷ [])
+    (bytes_at more rest)
+
+text_put : (text : Text) (r : TsRequest) (octets : List ℕ) → text_of text (with_text text r octets) ≡ octets
+text_put NegoTokens r octets = refl
+text_put AuthInfo r octets = refl
+text_put PubKeyAuth r octets = refl
+
+pub put_again : (text : Text) (r : TsRequest) (octets : List ℕ) → with_text text (with_text text r octets) octets ≡ with_text text r octets
+put_again NegoTokens r octets = refl
+put_again AuthInfo r octets = refl
+put_again PubKeyAuth r octets = refl
+
+-- a field has all its bytes
+pub text_over : (text : Text) (more : ℕ) (r : TsRequest) (octets rest : List ℕ) → more ≤ 0
+    → text_left text more (with_text text r octets) rest ≡ text_then text (with_text text r octets) (octets, rest)
+text_over text more r octets rest none =
+    let now = with_text text r octets in
+    ap (λ (n : ℕ). bytes_at n rest >>= text_more text now) (omega (arith, none))
+    ∙ ap (λ (z : Read (List ℕ)). z >>= text_more text now) (none_left rest)
+    ∙ ap (λ (l : List ℕ). text_then text now (l, rest)) (append-nil (text_of text now) ∙ text_put text r octets)
+
+begun_with : (text : Text) (r : TsRequest) (z : Read (List ℕ)) → (z >>= text_then text r) ≡ (z >>= text_more text (with_text text r []))
+begun_with NegoTokens r (Ok x) = refl
+begun_with AuthInfo r (Ok x) = refl
+begun_with PubKeyAuth r (Ok x) = refl
+begun_with text r (Err fault) = refl
+
+-- a field begins
+pub text_begun : (text : Text) (r : TsRequest) (len : ℕ) (rest : List ℕ) → (bytes_at len rest >>= text_then text r) ≡
+    text_left text len (with_text text r []) rest
+text_begun text r len rest = begun_with text r (bytes_at len rest)
 
 -- ---- the nonce
 

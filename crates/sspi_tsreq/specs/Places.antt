@@ -125,6 +125,10 @@ with_text NegoTokens r octets = record r { nego_tokens = Some octets }
 with_text AuthInfo r octets = record r { auth_info = Some octets }
 with_text PubKeyAuth r octets = record r { pub_key_auth = Some octets }
 
+-- bytes of a field behind those that it has
+abbrev pub text_more : Text → TsRequest → List ℕ × List ℕ → Read TsRequest
+text_more text r rest = text_then text r (text_of text r ++ rest.0, rest.1)
+
 -- what is left of a nonce of which `have` bytes stand in `nonce`
 abbrev pub nonce_rest : List ℕ → ℕ → List ℕ → Read (List ℕ)
 nonce_rest nonce have bytes = if nat_lt have 32 then (bytes_at (32 - have) bytes >>= λ rest. Ok (take have nonce ++ rest.0, rest.1)) else
@@ -140,8 +144,11 @@ version_from more value bytes = low_from value (more + 1) bytes >>= version_then
 abbrev pub code_from : ℕ → ℕ → TsRequest → List ℕ → Read TsRequest
 code_from more value r bytes = low_from value (more + 1) bytes >>= code_then r
 
+abbrev pub text_left : Text → ℕ → TsRequest → List ℕ → Read TsRequest
+text_left text len r bytes = bytes_at len bytes >>= text_more text r
+
 abbrev pub text_from : Text → ℕ → TsRequest → List ℕ → Read TsRequest
-text_from text more r bytes = bytes_at (more + 1) bytes >>= λ rest. text_then text r (text_of text r ++ rest.0, rest.1)
+text_from text more r bytes = text_left text (more + 1) r bytes
 
 abbrev pub nonce_from : List ℕ → ℕ → TsRequest → List ℕ → Read TsRequest
 nonce_from nonce have r bytes = nonce_rest nonce have bytes >>= nonce_then r

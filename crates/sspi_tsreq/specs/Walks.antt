@@ -7,13 +7,15 @@ use Rattle.sspi_tsreq.specs.declared.place.Field.{Field}
 use Rattle.sspi_tsreq.specs.declared.place.Inner.{Inner}
 use Rattle.sspi_tsreq.specs.declared.place.Inner.TheVariants.{Version, VersionNumber, TokenList, TokenItem, Token, Octets, CodeNumber}
 use Rattle.sspi_tsreq.specs.declared.place.Inner.TheVariants.{NonceOctets}
+use Rattle.sspi_tsreq.specs.declared.place.Next.{Next}
+use Rattle.sspi_tsreq.specs.declared.place.Next.TheVariants as next
 use Rattle.sspi_tsreq.specs.declared.place.Place.{Place}
 use Rattle.sspi_tsreq.specs.declared.place.Place.TheVariants.{AtTag, InLength, InVersion, InCode, InText, InNonce, Whole, Faulty}
 use Rattle.sspi_tsreq.specs.declared.request.TsRequest.{TsRequest}
 use Rattle.sspi_tsreq.specs.declared.walk.Slot.{Slot}
 use Rattle.sspi_tsreq.specs.declared.walk.Slot.TheVariants.{Kept, Absent, Here}
 use Rattle.sspi_tsreq.specs.declared.walk.Walk.{Walk}
-use Rattle.sspi_tsreq.specs.Places.{answered, from_tag, rest_at}
+use Rattle.sspi_tsreq.specs.Places.{answered, behind, code_then, from_tag, rest_at, version_then}
 
 abbrev pub slot : Slot → Option (List ℕ) → Option (List ℕ)
 slot Kept before = before
@@ -93,3 +95,20 @@ IsHere (Here octets) = Unit {0}
 -- the walk met no OCTET STRING
 abbrev pub IsQuiet : Walk → Type 0
 IsQuiet walk = (Opened walk.place → ⊥) × ((IsHere walk.nego_tokens → ⊥) × ((IsHere walk.auth_info → ⊥) × (IsHere walk.pub_key_auth → ⊥)))
+
+-- ---- one byte
+
+-- what is read from a byte on is what this makes of the bytes behind it
+abbrev pub LeadsTo : Read TsRequest → List ℕ → TsRequest → List ℕ → Next → Type 0
+LeadsTo read nonce r more (next.At place) = read ≡ rest_at nonce place r more
+LeadsTo read nonce r more (next.Version low) = read ≡ version_then (low, more)
+LeadsTo read nonce r more (next.Code low) = read ≡ code_then r (low, more)
+LeadsTo read nonce r more (next.Begins text len) = read ≡ behind (Required (Octets text)) r len more
+LeadsTo read nonce r more next.Walked = Unit {0}
+
+abbrev pub IsOpening : Next → Type 0
+IsOpening (next.At place) = Opened place
+IsOpening (next.Version low) = ⊥
+IsOpening (next.Code low) = ⊥
+IsOpening (next.Begins text len) = Unit {0}
+IsOpening next.Walked = ⊥

@@ -10,8 +10,8 @@
 //!
 //! `TsReader` (`reader.rt`) reads the same from pieces, as a stream gives them, and `from_buffer` is one piece. A request that
 //! the first piece has whole is read at once (`reading.rt`), and else `walk.rt` goes byte by byte, over the places of
-//! `place.rt`; `next.rt` takes a single byte, and `ending.rt` says what a content is that ends. `specs/Feeding.antt` says which
-//! bytes a reader stands for.
+//! `place.rt`. A piece of one byte changes the reader where it stands (`one_byte.rt`, and `next.rt` for the place), and
+//! `ending.rt` says what a content is that ends. `specs/Feeding.antt` says which bytes a reader stands for.
 //!
 //! `request.rt` has the message with its calls, `reading.rt` and `writing.rt` what stands behind them, one function for each
 //! field and for what follows it. What is in one piece is read without memory; `parts.rt` copies what was found whole. `specs/Reading.antt` has the same chain on lists, and `specs/Spelling.antt` the spelling.
@@ -28,6 +28,7 @@ pub mod laws;
 mod length;
 pub mod mode;
 mod next;
+mod one_byte;
 mod outer;
 mod parts;
 mod place;

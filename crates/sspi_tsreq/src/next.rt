@@ -1,30 +1,29 @@
-//! What one byte makes of a place, where it makes nothing of the fields.
+//! What one byte makes of a place.
 
-ghost use Rattle.std.specs.Prelude.{◌≡◌, ℕ, List, ◌∷◌, IfSome};
+ghost use Rattle.std.specs.Prelude.{◌≡◌, ℕ, List, ◌∷◌};
 ghost use Rattle.sspi_tsreq.specs.declared.request.TsRequest.{TsRequest};
-ghost use Rattle.sspi_tsreq.specs.Places.{behind, length_from, rest_at};
-ghost use Rattle.sspi_tsreq.specs.Walks.{from_inner, IsOctetsElement, Opened};
+ghost use Rattle.sspi_tsreq.specs.Places.{behind, length_from, rest_at, text_left, with_text};
+ghost use Rattle.sspi_tsreq.specs.Walks.{from_inner, IsOctetsElement, IsOpening, LeadsTo, Opened};
 
 use crate::length::next_length;
-use crate::place::{Element, Inner, LengthPart, LengthStep, Place, Text};
-use crate::walk::{code_place, inside, nonce_place, push_low, tag_of, version_place};
+use crate::place::{Element, Inner, LengthPart, LengthStep, Next, Place, Text};
+use crate::walk::{after_text, code_place, inside, nonce_place, push_low, tag_of, version_place};
 
-/// The place behind this byte, or `None` where a field begins or ends with it, or has it among its octets.
-pub(crate) fn next_place(place: Place, byte: u8) -> Option<Place>
-    ensures goes { IfSome result (λ next. (nonce more : List ℕ) (r : TsRequest) →
-        rest_at nonce place r (byte ∷ more) ≡ rest_at nonce next r more) }
-    ensures quiet { IfSome result (λ next. (Opened place → ⊥) → (byte ≡ 0x04 → ⊥) → Opened next → ⊥) }
+/// What this byte makes of the place.
+pub(crate) fn next_place(place: Place, byte: u8) -> Next
+    ensures goes { (nonce more : List ℕ) (r : TsRequest) → LeadsTo (rest_at nonce place r (byte ∷ more)) nonce r more result }
+    ensures quiet { (Opened place → ⊥) → (byte ≡ 0x04 → ⊥) → IsOpening result → ⊥ }
 {
     match place {
-        Place::AtTag(Element::Required(inner)) => Some(tag_place(inner, byte)),
-        Place::InLength(element, part) => length_place(element, part, byte),
+        Place::AtTag(Element::Required(inner)) => Next::At(tag_place(inner, byte)),
+        Place::InLength(element, part) => length_next(element, part, byte),
         Place::InVersion(more, value) => version_next(more, value, byte),
         Place::InCode(more, value) => code_next(more, value, byte),
-        Place::AtTag(Element::Optional(_)) => None,
-        Place::InText(_, _) => None,
-        Place::InNonce(_) => None,
-        Place::Whole => Some(Place::Whole),
-        Place::Faulty => Some(Place::Faulty),
+        Place::AtTag(Element::Optional(_)) => Next::Walked,
+        Place::InText(_, _) => Next::Walked,
+        Place::InNonce(_) => Next::Walked,
+        Place::Whole => Next::At(Place::Whole),
+        Place::Faulty => Next::At(Place::Faulty),
     }
 }
 
@@ -39,64 +38,78 @@ fn tag_place(inner: Inner, byte: u8) -> Place
     }
 }
 
-fn version_next(more: u32, value: u32, byte: u8) -> Option<Place>
-    ensures goes { IfSome result (λ next. (nonce text : List ℕ) (r : TsRequest) →
-        rest_at nonce (Place.InVersion more value) r (byte ∷ text) ≡ rest_at nonce next r text) }
-    ensures quiet { IfSome result (λ next. Opened next → ⊥) }
+fn version_next(more: u32, value: u32, byte: u8) -> Next
+    ensures goes { (nonce text : List ℕ) (r : TsRequest) →
+        LeadsTo (rest_at nonce (Place.InVersion more value) r (byte ∷ text)) nonce r text result }
+    ensures quiet { IsOpening result → ⊥ }
 {
-    if more == 0 {
-        return None;
+    let low = push_low(value, byte);
+    if more > 0 {
+        Next::At(Place::InVersion(more - 1, low))
+    } else {
+        Next::Version(low)
     }
-    Some(Place::InVersion(more - 1, push_low(value, byte)))
 }
 
-fn code_next(more: u32, value: u32, byte: u8) -> Option<Place>
-    ensures goes { IfSome result (λ next. (nonce text : List ℕ) (r : TsRequest) →
-        rest_at nonce (Place.InCode more value) r (byte ∷ text) ≡ rest_at nonce next r text) }
-    ensures quiet { IfSome result (λ next. Opened next → ⊥) }
+fn code_next(more: u32, value: u32, byte: u8) -> Next
+    ensures goes { (nonce text : List ℕ) (r : TsRequest) →
+        LeadsTo (rest_at nonce (Place.InCode more value) r (byte ∷ text)) nonce r text result }
+    ensures quiet { IsOpening result → ⊥ }
 {
-    if more == 0 {
-        return None;
+    let low = push_low(value, byte);
+    if more > 0 {
+        Next::At(Place::InCode(more - 1, low))
+    } else {
+        Next::Code(low)
     }
-    Some(Place::InCode(more - 1, push_low(value, byte)))
 }
 
-fn length_place(element: Element, part: LengthPart, byte: u8) -> Option<Place>
-    ensures goes { IfSome result (λ next. (nonce more : List ℕ) (r : TsRequest) →
-        length_from element part r (byte ∷ more) ≡ rest_at nonce next r more) }
-    ensures quiet { IfSome result (λ next. (IsOctetsElement element → ⊥) → Opened next → ⊥) }
+fn length_next(element: Element, part: LengthPart, byte: u8) -> Next
+    ensures goes { (nonce more : List ℕ) (r : TsRequest) → LeadsTo (length_from element part r (byte ∷ more)) nonce r more result }
+    ensures quiet { (IsOctetsElement element → ⊥) → IsOpening result → ⊥ }
 {
     match next_length(part, byte) {
-        LengthStep::Part(part) => Some(Place::InLength(element, part)),
-        LengthStep::Known(len) => content_place(element, len),
-        LengthStep::Bad => Some(Place::Faulty),
+        LengthStep::Part(part) => Next::At(Place::InLength(element, part)),
+        LengthStep::Known(len) => content_next(element, len),
+        LengthStep::Bad => Next::At(Place::Faulty),
     }
 }
 
-/// What stands behind a length, the octets of a field apart.
-fn content_place(element: Element, len: u32) -> Option<Place>
-    ensures goes { IfSome result (λ next. (nonce more : List ℕ) (r : TsRequest) → behind element r len more ≡ rest_at nonce next r more) }
-    ensures quiet { IfSome result (λ next. Opened next → ⊥) }
+/// What stands behind a length.
+fn content_next(element: Element, len: u32) -> Next
+    ensures goes { (nonce more : List ℕ) (r : TsRequest) → LeadsTo (behind element r len more) nonce r more result }
+    ensures quiet { (IsOctetsElement element → ⊥) → IsOpening result → ⊥ }
 {
     match element {
-        Element::Optional(field) => Some(Place::AtTag(Element::Required(inside(field)))),
-        Element::Required(inner) => inner_place(inner, len),
+        Element::Optional(field) => Next::At(Place::AtTag(Element::Required(inside(field)))),
+        Element::Required(inner) => inner_next(inner, len),
     }
 }
 
-fn inner_place(inner: Inner, len: u32) -> Option<Place>
-    ensures goes { IfSome result (λ next. (nonce more : List ℕ) (r : TsRequest) →
-        behind (Element.Required inner) r len more ≡ rest_at nonce next r more) }
-    ensures quiet { IfSome result (λ next. Opened next → ⊥) }
+fn inner_next(inner: Inner, len: u32) -> Next
+    ensures goes { (nonce more : List ℕ) (r : TsRequest) → LeadsTo (behind (Element.Required inner) r len more) nonce r more result }
+    ensures quiet { (IsOctetsElement (Element.Required inner) → ⊥) → IsOpening result → ⊥ }
 {
-    match inner {
-        Inner::Version => Some(Place::AtTag(Element::Required(Inner::VersionNumber))),
-        Inner::TokenList => Some(Place::AtTag(Element::Required(Inner::TokenItem))),
-        Inner::TokenItem => Some(Place::AtTag(Element::Required(Inner::Token))),
-        Inner::Token => Some(Place::AtTag(Element::Required(Inner::Octets(Text::NegoTokens)))),
-        Inner::VersionNumber => Some(version_place(len)),
-        Inner::CodeNumber => Some(code_place(len)),
-        Inner::NonceOctets => Some(nonce_place(len)),
-        Inner::Octets(_) => None,
+    Next::At(match inner {
+        Inner::Octets(text) => return Next::Begins(text, len),
+        Inner::Version => Place::AtTag(Element::Required(Inner::VersionNumber)),
+        Inner::TokenList => Place::AtTag(Element::Required(Inner::TokenItem)),
+        Inner::TokenItem => Place::AtTag(Element::Required(Inner::Token)),
+        Inner::Token => Place::AtTag(Element::Required(Inner::Octets(Text::NegoTokens))),
+        Inner::VersionNumber => version_place(len),
+        Inner::CodeNumber => code_place(len),
+        Inner::NonceOctets => nonce_place(len),
+    })
+}
+
+/// The place in a field of which so many bytes are to come, behind those that it has.
+pub(crate) fn text_place(text: Text, more: u32) -> Place
+    ensures { (nonce rest octets : List ℕ) (r : TsRequest) → text_left text more (with_text text r octets) rest ≡
+        rest_at nonce result (with_text text r octets) rest }
+{
+    if more > 0 {
+        Place::InText(text, more - 1)
+    } else {
+        Place::AtTag(Element::Optional(after_text(text)))
     }
 }

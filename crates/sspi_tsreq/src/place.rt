@@ -82,6 +82,20 @@ pub(crate) enum Place {
     Faulty,
 }
 
+/// What one byte makes of a place.
+pub(crate) enum Next {
+    /// This place, and nothing of the fields.
+    At(Place),
+    /// The version is whole, with this low half.
+    Version(u32),
+    /// The code is whole, with this low half.
+    Code(u32),
+    /// This field begins, with so many bytes.
+    Begins(Text, u32),
+    /// A walk has to tell.
+    Walked,
+}
+
 /// What comes next of a message.
 #[derive(Clone, Copy)]
 pub(crate) enum Stage {

@@ -12,13 +12,12 @@ ghost use Rattle.sspi_tsreq.specs.Places.{octets_of, rest_at, text_from, text_of
 ghost use Rattle.sspi_tsreq.specs.Walks.{filled, slot, IsHere, IsInText, IsQuiet, IsWithout, Opened};
 
 use crate::ending::ended;
-use crate::next::next_place;
 use crate::outer::read_outer;
 use crate::parts::{Parts, copy_request};
 use crate::place::{Element, Place, Stage, Text};
 use crate::reading::read_request;
 use crate::request::TsRequest;
-use crate::walk::{Slot, Walk, after_text, with_byte};
+use crate::walk::{Slot, Walk, after_text};
 use sspi_ber::{SliceSource, WireKind};
 use sspi_types::Bytes;
 use std::alloc::{AllocError, Global};
@@ -27,10 +26,10 @@ use std::alloc::{AllocError, Global};
 /// nothing of how long the request is, and keeps no more than came.
 #[derive(Drop)]
 pub struct TsReader {
-    alloc: Global,
-    stage: Stage,
-    nonce: [u8; 32],
-    request: TsRequest,
+    pub(crate) alloc: Global,
+    pub(crate) stage: Stage,
+    pub(crate) nonce: [u8; 32],
+    pub(crate) request: TsRequest,
 }
 
 /// A copy of what stands in the piece.
@@ -66,20 +65,6 @@ fn lengthen(alloc: Global, field: &mut Option<Bytes>, octets: &[u8]) -> Result<(
         Some(bytes) => bytes.push_slice(octets),
         None => {
             *field = Some(Bytes::from_slice(alloc, octets)?);
-            Ok(())
-        }
-    }
-}
-
-/// The same for one byte, which is no copy of a slice.
-fn push_octet(alloc: Global, field: &mut Option<Bytes>, byte: u8) -> Result<(), AllocError>
-    ensures ok { OnOk result (field.new ≡ Some (octets_of field.old ++ byte ∷ [])) }
-    ensures err { OnErr result (field.new ≡ field.old) }
-{
-    match field {
-        Some(bytes) => bytes.push_slice(&[byte]),
-        None => {
-            *field = Some(Bytes::from_slice(alloc, &[byte])?);
             Ok(())
         }
     }
@@ -213,55 +198,6 @@ impl TsReader {
         self.feed_on(&[byte])
     }
 
-    /// One byte of the content, behind which `left` are to come.
-    fn read_byte(&mut self, left: u32, place: Place, byte: u8) -> Result<(), AllocError>
-        ensures ok { OnOk result (WentOn self.old.nonce place self.old.request (byte ∷ []) left self.new) }
-        ensures err { OnErr result (self.new ≡ self.old) }
-        ensures free { (Opened place → ⊥) → (byte ≡ 0x04 → ⊥) → IsOk result }
-    {
-        match place {
-            Place::InText(text, more) if more > 0 => {
-                self.push_byte(text, byte)?;
-                self.stage = Stage::Content(left, Place::InText(text, more - 1));
-                Ok(())
-            }
-            Place::InNonce(have) if have < 31 => {
-                self.nonce = with_byte(self.nonce, have as usize, byte);
-                self.stage = Stage::Content(left, Place::InNonce(have + 1));
-                Ok(())
-            }
-            _ => self.step_byte(left, place, byte),
-        }
-    }
-
-    /// One byte that is not among the octets of a field.
-    fn step_byte(&mut self, left: u32, place: Place, byte: u8) -> Result<(), AllocError>
-        ensures ok { OnOk result (WentOn self.old.nonce place self.old.request (byte ∷ []) left self.new) }
-        ensures err { OnErr result (self.new ≡ self.old) }
-        ensures free { (Opened place → ⊥) → (byte ≡ 0x04 → ⊥) → IsOk result }
-    {
-        match next_place(place, byte) {
-            Some(next) => {
-                self.stage = Stage::Content(left, next);
-                Ok(())
-            }
-            None => self.read_content(left, place, &[byte]),
-        }
-    }
-
-    fn push_byte(&mut self, text: Text, byte: u8) -> Result<(), AllocError>
-        ensures ok { OnOk result (self.new ≡ record self.old {
-          request = with_text text self.old.request (text_of text self.old.request ++ byte ∷ []);
-        }) }
-        ensures err { OnErr result (self.new ≡ self.old) }
-    {
-        match text {
-            Text::NegoTokens => push_octet(self.alloc, &mut self.request.nego_tokens, byte),
-            Text::AuthInfo => push_octet(self.alloc, &mut self.request.auth_info, byte),
-            Text::PubKeyAuth => push_octet(self.alloc, &mut self.request.pub_key_auth, byte),
-        }
-    }
-
     /// Field by field, from where the reader stands.
     #[inline(never)]
     fn feed_on(&mut self, piece: &[u8]) -> Result<(), WireKind>
@@ -341,7 +277,12 @@ impl TsReader {
     }
 
     /// These bytes of the content, behind which `left` are to come.
-    fn read_content(&mut self, left: u32, place: Place, body: &[u8]) -> Result<(), AllocError>
+    pub(crate) fn read_content(
+        &mut self,
+        left: u32,
+        place: Place,
+        body: &[u8],
+    ) -> Result<(), AllocError>
         ensures ok { OnOk result (WentOn self.old.nonce place self.old.request body.now left self.new) }
         ensures err { OnErr result (self.new ≡ self.old) }
         ensures free { (Opened place → ⊥) → IsWithout 0x04 body.now → IsOk result }

@@ -70,15 +70,13 @@ fn begins(version: u32, least: u32, byte: u8, tag: u8) -> bool
     version >= least && byte == tag
 }
 
-/// The nonce with this byte in this place.
-pub(crate) fn with_byte(nonce: [u8; 32], at: usize, byte: u8) -> [u8; 32]
+/// Puts this byte in this place of the nonce.
+pub(crate) fn put_byte(nonce: &mut [u8; 32], at: usize, byte: u8)
     requires { at < 32 }
-    ensures put { result ≡ slice_set nonce at byte }
-    ensures size { length nonce ≡ 32 }
+    ensures put { nonce.new ≡ slice_set nonce.old at byte }
+    ensures size { length nonce.old ≡ 32 }
 {
-    let mut nonce = nonce;
     nonce[at] = byte;
-    nonce
 }
 
 /// The low 32 bits of a number, with one byte more.
@@ -240,7 +238,7 @@ impl<'a> Walk<'a> {
         if have >= 32 {
             self.place = Place::Faulty;
         } else {
-            self.nonce = with_byte(self.nonce, have as usize, byte);
+            put_byte(&mut self.nonce, have as usize, byte);
             if have == 31 {
                 self.client_nonce = Some(self.nonce);
                 self.place = Place::Whole;

@@ -105,10 +105,12 @@ fn copies_are_equal(rt: HostRuntime) {
 
 fn copies_bytes(rt: &impl Abort, alloc: Global, mut bytes: Bytes) {
     match bytes.clone(alloc) {
-        Ok(copy) => {
+        Ok(mut copy) => {
             assert!(rt; copy == bytes);
             assert!(rt; bytes.push_slice(b"s").is_ok());
             assert!(rt; copy != bytes);
+            assert!(rt; copy.push(b's').is_ok());
+            assert!(rt; copy == bytes);
         }
         Err(_) => assert!(rt; false),
     }
