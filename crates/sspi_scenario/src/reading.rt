@@ -7,7 +7,7 @@ use std::alloc::Global;
 /// The text of a scenario has at most so many bytes.
 pub const TEXT_LIMIT: usize = 1_048_576;
 
-const PIECE_LENGTH: usize = 4096;
+const PIECE_LENGTH: usize = 1024;
 
 /// Why a source gave no text.
 #[derive(Clone, Copy, Debug, PartialEq, Eq)]

@@ -200,14 +200,14 @@ fn writes_until(rt: &impl Abort, alloc: Global, call: u64, status: u8) {
     assert!(rt; sink.written().is_empty() == (status == 4));
 }
 
-/// The text is asked for twice, once behind its end, and one of more than 4096 bytes three times; the report is written in one call.
+/// The text is asked for twice, once behind its end, and one of more than 1024 bytes three times; the report is written in one call.
 #[test]
 fn calls_outside_that_fail(rt: HostRuntime) {
     let alloc = rt.alloc();
     for (call, status) in [(0, 3), (1, 3), (2, 0)] {
         reads_until(&rt, alloc, ORDINARY, call, status);
     }
-    match stretched(alloc, (ORDINARY, "#\n", 2040, "")) {
+    match stretched(alloc, (ORDINARY, "#\n", 500, "")) {
         Ok(text) => {
             for (call, status) in [(0, 3), (1, 3), (2, 3), (3, 0)] {
                 reads_until(&rt, alloc, &text, call, status);
