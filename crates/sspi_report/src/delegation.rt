@@ -1,7 +1,7 @@
 ghost use Rattle.std.specs.Prelude.{◌≡◌, IfOk};
 ghost use Rattle.sspi_report.specs.Report.{report_text};
 
-use crate::entries::push_entry;
+use crate::entries::{push_entry, room_of};
 use crate::outcome::outcome_line;
 use sspi_delegate::{Carried, DelegateError, Delegation};
 use std::alloc::{AllocError, Global};
@@ -20,7 +20,7 @@ pub fn report(
     let Some(line) = outcome_line(alloc, outcome)? else {
         return Ok(Vec::new(alloc));
     };
-    let mut text = String::new(alloc);
+    let mut text = String::with_capacity(alloc, room_of(log).saturating_add(line.len()))?;
     for entry in log {
         push_entry(alloc, &mut text, entry)?;
     }

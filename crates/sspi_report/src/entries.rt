@@ -46,3 +46,13 @@ pub(crate) fn push_line(
     text.push_str(&digits)?;
     text.push('\n')
 }
+
+/// How many bytes the lines of a log take where each message was delivered as it was sent: a text of that room is not moved.
+pub(crate) fn room_of(log: &[Carried]) -> usize {
+    let mut room = 0usize;
+    for entry in log {
+        let digits = entry.sent.len().saturating_add(entry.sent.len());
+        room = room.saturating_add(digits.saturating_add(3));
+    }
+    room
+}
