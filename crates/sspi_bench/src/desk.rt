@@ -12,7 +12,12 @@ type PlainServer = CredSspServer<Ntlm, Kerberos, TableProxy>;
 type PlainDesk = Desk<Ntlm, Kerberos, TableProxy>;
 
 /// A desk of so many sessions of plain NTLM is served these bytes so many times, one session after the other.
-pub fn repeat(alloc: Global, sessions: u32, bytes: &[u8], times: u32) -> Result<u64, AllocError>
+pub(crate) fn repeat(
+    alloc: Global,
+    sessions: u32,
+    bytes: &[u8],
+    times: u32,
+) -> Result<u64, AllocError>
     requires { 0 < sessions }
 {
     let mut desk = PlainDesk::new(alloc, sessions);

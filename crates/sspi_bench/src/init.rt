@@ -26,7 +26,7 @@ fn encode(alloc: Global, token: &NegTokenInit) -> Result<u64, Error> {
 }
 
 /// The work so many times on the NegTokenInit that the bytes begin with.
-pub fn repeat(alloc: Global, work: Work, bytes: &[u8], times: u32) -> Result<u64, Error> {
+pub(crate) fn repeat(alloc: Global, work: Work, bytes: &[u8], times: u32) -> Result<u64, Error> {
     let token = NegTokenInit::decode(alloc, bytes)?;
     let mut sum = 0u64;
     for _ in 0..times {

@@ -34,7 +34,7 @@ fn encode(alloc: Global, request: &TsRequest) -> Result<u64, WireKind> {
 }
 
 /// The work so many times on the TSRequest that the bytes begin with.
-pub fn repeat(alloc: Global, work: Work, bytes: &[u8], times: u32) -> Result<u64, WireKind> {
+pub(crate) fn repeat(alloc: Global, work: Work, bytes: &[u8], times: u32) -> Result<u64, WireKind> {
     let request = TsRequest::from_buffer(alloc, bytes)?;
     let mut sum = 0u64;
     for _ in 0..times {
@@ -59,7 +59,12 @@ fn feed(alloc: Global, bytes: &[u8], size: usize) -> Result<u64, WireKind>
 }
 
 /// So many times the TSRequest that the bytes begin with, from pieces of `size` bytes.
-pub fn repeat_fed(alloc: Global, size: usize, bytes: &[u8], times: u32) -> Result<u64, WireKind>
+pub(crate) fn repeat_fed(
+    alloc: Global,
+    size: usize,
+    bytes: &[u8],
+    times: u32,
+) -> Result<u64, WireKind>
     requires { 0 < size }
 {
     let mut sum = 0u64;

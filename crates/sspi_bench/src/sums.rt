@@ -1,7 +1,12 @@
+ghost use Rattle.std.specs.Prelude.{◌≡◌, None, IfSome, length};
+
 use sspi_types::Bytes;
 
 /// The length of a field, or 0 where it is absent.
-pub fn len_of(field: &Option<Bytes>) -> u64 {
+pub(crate) fn len_of(field: &Option<Bytes>) -> u64
+    ensures there { IfSome field.now (λ octets. result ≡ length octets) }
+    ensures absent { field.now ≡ None → result ≡ 0 }
+{
     match field {
         None => 0,
         Some(bytes) => bytes.len() as u64,
@@ -9,7 +14,7 @@ pub fn len_of(field: &Option<Bytes>) -> u64 {
 }
 
 /// The length and the last byte of what was written.
-pub fn sum_of_text(text: &[u8]) -> u64 {
+pub(crate) fn sum_of_text(text: &[u8]) -> u64 {
     let last = text.last().copied().unwrap_or(0);
     (text.len() as u64).wrapping_add(u64::from(last))
 }

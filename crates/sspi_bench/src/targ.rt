@@ -30,7 +30,7 @@ fn encode(alloc: Global, token: &NegTokenTarg) -> Result<u64, Error> {
 }
 
 /// The work so many times on the NegTokenTarg that the bytes begin with.
-pub fn repeat(alloc: Global, work: Work, bytes: &[u8], times: u32) -> Result<u64, Error> {
+pub(crate) fn repeat(alloc: Global, work: Work, bytes: &[u8], times: u32) -> Result<u64, Error> {
     let token = NegTokenTarg::decode(alloc, bytes)?;
     let mut sum = 0u64;
     for _ in 0..times {

@@ -25,7 +25,7 @@ pub enum Job {
     Desk(u32),
 }
 
-pub fn work_of(word: &str) -> Option<Work> {
+pub(crate) fn work_of(word: &str) -> Option<Work> {
     match word {
         "decode" => Some(Work::Decode),
         "encode" => Some(Work::Encode),
@@ -34,7 +34,7 @@ pub fn work_of(word: &str) -> Option<Work> {
     }
 }
 
-pub fn message_of(word: &str) -> Option<Message> {
+pub(crate) fn message_of(word: &str) -> Option<Message> {
     match word {
         "request" => Some(Message::Request),
         "init" => Some(Message::Init),

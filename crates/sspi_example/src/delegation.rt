@@ -16,18 +16,18 @@ use std::alloc::{AllocError, Global};
 const MESSAGES: u32 = 5;
 
 /// The user `ann`, as the client delegates it and as the server's table knows it.
-pub fn ann(alloc: Global) -> Result<AuthIdentity, Error> {
+pub(crate) fn ann(alloc: Global) -> Result<AuthIdentity, Error> {
     let username = Username::parse(alloc, "ann")?;
     let password = Secret::from(Text::from_text(alloc, "pw")?);
     Ok(AuthIdentity { username, password })
 }
 
 /// The SubjectPublicKey of the TLS channel's certificate: both ends see the same.
-pub fn key(alloc: Global) -> Result<Vec<u8>, AllocError> {
+pub(crate) fn key(alloc: Global) -> Result<Vec<u8>, AllocError> {
     Vec::from_slice(alloc, &[1, 2, 3])
 }
 
-pub fn ntlm_config(alloc: Global) -> Result<NtlmConfig, AllocError> {
+pub(crate) fn ntlm_config(alloc: Global) -> Result<NtlmConfig, AllocError> {
     Ok(NtlmConfig::new(Text::from_text(alloc, "HOST")?))
 }
 
@@ -125,7 +125,7 @@ pub struct Ends<M> {
     server: CredSspServer<M, M, TableProxy>,
 }
 
-pub fn both<M: Mechanism>(alloc: Global) -> Result<Ends<M>, Error> {
+pub(crate) fn both<M: Mechanism>(alloc: Global) -> Result<Ends<M>, Error> {
     match pair(client(alloc), server(alloc)) {
         Ok((client, server)) => Ok(Ends { client, server }),
         Err(error) => Err(error),

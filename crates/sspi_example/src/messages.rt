@@ -95,7 +95,7 @@ pub struct Ends {
     server: Context,
 }
 
-pub fn both(alloc: Global) -> Result<Ends, Error> {
+pub(crate) fn both(alloc: Global) -> Result<Ends, Error> {
     match pair(context(alloc), context(alloc)) {
         Ok((client, server)) => Ok(Ends { client, server }),
         Err(error) => Err(error),

@@ -195,7 +195,7 @@ pub struct Ends {
     server: CredSspServer<Ntlm, Kerberos, Directory>,
 }
 
-pub fn both(alloc: Global) -> Result<Ends, Error> {
+pub(crate) fn both(alloc: Global) -> Result<Ends, Error> {
     match pair(client(alloc), server(alloc)) {
         Ok((client, server)) => Ok(Ends { client, server }),
         Err(error) => Err(error),

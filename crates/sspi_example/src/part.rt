@@ -10,7 +10,7 @@ pub trait Part: Drop {
 }
 
 /// Both ends, or why one of them could not be made.
-pub fn pair<A: Drop, B: Drop>(
+pub(crate) fn pair<A: Drop, B: Drop>(
     client: Result<A, Error>,
     server: Result<B, Error>,
 ) -> Result<(A, B), Error> {
@@ -22,7 +22,7 @@ pub fn pair<A: Drop, B: Drop>(
 }
 
 /// Runs a part, and says its name and what there is to tell.
-pub fn say<P: Part>(
+pub(crate) fn say<P: Part>(
     rt: &impl Print,
     alloc: Global,
     name: &str,
