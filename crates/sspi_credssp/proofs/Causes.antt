@@ -1,23 +1,19 @@
 -- The causes of refusals, put together from those of the calls inside.
-use Rattle.std.proofs.Common.{◌≡◌, ◌≢◌, ℕ, List, Option, None, Some, IsSome, Result, Ok, Err, IfErr, Bool, true, false, subst}
+use Rattle.std.proofs.Common.{◌≡◌, ◌≢◌, ℕ, Option, None, Some, IsSome, Result, Ok, Err, IfErr, Bool, true, false, subst}
 use Rattle.sspi_types.specs.declared.credential_use.CredentialUse.TheVariants.{Outbound}
 use Rattle.sspi_types.specs.declared.error.Error.{Error}
 use Rattle.sspi_types.specs.declared.error_kind.ErrorKind.{ErrorKind}
 use Rattle.sspi_types.specs.declared.error_kind.ErrorKind.TheVariants.{InsufficientMemory, MessageAltered, DowngradeDetected}
 use Rattle.sspi_tsreq.specs.declared.request.TsRequest.{TsRequest}
 use Rattle.sspi_mech.specs.Meaning.{Meaning}
-use Rattle.sspi_credssp.specs.declared.public_key.EndpointType.TheVariants.{Server}
 use Rattle.sspi_credssp.specs.declared.state.CredSspState.{CredSspState}
 use Rattle.sspi_credssp.specs.declared.state.CredSspState.TheVariants.{NegoToken, PubKeyInfo, AuthInfo, Final}
 use Rattle.sspi_credssp.specs.Begun.{BeginCause, MadeOr}
 use Rattle.sspi_credssp.specs.Client.{ClientView}
-use Rattle.sspi_credssp.specs.ClientCause.{ClientCause, StateCause, OpenedCause, DeliverCause}
+use Rattle.sspi_credssp.specs.ClientCause.{ClientCause, StateCause}
 use Rattle.sspi_credssp.specs.Context.{ContextSetting, ForClient}
 use Rattle.sspi_credssp.specs.Counts.{is_waiting_in}
-use Rattle.sspi_credssp.specs.Credentials.{delegated_text}
-use Rattle.sspi_credssp.specs.Exchange.{IsSealedBlob}
 use Rattle.sspi_credssp.specs.Noted.{is_altered_in, is_old_in}
-use Rattle.sspi_credssp.specs.PublicKey.{prescribed}
 use Rattle.sspi_credssp.specs.Requests.{is_code}
 use Rattle.sspi_credssp.specs.Stops.{StopsIf}
 
@@ -38,14 +34,6 @@ made_later None (Some m) Cause Later some h = h
 made_later None None Cause Later some h = cc
 
 module _ {C : Type 0} (c : Meaning ContextSetting C) where
-  pub deliver_cause : (field : Option (List ℕ)) (blob : List ℕ) (new : ClientView C) (noted : ℕ) (m : C) (kind : ErrorKind) →
-      IsSealedBlob field blob → new.noted ≡ Some noted → new.context ≡ Some m →
-      OpenedCause c new.acts.checked m blob (prescribed Server noted new.settings.nonce new.settings.public_key)
-      (delegated_text new.settings.credentials new.settings.delegation) kind →
-      DeliverCause c field new kind
-  deliver_cause None blob new noted m kind long n x h = absurd long
-  deliver_cause (Some held) blob new noted m kind long n x h = rw long.passes (rw long.same (rw (n, x) h))
-
   -- what a turn looks at past the version check is not the version
   state_cause_same : (state : CredSspState) (d : TsRequest) (v : ℕ) (new : ClientView C) (kind : ErrorKind) →
       StateCause c state (record d { version = v }) new kind → StateCause c state d new kind
