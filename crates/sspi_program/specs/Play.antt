@@ -1,5 +1,7 @@
 -- What the word `play` promises.
 use Rattle.std.specs.Prelude.{◌≡◌, ℕ, List, [], None, Result, Ok}
+use Rattle.sspi_mech.specs.Kerberos.{kerberos_meaning}
+use Rattle.sspi_mech.specs.Ntlm.{ntlm_meaning}
 use Rattle.sspi_credssp.specs.Client.{ClientView}
 use Rattle.sspi_credssp.specs.Server.{ServerView}
 use Rattle.sspi_credssp.specs.Table.{TableView, table_meaning}
@@ -12,6 +14,7 @@ use Rattle.sspi_delegate.specs.Refusals.{KdcStays, ProxyStays}
 use Rattle.sspi_delegate.specs.ServerRun.{server_end}
 use Rattle.sspi_play.specs.Agreement.{AgreesIfFaithful}
 use Rattle.sspi_play.specs.Kept.{kept_list, identity_of}
+use Rattle.sspi_play.specs.Negotiated.{NegotiatesIfFaithful}
 use Rattle.sspi_play.specs.Played.{both, Accounts, IsPlay}
 use Rattle.sspi_play.specs.declared.played.Played.{Played}
 use Rattle.sspi_scenario.specs.declared.purpose.Purpose.TheVariants as purposes
@@ -47,6 +50,8 @@ pub record HasPlay (r : Record) : Type 0 where
   pub plays : IsPlay plain_meaning (both client server (kdc_in r.scenario) []) (both r.client.value r.server.value r.kdc r.transcript.turns)
   pub agrees : AgreesIfFaithful plain_meaning kept_list (client_end r.client.value) (server_end r.server.value) r.transcript.turns
       (identity_of answer)
+  pub negotiates : NegotiatesIfFaithful 0 ntlm_meaning kerberos_meaning (client_end r.client.value) (server_end r.server.value)
+      server.settings.mode r.transcript.turns
   pub kdc : KdcStays told_replies kdc_faults (kdc_in r.scenario) r.kdc
   pub proxy : ProxyStays table_meaning server.proxy r.server.value.proxy
 

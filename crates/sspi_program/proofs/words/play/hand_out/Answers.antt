@@ -32,6 +32,7 @@ returns-clause-play c ends =
       accounts = rw (ends.kdc, empty, c.as_slice.ensures) at (ensures.accounts empty);
       plays = rw (ends.kdc, empty) at (ensures.plays fresh);
       agrees = ensures.agrees fresh;
+      negotiates = ensures.negotiates fresh;
       kdc = rw ends.kdc at ensures.kdc;
       proxy = ensures.proxy;
     }
