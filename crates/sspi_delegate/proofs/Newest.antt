@@ -5,7 +5,7 @@ use Rattle.std.proofs.lemmas.List.{length-reverse, reverse-append, set_split, ta
 use Rattle.sspi_delegate.specs.declared.carried.Carried.{Carried}
 use Rattle.sspi_delegate.specs.declared.link.LinkError.{LinkError}
 use Rattle.sspi_delegate.specs.Edits.{NewestDelivers}
-use Rattle.sspi_delegate.specs.Link.{PieceGives}
+use Rattle.sspi_delegate.specs.Link.{IsReceived, IsReceivedOf, PieceGives}
 use Rattle.sspi_delegate.specs.Log.{grown}
 
 pub reverse-last : {A : Type 0} (xs : List A) (n : ℕ) (x : A) → length xs ≡ n + 1 → x ≡ get_or xs n x → reverse xs ≡ x ∷ reverse (take n xs)
@@ -38,6 +38,13 @@ pub gives_newest : (old xs : List Carried) (n : ℕ) (e e2 : Carried) (into : Li
 gives_newest old xs n e e2 into r is size there ok err =
     rw (← is, reverse-last xs n e size there, reverse-set_last xs n e2 size)
     (gives_at e e2 (reverse (take n xs)) into r ok err)
+
+-- what was asked of a carrier for the newest entry was asked for the log
+pub received_newest : {R : Type 0} (receives : R → ℕ → List ℕ → R → Type 0) (before now : R) (old xs : List Carried) (n : ℕ) (e : Carried)
+    (into : List ℕ) (r : Result ℕ LinkError) →
+    reverse xs ≡ old → length xs ≡ n + 1 → e ≡ get_or xs n e → IfOk r (λ count. IsReceivedOf receives e.ended before count into now) →
+    IfOk r (λ count. IsReceived receives old before count into now)
+received_newest receives before now old xs n e into r is size there received = rw (← is, reverse-last xs n e size there) received
 
 pub newest_delivers : (text : List ℕ) (xs : List Carried) (n : ℕ) (e : Carried) → length xs ≡ n + 1 →
     NewestDelivers text (e ∷ reverse (take n xs)) → NewestDelivers text (reverse (set xs n e))

@@ -1,5 +1,5 @@
 -- What the calls of a link answer.
-use Rattle.std.specs.Prelude.{◌≡◌, ℕ, ◌≤◌, List, length, Option, Some, None, Result, Ok, Err, IfOk, reverse}
+use Rattle.std.specs.Prelude.{◌≡◌, ℕ, ◌≤◌, Bool, true, false, List, [], ◌∷◌, length, Option, Some, None, Result, Ok, Err, IfOk, reverse}
 use Rattle.sspi_delegate.specs.declared.carried.Carried.{Carried}
 use Rattle.sspi_delegate.specs.declared.edit.Edit.{Edit}
 use Rattle.sspi_delegate.specs.declared.link.LinkError.{LinkError}
@@ -55,3 +55,13 @@ FollowsTold (Some edits) log = FollowsEdits edits log
 pub record StaysTold (edits edits2 : Option (List Edit)) (log log2 : List Carried) : Type 0 where
   pub same : edits2 ≡ edits
   pub follows : FollowsTold edits log → FollowsTold edits2 log2
+
+-- a carrier gave these bytes of a delivery, unless that had ended
+abbrev pub IsReceivedOf : {R : Type 0} → (R → ℕ → List ℕ → R → Type 0) → Bool → R → ℕ → List ℕ → R → Type 0
+IsReceivedOf receives true before count into now = now ≡ before
+IsReceivedOf receives false before count into now = receives before count into now
+
+-- the same of the newest entry of a log; where there is none, nothing is asked of the carrier
+abbrev pub IsReceived : {R : Type 0} → (R → ℕ → List ℕ → R → Type 0) → List Carried → R → ℕ → List ℕ → R → Type 0
+IsReceived receives [] before count into now = now ≡ before
+IsReceived receives (e ∷ log) before count into now = IsReceivedOf receives e.ended before count into now

@@ -12,18 +12,27 @@ use std::marker::Model;
 ///
 /// A call that answers `Failed` counts one fault, up to the last value of the count, and no other answer counts any.
 pub trait Carrier: Drop {
-    ghost use Rattle.std.specs.Prelude.{ℕ, ◌≤◌, length, IfOk};
+    ghost use Rattle.std.specs.Prelude.{ℕ, List, ◌≤◌, length, IfOk, OnOk};
+    ghost use Rattle.sspi_credssp.specs.declared.turn.End.{End};
     ghost use Rattle.sspi_delegate.specs.Link.{LinkCause};
 
     ghost faults: { Self → ℕ };
 
+    /// What the sending of a message from an end makes of the carrier.
+    ghost sends: { Self → End → List ℕ → Self → Type 0 };
+
+    /// What receiving so many bytes, the front of these, makes of it.
+    ghost receives: { Self → ℕ → List ℕ → Self → Type 0 };
+
     /// Sends a whole message from this end. What was left of the last one is not to be received any more.
     fn send(&mut self, from: End, sent: &[u8]) -> Result<(), LinkError>
-        ensures { LinkCause (faults self.old) (faults self.new) result };
+        ensures sends { OnOk result (sends self.old from sent.now self.new) }
+        ensures cause { LinkCause (faults self.old) (faults self.new) result };
 
     /// Writes the next bytes of the message to the front of `into`, and answers how many they are; none is its end.
     fn receive(&mut self, into: &mut [u8]) -> Result<usize, LinkError>
         ensures bound { IfOk result (λ count. count ≤ length into.new) }
+        ensures receives { IfOk result (λ count. receives self.old count into.new self.new) }
         ensures cause { LinkCause (faults self.old) (faults self.new) result };
 }
 
@@ -64,7 +73,9 @@ impl<R: Carrier> KeptLink<R> {
 }
 
 impl<R: Carrier> Link for KeptLink<R> {
-    ghost use Rattle.std.specs.Prelude.{None};
+    ghost use Rattle.std.specs.Prelude.{◌≡◌, [], ◌∷◌, None, Ok, IfOk, OnOk, OnErr};
+    ghost use Rattle.sspi_delegate.specs.Link.{IsReceived, LinkCause, PieceGives};
+    ghost use Rattle.sspi_delegate.specs.Log.{begun};
 
     ghost log = { λ link. link.log };
 
@@ -74,7 +85,12 @@ impl<R: Carrier> Link for KeptLink<R> {
 
     ghost most = { λ _. None };
 
-    fn carry(&mut self, from: End, sent: &[u8]) -> Result<(), LinkError> {
+    fn carry(&mut self, from: End, sent: &[u8]) -> Result<(), LinkError>
+        ensures ok { OnOk result (self.new.log ≡ begun from sent.now ∷ self.old.log) }
+        ensures err { OnErr result (self.new.log ≡ self.old.log) }
+        ensures cause { LinkCause (R.faults self.old.carrier) (R.faults self.new.carrier) result }
+        ensures sends { OnOk result (R.sends self.old.carrier from sent.now self.new.carrier) }
+    {
         let sent_copy = Bytes::from_slice(self.alloc, sent)?;
         self.log.reserve()?;
         self.carrier.send(from, sent)?;
@@ -87,7 +103,12 @@ impl<R: Carrier> Link for KeptLink<R> {
         Ok(())
     }
 
-    fn piece(&mut self, into: &mut [u8]) -> Result<usize, LinkError> {
+    fn piece(&mut self, into: &mut [u8]) -> Result<usize, LinkError>
+        ensures gives { PieceGives self.old.log self.new.log result into.new }
+        ensures cause { LinkCause (R.faults self.old.carrier) (R.faults self.new.carrier) result }
+        ensures none { self.old.log ≡ [] → (result ≡ Ok 0) × (self.new ≡ self.old) }
+        ensures receives { IfOk result (λ count. IsReceived R.receives self.old.log self.old.carrier count into.new self.new.carrier) }
+    {
         self.log.receive(&mut self.carrier, into)
     }
 }

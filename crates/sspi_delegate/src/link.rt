@@ -62,6 +62,7 @@ pub trait Link: Drop {
         ensures err { OnErr result (log self.new ≡ log self.old) }
         ensures cause { LinkCause (faults self.old) (faults self.new) result }
         ensures edits { edits self.new ≡ edits self.old }
+        ensures most { most self.new ≡ most self.old }
         ensures told { CarryTold (edits self.old) (log self.old) sent.now (faults self.old) (faults self.new) result }
         ensures follows { FollowsTold (edits self.new) (log self.new) };
 
@@ -73,6 +74,7 @@ pub trait Link: Drop {
         ensures within { IsWithin (most self.old) result }
         ensures cause { LinkCause (faults self.old) (faults self.new) result }
         ensures edits { edits self.new ≡ edits self.old }
+        ensures most { most self.new ≡ most self.old }
         ensures none { log self.old ≡ [] → (result ≡ Ok 0) × (self.new ≡ self.old) }
         ensures told { NeverFails (edits self.old) (faults self.old) (faults self.new) result }
         ensures follows { FollowsTold (edits self.new) (log self.new) };

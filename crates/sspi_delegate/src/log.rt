@@ -1,5 +1,5 @@
 ghost use Rattle.std.specs.Prelude.{◌≡◌, ◌<◌, ◌≤◌, [], ◌∷◌, length, reverse, true, IfOk, IfErr, OnOk, OnErr};
-ghost use Rattle.sspi_delegate.specs.Link.{LinkCause, PieceGives};
+ghost use Rattle.sspi_delegate.specs.Link.{IsReceived, IsReceivedOf, LinkCause, PieceGives};
 ghost use Rattle.sspi_delegate.specs.Edits.{Delivers, NewestDelivers};
 ghost use Rattle.sspi_delegate.specs.Log.{grown};
 
@@ -92,6 +92,7 @@ impl Log {
         into: &mut [u8],
     ) -> Result<usize, LinkError>
         ensures gives { PieceGives self.old.entries self.new.entries result into.new }
+        ensures receives { IfOk result (λ count. IsReceived R.receives self.old.entries carrier.old count into.new carrier.new) }
         ensures cause { LinkCause (R.faults carrier.old) (R.faults carrier.new) result }
         ensures none { self.old.entries ≡ [] → (result ≡ Ok 0) × (self.new ≡ self.old) × (carrier.new ≡ carrier.old) }
     {
@@ -135,6 +136,7 @@ fn receive<R: Carrier>(
 ) -> Result<usize, LinkError>
     ensures ok { IfOk result (λ n. (n ≤ length into.new) × (entry.old.ended ≡ true → n ≡ 0) × (entry.new ≡ grown entry.old n into.new)) }
     ensures err { OnErr result (entry.new ≡ entry.old) }
+    ensures receives { IfOk result (λ count. IsReceivedOf R.receives entry.old.ended carrier.old count into.new carrier.new) }
     ensures cause { LinkCause (R.faults carrier.old) (R.faults carrier.new) result }
 {
     if entry.ended {

@@ -180,7 +180,13 @@ fn fails(calls_left: &mut Option<u32>) -> bool {
 }
 
 impl Carrier for Echo {
+    ghost use Rattle.std.specs.Prelude.{◌≡◌};
+
     ghost faults = { λ carrier. carrier.faults };
+
+    ghost sends = { λ _ _ sent carrier. (carrier.text ≡ sent) × (carrier.taken ≡ 0) };
+
+    ghost receives = { λ before count _ carrier. carrier.text ≡ before.text };
 
     fn send(&mut self, _from: End, sent: &[u8]) -> Result<(), LinkError> {
         if fails(&mut self.sends_left) {
