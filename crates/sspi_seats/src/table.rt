@@ -40,7 +40,7 @@ impl<N, K, C, D> Table<N, K, C, D> {
 
 impl<N: Mechanism, K: Mechanism, C: CredentialsProxy, D: Kdc + Drop> Table<N, K, C, D> {
     /// Seats a client with its KDC, and admits its server to the desk. Fails where there was no memory, and where as many clients are
-    /// seated as may be.
+    /// seated as may be; then nothing changes.
     pub fn join(
         &mut self,
         client: CredSspClient<N, K>,
@@ -51,6 +51,7 @@ impl<N: Mechanism, K: Mechanism, C: CredentialsProxy, D: Kdc + Drop> Table<N, K,
             (came : Place (SspiContext N K) C D) (count : ℕ) → came ≡ place client kdc server →
             AreSeated c C.meaning k came count self.old → OnOk result (AreSeated c C.meaning k came (count + 1) self.new) }
         ensures room { OnOk result (length self.old.desk.kept < self.old.desk.limit) }
+        ensures full { length self.old.desk.kept ≡ self.old.desk.limit → self.new ≡ self.old }
         ensures limit { self.new.desk.limit ≡ self.old.desk.limit }
     {
         if self.desk.admitted() == u64::MAX {
