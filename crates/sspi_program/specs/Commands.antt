@@ -4,7 +4,6 @@ use Rattle.std.specs.Option.{option_map}
 use Rattle.std.specs.Str.{bytes_eq}
 use Rattle.sspi_program.specs.declared.command.Command.{Command}
 use Rattle.sspi_program.specs.declared.command.Command.TheVariants.{Told, Gen}
-use Rattle.sspi_program.specs.declared.command.TheConstants.{MOST_SCENARIOS, MOST_SESSIONS}
 use Rattle.sspi_program.specs.declared.command.Task.{Task}
 use Rattle.sspi_program.specs.declared.command.Task.TheVariants.{Delegate, Play, Gate, Audit, Early, Desk}
 use Rattle.sspi_scenario.specs.Numbers.{number_of}
@@ -31,11 +30,19 @@ counted most digits = within most (number_of digits)
 abbrev pub desk_of : ℕ → Command
 desk_of count = Told (Desk count)
 
+-- how many scenarios are made at most
+abbrev pub most_scenarios : ℕ
+most_scenarios = 10000
+
+-- how many sessions a desk has at most
+abbrev pub most_sessions : ℕ
+most_sessions = 64
+
 -- a word and a number
 abbrev pub numbered_command : List ℕ → List ℕ → Option Command
 numbered_command word digits =
-    if bytes_eq word (codes "gen") then option_map Gen (counted MOST_SCENARIOS digits)
-    else if bytes_eq word (codes "desk") then option_map desk_of (counted MOST_SESSIONS digits)
+    if bytes_eq word (codes "gen") then option_map Gen (counted most_scenarios digits)
+    else if bytes_eq word (codes "desk") then option_map desk_of (counted most_sessions digits)
     else None
 
 -- one word names a task

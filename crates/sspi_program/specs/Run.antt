@@ -135,8 +135,9 @@ pub record HasStatus (command : Option Command) (before after : Outside) (status
   -- 3: the source failed
   pub three : status ≡ 3 → IsSome (task_in command) × Rose before.read_faults after.read_faults ×
       Wrote before.written after.written read_text
-  -- 4: the sink failed
+  -- 4: the sink failed, and at any other status it did not
   pub four : status ≡ 4 → Rose before.write_faults after.write_faults
+  pub clean : (status ≡ 4 → ⊥) → after.write_faults ≡ before.write_faults
   -- 6: the words are no command
   pub six : status ≡ 6 → (command ≡ None) × Wrote before.written after.written words_text
   pub no_command : command ≡ None → IsUnlessWrite 6 status

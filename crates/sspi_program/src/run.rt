@@ -138,6 +138,7 @@ fn tell<W: Sink>(alloc: Global, sink: &mut W, said: Said) -> Conducted
     ensures kept { result ≡ conducted_as result.status said }
     ensures written { Written (said_status said) (said_text said) (W.written sink.old) (W.written sink.new)
         (W.faults sink.old) (W.faults sink.new) result.status }
+    ensures clean { (result.status ≡ 4 → ⊥) → W.faults sink.new ≡ W.faults sink.old }
     ensures faults { W.faults sink.old ≤ W.faults sink.new }
 {
     match said {
@@ -162,6 +163,7 @@ fn tell_done<W: Sink>(sink: &mut W, conducted: Conducted, text: &[u8]) -> Conduc
     ensures kept { result ≡ with_status result.status conducted }
     ensures written { Written conducted.status text.now (W.written sink.old) (W.written sink.new) (W.faults sink.old) (W.faults sink.new)
         result.status }
+    ensures clean { (result.status ≡ 4 → ⊥) → W.faults sink.new ≡ W.faults sink.old }
     ensures faults { W.faults sink.old ≤ W.faults sink.new }
 {
     let mut told = conducted;
@@ -172,6 +174,7 @@ fn tell_done<W: Sink>(sink: &mut W, conducted: Conducted, text: &[u8]) -> Conduc
 /// Names a faulty line.
 fn tell_line<W: Sink>(alloc: Global, sink: &mut W, line: usize) -> u8
     ensures written { Written 2 (line_text line) (W.written sink.old) (W.written sink.new) (W.faults sink.old) (W.faults sink.new) result }
+    ensures clean { (result ≡ 4 → ⊥) → W.faults sink.new ≡ W.faults sink.old }
     ensures faults { W.faults sink.old ≤ W.faults sink.new }
 {
     match line_text(alloc, line) {
@@ -189,6 +192,7 @@ fn line_text(alloc: Global, line: usize) -> Result<String, AllocError>
 /// Writes a text. The status is the text's own, where all of it was written.
 fn write_text<W: Sink>(sink: &mut W, text: &[u8], own: u8) -> u8
     ensures written { Written own text.now (W.written sink.old) (W.written sink.new) (W.faults sink.old) (W.faults sink.new) result }
+    ensures clean { (result ≡ 4 → ⊥) → W.faults sink.new ≡ W.faults sink.old }
     ensures faults { W.faults sink.old ≤ W.faults sink.new }
 {
     match write_all(sink, text) {

@@ -18,6 +18,7 @@ returns-clause-runs g c =
         no_scenario = status_no_scenario _ _ _ _ _ _ _ _ said _ comes written;
         three = status_read _ _ _ _ _ _ _ _ said _ comes written;
         four = write_rose _ _ _ _ _ _ _ _ said _ comes written;
+        clean = c.tell.ensures.clean;
         six = status_words _ _ _ _ _ _ _ _ said _ comes written;
         no_command = status_none _ _ _ _ _ _ _ _ said _ comes written;
       };
