@@ -1,20 +1,19 @@
 -- The content of a request, piece by piece.
-use Rattle.std.proofs.Common.{◌≡◌, ℕ, ◌+◌, ◌<◌, List, [], ◌∷◌, ◌++◌, length, Option, None, Some, Ok, Err, refl, sym, ap, ◌∙◌, append_assoc, arith}
+use Rattle.std.proofs.Common.{◌≡◌, ℕ, ◌+◌, ◌<◌, ◌≤◌, List, [], ◌∷◌, ◌++◌, length, take, Option, None, Some, Ok, Err, refl, sym, ap, ◌∙◌, append_assoc, arith}
 use Rattle.std.proofs.lemmas.Bool.{lt-ltb}
-use Rattle.std.proofs.lemmas.List.{append-nil, length-append}
-use Rattle.std.proofs.KnownBytes.{Consumes-trans}
-use Rattle.std.specs.Io.KnownBytes.{Consumes, IsAtEnd}
-use Rattle.std.specs.Prelude.{IfSome}
+use Rattle.std.proofs.lemmas.List.{append-nil, length-append, length-take}
+use Rattle.std.proofs.KnownBytes.{Consumes-kept, Consumes-trans}
+use Rattle.std.specs.Io.KnownBytes.{Consumes, IsAtEnd, Keeps}
 use Rattle.sspi_ber.specs.Fault.{Ended}
-use Rattle.sspi_ber.specs.Outside.{LeavesRest}
 use Rattle.sspi_ber.specs.Pieces.{bytes_at, header_at}
 use Rattle.sspi_ber.specs.declared.wire_kind.WireKind.{WireKind}
 use Rattle.sspi_ber.specs.declared.wire_kind.WireKind.TheVariants.{UnexpectedEof, InvalidData, ReadFault, WriteFault, InsufficientMemory}
 use Rattle.sspi_ber.proofs.PiecesMatch.{header_match}
 use Rattle.sspi_tsreq.specs.Answer.{fault}
 use Rattle.sspi_tsreq.specs.Reading.{request_at}
-use Rattle.sspi_gate.specs.Next.{IsBad}
-use Rattle.sspi_gate.specs.Taking.{IsHeaderOf, IsWhole, TakesBytes, TakesBody, TakesRequest}
+use Rattle.sspi_gate.specs.Next.{IsBad, IsWhole, TakesToFault, TakesWanted}
+use Rattle.sspi_gate.specs.Taking.{IsHeaderOf, TakesBytes, TakesBody, TakesCut, TakesPart, TakesRequest}
+use Rattle.sspi_gate.proofs.Wanted.{part_wanted}
 
 -- so much of the content was taken, and so many bytes are missing
 pub record BodySoFar (size missing : ℕ) (before now : Option (List ℕ)) (old new : List ℕ) : Type 0 where
@@ -41,21 +40,29 @@ pub body_done : (size missing : ℕ) (before now : Option (List ℕ)) (old new :
     TakesBytes size before now old new
 body_done size missing before now old new s e = record { body = s.body; sized = omega (arith, s.sized, e); taken = s.taken; put = s.put }
 
-pub body_rest : (size missing : ℕ) (before mid after : Option (List ℕ)) (old new piece : List ℕ) → BodySoFar size missing before mid old new →
-    Consumes mid after piece → LeavesRest before after
-body_rest size missing before mid after old new piece s c =
-    record { taken = s.body ++ piece; consumed = Consumes-trans before mid after s.body piece s.taken c }
+pub body_rest : (size missing count : ℕ) (before mid after : Option (List ℕ)) (old new piece : List ℕ) → BodySoFar size missing before mid old new →
+    Consumes mid after (take count piece) → count ≤ missing → TakesPart size before after
+body_rest size missing count before mid after old new piece s c le = record {
+  body = s.body ++ take count piece;
+  sized = omega (arith, length-append s.body (take count piece), length-take count piece, s.sized, le);
+  taken = Consumes-trans before mid after s.body (take count piece) s.taken c;
+}
+
+-- the source failed
+pub body_kept : (size missing : ℕ) (before mid after : Option (List ℕ)) (old new : List ℕ) → BodySoFar size missing before mid old new →
+    Keeps mid after → TakesPart size before after
+body_kept size missing before mid after old new s k =
+    record { body = s.body; sized = omega (arith, s.sized); taken = Consumes-kept before mid after s.body s.taken k }
 
 -- the source ended before the content did
 pub body_cut : (size missing : ℕ) (before mid after : Option (List ℕ)) (old new : List ℕ) → BodySoFar size missing before mid old new →
-    Consumes mid after [] → IsAtEnd after → 0 < missing → IfSome before (λ rest. length rest < size) × LeavesRest before after
-body_cut size missing None mid after old new s c end lt = (tt, record { taken = []; consumed = tt })
-body_cut size missing (Some rest) None after old new s c end lt = absurd s.taken
-body_cut size missing (Some rest) (Some left) None old new s c end lt = absurd c
-body_cut size missing (Some rest) (Some left) (Some last) old new s c end lt = (
-  omega (arith, ap length s.taken, length-append s.body left, ap length c, ap length end, s.sized, lt),
-  body_rest size missing (Some rest) (Some left) (Some last) old new [] s c,
-)
+    Consumes mid after [] → IsAtEnd after → 0 < missing → TakesCut size before after
+body_cut size missing before mid after old new s c end lt = record {
+  body = s.body ++ [];
+  sized = omega (arith, length-append s.body [], s.sized, lt);
+  taken = Consumes-trans before mid after s.body [] s.taken c;
+  at_end = end;
+}
 
 -- ---- header and content together
 
@@ -77,24 +84,36 @@ header_some : (size : ℕ) (header rest : List ℕ) → IsHeaderOf size header �
 header_some size header rest h e =
     let f : (0x30 ∷ h.len) ++ rest ≡ [] = ap (λ (l : List ℕ). l ++ rest) (sym h.spelled) ∙ e in absurd cc
 
-rest_behind : (before mid after : Option (List ℕ)) (header : List ℕ) → Consumes before mid header → LeavesRest mid after → LeavesRest before after
-rest_behind before mid after header c rest =
-    record { taken = header ++ rest.taken; consumed = Consumes-trans before mid after header rest.taken c rest.consumed }
+part_behind : (size : ℕ) (before mid after : Option (List ℕ)) (header : List ℕ) → Consumes before mid header → IsHeaderOf size header →
+    TakesPart size mid after → TakesWanted before after
+part_behind size before mid after header c h part = record {
+  text = header ++ part.body;
+  taken = Consumes-trans before mid after header part.body c part.taken;
+  wanted = part_wanted size header part.body h part.sized;
+}
+
+cut_is_bad : (size : ℕ) (before mid after : Option (List ℕ)) (header : List ℕ) → Consumes before mid header → IsHeaderOf size header →
+    TakesCut size mid after → IsBad before UnexpectedEof
+cut_is_bad size None mid after header c h cut = tt
+cut_is_bad size (Some bytes) None after header c h cut = absurd c
+cut_is_bad size (Some bytes) (Some left) None header c h cut = absurd cut.taken
+cut_is_bad size (Some bytes) (Some left) (Some last) header c h cut =
+    let short : length left < size = omega (arith, ap length cut.taken, length-append cut.body last, ap length cut.at_end, cut.sized) in
+    (λ e. header_some size header left h (sym c ∙ e), ap fault c ∙ cut_fault size header left h short)
 
 cut_content : (size : ℕ) (before mid after : Option (List ℕ)) (header : List ℕ) → Consumes before mid header → IsHeaderOf size header →
-    IfSome mid (λ rest. length rest < size) × LeavesRest mid after → IsBad before UnexpectedEof × LeavesRest before after
-cut_content size None mid after header c h (lt, rest) = (tt, record { taken = []; consumed = tt })
-cut_content size (Some bytes) None after header c h (lt, rest) = absurd c
-cut_content size (Some bytes) (Some left) after header c h (lt, rest) = (
-  (λ e. header_some size header left h (sym c ∙ e), ap fault c ∙ cut_fault size header left h lt),
-  rest_behind (Some bytes) (Some left) after header c rest,
-)
+    TakesCut size mid after → IsBad before UnexpectedEof × TakesToFault UnexpectedEof before after
+cut_content size before mid after header c h cut =
+    let part : TakesPart size mid after = record { body = cut.body; sized = omega (arith, cut.sized); taken = cut.taken } in (
+      cut_is_bad size before mid after header c h cut,
+      record { taken = part_behind size before mid after header c h part; shows = λ u. cut.at_end },
+    )
 
 pub refused_content : (Y : Type 0) (view : Y → List ℕ) (size : ℕ) (before mid after : Option (List ℕ)) (header new : List ℕ) (kind : WireKind) →
     Consumes before mid header → IsHeaderOf size header → TakesBody size mid after header new (Err kind) →
     TakesRequest view before after (Err kind)
 refused_content Y view size before mid after header new UnexpectedEof c h t = cut_content size before mid after header c h t
 refused_content Y view size before mid after header new InvalidData c h t = absurd t
-refused_content Y view size before mid after header new ReadFault c h t = rest_behind before mid after header c t
+refused_content Y view size before mid after header new ReadFault c h t = part_behind size before mid after header c h t
 refused_content Y view size before mid after header new WriteFault c h t = absurd t
-refused_content Y view size before mid after header new InsufficientMemory c h t = rest_behind before mid after header c t
+refused_content Y view size before mid after header new InsufficientMemory c h t = part_behind size before mid after header c h t

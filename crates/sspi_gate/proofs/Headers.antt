@@ -2,12 +2,11 @@
 use Rattle.std.proofs.Common.{◌≡◌, ℕ, ◌-◌, ◌≤◌, true, false, cond, eqb, ltb, leb, List, [], ◌∷◌, ◌++◌, length, take, drop, Option, None, Some, Ok, Err, refl, sym, ap, ◌∙◌, subst, inl, inr, arith}
 use Rattle.std.proofs.lemmas.Bool.{le-ltb}
 use Rattle.std.proofs.lemmas.List.{append-nil, length-append, length_push, take-append-drop, take-append-le, take_at}
-use Rattle.std.proofs.KnownBytes.{Consumes-trans}
+use Rattle.std.proofs.KnownBytes.{Consumes-kept, Consumes-trans}
 use Rattle.std.specs.Io.KnownBytes.{Consumes, IsAtEnd, Keeps}
 use Rattle.sspi_ber.specs.Fault.{Fault, Ended, Invalid, Read}
 use Rattle.sspi_ber.specs.Limit.{max_content}
 use Rattle.sspi_ber.specs.Forms.{IsHeader, big_endian}
-use Rattle.sspi_ber.specs.Outside.{LeavesRest}
 use Rattle.sspi_ber.specs.Pieces.{bytes_at, header_at, is_octet_count, length_at, limited_at, number_at}
 use Rattle.sspi_ber.specs.declared.wire_kind.WireKind.{WireKind}
 use Rattle.sspi_ber.specs.declared.wire_kind.WireKind.TheVariants.{UnexpectedEof, InvalidData, ReadFault, WriteFault, InsufficientMemory}
@@ -15,8 +14,9 @@ use Rattle.sspi_ber.proofs.PiecesMatch.{chosen, header_match}
 use Rattle.sspi_ber.proofs.Steady.{header_steady}
 use Rattle.sspi_tsreq.specs.Answer.{fault}
 use Rattle.sspi_tsreq.specs.Reading.{request_at}
-use Rattle.sspi_gate.specs.Next.{IsBad}
+use Rattle.sspi_gate.specs.Next.{AreWanted, IsBad, TakesToFault, TakesWanted}
 use Rattle.sspi_gate.specs.Taking.{Announces, IsHeaderOf, TakesHeader}
+use Rattle.sspi_gate.proofs.Wanted.{header_shown, header_unfinished, pushed_wanted, wanted_all}
 
 -- ---- when a header is whole
 
@@ -103,24 +103,40 @@ some_byte (a ∷ p) rest n e = absurd cc
 pub not_empty : (p : List ℕ) (i : ℕ) → length p ≡ i → (i ≡ 0 → ⊥) → p ≡ [] → ⊥
 not_empty p i l n e = n (sym l ∙ ap length e)
 
+-- no byte more of the header came, as the source failed
+pub header_so_far : (before mid after : Option (List ℕ)) (p : List ℕ) → Consumes before mid p → Keeps mid after → header_at 0x30 p ≡ Err Ended →
+    TakesWanted before after
+header_so_far before mid after p c k h =
+    record { text = p; taken = Consumes-kept before mid after p c k; wanted = wanted_all p (header_unfinished p h) }
+
+cut_is_bad : (before mid after : Option (List ℕ)) (p : List ℕ) → Consumes before mid p → Keeps mid after → IsAtEnd after →
+    header_at 0x30 p ≡ Err Ended → (p ≡ [] → ⊥) → IsBad before UnexpectedEof
+cut_is_bad None mid after p c k end h n = tt
+cut_is_bad (Some bytes) None after p c k end h n = absurd c
+cut_is_bad (Some bytes) (Some rest) None p c k end h n = absurd k
+cut_is_bad (Some bytes) (Some rest) (Some left) p c k end h n =
+    let all : bytes ≡ p = c ∙ ap (λ (l : List ℕ). p ++ l) (sym k ∙ end) ∙ append-nil p in
+    (λ e. n (sym all ∙ e), ap fault all ∙ header_fault p Ended h)
+
 -- the stream ended inside the header
 pub cut_header : (before mid after : Option (List ℕ)) (p : List ℕ) → Consumes before mid p → Keeps mid after → IsAtEnd after →
-    header_at 0x30 p ≡ Err Ended → (p ≡ [] → ⊥) → IsBad before UnexpectedEof × LeavesRest before after
-cut_header None mid after p c k end h n = (tt, record { taken = p; consumed = tt })
-cut_header (Some bytes) None after p c k end h n = absurd c
-cut_header (Some bytes) (Some rest) None p c k end h n = absurd k
-cut_header (Some bytes) (Some rest) (Some left) p c k end h n =
-    let all : bytes ≡ p = c ∙ ap (λ (l : List ℕ). p ++ l) (sym k ∙ end) ∙ append-nil p in
-    ((λ e. n (sym all ∙ e), ap fault all ∙ header_fault p Ended h), record { taken = p; consumed = c ∙ ap (λ (l : List ℕ). p ++ l) (sym k) })
+    header_at 0x30 p ≡ Err Ended → (p ≡ [] → ⊥) → IsBad before UnexpectedEof × TakesToFault UnexpectedEof before after
+cut_header before mid after p c k end h n =
+    (cut_is_bad before mid after p c k end h n, record { taken = header_so_far before mid after p c k h; shows = λ u. end })
+
+bad_is_bad : (before after : Option (List ℕ)) (p : List ℕ) → Consumes before after p → header_at 0x30 p ≡ Err Invalid → (p ≡ [] → ⊥) →
+    IsBad before UnexpectedEof
+bad_is_bad None after p c h n = tt
+bad_is_bad (Some bytes) None p c h n = absurd c
+bad_is_bad (Some bytes) (Some left) p c h n =
+    (λ e. some_byte p left n (sym c ∙ e), ap fault c ∙ header_fault (p ++ left) Invalid ((header_steady 0x30).stays p left h))
 
 -- the header is at fault
-pub bad_header : (before after : Option (List ℕ)) (p : List ℕ) → Consumes before after p → header_at 0x30 p ≡ Err Invalid → (p ≡ [] → ⊥) →
-    IsBad before UnexpectedEof × LeavesRest before after
-bad_header None after p c h n = (tt, record { taken = p; consumed = tt })
-bad_header (Some bytes) None p c h n = absurd c
-bad_header (Some bytes) (Some left) p c h n = (
-  (λ e. some_byte p left n (sym c ∙ e), ap fault c ∙ header_fault (p ++ left) Invalid ((header_steady 0x30).stays p left h)),
-  record { taken = p; consumed = c },
+bad_header : (before after : Option (List ℕ)) (p : List ℕ) → Consumes before after p → header_at 0x30 p ≡ Err Invalid → (p ≡ [] → ⊥) →
+    AreWanted p → IsBad before UnexpectedEof × TakesToFault UnexpectedEof before after
+bad_header before after p c h n w = (
+  bad_is_bad before after p c h n,
+  record { taken = record { text = p; taken = c; wanted = w }; shows = λ u. absurd (header_shown p h u) },
 )
 
 -- the stream was at its end
@@ -132,12 +148,12 @@ no_header (Some bytes) (Some rest) None p c k end e = absurd k
 no_header (Some bytes) (Some rest) (Some left) p c k end e = (end, c ∙ ap (λ (l : List ℕ). l ++ rest) e ∙ sym k)
 
 pub refused_header : (before after : Option (List ℕ)) (header seen : List ℕ) (kind : WireKind) → seen ≡ header → Announces seen (Err kind) →
-    Consumes before after header → (header ≡ [] → ⊥) → TakesHeader before after header (Err kind)
-refused_header before after header seen UnexpectedEof e h c n = bad_header before after header c (ap (header_at 0x30) (sym e) ∙ h) n
-refused_header before after header seen InvalidData e h c n = absurd h
-refused_header before after header seen ReadFault e h c n = absurd h
-refused_header before after header seen WriteFault e h c n = absurd h
-refused_header before after header seen InsufficientMemory e h c n = absurd h
+    Consumes before after header → (header ≡ [] → ⊥) → AreWanted header → TakesHeader before after header (Err kind)
+refused_header before after header seen UnexpectedEof e h c n w = bad_header before after header c (ap (header_at 0x30) (sym e) ∙ h) n w
+refused_header before after header seen InvalidData e h c n w = absurd h
+refused_header before after header seen ReadFault e h c n w = absurd h
+refused_header before after header seen WriteFault e h c n w = absurd h
+refused_header before after header seen InsufficientMemory e h c n w = absurd h
 
 -- ---- the bytes so far
 
@@ -154,8 +170,12 @@ pub byte_taken : (before mid after : Option (List ℕ)) (p new : List ℕ) (byte
 byte_taken before mid after p new byte c d e = rw e (Consumes-trans before mid after p (byte ∷ []) c d)
 
 pub byte_rest : (before mid after : Option (List ℕ)) (p : List ℕ) (byte : ℕ) → Consumes before mid p → Consumes mid after (byte ∷ []) →
-    LeavesRest before after
-byte_rest before mid after p byte c d = record { taken = p ++ byte ∷ []; consumed = Consumes-trans before mid after p (byte ∷ []) c d }
+    header_at 0x30 p ≡ Err Ended → TakesWanted before after
+byte_rest before mid after p byte c d h = record {
+  text = p ++ byte ∷ [];
+  taken = Consumes-trans before mid after p (byte ∷ []) c d;
+  wanted = pushed_wanted p (p ++ byte ∷ []) byte refl h;
+}
 
 pub pushed_some : (p new : List ℕ) (byte : ℕ) → new ≡ p ++ byte ∷ [] → new ≡ [] → ⊥
 pushed_some p new byte e n = let l = length_push p byte in omega (arith, ap length e, ap length n, l)

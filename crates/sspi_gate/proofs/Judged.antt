@@ -1,5 +1,5 @@
 -- What is made of the bytes that a header bounds.
-use Rattle.std.proofs.Common.{◌≡◌, ◌≤◌, inl, ℕ, List, [], ◌∷◌, ◌++◌, length, Option, None, Some, Ok, Err, refl, sym, ap, ◌∙◌, subst, append_assoc, arith}
+use Rattle.std.proofs.Common.{◌≡◌, ◌≢◌, ◌≤◌, inl, ℕ, List, [], ◌∷◌, ◌++◌, length, Option, None, Some, Ok, Err, refl, sym, ap, ◌∙◌, subst, append_assoc, arith}
 use Rattle.std.proofs.lemmas.List.{append-nil, length-append}
 use Rattle.std.specs.Io.KnownBytes.{Consumes, Keeps}
 use Rattle.sspi_ber.specs.Pieces.{header_at}
@@ -15,10 +15,11 @@ use Rattle.sspi_tsreq.proofs.Faults.{framed}
 use Rattle.sspi_gate.specs.declared.answer.GateFault.{GateFault}
 use Rattle.sspi_gate.specs.declared.answer.GateFault.TheVariants.{Bad, Version, ReadFault, WriteFault, TurnsSpent, InsufficientMemory}
 use Rattle.sspi_credssp.specs.declared.turn.End.{End}
-use Rattle.sspi_gate.specs.Next.{Fails, HasFault, IsBad, TakesOnly}
+use Rattle.sspi_gate.specs.Next.{Fails, HasFault, IsBad, IsWhole, ShowsFault, TakesOnly, TakesToFault}
 use Rattle.sspi_gate.specs.Step.{Judges}
-use Rattle.sspi_gate.specs.Taking.{IsWhole}
+use Rattle.sspi_gate.specs.Taking.{TakesRequest, TakingCause}
 use Rattle.sspi_gate.specs.Way.{Way}
+use Rattle.sspi_gate.proofs.Wanted.{whole_shown, whole_wanted}
 
 -- the request takes all of them
 pub is_text : (bytes : List ℕ) (r : TsRequest) (count : ℕ) → IsWhole bytes → IsRequest bytes r count → IsText bytes r
@@ -64,18 +65,34 @@ is_bad left after bytes kinds.ReadFault c w f = absurd f
 is_bad left after bytes kinds.WriteFault c w f = absurd f
 is_bad left after bytes kinds.InsufficientMemory c w f = absurd f
 
-taken_only : (before after : Way) (bytes : List ℕ) → Consumes before.left after.left bytes → before.read_faults ≤ after.read_faults →
+shows : (bytes : List ℕ) (after : Option (List ℕ)) (kind : WireKind) → IsWhole bytes → HasFault bytes kind → ShowsFault bytes after kind
+shows bytes after kinds.UnexpectedEof w f = λ u. absurd (whole_shown bytes w u)
+shows bytes after kinds.InvalidData w f = w
+shows bytes after kinds.ReadFault w f = absurd f
+shows bytes after kinds.WriteFault w f = absurd f
+shows bytes after kinds.InsufficientMemory w f = absurd f
+
+to_fault : (before after : Option (List ℕ)) (bytes : List ℕ) (kind : WireKind) → Consumes before after bytes → IsWhole bytes → HasFault bytes kind →
+    TakesToFault kind before after
+to_fault before after bytes kind c w f =
+    record { taken = record { text = bytes; taken = c; wanted = whole_wanted bytes w }; shows = shows bytes after kind w f }
+
+taken_only : (before after : Way) (bytes : List ℕ) → Consumes before.left after.left bytes → IsWhole bytes → before.read_faults ≤ after.read_faults →
     Keeps before.written after.written → after.write_faults ≡ before.write_faults → TakesOnly before after
-taken_only before after bytes c reading keeps writing =
-    record { taken = record { taken = bytes; consumed = c }; written = keeps; reading = reading; writing = writing }
+taken_only before after bytes c w reading keeps writing =
+    record { taken = record { text = bytes; taken = c; wanted = whole_wanted bytes w }; written = keeps; reading = reading; writing = writing }
 
 -- a request that was taken whole and is not handed on
 not_handed : (end : End) (first : Option ℕ) (before after : Way) (bytes : List ℕ) (why : GateFault) →
     Consumes before.left after.left bytes → IsWhole bytes → before.read_faults ≤ after.read_faults →
     Keeps before.written after.written → after.write_faults ≡ before.write_faults → Judges end first bytes (Err why) →
     Fails end first before after why
-not_handed end first before after bytes (Bad who kind) c w reading keeps writing j =
-    (j.0, is_bad before.left after.left bytes kind c w j.1, taken_only before after bytes c reading keeps writing)
+not_handed end first before after bytes (Bad who kind) c w reading keeps writing j = (
+  j.0,
+  is_bad before.left after.left bytes kind c w j.1,
+  to_fault before.left after.left bytes kind c w j.1,
+  taken_only before after bytes c w reading keeps writing,
+)
 not_handed end first before after bytes (Version who) c w reading keeps writing j = (
   j.0,
   record { text = bytes; request = j.1.0; is_request = j.1.1; taken = c; differs = j.1.2; written = keeps; reading = reading; writing = writing },
@@ -83,7 +100,7 @@ not_handed end first before after bytes (Version who) c w reading keeps writing 
 not_handed end first before after bytes (ReadFault who) c w reading keeps writing j = absurd j
 not_handed end first before after bytes (WriteFault who) c w reading keeps writing j = absurd j
 not_handed end first before after bytes TurnsSpent c w reading keeps writing j = absurd j
-not_handed end first before after bytes InsufficientMemory c w reading keeps writing j = inl (taken_only before after bytes c reading keeps writing)
+not_handed end first before after bytes InsufficientMemory c w reading keeps writing j = inl (taken_only before after bytes c w reading keeps writing)
 
 pub not_passed : (end : End) (first : Option ℕ) (before after : Way) (bytes seen : List ℕ) (why : GateFault) →
     Consumes before.left after.left bytes → IsWhole bytes → before.read_faults ≤ after.read_faults →
@@ -91,3 +108,15 @@ pub not_passed : (end : End) (first : Option ℕ) (before after : Way) (bytes se
     Fails end first before after why
 not_passed end first before after bytes seen why c w reading keeps writing same j =
     not_handed end first before after bytes why c w reading keeps writing (subst (λ (l : List ℕ). Judges end first l (Err why)) same j)
+
+-- what was taken is no whole request
+pub not_whole : {X : Type 0} (view : X → List ℕ) (end : End) (first : Option ℕ) (before after : Way) (kind : WireKind) →
+    TakesRequest view before.left after.left (Err kind) → TakingCause {X = Option X} before.read_faults after.read_faults (Err kind) →
+    Keeps before.written after.written → after.write_faults ≡ before.write_faults → kind ≢ kinds.ReadFault →
+    kind ≢ kinds.InsufficientMemory → Fails end first before after (Bad end kind)
+not_whole view end first before after kinds.UnexpectedEof t reading keeps writing read memory =
+    (refl, t.0, t.1, record { taken = t.1.taken; written = keeps; reading = reading; writing = writing })
+not_whole view end first before after kinds.InvalidData t reading keeps writing read memory = absurd t
+not_whole view end first before after kinds.ReadFault t reading keeps writing read memory = absurd (read refl)
+not_whole view end first before after kinds.WriteFault t reading keeps writing read memory = absurd t
+not_whole view end first before after kinds.InsufficientMemory t reading keeps writing read memory = absurd (memory refl)

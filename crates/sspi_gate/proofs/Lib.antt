@@ -1,3 +1,4 @@
+pub mod Wanted
 pub mod Headers
 pub mod Contents
 pub mod Judged

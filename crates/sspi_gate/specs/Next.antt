@@ -1,8 +1,10 @@
 -- Why the next request of a way is not handed on, and what is taken and written then.
-use Rattle.std.specs.Prelude.{◌≡◌, ◌⊎◌, ◌≤◌, ℕ, List, [], Option, Some, IfSome}
-use Rattle.std.specs.Io.KnownBytes.{Consumes, Keeps}
+use Rattle.std.specs.Prelude.{◌≡◌, ◌⊎◌, ◌≤◌, ℕ, List, [], ◌∷◌, ◌++◌, length, Option, Some, IfSome, Err}
+use Rattle.std.specs.Io.KnownBytes.{Consumes, IsAtEnd, Keeps}
 use Rattle.sspi_ber.specs.Fault.{Ended, Invalid}
-use Rattle.sspi_ber.specs.Outside.{LeavesRest, Rose, WroteFront}
+use Rattle.sspi_ber.specs.Forms.{IsLength}
+use Rattle.sspi_ber.specs.Outside.{Rose, WroteFront}
+use Rattle.sspi_ber.specs.Pieces.{element_at}
 use Rattle.sspi_ber.specs.declared.wire_kind.WireKind.{WireKind}
 use Rattle.sspi_ber.specs.declared.wire_kind.WireKind.TheVariants as kinds
 use Rattle.sspi_credssp.specs.declared.turn.End.{End}
@@ -34,9 +36,45 @@ IsBad left kinds.ReadFault = ⊥
 IsBad left kinds.WriteFault = ⊥
 IsBad left kinds.InsufficientMemory = ⊥
 
--- some of the bytes were taken, and nothing was written
+-- ---- how much of a stream is taken
+
+-- the bytes are a SEQUENCE and all of its content
+pub record IsWhole (bytes : List ℕ) : Type 0 where
+  pub len : List ℕ
+  pub body : List ℕ
+  pub parts : bytes ≡ (0x30 ∷ len) ++ body
+  pub measured : IsLength len (length body)
+
+-- bytes of a header, or of the content that it announces, are missing, and so far the header is not at fault
+abbrev pub IsUnfinished : List ℕ → Type 0
+IsUnfinished bytes = element_at 0x30 bytes ≡ Err Ended
+
+-- what stands in front of any of the bytes is unfinished: each was missing when it came
+abbrev pub AreWanted : List ℕ → Type 0
+AreWanted bytes = (front rest : List ℕ) (byte : ℕ) → bytes ≡ front ++ byte ∷ rest → IsUnfinished front
+
+-- Bytes of one request were taken: none behind its content, and none behind the byte that puts its header at fault.
+pub record TakesWanted (before after : Option (List ℕ)) : Type 0 where
+  pub text : List ℕ
+  pub taken : Consumes before after text
+  pub wanted : AreWanted text
+
+-- The bytes show the fault: they are unfinished only where the source is at its end, and at `InvalidData` they are whole.
+abbrev pub ShowsFault : List ℕ → Option (List ℕ) → WireKind → Type 0
+ShowsFault text after kinds.UnexpectedEof = IsUnfinished text → IsAtEnd after
+ShowsFault text after kinds.InvalidData = IsWhole text
+ShowsFault text after kinds.ReadFault = ⊥
+ShowsFault text after kinds.WriteFault = ⊥
+ShowsFault text after kinds.InsufficientMemory = ⊥
+
+-- The bytes that show this fault were taken, and no byte more.
+pub record TakesToFault (kind : WireKind) (before after : Option (List ℕ)) : Type 0 where
+  pub taken : TakesWanted before after
+  pub shows : ShowsFault taken.text after kind
+
+-- bytes of one request were taken, none behind it, and nothing was written
 pub record TakesOnly (before after : Way) : Type 0 where
-  pub taken : LeavesRest before.left after.left
+  pub taken : TakesWanted before.left after.left
   pub written : Keeps before.written after.written
   pub reading : before.read_faults ≤ after.read_faults
   pub writing : after.write_faults ≡ before.write_faults
@@ -65,7 +103,8 @@ pub record WritesFront (first : Option ℕ) (before after : Way) : Type 0 where
 
 -- The next request of this end, whose first version is this one if it has sent any, was not handed on.
 abbrev pub Fails : End → Option ℕ → Way → Way → GateFault → Type 0
-Fails end first before after (Bad who kind) = (who ≡ end) × IsBad before.left kind × TakesOnly before after
+Fails end first before after (Bad who kind) =
+    (who ≡ end) × IsBad before.left kind × TakesToFault kind before.left after.left × TakesOnly before after
 Fails end first before after (Version who) = (who ≡ end) × TakesOtherVersion first before after
 Fails end first before after (ReadFault who) = (who ≡ end) × Rose before.read_faults after.read_faults × TakesOnly before after
 Fails end first before after (WriteFault who) =

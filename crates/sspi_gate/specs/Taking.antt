@@ -1,13 +1,13 @@
 -- How the bytes of one request are taken from a source: its header byte by byte, and then its content.
-use Rattle.std.specs.Prelude.{◌≡◌, ◌<◌, ◌≤◌, ℕ, List, [], ◌∷◌, ◌++◌, length, Option, None, Some, IfSome, Result, Ok, Err}
+use Rattle.std.specs.Prelude.{◌≡◌, ◌<◌, ◌≤◌, ℕ, List, [], ◌∷◌, ◌++◌, length, Option, None, Some, Result, Ok, Err}
 use Rattle.std.specs.Io.KnownBytes.{Consumes, IsAtEnd}
 use Rattle.sspi_ber.specs.Fault.{Ended, Invalid}
 use Rattle.sspi_ber.specs.Forms.{IsLength}
-use Rattle.sspi_ber.specs.Outside.{LeavesRest, Rose}
+use Rattle.sspi_ber.specs.Outside.{Rose}
 use Rattle.sspi_ber.specs.Pieces.{header_at}
 use Rattle.sspi_ber.specs.declared.wire_kind.WireKind.{WireKind}
 use Rattle.sspi_ber.specs.declared.wire_kind.WireKind.TheVariants.{UnexpectedEof, InvalidData, ReadFault, WriteFault, InsufficientMemory}
-use Rattle.sspi_gate.specs.Next.{IsBad}
+use Rattle.sspi_gate.specs.Next.{IsBad, IsWhole, TakesToFault, TakesWanted}
 
 -- the length that a header announces, or that bytes of it are missing
 abbrev pub Announces : List ℕ → Result (Option ℕ) WireKind → Type 0
@@ -25,13 +25,6 @@ pub record IsHeaderOf (size : ℕ) (bytes : List ℕ) : Type 0 where
   pub spelled : bytes ≡ 0x30 ∷ len
   pub measured : IsLength len size
 
--- the bytes are a SEQUENCE and all of its content
-pub record IsWhole (bytes : List ℕ) : Type 0 where
-  pub len : List ℕ
-  pub body : List ℕ
-  pub parts : bytes ≡ (0x30 ∷ len) ++ body
-  pub measured : IsLength len (length body)
-
 -- what a reader that takes memory says of its source's count
 abbrev pub TakingCause : {X : Type 0} → ℕ → ℕ → Result X WireKind → Type 0
 TakingCause before now (Ok x) = before ≤ now
@@ -47,11 +40,11 @@ TakingCause before now (Err InsufficientMemory) = before ≤ now
 abbrev pub TakesHeader : Option (List ℕ) → Option (List ℕ) → List ℕ → Result (Option ℕ) WireKind → Type 0
 TakesHeader before after header (Ok (Some size)) = Consumes before after header × IsHeaderOf size header
 TakesHeader before after header (Ok None) = IsAtEnd after × Consumes before after []
-TakesHeader before after header (Err UnexpectedEof) = IsBad before UnexpectedEof × LeavesRest before after
+TakesHeader before after header (Err UnexpectedEof) = IsBad before UnexpectedEof × TakesToFault UnexpectedEof before after
 TakesHeader before after header (Err InvalidData) = ⊥
-TakesHeader before after header (Err ReadFault) = LeavesRest before after
+TakesHeader before after header (Err ReadFault) = TakesWanted before after
 TakesHeader before after header (Err WriteFault) = ⊥
-TakesHeader before after header (Err InsufficientMemory) = LeavesRest before after
+TakesHeader before after header (Err InsufficientMemory) = TakesWanted before after
 
 -- so many bytes were taken and put behind those that were there
 pub record TakesBytes (size : ℕ) (before after : Option (List ℕ)) (old new : List ℕ) : Type 0 where
@@ -60,21 +53,34 @@ pub record TakesBytes (size : ℕ) (before after : Option (List ℕ)) (old new :
   pub taken : Consumes before after body
   pub put : new ≡ old ++ body
 
+-- at most so many bytes were taken
+pub record TakesPart (size : ℕ) (before after : Option (List ℕ)) : Type 0 where
+  pub body : List ℕ
+  pub sized : length body ≤ size
+  pub taken : Consumes before after body
+
+-- all that were left were taken, and they are fewer
+pub record TakesCut (size : ℕ) (before after : Option (List ℕ)) : Type 0 where
+  pub body : List ℕ
+  pub sized : length body < size
+  pub taken : Consumes before after body
+  pub at_end : IsAtEnd after
+
 -- the content
 abbrev pub TakesBody : ℕ → Option (List ℕ) → Option (List ℕ) → List ℕ → List ℕ → Result (Unit {0}) WireKind → Type 0
 TakesBody size before after old new (Ok done) = TakesBytes size before after old new
-TakesBody size before after old new (Err UnexpectedEof) = IfSome before (λ rest. length rest < size) × LeavesRest before after
+TakesBody size before after old new (Err UnexpectedEof) = TakesCut size before after
 TakesBody size before after old new (Err InvalidData) = ⊥
-TakesBody size before after old new (Err ReadFault) = LeavesRest before after
+TakesBody size before after old new (Err ReadFault) = TakesPart size before after
 TakesBody size before after old new (Err WriteFault) = ⊥
-TakesBody size before after old new (Err InsufficientMemory) = LeavesRest before after
+TakesBody size before after old new (Err InsufficientMemory) = TakesPart size before after
 
 -- header and content
 abbrev pub TakesRequest : {X : Type 0} → (X → List ℕ) → Option (List ℕ) → Option (List ℕ) → Result (Option X) WireKind → Type 0
 TakesRequest view before after (Ok (Some x)) = Consumes before after (view x) × IsWhole (view x)
 TakesRequest view before after (Ok None) = IsAtEnd after × Consumes before after []
-TakesRequest view before after (Err UnexpectedEof) = IsBad before UnexpectedEof × LeavesRest before after
+TakesRequest view before after (Err UnexpectedEof) = IsBad before UnexpectedEof × TakesToFault UnexpectedEof before after
 TakesRequest view before after (Err InvalidData) = ⊥
-TakesRequest view before after (Err ReadFault) = LeavesRest before after
+TakesRequest view before after (Err ReadFault) = TakesWanted before after
 TakesRequest view before after (Err WriteFault) = ⊥
-TakesRequest view before after (Err InsufficientMemory) = LeavesRest before after
+TakesRequest view before after (Err InsufficientMemory) = TakesWanted before after

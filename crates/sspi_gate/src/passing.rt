@@ -1,8 +1,7 @@
 ghost use Rattle.std.specs.Prelude.{◌≡◌, MatchBool};
 ghost use Rattle.sspi_gate.specs.Front.{MaySend, refusing_code};
-ghost use Rattle.sspi_gate.specs.Next.{other_end};
+ghost use Rattle.sspi_gate.specs.Next.{IsWhole, other_end};
 ghost use Rattle.sspi_gate.specs.Step.{IsStep, Judges};
-ghost use Rattle.sspi_gate.specs.Taking.{IsWhole};
 ghost use Rattle.sspi_gate.specs.Way.{way};
 
 use crate::answer::GateFault;

@@ -11,14 +11,15 @@ use std::alloc::Global;
 /// `turns` of the client.
 ///
 /// Each request is read before it is handed on, and is then written as its bytes came. A header is read byte by byte and then
-/// exactly its content, so no byte behind a request is taken, and memory is taken only for bytes that came, of one request at
-/// a time. Of a request the order is: reading, grammar, version, writing; one that is refused is not written.
+/// exactly its content, so no byte behind a request is taken, whatever the answer, and memory is taken only for bytes that
+/// came, of one request at a time. Of a request the order is: reading, grammar, version, writing; one that is refused is not
+/// written.
 ///
 /// Ok: `Ended` where the stream of the end whose request is due is at its end; `Refused` where the server's last request
 /// carries a code other than `SUCCESS`, and then nothing more is read. Refused, each with the end at fault:
 ///
 /// - `Bad`: what is next begins with no request. `UnexpectedEof` where it ends too early or its header is at fault, and else
-///   `InvalidData`.
+///   `InvalidData`. Header and content were taken; or the header up to the byte at fault; or all there was, if it ended sooner.
 /// - `Version`: the request has another version than this end's first.
 /// - `ReadFault`, `WriteFault`: the stream from this end, or to it, failed. At `WriteFault` a front of the request was written.
 /// - `TurnsSpent`: `turns` requests of the client were handed on, each was answered, and no answer refused; at once where

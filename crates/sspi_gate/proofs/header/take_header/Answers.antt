@@ -1,6 +1,7 @@
 use Rattle.std.proofs.Common.{ap, arith, length}
 use Rattle.std.proofs.lemmas.Result.{err_from_is_err_and}
-use Rattle.sspi_gate.proofs.Headers.{byte_rest, byte_taken, cut_header, five_decide, found_header, no_bytes, none_taken, not_empty, pushed_some, refused_header}
+use Rattle.sspi_gate.proofs.Headers.{byte_rest, byte_taken, cut_header, five_decide, found_header, header_so_far, no_bytes, none_taken, not_empty, pushed_some, refused_header}
+use Rattle.sspi_gate.proofs.Wanted.{pushed_wanted}
 use Rattle.sspi_gate.proofs.header.take_header.Goals as goal
 
 pub loop-size-init : goal.loop-size-init
@@ -20,14 +21,16 @@ returns-else-size-eq0-clause-takes g c =
 pub returns-in_err-push-clause-takes : goal.returns-in_err-push-clause-takes
 returns-in_err-push-clause-takes g c =
     let p = err_from_is_err_and c.from_residual-in_err-push.result c.from_residual-in_err-push.ensures.1 in
-    rw (p.1, p.2) (byte_rest _ _ _ _ c.in-Some.byte c.loop-size.invariant.taken (rw c.in-Some.is at c.in_ok-byte.ensures.bytes))
+    rw (p.1, p.2) (byte_rest _ _ _ _ c.in-Some.byte c.loop-size.invariant.taken (rw c.in-Some.is at c.in_ok-byte.ensures.bytes)
+    c.loop-size.invariant.partial)
 
 pub returns-in_err-size-clause-takes : goal.returns-in_err-size-clause-takes
 returns-in_err-size-clause-takes g c =
     let p = err_from_is_err_and c.from_residual-in_err-size.result c.from_residual-in_err-size.ensures.1 in
     rw (p.1, p.2) (refused_header _ _ _ _ _ c.deref.ensures.value c.in_err-size.ensures
     (byte_taken _ _ _ c.loop-size.header.items _ c.in-Some.byte c.loop-size.invariant.taken (rw c.in-Some.is at c.in_ok-byte.ensures.bytes) c.in_ok-push.ensures.items)
-    (pushed_some c.loop-size.header.items _ c.in-Some.byte c.in_ok-push.ensures.items))
+    (pushed_some c.loop-size.header.items _ c.in-Some.byte c.in_ok-push.ensures.items)
+    (pushed_wanted c.loop-size.header.items _ c.in-Some.byte c.in_ok-push.ensures.items c.loop-size.invariant.partial))
 
 pub returns-clause-takes : goal.returns-clause-takes
 returns-clause-takes g c =
@@ -38,3 +41,8 @@ returns-in-Some-2-clause-takes g c =
     found_header _ _ _ c.loop-size.header.items _ _ c.in-Some.byte c.in-Some-2.size c.in_ok-size.field-0 c.loop-size.invariant.taken
     (rw c.in-Some.is at c.in_ok-byte.ensures.bytes) c.loop-size.invariant.partial c.in_ok-push.ensures.items
     c.deref.ensures.value c.in-Some-2.is c.in_ok-size.ensures
+
+pub returns-in_err-byte-clause-takes : goal.returns-in_err-byte-clause-takes
+returns-in_err-byte-clause-takes g c =
+    let p = err_from_is_err_and c.from_residual.result c.from_residual.ensures.1 in
+    rw (p.1, p.2) (header_so_far _ _ _ _ c.loop-size.invariant.taken c.in_err-byte.ensures.bytes c.loop-size.invariant.partial)
