@@ -1,13 +1,20 @@
 -- The ends that a scenario names are one value, whenever they are made.
-use Rattle.std.proofs.Common.{◌≡◌, ◌∙◌, refl, sym, ap}
+use Rattle.std.proofs.Common.{◌≡◌, ℕ, ◌+◌, List, [], ◌∷◌, ◌++◌, Result, ◌∙◌, refl, sym, ap, subst}
+use Rattle.std.specs.Prelude.{OnOk}
+use Rattle.std.proofs.lemmas.List.{replicate_more}
+use Rattle.sspi_mech.specs.PlainKdc.{PlainKdcState}
 use Rattle.sspi_credssp.specs.Client.{ClientView, IsFreshClient}
 use Rattle.sspi_credssp.specs.Server.{ServerView, IsFreshServer}
-use Rattle.sspi_credssp.specs.Table.{TableView}
+use Rattle.sspi_credssp.specs.Table.{TableView, table_meaning}
+use Rattle.sspi_delegate.specs.Delegates.{calls_of_kdc}
 use Rattle.sspi_scenario.specs.declared.scenario.Scenario.{Scenario}
-use Rattle.sspi_seats.specs.Seat.{place}
+use Rattle.sspi_seats.specs.Seat.{Place, place}
+use Rattle.sspi_seats.specs.Table.{AreSeated}
 use Rattle.sspi_program.specs.declared.ends.Ends.{Ends}
-use Rattle.sspi_program.specs.Desk.{client_in, server_in, place_in}
+use Rattle.sspi_program.specs.Desk.{client_in, server_in, place_in, places_in, AreSeatedFor}
 use Rattle.sspi_program.specs.Ends.{PlainContext, IsClientOf, IsServerOf, AreEndsOf}
+use Rattle.sspi_program.specs.Exchange.{plain_meaning, around}
+use Rattle.sspi_program.specs.Seats.{PlainTable}
 
 -- a field after another
 client_is : (scenario : Scenario) (a : ClientView PlainContext) → IsFreshClient a → IsClientOf scenario a → a ≡ client_in scenario
@@ -40,3 +47,15 @@ place_is scenario ends are = sym (rw (
   are.kdc,
   server_is scenario ends.server.value are.server_fresh are.server_named,
 ) refl)
+
+-- with one client more of the scenario
+pub seated_more : {A E : Type 0} (count : ℕ) (scenario : Scenario) (came : Place PlainContext TableView PlainKdcState) (result : Result A E)
+    (table : PlainTable) → place_in scenario ≡ came →
+    OnOk result (AreSeated plain_meaning table_meaning (calls_of_kdc around) (places_in count scenario ++ came ∷ []) table) →
+    OnOk result (AreSeatedFor scenario (count + 1) table)
+seated_more count scenario came result table same seated =
+    let more : places_in count scenario ++ came ∷ [] ≡ places_in (count + 1) scenario =
+    ap (λ (a : Place PlainContext TableView PlainKdcState). places_in count scenario ++ a ∷ []) (sym same)
+    ∙ replicate_more count (place_in scenario) in
+    subst (λ (cames : List (Place PlainContext TableView PlainKdcState)). OnOk result (AreSeated plain_meaning table_meaning
+    (calls_of_kdc around) cames table)) more seated

@@ -1,5 +1,5 @@
 -- What the word `desk` promises.
-use Rattle.std.specs.Prelude.{◌≡◌, ℕ, List, [], Bool, true, false, None, if◌then◌else◌}
+use Rattle.std.specs.Prelude.{◌≡◌, ℕ, List, [], replicate, Bool, true, false, None, if◌then◌else◌}
 use Rattle.std.specs.List.{list_all}
 use Rattle.sspi_mech.specs.PlainKdc.{PlainKdcState}
 use Rattle.sspi_credssp.specs.Acts.{no_acts}
@@ -49,15 +49,19 @@ server_in scenario = record {
 abbrev pub place_in : Scenario → Place PlainContext TableView PlainKdcState
 place_in scenario = place (client_in scenario) (kdc_in scenario) (server_in scenario)
 
+-- the places of so many clients of one scenario
+abbrev pub places_in : ℕ → Scenario → List (Place PlainContext TableView PlainKdcState)
+places_in count scenario = replicate count (place_in scenario)
+
 -- ---- the sessions
 
 -- so many of these ends were seated, and none has made a turn
 abbrev pub AreSeatedFor : Scenario → ℕ → PlainTable → Type 0
-AreSeatedFor scenario count table = AreSeated plain_meaning table_meaning (calls_of_kdc around) (place_in scenario) count table
+AreSeatedFor scenario count table = AreSeated plain_meaning table_meaning (calls_of_kdc around) (places_in count scenario) table
 
 -- so many had a session each at one desk
 abbrev pub HasSeats : ℕ → Scenario → List PlainSeat → Type 0
-HasSeats count scenario seats = AreSeats plain_meaning table_meaning (calls_of_kdc around) (place_in scenario) count scenario.turns seats
+HasSeats count scenario seats = AreSeats plain_meaning table_meaning (calls_of_kdc around) (places_in count scenario) scenario.turns seats
 
 -- ---- the report
 

@@ -14,18 +14,16 @@ use Rattle.sspi_credssp.specs.Server.{ServerView}
 use Rattle.sspi_delegate.specs.declared.answer.DelegateError.TheVariants as errors
 use Rattle.sspi_delegate.specs.Asking.{KdcCalls}
 use Rattle.sspi_delegate.specs.ClientRun.{client_end}
-use Rattle.sspi_delegate.specs.EndTurns.{client_turns, server_turns, OthersGoOn}
+use Rattle.sspi_delegate.specs.EndTurns.{OthersGoOn}
 use Rattle.sspi_delegate.specs.History.{ClientHistory}
-use Rattle.sspi_delegate.specs.ServerRun.{ServerEnd, server_end}
+use Rattle.sspi_delegate.specs.ServerRun.{server_end}
 use Rattle.sspi_delegate.specs.Turns.{AllGoOn}
 use Rattle.sspi_delegate.proofs.Headline.{sealed_once, seals_after_proof}
 use Rattle.sspi_delegate.proofs.Heeding.{client_past_heeds}
 use Rattle.sspi_delegate.proofs.Histories.{client_stopped_history}
 use Rattle.sspi_delegate.proofs.HistoryRuns.{client_past_ran}
 use Rattle.sspi_desk.specs.Desk.{DeskView, session}
-use Rattle.sspi_desk.specs.declared.answer.DeskError.{DeskError}
-use Rattle.sspi_desk.specs.declared.answer.Served.{Served}
-use Rattle.sspi_seats.specs.Guest.{OthersStay, AreClients, IsSeatOf, Runs, HasEnded, IsVisited, StandsBy}
+use Rattle.sspi_seats.specs.Guest.{OthersStay, AreClients, IsSeatOf, IsVisited, StandsBy}
 use Rattle.sspi_seats.specs.Messages.{AreServed}
 use Rattle.sspi_seats.specs.Outcomes.{Shows}
 use Rattle.sspi_seats.specs.Seat.{Place, ClientCame, ClientRuns, IsSeat}
@@ -34,7 +32,7 @@ use Rattle.sspi_seats.specs.declared.guest.Guest.{Guest}
 use Rattle.sspi_seats.specs.declared.seat.Seat.{Seat}
 use Rattle.sspi_seats.specs.declared.seat.SeatOutcome.{SeatOutcome}
 use Rattle.sspi_seats.specs.declared.seat.SeatOutcome.TheVariants as seats
-use Rattle.sspi_seats.proofs.Lists.{last_or_before, get_at, no_element}
+use Rattle.sspi_seats.proofs.Lists.{last_or_before, get_at, has_element, no_element}
 
 -- as many calls as turns
 pub served_count : (turns : List Turn) (calls : List (List ℕ)) (answers : List _) → AreServed turns calls answers → length calls ≡ length turns
@@ -108,17 +106,6 @@ module _ {N K P D : Type 0} (c : Meaning ContextSetting (SspiContext N K)) (p : 
             (came_history c k came.client guest.client came.kdc guest.kdc guest.transcript.turns guest.outcome all.1));
       }
 
-  -- one more has left
-  pub left_more : (count limit : ℕ) (old new : List (Seat N K P D)) → AreSeats c p k came count limit old → HasLeft c p k came limit old new →
-      AreSeats c p k came (count + 1) limit new
-  left_more count limit old new are left = record {
-    seats_are = omega (arith, ap (λ (l : List (Seat N K P D)). length l) left.added, length-append old (left.seat ∷ []), are.seats_are);
-    each = λ i seat found. elim (last_or_before old left.seat i seat (rw left.added at found)) [
-      | inl before ↦ are.each i seat before
-      | inr last ↦ subst (IsSeat c p k came limit) last.1 left.is
-    ];
-  }
-
   -- the session of a client that is kept
   pub kept_at : (limit : ℕ) (guest : Guest N K D) (at : Option (ServerView (SspiContext N K) P)) (server : ServerView (SspiContext N K) P) →
       at ≡ Some server → IsKept c p k came limit guest at → IsVisited c p k came limit guest server
@@ -127,40 +114,65 @@ module _ {N K P D : Type 0} (c : Meaning ContextSetting (SspiContext N K)) (p : 
       let same : found ≡ server = cc (is) in
       subst (λ (s : ServerView (SspiContext N K) P). IsVisited c p k came limit guest s) same kept
 
-  -- the clients that have not left have their sessions
-  pub record HaveLeft (limit : ℕ) (first : DeskView (SspiContext N K) P) (gone : ℕ) (seats : List (Seat N K P D))
+module _ {N K P D : Type 0} (c : Meaning ContextSetting (SspiContext N K)) (p : ProxyMeaning P) (k : KdcCalls D)
+    (cames : List (Place (SspiContext N K) P D)) (limit : ℕ) where
+  -- so many have left, each has the seat of its place, and the others have their sessions
+  pub record HaveLeft (first : DeskView (SspiContext N K) P) (gone : ℕ) (seats : List (Seat N K P D))
       (desk : DeskView (SspiContext N K) P) : Type 0 where
-    pub seats_are : AreSeats c p k came gone limit seats
+    pub count : length seats ≡ gone
+    pub each : (i : ℕ) (came : Place (SspiContext N K) P D) (seat : Seat N K P D) → slice_get cames i ≡ Some came →
+        slice_get seats i ≡ Some seat → IsSeat c p k came limit seat
     pub rest : (i : ℕ) → gone ≤ i → session i desk ≡ session i first
 
-  pub none_left : (limit : ℕ) (first : DeskView (SspiContext N K) P) (seats : List (Seat N K P D)) → seats ≡ [] →
-      HaveLeft limit first 0 seats first
-  none_left limit first seats none = record {
-    seats_are = record {
-      seats_are = ap (λ (l : List (Seat N K P D)). length l) none;
-      each = λ i seat found. absurd (no_element seat i (rw none at found));
-    };
+  pub none_left : (first : DeskView (SspiContext N K) P) (seats : List (Seat N K P D)) → seats ≡ [] → HaveLeft first 0 seats first
+  none_left first seats none = record {
+    count = ap (λ (l : List (Seat N K P D)). length l) none;
+    each = λ i came seat place found. absurd (no_element seat i (rw none at found));
     rest = λ i past. refl;
   }
 
-  -- the client that leaves stands with its server
-  pub next_kept : (limit : ℕ) (first : DeskView (SspiContext N K) P) (gone rest guests : List (Guest N K D)) (guest : Guest N K D)
-      (seats : List (Seat N K P D)) (desk : DeskView (SspiContext N K) P) → gone ++ guest ∷ rest ≡ guests → AreKept c p k came limit guests first →
-      HaveLeft limit first (length gone) seats desk → IsKept c p k came limit guest (session (length seats) desk)
-  next_kept limit first gone rest guests guest seats desk parts kept left =
-      let found : slice_get guests (length gone) ≡ Some guest = ap (λ (l : List (Guest N K D)). slice_get l (length gone)) (sym parts) ∙ get_at gone guest rest in
-      let count : length seats ≡ length gone = left.seats_are.seats_are in
-      rw (count, left.rest (length gone) (omega arith)) (kept (length gone) guest found)
+  -- all have left
+  pub all_left : (first : DeskView (SspiContext N K) P) (guests : List (Guest N K D)) (seats : List (Seat N K P D))
+      (desk : DeskView (SspiContext N K) P) → AreKept c p k cames limit guests first → HaveLeft first (length guests) seats desk →
+      AreSeats c p k cames limit seats
+  all_left first guests seats desk kept left = record { seats_are = left.count ∙ kept.seated; each = left.each }
 
-  pub more_left : (limit : ℕ) (first : DeskView (SspiContext N K) P) (gone : List (Guest N K D)) (guest : Guest N K D)
-      (seats seats2 : List (Seat N K P D)) (desk desk2 : DeskView (SspiContext N K) P) → HaveLeft limit first (length gone) seats desk →
-      HasLeft c p k came limit seats seats2 → OthersStay (length seats) desk desk2 →
-      HaveLeft limit first (length (gone ++ guest ∷ [])) seats2 desk2
-  more_left limit first gone guest seats seats2 desk desk2 left one others =
-      let count : length seats ≡ length gone = left.seats_are.seats_are in
-      let more : length (gone ++ guest ∷ []) ≡ length gone + 1 = length-append gone (guest ∷ []) in
-      record {
-        seats_are = rw more (left_more (length gone) limit seats seats2 left.seats_are one);
-        rest = λ i past. others.others i (λ same. absurd (omega (arith, same, count, more, past)))
-            ∙ left.rest i (omega (arith, more, past));
-      }
+  -- the place of the client that leaves
+  pub next_place : (first : DeskView (SspiContext N K) P) (gone rest guests : List (Guest N K D)) (guest : Guest N K D) →
+      gone ++ guest ∷ rest ≡ guests → AreKept c p k cames limit guests first →
+      (came : Place (SspiContext N K) P D) × (slice_get cames (length gone) ≡ Some came)
+  next_place first gone rest guests guest parts kept =
+      let many : length gone + length (guest ∷ rest) ≡ length guests =
+      sym (length-append gone (guest ∷ rest)) ∙ ap (λ (l : List (Guest N K D)). length l) parts in
+      has_element cames (length gone) (omega (arith, many, kept.seated))
+
+  module _ (came : Place (SspiContext N K) P D) (first : DeskView (SspiContext N K) P) (gone : List (Guest N K D)) (guest : Guest N K D)
+      (seats : List (Seat N K P D)) (desk : DeskView (SspiContext N K) P) (place : slice_get cames (length gone) ≡ Some came)
+      (left : HaveLeft first (length gone) seats desk) where
+    -- the client that leaves stands with its server
+    pub next_kept : (rest guests : List (Guest N K D)) → gone ++ guest ∷ rest ≡ guests → AreKept c p k cames limit guests first →
+        IsKept c p k came limit guest (session (length seats) desk)
+    next_kept rest guests parts kept =
+        let found : slice_get guests (length gone) ≡ Some guest = ap (λ (l : List (Guest N K D)). slice_get l (length gone)) (sym parts) ∙ get_at gone guest rest in
+        rw (left.count, left.rest (length gone) (omega arith)) (kept.each (length gone) came guest place found)
+
+    module _ (seats2 : List (Seat N K P D)) (one : HasLeft c p k came limit seats seats2) where
+      seat_left : (i : ℕ) (at : Place (SspiContext N K) P D) (seat : Seat N K P D) → slice_get cames i ≡ Some at →
+          (slice_get seats i ≡ Some seat) ⊎ ((i ≡ length seats) × (one.seat ≡ seat)) → IsSeat c p k at limit seat
+      seat_left i at seat found (inl before) = left.each i at seat found before
+      seat_left i at seat found (inr last) =
+          let here : i ≡ length gone = last.0 ∙ left.count in
+          let same : came ≡ at = cc (place, subst (λ (n : ℕ). slice_get cames n ≡ Some at) here found) in
+          subst (λ (a : Place (SspiContext N K) P D). IsSeat c p k a limit seat) same (subst (IsSeat c p k came limit) last.1 one.is)
+
+      -- one more has left
+      pub more_left : (desk2 : DeskView (SspiContext N K) P) → OthersStay (length seats) desk desk2 →
+          HaveLeft first (length (gone ++ guest ∷ [])) seats2 desk2
+      more_left desk2 others =
+          let more : length (gone ++ guest ∷ []) ≡ length gone + 1 = length-append gone (guest ∷ []) in
+          record {
+            count = omega (arith, ap (λ (l : List (Seat N K P D)). length l) one.added, length-append seats (one.seat ∷ []), left.count, more);
+            each = λ i at seat found there. seat_left i at seat found (last_or_before seats one.seat i seat (rw one.added at there));
+            rest = λ i past. others.others i (λ same. absurd (omega (arith, same, left.count, more, past)))
+                ∙ left.rest i (omega (arith, more, past));
+          }

@@ -1,7 +1,7 @@
 -- Lists, of which one element more or another one is known.
-use Rattle.std.proofs.Common.{◌≡◌, ◌≢◌, ℕ, suc, ◌+◌, ◌<◌, ◌⊎◌, inl, inr, List, [], ◌∷◌, ◌++◌, length, reverse, Some, refl, ap, ◌∙◌, arith, slice_set}
+use Rattle.std.proofs.Common.{◌≡◌, ◌≢◌, ℕ, suc, ◌<◌, ◌⊎◌, inl, inr, List, [], ◌∷◌, ◌++◌, length, reverse, Some, refl, ap, arith, slice_set}
 use Rattle.std.specs.List.{slice_get}
-use Rattle.std.specs.Prelude.{zero, Bool, true, false, ◌||◌}
+use Rattle.std.specs.Prelude.{zero}
 use Rattle.std.proofs.lemmas.List.{reverse-append}
 
 pub reverse_push : {A : Type 0} (xs : List A) (x : A) → reverse (xs ++ x ∷ []) ≡ x ∷ reverse xs
@@ -37,6 +37,12 @@ set_apart (y ∷ ys) (suc i) x (suc j) apart = set_apart ys i x j (λ same. apar
 pub no_element : {X : Type 0} (x : X) (i : ℕ) → slice_get [] i ≡ Some x → ⊥
 no_element x zero found = cc
 no_element x (suc i) found = cc
+
+-- there is an element at each place
+pub has_element : {X : Type 0} (xs : List X) (i : ℕ) → i < length xs → (x : X) × (slice_get xs i ≡ Some x)
+has_element [] i within = absurd (omega (arith, within))
+has_element (x ∷ xs) zero within = (x, refl)
+has_element (x ∷ xs) (suc i) within = has_element xs i (omega (arith, within))
 
 pub get_at : {X : Type 0} (xs : List X) (x : X) (ys : List X) → slice_get (xs ++ x ∷ ys) (length xs) ≡ Some x
 get_at [] x ys = refl

@@ -12,7 +12,7 @@ use Rattle.sspi_credssp.specs.Context.{ContextSetting}
 use Rattle.sspi_credssp.specs.Proxy.{ProxyMeaning}
 use Rattle.sspi_credssp.specs.Server.{ServerView}
 use Rattle.sspi_delegate.specs.Asking.{KdcCalls}
-use Rattle.sspi_desk.specs.Desk.{DeskView, session, IsAdmitted}
+use Rattle.sspi_desk.specs.Desk.{session, IsAdmitted}
 use Rattle.sspi_seats.specs.Guest.{IsNew, IsVisited, OthersStay}
 use Rattle.sspi_seats.specs.Seat.{Place}
 use Rattle.sspi_seats.specs.Table.{IsKept, IsEmpty, AreVisited, AreSeated}
@@ -41,112 +41,133 @@ none_runs (g ∷ guests) none (suc i) guest found =
     let split = or_false (is_some g.next) (list_any (λ guest. is_some guest.next) guests) none in
     none_runs guests split.1 i guest found
 
-module _ {N K P D : Type 0} (c : Meaning ContextSetting (SspiContext N K)) (p : ProxyMeaning P) (k : KdcCalls D)
-    (came : Place (SspiContext N K) P D) where
+module _ {N K P D : Type 0} (c : Meaning ContextSetting (SspiContext N K)) (p : ProxyMeaning P) (k : KdcCalls D) where
   -- ---- coming
 
-  pub empty_seated : (table : Table N K P D) → IsEmpty table → AreSeated c p k came 0 table
+  pub empty_seated : (table : Table N K P D) → IsEmpty table → AreSeated c p k [] table
   empty_seated table is = record {
     visited = record {
-      early = λ i guest found before. absurd (omega (arith, before));
-      late = λ i guest found after. absurd (no_element guest i (rw is.guests at found));
+      early = λ i came guest place found before. absurd (omega (arith, before));
+      late = λ i came guest place found after. absurd (no_element came i place);
       seated = ap (λ (l : List (Guest N K D)). length l) is.guests;
     };
     admitted = is.admitted;
   }
 
-  late_joined : (count number : ℕ) (guest : Guest N K D) (old new : Table N K P D) → AreSeated c p k came count old →
-      IsNew came.client came.kdc guest → IsAdmitted came.server number old.desk new.desk → (i : ℕ) (g : Guest N K D) →
-      (slice_get old.guests.items i ≡ Some g) ⊎ ((i ≡ length old.guests.items) × (guest ≡ g)) → IsKept c p k came 0 g (session i new.desk)
-  late_joined count number guest old new seated is admitted i g (inl before) =
-      let within = slice_get_within old.guests.items i g before in
-      let many : length old.guests.items ≡ count = seated.visited.seated in
-      let here : number ≡ old.desk.admitted = admitted.numbered in
-      let apart : i ≢ number = λ same. absurd (omega (arith, same, here, seated.admitted, many, within)) in
-      subst (λ (o : Option (ServerView (SspiContext N K) P)). IsKept c p k came 0 g o) (sym (admitted.changes.others i apart))
-      (seated.visited.late i g before (omega arith))
-  late_joined count number guest old new seated is admitted i g (inr last) =
-      let many : length old.guests.items ≡ count = seated.visited.seated in
-      let here : number ≡ old.desk.admitted = admitted.numbered in
-      let same : number ≡ i = omega (arith, here, seated.admitted, many, last.0) in
-      let found : session i new.desk ≡ Some came.server =
-      subst (λ (n : ℕ). session n new.desk ≡ Some came.server) same admitted.changes.here in
-      rw found (subst (λ (x : Guest N K D). IsVisited c p k came 0 x came.server) last.1 (new_visited c p k came guest is))
+  module _ (cames : List (Place (SspiContext N K) P D)) (came : Place (SspiContext N K) P D) (number : ℕ) (guest : Guest N K D)
+      (old new : Table N K P D) (seated : AreSeated c p k cames old) (is : IsNew came.client came.kdc guest)
+      (admitted : IsAdmitted came.server number old.desk new.desk) where
+    -- the client of a place is one from before, or the one that came
+    late_joined : (i : ℕ) (at : Place (SspiContext N K) P D) (g : Guest N K D) →
+        (slice_get cames i ≡ Some at) ⊎ ((i ≡ length cames) × (came ≡ at)) →
+        (slice_get old.guests.items i ≡ Some g) ⊎ ((i ≡ length old.guests.items) × (guest ≡ g)) → IsKept c p k at 0 g (session i new.desk)
+    late_joined i at g (inl place) (inl before) =
+        let within = slice_get_within old.guests.items i g before in
+        let many : length old.guests.items ≡ length cames = seated.visited.seated in
+        let here : number ≡ old.desk.admitted = admitted.numbered in
+        let apart : i ≢ number = λ same. absurd (omega (arith, same, here, seated.admitted, many, within)) in
+        subst (λ (o : Option (ServerView (SspiContext N K) P)). IsKept c p k at 0 g o) (sym (admitted.changes.others i apart))
+        (seated.visited.late i at g place before (omega arith))
+    late_joined i at g (inl place) (inr last) =
+        absurd (omega (arith, slice_get_within cames i at place, last.0, seated.visited.seated))
+    late_joined i at g (inr place) (inl before) =
+        absurd (omega (arith, slice_get_within old.guests.items i g before, place.0, seated.visited.seated))
+    late_joined i at g (inr place) (inr last) =
+        let many : length old.guests.items ≡ length cames = seated.visited.seated in
+        let here : number ≡ old.desk.admitted = admitted.numbered in
+        let same : number ≡ i = omega (arith, here, seated.admitted, many, last.0) in
+        let found : session i new.desk ≡ Some came.server =
+        subst (λ (n : ℕ). session n new.desk ≡ Some came.server) same admitted.changes.here in
+        subst (λ (a : Place (SspiContext N K) P D). IsKept c p k a 0 g (session i new.desk)) place.1
+        (rw found (subst (λ (x : Guest N K D). IsVisited c p k came 0 x came.server) last.1 (new_visited c p k came guest is)))
 
-  -- one more has come
-  pub joined : (count number : ℕ) (guest : Guest N K D) (old new : Table N K P D) → AreSeated c p k came count old →
-      IsNew came.client came.kdc guest → IsAdmitted came.server number old.desk new.desk →
-      new.guests.items ≡ old.guests.items ++ guest ∷ [] → AreSeated c p k came (count + 1) new
-  joined count number guest old new seated is admitted added = record {
-    visited = record {
-      early = λ i g found before. absurd (omega (arith, before));
-      late = λ i g found after. late_joined count number guest old new seated is admitted i g
-          (last_or_before old.guests.items guest i g (rw added at found));
-      seated = omega (arith, ap (λ (l : List (Guest N K D)). length l) added, length-append old.guests.items (guest ∷ []), seated.visited.seated);
-    };
-    admitted = omega (arith, admitted.counts.admitted_is, seated.admitted);
-  }
+    -- one more has come
+    pub joined : new.guests.items ≡ old.guests.items ++ guest ∷ [] → AreSeated c p k (cames ++ came ∷ []) new
+    joined added =
+        let more : length (cames ++ came ∷ []) ≡ length cames + 1 = length-append cames (came ∷ []) in
+        record {
+          visited = record {
+            early = λ i at g place found before. absurd (omega (arith, before));
+            late = λ i at g place found after. late_joined i at g (last_or_before cames came i at place)
+                (last_or_before old.guests.items guest i g (rw added at found));
+            seated = omega (
+              arith,
+              ap (λ (l : List (Guest N K D)). length l) added,
+              length-append old.guests.items (guest ∷ []),
+              seated.visited.seated,
+              more,
+            );
+          };
+          admitted = omega (arith, admitted.counts.admitted_is, seated.admitted, more);
+        }
 
   -- ---- a round
 
-  module _ (count rounds at : ℕ) (old new : Table N K P D) (visited : AreVisited c p k came count rounds at old) (guest : Guest N K D)
+  module _ (cames : List (Place (SspiContext N K) P D)) (rounds at : ℕ) (old new : Table N K P D)
+      (visited : AreVisited c p k cames rounds at old) (own : Place (SspiContext N K) P D) (guest : Guest N K D)
+      (own_is : slice_get cames at ≡ Some own)
       (apart : (i : ℕ) → i ≢ at → slice_get new.guests.items i ≡ slice_get old.guests.items i)
       (here : slice_get new.guests.items at ≡ Some guest) (others : OthersStay at old.desk new.desk)
-      (kept : IsKept c p k came (rounds + 1) guest (session at new.desk)) where
+      (kept : IsKept c p k own (rounds + 1) guest (session at new.desk)) where
     -- another seat is as it was
-    other_seat : (n i : ℕ) (g : Guest N K D) → i ≢ at → IsKept c p k came n g (session i old.desk) → IsKept c p k came n g (session i new.desk)
-    other_seat n i g other was =
+    other_seat : (n i : ℕ) (came : Place (SspiContext N K) P D) (g : Guest N K D) → i ≢ at → IsKept c p k came n g (session i old.desk) →
+        IsKept c p k came n g (session i new.desk)
+    other_seat n i came g other was =
         subst (λ (o : Option (ServerView (SspiContext N K) P)). IsKept c p k came n g o) (sym (others.others i other)) was
 
-    early_seat : (i : ℕ) (g : Guest N K D) → slice_get new.guests.items i ≡ Some g → i < at + 1 → (own : Bool) → eqb i at ≡ own →
+    early_seat : (i : ℕ) (came : Place (SspiContext N K) P D) (g : Guest N K D) → slice_get cames i ≡ Some came →
+        slice_get new.guests.items i ≡ Some g → i < at + 1 → (this : Bool) → eqb i at ≡ this →
         IsKept c p k came (rounds + 1) g (session i new.desk)
-    early_seat i g found before true own =
-        let same : i ≡ at = eqb-true i at own in
+    early_seat i came g place found before true equal =
+        let same : i ≡ at = eqb-true i at equal in
+        let whose : own ≡ came = cc (own_is, subst (λ (n : ℕ). slice_get cames n ≡ Some came) same place) in
         let is : guest ≡ g = cc (here, subst (λ (n : ℕ). slice_get new.guests.items n ≡ Some g) same found) in
         subst (λ (n : ℕ). IsKept c p k came (rounds + 1) g (session n new.desk)) (sym same)
-        (subst (λ (x : Guest N K D). IsKept c p k came (rounds + 1) x (session at new.desk)) is kept)
-    early_seat i g found before false own =
-        let other : i ≢ at = eqb-false i at own in
-        other_seat (rounds + 1) i g other (visited.early i g (sym (apart i other) ∙ found) (omega (arith, other, before)))
+        (subst (λ (x : Guest N K D). IsKept c p k came (rounds + 1) x (session at new.desk)) is
+        (subst (λ (a : Place (SspiContext N K) P D). IsKept c p k a (rounds + 1) guest (session at new.desk)) whose kept))
+    early_seat i came g place found before false equal =
+        let other : i ≢ at = eqb-false i at equal in
+        other_seat (rounds + 1) i came g other (visited.early i came g place (sym (apart i other) ∙ found) (omega (arith, other, before)))
 
     -- the client of one seat more has had its round
-    pub seat_visited : length new.guests.items ≡ length old.guests.items → AreVisited c p k came count rounds (at + 1) new
+    pub seat_visited : length new.guests.items ≡ length old.guests.items → AreVisited c p k cames rounds (at + 1) new
     seat_visited many = record {
-      early = λ i g found before. early_seat i g found before (eqb i at) refl;
-      late = λ i g found after.
+      early = λ i came g place found before. early_seat i came g place found before (eqb i at) refl;
+      late = λ i came g place found after.
           let other : i ≢ at = λ same. absurd (omega (arith, same, after)) in
-          other_seat rounds i g other (visited.late i g (sym (apart i other) ∙ found) (omega (arith, after)));
+          other_seat rounds i came g other (visited.late i came g place (sym (apart i other) ∙ found) (omega (arith, after)));
       seated = many ∙ visited.seated;
     }
 
-  -- there is no such seat
-  pub no_seat : (count rounds at : ℕ) (table : Table N K P D) → AreVisited c p k came count rounds at table → length table.guests.items ≤ at →
-      AreVisited c p k came count rounds (at + 1) table
-  no_seat count rounds at table visited past = record {
-    early = λ i g found before.
-        let within = slice_get_within table.guests.items i g found in
-        visited.early i g found (omega (arith, within, past));
-    late = λ i g found after. visited.late i g found (omega (arith, after));
-    seated = visited.seated;
-  }
+  module _ (cames : List (Place (SspiContext N K) P D)) where
+    -- there is no such seat
+    pub no_seat : (rounds at : ℕ) (table : Table N K P D) → AreVisited c p k cames rounds at table → length table.guests.items ≤ at →
+        AreVisited c p k cames rounds (at + 1) table
+    no_seat rounds at table visited past = record {
+      early = λ i came g place found before.
+          let within = slice_get_within table.guests.items i g found in
+          visited.early i came g place found (omega (arith, within, past));
+      late = λ i came g place found after. visited.late i came g place found (omega (arith, after));
+      seated = visited.seated;
+    }
 
-  -- all have had their round
-  pub round_over : (count rounds at : ℕ) (table : Table N K P D) → AreVisited c p k came count rounds at table → count ≤ at →
-      AreVisited c p k came count (rounds + 1) 0 table
-  round_over count rounds at table visited all = record {
-    early = λ i g found before. absurd (omega (arith, before));
-    late = λ i g found after.
-        let within = slice_get_within table.guests.items i g found in
-        visited.early i g found (omega (arith, within, visited.seated, all));
-    seated = visited.seated;
-  }
+    -- all have had their round
+    pub round_over : (rounds at : ℕ) (table : Table N K P D) → AreVisited c p k cames rounds at table → length cames ≤ at →
+        AreVisited c p k cames (rounds + 1) 0 table
+    round_over rounds at table visited all = record {
+      early = λ i came g place found before. absurd (omega (arith, before));
+      late = λ i came g place found after.
+          let within = slice_get_within table.guests.items i g found in
+          visited.early i came g place found (omega (arith, within, visited.seated, all));
+      seated = visited.seated;
+    }
 
-  -- where none runs, further rounds change nothing
-  pub rest_over : (count rounds later : ℕ) (table : Table N K P D) → AreVisited c p k came count rounds 0 table → rounds ≤ later →
-      list_any (λ guest. is_some guest.next) table.guests.items ≡ false → AreVisited c p k came count later 0 table
-  rest_over count rounds later table visited more none = record {
-    early = λ i g found before. absurd (omega (arith, before));
-    late = λ i g found after. kept_later c p k came rounds later g (session i table.desk) more (none_runs table.guests.items none i g found)
-        (visited.late i g found after);
-    seated = visited.seated;
-  }
+    -- where none runs, further rounds change nothing
+    pub rest_over : (rounds later : ℕ) (table : Table N K P D) → AreVisited c p k cames rounds 0 table → rounds ≤ later →
+        list_any (λ guest. is_some guest.next) table.guests.items ≡ false → AreVisited c p k cames later 0 table
+    rest_over rounds later table visited more none = record {
+      early = λ i came g place found before. absurd (omega (arith, before));
+      late = λ i came g place found after. kept_later c p k came rounds later g (session i table.desk) more
+          (none_runs table.guests.items none i g found) (visited.late i came g place found after);
+      seated = visited.seated;
+    }

@@ -27,30 +27,37 @@ module _ {N K P D : Type 0} (c : Meaning ContextSetting (SspiContext N K)) (p : 
   IsKept rounds guest None = ⊥
   IsKept rounds guest (Some server) = IsVisited c p k came rounds guest server
 
-  -- each of these clients has the session of its place, and they have had so many rounds
-  abbrev pub AreKept : ℕ → List (Guest N K D) → DeskView (SspiContext N K) P → Type 0
-  AreKept rounds guests desk = (i : ℕ) (guest : Guest N K D) → slice_get guests i ≡ Some guest → IsKept rounds guest (session i desk)
-
-  -- So many clients are seated, each has its session, and they have had so many rounds; those of the seats below `first` one more.
-  pub record AreVisited (count rounds first : ℕ) (table : Table N K P D) : Type 0 where
-    pub early : (i : ℕ) (guest : Guest N K D) → slice_get table.guests.items i ≡ Some guest → i < first →
-        IsKept (rounds + 1) guest (session i table.desk)
-    pub late : (i : ℕ) (guest : Guest N K D) → slice_get table.guests.items i ≡ Some guest → first ≤ i →
-        IsKept rounds guest (session i table.desk)
-    pub seated : length table.guests.items ≡ count
-
-  -- so many have come, and none has made a turn
-  pub record AreSeated (count : ℕ) (table : Table N K P D) : Type 0 where
-    pub visited : AreVisited count 0 0 table
-    pub admitted : table.desk.admitted ≡ count
-
-  -- the seats of so many
-  pub record AreSeats (count limit : ℕ) (seats : List (Seat N K P D)) : Type 0 where
-    pub seats_are : length seats ≡ count
-    pub each : (i : ℕ) (seat : Seat N K P D) → slice_get seats i ≡ Some seat → IsSeat c p k came limit seat
-
   -- the seat of one client more
   pub record HasLeft (limit : ℕ) (old new : List (Seat N K P D)) : Type 0 where
     pub seat : Seat N K P D
     pub added : new ≡ old ++ seat ∷ []
     pub is : IsSeat c p k came limit seat
+
+-- `cames`: the places of a table, the first one first
+module _ {N K P D : Type 0} (c : Meaning ContextSetting (SspiContext N K)) (p : ProxyMeaning P) (k : KdcCalls D)
+    (cames : List (Place (SspiContext N K) P D)) where
+  -- a client came to each place, and has the session of its number; they have had so many rounds
+  pub record AreKept (rounds : ℕ) (guests : List (Guest N K D)) (desk : DeskView (SspiContext N K) P) : Type 0 where
+    pub each : (i : ℕ) (came : Place (SspiContext N K) P D) (guest : Guest N K D) → slice_get cames i ≡ Some came →
+        slice_get guests i ≡ Some guest → IsKept c p k came rounds guest (session i desk)
+    pub seated : length guests ≡ length cames
+
+  -- The client of each place is seated there and has the session of its number. They have had so many rounds; those of the places below
+  -- `first` one more.
+  pub record AreVisited (rounds first : ℕ) (table : Table N K P D) : Type 0 where
+    pub early : (i : ℕ) (came : Place (SspiContext N K) P D) (guest : Guest N K D) → slice_get cames i ≡ Some came →
+        slice_get table.guests.items i ≡ Some guest → i < first → IsKept c p k came (rounds + 1) guest (session i table.desk)
+    pub late : (i : ℕ) (came : Place (SspiContext N K) P D) (guest : Guest N K D) → slice_get cames i ≡ Some came →
+        slice_get table.guests.items i ≡ Some guest → first ≤ i → IsKept c p k came rounds guest (session i table.desk)
+    pub seated : length table.guests.items ≡ length cames
+
+  -- these have come, in this order, and none has made a turn
+  pub record AreSeated (table : Table N K P D) : Type 0 where
+    pub visited : AreVisited 0 0 table
+    pub admitted : table.desk.admitted ≡ length cames
+
+  -- a seat for each place, in their order
+  pub record AreSeats (limit : ℕ) (seats : List (Seat N K P D)) : Type 0 where
+    pub seats_are : length seats ≡ length cames
+    pub each : (i : ℕ) (came : Place (SspiContext N K) P D) (seat : Seat N K P D) → slice_get cames i ≡ Some came →
+        slice_get seats i ≡ Some seat → IsSeat c p k came limit seat

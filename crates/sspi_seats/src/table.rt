@@ -1,4 +1,4 @@
-ghost use Rattle.std.specs.Prelude.{◌≡◌, ◌+◌, ◌++◌, ◌<◌, ℕ, [], ◌∷◌, IfOk, OnOk, is_some, length};
+ghost use Rattle.std.specs.Prelude.{◌≡◌, ◌+◌, ◌++◌, ◌<◌, ℕ, List, [], ◌∷◌, IfOk, OnOk, is_some, length};
 ghost use Rattle.std.specs.List.{list_any};
 ghost use Rattle.sspi_credssp.specs.Context.{either};
 ghost use Rattle.sspi_credssp.specs.declared.context.SspiContext.{SspiContext};
@@ -48,8 +48,8 @@ impl<N: Mechanism, K: Mechanism, C: CredentialsProxy, D: Kdc + Drop> Table<N, K,
         server: CredSspServer<N, K, C>,
     ) -> Result<(), AllocError>
         ensures seated { let c = either N.REQUESTS N.meaning K.meaning in let k = kdc_calls D.told D.asked D.faults in
-            (came : Place (SspiContext N K) C D) (count : ℕ) → came ≡ place client kdc server →
-            AreSeated c C.meaning k came count self.old → OnOk result (AreSeated c C.meaning k came (count + 1) self.new) }
+            (cames : List (Place (SspiContext N K) C D)) → AreSeated c C.meaning k cames self.old →
+            OnOk result (AreSeated c C.meaning k (cames ++ place client kdc server ∷ []) self.new) }
         ensures room { OnOk result (length self.old.desk.kept < self.old.desk.limit) }
         ensures full { length self.old.desk.kept ≡ self.old.desk.limit → self.new ≡ self.old }
         ensures limit { self.new.desk.limit ≡ self.old.desk.limit }
@@ -69,8 +69,8 @@ impl<N: Mechanism, K: Mechanism, C: CredentialsProxy, D: Kdc + Drop> Table<N, K,
     /// Fails for want of memory, also where it came up in a turn, in a call on the desk or in a KDC.
     pub fn finish(self, turns: u32) -> Result<Rows<Seat<N, K, C, D>>, AllocError>
         ensures { let c = either N.REQUESTS N.meaning K.meaning in let k = kdc_calls D.told D.asked D.faults in
-            (came : Place (SspiContext N K) C D) (count : ℕ) → AreSeated c C.meaning k came count self →
-            IfOk result (AreSeats c C.meaning k came count turns) }
+            (cames : List (Place (SspiContext N K) C D)) → AreSeated c C.meaning k cames self →
+            IfOk result (AreSeats c C.meaning k cames turns) }
     {
         let mut table = self;
         table.serve(turns)?;
@@ -80,8 +80,8 @@ impl<N: Mechanism, K: Mechanism, C: CredentialsProxy, D: Kdc + Drop> Table<N, K,
     /// At most so many rounds.
     fn serve(&mut self, turns: u32) -> Result<(), AllocError>
         ensures { let c = either N.REQUESTS N.meaning K.meaning in let k = kdc_calls D.told D.asked D.faults in
-            (came : Place (SspiContext N K) C D) (count : ℕ) → AreSeated c C.meaning k came count self.old →
-            OnOk result (AreVisited c C.meaning k came count turns 0 self.new) }
+            (cames : List (Place (SspiContext N K) C D)) → AreSeated c C.meaning k cames self.old →
+            OnOk result (AreVisited c C.meaning k cames turns 0 self.new) }
     {
         for turn in 0..turns {
             if !self.runs() {
@@ -102,8 +102,8 @@ impl<N: Mechanism, K: Mechanism, C: CredentialsProxy, D: Kdc + Drop> Table<N, K,
     /// The round of this number, from 1.
     fn serve_round(&mut self, turn: u32) -> Result<(), AllocError>
         ensures { let c = either N.REQUESTS N.meaning K.meaning in let k = kdc_calls D.told D.asked D.faults in
-            (came : Place (SspiContext N K) C D) (count rounds : ℕ) → turn ≡ rounds + 1 → AreVisited c C.meaning k came count rounds 0 self.old →
-            OnOk result (AreVisited c C.meaning k came count turn 0 self.new) }
+            (cames : List (Place (SspiContext N K) C D)) (rounds : ℕ) → turn ≡ rounds + 1 → AreVisited c C.meaning k cames rounds 0 self.old →
+            OnOk result (AreVisited c C.meaning k cames turn 0 self.new) }
     {
         for at in 0..self.guests.len() {
             self.serve_guest(at, turn)?;
@@ -114,8 +114,8 @@ impl<N: Mechanism, K: Mechanism, C: CredentialsProxy, D: Kdc + Drop> Table<N, K,
     /// The client of this seat has the round of this number.
     fn serve_guest(&mut self, at: usize, turn: u32) -> Result<(), AllocError>
         ensures { let c = either N.REQUESTS N.meaning K.meaning in let k = kdc_calls D.told D.asked D.faults in
-            (came : Place (SspiContext N K) C D) (count rounds : ℕ) → turn ≡ rounds + 1 → AreVisited c C.meaning k came count rounds at self.old →
-            OnOk result (AreVisited c C.meaning k came count rounds (at + 1) self.new) }
+            (cames : List (Place (SspiContext N K) C D)) (rounds : ℕ) → turn ≡ rounds + 1 → AreVisited c C.meaning k cames rounds at self.old →
+            OnOk result (AreVisited c C.meaning k cames rounds (at + 1) self.new) }
     {
         match self.guests.get_mut(at) {
             Some(guest) => guest.visit(self.alloc, &mut self.desk, at as u64, turn),
@@ -126,8 +126,8 @@ impl<N: Mechanism, K: Mechanism, C: CredentialsProxy, D: Kdc + Drop> Table<N, K,
     /// Closes the sessions and hands out the seats.
     fn leave(self) -> Result<Rows<Seat<N, K, C, D>>, AllocError>
         ensures { let c = either N.REQUESTS N.meaning K.meaning in let k = kdc_calls D.told D.asked D.faults in
-            (came : Place (SspiContext N K) C D) (count limit : ℕ) → AreVisited c C.meaning k came count limit 0 self →
-            IfOk result (AreSeats c C.meaning k came count limit) }
+            (cames : List (Place (SspiContext N K) C D)) (limit : ℕ) → AreVisited c C.meaning k cames limit 0 self →
+            IfOk result (AreSeats c C.meaning k cames limit) }
     {
         let Table {
             alloc,
@@ -145,8 +145,8 @@ fn leave<N: Mechanism, K: Mechanism, C: CredentialsProxy, D: Kdc + Drop>(
     guests: Vec<Guest<N, K, D>>,
 ) -> Result<Rows<Seat<N, K, C, D>>, AllocError>
     ensures { let c = either N.REQUESTS N.meaning K.meaning in let k = kdc_calls D.told D.asked D.faults in
-        (came : Place (SspiContext N K) C D) (limit : ℕ) → AreKept c C.meaning k came limit guests.items desk →
-        IfOk result (AreSeats c C.meaning k came (length guests.items) limit) }
+        (cames : List (Place (SspiContext N K) C D)) (limit : ℕ) → AreKept c C.meaning k cames limit guests.items desk →
+        IfOk result (AreSeats c C.meaning k cames limit) }
 {
     let mut desk = desk;
     let mut seats = Rows::new(alloc);
@@ -169,8 +169,8 @@ fn leave_all<N: Mechanism, K: Mechanism, C: CredentialsProxy, D: Kdc + Drop>(
     seats: &mut Rows<Seat<N, K, C, D>>,
 ) -> Result<(), AllocError>
     ensures { let c = either N.REQUESTS N.meaning K.meaning in let k = kdc_calls D.told D.asked D.faults in
-        (came : Place (SspiContext N K) C D) (limit : ℕ) → seats.old ≡ [] → AreKept c C.meaning k came limit guests.items desk.old →
-        OnOk result (AreSeats c C.meaning k came (length guests.items) limit seats.new) }
+        (cames : List (Place (SspiContext N K) C D)) (limit : ℕ) → seats.old ≡ [] → AreKept c C.meaning k cames limit guests.items desk.old →
+        OnOk result (AreSeats c C.meaning k cames limit seats.new) }
 {
     for guest in guests {
         leave_one(desk, guest, seats)?;

@@ -1,8 +1,8 @@
-use Rattle.std.proofs.Common.{◌≡◌, ℕ, ◌∷◌, [], ◌++◌, List, length, refl, sym, ap, subst, ◌∙◌, append_assoc, append-nil, arith, rules}
+use Rattle.std.proofs.Common.{◌≡◌, ◌∷◌, [], ◌++◌, List, length, refl, sym, ap, subst, ◌∙◌, append_assoc, append-nil, arith, rules}
 use Rattle.std.specs.Vec.Iter.{into_iter_items}
 use Rattle.sspi_credssp.specs.Context.{either}
 use Rattle.sspi_delegate.specs.Asking.{kdc_calls}
-use Rattle.sspi_seats.proofs.Leaving.{HaveLeft, none_left, next_kept, more_left}
+use Rattle.sspi_seats.proofs.Leaving.{HaveLeft, none_left, all_left, next_place, next_kept, more_left}
 use Rattle.sspi_seats.proofs.table.leave_all.Goals as goal
 
 nothing_left : {X : Type 0} (l : List X) → length l ≡ 0 → l ≡ []
@@ -15,7 +15,7 @@ loop-guest-init g c =
     let p = g.C.CredentialsProxy.meaning in
     let k = kdc_calls g.D.Kdc.told g.D.Kdc.asked g.D.Kdc.faults in
     let gives = c.into_iter-guest-iterator.ensures.into_iter_gives in
-    (gives.0, search rules, λ came limit none kept. none_left m p k came limit c.args.desk.now c.args.seats.now none)
+    (gives.0, search rules, λ cames limit none kept. none_left m p k cames limit c.args.desk.now c.args.seats.now none)
 
 pub loop-guest-preserved : goal.loop-guest-preserved
 loop-guest-preserved g c =
@@ -31,17 +31,18 @@ loop-guest-preserved g c =
           let gone = c.in-Some.ensures.steps.1 in
           let short = ap length steps in
           omega arith,
-      λ came limit none kept.
-          let left = at.invariant.2 came limit none kept in
-          more_left m p k came limit c.args.desk.now at.yielded guest at.seats c.leave_one.new.seats at.desk c.leave_one.new.desk left
-          (c.in_ok-leave_one.ensures.left came limit
-          (next_kept m p k came limit c.args.desk.now at.yielded (into_iter_items c.next.new.self) c.args.guests.items guest at.seats at.desk
-          parts kept left))
-          c.in_ok-leave_one.ensures.others,
+      λ cames limit none kept.
+          let left = at.invariant.2 cames limit none kept in
+          let next = next_place m p k cames limit c.args.desk.now at.yielded (into_iter_items c.next.new.self) c.args.guests.items guest parts kept in
+          more_left m p k cames limit next.0 c.args.desk.now at.yielded guest at.seats at.desk next.1 left c.leave_one.new.seats
+          (c.in_ok-leave_one.ensures.left next.0 limit
+          (next_kept m p k cames limit next.0 c.args.desk.now at.yielded guest at.seats at.desk next.1 left (into_iter_items c.next.new.self)
+          c.args.guests.items parts kept))
+          c.leave_one.new.desk c.in_ok-leave_one.ensures.others,
     )
 
 pub returns : goal.returns
-returns g c came limit none kept =
+returns g c cames limit none kept =
     let m = either g.N.Mechanism.REQUESTS g.N.Mechanism.meaning g.K.Mechanism.meaning in
     let p = g.C.CredentialsProxy.meaning in
     let k = kdc_calls g.D.Kdc.told g.D.Kdc.asked g.D.Kdc.faults in
@@ -49,4 +50,5 @@ returns g c came limit none kept =
     let ended = c.in-None.ensures.steps in
     let empty : into_iter_items at.guest-iterator ≡ [] = nothing_left _ (sym at.invariant.1 ∙ ended.0) in
     let all : at.yielded ≡ c.args.guests.items = sym (append-nil at.yielded) ∙ rw empty at at.invariant.0 in
-    (subst (λ l. HaveLeft m p k came limit c.args.desk.now (length l) at.seats at.desk) all (at.invariant.2 came limit none kept)).seats_are
+    all_left m p k cames limit c.args.desk.now c.args.guests.items at.seats at.desk kept
+    (subst (λ l. HaveLeft m p k cames limit c.args.desk.now (length l) at.seats at.desk) all (at.invariant.2 cames limit none kept))

@@ -1,4 +1,4 @@
-use Rattle.std.proofs.Common.{◌≡◌, ℕ, ◌++◌, [], length}
+use Rattle.std.proofs.Common.{◌≡◌, ℕ, List, ◌++◌, [], length}
 use Rattle.std.specs.Vec.Iter.{into_iter_items, into_iter_len}
 use Rattle.sspi_credssp.specs.Context.{either}
 use Rattle.sspi_credssp.specs.declared.context.SspiContext.{SspiContext}
@@ -15,5 +15,5 @@ invariant-loop-guest g l =
     let k = kdc_calls g.D.Kdc.told g.D.Kdc.asked g.D.Kdc.faults in
     (l.yielded ++ into_iter_items l.guest-iterator ≡ l.fn.guests.items)
     × (into_iter_len l.guest-iterator ≡ length (into_iter_items l.guest-iterator))
-    × ((came : Place (SspiContext g.row.N.Denot g.row.K.Denot) g.row.C.Denot g.row.D.Denot) (limit : ℕ) → l.fn.seats ≡ [] →
-    AreKept m p k came limit l.fn.guests.items l.fn.desk → HaveLeft m p k came limit l.fn.desk (length l.yielded) l.seats l.desk)
+    × ((cames : List (Place (SspiContext g.row.N.Denot g.row.K.Denot) g.row.C.Denot g.row.D.Denot)) (limit : ℕ) → l.fn.seats ≡ [] →
+    AreKept m p k cames limit l.fn.guests.items l.fn.desk → HaveLeft m p k cames limit l.fn.desk (length l.yielded) l.seats l.desk)

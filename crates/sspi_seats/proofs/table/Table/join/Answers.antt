@@ -1,17 +1,15 @@
-use Rattle.sspi_desk.specs.Desk.{IsAdmitted}
 use Rattle.sspi_credssp.specs.Context.{either}
 use Rattle.sspi_delegate.specs.Asking.{kdc_calls}
-use Rattle.sspi_seats.specs.Guest.{IsNew}
+use Rattle.sspi_seats.specs.Seat.{place}
 use Rattle.sspi_seats.proofs.Speaking.{kept_done}
 use Rattle.sspi_seats.proofs.Seating.{joined}
 use Rattle.sspi_seats.proofs.table.Table.join.Goals as goal
 
 pub returns-in-Ok-clause-seated : goal.returns-in-Ok-clause-seated
-returns-in-Ok-clause-seated g c came count is seated =
+returns-in-Ok-clause-seated g c cames seated =
     let m = either g.N.Mechanism.REQUESTS g.N.Mechanism.meaning g.K.Mechanism.meaning in
     let p = g.C.CredentialsProxy.meaning in
     let k = kdc_calls g.D.Kdc.told g.D.Kdc.asked g.D.Kdc.faults in
-    let new_is : IsNew came.client came.kdc c.new.result = rw is c.new.ensures in
-    let admitted : IsAdmitted came.server c.in-Ok.field-0 c.args.self.now.desk c.admit.new.self = rw is c.in-Ok.ensures in
-    kept_done c.push_one.result (λ added. joined m p k came count c.in-Ok.field-0 c.new.result c.args.self.now
-    (record c.args.self.now { desk = c.admit.new.self; guests = c.push_one.new.all }) seated new_is admitted added) c.push_one.ensures
+    kept_done c.push_one.result (λ added. joined m p k cames (place c.args.client c.args.kdc c.args.server) c.in-Ok.field-0 c.new.result
+    c.args.self.now (record c.args.self.now { desk = c.admit.new.self; guests = c.push_one.new.all }) seated c.new.ensures c.in-Ok.ensures added)
+    c.push_one.ensures

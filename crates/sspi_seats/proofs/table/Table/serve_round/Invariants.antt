@@ -1,4 +1,4 @@
-use Rattle.std.proofs.Common.{◌≡◌, ℕ, ◌+◌}
+use Rattle.std.proofs.Common.{◌≡◌, ℕ, ◌+◌, List}
 use Rattle.sspi_credssp.specs.Context.{either}
 use Rattle.sspi_credssp.specs.declared.context.SspiContext.{SspiContext}
 use Rattle.sspi_delegate.specs.Asking.{kdc_calls}
@@ -10,6 +10,6 @@ abbrev pub invariant-loop-at : goal.invariant-loop-at
 invariant-loop-at g l =
     let c = either g.N.Mechanism.REQUESTS g.N.Mechanism.meaning g.K.Mechanism.meaning in
     let k = kdc_calls g.D.Kdc.told g.D.Kdc.asked g.D.Kdc.faults in
-    (came : Place (SspiContext g.row.N.Denot g.row.K.Denot) g.row.C.Denot g.row.D.Denot) (count rounds : ℕ) → l.turn ≡ rounds + 1 →
-    AreVisited c g.C.CredentialsProxy.meaning k came count rounds 0 l.fn.self →
-    AreVisited c g.C.CredentialsProxy.meaning k came count rounds l.at l.self
+    (cames : List (Place (SspiContext g.row.N.Denot g.row.K.Denot) g.row.C.Denot g.row.D.Denot)) (rounds : ℕ) → l.turn ≡ rounds + 1 →
+    AreVisited c g.C.CredentialsProxy.meaning k cames rounds 0 l.fn.self →
+    AreVisited c g.C.CredentialsProxy.meaning k cames rounds l.at l.self
