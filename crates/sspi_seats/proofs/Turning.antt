@@ -1,5 +1,5 @@
 -- A turn of a client at its seat.
-use Rattle.std.proofs.Common.{◌≡◌, ◌≢◌, ℕ, ◌+◌, ◌≤◌, List, [], ◌∷◌, length, reverse, Option, None, Some, Result, refl, sym, ap, ◌∙◌, subst, arith}
+use Rattle.std.proofs.Common.{◌≡◌, ◌≢◌, ℕ, ◌+◌, ◌≤◌, List, [], ◌∷◌, length, reverse, Option, None, Some, Result, refl, sym, ap, subst, arith}
 use Rattle.sspi_types.specs.declared.error.Error.{Error}
 use Rattle.sspi_types.specs.declared.error_kind.ErrorKind.TheVariants as kinds
 use Rattle.sspi_mech.specs.Meaning.{Meaning}
@@ -22,7 +22,7 @@ use Rattle.sspi_desk.specs.declared.answer.Served.{Served}
 use Rattle.sspi_delegate.specs.History.{ClientHistory, ClientStopped}
 use Rattle.sspi_delegate.specs.Recorded.{PushedSuch}
 use Rattle.sspi_delegate.specs.Turns.{AllGoOn, GoesOn, TranscriptView}
-use Rattle.sspi_seats.specs.Guest.{AreClients, IsNew, HasTurned, Runs, IsSpeaking, HasEnded, IsVisited, StandsBy}
+use Rattle.sspi_seats.specs.Guest.{AreClients, IsNew, Runs, IsSpeaking, HasEnded, IsVisited, StandsBy}
 use Rattle.sspi_seats.specs.Messages.{IsNext, AreServed, AreServedButLast}
 use Rattle.sspi_seats.specs.Seat.{Place}
 use Rattle.sspi_seats.specs.Table.{IsKept}

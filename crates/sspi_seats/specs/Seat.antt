@@ -1,5 +1,5 @@
 -- What holds of a seat.
-use Rattle.std.specs.Prelude.{◌≡◌, ℕ, ◌≤◌, List, length, reverse}
+use Rattle.std.specs.Prelude.{ℕ, ◌≤◌, List, length, reverse}
 use Rattle.sspi_mech.specs.Meaning.{Meaning}
 use Rattle.sspi_credssp.specs.declared.context.SspiContext.{SspiContext}
 use Rattle.sspi_credssp.specs.declared.turn.Turn.{Turn}
