@@ -16,7 +16,13 @@ struct Failing {
 }
 
 impl Carrier for Failing {
+    ghost use Rattle.std.specs.Prelude.{◌≡◌};
+
     ghost faults = { λ carrier. carrier.faults };
+
+    ghost sends = { λ before _ _ now. now ≡ before };
+
+    ghost receives = { λ before _ _ now. (now.from ≡ before.from) × (now.faults ≡ before.faults) };
 
     fn send(&mut self, _from: End, _sent: &[u8]) -> Result<(), LinkError> {
         Ok(())
