@@ -213,28 +213,3 @@ fn tag(
     tag.copy_from_slice(&digest[..TAG_LENGTH]);
     tag
 }
-
-#[cfg(test)]
-mod tests {
-    use super::*;
-
-    #[test]
-    fn a_spent_count(rt: HostRuntime) {
-        let mut last = Protection {
-            key: Some([7; 32]),
-            sealed: u64::MAX,
-            unsealed: u64::MAX,
-            signed: u64::MAX,
-            verified: u64::MAX,
-        };
-        let kinds = [
-            last.seal(rt.alloc(), Direction::FromClient, b"").err(),
-            last.unseal(rt.alloc(), Direction::FromClient, b"").err(),
-            last.sign(rt.alloc(), Direction::FromClient, b"").err(),
-            last.verify(Direction::FromClient, b"", b"").err(),
-        ];
-        for error in kinds {
-            assert!(rt; error == Some(Error::new(ErrorKind::ContextExpired, Reason::Spent)));
-        }
-    }
-}
