@@ -150,16 +150,12 @@ impl Ntlm {
         ensures step { Steps (claims self.old (claim_of input.now)) self.old result self.new }
         ensures plain { IfErr result (λ error. error.nstatus ≡ None) }
     {
-        match claim_of(self.alloc, input) {
-            Ok(claim) => {
-                self.stage = Stage::Claimed(claim);
-                Ok(Step {
-                    status: SecurityStatus::CompleteNeeded,
-                    output: Bytes::new(self.alloc),
-                })
-            }
-            Err(error) => Err(error),
-        }
+        let claim = claim_of(self.alloc, input)?;
+        self.stage = Stage::Claimed(claim);
+        Ok(Step {
+            status: SecurityStatus::CompleteNeeded,
+            output: Bytes::new(self.alloc),
+        })
     }
 }
 
@@ -245,13 +241,9 @@ impl Mechanism for Ntlm {
     }
 
     fn set_identities(&mut self, identities: &[Credentials]) -> Result<(), Error> {
-        match self.stage.key(&self.challenge, identities) {
-            Ok(key) => {
-                self.protection.set_key(key);
-                Ok(())
-            }
-            Err(error) => Err(error),
-        }
+        let key = self.stage.key(&self.challenge, identities)?;
+        self.protection.set_key(key);
+        Ok(())
     }
 
     fn seal(&mut self, text: &[u8]) -> Result<Vec<u8>, Error> {
