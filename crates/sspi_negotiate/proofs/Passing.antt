@@ -37,11 +37,6 @@ module _ {N K : Type 0} {n : Meaning Setting N} {k : Meaning Setting K} where
       (rest : Plan) → Meets (hand n k) (p rest) old.mech (Refused error) (values_of new) new.mech
   stopped h rest = h.onward rest
 
-  -- want of memory may come at any place
-  pub short_part : {T : Type 0} {p : Plan → Plan} {v : Values} {old new : Negotiation (NegotiatedProtocol N K)} (error : Error) →
-      error.error_type ≡ InsufficientMemory → Passes {T = T} n k p v old (Err error) new
-  short_part error short = record { onward = λ rest. record { as_planned = λ other. absurd (other short) } }
-
   pub ntlm_taken : {T : Type 0} {x : T} {v : Values} {old new : Negotiation (NegotiatedProtocol N K)} (computer : List ℕ) →
       (hand n k).made (in_place_of_kerberos computer) new.mech → values_of new ≡ v → Passes n k (in_ntlm Kerberos computer) v old (Ok x) new
   ntlm_taken {new = new} computer made same = record { onward = (same, λ rest r v2 m2 after. took new.mech made after) }

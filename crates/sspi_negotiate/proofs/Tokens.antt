@@ -1,41 +1,21 @@
 -- Tokens that are read and written on the way.
-use Rattle.std.proofs.Common.{◌≡◌, ◌≢◌, ℕ, List, true, Option, Some, None, Result, Ok, Err, refl, sym, ap, ◌∙◌, subst, inl, inr}
-use Rattle.std.specs.Global.{Vec}
+use Rattle.std.proofs.Common.{◌≡◌, ◌≢◌, ℕ, List, true, Option, Some, None, Result, Ok, Err, refl, sym, ap, ◌∙◌, subst}
 use Rattle.std.proofs.lemmas.Bool.{false≢true}
 use Rattle.sspi_types.specs.declared.error.Error.{Error}
-use Rattle.sspi_types.specs.declared.error_kind.ErrorKind.TheVariants.{InvalidToken, InternalError, InvalidParameter, InsufficientMemory}
+use Rattle.sspi_types.specs.declared.error_kind.ErrorKind.TheVariants.{InvalidToken, InternalError, InsufficientMemory}
 use Rattle.sspi_types.specs.declared.error_kind.ErrorKind.{ErrorKind}
-use Rattle.sspi_names.specs.Identity.{IsIdentified}
-use Rattle.sspi_names.specs.declared.identity.AuthIdentity.{AuthIdentity}
 use Rattle.sspi_mech.specs.declared.step.Answer.{Answer}
 use Rattle.sspi_mech.specs.declared.step.Answer.TheVariants.{Refused}
 use Rattle.sspi_mech.specs.Meaning.{Meaning}
 use Rattle.sspi_mech.specs.Settings.{Setting}
-use Rattle.sspi_tokens.specs.Answers.{ReadsAs, WritesAs}
+use Rattle.sspi_tokens.specs.Answers.{ReadsAs}
 use Rattle.sspi_negotiate.specs.declared.protocol.NegotiatedProtocol.{NegotiatedProtocol}
 use Rattle.sspi_negotiate.specs.Does.{Meets, Passes}
 use Rattle.sspi_negotiate.specs.Fallback.{is_fallback}
 use Rattle.sspi_negotiate.specs.Hand.{Origin}
 use Rattle.sspi_negotiate.specs.Plan.{Plan, Stops}
 use Rattle.sspi_negotiate.specs.Spelled.{IsSpelled}
-use Rattle.sspi_negotiate.specs.Values.{Values, Negotiation, values_of}
-
--- what `encode` answers, seen as a list
-pub texts : (o : Option (List ℕ)) (x : Vec ℕ) (y : List ℕ) → WritesAs o (Ok x) → y ≡ x.items → IsSpelled o (Ok y)
-texts None x y h same = absurd h
-texts (Some text) x y h same = same ∙ h
-
-pub no_texts : (o : Option (List ℕ)) (error : Error) → WritesAs o (Err error) → IsSpelled o (Err error)
-no_texts None error h = ap (λ e. e.error_type) h
-no_texts (Some text) error h = ap (λ e. e.error_type) h
-
-pub plain_texts : (o : Option (List ℕ)) (error : Error) → WritesAs o (Err error) → error.nstatus ≡ None
-plain_texts None error h = ap (λ e. e.nstatus) h
-plain_texts (Some text) error h = ap (λ e. e.nstatus) h
-
-pub plain_read : {T : Type 0} (o : Option T) (error : Error) → ReadsAs o (Err error) → error.nstatus ≡ None
-plain_read None error h = ap (λ e. e.nstatus) h
-plain_read (Some x) error h = ap (λ e. e.nstatus) h
+use Rattle.sspi_negotiate.specs.Values.{Values, Negotiation}
 
 module _ {M : Type 0} {c : Meaning Origin M} {m : M} where
   pub unread : {v : Values} {T : Type 0} (o : Option T) (plan : Option T → Plan) (error : Error) → plan None ≡ Stops v InvalidToken →
@@ -63,31 +43,7 @@ module _ {M : Type 0} {c : Meaning Origin M} {m : M} where
   spelled None plan x h after = absurd h
   spelled {r = r} {v2 = v2} {m2 = m2} (Some y) plan x h after = subst (λ z. Meets c (plan (Some z)) m r v2 m2) h after
 
--- credentials that are converted
-module _ {M : Type 0} {c : Meaning Origin M} {m : M} where
-  pub unconverted : {v : Values} (o : Option AuthIdentity) (plan : Option AuthIdentity → Plan) (error : Error) →
-      plan None ≡ Stops v InvalidParameter →
-      IsIdentified (Err error) o → Meets c (plan o) m (Refused error) v m
-  unconverted {v = v} o plan error stops (inl h) = subst (λ p. Meets c p m (Refused error) v m) (sym (ap plan h.1 ∙ stops))
-      (record { as_planned = λ other. (ap (λ e. e.error_type) h.0, refl, refl) })
-  unconverted o plan error stops (inr h) = record { as_planned = λ other. absurd (other (ap (λ e. e.error_type) h)) }
-
-  pub converted : {r : Answer} {v2 : Values} {m2 : M} (o : Option AuthIdentity) (plan : Option AuthIdentity → Plan)
-      (identity : AuthIdentity) →
-      IsIdentified (Ok identity) o → Meets c (plan (Some identity)) m r v2 m2 → Meets c (plan o) m r v2 m2
-  converted {r = r} {v2 = v2} {m2 = m2} o plan identity h after = subst (λ x. Meets c (plan x) m r v2 m2) (sym h) after
-
-pub plain_conversion : (o : Option AuthIdentity) (error : Error) → IsIdentified (Err error) o → error.nstatus ≡ None
-plain_conversion o error (inl h) = ap (λ e. e.nstatus) h.0
-plain_conversion o error (inr h) = ap (λ e. e.nstatus) h
-
 module _ {N K : Type 0} {n : Meaning Setting N} {k : Meaning Setting K} where
-  pub unspelled_part : {T : Type 0} (o : Option (List ℕ)) (part : Option (List ℕ) → Plan → Plan)
-      (old : Negotiation (NegotiatedProtocol N K)) (error : Error) →
-      ((rest : Plan) → part None rest ≡ Stops (values_of old) InternalError) → IsSpelled o (Err error) →
-      Passes {T = T} n k (part o) (values_of old) old (Err error) old
-  unspelled_part o part old error stops h = record { onward = λ rest. unspelled o (λ p. part p rest) error (stops rest) h }
-
   pub spelled_part : {T : Type 0} {v : Values} {result : Result T Error} {old new : Negotiation (NegotiatedProtocol N K)}
       (o : Option (List ℕ)) (part : Option (List ℕ) → Plan → Plan) (x : List ℕ) → IsSpelled o (Ok x) →
       Passes n k (part (Some x)) v old result new → Passes n k (part o) v old result new

@@ -76,10 +76,8 @@ impl<N: Mechanism, K: Mechanism> Negotiate<N, K> {
             return Err(Error::new(ErrorKind::NoCredentials, Reason::NoAuthData));
         }
         let kept = buffers_of(self.alloc, auth_data)?;
-        match self.rule_for(auth_data) {
-            Err(error) => Err(error),
-            Ok(()) => self.acquire_in_hand(credential_use, auth_data, kept),
-        }
+        self.rule_for(auth_data)?;
+        self.acquire_in_hand(credential_use, auth_data, kept)
     }
 
     /// Takes Kerberos in the place of NTLM on a client, where a KDC serves the domain of a name with a password.
@@ -117,12 +115,8 @@ impl<N: Mechanism, K: Mechanism> Negotiate<N, K> {
         ensures cause { IfErr result (λ error. error.error_type ≢ ErrorKind.InsufficientMemory →
             (hand N.meaning K.meaning).refuses self.old.mech (ToAcquire credential_use (option_copied auth_data.entry)) error.error_type) }
     {
-        match self.protocol.acquire(credential_use, auth_data) {
-            Err(error) => Err(error),
-            Ok(buffers) => {
-                self.auth_identity = kept;
-                Ok(buffers)
-            }
-        }
+        let buffers = self.protocol.acquire(credential_use, auth_data)?;
+        self.auth_identity = kept;
+        Ok(buffers)
     }
 }

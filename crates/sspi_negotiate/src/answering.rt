@@ -84,10 +84,8 @@ impl<N: Mechanism, K: Mechanism> Negotiate<N, K> {
         ensures unused { StaysUnused N.meaning K.meaning self.old self.new }
         ensures plain { IfErr result (λ error. error.nstatus ≡ None) }
     {
-        match NegTokenTarg::decode(self.alloc, args.input) {
-            Err(error) => Err(error),
-            Ok(token) => self.choose(token, args),
-        }
+        let token = NegTokenTarg::decode(self.alloc, args.input)?;
+        self.choose(token, args)
     }
 
     fn choose(
@@ -159,19 +157,14 @@ impl<N: Mechanism, K: Mechanism> Negotiate<N, K> {
         ensures unused { StaysUnused N.meaning K.meaning self.old self.new }
         ensures plain { IfErr result (λ error. error.nstatus ≡ None) }
     {
-        match NegotiatedProtocol::new_kerberos(
+        self.protocol = NegotiatedProtocol::new_kerberos(
             self.alloc,
             None,
             &self.kdcs,
             &self.client_computer_name,
-        ) {
-            Err(error) => Err(error),
-            Ok(protocol) => {
-                self.protocol = protocol;
-                self.mic_needed = true;
-                self.answer(token, args)
-            }
-        }
+        )?;
+        self.mic_needed = true;
+        self.answer(token, args)
     }
 
     #[tactic(auto, unfolding(crate::specs::Client::chooses_ntlm))]
@@ -211,10 +204,8 @@ impl<N: Mechanism, K: Mechanism> Negotiate<N, K> {
         ensures unused { StaysUnused N.meaning K.meaning self.old self.new }
         ensures plain { IfErr result (λ error. error.nstatus ≡ None) }
     {
-        match self.take_ntlm() {
-            Err(error) => Err(error),
-            Ok(()) => self.answer_in_ntlm(token, args, guest),
-        }
+        self.take_ntlm()?;
+        self.answer_in_ntlm(token, args, guest)
     }
 
     fn answer_in_ntlm(
@@ -306,10 +297,8 @@ impl<N: Mechanism, K: Mechanism> Negotiate<N, K> {
         ensures unused { StaysUnused N.meaning K.meaning self.old self.new }
         ensures plain { IfErr result (λ error. error.nstatus ≡ None) }
     {
-        match self.verify(mic) {
-            Err(error) => Err(error),
-            Ok(()) => self.end_verified(complete, token),
-        }
+        self.verify(mic)?;
+        self.end_verified(complete, token)
     }
 
     fn end_verified(&mut self, complete: bool, token: Bytes) -> Result<Step, Error>
@@ -335,10 +324,8 @@ impl<N: Mechanism, K: Mechanism> Negotiate<N, K> {
         ensures unused { StaysUnused N.meaning K.meaning self.old self.new }
         ensures plain { IfErr result (λ error. error.nstatus ≡ None) }
     {
-        match NegTokenTarg::decode(self.alloc, args.input) {
-            Err(error) => Err(error),
-            Ok(token) => done(self.confirm_by(token)),
-        }
+        let token = NegTokenTarg::decode(self.alloc, args.input)?;
+        done(self.confirm_by(token))
     }
 
     fn confirm_by(&mut self, token: NegTokenTarg) -> Result<Step, Error>
@@ -378,10 +365,8 @@ impl<N: Mechanism, K: Mechanism> Negotiate<N, K> {
         ensures unused { StaysUnused N.meaning K.meaning self.old self.new }
         ensures plain { IfErr result (λ error. error.nstatus ≡ None) }
     {
-        match self.verify(mic) {
-            Err(error) => Err(error),
-            Ok(()) => self.end(),
-        }
+        self.verify(mic)?;
+        self.end()
     }
 
     /// Goes on with the step that was suspended, once it is known what came of its request.

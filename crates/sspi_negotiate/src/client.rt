@@ -105,10 +105,8 @@ impl<N: Mechanism, K: Mechanism> Negotiate<N, K> {
         ensures first { self.old.state ≡ states.Initial → StaysUnmarked N.meaning K.meaning self.old self.new }
         ensures plain { IfErr result (λ error. error.nstatus ≡ None) }
     {
-        match self.take_ntlm() {
-            Err(error) => Err(error),
-            Ok(()) => self.disable_kerberos(args),
-        }
+        self.take_ntlm()?;
+        self.disable_kerberos(args)
     }
 
     fn disable_kerberos(
@@ -156,10 +154,8 @@ impl<N: Mechanism, K: Mechanism> Negotiate<N, K> {
         ensures first { self.old.state ≡ states.Initial → StaysUnmarked N.meaning K.meaning self.old self.new }
         ensures plain { IfErr result (λ error. error.nstatus ≡ None) }
     {
-        match AuthIdentity::from_buffers(self.alloc, buffers) {
-            Err(error) => Err(error),
-            Ok(identity) => self.keep(&identity, args),
-        }
+        let identity = AuthIdentity::from_buffers(self.alloc, buffers)?;
+        self.keep(&identity, args)
     }
 
     fn keep(
@@ -193,10 +189,8 @@ impl<N: Mechanism, K: Mechanism> Negotiate<N, K> {
         ensures first { self.old.state ≡ states.Initial → StaysUnmarked N.meaning K.meaning self.old self.new }
         ensures plain { IfErr result (λ error. error.nstatus ≡ None) }
     {
-        match self.take_by_rule(name) {
-            Err(error) => Err(error),
-            Ok(()) => self.step_at(args),
-        }
+        self.take_by_rule(name)?;
+        self.step_at(args)
     }
 
     #[tactic(auto, unfolding(crate::specs::Client::client_at))]

@@ -32,10 +32,8 @@ impl<N: Mechanism, K: Mechanism> Negotiate<N, K> {
         ensures cause { IfErr result (λ error. error.error_type ≢ ErrorKind.InsufficientMemory →
             (negotiate N.REQUESTS N.meaning K.meaning).refuses self.now ToName error.error_type) }
     {
-        match self.protocol.names() {
-            Ok(username) => Ok(ContextNames { username }),
-            Err(error) => Err(error),
-        }
+        let username = self.protocol.names()?;
+        Ok(ContextNames { username })
     }
 
     /// Tells a server which identity its peer may have. `IncompleteCredentials` exactly for a keytab with NTLM in hand; else

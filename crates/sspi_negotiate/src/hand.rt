@@ -70,10 +70,8 @@ impl<N: Mechanism, K: Mechanism> NegotiatedProtocol<N, K> {
         ensures err { IfErr result (λ error. error ≡ memory_error) }
     {
         let config = NtlmConfig::new(client_computer_name.clone(alloc)?);
-        match N::make(alloc, &MechConfig::Ntlm(&config)) {
-            Ok(ntlm) => Ok(NegotiatedProtocol::Ntlm(ntlm)),
-            Err(error) => Err(error),
-        }
+        let ntlm = N::make(alloc, &MechConfig::Ntlm(&config))?;
+        Ok(NegotiatedProtocol::Ntlm(ntlm))
     }
 
     /// A Kerberos that takes the place of an NTLM.
@@ -90,10 +88,8 @@ impl<N: Mechanism, K: Mechanism> NegotiatedProtocol<N, K> {
         ensures err { IfErr result (λ error. error ≡ memory_error) }
     {
         let config = kerberos_config(alloc, kdc_url, kdcs, client_computer_name)?;
-        match K::make(alloc, &MechConfig::Kerberos(&config)) {
-            Ok(kerberos) => Ok(NegotiatedProtocol::Kerberos(kerberos)),
-            Err(error) => Err(error),
-        }
+        let kerberos = K::make(alloc, &MechConfig::Kerberos(&config))?;
+        Ok(NegotiatedProtocol::Kerberos(kerberos))
     }
 
     pub(crate) fn acquire(

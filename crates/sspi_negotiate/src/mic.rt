@@ -57,10 +57,8 @@ fn sign_with<N: Mechanism, K: Mechanism>(
     ensures cause { IfErr result (λ error. error.error_type ≢ ErrorKind.InsufficientMemory →
         (hand N.meaning K.meaning).refuses protocol.old (ToSign text.now) error.error_type) }
 {
-    match protocol.generate_mic_token(text.as_slice()) {
-        Err(error) => Err(error),
-        Ok(mic) => Ok(Bytes::from_vec(mic)),
-    }
+    let mic = protocol.generate_mic_token(text.as_slice())?;
+    Ok(Bytes::from_vec(mic))
 }
 
 impl<N: Mechanism, K: Mechanism> Negotiate<N, K> {
@@ -72,10 +70,8 @@ impl<N: Mechanism, K: Mechanism> Negotiate<N, K> {
         ensures picked { StaysPicked (values_of self.old) (values_of self.new) }
         ensures plain { IfErr result (λ error. error.nstatus ≡ None) }
     {
-        match self.identify() {
-            Err(error) => Err(error),
-            Ok(()) => self.verify(mic),
-        }
+        self.identify()?;
+        self.verify(mic)
     }
 
     fn identify(&mut self) -> Result<(), Error>
@@ -85,10 +81,8 @@ impl<N: Mechanism, K: Mechanism> Negotiate<N, K> {
         ensures picked { StaysPicked (values_of self.old) (values_of self.new) }
         ensures plain { IfErr result (λ error. error.nstatus ≡ None) }
     {
-        match self.protocol.names() {
-            Err(error) => Err(error),
-            Ok(name) => self.identify_as(&name),
-        }
+        let name = self.protocol.names()?;
+        self.identify_as(&name)
     }
 
     fn identify_as(&mut self, name: &Username) -> Result<(), Error>
@@ -127,10 +121,8 @@ impl<N: Mechanism, K: Mechanism> Negotiate<N, K> {
         ensures picked { StaysPicked (values_of self.old) (values_of self.new) }
         ensures plain { IfErr result (λ error. error.nstatus ≡ None) }
     {
-        match spelled_list(self.alloc, &self.mech_types) {
-            Err(error) => Err(error),
-            Ok(text) => self.verify_over(mic, &text),
-        }
+        let text = spelled_list(self.alloc, &self.mech_types)?;
+        self.verify_over(mic, &text)
     }
 
     fn verify_over(&mut self, mic: &Bytes, text: &Bytes) -> Result<(), Error>
@@ -161,10 +153,8 @@ impl<N: Mechanism, K: Mechanism> Negotiate<N, K> {
         ensures picked { StaysPicked (values_of self.old) (values_of self.new) }
         ensures plain { IfErr result (λ error. error.nstatus ≡ None) }
     {
-        match spelled_list(self.alloc, &self.mech_types) {
-            Err(error) => Err(error),
-            Ok(text) => self.answer_over(result_field, state, status, token, &text),
-        }
+        let text = spelled_list(self.alloc, &self.mech_types)?;
+        self.answer_over(result_field, state, status, token, &text)
     }
 
     fn answer_over(
@@ -183,18 +173,14 @@ impl<N: Mechanism, K: Mechanism> Negotiate<N, K> {
         ensures picked { StaysPicked (values_of self.old) (values_of self.new) }
         ensures plain { IfErr result (λ error. error.nstatus ≡ None) }
     {
-        match sign_with(&mut self.protocol, text) {
-            Err(error) => Err(error),
-            Ok(mic) => {
-                let token = NegTokenTarg {
-                    neg_result: Some(result_field),
-                    supported_mech: None,
-                    response_token: if_some(token),
-                    mech_list_mic: Some(mic),
-                };
-                self.write(&token, self.mic_needed, state, status)
-            }
-        }
+        let mic = sign_with(&mut self.protocol, text)?;
+        let token = NegTokenTarg {
+            neg_result: Some(result_field),
+            supported_mech: None,
+            response_token: if_some(token),
+            mech_list_mic: Some(mic),
+        };
+        self.write(&token, self.mic_needed, state, status)
     }
 
     /// Both MICs are made.

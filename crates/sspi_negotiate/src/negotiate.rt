@@ -120,13 +120,8 @@ impl<N: Mechanism, K: Mechanism> Negotiate<N, K> {
         ensures unmarked { StaysUnmarked N.meaning K.meaning self.old self.new }
         ensures plain { IfErr result (λ error. error.nstatus ≡ None) }
     {
-        match NegotiatedProtocol::new_ntlm(self.alloc, &self.client_computer_name) {
-            Err(error) => Err(error),
-            Ok(protocol) => {
-                self.protocol = protocol;
-                Ok(())
-            }
-        }
+        self.protocol = NegotiatedProtocol::new_ntlm(self.alloc, &self.client_computer_name)?;
+        Ok(())
     }
 
     /// Ends a step with this token.
@@ -146,14 +141,10 @@ impl<N: Mechanism, K: Mechanism> Negotiate<N, K> {
         ensures picked { StaysPicked (values_of self.old) (values_of self.new) }
         ensures plain { IfErr result (λ error. error.nstatus ≡ None) }
     {
-        match spelled_targ(self.alloc, token) {
-            Err(error) => Err(error),
-            Ok(output) => {
-                self.mic_needed = need;
-                self.state = state;
-                Ok(Step { status, output })
-            }
-        }
+        let output = spelled_targ(self.alloc, token)?;
+        self.mic_needed = need;
+        self.state = state;
+        Ok(Step { status, output })
     }
 
     /// The negotiation is over.

@@ -129,10 +129,7 @@ fn begin<N: Mechanism, K: Mechanism>(
         IsUnmade (first_in_hand role config.now) error.error_type) }
 {
     let packages = packages_in(config);
-    let protocol = match make_first(alloc, role, config, packages) {
-        Err(error) => return Err(error),
-        Ok(protocol) => protocol,
-    };
+    let protocol = make_first(alloc, role, config, packages)?;
     let client_computer_name = config.client_computer_name.clone(alloc)?;
     let kdcs = config.kdcs.clone(alloc)?;
     Ok(Negotiate {

@@ -29,10 +29,7 @@ use sspi_types::{Bytes, DataRepresentation, Error, ErrorKind, Reason, SecuritySt
 pub(crate) fn done(ended: Result<Step, Error>) -> Result<Progressing, Error>
     ensures { answer_of result ≡ told ended }
 {
-    match ended {
-        Ok(step) => Ok(Progressing::Done(step)),
-        Err(error) => Err(error),
-    }
+    Ok(Progressing::Done(ended?))
 }
 
 /// The step of the mechanism in hand.
@@ -160,17 +157,13 @@ impl<N: Mechanism, K: Mechanism> Negotiate<N, K> {
             mech_types: Some(list.clone(self.alloc)?),
             mech_token: Some(token),
         };
-        match spelled_init(self.alloc, &token) {
-            Err(error) => Err(error),
-            Ok(output) => {
-                self.mech_types = list;
-                self.state = NegotiateState::InProgress;
-                Ok(Step {
-                    status: SecurityStatus::ContinueNeeded,
-                    output,
-                })
-            }
-        }
+        let output = spelled_init(self.alloc, &token)?;
+        self.mech_types = list;
+        self.state = NegotiateState::InProgress;
+        Ok(Step {
+            status: SecurityStatus::ContinueNeeded,
+            output,
+        })
     }
 
     /// Whether NTLM takes the place of Kerberos after this refusal.

@@ -29,21 +29,17 @@ impl ProtocolConfig {
         ensures err { IfErr result (λ error. error ≡ memory_error) }
     {
         match self {
-            ProtocolConfig::Ntlm(config) => match N::make(alloc, &MechConfig::Ntlm(config)) {
-                Ok(ntlm) => Ok(NegotiatedProtocol::Ntlm(ntlm)),
-                Err(error) => Err(error),
-            },
+            ProtocolConfig::Ntlm(config) => {
+                let ntlm = N::make(alloc, &MechConfig::Ntlm(config))?;
+                Ok(NegotiatedProtocol::Ntlm(ntlm))
+            }
             ProtocolConfig::Kerberos(config) => {
-                match K::make(alloc, &MechConfig::Kerberos(config)) {
-                    Ok(kerberos) => Ok(NegotiatedProtocol::Kerberos(kerberos)),
-                    Err(error) => Err(error),
-                }
+                let kerberos = K::make(alloc, &MechConfig::Kerberos(config))?;
+                Ok(NegotiatedProtocol::Kerberos(kerberos))
             }
             ProtocolConfig::KerberosServer(config, server) => {
-                match K::make(alloc, &MechConfig::KerberosServer(config, server)) {
-                    Ok(kerberos) => Ok(NegotiatedProtocol::Kerberos(kerberos)),
-                    Err(error) => Err(error),
-                }
+                let kerberos = K::make(alloc, &MechConfig::KerberosServer(config, server))?;
+                Ok(NegotiatedProtocol::Kerberos(kerberos))
             }
         }
     }

@@ -47,18 +47,13 @@ impl<N: Mechanism, K: Mechanism> Negotiate<N, K> {
         match self.rule_url(name) {
             None => Ok(()),
             Some(url) => {
-                match NegotiatedProtocol::new_kerberos(
+                self.protocol = NegotiatedProtocol::new_kerberos(
                     self.alloc,
                     Some(url),
                     &self.kdcs,
                     &self.client_computer_name,
-                ) {
-                    Err(error) => Err(error),
-                    Ok(protocol) => {
-                        self.protocol = protocol;
-                        Ok(())
-                    }
-                }
+                )?;
+                Ok(())
             }
         }
     }

@@ -117,10 +117,8 @@ impl<N: Mechanism, K: Mechanism> Negotiate<N, K> {
         ensures unmarked { StaysUnmarked N.meaning K.meaning self.old self.new }
         ensures plain { IfErr result (λ error. error.nstatus ≡ None) }
     {
-        match NegTokenInit::decode(self.alloc, args.input) {
-            Err(error) => Err(error),
-            Ok(token) => self.read_list(token.mech_types, token.mech_token, args),
-        }
+        let token = NegTokenInit::decode(self.alloc, args.input)?;
+        self.read_list(token.mech_types, token.mech_token, args)
     }
 
     #[tactic(auto, unfolding(crate::specs::Server::reads_list))]
@@ -206,10 +204,8 @@ impl<N: Mechanism, K: Mechanism> Negotiate<N, K> {
         ensures unmarked { StaysUnmarked N.meaning K.meaning self.old self.new }
         ensures plain { IfErr result (λ error. error.nstatus ≡ None) }
     {
-        match self.take_ntlm() {
-            Err(error) => Err(error),
-            Ok(()) => self.place(picked, token, args),
-        }
+        self.take_ntlm()?;
+        self.place(picked, token, args)
     }
 
     #[tactic(auto, unfolding(crate::specs::Server::placed))]
@@ -324,10 +320,8 @@ impl<N: Mechanism, K: Mechanism> Negotiate<N, K> {
         ensures unmarked { StaysUnmarked N.meaning K.meaning self.old self.new }
         ensures plain { IfErr result (λ error. error.nstatus ≡ None) }
     {
-        match accept_with(&mut self.protocol, args, &token) {
-            Err(error) => Err(error),
-            Ok(step) => self.decide_need(picked, step, args),
-        }
+        let step = accept_with(&mut self.protocol, args, &token)?;
+        self.decide_need(picked, step, args)
     }
 
     fn decide_need(

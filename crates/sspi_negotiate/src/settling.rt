@@ -28,10 +28,8 @@ impl<N: Mechanism, K: Mechanism> Negotiate<N, K> {
         ensures picked { StaysPicked (values_of self.old) (values_of self.new) }
         ensures plain { IfErr result (λ error. error.nstatus ≡ None) }
     {
-        match NegTokenTarg::decode(self.alloc, args.input) {
-            Err(error) => Err(error),
-            Ok(token) => self.take_response(token, args),
-        }
+        let token = NegTokenTarg::decode(self.alloc, args.input)?;
+        self.take_response(token, args)
     }
 
     fn take_response(
@@ -48,10 +46,8 @@ impl<N: Mechanism, K: Mechanism> Negotiate<N, K> {
         ensures picked { StaysPicked (values_of self.old) (values_of self.new) }
         ensures plain { IfErr result (λ error. error.nstatus ≡ None) }
     {
-        match accept_with(&mut self.protocol, args, &token.response_token) {
-            Err(error) => Err(error),
-            Ok(step) => self.respond(token, step),
-        }
+        let step = accept_with(&mut self.protocol, args, &token.response_token)?;
+        self.respond(token, step)
     }
 
     fn respond(&mut self, token: NegTokenTarg, step: Step) -> Result<Step, Error>
@@ -100,10 +96,8 @@ impl<N: Mechanism, K: Mechanism> Negotiate<N, K> {
         ensures picked { StaysPicked (values_of self.old) (values_of self.new) }
         ensures plain { IfErr result (λ error. error.nstatus ≡ None) }
     {
-        match self.check(mic) {
-            Err(error) => Err(error),
-            Ok(()) => self.complete_signed(token),
-        }
+        self.check(mic)?;
+        self.complete_signed(token)
     }
 
     #[tactic(auto, unfolding(crate::specs::Server::without_mic))]
@@ -129,10 +123,8 @@ impl<N: Mechanism, K: Mechanism> Negotiate<N, K> {
         ensures picked { StaysPicked (values_of self.old) (values_of self.new) }
         ensures plain { IfErr result (λ error. error.nstatus ≡ None) }
     {
-        match self.protocol.names() {
-            Err(error) => Err(error),
-            Ok(name) => self.excuse_name(token, &name),
-        }
+        let name = self.protocol.names()?;
+        self.excuse_name(token, &name)
     }
 
     fn excuse_name(&mut self, token: Bytes, name: &Username) -> Result<Step, Error>
@@ -158,10 +150,8 @@ impl<N: Mechanism, K: Mechanism> Negotiate<N, K> {
         ensures picked { StaysPicked (values_of self.old) (values_of self.new) }
         ensures plain { IfErr result (λ error. error.nstatus ≡ None) }
     {
-        match NegTokenTarg::decode(self.alloc, args.input) {
-            Err(error) => Err(error),
-            Ok(token) => self.take_last(token.mech_list_mic),
-        }
+        let token = NegTokenTarg::decode(self.alloc, args.input)?;
+        self.take_last(token.mech_list_mic)
     }
 
     fn take_last(&mut self, mic: Option<Bytes>) -> Result<Step, Error>
@@ -187,9 +177,7 @@ impl<N: Mechanism, K: Mechanism> Negotiate<N, K> {
         ensures picked { StaysPicked (values_of self.old) (values_of self.new) }
         ensures plain { IfErr result (λ error. error.nstatus ≡ None) }
     {
-        match self.check(mic) {
-            Err(error) => Err(error),
-            Ok(()) => self.end(),
-        }
+        self.check(mic)?;
+        self.end()
     }
 }

@@ -10,20 +10,16 @@ pub(crate) fn spelled_init(alloc: Global, token: &NegTokenInit) -> Result<Bytes,
     ensures text { IsSpelled (spelled_init token.now) result }
     ensures plain { IfErr result (λ error. error.nstatus ≡ None) }
 {
-    match token.encode(alloc) {
-        Ok(text) => Ok(Bytes::from_vec(text)),
-        Err(error) => Err(error),
-    }
+    let text = token.encode(alloc)?;
+    Ok(Bytes::from_vec(text))
 }
 
 pub(crate) fn spelled_targ(alloc: Global, token: &NegTokenTarg) -> Result<Bytes, Error>
     ensures text { IsSpelled (spelled_targ token.now) result }
     ensures plain { IfErr result (λ error. error.nstatus ≡ None) }
 {
-    match token.encode(alloc) {
-        Ok(text) => Ok(Bytes::from_vec(text)),
-        Err(error) => Err(error),
-    }
+    let text = token.encode(alloc)?;
+    Ok(Bytes::from_vec(text))
 }
 
 /// The text over which MICs are made.
@@ -31,8 +27,6 @@ pub(crate) fn spelled_list(alloc: Global, list: &MechTypeList) -> Result<Bytes, 
     ensures text { IsSpelled (spelled_list list.now) result }
     ensures plain { IfErr result (λ error. error.nstatus ≡ None) }
 {
-    match encode_mech_types(alloc, list) {
-        Ok(text) => Ok(Bytes::from_vec(text)),
-        Err(error) => Err(error),
-    }
+    let text = encode_mech_types(alloc, list)?;
+    Ok(Bytes::from_vec(text))
 }

@@ -7,12 +7,14 @@ use Rattle.sspi_negotiate.specs.Pick.{offered}
 use Rattle.sspi_negotiate.specs.Rows.{written}
 use Rattle.sspi_negotiate.specs.Values.{values_of}
 use Rattle.sspi_negotiate.proofs.Tokens.{unspelled}
+use Rattle.std.proofs.lemmas.Result.{err_from_is_err_and}
 use Rattle.sspi_negotiate.proofs.negotiate.Negotiate.offer.Goals as goal
 
-pub returns-in-Err-clause-step : goal.returns-in-Err-clause-step
+pub returns-in_err-output-clause-step : goal.returns-in_err-output-clause-step
 unfolding offers
-returns-in-Err-clause-step g c =
+returns-in_err-output-clause-step g c =
+    let p = err_from_is_err_and c.from_residual-in_err-output.result c.from_residual-in_err-output.ensures.1 in
     let v = values_of c.args.self.now in
     let list = offered v.hand v.packages in
-    unspelled (spelled_init (record { mech_types = Some list; mech_token = Some c.args.token }))
-    (λ o. written o v (record v { state = states.InProgress; list = list }) statuses.ContinueNeeded) c.in-Err.error refl (search rules)
+    rw (p.1, p.2) (unspelled (spelled_init (record { mech_types = Some list; mech_token = Some c.args.token }))
+    (λ o. written o v (record v { state = states.InProgress; list = list }) statuses.ContinueNeeded) _ refl (search rules))

@@ -4,6 +4,6 @@ use Rattle.sspi_negotiate.specs.Values.{values_of}
 use Rattle.sspi_negotiate.proofs.Passing.{ruled_met}
 use Rattle.sspi_negotiate.proofs.negotiate.Negotiate.rule.Goals as goal
 
-pub returns-in-Ok-clause-step : goal.returns-in-Ok-clause-step
-returns-in-Ok-clause-step g c = ruled_met {m1 = c.take_by_rule.new.self.mech} (rule_url (values_of c.args.self.now) c.args.name.now) _ _
+pub returns-clause-step : goal.returns-clause-step
+returns-clause-step g c = ruled_met {m1 = c.take_by_rule.new.self.mech} (rule_url (values_of c.args.self.now) c.args.name.now) _ _
     (search rules) (search rules)
