@@ -18,8 +18,8 @@ use Rattle.sspi_credssp.specs.Begun.{BeginCause}
 use Rattle.sspi_credssp.specs.Client.{ClientSettings, ClientView}
 use Rattle.sspi_credssp.specs.ClientCause.{ClientCause, StateCause, DeliverCause, BlobOpens, OpenedCause, CheckedCause, SealsCause}
 use Rattle.sspi_credssp.specs.ClientCause.{altered, unsealed}
-use Rattle.sspi_credssp.specs.ClientTurn.{StartsUnused, OnceNegotiated, client_frame, client_turn}
-use Rattle.sspi_credssp.specs.Turn.{ClientFrame}
+use Rattle.sspi_credssp.specs.ClientTurn.{StartsUnused, client_frame, client_turn}
+use Rattle.sspi_credssp.specs.Turn.{ClientFrame, OnceNegotiated}
 use Rattle.sspi_credssp.specs.Context.{ContextSetting, ForClient}
 use Rattle.sspi_credssp.specs.Counts.{sealed_in, unsealed_in, SealsIn, SameBut, cleared}
 use Rattle.sspi_credssp.specs.Credentials.{delegated_text, IfText}

@@ -16,7 +16,8 @@ use Rattle.sspi_credssp.specs.Exchange.{OpensIdentity, opens_identity, BlobStops
 use Rattle.sspi_credssp.specs.Proxy.{ProxyMeaning}
 use Rattle.sspi_credssp.specs.Server.{ServerView}
 use Rattle.sspi_credssp.specs.ServerCause.{UnreadCause, unread, OpenedCause}
-use Rattle.sspi_credssp.specs.ServerTurn.{StartsUnused, OnceNegotiated, HoldsIdentity, server_frame, server_turn}
+use Rattle.sspi_credssp.specs.ServerTurn.{StartsUnused, HoldsIdentity, server_frame, server_turn}
+use Rattle.sspi_credssp.specs.Turn.{OnceNegotiated}
 use Rattle.sspi_credssp.specs.Shown.{MayCheck, ShowsStateBack, server_shown}
 use Rattle.sspi_credssp.specs.declared.turn.Outcome.{Outcome}
 use Rattle.sspi_credssp.specs.declared.turn.Outcome.TheVariants as outcome

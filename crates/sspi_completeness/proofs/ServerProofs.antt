@@ -27,9 +27,9 @@ use Rattle.sspi_credssp.specs.ServerCause.{IdentifyCause, OverCause, unknown, in
 use Rattle.sspi_credssp.specs.ServerCause.{BlobCause, ProofCause, AnswerCause, altered, unsealed, lacks_nonce}
 use Rattle.sspi_credssp.specs.ServerStep.{Unknown, Identified, Completed}
 use Rattle.sspi_credssp.specs.Noted.{noted_with}
-use Rattle.sspi_credssp.specs.ServerTurn.{StartsUnused, OnceNegotiated, ServerTurn, after_status, server_frame, server_turn}
+use Rattle.sspi_credssp.specs.ServerTurn.{StartsUnused, ServerTurn, after_status, server_frame, server_turn}
 use Rattle.sspi_credssp.specs.Shown.{IsOver, ShowsOver, ShowsProofBack, ShowsStateBack, server_shown}
-use Rattle.sspi_credssp.specs.Turn.{AtNoted}
+use Rattle.sspi_credssp.specs.Turn.{AtNoted, OnceNegotiated}
 use Rattle.sspi_mech.specs.Calls.{ToComplete}
 use Rattle.sspi_credssp.specs.declared.turn.Outcome.{Outcome}
 use Rattle.sspi_credssp.specs.declared.turn.Outcome.TheVariants as outcome

@@ -13,9 +13,10 @@ use Rattle.sspi_credssp.specs.declared.state.CredSspState.{CredSspState}
 use Rattle.sspi_credssp.specs.declared.state.CredSspState.TheVariants.{NegoToken}
 use Rattle.sspi_credssp.specs.Begun.{IfContext}
 use Rattle.sspi_credssp.specs.Client.{ClientView}
-use Rattle.sspi_credssp.specs.ClientTurn.{IsReady, OnceNegotiated, StartsUnused}
+use Rattle.sspi_credssp.specs.ClientTurn.{IsReady, StartsUnused}
 use Rattle.sspi_credssp.specs.Context.{ContextSetting}
 use Rattle.sspi_credssp.specs.Counts.{IsUnusedIn, sealed_in, unsealed_in}
+use Rattle.sspi_credssp.specs.Turn.{OnceNegotiated}
 
 pub not_yet : (s : CredSspState) (P : Type 0) → s ≡ NegoToken → OnceNegotiated s P
 not_yet s P e = subst (λ x. OnceNegotiated x P) (sym e) tt

@@ -1,9 +1,9 @@
 -- What credentials and their texts are to the two ends; no refusal of them has an NTSTATUS code.
-use Rattle.std.proofs.Common.{◌≡◌, ◌≢◌, ◌⊎◌, inl, inr, ◌∙◌, ℕ, List, None, Some, Ok, Err, refl, sym, ap}
+use Rattle.std.proofs.Common.{◌≡◌, ◌≢◌, ◌⊎◌, inl, inr, ◌∙◌, ℕ, List, None, Result, Ok, Err, IfOk, IfErr, refl, sym, ap}
 use Rattle.sspi_types.specs.declared.error.Error.{Error}
 use Rattle.sspi_types.specs.declared.error_kind.ErrorKind.TheVariants.{InsufficientMemory}
 use Rattle.sspi_types.specs.Memory.{memory_error}
-use Rattle.sspi_names.specs.Identity.{identity_of}
+use Rattle.sspi_names.specs.Identity.{identity_of, IsIdentified}
 use Rattle.sspi_names.specs.declared.credentials.Credentials.{Credentials}
 use Rattle.sspi_names.specs.declared.credentials.CredentialsBuffers.{CredentialsBuffers}
 use Rattle.sspi_names.specs.declared.credentials.CredentialsBuffers.TheVariants as buffered
@@ -13,6 +13,7 @@ use Rattle.sspi_names.specs.Credentials.{credentials_buffers_of}
 use Rattle.sspi_names.specs.Refusals.{bad_name}
 use Rattle.sspi_names.specs.declared.identity.KeytabIdentity.{KeytabIdentity}
 use Rattle.sspi_tsreq.specs.declared.mode.CredSspMode.{CredSspMode}
+use Rattle.sspi_tsreq.specs.CredsAnswers.{IsOrMemory}
 use Rattle.sspi_tsreq.specs.Creds.{malformed, creds_of, creds_text}
 use Rattle.sspi_credssp.proofs.CredentialRefusals.{OfEach, refused_so, so_creds, so_text_of}
 use Rattle.sspi_credssp.specs.Credentials.{delegated_text, delegated_identity, identity_in, named_or_refused}
@@ -35,17 +36,20 @@ each_plain = record {
 
 -- ---- reading
 
-pub identity_read : (text : List ℕ) (buffers : AuthIdentityBuffers) (identity : AuthIdentity) →
-    creds_of text ≡ Ok (buffered.AuthIdentity buffers) → identity_of buffers ≡ Some identity → delegated_identity text ≡ Ok identity
+pub identity_read : (text : List ℕ) (buffers : AuthIdentityBuffers) (r : Result AuthIdentity Error) →
+    creds_of text ≡ Ok (buffered.AuthIdentity buffers) → IsIdentified r (identity_of buffers) →
+    IfOk r (λ identity. delegated_identity text ≡ Ok identity)
 unfolding delegated_identity
-identity_read text buffers identity e f = ap identity_in e ∙ ap named_or_refused f
+identity_read text buffers (Ok identity) e f = ap identity_in e ∙ ap named_or_refused f
+identity_read text buffers (Err error) e f = tt
 
-pub identity_refused : (text : List ℕ) (buffers : AuthIdentityBuffers) (error : Error) →
-    creds_of text ≡ Ok (buffered.AuthIdentity buffers) → ((error ≡ bad_name) × (identity_of buffers ≡ None)) ⊎ (error ≡ memory_error) →
-    error.error_type ≢ InsufficientMemory → delegated_identity text ≡ Err error
+pub identity_refused : (text : List ℕ) (buffers : AuthIdentityBuffers) (r : Result AuthIdentity Error) →
+    creds_of text ≡ Ok (buffered.AuthIdentity buffers) → IsIdentified r (identity_of buffers) →
+    IfErr r (λ error. error.error_type ≢ InsufficientMemory → delegated_identity text ≡ Err error)
 unfolding delegated_identity
-identity_refused text buffers error e (inl w) memory = ap identity_in e ∙ ap named_or_refused w.1 ∙ ap Err (sym w.0)
-identity_refused text buffers error e (inr w) memory = absurd (memory (ap (λ (x : Error). x.error_type) w))
+identity_refused text buffers (Ok identity) e f = tt
+identity_refused text buffers (Err error) e (inl w) = λ memory. ap identity_in e ∙ ap named_or_refused w.1 ∙ ap Err (sym w.0)
+identity_refused text buffers (Err error) e (inr w) = λ memory. absurd (memory (ap (λ (x : Error). x.error_type) w))
 
 pub keytab_read : (text : List ℕ) (keytab : KeytabIdentity) (error : Error) →
     creds_of text ≡ Ok (buffered.Keytab keytab) → error ≡ malformed → delegated_identity text ≡ Err error
@@ -64,20 +68,22 @@ refusal_plain text error (inr w) = ap (λ (x : Error). x.nstatus) w
 
 -- ---- writing
 
-pub text_written : (credentials : Credentials) (mode : CredSspMode) (buffers : CredentialsBuffers) (items : List ℕ) →
-    buffers ≡ credentials_buffers_of credentials → creds_text buffers mode ≡ Ok items → delegated_text credentials mode ≡ Ok items
-unfolding delegated_text
-text_written credentials mode buffers items same e = ap (λ b. creds_text b mode) (sym same) ∙ e
+module _ {X : Type 0} (view : X → List ℕ) (credentials : Credentials) (mode : CredSspMode) (buffers : CredentialsBuffers) where
+  pub text_written : (r : Result X Error) → buffers ≡ credentials_buffers_of credentials →
+      IsOrMemory view r (creds_text buffers mode) → IfOk r (λ text. delegated_text credentials mode ≡ Ok (view text))
+  unfolding delegated_text
+  text_written (Ok text) same e = ap (λ b. creds_text b mode) (sym same) ∙ e
+  text_written (Err error) same e = tt
 
-pub text_unwritten : (credentials : Credentials) (mode : CredSspMode) (buffers : CredentialsBuffers) (error : Error) →
-    buffers ≡ credentials_buffers_of credentials → (creds_text buffers mode ≡ Err error) ⊎ (error ≡ memory_error) →
-    error.error_type ≢ InsufficientMemory → delegated_text credentials mode ≡ Err error
-unfolding delegated_text
-text_unwritten credentials mode buffers error same (inl w) memory = ap (λ b. creds_text b mode) (sym same) ∙ w
-text_unwritten credentials mode buffers error same (inr w) memory = absurd (memory (ap (λ (x : Error). x.error_type) w))
+  pub text_unwritten : (r : Result X Error) → buffers ≡ credentials_buffers_of credentials →
+      IsOrMemory view r (creds_text buffers mode) →
+      IfErr r (λ error. error.error_type ≢ InsufficientMemory → delegated_text credentials mode ≡ Err error)
+  unfolding delegated_text
+  text_unwritten (Ok text) same e = tt
+  text_unwritten (Err error) same (inl w) = λ memory. ap (λ b. creds_text b mode) (sym same) ∙ w
+  text_unwritten (Err error) same (inr w) = λ memory. absurd (memory (ap (λ (x : Error). x.error_type) w))
 
-pub unwritten_plain : (mode : CredSspMode) (buffers : CredentialsBuffers) (error : Error) →
-    (creds_text buffers mode ≡ Err error) ⊎ (error ≡ memory_error) → error.nstatus ≡ None
-unwritten_plain mode buffers error (inl w) = refused_so IsPlain (creds_text buffers mode) error
-    (so_text_of IsPlain each_plain buffers mode) w
-unwritten_plain mode buffers error (inr w) = ap (λ (x : Error). x.nstatus) w
+  pub unwritten_plain : (r : Result X Error) → IsOrMemory view r (creds_text buffers mode) → IfErr r (λ error. error.nstatus ≡ None)
+  unwritten_plain (Ok text) e = tt
+  unwritten_plain (Err error) (inl w) = refused_so IsPlain (creds_text buffers mode) error (so_text_of IsPlain each_plain buffers mode) w
+  unwritten_plain (Err error) (inr w) = ap (λ (x : Error). x.nstatus) w

@@ -1,5 +1,5 @@
 -- What a context opened stays opened, and what it sealed stays sealed, whatever its counts become.
-use Rattle.std.proofs.Common.{◌≡◌, ℕ, ◌-◌, List, Result, Ok, Err, OnOk, OnErr, true, false, refl, sym, ◌∙◌, ap, subst, add-zero}
+use Rattle.std.proofs.Common.{◌≡◌, ℕ, ◌-◌, List, Bool, Result, Ok, Err, OnOk, OnErr, true, false, refl, sym, ◌∙◌, ap, subst, add-zero}
 use Rattle.std.proofs.lemmas.Bool.{true≢false}
 use Rattle.sspi_types.specs.declared.error.Error.{Error}
 use Rattle.sspi_mech.specs.Calls.{Counts, one_sealed, one_unsealed}
@@ -7,7 +7,7 @@ use Rattle.sspi_mech.specs.Context.{IsContext}
 use Rattle.sspi_mech.specs.Meaning.{Meaning}
 use Rattle.sspi_credssp.specs.declared.acts.Acts.{Acts}
 use Rattle.sspi_credssp.specs.Counts.{silent, cleared}
-use Rattle.sspi_credssp.specs.Exchange.{Delivers, Exchanges}
+use Rattle.sspi_credssp.specs.Exchange.{Exchanges}
 
 module _ {S C : Type 0} (c : Meaning S C) (laws : IsContext c) where
   counted_back : (m m2 : C) (n : Counts) → m2 ≡ c.counted m n → c.counted m2 (c.counts m) ≡ m
@@ -28,56 +28,31 @@ module _ {S C : Type 0} (c : Meaning S C) (laws : IsContext c) where
   seals_still m m2 n i text blob e o =
       laws.seals_counted m2 (c.counts m) i text blob (subst (λ x. c.seals x i text blob) (sym (counted_back m m2 n e)) o)
 
-  -- after the right proof the credentials are sealed, or that is refused
-  pub delivered : (m m1 m2 : C) (acts acts1 acts2 : Acts) (blob proof : List ℕ) (r : Result (List ℕ) Error) →
-      acts.sealed ≡ false → acts1 ≡ record acts { checked = true } →
+  -- after the right proof the end seals what it owes, which `flag` tells and `set` notes, or that is refused
+  pub exchanged : (flag : Acts → Bool) (set : Acts → Acts) → ((a : Acts) → flag (set a) ≡ true) →
+      ((a : Acts) → (set a).checked ≡ a.checked) → ((a : Acts) → flag (record a { checked = true }) ≡ flag a) →
+      (m m1 m2 : C) (acts acts1 acts2 : Acts) (blob proof : List ℕ) (r : Result (List ℕ) Error) →
+      flag acts ≡ false → acts1 ≡ record acts { checked = true } →
       m1 ≡ c.counted m (one_unsealed (c.counts m)) → c.counts m1 ≡ one_unsealed (c.counts m) →
       c.opens m1 ((c.counts m1).unsealed - 1) blob proof →
-      OnOk r (acts2 ≡ record acts1 { sealed = true }) → OnOk r (m2 ≡ c.counted m1 (one_sealed (c.counts m1))) →
+      OnOk r (acts2 ≡ set acts1) → OnOk r (m2 ≡ c.counted m1 (one_sealed (c.counts m1))) →
       OnOk r (c.counts m2 ≡ one_sealed (c.counts m1)) → OnErr r (m2 ≡ m1) → OnErr r (acts2 ≡ acts1) →
-      Delivers c m blob proof m2 acts2
-  delivered m m1 m2 acts acts1 acts2 blob proof (Ok text) unsealed checked opened count1 o sealed made count2 _ _ =
-      let is_sealed : acts2.sealed ≡ true = ap (λ (a : Acts). a.sealed) sealed in
-      let is_checked : acts2.checked ≡ true = ap (λ (a : Acts). a.checked) sealed ∙ ap (λ (a : Acts). a.checked) checked in
+      Exchanges c m blob proof m2 acts2.checked (flag acts2)
+  exchanged flag set sets keeps other m m1 m2 acts acts1 acts2 blob proof (Ok text) unset checked opened count1 o done made count2 _ _ =
+      let is_set : flag acts2 ≡ true = ap flag done ∙ sets acts1 in
+      let is_checked : acts2.checked ≡ true = ap (λ (a : Acts). a.checked) done ∙ keeps acts1 ∙ ap (λ (a : Acts). a.checked) checked in
       record {
-        sealed = λ _. (is_checked, rw count2 (opens_still m1 m2 _ _ blob proof made o));
-        sealed_count = rw (count2, count1, is_sealed) refl;
+        after_proof = λ _. (is_checked, rw count2 (opens_still m1 m2 _ _ blob proof made o));
+        sealed_count = rw (count2, count1, is_set) refl;
         unsealed_count = rw (count2, count1, is_checked) refl;
         bare = bare_after m1 m2 _ made refl ∙ bare_after m m1 _ opened refl;
       }
-  delivered m m1 m2 acts acts1 acts2 blob proof (Err e) unsealed checked opened count1 o _ _ _ same kept =
-      let not_sealed : acts2.sealed ≡ false = ap (λ (a : Acts). a.sealed) kept ∙ ap (λ (a : Acts). a.sealed) checked ∙ unsealed in
+  exchanged flag set sets keeps other m m1 m2 acts acts1 acts2 blob proof (Err e) unset checked opened count1 o _ _ _ same kept =
+      let not_set : flag acts2 ≡ false = ap flag kept ∙ ap flag checked ∙ other acts ∙ unset in
       let is_checked : acts2.checked ≡ true = ap (λ (a : Acts). a.checked) kept ∙ ap (λ (a : Acts). a.checked) checked in
       record {
-        sealed = λ h. absurd (true≢false (sym h ∙ not_sealed));
-        sealed_count = rw (same, count1, not_sealed) (sym (add-zero _));
-        unsealed_count = rw (same, count1, is_checked) refl;
-        bare = rw same (bare_after m m1 _ opened refl);
-      }
-
-  -- after the right proof the server's own is sealed, or that is refused
-  pub exchanged : (m m1 m2 : C) (acts acts1 acts2 : Acts) (blob proof : List ℕ) (r : Result (List ℕ) Error) →
-      acts.proved ≡ false → acts1 ≡ record acts { checked = true } →
-      m1 ≡ c.counted m (one_unsealed (c.counts m)) → c.counts m1 ≡ one_unsealed (c.counts m) →
-      c.opens m1 ((c.counts m1).unsealed - 1) blob proof →
-      OnOk r (acts2 ≡ record acts1 { proved = true }) → OnOk r (m2 ≡ c.counted m1 (one_sealed (c.counts m1))) →
-      OnOk r (c.counts m2 ≡ one_sealed (c.counts m1)) → OnErr r (m2 ≡ m1) → OnErr r (acts2 ≡ acts1) →
-      Exchanges c m blob proof m2 acts2
-  exchanged m m1 m2 acts acts1 acts2 blob proof (Ok text) unproved checked opened count1 o proved made count2 _ _ =
-      let is_proved : acts2.proved ≡ true = ap (λ (a : Acts). a.proved) proved in
-      let is_checked : acts2.checked ≡ true = ap (λ (a : Acts). a.checked) proved ∙ ap (λ (a : Acts). a.checked) checked in
-      record {
-        proved = λ _. (is_checked, rw count2 (opens_still m1 m2 _ _ blob proof made o));
-        sealed_count = rw (count2, count1, is_proved) refl;
-        unsealed_count = rw (count2, count1, is_checked) refl;
-        bare = bare_after m1 m2 _ made refl ∙ bare_after m m1 _ opened refl;
-      }
-  exchanged m m1 m2 acts acts1 acts2 blob proof (Err e) unproved checked opened count1 o _ _ _ same kept =
-      let not_proved : acts2.proved ≡ false = ap (λ (a : Acts). a.proved) kept ∙ ap (λ (a : Acts). a.proved) checked ∙ unproved in
-      let is_checked : acts2.checked ≡ true = ap (λ (a : Acts). a.checked) kept ∙ ap (λ (a : Acts). a.checked) checked in
-      record {
-        proved = λ h. absurd (true≢false (sym h ∙ not_proved));
-        sealed_count = rw (same, count1, not_proved) (sym (add-zero _));
+        after_proof = λ h. absurd (true≢false (sym h ∙ not_set));
+        sealed_count = rw (same, count1, not_set) (sym (add-zero _));
         unsealed_count = rw (same, count1, is_checked) refl;
         bare = rw same (bare_after m m1 _ opened refl);
       }

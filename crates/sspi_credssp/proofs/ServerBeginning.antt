@@ -21,7 +21,7 @@ use Rattle.sspi_credssp.specs.Proxy.{ProxyMeaning}
 use Rattle.sspi_credssp.specs.Server.{ServerView}
 use Rattle.sspi_credssp.specs.ServerStep.{OnStep}
 use Rattle.sspi_credssp.specs.ServerTurn.{BeginRefused, ServerTurn, UnlessMade, IsNew, is_made, IsUnstepped}
-use Rattle.sspi_credssp.proofs.ServerReady.{not_yet}
+use Rattle.sspi_credssp.proofs.ClientReady.{not_yet}
 
 pub refused_both : {T : Type 0} (r : Result T Error) (Q R : Type 0) → OnErr r Q → OnErr r R → OnErr r (Q × R)
 refused_both (Ok x) Q R q r = tt

@@ -9,10 +9,8 @@ use Rattle.sspi_credssp.specs.declared.state.CredSspState.TheVariants.{NegoToken
 use Rattle.sspi_credssp.specs.Context.{ContextSetting}
 use Rattle.sspi_credssp.specs.Counts.{IsUnusedIn, sealed_in, unsealed_in}
 use Rattle.sspi_credssp.specs.Server.{ServerView}
-use Rattle.sspi_credssp.specs.ServerTurn.{IsReady, OnceNegotiated, StartsUnused}
-
-pub not_yet : (s : CredSspState) (Q : Type 0) → s ≡ NegoToken → OnceNegotiated s Q
-not_yet s Q e = subst (λ x. OnceNegotiated x Q) (sym e) tt
+use Rattle.sspi_credssp.specs.ServerTurn.{IsReady, StartsUnused}
+use Rattle.sspi_credssp.proofs.ClientReady.{not_yet}
 
 module _ {C P : Type 0} (c : Meaning ContextSetting C) where
   pub ready_stepped : (start now : ServerView C P) (d : TsRequest) (m m2 : C) (acts : Acts) (output : List ℕ) (proxy : P) →

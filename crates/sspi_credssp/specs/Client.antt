@@ -9,6 +9,7 @@ use Rattle.sspi_credssp.specs.declared.mode.ClientMode.{ClientMode}
 use Rattle.sspi_credssp.specs.declared.state.CredSspState.{CredSspState}
 use Rattle.sspi_credssp.specs.declared.state.CredSspState.TheVariants.{NegoToken, PubKeyInfo, AuthInfo, Final}
 use Rattle.sspi_credssp.specs.Acts.{no_acts}
+use Rattle.sspi_credssp.specs.Noted.{default_least}
 
 -- what a client was made with, which no call changes
 pub record ClientSettings : Type 0 where
@@ -22,6 +23,19 @@ pub record ClientSettings : Type 0 where
   -- the name of the service
   pub target : List ℕ
   pub nonce : List ℕ
+
+-- of a new client, which takes no server that is older than the default
+abbrev pub new_client : List ℕ → Credentials → CredSspMode → ℕ → ClientMode → List ℕ → List ℕ → ClientSettings
+new_client public_key credentials delegation version mode target nonce = record {
+  public_key = public_key;
+  credentials = credentials;
+  delegation = delegation;
+  version = version;
+  least = default_least;
+  mode = mode;
+  target = target;
+  nonce = nonce;
+}
 
 pub record ClientView (C : Type 0) : Type 0 where
   pub settings : ClientSettings

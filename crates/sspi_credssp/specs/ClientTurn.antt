@@ -23,7 +23,7 @@ use Rattle.sspi_credssp.specs.Noted.{is_altered_in, is_old_in, noted_in}
 use Rattle.sspi_credssp.specs.PublicKey.{prescribed}
 use Rattle.sspi_credssp.specs.Requests.{unless_empty, is_code, IsLong}
 use Rattle.sspi_credssp.specs.Shown.{client_shown, ShowsClient}
-use Rattle.sspi_credssp.specs.Turn.{UnlessRefused, AtNoted, FitsNoted, ClientFrame}
+use Rattle.sspi_credssp.specs.Turn.{UnlessRefused, AtNoted, FitsNoted, ClientFrame, OnceNegotiated}
 use Rattle.sspi_credssp.specs.declared.turn.End.TheVariants.{Client}
 use Rattle.sspi_credssp.specs.declared.turn.Outcome.{Outcome}
 use Rattle.sspi_credssp.specs.declared.turn.Outcome.TheVariants as outcome
@@ -34,13 +34,6 @@ state_after state (outcome.Reply reply) proved = if proved then AuthInfo else st
 state_after state (outcome.Final reply) proved = Final
 state_after state outcome.Finished proved = Final
 state_after state (outcome.Refused kind reply) proved = state
-
--- a fact of each turn past the authentication
-abbrev pub OnceNegotiated : CredSspState → Type 0 → Type 0
-OnceNegotiated NegoToken P = Unit {0}
-OnceNegotiated PubKeyInfo P = P
-OnceNegotiated AuthInfo P = P
-OnceNegotiated Final P = P
 
 module _ {C : Type 0} (c : Meaning ContextSetting C) where
   -- what its bytes can show, and what stands behind them

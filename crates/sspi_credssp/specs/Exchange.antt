@@ -1,5 +1,5 @@
 -- What is opened of a peer, and what an end answers to it.
-use Rattle.std.specs.Prelude.{◌≡◌, ◌≢◌, ◌≤◌, ℕ, ◌+◌, ◌-◌, List, length, Option, None, Some, Ok, true, false, nat_lt}
+use Rattle.std.specs.Prelude.{◌≡◌, ◌≢◌, ◌≤◌, ℕ, ◌+◌, ◌-◌, List, length, Bool, Option, None, Some, Ok, true, false, nat_lt}
 use Rattle.sspi_names.specs.declared.identity.AuthIdentity.{AuthIdentity}
 use Rattle.sspi_types.specs.declared.error_kind.ErrorKind.{ErrorKind}
 use Rattle.sspi_types.specs.declared.error_kind.ErrorKind.TheVariants.{InvalidToken}
@@ -30,18 +30,11 @@ module _ {S C : Type 0} (c : Meaning S C) where
   pub data OpensOther (m : C) (blob proof : List ℕ) : Type 0 where
     opens_other : (text : List ℕ) → c.opens m ((c.counts m).unsealed - 1) blob text → text ≢ proof → OpensOther m blob proof
 
-  -- the client opened the server's proof, and perhaps sealed its credentials: what that did to the context
-  pub record Delivers (m : C) (blob proof : List ℕ) (m2 : C) (acts : Acts) : Type 0 where
-    pub sealed : acts.sealed ≡ true → (acts.checked ≡ true) × c.opens m2 ((c.counts m2).unsealed - 1) blob proof
-    pub sealed_count : (c.counts m2).sealed ≡ (c.counts m).sealed + count_of acts.sealed
-    pub unsealed_count : (c.counts m2).unsealed ≡ (c.counts m).unsealed + count_of acts.checked
-    pub bare : cleared c m2 ≡ cleared c m
-
-  -- the server opened the client's proof, and perhaps sealed its own: what that did to the context
-  pub record Exchanges (m : C) (blob proof : List ℕ) (m2 : C) (acts : Acts) : Type 0 where
-    pub proved : acts.proved ≡ true → (acts.checked ≡ true) × c.opens m2 ((c.counts m2).unsealed - 1) blob proof
-    pub sealed_count : (c.counts m2).sealed ≡ (c.counts m).sealed + count_of acts.proved
-    pub unsealed_count : (c.counts m2).unsealed ≡ (c.counts m).unsealed + count_of acts.checked
+  -- an end opened the peer's proof, and perhaps sealed what it then owes: what that did to the context
+  pub record Exchanges (m : C) (blob proof : List ℕ) (m2 : C) (checked sealed : Bool) : Type 0 where
+    pub after_proof : sealed ≡ true → (checked ≡ true) × c.opens m2 ((c.counts m2).unsealed - 1) blob proof
+    pub sealed_count : (c.counts m2).sealed ≡ (c.counts m).sealed + count_of sealed
+    pub unsealed_count : (c.counts m2).unsealed ≡ (c.counts m).unsealed + count_of checked
     pub bare : cleared c m2 ≡ cleared c m
 
   -- the server opened the client's credentials, or did not

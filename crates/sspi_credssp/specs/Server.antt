@@ -6,6 +6,7 @@ use Rattle.sspi_credssp.specs.declared.mode.ServerMode.{ServerMode}
 use Rattle.sspi_credssp.specs.declared.state.CredSspState.{CredSspState}
 use Rattle.sspi_credssp.specs.declared.state.CredSspState.TheVariants.{NegoToken}
 use Rattle.sspi_credssp.specs.Acts.{no_acts}
+use Rattle.sspi_credssp.specs.Noted.{default_least}
 
 -- what a server was made with, which no call changes
 pub record ServerSettings : Type 0 where
@@ -14,6 +15,10 @@ pub record ServerSettings : Type 0 where
   -- the least version of a client that it takes
   pub least : ℕ
   pub mode : ServerMode
+
+-- of a new server, which takes no client that is older than the default
+abbrev pub new_server : List ℕ → ℕ → ServerMode → ServerSettings
+new_server public_key version mode = record { public_key = public_key; version = version; least = default_least; mode = mode }
 
 -- P is its proxy, where it looks its peers up
 pub record ServerView (C P : Type 0) : Type 0 where

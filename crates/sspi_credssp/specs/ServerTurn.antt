@@ -28,7 +28,7 @@ use Rattle.sspi_credssp.specs.Requests.{IsLong, nonce_of}
 use Rattle.sspi_credssp.specs.Server.{ServerView}
 use Rattle.sspi_credssp.specs.Shown.{server_shown, ShowsServer, HasNonce}
 use Rattle.sspi_credssp.specs.Noted.{differs, is_old, noted_with}
-use Rattle.sspi_credssp.specs.Turn.{UnlessRefused, AtNoted, ServerFrame}
+use Rattle.sspi_credssp.specs.Turn.{UnlessRefused, AtNoted, ServerFrame, OnceNegotiated}
 use Rattle.sspi_credssp.specs.declared.turn.End.TheVariants.{Server}
 use Rattle.sspi_credssp.specs.declared.turn.Outcome.{Outcome}
 use Rattle.sspi_credssp.specs.declared.turn.Outcome.TheVariants as outcome
@@ -55,13 +55,6 @@ server_state_after state (outcome.Refused kind reply) proved status = state
 abbrev pub answered_by : TsRequest → Answer → TsRequest
 answered_by d (answers.Token token) = record d { nego_tokens = Some token }
 answered_by d (answers.Proof blob) = record d { nego_tokens = None; pub_key_auth = Some blob }
-
--- past the authentication only the counts of the context change
-abbrev pub OnceNegotiated : CredSspState → Type 0 → Type 0
-OnceNegotiated NegoToken Q = Unit {0}
-OnceNegotiated PubKeyInfo Q = Q
-OnceNegotiated AuthInfo Q = Q
-OnceNegotiated Final Q = Q
 
 module _ {C : Type 0} (c : Meaning ContextSetting C) where
   -- what its bytes can show, and what stands behind them

@@ -2,6 +2,8 @@
 use Rattle.std.specs.Prelude.{◌≡◌, ℕ, Option, None, Some, Bool, true, false}
 use Rattle.sspi_tsreq.specs.declared.request.TsRequest.{TsRequest}
 use Rattle.sspi_credssp.specs.declared.state.CredSspState.{CredSspState}
+use Rattle.sspi_credssp.specs.declared.state.CredSspState.TheVariants.{NegoToken, PubKeyInfo, AuthInfo}
+use Rattle.sspi_credssp.specs.declared.state.CredSspState.TheVariants as states
 use Rattle.sspi_credssp.specs.Client.{ClientSettings}
 use Rattle.sspi_credssp.specs.Server.{ServerSettings}
 use Rattle.sspi_credssp.specs.declared.turn.Outcome.{Outcome}
@@ -20,6 +22,13 @@ UnlessRefused (Reply reply) P = P
 UnlessRefused (Final reply) P = P
 UnlessRefused Finished P = P
 UnlessRefused (Refused kind reply) P = Unit {0}
+
+-- a fact of each turn past the authentication
+abbrev pub OnceNegotiated : CredSspState → Type 0 → Type 0
+OnceNegotiated NegoToken P = Unit {0}
+OnceNegotiated PubKeyInfo P = P
+OnceNegotiated AuthInfo P = P
+OnceNegotiated states.Final P = P
 
 -- a fact of the peer's version, which is noted
 abbrev pub AtNoted : Option ℕ → (ℕ → Type 0) → Type 0

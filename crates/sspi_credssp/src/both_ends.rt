@@ -33,14 +33,10 @@ pub fn adopt<N: Mechanism, K: Mechanism>(
         (either N.REQUESTS N.meaning K.meaning).refuses context (ToAcquire purpose (option_copied credentials.entry)) error.error_type) }
 {
     let mut context = context;
-    match context.acquire_credentials_handle(purpose, credentials) {
-        Ok(acquired) => {
-            *handle = acquired;
-            *place = Some(context);
-            Ok(())
-        }
-        Err(error) => Err(error),
-    }
+    let acquired = context.acquire_credentials_handle(purpose, credentials)?;
+    *handle = acquired;
+    *place = Some(context);
+    Ok(())
 }
 
 // Forgets what the last call did and gave.

@@ -5,7 +5,7 @@ ghost use Rattle.sspi_credssp.specs.Acts.{no_acts};
 ghost use Rattle.sspi_credssp.specs.Client.{ClientView};
 ghost use Rattle.sspi_credssp.specs.Context.{either, ForClient};
 ghost use Rattle.sspi_credssp.specs.Counts.{IsUnusedIn, is_waiting_in, left_in};
-ghost use Rattle.sspi_credssp.specs.Noted.{default_least, is_altered_in, is_old_in, noted_in};
+ghost use Rattle.sspi_credssp.specs.Noted.{is_altered_in, is_old_in, noted_in};
 ghost use Rattle.sspi_credssp.specs.Refusal.{IsRefusedBy};
 ghost use Rattle.sspi_credssp.specs.Requests.{is_code};
 ghost use Rattle.sspi_credssp.specs.Stops.{StopsIf};
@@ -77,7 +77,7 @@ impl<N, K> Model for CredSspClient<N, K> {
 }
 
 impl<N, K> CredSspClient<N, K> {
-    ghost use Rattle.sspi_credssp.specs.Client.{IsFreshClient};
+    ghost use Rattle.sspi_credssp.specs.Client.{IsFreshClient, new_client};
 
     /// A client of version 6; else as `new_with_version`.
     pub fn new(
@@ -90,16 +90,8 @@ impl<N, K> CredSspClient<N, K> {
         client_nonce: [u8; 32],
     ) -> CredSspClient<N, K>
         ensures fresh { IsFreshClient result }
-        ensures settings { result.settings ≡ record {
-          public_key = public_key.items;
-          credentials = credentials;
-          delegation = cred_ssp_mode;
-          version = 6;
-          least = default_least;
-          mode = client_mode;
-          target = string_bytes service_principal_name;
-          nonce = client_nonce;
-        } }
+        ensures settings { result.settings ≡ new_client public_key.items credentials cred_ssp_mode 6 client_mode
+            (string_bytes service_principal_name) client_nonce }
     {
         CredSspClient::new_with_version(
             alloc,
@@ -129,16 +121,8 @@ impl<N, K> CredSspClient<N, K> {
         client_nonce: [u8; 32],
     ) -> CredSspClient<N, K>
         ensures fresh { IsFreshClient result }
-        ensures settings { result.settings ≡ record {
-          public_key = public_key.items;
-          credentials = credentials;
-          delegation = cred_ssp_mode;
-          version = ts_request_version;
-          least = default_least;
-          mode = client_mode;
-          target = string_bytes service_principal_name;
-          nonce = client_nonce;
-        } }
+        ensures settings { result.settings ≡ new_client public_key.items credentials cred_ssp_mode ts_request_version client_mode
+            (string_bytes service_principal_name) client_nonce }
     {
         CredSspClient {
             alloc,
@@ -238,14 +222,9 @@ impl<N: Mechanism, K: Mechanism> CredSspClient<N, K> {
         if self.waiting() {
             return Err(Error::new(ErrorKind::OutOfSequence, Reason::Sequence));
         }
-        match check_code(ts_request.error_code) {
-            Ok(()) => {}
-            Err(error) => return Err(error),
-        }
-        match self.begin(ts_request.version) {
-            Ok(()) => self.take(at_version(ts_request, self.ts_request_version)),
-            Err(error) => Err(error),
-        }
+        check_code(ts_request.error_code)?;
+        self.begin(ts_request.version)?;
+        self.take(at_version(ts_request, self.ts_request_version))
     }
 
     /// Goes on with the suspended turn, once it is known what came of its request.
@@ -292,10 +271,7 @@ impl<N: Mechanism, K: Mechanism> CredSspClient<N, K> {
     {
         match self.state {
             CredSspState::NegoToken => self.negotiate(request),
-            CredSspState::AuthInfo => match self.conclude(request) {
-                Ok(state) => Ok(Progress::Completed(state)),
-                Err(error) => Err(error),
-            },
+            CredSspState::AuthInfo => Ok(Progress::Completed(self.conclude(request)?)),
             CredSspState::PubKeyInfo | CredSspState::Final => {
                 Err(Error::new(ErrorKind::OutOfSequence, Reason::Sequence))
             }
@@ -325,10 +301,10 @@ impl<N: Mechanism, K: Mechanism> CredSspClient<N, K> {
             error.error_type ≡ ErrorKind.DowngradeDetected) }
     {
         match &self.context {
-            None => match self.make_context() {
-                Ok(()) => Ok(()),
-                Err(error) => Err(error),
-            },
+            None => {
+                self.make_context()?;
+                Ok(())
+            }
             Some(_) => note_version(&mut self.peer_version, self.least_version, version),
         }
     }
@@ -347,16 +323,14 @@ impl<N: Mechanism, K: Mechanism> CredSspClient<N, K> {
         ensures cause { let c = either N.REQUESTS N.meaning K.meaning in
             IsRefusedBy result (BeginCause c (ForClient self.old.settings.mode) purposes.Outbound (Some self.old.settings.credentials)) }
     {
-        match SspiContext::new_client(self.alloc, &self.client_mode) {
-            Ok(context) => adopt(
-                context,
-                CredentialUse::Outbound,
-                Some(&self.credentials),
-                &mut self.context,
-                &mut self.credentials_handle,
-            ),
-            Err(error) => Err(error),
-        }
+        let context = SspiContext::new_client(self.alloc, &self.client_mode)?;
+        adopt(
+            context,
+            CredentialUse::Outbound,
+            Some(&self.credentials),
+            &mut self.context,
+            &mut self.credentials_handle,
+        )
     }
 }
 

@@ -5,7 +5,8 @@ ghost use Rattle.sspi_credssp.specs.Acts.{no_acts};
 ghost use Rattle.sspi_credssp.specs.ClientCause.{SealsCause, OpenedCause, DeliverCause};
 ghost use Rattle.sspi_credssp.specs.Context.{either};
 ghost use Rattle.sspi_credssp.specs.Credentials.{delegated_text, IfText};
-ghost use Rattle.sspi_credssp.specs.Exchange.{Delivers};
+ghost use Rattle.sspi_credssp.specs.Exchange.{Exchanges};
+ghost use Rattle.sspi_credssp.specs.PublicKey.{prescribed};
 
 use crate::acts::Acts;
 use crate::client::CredSspClient;
@@ -20,7 +21,7 @@ use sspi_mech::Mechanism;
 use sspi_names::Credentials;
 use sspi_tsreq::{CredSspMode, TsRequest};
 use sspi_types::{Bytes, Error, ErrorKind, Reason};
-use std::alloc::Global;
+use std::alloc::{AllocError, Global};
 
 fn seal_credentials<N: Mechanism, K: Mechanism>(
     alloc: Global,
@@ -42,17 +43,10 @@ fn seal_credentials<N: Mechanism, K: Mechanism>(
     ensures cause { IfErr result (λ error. error.error_type ≢ ErrorKind.InsufficientMemory →
         SealsCause (either N.REQUESTS N.meaning K.meaning) context.new (delegated_text credentials.now mode) error.error_type) }
 {
-    let text = match write_credentials(alloc, credentials, mode) {
-        Ok(text) => text,
-        Err(error) => return Err(error),
-    };
-    match context.seal(&text) {
-        Ok(blob) => {
-            acts.sealed = true;
-            Ok(Bytes::from_vec(blob))
-        }
-        Err(error) => Err(error),
-    }
+    let text = write_credentials(alloc, credentials, mode)?;
+    let blob = context.seal(&text)?;
+    acts.sealed = true;
+    Ok(Bytes::from_vec(blob))
 }
 
 // Opens the server's proof, and seals the credentials if it is the one that the server owes.
@@ -68,7 +62,8 @@ fn deliver<N: Mechanism, K: Mechanism>(
 ) -> Result<Bytes, Error>
     requires checked { acts.old.checked ≡ false }
     requires sealed { acts.old.sealed ≡ false }
-    ensures delivers { Delivers (either N.REQUESTS N.meaning K.meaning) context.old blob.now proof.now context.new acts.new }
+    ensures exchanges { Exchanges (either N.REQUESTS N.meaning K.meaning) context.old blob.now proof.now context.new
+        acts.new.checked acts.new.sealed }
     ensures acts { acts.new ≡ record acts.old { checked = acts.new.checked; sealed = acts.new.sealed } }
     ensures ok { OnOk result (acts.new ≡ record acts.old { checked = true; sealed = true }) }
     ensures blob { let c = either N.REQUESTS N.meaning K.meaning in IfOk result (λ blob. IfText (delegated_text credentials.now mode)
@@ -78,10 +73,10 @@ fn deliver<N: Mechanism, K: Mechanism>(
         OpenedCause (either N.REQUESTS N.meaning K.meaning)
         acts.new.checked context.new blob.now proof.now (delegated_text credentials.now mode) error.error_type) }
 {
-    match opens_to(context, acts, blob, proof) {
-        Ok(true) => seal_credentials(alloc, context, acts, credentials, mode),
-        Ok(false) => Err(altered(version)),
-        Err(error) => Err(error),
+    if opens_to(context, acts, blob, proof)? {
+        seal_credentials(alloc, context, acts, credentials, mode)
+    } else {
+        Err(altered(version))
     }
 }
 
@@ -103,13 +98,22 @@ impl<N: Mechanism, K: Mechanism> CredSspClient<N, K> {
         ensures plain { IfErr result (λ error. error.nstatus ≡ None) }
         ensures acts { (self.new.acts.status ≡ None) × (self.new.acts.negotiated ≡ false) }
     {
-        match self.exchange(&request.pub_key_auth) {
-            Ok(credentials) => {
-                self.state = CredSspState::Final;
-                Ok(ClientState::FinalMessage(with_credentials(request, credentials)))
-            }
-            Err(error) => Err(error),
-        }
+        let credentials = self.exchange(&request.pub_key_auth)?;
+        self.state = CredSspState::Final;
+        Ok(ClientState::FinalMessage(with_credentials(request, credentials)))
+    }
+
+    // The proof that this end owes, by the key of the channel and the client's nonce.
+    pub(crate) fn proof_of(&self, end: EndpointType, version: u32) -> Result<Bytes, AllocError>
+        ensures { IfOk result (λ proof. proof ≡ prescribed end version self.now.settings.nonce self.now.settings.public_key) }
+    {
+        prescribed_proof(
+            self.alloc,
+            end,
+            version,
+            &self.client_nonce,
+            self.public_key.as_slice(),
+        )
     }
 
     fn exchange(&mut self, pub_key_auth: &Option<Bytes>) -> Result<Bytes, Error>
@@ -122,27 +126,15 @@ impl<N: Mechanism, K: Mechanism> CredSspClient<N, K> {
             DeliverCause (either N.REQUESTS N.meaning K.meaning) pub_key_auth.now self.new error.error_type) }
         ensures plain { IfErr result (λ error. error.nstatus ≡ None) }
     {
-        let blob = match sealed_blob(pub_key_auth, Reason::NoPubKey) {
-            Ok(blob) => blob,
-            Err(error) => return Err(error),
-        };
+        let blob = sealed_blob(pub_key_auth, Reason::NoPubKey)?;
         let Some(version) = self.peer_version else {
             return Err(Error::new(ErrorKind::InternalError, Reason::NoVersion));
         };
+        let proof = self.proof_of(EndpointType::Server, version)?;
         let Some(context) = &mut self.context else {
             return Err(Error::new(ErrorKind::InternalError, Reason::NoVersion));
         };
-        let proof = match prescribed_proof(
-            self.alloc,
-            EndpointType::Server,
-            version,
-            &self.client_nonce,
-            self.public_key.as_slice(),
-        ) {
-            Ok(proof) => proof,
-            Err(error) => return Err(Error::from(error)),
-        };
-        match deliver(
+        deliver(
             self.alloc,
             context,
             &mut self.acts,
@@ -151,9 +143,6 @@ impl<N: Mechanism, K: Mechanism> CredSspClient<N, K> {
             version,
             &self.credentials,
             self.cred_ssp_mode,
-        ) {
-            Ok(credentials) => Ok(credentials),
-            Err(error) => Err(error),
-        }
+        )
     }
 }

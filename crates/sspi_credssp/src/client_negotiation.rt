@@ -16,7 +16,7 @@ use crate::client::CredSspClient;
 use crate::client_state::{ClientState, Progress};
 use crate::context::SspiContext;
 use crate::proof::seal_proof;
-use crate::public_key::{EndpointType, prescribed_proof};
+use crate::public_key::EndpointType;
 use crate::request::{with_proof, with_tokens};
 use crate::state::CredSspState;
 use crate::token::{copy_token, token_of};
@@ -153,10 +153,10 @@ impl<N: Mechanism, K: Mechanism> CredSspClient<N, K> {
         ensures cause { IsRefusedBy result (NegoCause (either N.REQUESTS N.meaning K.meaning) self.new.acts.status self.new) }
     {
         match progress {
-            Ok(Progressing::Done(step)) => match self.reply(step.status, step.output, request) {
-                Ok(state) => Ok(Progress::Completed(state)),
-                Err(error) => Err(error),
-            },
+            Ok(Progressing::Done(step)) => {
+                let state = self.reply(step.status, step.output, request)?;
+                Ok(Progress::Completed(state))
+            }
             Ok(Progressing::Suspended(question)) => {
                 self.suspended = Some(request);
                 Ok(Progress::Suspended(question))
@@ -190,10 +190,8 @@ impl<N: Mechanism, K: Mechanism> CredSspClient<N, K> {
         if status == SecurityStatus::Ok {
             return self.prove(request);
         }
-        match self.output.clone(self.alloc) {
-            Ok(token) => Ok(ClientState::ReplyNeeded(with_tokens(request, Some(token)))),
-            Err(error) => Err(Error::from(error)),
-        }
+        let token = self.output.clone(self.alloc)?;
+        Ok(ClientState::ReplyNeeded(with_tokens(request, Some(token))))
     }
 
     // The authentication has ended: the client's proof goes with the last token, if there is one.
@@ -207,17 +205,10 @@ impl<N: Mechanism, K: Mechanism> CredSspClient<N, K> {
         ensures step { KeepsStep (either N.REQUESTS N.meaning K.meaning) self.old SecurityStatus.Ok self.old.output self.new }
         ensures cause { IsRefusedBy result (ProveCause (either N.REQUESTS N.meaning K.meaning) self.new.noted self.new.context self.new) }
     {
-        let tokens = match copy_token(self.alloc, &self.output) {
-            Ok(tokens) => tokens,
-            Err(error) => return Err(Error::from(error)),
-        };
-        match self.seal_proof() {
-            Ok(proof) => {
-                self.state = CredSspState::AuthInfo;
-                Ok(ClientState::ReplyNeeded(with_proof(request, tokens, self.client_nonce, proof)))
-            }
-            Err(error) => Err(error),
-        }
+        let tokens = copy_token(self.alloc, &self.output)?;
+        let proof = self.seal_proof()?;
+        self.state = CredSspState::AuthInfo;
+        Ok(ClientState::ReplyNeeded(with_proof(request, tokens, self.client_nonce, proof)))
     }
 
     fn seal_proof(&mut self) -> Result<Bytes, Error>
@@ -232,18 +223,9 @@ impl<N: Mechanism, K: Mechanism> CredSspClient<N, K> {
         let Some(version) = self.peer_version else {
             return Err(Error::new(ErrorKind::InternalError, Reason::NoVersion));
         };
+        let proof = self.proof_of(EndpointType::Client, version)?;
         let Some(context) = &mut self.context else {
             return Err(Error::new(ErrorKind::InternalError, Reason::NoVersion));
-        };
-        let proof = match prescribed_proof(
-            self.alloc,
-            EndpointType::Client,
-            version,
-            &self.client_nonce,
-            self.public_key.as_slice(),
-        ) {
-            Ok(proof) => proof,
-            Err(error) => return Err(Error::from(error)),
         };
         seal_proof(context, &mut self.acts, proof.as_slice())
     }

@@ -63,14 +63,14 @@ impl<N: Mechanism, K: Mechanism> SspiContext<N, K> {
             (either N.REQUESTS N.meaning K.meaning).unmade (ForClient mode.now) error.error_type) }
     {
         match mode {
-            ClientMode::Negotiate(config) => match Negotiate::new_client(alloc, config) {
-                Ok(negotiation) => Ok(SspiContext::Negotiate(negotiation)),
-                Err(error) => Err(error),
-            },
-            ClientMode::Ntlm(config) => match N::make(alloc, &MechConfig::Ntlm(config)) {
-                Ok(mechanism) => Ok(SspiContext::Ntlm(mechanism)),
-                Err(error) => Err(error),
-            },
+            ClientMode::Negotiate(config) => {
+                let negotiation = Negotiate::new_client(alloc, config)?;
+                Ok(SspiContext::Negotiate(negotiation))
+            }
+            ClientMode::Ntlm(config) => {
+                let mechanism = N::make(alloc, &MechConfig::Ntlm(config))?;
+                Ok(SspiContext::Ntlm(mechanism))
+            }
         }
     }
 
@@ -88,14 +88,14 @@ impl<N: Mechanism, K: Mechanism> SspiContext<N, K> {
             (either N.REQUESTS N.meaning K.meaning).unmade (ForServer mode.now told) error.error_type) }
     {
         match mode {
-            ServerMode::Negotiate(config) => match Negotiate::new_server(alloc, config, known) {
-                Ok(negotiation) => Ok(SspiContext::Negotiate(negotiation)),
-                Err(error) => Err(error),
-            },
-            ServerMode::Ntlm(config) => match N::make(alloc, &MechConfig::Ntlm(config)) {
-                Ok(mechanism) => Ok(SspiContext::Ntlm(mechanism)),
-                Err(error) => Err(error),
-            },
+            ServerMode::Negotiate(config) => {
+                let negotiation = Negotiate::new_server(alloc, config, known)?;
+                Ok(SspiContext::Negotiate(negotiation))
+            }
+            ServerMode::Ntlm(config) => {
+                let mechanism = N::make(alloc, &MechConfig::Ntlm(config))?;
+                Ok(SspiContext::Ntlm(mechanism))
+            }
         }
     }
 
@@ -212,10 +212,9 @@ impl<N: Mechanism, K: Mechanism> SspiContext<N, K> {
             SspiContext::Ntlm(mechanism) => mechanism.names(),
             SspiContext::Kerberos(mechanism) => mechanism.names(),
         };
-        match username {
-            Ok(username) => Ok(ContextNames { username }),
-            Err(error) => Err(error),
-        }
+        Ok(ContextNames {
+            username: username?,
+        })
     }
 
     /// Tells a server which identity its peer may have. `IncompleteCredentials` exactly for a keytab with NTLM in hand, also

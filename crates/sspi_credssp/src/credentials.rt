@@ -17,14 +17,8 @@ pub fn write_credentials(
     ensures cause { IfErr result (λ error. error.error_type ≢ ErrorKind.InsufficientMemory →
         delegated_text credentials.now mode ≡ Err error) }
 {
-    let buffers = match credentials.to_buffers(alloc) {
-        Ok(buffers) => buffers,
-        Err(error) => return Err(Error::from(error)),
-    };
-    match write_ts_credentials(alloc, &buffers, mode) {
-        Ok(text) => Ok(text),
-        Err(error) => Err(error),
-    }
+    let buffers = credentials.to_buffers(alloc)?;
+    write_ts_credentials(alloc, &buffers, mode)
 }
 
 pub fn read_identity(alloc: Global, text: &[u8]) -> Result<AuthIdentity, Error>
@@ -33,16 +27,10 @@ pub fn read_identity(alloc: Global, text: &[u8]) -> Result<AuthIdentity, Error>
     ensures cause { IfErr result (λ error. error.error_type ≢ ErrorKind.InsufficientMemory →
         delegated_identity text.now ≡ Err error) }
 {
-    match read_ts_credentials_from_slice(alloc, text) {
-        Ok(CredentialsBuffers::AuthIdentity(buffers)) => match AuthIdentity::from_buffers(
-            alloc, &buffers,
-        ) {
-            Ok(identity) => Ok(identity),
-            Err(error) => Err(error),
-        },
-        Ok(CredentialsBuffers::Keytab(_)) => {
+    match read_ts_credentials_from_slice(alloc, text)? {
+        CredentialsBuffers::AuthIdentity(buffers) => AuthIdentity::from_buffers(alloc, &buffers),
+        CredentialsBuffers::Keytab(_) => {
             Err(Error::new(ErrorKind::InvalidToken, Reason::TokenForm))
         }
-        Err(error) => Err(error),
     }
 }

@@ -42,10 +42,7 @@ pub fn sealed_blob(field: &Option<Bytes>, absent: Reason) -> Result<&[u8], Error
     ensures cause { IfErr result (λ error. BlobStops field.now error.error_type (λ _. ⊥)) }
     ensures plain { IfErr result (λ error. error.nstatus ≡ None) }
 {
-    match present(field, absent) {
-        Ok(blob) => long_enough(blob),
-        Err(error) => Err(error),
-    }
+    long_enough(present(field, absent)?)
 }
 
 // Whether the blob opens to exactly this proof.
@@ -67,13 +64,9 @@ pub fn opens_to<N: Mechanism, K: Mechanism>(
     ensures cause { IfErr result (λ error. error.error_type ≢ ErrorKind.InsufficientMemory →
         (either N.REQUESTS N.meaning K.meaning).refuses context.new (ToUnseal blob.now) error.error_type) }
 {
-    match context.unseal(blob) {
-        Ok(text) => {
-            acts.checked = true;
-            Ok(same_bytes(&text, proof))
-        }
-        Err(error) => Err(error),
-    }
+    let text = context.unseal(blob)?;
+    acts.checked = true;
+    Ok(same_bytes(&text, proof))
 }
 
 // Seals a proof of the channel's key.
@@ -95,13 +88,9 @@ pub fn seal_proof<N: Mechanism, K: Mechanism>(
     ensures cause { IfErr result (λ error. error.error_type ≢ ErrorKind.InsufficientMemory →
         (either N.REQUESTS N.meaning K.meaning).refuses context.new (ToSeal proof.now) error.error_type) }
 {
-    match context.seal(proof) {
-        Ok(blob) => {
-            acts.proved = true;
-            Ok(Bytes::from_vec(blob))
-        }
-        Err(error) => Err(error),
-    }
+    let blob = context.seal(proof)?;
+    acts.proved = true;
+    Ok(Bytes::from_vec(blob))
 }
 
 fn same_bytes(a: &[u8], b: &[u8]) -> bool

@@ -5,7 +5,7 @@ ghost use Rattle.sspi_credssp.specs.Asks.{Asks};
 ghost use Rattle.sspi_credssp.specs.Begun.{Begun, IfContext, MadeOr};
 ghost use Rattle.sspi_credssp.specs.Context.{either};
 ghost use Rattle.sspi_credssp.specs.Counts.{IsUnusedIn};
-ghost use Rattle.sspi_credssp.specs.Noted.{default_least, differs, is_old, VersionStops};
+ghost use Rattle.sspi_credssp.specs.Noted.{differs, is_old, VersionStops};
 ghost use Rattle.sspi_credssp.specs.Peers.{list_calls, lists_in};
 ghost use Rattle.sspi_credssp.specs.Proxy.{IsLater};
 ghost use Rattle.sspi_credssp.specs.Refusal.{IsRefusedBy};
@@ -72,7 +72,7 @@ impl<N, K, C> Model for CredSspServer<N, K, C> {
 }
 
 impl<N, K, C> CredSspServer<N, K, C> {
-    ghost use Rattle.sspi_credssp.specs.Server.{IsFreshServer};
+    ghost use Rattle.sspi_credssp.specs.Server.{IsFreshServer, new_server};
 
     /// A server of version 6; else as `new_with_version`.
     pub fn new(
@@ -82,12 +82,7 @@ impl<N, K, C> CredSspServer<N, K, C> {
         client_mode: ServerMode,
     ) -> CredSspServer<N, K, C>
         ensures fresh { IsFreshServer result }
-        ensures settings { result.settings ≡ record {
-          public_key = public_key.items;
-          version = 6;
-          least = default_least;
-          mode = client_mode;
-        } }
+        ensures settings { result.settings ≡ new_server public_key.items 6 client_mode }
         ensures proxy { result.proxy ≡ credentials }
     {
         CredSspServer::new_with_version(alloc, public_key, credentials, 6, client_mode)
@@ -105,12 +100,7 @@ impl<N, K, C> CredSspServer<N, K, C> {
         client_mode: ServerMode,
     ) -> CredSspServer<N, K, C>
         ensures fresh { IsFreshServer result }
-        ensures settings { result.settings ≡ record {
-          public_key = public_key.items;
-          version = ts_request_version;
-          least = default_least;
-          mode = client_mode;
-        } }
+        ensures settings { result.settings ≡ new_server public_key.items ts_request_version client_mode }
         ensures proxy { result.proxy ≡ credentials }
     {
         CredSspServer {
@@ -219,10 +209,10 @@ impl<N: Mechanism, K: Mechanism, C: CredentialsProxy> CredSspServer<N, K, C> {
     {
         match &self.context {
             Some(_) => note_version(&mut self.peer_version, self.least_version, version),
-            None => match self.make_context() {
-                Ok(()) => note_version(&mut self.peer_version, self.least_version, version),
-                Err(error) => Err(error),
-            },
+            None => {
+                self.make_context()?;
+                note_version(&mut self.peer_version, self.least_version, version)
+            }
         }
     }
 
@@ -239,20 +229,15 @@ impl<N: Mechanism, K: Mechanism, C: CredentialsProxy> CredSspServer<N, K, C> {
             IsRefusedBy result (MakeCause c C.meaning self.old.settings.mode self.old.proxy self.new.proxy) }
         ensures proxy { Asks C.meaning (list_calls self.old.settings.mode) result self.old.proxy self.new.proxy }
     {
-        let known = match list_peers(self.alloc, &self.server_mode, &mut self.credentials) {
-            Ok(known) => known,
-            Err(error) => return Err(error),
-        };
-        match SspiContext::new_server(self.alloc, &self.server_mode, known) {
-            Ok(context) => adopt(
-                context,
-                CredentialUse::Inbound,
-                None,
-                &mut self.context,
-                &mut self.credentials_handle,
-            ),
-            Err(error) => Err(error),
-        }
+        let known = list_peers(self.alloc, &self.server_mode, &mut self.credentials)?;
+        let context = SspiContext::new_server(self.alloc, &self.server_mode, known)?;
+        adopt(
+            context,
+            CredentialUse::Inbound,
+            None,
+            &mut self.context,
+            &mut self.credentials_handle,
+        )
     }
 
     // The turn, once the request's version was looked at.

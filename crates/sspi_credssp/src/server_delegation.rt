@@ -51,7 +51,8 @@ fn answer_proof<N: Mechanism, K: Mechanism>(
 ) -> Result<Bytes, Error>
     requires checked { acts.old.checked ≡ false }
     requires proved { acts.old.proved ≡ false }
-    ensures exchanges { Exchanges (either N.REQUESTS N.meaning K.meaning) context.old blob.now expected.now context.new acts.new }
+    ensures exchanges { Exchanges (either N.REQUESTS N.meaning K.meaning) context.old blob.now expected.now context.new
+        acts.new.checked acts.new.proved }
     ensures acts { acts.new ≡ record acts.old { checked = acts.new.checked; proved = acts.new.proved } }
     ensures ok { OnOk result (acts.new ≡ record acts.old { checked = true; proved = true }) }
     ensures blob { let c = either N.REQUESTS N.meaning K.meaning in IfOk result (λ answer.
@@ -61,10 +62,10 @@ fn answer_proof<N: Mechanism, K: Mechanism>(
         ProofCause (either N.REQUESTS N.meaning K.meaning)
         acts.new.checked context.new blob.now expected.now proof.now error.error_type) }
 {
-    match opens_to(context, acts, blob, expected) {
-        Ok(true) => seal_proof(context, acts, proof),
-        Ok(false) => Err(altered(version)),
-        Err(error) => Err(error),
+    if opens_to(context, acts, blob, expected)? {
+        seal_proof(context, acts, proof)
+    } else {
+        Err(altered(version))
     }
 }
 
@@ -82,16 +83,9 @@ fn open_credentials<N: Mechanism, K: Mechanism>(
     ensures cause { IfErr result (λ error. error.error_type ≢ ErrorKind.InsufficientMemory →
         OpenedCause (either N.REQUESTS N.meaning K.meaning) acts.new.opened (Some context.new) blob.now error.error_type) }
 {
-    match context.unseal(blob) {
-        Ok(text) => {
-            acts.opened = true;
-            match read_identity(alloc, &text) {
-                Ok(identity) => Ok(identity),
-                Err(error) => Err(error),
-            }
-        }
-        Err(error) => Err(error),
-    }
+    let text = context.unseal(blob)?;
+    acts.opened = true;
+    read_identity(alloc, &text)
 }
 
 impl<N: Mechanism, K: Mechanism, C: CredentialsProxy> CredSspServer<N, K, C> {
@@ -158,10 +152,7 @@ impl<N: Mechanism, K: Mechanism, C: CredentialsProxy> CredSspServer<N, K, C> {
         ensures plain { IfErr result (λ error. error.nstatus ≡ None) }
         ensures begun { IsSome self.new.context }
     {
-        let blob = match sealed_blob(auth_info, Reason::NoAuthInfo) {
-            Ok(blob) => blob,
-            Err(error) => return Err(error),
-        };
+        let blob = sealed_blob(auth_info, Reason::NoAuthInfo)?;
         let Some(context) = &mut self.context else {
             return Err(Error::new(ErrorKind::InternalError, Reason::NoVersion));
         };
@@ -187,43 +178,19 @@ impl<N: Mechanism, K: Mechanism, C: CredentialsProxy> CredSspServer<N, K, C> {
         let Some(context) = &mut self.context else {
             return Err(Error::new(ErrorKind::InternalError, Reason::NoVersion));
         };
-        let blob = match present(&request.pub_key_auth, Reason::NoPubKey) {
-            Ok(blob) => blob,
-            Err(error) => return Err(error),
-        };
-        let nonce = match nonce_for(version, &request.client_nonce) {
-            Ok(nonce) => nonce,
-            Err(error) => return Err(error),
-        };
-        let blob = match long_enough(blob) {
-            Ok(blob) => blob,
-            Err(error) => return Err(error),
-        };
+        let blob = present(&request.pub_key_auth, Reason::NoPubKey)?;
+        let nonce = nonce_for(version, &request.client_nonce)?;
+        let blob = long_enough(blob)?;
         let key = self.public_key.as_slice();
-        let expected = match prescribed_proof(
-            self.alloc,
-            EndpointType::Client,
-            version,
-            nonce,
-            key,
-        ) {
-            Ok(proof) => proof,
-            Err(error) => return Err(Error::from(error)),
-        };
-        let proof = match prescribed_proof(self.alloc, EndpointType::Server, version, nonce, key) {
-            Ok(proof) => proof,
-            Err(error) => return Err(Error::from(error)),
-        };
-        match answer_proof(
+        let expected = prescribed_proof(self.alloc, EndpointType::Client, version, nonce, key)?;
+        let proof = prescribed_proof(self.alloc, EndpointType::Server, version, nonce, key)?;
+        answer_proof(
             context,
             &mut self.acts,
             blob,
             expected.as_slice(),
             proof.as_slice(),
             version,
-        ) {
-            Ok(answer) => Ok(answer),
-            Err(error) => Err(error),
-        }
+        )
     }
 }

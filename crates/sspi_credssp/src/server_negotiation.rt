@@ -119,14 +119,11 @@ fn credentials_of(alloc: Global, identities: Vec<AuthIdentity>) -> Result<Vec<Cr
     ensures err { IfErr result (λ error. error.error_type ≡ ErrorKind.InsufficientMemory) }
     ensures plain { IfErr result (λ error. error.nstatus ≡ None) }
 {
-    match identities
+    let all = identities
         .into_iter()
         .map(|identity| Credentials::AuthIdentity(identity))
-        .collect(alloc)
-    {
-        Ok(all) => Ok(all),
-        Err(error) => Err(Error::from(error)),
-    }
+        .collect(alloc)?;
+    Ok(all)
 }
 
 // Names the peer, looks its identities up and hands them to the context.
@@ -146,22 +143,10 @@ fn identify<N: Mechanism, K: Mechanism, C: CredentialsProxy>(
         IdentifyCause (either N.REQUESTS N.meaning K.meaning)
         context.old (C.meaning.told proxy.old) (C.meaning.faults proxy.old) (C.meaning.faults proxy.new) error.error_type) }
 {
-    let names = match context.query_context_names() {
-        Ok(names) => names,
-        Err(error) => return Err(error),
-    };
-    let candidates = match look_up(proxy, &names.username) {
-        Ok(candidates) => candidates,
-        Err(error) => return Err(error),
-    };
-    let identities = match credentials_of(alloc, candidates) {
-        Ok(identities) => identities,
-        Err(error) => return Err(error),
-    };
-    match context.custom_set_auth_identities(identities) {
-        Ok(()) => Ok(()),
-        Err(error) => Err(error),
-    }
+    let names = context.query_context_names()?;
+    let candidates = look_up(proxy, &names.username)?;
+    let identities = credentials_of(alloc, candidates)?;
+    context.custom_set_auth_identities(identities)
 }
 
 impl<N: Mechanism, K: Mechanism, C: CredentialsProxy> CredSspServer<N, K, C> {
@@ -226,14 +211,10 @@ impl<N: Mechanism, K: Mechanism, C: CredentialsProxy> CredSspServer<N, K, C> {
         let Some(context) = &mut self.context else {
             return Err(Error::new(ErrorKind::InternalError, Reason::Status));
         };
-        match accept(context, &self.credentials_handle, &request.nego_tokens) {
-            Ok(step) => {
-                self.acts.status = Some(step.status);
-                self.output = step.output;
-                self.answer_step(step.status, request)
-            }
-            Err(error) => Err(error),
-        }
+        let step = accept(context, &self.credentials_handle, &request.nego_tokens)?;
+        self.acts.status = Some(step.status);
+        self.output = step.output;
+        self.answer_step(step.status, request)
     }
 
     fn answer_step(&mut self, status: SecurityStatus, request: &TsRequest) -> Result<Answer, Error>
@@ -258,10 +239,7 @@ impl<N: Mechanism, K: Mechanism, C: CredentialsProxy> CredSspServer<N, K, C> {
         ensures proxy { Asks C.meaning (look_ups_at self.new.acts.status) result self.old.proxy self.new.proxy }
     {
         if status == SecurityStatus::ContinueNeeded {
-            return match self.copy_output() {
-                Ok(token) => Ok(Answer::Token(token)),
-                Err(error) => Err(error),
-            };
+            return Ok(Answer::Token(self.copy_output()?));
         }
         if has_ended(status) {
             return self.complete(request);
@@ -274,10 +252,7 @@ impl<N: Mechanism, K: Mechanism, C: CredentialsProxy> CredSspServer<N, K, C> {
         ensures err { IfErr result (λ error. error.error_type ≡ ErrorKind.InsufficientMemory) }
         ensures plain { IfErr result (λ error. error.nstatus ≡ None) }
     {
-        match self.output.clone(self.alloc) {
-            Ok(token) => Ok(token),
-            Err(error) => Err(Error::from(error)),
-        }
+        Ok(self.output.clone(self.alloc)?)
     }
 
     // The authentication has ended: the peer is looked up and the context completed, and then the client is answered.
@@ -306,14 +281,9 @@ impl<N: Mechanism, K: Mechanism, C: CredentialsProxy> CredSspServer<N, K, C> {
         let Some(context) = &mut self.context else {
             return Err(Error::new(ErrorKind::InternalError, Reason::Status));
         };
-        match identify(self.alloc, context, &mut self.credentials) {
-            Ok(()) => {}
-            Err(error) => return Err(error),
-        }
-        match context.complete_auth_token() {
-            Ok(_) => self.answer_peer(request),
-            Err(error) => Err(error),
-        }
+        identify(self.alloc, context, &mut self.credentials)?;
+        context.complete_auth_token()?;
+        self.answer_peer(request)
     }
 
     // Answers the proof that came already, or asks for it by the last token.
@@ -333,24 +303,18 @@ impl<N: Mechanism, K: Mechanism, C: CredentialsProxy> CredSspServer<N, K, C> {
         ensures plain { IfErr result (λ error. error.nstatus ≡ None) }
     {
         match &request.pub_key_auth {
-            Some(_) => match self.exchange(request) {
-                Ok(proof) => {
-                    self.state = CredSspState::AuthInfo;
-                    Ok(Answer::Proof(proof))
-                }
-                Err(error) => Err(error),
-            },
+            Some(_) => {
+                let proof = self.exchange(request)?;
+                self.state = CredSspState::AuthInfo;
+                Ok(Answer::Proof(proof))
+            }
             None => {
                 if self.output.is_empty() {
                     return Err(Error::new(ErrorKind::InvalidToken, Reason::EmptyToken));
                 }
-                match self.copy_output() {
-                    Ok(token) => {
-                        self.state = CredSspState::PubKeyInfo;
-                        Ok(Answer::Token(token))
-                    }
-                    Err(error) => Err(error),
-                }
+                let token = self.copy_output()?;
+                self.state = CredSspState::PubKeyInfo;
+                Ok(Answer::Token(token))
             }
         }
     }

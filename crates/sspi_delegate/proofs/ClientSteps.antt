@@ -11,7 +11,7 @@ use Rattle.sspi_credssp.specs.declared.state.CredSspState.TheVariants.{NegoToken
 use Rattle.sspi_credssp.specs.Acts.{sealed_by, unsealed_by}
 use Rattle.sspi_credssp.specs.Client.{ClientSettings, ClientView, IsFreshClient}
 use Rattle.sspi_credssp.specs.ClientTurn.{ClientTurn, IsUnderway, StartsUnused, client_frame, client_turn, noted_next}
-use Rattle.sspi_credssp.specs.ClientTurn.{state_after, OnceNegotiated}
+use Rattle.sspi_credssp.specs.ClientTurn.{state_after}
 use Rattle.sspi_names.specs.declared.credentials.CredentialsBuffers.{CredentialsBuffers}
 use Rattle.sspi_mech.specs.declared.step.Answer.{Answer}
 use Rattle.sspi_mech.specs.declared.step.Answer.TheVariants.{Done}
@@ -23,7 +23,7 @@ use Rattle.sspi_credssp.specs.ClientStep.{client_args, Asked, Walked, stepped, r
 use Rattle.sspi_credssp.specs.Context.{ContextSetting}
 use Rattle.sspi_credssp.specs.Counts.{sealed_in, unsealed_in, SameBut, silent, is_waiting_in}
 use Rattle.sspi_credssp.specs.Noted.{noted_in, noted_with}
-use Rattle.sspi_credssp.specs.Turn.{ClientFrame, UnlessRefused, FitsNoted}
+use Rattle.sspi_credssp.specs.Turn.{ClientFrame, UnlessRefused, FitsNoted, OnceNegotiated}
 use Rattle.sspi_delegate.specs.ClientRun.{client_state, client_noted, has_turn, ClientEnd, client_end, client_frame_at, EachClientTurn}
 use Rattle.sspi_delegate.specs.ClientRun.{ClientRan, HasBegun, ClientFollows}
 use Rattle.sspi_delegate.specs.EndTurns.{made_in, opened_in, is_replied, is_ended, any_proved, any_ended}

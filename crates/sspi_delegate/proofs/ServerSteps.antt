@@ -13,9 +13,9 @@ use Rattle.sspi_credssp.specs.Context.{ContextSetting}
 use Rattle.sspi_credssp.specs.Counts.{sealed_in, unsealed_in, SameBut}
 use Rattle.sspi_credssp.specs.Noted.{noted_with}
 use Rattle.sspi_credssp.specs.Server.{ServerSettings, ServerView, IsFreshServer}
-use Rattle.sspi_credssp.specs.ServerTurn.{ServerTurn, StartsUnused, server_frame, server_turn, after_reply, OnceNegotiated}
+use Rattle.sspi_credssp.specs.ServerTurn.{ServerTurn, StartsUnused, server_frame, server_turn, after_reply}
 use Rattle.sspi_credssp.specs.Shown.{IsOver, MayCheck, ShowsAnswer, ShowsNegoBack, ShowsServerActs, ShowsStateBack, server_shown}
-use Rattle.sspi_credssp.specs.Turn.{ServerFrame, UnlessRefused, FitsNoted}
+use Rattle.sspi_credssp.specs.Turn.{ServerFrame, UnlessRefused, FitsNoted, OnceNegotiated}
 use Rattle.sspi_delegate.specs.EndTurns.{made_in, opened_in, is_replied, is_finished, any_proved, any_finished}
 use Rattle.sspi_delegate.specs.Turns.{IsUnrefused, NoneRefused}
 use Rattle.sspi_delegate.specs.ServerRun.{is_over, any_over, server_state, server_noted, ServerEnd, server_end, server_frame_at}

@@ -1,26 +1,26 @@
-use Rattle.std.proofs.Common.{◌≡◌, true, ap}
+use Rattle.std.proofs.Common.{◌≡◌, true, ap, refl}
 use Rattle.sspi_credssp.specs.declared.acts.Acts.{Acts}
 use Rattle.sspi_credssp.specs.ClientCause.{altered}
 use Rattle.sspi_credssp.specs.Context.{either}
 use Rattle.sspi_credssp.proofs.ContextLaws.{lawful}
 use Rattle.sspi_credssp.proofs.Opened.{opened_true, opened_false}
-use Rattle.sspi_credssp.proofs.Deliver.{delivered}
+use Rattle.sspi_credssp.proofs.Deliver.{exchanged}
 use Rattle.sspi_credssp.proofs.client_delegation.deliver.Goals as goal
 
-pub returns-in-Ok-true-clause-delivers : goal.returns-in-Ok-true-clause-delivers
-returns-in-Ok-true-clause-delivers g c =
+pub returns-then-branch-clause-exchanges : goal.returns-then-branch-clause-exchanges
+returns-then-branch-clause-exchanges g c =
     let laws = lawful _ _ g.N.Mechanism.meaning g.K.Mechanism.meaning g.met.N.Mechanism.laws g.met.K.Mechanism.laws in
     let it = either g.N.Mechanism.REQUESTS g.N.Mechanism.meaning g.K.Mechanism.meaning in
     let sealed = c.seal_credentials.ensures in
-    delivered it laws _ _ _ c.args.acts.now _ _ _ _ _
+    exchanged it laws (λ a. a.sealed) (λ a. record a { sealed = true }) (λ _. refl) (λ _. refl) (λ _. refl) _ _ _ c.args.acts.now _ _ _ _ _
     c.requires.sealed
-    c.in-Ok-true.ensures.acts c.in-Ok-true.ensures.ok c.in-Ok-true.ensures.count
-    (opened_true it _ _ _ _ c.in-Ok-true.field-0-test c.in-Ok-true.ensures.opens)
+    c.in_ok-opens_to.ensures.acts c.in_ok-opens_to.ensures.ok c.in_ok-opens_to.ensures.count
+    (opened_true it _ _ _ _ c.if-branch.true c.in_ok-opens_to.ensures.opens)
     sealed.acts sealed.ok sealed.count sealed.err sealed.err_acts
 
-pub returns-in-Ok-false-clause-cause : goal.returns-in-Ok-false-clause-cause
-returns-in-Ok-false-clause-cause g c = λ _.
-    let checked : c.opens_to.new.acts.checked ≡ true = ap (λ (a : Acts). a.checked) c.in-Ok-false.ensures.acts in
+pub returns-else-branch-clause-cause : goal.returns-else-branch-clause-cause
+returns-else-branch-clause-cause g c = λ _.
+    let checked : c.opens_to.new.acts.checked ≡ true = ap (λ (a : Acts). a.checked) c.in_ok-opens_to.ensures.acts in
     rw checked
-    (altered (opened_false (either g.N.Mechanism.REQUESTS g.N.Mechanism.meaning g.K.Mechanism.meaning) _ _ _ _ c.in-Ok-false.field-0-test c.in-Ok-false.ensures.opens)
+    (altered (opened_false (either g.N.Mechanism.REQUESTS g.N.Mechanism.meaning g.K.Mechanism.meaning) _ _ _ _ c.if-branch.false c.in_ok-opens_to.ensures.opens)
     c.altered.ensures.kind)

@@ -3,8 +3,9 @@ use Rattle.sspi_credssp.specs.Context.{either}
 use Rattle.sspi_credssp.proofs.Opened.{opened_as}
 use Rattle.sspi_credssp.proofs.proof.opens_to.Goals as goal
 
-pub returns-in-Ok-clause-opens : goal.returns-in-Ok-clause-opens
-returns-in-Ok-clause-opens g c =
-    opened_as (either g.N.Mechanism.REQUESTS g.N.Mechanism.meaning g.K.Mechanism.meaning) _ _ c.in-Ok.text.items _ _ c.in-Ok.ensures.last
+pub returns-clause-opens : goal.returns-clause-opens
+returns-clause-opens g c =
+    opened_as (either g.N.Mechanism.REQUESTS g.N.Mechanism.meaning g.K.Mechanism.meaning) _ _ c.in_ok-text.text.items _ _
+    c.in_ok-text.ensures.last
     (λ same. sym c.deref.ensures.value ∙ c.same_bytes.ensures.same same)
     (λ differs same. c.same_bytes.ensures.other differs (c.deref.ensures.value ∙ same))

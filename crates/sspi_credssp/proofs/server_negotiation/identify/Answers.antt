@@ -1,24 +1,30 @@
 use Rattle.std.proofs.Common.{rules, subst}
+use Rattle.std.proofs.lemmas.Result.{err_from_is_err_and, IfOk-weaker, IfErr-weaker}
 use Rattle.sspi_mech.specs.Calls.{ToIdentify}
 use Rattle.sspi_credssp.specs.Context.{either}
 use Rattle.sspi_credssp.specs.ServerCause.{looked, unset}
 use Rattle.sspi_credssp.specs.ServerStep.{is_identified}
 use Rattle.sspi_credssp.proofs.server_negotiation.identify.Goals as goal
 
-pub returns-in-Err-look_up-clause-cause : goal.returns-in-Err-look_up-clause-cause
-returns-in-Err-look_up-clause-cause g c = λ memory. looked c.in-Ok.names.username (search rules) (c.in-Err-look_up.ensures.cause memory)
+pub returns-in_err-candidates-clause-cause : goal.returns-in_err-candidates-clause-cause
+returns-in_err-candidates-clause-cause g c =
+    let p = err_from_is_err_and c.from_residual-in_err-candidates.result c.from_residual-in_err-candidates.ensures.1 in
+    rw (p.1, p.2) (λ memory. looked c.in_ok-names.names.username (search rules) (c.in_err-candidates.ensures.cause memory))
 
-pub returns-in-Ok-custom_set_auth_identities-clause-identified : goal.returns-in-Ok-custom_set_auth_identities-clause-identified
-returns-in-Ok-custom_set_auth_identities-clause-identified g c =
+pub returns-clause-identified : goal.returns-clause-identified
+returns-clause-identified g c =
     let it = either g.N.Mechanism.REQUESTS g.N.Mechanism.meaning g.K.Mechanism.meaning in
-    is_identified c.in-Ok.names.username c.in-Ok-look_up.candidates.items (search rules) (search rules) c.in-Ok-look_up.ensures.some
-    (subst (λ all. it.identifies c.args.context.now all c.custom_set_auth_identities.new.self) c.in-Ok-credentials_of.ensures.ok
-    c.in-Ok-custom_set_auth_identities.ensures.identified)
+    IfOk-weaker c.custom_set_auth_identities.result _ _
+    (λ _ identifies. is_identified c.in_ok-names.names.username c.in_ok-candidates.candidates.items (search rules) (search rules)
+    c.in_ok-candidates.ensures.some
+    (subst (λ all. it.identifies c.args.context.now all c.custom_set_auth_identities.new.self) c.in_ok-identities.ensures.ok identifies))
+    c.custom_set_auth_identities.ensures.identified
 
 pub returns-clause-cause : goal.returns-clause-cause
-returns-clause-cause g c = λ memory.
+returns-clause-cause g c =
     let it = either g.N.Mechanism.REQUESTS g.N.Mechanism.meaning g.K.Mechanism.meaning in
-    unset c.in-Ok.names.username c.in-Ok-look_up.candidates.items (search rules) (search rules) c.in-Ok-look_up.ensures.some
-    (subst (λ all. it.refuses c.args.context.now (ToIdentify all) c.in-Err-custom_set_auth_identities.error.error_type)
-    c.in-Ok-credentials_of.ensures.ok
-    (c.in-Err-custom_set_auth_identities.ensures.cause memory))
+    IfErr-weaker c.custom_set_auth_identities.result _ _
+    (λ error cause memory. unset c.in_ok-names.names.username c.in_ok-candidates.candidates.items (search rules) (search rules)
+    c.in_ok-candidates.ensures.some
+    (subst (λ all. it.refuses c.args.context.now (ToIdentify all) error.error_type) c.in_ok-identities.ensures.ok (cause memory)))
+    c.custom_set_auth_identities.ensures.cause

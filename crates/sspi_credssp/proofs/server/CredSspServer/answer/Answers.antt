@@ -1,4 +1,5 @@
 use Rattle.std.proofs.Common.{◌≡◌, ◌≢◌, Some, None, Ok, Err, IfErr, ap, sym, subst, rules}
+use Rattle.std.proofs.lemmas.Result.{err_from_is_err_and}
 use Rattle.sspi_types.specs.declared.credential_use.CredentialUse.TheVariants.{Inbound}
 use Rattle.sspi_types.specs.declared.error_kind.ErrorKind.TheVariants.{InsufficientMemory}
 use Rattle.sspi_credssp.specs.declared.state.CredSspState.TheVariants.{NegoToken}
@@ -13,8 +14,8 @@ use Rattle.sspi_credssp.proofs.ContextLaws.{lawful}
 use Rattle.sspi_credssp.proofs.ServerReady.{ready_stepped}
 use Rattle.sspi_credssp.proofs.server.CredSspServer.answer.Goals as goal
 
-pub returns-in-Ok-clause-turn : goal.returns-in-Ok-clause-turn
-returns-in-Ok-clause-turn g c = λ start d same ready nego output.
+pub returns-clause-turn : goal.returns-clause-turn
+returns-clause-turn g c = λ start d same ready nego output.
     let it = either g.N.Mechanism.REQUESTS g.N.Mechanism.meaning g.K.Mechanism.meaning in
     let laws = lawful _ _ g.N.Mechanism.meaning g.K.Mechanism.meaning g.met.N.Mechanism.laws g.met.K.Mechanism.laws in
     let here : c.self.inside.context ≡ Some c.in-Some.context = search rules in
@@ -22,37 +23,39 @@ returns-in-Ok-clause-turn g c = λ start d same ready nego output.
     let ready_inside = subst (λ v. IsReady it start d v) (sym c.self.view_is) ready in
     c.answer_step.ensures.turn start d (search rules)
     (ready_stepped it start _ d c.in-Some.context c.accept.new.context _ _ _ ready_inside nego_inside here
-    (λ unused. laws.accept_unused _ _ _ _ unused c.in-Ok.ensures.step))
+    (λ unused. laws.accept_unused _ _ _ _ unused c.in_ok-step.ensures.step))
     (search rules)
 
-pub returns-in-Ok-clause-step : goal.returns-in-Ok-clause-step
-returns-in-Ok-clause-step g c = λ start d token told begun.
+pub returns-clause-step : goal.returns-clause-step
+returns-clause-step g c = λ start d token told begun.
     let it = either g.N.Mechanism.REQUESTS g.N.Mechanism.meaning g.K.Mechanism.meaning in
     let begun_inside = subst (λ v. IfContext v.context (Begun it start.context start.handle
     (server_setting g.C.CredentialsProxy.meaning start) Inbound None v.handle)) (sym c.self.view_is) begun in
     let here : c.self.inside.context ≡ Some c.in-Some.context = search rules in
     c.answer_step.ensures.step start d (search rules)
     (accepted c.in-Some.context _ _ (context_here _ _ _ here begun_inside)
-    (subst (λ t. it.accepts c.in-Some.context (server_args c.self.inside.credentials_handle t) (Ok c.in-Ok.step) c.accept.new.context)
-    (sym token) c.in-Ok.ensures.step))
+    (subst (λ t. it.accepts c.in-Some.context (server_args c.self.inside.credentials_handle t) (Ok c.in_ok-step.step) c.accept.new.context)
+    (sym token) c.in_ok-step.ensures.step))
 
-pub returns-in-Err-clause-step : goal.returns-in-Err-clause-step
-returns-in-Err-clause-step g c = λ start d token told begun.
+pub returns-in_err-step-clause-step : goal.returns-in_err-step-clause-step
+returns-in_err-step-clause-step g c = λ start d token told begun.
     let it = either g.N.Mechanism.REQUESTS g.N.Mechanism.meaning g.K.Mechanism.meaning in
     let tells = g.C.CredentialsProxy.meaning in
     let begun_inside = subst (λ v. IfContext v.context (Begun it start.context start.handle
     (server_setting g.C.CredentialsProxy.meaning start) Inbound None v.handle)) (sym c.self.view_is) begun in
     let here : c.self.inside.context ≡ Some c.in-Some.context = search rules in
     let none : c.self.inside.acts.status ≡ None = search rules in
-    subst (λ s. RefusedAt it tells s start c.self.inside.credentials_handle d.nego_tokens
-    (refused_step s c.self.inside.output c.in-Err.error) c.accept.new.context)
+    let p = err_from_is_err_and c.from_residual.result c.from_residual.ensures.1 in
+    rw (p.1, p.2)
+    (subst (λ s. RefusedAt it tells s start c.self.inside.credentials_handle d.nego_tokens
+    (refused_step s c.self.inside.output c.in_err-step.field-0.0) c.accept.new.context)
     (sym none)
     (accepted c.in-Some.context _ _ (context_here _ _ _ here begun_inside)
-    (subst (λ t. it.accepts c.in-Some.context (server_args c.self.inside.credentials_handle t) (Err c.in-Err.error) c.accept.new.context)
-    (sym token) c.in-Err.ensures.step))
+    (subst (λ t. it.accepts c.in-Some.context (server_args c.self.inside.credentials_handle t) (Err c.in_err-step.field-0.0) c.accept.new.context)
+    (sym token) c.in_err-step.ensures.step)))
 
-pub returns-in-Ok-clause-cause : goal.returns-in-Ok-clause-cause
-returns-in-Ok-clause-cause g c = λ start d same proxy begun.
+pub returns-clause-cause : goal.returns-clause-cause
+returns-clause-cause g c = λ start d same proxy begun.
     let it = either g.N.Mechanism.REQUESTS g.N.Mechanism.meaning g.K.Mechanism.meaning in
     let begun_inside = subst (λ v. IfContext v.context (Begun it start.context start.handle
     (server_setting g.C.CredentialsProxy.meaning start) Inbound None v.handle)) (sym c.self.view_is) begun in
@@ -63,5 +66,5 @@ returns-in-Ok-clause-cause g c = λ start d same proxy begun.
     NegoCause it g.C.CredentialsProxy.meaning s start d new error.error_type)) (sym c.answer_step.ensures.reached.status)
     (c.answer_step.ensures.cause start d (search rules) (search rules)
     (accepted c.in-Some.context _ _ (context_here _ _ _ here begun_inside)
-    (subst (λ t. it.accepts c.in-Some.context (server_args c.self.inside.credentials_handle t) (Ok c.in-Ok.step) c.accept.new.context)
-    (sym token) c.in-Ok.ensures.step)))
+    (subst (λ t. it.accepts c.in-Some.context (server_args c.self.inside.credentials_handle t) (Ok c.in_ok-step.step) c.accept.new.context)
+    (sym token) c.in_ok-step.ensures.step)))

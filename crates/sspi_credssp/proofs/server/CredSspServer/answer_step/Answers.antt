@@ -9,16 +9,6 @@ use Rattle.sspi_credssp.proofs.ServerCauses.{over_causes}
 use Rattle.sspi_credssp.proofs.ServerWalks.{unknown_refused, known_over, turn_refused, turn_completed}
 use Rattle.sspi_credssp.proofs.server.CredSspServer.answer_step.Goals as goal
 
-pub returns-in-Err-clause-step : goal.returns-in-Err-clause-step
-returns-in-Err-clause-step g c = λ start d told accepted.
-    let it = either g.N.Mechanism.REQUESTS g.N.Mechanism.meaning g.K.Mechanism.meaning in
-    let laws = lawful _ _ g.N.Mechanism.meaning g.K.Mechanism.meaning g.met.N.Mechanism.laws g.met.K.Mechanism.laws in
-    let tells = g.C.CredentialsProxy.meaning in
-    let negotiated : c.args.self.now.acts.negotiated ≡ true = search rules in
-    let answered : c.args.self.now.acts.status ≡ Some c.args.status = search rules in
-    turn_refused it laws tells start c.args.self.now d c.args.status c.in-Err.error negotiated answered
-    (unknown_refused it laws tells c.args.status start c.args.self.now.handle d.nego_tokens _ _ accepted)
-
 pub returns-then-has_ended-clause-step : goal.returns-then-has_ended-clause-step
 returns-then-has_ended-clause-step g c = λ start d told accepted.
     let it = either g.N.Mechanism.REQUESTS g.N.Mechanism.meaning g.K.Mechanism.meaning in

@@ -1,4 +1,5 @@
 use Rattle.std.proofs.Common.{◌≡◌, None, sym, subst, rules}
+use Rattle.std.proofs.lemmas.Result.{err_from_is_err_and}
 use Rattle.sspi_types.specs.declared.credential_use.CredentialUse.TheVariants.{Inbound}
 use Rattle.sspi_credssp.specs.Begun.{Begun, IfContext, OnContext}
 use Rattle.sspi_credssp.specs.Context.{either}
@@ -6,14 +7,16 @@ use Rattle.sspi_credssp.specs.ServerStep.{server_setting}
 use Rattle.sspi_credssp.proofs.ServerBeginning.{new_refused, there_or_not, refused_both}
 use Rattle.sspi_credssp.proofs.server.CredSspServer.begin.Goals as goal
 
-pub returns-in-Err-clause-cause : goal.returns-in-Err-clause-cause
-returns-in-Err-clause-cause g c =
+pub returns-in_err-make_context-in-None-clause-cause : goal.returns-in_err-make_context-in-None-clause-cause
+returns-in_err-make_context-in-None-clause-cause g c =
     let none : c.args.self.now.context ≡ None = search rules in
     let gone : c.make_context.new.self.context ≡ None = search rules in
-    record { kind = λ memory. rw (none, gone) (c.in-Err.ensures.cause.kind memory); plain = c.in-Err.ensures.cause.plain }
+    let p = err_from_is_err_and c.from_residual.result c.from_residual.ensures.1 in
+    rw (p.1, p.2)
+    (record { kind = λ memory. rw (none, gone) (c.in_err-make_context-in-None.ensures.cause.kind memory); plain = c.in_err-make_context-in-None.ensures.cause.plain })
 
-pub returns-in-Ok-clause-made : goal.returns-in-Ok-clause-made
-returns-in-Ok-clause-made g c =
+pub returns-in_ok-make_context-in-None-clause-made : goal.returns-in_ok-make_context-in-None-clause-made
+returns-in_ok-make_context-in-None-clause-made g c =
     let it = either g.N.Mechanism.REQUESTS g.N.Mechanism.meaning g.K.Mechanism.meaning in
     let now = c.args.self.now in
     let setting = server_setting g.C.CredentialsProxy.meaning now in
@@ -21,18 +24,18 @@ returns-in-Ok-clause-made g c =
     record {
       fresh = search rules;
       made = subst (λ v. OnContext v.context (Begun it now.context now.handle setting Inbound None v.handle)) (sym c.self-in-None.view_is)
-          (there_or_not made.context (Begun it now.context now.handle setting Inbound None made.handle) c.in-Ok.ensures.begun);
+          (there_or_not made.context (Begun it now.context now.handle setting Inbound None made.handle) c.in_ok-make_context-in-None.ensures.begun);
       unmade = search rules;
     }
 
-pub returns-in-Ok-clause-refused : goal.returns-in-Ok-clause-refused
-returns-in-Ok-clause-refused g c =
+pub returns-in_ok-make_context-in-None-clause-refused : goal.returns-in_ok-make_context-in-None-clause-refused
+returns-in_ok-make_context-in-None-clause-refused g c =
     let it = either g.N.Mechanism.REQUESTS g.N.Mechanism.meaning g.K.Mechanism.meaning in
     let now = c.args.self.now in
-    refused_both c.note_version-in-Ok.result _ _
-    (new_refused it _ c.note_version-in-Ok.result now _ c.args.version (search rules) c.in-Ok.ensures.fresh.0 c.in-Ok.ensures.fresh.1
+    refused_both c.note_version-in-None.result _ _
+    (new_refused it _ c.note_version-in-None.result now _ c.args.version (search rules) c.in_ok-make_context-in-None.ensures.fresh.0 c.in_ok-make_context-in-None.ensures.fresh.1
     (search rules)
     (subst (λ v. IfContext v.context (Begun it now.context now.handle
-    (server_setting g.C.CredentialsProxy.meaning now) Inbound None v.handle)) (sym c.self-in-None.view_is) c.in-Ok.ensures.begun)
+    (server_setting g.C.CredentialsProxy.meaning now) Inbound None v.handle)) (sym c.self-in-None.view_is) c.in_ok-make_context-in-None.ensures.begun)
     (search rules) (search rules))
     (search rules)

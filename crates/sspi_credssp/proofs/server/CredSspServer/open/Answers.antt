@@ -11,13 +11,13 @@ returns-clause-opens g c =
     let here : c.args.self.now.context ≡ Some c.in-Some.context = search rules in
     let idle : c.self.inside.acts ≡ no_acts = search rules in
     let acts = c.open_credentials.new.acts in
-    opened it c.args.self.now _ c.args.auth_info.now c.in-Ok.blob.now c.in-Some.context c.open_credentials.new.context acts
-    c.open_credentials.result c.in-Ok.ensures.blob here c.requires.acts (search rules)
+    opened it c.args.self.now _ c.args.auth_info.now c.in_ok-blob.blob.now c.in-Some.context c.open_credentials.new.context acts
+    c.open_credentials.result c.in_ok-blob.ensures.blob here c.requires.acts (search rules)
     (subst (λ a. Opens it c.in-Some.context c.open_credentials.new.context a acts) idle c.open_credentials.ensures.opens)
     c.open_credentials.ensures.ok c.open_credentials.ensures.gives
 
 pub returns-clause-cause : goal.returns-clause-cause
 returns-clause-cause g c =
-    opened_cause (either g.N.Mechanism.REQUESTS g.N.Mechanism.meaning g.K.Mechanism.meaning) c.args.auth_info.now c.in-Ok.blob.now
+    opened_cause (either g.N.Mechanism.REQUESTS g.N.Mechanism.meaning g.K.Mechanism.meaning) c.args.auth_info.now c.in_ok-blob.blob.now
     c.open_credentials.new.context
-    c.open_credentials.new.acts.opened c.open_credentials.result c.in-Ok.ensures.blob c.open_credentials.ensures.cause
+    c.open_credentials.new.acts.opened c.open_credentials.result c.in_ok-blob.ensures.blob c.open_credentials.ensures.cause
