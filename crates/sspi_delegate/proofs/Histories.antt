@@ -25,7 +25,7 @@ use Rattle.sspi_delegate.specs.EndTurns.{client_turns, server_turns}
 use Rattle.sspi_delegate.specs.History.{ClientMakes, ClientHistory, ClientStopped, ServerMakes, ServerRefuses, ServerHistory}
 use Rattle.sspi_delegate.specs.History.{ServerGave, ServerStopped, ServerPast}
 use Rattle.sspi_delegate.specs.Refusals.{ClientRefuses}
-use Rattle.sspi_delegate.specs.Rounds.{recorded}
+use Rattle.sspi_delegate.specs.Rounds.{recorded, newest_alone}
 
 module _ {C D : Type 0} (c : Meaning ContextSetting C) (k : KdcCalls D) where
   pub client_made : (first old mid new : ClientView C) (kdc_first kdc kdc2 : D) (d : TsRequest) (out : Outcome) (turns turns2 : List Turn) →
@@ -53,6 +53,20 @@ module _ {C D : Type 0} (c : Meaning ContextSetting C) (k : KdcCalls D) where
     refuses = turn.1;
     rest = rest;
   }
+
+  -- the same of the newest turn alone
+  pub client_alone : (old mid new : ClientView C) (kdc kdc2 : D) (d : TsRequest) (out : Outcome) (turns turns2 : List Turn) →
+      ClientMakes c k old kdc d out mid kdc2 → new ≡ record mid { output = [] } → turns2 ≡ recorded Client d mid.acts mid.output out ∷ turns →
+      ClientHistory c k old kdc (client_turns (newest_alone turns2)) new kdc2
+  client_alone old mid new kdc kdc2 d out turns turns2 makes rest is =
+      client_made old old mid new kdc kdc kdc2 d out [] (newest_alone turns2) (refl, refl) makes rest (ap newest_alone is)
+
+  pub client_stopped_alone : (old mid new : ClientView C) (kdc kdc2 : D) (d : TsRequest) (error : Error) (turns turns2 : List Turn) →
+      ClientTurn c old d (outcome.Refused error.error_type None) mid × ClientRefuses c (λ asked. k.replies kdc asked kdc2) old d error mid →
+      new ≡ record mid { output = [] } → turns2 ≡ recorded Client d mid.acts mid.output (outcome.Refused error.error_type None) ∷ turns →
+      ClientStopped c k old kdc error (client_turns (newest_alone turns2)) new kdc2
+  client_stopped_alone old mid new kdc kdc2 d error turns turns2 turn rest is =
+      client_stopped old old mid new kdc kdc kdc2 d error [] (newest_alone turns2) (refl, refl) turn rest (ap newest_alone is)
 
   -- a turn that was refused is one of the history
   pub client_stopped_history : (first now : ClientView C) (kdc kdc2 : D) (error : Error) (turns : List Turn) →
@@ -109,6 +123,35 @@ module _ {C : Type 0} (c : Meaning ContextSetting C) where
       proxy = proxy;
       rest = rest;
     }
+
+    -- the same of the newest turn alone
+    pub server_alone : (old mid new : ServerView C P) (d : TsRequest) (out : Outcome) (turns turns2 : List Turn) →
+        ServerMakes c p old d out mid → MakesAlone c p old mid →
+        IsAsked p (calls_in old mid.acts.status) old.proxy mid.proxy →
+        UnlessRefused out (HasAsked p (calls_in old mid.acts.status) old.proxy mid.proxy) →
+        new ≡ record mid { output = [] } → turns2 ≡ recorded Server d mid.acts mid.output out ∷ turns →
+        ServerHistory c p old (server_turns (newest_alone turns2)) new
+    server_alone old mid new d out turns turns2 makes alone proxy asked rest is =
+        server_made old old mid new d out [] (newest_alone turns2) refl makes alone proxy asked rest (ap newest_alone is)
+
+    pub server_gave_alone : (old mid new : ServerView C P) (d : TsRequest) (identity : AuthIdentity) (turns turns2 : List Turn) →
+        ServerTurn c old d outcome.Finished mid × HoldsIdentity c mid.context d.auth_info identity →
+        DoneStep c p mid.acts.status old d mid →
+        MakesAlone c p old mid → IsAsked p (calls_in old mid.acts.status) old.proxy mid.proxy →
+        HasAsked p (calls_in old mid.acts.status) old.proxy mid.proxy →
+        new ≡ record mid { output = [] } → turns2 ≡ recorded Server d mid.acts mid.output outcome.Finished ∷ turns →
+        ServerGave c p old identity (server_turns (newest_alone turns2)) new
+    server_gave_alone old mid new d identity turns turns2 turn step alone proxy asked rest is =
+        server_gave old old mid new d identity [] (newest_alone turns2) refl turn step alone proxy asked rest (ap newest_alone is)
+
+    pub server_stopped_alone : (old mid new : ServerView C P) (d : TsRequest) (error : Error) (reply : Option TsRequest)
+        (turns turns2 : List Turn) →
+        ServerTurn c old d (outcome.Refused error.error_type reply) mid → ServerRefuses c p old d error mid → MakesAlone c p old mid →
+        IsAsked p (calls_in old mid.acts.status) old.proxy mid.proxy →
+        new ≡ record mid { output = [] } → turns2 ≡ recorded Server d mid.acts mid.output (outcome.Refused error.error_type reply) ∷ turns →
+        ServerStopped c p old error (server_turns (newest_alone turns2)) new
+    server_stopped_alone old mid new d error reply turns turns2 turn refuses alone proxy rest is =
+        server_stopped old old mid new d error reply [] (newest_alone turns2) refl turn refuses alone proxy rest (ap newest_alone is)
 
     pub server_stopped_history : (first now : ServerView C P) (error : Error) (turns : List Turn) →
         ServerStopped c p first error turns now → ServerHistory c p first turns now

@@ -1,5 +1,5 @@
 -- What a turn, and what half a round, makes of an end and of its history.
-use Rattle.std.specs.Prelude.{ℕ, List, Option, None, Some, Result, Ok, Err}
+use Rattle.std.specs.Prelude.{ℕ, List, [], ◌∷◌, Option, None, Some, Result, Ok, Err}
 use Rattle.sspi_mech.specs.Meaning.{Meaning}
 use Rattle.sspi_names.specs.declared.identity.AuthIdentity.{AuthIdentity}
 use Rattle.sspi_tsreq.specs.declared.request.TsRequest.{TsRequest}
@@ -31,6 +31,22 @@ use Rattle.sspi_credssp.specs.declared.turn.Outcome.TheVariants as outcome
 -- a turn as it is recorded
 abbrev pub recorded : End → TsRequest → Acts → List ℕ → Outcome → Turn
 recorded end request acts output outcome = record { end = end; delivered = request; acts = acts; output = output; outcome = outcome }
+
+abbrev pub newest_alone : List Turn → List Turn
+newest_alone [] = []
+newest_alone (t ∷ past) = t ∷ []
+
+-- the turns of this transcript that the call added which answered so: one, or none where there was no memory
+abbrev pub added_by_client : ClientRound → List Turn → List Turn
+added_by_client client.Replied turns = newest_alone turns
+added_by_client (client.Refused error) turns = newest_alone turns
+added_by_client client.Lost turns = []
+
+abbrev pub added_by_server : ServerRound → List Turn → List Turn
+added_by_server server.Replied turns = newest_alone turns
+added_by_server (server.Finished identity) turns = newest_alone turns
+added_by_server (server.Refused error) turns = newest_alone turns
+added_by_server server.Lost turns = []
 
 -- an answer that is no end's refusal
 abbrev pub IsNoRefusal : DelegateError → Type 0

@@ -8,7 +8,7 @@ ghost use Rattle.sspi_delegate.specs.Turns.{AllGoOn};
 ghost use Rattle.sspi_delegate.specs.History.{ClientHistory, ServerHistory};
 ghost use Rattle.sspi_delegate.specs.Recorded.{ClientPushed, ServerPushed};
 ghost use Rattle.sspi_delegate.specs.Refusals.{KdcStays, ProxyStays};
-ghost use Rattle.sspi_delegate.specs.Rounds.{recorded, ClientConcludes, WaitsWhereLost, ClientRoundPast, ServerRoundPast};
+ghost use Rattle.sspi_delegate.specs.Rounds.{recorded, added_by_client, added_by_server, ClientConcludes, WaitsWhereLost, ClientRoundPast, ServerRoundPast};
 
 use crate::transcript::Transcript;
 use sspi_credssp::{
@@ -111,6 +111,8 @@ pub fn client_round<N: Mechanism, K: Mechanism, D: Kdc>(
     request: TsRequest,
 ) -> ClientRound
     ensures turn { ClientPushed request result transcript.old.turns transcript.new.turns }
+    ensures made { ClientRoundPast (either N.REQUESTS N.meaning K.meaning) (kdc_calls D.told D.asked D.faults) client.old kdc.old result
+        (client_turns (added_by_client result transcript.new.turns)) client.new kdc.new }
     ensures client_history { let c = either N.REQUESTS N.meaning K.meaning in let k = kdc_calls D.told D.asked D.faults in
         (first : ClientView (SspiContext N K)) (kdc_first : D) → AllGoOn (client_turns transcript.old.turns) →
         ClientHistory c k first kdc_first (client_turns transcript.old.turns) client.old kdc.old →
@@ -177,6 +179,8 @@ pub fn server_round<N: Mechanism, K: Mechanism, C: CredentialsProxy>(
     request: TsRequest,
 ) -> ServerRound
     ensures turn { ServerPushed request result transcript.old.turns transcript.new.turns }
+    ensures made { ServerRoundPast (either N.REQUESTS N.meaning K.meaning) C.meaning server.old result
+        (server_turns (added_by_server result transcript.new.turns)) server.new }
     ensures server_history { let c = either N.REQUESTS N.meaning K.meaning in (first : ServerView (SspiContext N K) C) →
         ServerHistory c C.meaning first (server_turns transcript.old.turns) server.old →
         ServerRoundPast c C.meaning first result (server_turns transcript.new.turns) server.new }
