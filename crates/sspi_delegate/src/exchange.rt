@@ -104,19 +104,12 @@ fn rounds<N: Mechanism, K: Mechanism, C: CredentialsProxy, L: Link, D: Kdc>(
     ensures kdc { KdcStays D.told D.faults kdc.old kdc.new }
 {
     for turn in 0..turns {
-        match client_half(alloc, client, link, kdc, transcript) {
-            Ok(()) => {}
-            Err(error) => return Err(error),
-        }
-        match server_half(alloc, server, link, transcript) {
-            Ok(None) => {}
-            Ok(Some(credentials)) => {
-                return Ok(Delegation {
-                    credentials,
-                    turns: turn + 1,
-                });
-            }
-            Err(error) => return Err(error),
+        client_half(alloc, client, link, kdc, transcript)?;
+        if let Some(credentials) = server_half(alloc, server, link, transcript)? {
+            return Ok(Delegation {
+                credentials,
+                turns: turn + 1,
+            });
         }
     }
     Err(DelegateError::TurnsSpent)
@@ -146,15 +139,12 @@ fn client_half<N: Mechanism, K: Mechanism, L: Link, D: Kdc>(
     ensures kdc { KdcStays D.told D.faults kdc.old kdc.new }
     ensures server { server_turns transcript.new.turns ≡ server_turns transcript.old.turns }
 {
-    let request = match next_request(alloc, link, transcript, End::Client) {
-        Ok(request) => request,
-        Err(error) => return Err(error),
-    };
+    let request = next_request(alloc, link, transcript, End::Client)?;
     match client_round(alloc, client, kdc, transcript, request) {
-        ClientRound::Replied => match give(alloc, link, transcript) {
-            Ok(()) => Ok(()),
-            Err(error) => Err(error),
-        },
+        ClientRound::Replied => {
+            give(alloc, link, transcript)?;
+            Ok(())
+        }
         ClientRound::Refused(error) => Err(client_error(error)),
         ClientRound::Lost => Err(DelegateError::InsufficientMemory),
     }
@@ -181,15 +171,12 @@ fn server_half<N: Mechanism, K: Mechanism, C: CredentialsProxy, L: Link>(
     ensures proxy { ProxyStays C.meaning server.old.proxy server.new.proxy }
     ensures client { client_turns transcript.new.turns ≡ client_turns transcript.old.turns }
 {
-    let request = match next_request(alloc, link, transcript, End::Server) {
-        Ok(request) => request,
-        Err(error) => return Err(error),
-    };
+    let request = next_request(alloc, link, transcript, End::Server)?;
     match server_round(alloc, server, transcript, request) {
-        ServerRound::Replied => match give(alloc, link, transcript) {
-            Ok(()) => Ok(None),
-            Err(error) => Err(error),
-        },
+        ServerRound::Replied => {
+            give(alloc, link, transcript)?;
+            Ok(None)
+        }
         ServerRound::Finished(identity) => Ok(Some(identity)),
         ServerRound::Refused(error) => {
             // What comes of the message that tells the client changes nothing.

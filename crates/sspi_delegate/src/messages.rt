@@ -29,10 +29,7 @@ pub(crate) fn take_delivery<L: Link>(alloc: Global, link: &mut L) -> Result<TsRe
     let mut taken = 0;
     while taken < DELIVERY_LIMIT {
         let most = most_at(taken);
-        let count = match link.piece(&mut room[..most]) {
-            Ok(count) => count,
-            Err(error) => return Err(error),
-        };
+        let count = link.piece(&mut room[..most])?;
         if count == 0 {
             return Ok(reader);
         }

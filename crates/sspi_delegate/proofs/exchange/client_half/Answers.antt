@@ -1,3 +1,4 @@
+use Rattle.std.proofs.lemmas.Result.{err_from_is_err_and}
 use Rattle.sspi_credssp.specs.declared.turn.End.TheVariants.{Client}
 use Rattle.sspi_credssp.specs.Context.{either}
 use Rattle.sspi_delegate.proofs.Alternating.{clients_go}
@@ -6,35 +7,39 @@ use Rattle.sspi_delegate.proofs.LogSteps.{turned, lost, client_refused}
 use Rattle.sspi_delegate.specs.Asking.{kdc_calls}
 use Rattle.sspi_delegate.proofs.exchange.client_half.Goals as goal
 
-pub returns-in-Ok-give-clause-half : goal.returns-in-Ok-give-clause-half
-returns-in-Ok-give-clause-half g c base start limit next left w =
-    c.in-Ok-give.ensures.ok base start
-    (turned base start Client c.in-Ok.request _ _ _ _ next (c.in-Ok.ensures.ok base start w) c.in-Replied.ensures.turn)
+pub returns-in_ok-give-in-Replied-clause-half : goal.returns-in_ok-give-in-Replied-clause-half
+returns-in_ok-give-in-Replied-clause-half g c base start limit next left w =
+    c.in_ok-give-in-Replied.ensures.ok base start
+    (turned base start Client c.in_ok-request.request _ _ _ _ next (c.in_ok-request.ensures.ok base start w) c.in-Replied.ensures.turn)
 
-pub returns-in-Err-give-clause-half : goal.returns-in-Err-give-clause-half
-returns-in-Err-give-clause-half g c base start limit next left w =
-    c.in-Err-give.ensures.err base start limit
-    (turned base start Client c.in-Ok.request _ _ _ _ next (c.in-Ok.ensures.ok base start w) c.in-Replied.ensures.turn)
+pub returns-in_err-give-in-Replied-clause-half : goal.returns-in_err-give-in-Replied-clause-half
+returns-in_err-give-in-Replied-clause-half g c base start limit next left w =
+    let p = err_from_is_err_and c.from_residual-in_err-give-in-Replied.result c.from_residual-in_err-give-in-Replied.ensures.1 in
+    rw (p.1, p.2)
+    (c.in_err-give-in-Replied.ensures.err base start limit
+    (turned base start Client c.in_ok-request.request _ _ _ _ next (c.in_ok-request.ensures.ok base start w) c.in-Replied.ensures.turn))
 
 pub returns-in-Refused-clause-half : goal.returns-in-Refused-clause-half
 returns-in-Refused-clause-half g c base start limit next left w =
-    client_refused base start limit c.in-Refused.error c.client_error.result c.in-Ok.request _ _ _ _
-    next (c.in-Ok.ensures.ok base start w) c.in-Refused.ensures.turn c.client_error.ensures
+    client_refused base start limit c.in-Refused.error c.client_error.result c.in_ok-request.request _ _ _ _
+    next (c.in_ok-request.ensures.ok base start w) c.in-Refused.ensures.turn c.client_error.ensures
 
 pub returns-in-Lost-clause-half : goal.returns-in-Lost-clause-half
 returns-in-Lost-clause-half g c base start limit next left w =
-    lost base start limit c.in-Ok.request _ _ _ _ (c.in-Ok.ensures.ok base start w) c.in-Lost.ensures.turn
+    lost base start limit c.in_ok-request.request _ _ _ _ (c.in_ok-request.ensures.ok base start w) c.in-Lost.ensures.turn
 
-pub returns-in-Ok-give-clause-client_history : goal.returns-in-Ok-give-clause-client_history
-returns-in-Ok-give-clause-client_history g c first kdc_first going history =
+pub returns-in_ok-give-in-Replied-clause-client_history : goal.returns-in_ok-give-in-Replied-clause-client_history
+returns-in_ok-give-in-Replied-clause-client_history g c first kdc_first going history =
     c.in-Replied.ensures.client_history first kdc_first (clients_go _ going) history
 
-pub returns-in-Err-give-clause-client_history : goal.returns-in-Err-give-clause-client_history
-returns-in-Err-give-clause-client_history g c first kdc_first going history =
-    client_half_stopped (either g.N.Mechanism.REQUESTS g.N.Mechanism.meaning g.K.Mechanism.meaning)
+pub returns-in_err-give-in-Replied-clause-client_history : goal.returns-in_err-give-in-Replied-clause-client_history
+returns-in_err-give-in-Replied-clause-client_history g c first kdc_first going history =
+    let p = err_from_is_err_and c.from_residual-in_err-give-in-Replied.result c.from_residual-in_err-give-in-Replied.ensures.1 in
+    rw (p.1, p.2)
+    (client_half_stopped (either g.N.Mechanism.REQUESTS g.N.Mechanism.meaning g.K.Mechanism.meaning)
     (kdc_calls g.D.Kdc.told g.D.Kdc.asked g.D.Kdc.faults) first c.client_round.new.client kdc_first
-    c.client_round.new.kdc _ c.in-Err-give.error c.in-Err-give.ensures.link
-    (c.in-Replied.ensures.client_history first kdc_first (clients_go _ going) history)
+    c.client_round.new.kdc _ c.in_err-give-in-Replied.field-0.0 c.in_err-give-in-Replied.ensures.link
+    (c.in-Replied.ensures.client_history first kdc_first (clients_go _ going) history))
 
 pub returns-in-Refused-clause-client_history : goal.returns-in-Refused-clause-client_history
 returns-in-Refused-clause-client_history g c first kdc_first going history =
@@ -47,8 +52,10 @@ pub returns-in-Lost-clause-client_history : goal.returns-in-Lost-clause-client_h
 returns-in-Lost-clause-client_history g c first kdc_first going history =
     c.in-Lost.ensures.client_history first kdc_first (clients_go _ going) history
 
-pub returns-in-Err-clause-client_history : goal.returns-in-Err-clause-client_history
-returns-in-Err-clause-client_history g c first kdc_first going history =
-    client_half_stopped (either g.N.Mechanism.REQUESTS g.N.Mechanism.meaning g.K.Mechanism.meaning)
+pub returns-in_err-request-clause-client_history : goal.returns-in_err-request-clause-client_history
+returns-in_err-request-clause-client_history g c first kdc_first going history =
+    let p = err_from_is_err_and c.from_residual.result c.from_residual.ensures.1 in
+    rw (p.1, p.2)
+    (client_half_stopped (either g.N.Mechanism.REQUESTS g.N.Mechanism.meaning g.K.Mechanism.meaning)
     (kdc_calls g.D.Kdc.told g.D.Kdc.asked g.D.Kdc.faults) first c.args.client.now kdc_first
-    c.args.kdc.now _ c.in-Err.error c.in-Err.ensures.link history
+    c.args.kdc.now _ c.in_err-request.field-0.0 c.in_err-request.ensures.link history)

@@ -1,4 +1,5 @@
 use Rattle.std.proofs.Common.{Option}
+use Rattle.std.proofs.lemmas.Result.{err_from_is_err_and}
 use Rattle.sspi_names.specs.declared.identity.AuthIdentity.{AuthIdentity}
 use Rattle.sspi_credssp.specs.declared.turn.End.TheVariants.{Server}
 use Rattle.sspi_delegate.specs.Causes.{IsServerRefusal}
@@ -8,43 +9,50 @@ use Rattle.sspi_delegate.proofs.LogSteps.{but_last, turned, finishes, lost, refu
 use Rattle.sspi_delegate.proofs.Reading.{read_still, refused_still}
 use Rattle.sspi_delegate.proofs.exchange.server_half.Goals as goal
 
-pub returns-in-Err-clause-half : goal.returns-in-Err-clause-half
-returns-in-Err-clause-half g c base start limit next w = c.in-Err.ensures.err base start limit next (server_left limit _ next) w
+pub returns-in_err-request-clause-half : goal.returns-in_err-request-clause-half
+returns-in_err-request-clause-half g c base start limit next w =
+    let p = err_from_is_err_and c.from_residual.result c.from_residual.ensures.1 in
+    rw (p.1, p.2)
+    (c.in_err-request.ensures.err base start limit next (server_left limit _ next) w)
 
-pub returns-in-Ok-give-clause-half : goal.returns-in-Ok-give-clause-half
-returns-in-Ok-give-clause-half g c base start limit next w =
-    c.in-Ok-give.ensures.ok base start
-    (turned base start Server c.in-Ok.request _ _ _ _ next (c.in-Ok.ensures.ok base start w) c.in-Replied.ensures.turn)
+pub returns-in_ok-give-in-Replied-clause-half : goal.returns-in_ok-give-in-Replied-clause-half
+returns-in_ok-give-in-Replied-clause-half g c base start limit next w =
+    c.in_ok-give-in-Replied.ensures.ok base start
+    (turned base start Server c.in_ok-request.request _ _ _ _ next (c.in_ok-request.ensures.ok base start w) c.in-Replied.ensures.turn)
 
-pub returns-in-Err-give-clause-half : goal.returns-in-Err-give-clause-half
-returns-in-Err-give-clause-half g c base start limit next w =
-    c.in-Err-give.ensures.err base start limit
-    (turned base start Server c.in-Ok.request _ _ _ _ next (c.in-Ok.ensures.ok base start w) c.in-Replied.ensures.turn)
+pub returns-in_err-give-in-Replied-clause-half : goal.returns-in_err-give-in-Replied-clause-half
+returns-in_err-give-in-Replied-clause-half g c base start limit next w =
+    let p = err_from_is_err_and c.from_residual-in_err-give-in-Replied.result c.from_residual-in_err-give-in-Replied.ensures.1 in
+    rw (p.1, p.2)
+    (c.in_err-give-in-Replied.ensures.err base start limit
+    (turned base start Server c.in_ok-request.request _ _ _ _ next (c.in_ok-request.ensures.ok base start w) c.in-Replied.ensures.turn))
 
 pub returns-in-Finished-clause-half : goal.returns-in-Finished-clause-half
 returns-in-Finished-clause-half g c base start limit next w =
-    finishes base start c.in-Ok.request _ _ _ _ next (c.in-Ok.ensures.ok base start w) c.in-Finished.ensures.turn
+    finishes base start c.in_ok-request.request _ _ _ _ next (c.in_ok-request.ensures.ok base start w) c.in-Finished.ensures.turn
 
 pub returns-in-Refused-clause-half : goal.returns-in-Refused-clause-half
 returns-in-Refused-clause-half g c base start limit next w =
-    let v = c.in-Ok.ensures.ok base start w in
-    server_refused base start limit c.in-Refused.error c.server_error.result c.in-Ok.request _ _ _ _ _ _
+    let v = c.in_ok-request.ensures.ok base start w in
+    server_refused base start limit c.in-Refused.error c.server_error.result c.in_ok-request.request _ _ _ _ _ _
     next v c.in-Refused.ensures.turn c.server_error.ensures
-    (c.give-given.ensures.given base start v.calm (refusal_has_message c.in-Ok.request c.in-Refused.error.error_type _ _
-    c.in-Refused.ensures.turn) (but_last base start Server c.in-Ok.request
+    (c.give-given.ensures.given base start v.calm (refusal_has_message c.in_ok-request.request c.in-Refused.error.error_type _ _
+    c.in-Refused.ensures.turn) (but_last base start Server c.in_ok-request.request
     (IsServerRefusal c.in-Refused.error.error_type) _ _ _ _ v c.in-Refused.ensures.turn))
 
 pub returns-in-Lost-clause-half : goal.returns-in-Lost-clause-half
 returns-in-Lost-clause-half g c base start limit next w =
-    lost base start limit c.in-Ok.request _ _ _ _ (c.in-Ok.ensures.ok base start w) c.in-Lost.ensures.turn
+    lost base start limit c.in_ok-request.request _ _ _ _ (c.in_ok-request.ensures.ok base start w) c.in-Lost.ensures.turn
 
-pub returns-in-Ok-give-clause-server_history : goal.returns-in-Ok-give-clause-server_history
-returns-in-Ok-give-clause-server_history g c first history = c.in-Replied.ensures.server_history first history
+pub returns-in_ok-give-in-Replied-clause-server_history : goal.returns-in_ok-give-in-Replied-clause-server_history
+returns-in_ok-give-in-Replied-clause-server_history g c first history = c.in-Replied.ensures.server_history first history
 
-pub returns-in-Err-give-clause-server_history : goal.returns-in-Err-give-clause-server_history
-returns-in-Err-give-clause-server_history g c first history =
-    server_half_stopped (either g.N.Mechanism.REQUESTS g.N.Mechanism.meaning g.K.Mechanism.meaning) g.C.CredentialsProxy.meaning first
-    c.server_round.new.server _ c.in-Err-give.error c.in-Err-give.ensures.link (c.in-Replied.ensures.server_history first history)
+pub returns-in_err-give-in-Replied-clause-server_history : goal.returns-in_err-give-in-Replied-clause-server_history
+returns-in_err-give-in-Replied-clause-server_history g c first history =
+    let p = err_from_is_err_and c.from_residual-in_err-give-in-Replied.result c.from_residual-in_err-give-in-Replied.ensures.1 in
+    rw (p.1, p.2)
+    (server_half_stopped (either g.N.Mechanism.REQUESTS g.N.Mechanism.meaning g.K.Mechanism.meaning) g.C.CredentialsProxy.meaning first
+    c.server_round.new.server _ c.in_err-give-in-Replied.field-0.0 c.in_err-give-in-Replied.ensures.link (c.in-Replied.ensures.server_history first history))
 
 pub returns-in-Finished-clause-server_history : goal.returns-in-Finished-clause-server_history
 returns-in-Finished-clause-server_history g c first history = c.in-Finished.ensures.server_history first history
@@ -58,13 +66,15 @@ returns-in-Refused-clause-server_history g c first history =
 pub returns-in-Lost-clause-server_history : goal.returns-in-Lost-clause-server_history
 returns-in-Lost-clause-server_history g c first history = c.in-Lost.ensures.server_history first history
 
-pub returns-in-Err-clause-server_history : goal.returns-in-Err-clause-server_history
-returns-in-Err-clause-server_history g c first history =
-    server_half_stopped (either g.N.Mechanism.REQUESTS g.N.Mechanism.meaning g.K.Mechanism.meaning) g.C.CredentialsProxy.meaning first
-    c.args.server.now _ c.in-Err.error c.in-Err.ensures.link history
+pub returns-in_err-request-clause-server_history : goal.returns-in_err-request-clause-server_history
+returns-in_err-request-clause-server_history g c first history =
+    let p = err_from_is_err_and c.from_residual.result c.from_residual.ensures.1 in
+    rw (p.1, p.2)
+    (server_half_stopped (either g.N.Mechanism.REQUESTS g.N.Mechanism.meaning g.K.Mechanism.meaning) g.C.CredentialsProxy.meaning first
+    c.args.server.now _ c.in_err-request.field-0.0 c.in_err-request.ensures.link history)
 
 pub returns-in-Refused-clause-still : goal.returns-in-Refused-clause-still
 returns-in-Refused-clause-still g c =
     refused_still (Option AuthIdentity) _ _ _ _ _ c.give-given.result c.in-Refused.error c.server_error.result _ _ _
-    c.in-Ok.ensures.told.same (read_still _ _ _ c.in-Ok.request c.in-Ok.ensures.still) c.give-given.ensures.still c.give-given.ensures.same
+    c.in_ok-request.ensures.told.same (read_still _ _ _ c.in_ok-request.request c.in_ok-request.ensures.still) c.give-given.ensures.still c.give-given.ensures.same
     c.server_error.ensures
