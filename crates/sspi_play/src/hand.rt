@@ -113,10 +113,10 @@ fn hand_server<N: Mechanism, K: Mechanism, C: CredentialsProxy>(
     match server_round(alloc, server, transcript, request) {
         ServerRound::Replied => Ok(Handed::Stands(Ending::Running)),
         ServerRound::Finished(identity) => Ok(Handed::Finished(identity)),
-        ServerRound::Refused(error) => match ending_by(error) {
-            Ok(ending) => Ok(Handed::Stands(ending)),
-            Err(error) => Err(error),
-        },
+        ServerRound::Refused(error) => {
+            let ending = ending_by(error)?;
+            Ok(Handed::Stands(ending))
+        }
         ServerRound::Lost => Err(DelegateError::InsufficientMemory),
     }
 }
@@ -156,29 +156,31 @@ pub(crate) fn hand<N: Mechanism, K: Mechanism, C: CredentialsProxy, D: Kdc>(
             standing.begun = true;
             match standing.played.client {
                 Ending::Running => {
-                    match hand_client(alloc, client, kdc, transcript, start, &delivery.bytes) {
-                        Ok(ending) => {
-                            standing.played.client = ending;
-                            Ok(())
-                        }
-                        Err(error) => Err(error),
-                    }
+                    let ending = hand_client(
+                        alloc,
+                        client,
+                        kdc,
+                        transcript,
+                        start,
+                        &delivery.bytes,
+                    )?;
+                    standing.played.client = ending;
+                    Ok(())
                 }
                 Ending::Refused(_) => Ok(()),
                 Ending::Unread(_) => Ok(()),
             }
         }
         End::Server => match standing.played.server {
-            Ending::Running => match hand_server(alloc, server, transcript, &delivery.bytes) {
-                Ok(Handed::Stands(ending)) => {
+            Ending::Running => match hand_server(alloc, server, transcript, &delivery.bytes)? {
+                Handed::Stands(ending) => {
                     standing.played.server = ending;
                     Ok(())
                 }
-                Ok(Handed::Finished(identity)) => {
+                Handed::Finished(identity) => {
                     standing.played.identity = Some(identity);
                     Ok(())
                 }
-                Err(error) => Err(error),
             },
             Ending::Refused(_) => Ok(()),
             Ending::Unread(_) => Ok(()),

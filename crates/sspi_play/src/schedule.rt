@@ -83,7 +83,7 @@ fn hand_all<N: Mechanism, K: Mechanism, C: CredentialsProxy, D: Kdc>(
         },
     };
     for delivery in schedule {
-        match hand(
+        hand(
             alloc,
             client,
             server,
@@ -91,10 +91,7 @@ fn hand_all<N: Mechanism, K: Mechanism, C: CredentialsProxy, D: Kdc>(
             kdc,
             transcript,
             &mut standing,
-        ) {
-            Ok(()) => {}
-            Err(error) => return Err(error),
-        }
+        )?;
     }
     Ok(standing.played)
 }

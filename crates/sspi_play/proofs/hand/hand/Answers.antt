@@ -1,4 +1,5 @@
 use Rattle.std.proofs.Common.{Some, sym, ◌∙◌, refl}
+use Rattle.std.proofs.lemmas.Result.{err_from_is_err_and}
 use Rattle.sspi_credssp.specs.Context.{either}
 use Rattle.sspi_credssp.specs.declared.turn.End.TheVariants.{Client}
 use Rattle.sspi_delegate.specs.Asking.{kdc_calls}
@@ -9,29 +10,32 @@ use Rattle.sspi_play.proofs.Steps.{unread_stops, refused_stops, client_stands, c
 use Rattle.sspi_play.proofs.Steps.{server_finishes, server_passed, server_stops}
 use Rattle.sspi_play.proofs.hand.hand.Goals as goal
 
-pub returns-in-Ok-clause-stands : goal.returns-in-Ok-clause-stands
-returns-in-Ok-clause-stands g c past stands =
-    client_stands c.args.delivery.now past _ c.in-Ok.ending _ _ c.args.standing.now c.in-Client.is refl c.in-Running.is
-    c.in-Ok.ensures.hands stands
+pub returns-in_ok-ending-in-Running-clause-stands : goal.returns-in_ok-ending-in-Running-clause-stands
+returns-in_ok-ending-in-Running-clause-stands g c past stands =
+    client_stands c.args.delivery.now past _ c.in_ok-ending-in-Running.ending _ _ c.args.standing.now c.in-Client.is refl c.in-Running.is
+    c.in_ok-ending-in-Running.ensures.hands stands
 
-pub returns-in-Ok-clause-client_history : goal.returns-in-Ok-clause-client_history
-returns-in-Ok-clause-client_history g c first kdc_first past stands history =
-    c.in-Ok.ensures.history first kdc_first
+pub returns-in_ok-ending-in-Running-clause-client_history : goal.returns-in_ok-ending-in-Running-clause-client_history
+returns-in_ok-ending-in-Running-clause-client_history g c first kdc_first past stands history =
+    c.in_ok-ending-in-Running.ensures.history first kdc_first
     (history_goes (either g.N.Mechanism.REQUESTS g.N.Mechanism.meaning g.K.Mechanism.meaning)
     (kdc_calls g.D.Kdc.told g.D.Kdc.asked g.D.Kdc.faults) _ _ _ _ _
     (running_unrefused Client past _ stands.plays (sym stands.client ∙ c.in-Running.is)) history) history
 
-pub returns-in-Err-clause-stops : goal.returns-in-Err-clause-stops
-returns-in-Err-clause-stops g c past stands =
-    client_stops c.args.delivery.now past _ c.in-Err.error _ _ c.args.standing.now c.in-Client.is refl c.in-Running.is
-    c.in-Err.ensures.hands stands
+pub returns-in_err-ending-in-Running-clause-stops : goal.returns-in_err-ending-in-Running-clause-stops
+returns-in_err-ending-in-Running-clause-stops g c =
+    let p = err_from_is_err_and c.from_residual.result c.from_residual.ensures.1 in
+    rw p.1 (λ past stands. client_stops c.args.delivery.now past _ c.in_err-ending-in-Running.field-0.0 _ _ c.args.standing.now c.in-Client.is refl c.in-Running.is
+    c.in_err-ending-in-Running.ensures.hands stands)
 
-pub returns-in-Err-clause-client_history : goal.returns-in-Err-clause-client_history
-returns-in-Err-clause-client_history g c first kdc_first past stands history =
-    c.in-Err.ensures.history first kdc_first
+pub returns-in_err-ending-in-Running-clause-client_history : goal.returns-in_err-ending-in-Running-clause-client_history
+returns-in_err-ending-in-Running-clause-client_history g c first kdc_first past stands history =
+    let p = err_from_is_err_and c.from_residual.result c.from_residual.ensures.1 in
+    rw p.1
+    (c.in_err-ending-in-Running.ensures.history first kdc_first
     (history_goes (either g.N.Mechanism.REQUESTS g.N.Mechanism.meaning g.K.Mechanism.meaning)
     (kdc_calls g.D.Kdc.told g.D.Kdc.asked g.D.Kdc.faults) _ _ _ _ _
-    (running_unrefused Client past _ stands.plays (sym stands.client ∙ c.in-Running.is)) history) history
+    (running_unrefused Client past _ stands.plays (sym stands.client ∙ c.in-Running.is)) history) history)
 
 pub returns-in-Refused-clause-stands : goal.returns-in-Refused-clause-stands
 returns-in-Refused-clause-stands g c past stands =
@@ -41,41 +45,42 @@ pub returns-in-Unread-clause-stands : goal.returns-in-Unread-clause-stands
 returns-in-Unread-clause-stands g c past stands =
     client_passed c.args.delivery.now past _ c.args.standing.now c.in-Client.is (unread_stops _ _ c.in-Unread.is) stands
 
-pub returns-in-Ok-Stands-clause-stands : goal.returns-in-Ok-Stands-clause-stands
-returns-in-Ok-Stands-clause-stands g c past stands =
-    server_stands c.args.delivery.now past c.in-Ok-Stands.ending _ _ c.args.standing.now c.in-Server.is c.in-Running-server.is
-    (rw c.in-Ok-Stands.field-0-is at c.in-Ok-Stands.ensures.hands) stands
+pub returns-in-Stands-clause-stands : goal.returns-in-Stands-clause-stands
+returns-in-Stands-clause-stands g c past stands =
+    server_stands c.args.delivery.now past c.in-Stands.ending _ _ c.args.standing.now c.in-Server.is c.in-Running-server.is
+    (rw c.in-Stands.is at c.in_ok-ending-in-Running-server.ensures.hands) stands
 
-pub returns-in-Ok-Stands-clause-server_history : goal.returns-in-Ok-Stands-clause-server_history
-returns-in-Ok-Stands-clause-server_history g c first history =
-    rw c.in-Ok-Stands.field-0-is at (c.in-Ok-Stands.ensures.history first history)
+pub returns-in-Stands-clause-server_history : goal.returns-in-Stands-clause-server_history
+returns-in-Stands-clause-server_history g c first history =
+    rw c.in-Stands.is at (c.in_ok-ending-in-Running-server.ensures.history first history)
 
-pub returns-in-Ok-Stands-clause-identity : goal.returns-in-Ok-Stands-clause-identity
-returns-in-Ok-Stands-clause-identity g c first history gave =
+pub returns-in-Stands-clause-identity : goal.returns-in-Stands-clause-identity
+returns-in-Stands-clause-identity g c first history gave =
     gave_on (either g.N.Mechanism.REQUESTS g.N.Mechanism.meaning g.K.Mechanism.meaning) g.C.CredentialsProxy.meaning first
-    c.args.standing.now.played.identity c.in-Ok-Stands.ending c.args.delivery.now.bytes _ _
-    (rw c.in-Ok-Stands.field-0-is at c.in-Ok-Stands.ensures.hands) gave
+    c.args.standing.now.played.identity c.in-Stands.ending c.args.delivery.now.bytes _ _
+    (rw c.in-Stands.is at c.in_ok-ending-in-Running-server.ensures.hands) gave
 
-pub returns-in-Ok-Finished-clause-stands : goal.returns-in-Ok-Finished-clause-stands
-returns-in-Ok-Finished-clause-stands g c past stands =
-    server_finishes c.args.delivery.now past (Some c.in-Ok-Finished.identity) _ _ c.args.standing.now c.in-Server.is c.in-Running-server.is
-    (rw c.in-Ok-Finished.field-0-is at c.in-Ok-Finished.ensures.hands) stands
+pub returns-in-Finished-clause-stands : goal.returns-in-Finished-clause-stands
+returns-in-Finished-clause-stands g c past stands =
+    server_finishes c.args.delivery.now past (Some c.in-Finished.identity) _ _ c.args.standing.now c.in-Server.is c.in-Running-server.is
+    (rw c.in-Finished.is at c.in_ok-ending-in-Running-server.ensures.hands) stands
 
-pub returns-in-Ok-Finished-clause-server_history : goal.returns-in-Ok-Finished-clause-server_history
-returns-in-Ok-Finished-clause-server_history g c first history =
-    (rw c.in-Ok-Finished.field-0-is at (c.in-Ok-Finished.ensures.history first history)).0
+pub returns-in-Finished-clause-server_history : goal.returns-in-Finished-clause-server_history
+returns-in-Finished-clause-server_history g c first history =
+    (rw c.in-Finished.is at (c.in_ok-ending-in-Running-server.ensures.history first history)).0
 
-pub returns-in-Ok-Finished-clause-identity : goal.returns-in-Ok-Finished-clause-identity
-returns-in-Ok-Finished-clause-identity g c first history gave =
+pub returns-in-Finished-clause-identity : goal.returns-in-Finished-clause-identity
+returns-in-Finished-clause-identity g c first history gave =
     gave_now (either g.N.Mechanism.REQUESTS g.N.Mechanism.meaning g.K.Mechanism.meaning) g.C.CredentialsProxy.meaning first
-    c.hand_server.new.server c.in-Ok-Finished.identity c.args.delivery.now.bytes _ _
-    (rw c.in-Ok-Finished.field-0-is at c.in-Ok-Finished.ensures.hands)
-    (rw c.in-Ok-Finished.field-0-is at (c.in-Ok-Finished.ensures.history first history))
+    c.hand_server.new.server c.in-Finished.identity c.args.delivery.now.bytes _ _
+    (rw c.in-Finished.is at c.in_ok-ending-in-Running-server.ensures.hands)
+    (rw c.in-Finished.is at (c.in_ok-ending-in-Running-server.ensures.history first history))
 
-pub returns-in-Err-hand_server-clause-stops : goal.returns-in-Err-hand_server-clause-stops
-returns-in-Err-hand_server-clause-stops g c past stands =
-    server_stops c.args.delivery.now past c.in-Err-hand_server.error _ _ c.args.standing.now c.in-Server.is c.in-Running-server.is
-    c.in-Err-hand_server.ensures.hands stands
+pub returns-in_err-ending-in-Running-server-clause-stops : goal.returns-in_err-ending-in-Running-server-clause-stops
+returns-in_err-ending-in-Running-server-clause-stops g c =
+    let p = err_from_is_err_and c.from_residual-in_err-ending-in-Running-server.result c.from_residual-in_err-ending-in-Running-server.ensures.1 in
+    rw p.1 (λ past stands. server_stops c.args.delivery.now past c.in_err-ending-in-Running-server.field-0.0 _ _ c.args.standing.now c.in-Server.is c.in-Running-server.is
+    c.in_err-ending-in-Running-server.ensures.hands stands)
 
 pub returns-in-Refused-server-clause-stands : goal.returns-in-Refused-server-clause-stands
 returns-in-Refused-server-clause-stands g c past stands =

@@ -1,7 +1,8 @@
 use Rattle.std.proofs.Common.{false, refl, rules}
+use Rattle.std.proofs.lemmas.Result.{err_from_is_err_and}
 use Rattle.sspi_credssp.specs.Context.{either}
 use Rattle.sspi_credssp.specs.declared.turn.End.TheVariants.{Server}
-use Rattle.sspi_delegate.specs.Causes.{IsFinished}
+use Rattle.sspi_delegate.specs.Causes.{IsFinished, IsServerRefusal}
 use Rattle.sspi_delegate.specs.Turns.{GoesOn}
 use Rattle.sspi_delegate.proofs.Histories.{server_stopped_history}
 use Rattle.sspi_play.proofs.Steps.{unread_is, pushed_turn}
@@ -18,12 +19,23 @@ pub returns-in-Finished-clause-hands : goal.returns-in-Finished-clause-hands
 returns-in-Finished-clause-hands g c =
     pushed_turn Server false c.args.bytes.now c.in-Ok.request IsFinished _ _ c.in-Ok.ensures c.in-Finished.ensures.turn
 
-pub returns-in-Ok-ending_by-clause-history : goal.returns-in-Ok-ending_by-clause-history
-returns-in-Ok-ending_by-clause-history g c first history =
+pub returns-in_ok-ending-in-Refused-clause-history : goal.returns-in_ok-ending-in-Refused-clause-history
+returns-in_ok-ending-in-Refused-clause-history g c first history =
     server_stopped_history (either g.N.Mechanism.REQUESTS g.N.Mechanism.meaning g.K.Mechanism.meaning) g.C.CredentialsProxy.meaning
     first c.server_round.new.server c.in-Refused.error _ (c.in-Refused.ensures.server_history first history)
 
-pub returns-in-Err-ending_by-clause-history : goal.returns-in-Err-ending_by-clause-history
-returns-in-Err-ending_by-clause-history g c first history =
-    server_stopped_history (either g.N.Mechanism.REQUESTS g.N.Mechanism.meaning g.K.Mechanism.meaning) g.C.CredentialsProxy.meaning
-    first c.server_round.new.server c.in-Refused.error _ (c.in-Refused.ensures.server_history first history)
+pub returns-in_err-ending-in-Refused-clause-history : goal.returns-in_err-ending-in-Refused-clause-history
+returns-in_err-ending-in-Refused-clause-history g c first history =
+    let p = err_from_is_err_and c.from_residual.result c.from_residual.ensures.1 in
+    rw p.1
+    (server_stopped_history (either g.N.Mechanism.REQUESTS g.N.Mechanism.meaning g.K.Mechanism.meaning) g.C.CredentialsProxy.meaning
+    first c.server_round.new.server c.in-Refused.error _ (c.in-Refused.ensures.server_history first history))
+
+pub returns-in_ok-ending-in-Refused-clause-hands : goal.returns-in_ok-ending-in-Refused-clause-hands
+returns-in_ok-ending-in-Refused-clause-hands g c =
+    let by = c.in_ok-ending-in-Refused.ensures in
+    rw by.0 (
+      by.1,
+      pushed_turn Server false c.args.bytes.now c.in-Ok.request (IsServerRefusal c.in-Refused.error.error_type) _ _ c.in-Ok.ensures
+          c.in-Refused.ensures.turn,
+    )

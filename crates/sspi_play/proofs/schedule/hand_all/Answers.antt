@@ -1,4 +1,5 @@
 use Rattle.std.proofs.Common.{List, sym, subst, refl, arith}
+use Rattle.std.proofs.lemmas.Result.{err_from_is_err_and}
 use Rattle.sspi_delegate.proofs.Asking.{kdc_on}
 use Rattle.sspi_delegate.proofs.Refusing.{proxy_on}
 use Rattle.sspi_play.specs.declared.played.Delivery.{Delivery}
@@ -25,32 +26,28 @@ loop-delivery-preserved g c =
           subst (λ (l : List Delivery). Stands l c.hand.new.transcript.turns c.hand.new.standing)
           (sym (reverse_more c.args.schedule.now c.loop-delivery.delivery-index c.delivery-item.result c.loop-delivery-test.true
           c.delivery-item.is))
-          (c.in-Ok.ensures.stands _ (at.stands empty));
-      client_history = λ empty. c.in-Ok.ensures.client_history _ _ _ (at.stands empty) (at.client_history empty);
-      server_history = λ empty. c.in-Ok.ensures.server_history _ (at.server_history empty);
-      identity = λ empty. c.in-Ok.ensures.identity _ (at.server_history empty) (at.identity empty);
-      proxy = proxy_on _ _ _ _ at.proxy c.in-Ok.ensures.proxy;
-      kdc = kdc_on _ _ _ _ _ at.kdc c.in-Ok.ensures.kdc;
+          (c.in_ok-hand.ensures.stands _ (at.stands empty));
+      client_history = λ empty. c.in_ok-hand.ensures.client_history _ _ _ (at.stands empty) (at.client_history empty);
+      server_history = λ empty. c.in_ok-hand.ensures.server_history _ (at.server_history empty);
+      identity = λ empty. c.in_ok-hand.ensures.identity _ (at.server_history empty) (at.identity empty);
+      proxy = proxy_on _ _ _ _ at.proxy c.in_ok-hand.ensures.proxy;
+      kdc = kdc_on _ _ _ _ _ at.kdc c.in_ok-hand.ensures.kdc;
     }
 
-pub returns-in-Err-clause-accounts : goal.returns-in-Err-clause-accounts
-returns-in-Err-clause-accounts g c empty =
+pub returns-in_err-hand-clause-accounts : goal.returns-in_err-hand-clause-accounts
+returns-in_err-hand-clause-accounts g c empty =
     let at = c.loop-delivery.invariant in
-    record {
+    let p = err_from_is_err_and c.from_residual.result c.from_residual.ensures.1 in
+    rw (p.1, p.2)
+    (record {
       the_turns_are_those_of_the_deliveries =
           front_of c.args.schedule.now c.loop-delivery.delivery-index c.delivery-item.result _ c.loop-delivery-test.true c.delivery-item.is
-          (c.in-Err.ensures.stops _ (at.stands empty));
+          (c.in_err-hand.ensures.stops _ (at.stands empty));
       deliveries_and_turns_say_how_the_ends_stand = tt;
-      client_turns_are_its_calls = c.in-Err.ensures.client_history _ _ _ (at.stands empty) (at.client_history empty);
-      server_turns_are_its_calls = c.in-Err.ensures.server_history _ (at.server_history empty);
+      client_turns_are_its_calls = c.in_err-hand.ensures.client_history _ _ _ (at.stands empty) (at.client_history empty);
+      server_turns_are_its_calls = c.in_err-hand.ensures.server_history _ (at.server_history empty);
       the_identity_is_that_of_the_turn_that_finished = tt;
-    }
-
-pub returns-in-Err-clause-kdc : goal.returns-in-Err-clause-kdc
-returns-in-Err-clause-kdc g c = kdc_on _ _ _ _ _ c.loop-delivery.invariant.kdc c.in-Err.ensures.kdc
-
-pub returns-in-Err-clause-proxy : goal.returns-in-Err-clause-proxy
-returns-in-Err-clause-proxy g c = proxy_on _ _ _ _ c.loop-delivery.invariant.proxy c.in-Err.ensures.proxy
+    })
 
 pub returns-clause-accounts : goal.returns-clause-accounts
 returns-clause-accounts g c empty =
