@@ -1,6 +1,6 @@
--- The ends of the examples match.
+-- Ends that negotiate, as the examples have them.
 use Rattle.std.proofs.Common.{◌≡◌, ◌↔◌, ◌||◌, ◌==◌, inl, inr, ℕ, ◌++◌, Bool, true, false, IsTrue, List, [], ◌∷◌, length, codes, replicate}
-use Rattle.std.proofs.Common.{Option, None, Some, refl, sym, ap, ◌∙◌, arith, option_map, if◌then◌else◌}
+use Rattle.std.proofs.Common.{Option, None, Some, Ok, refl, sym, ap, ◌∙◌, arith, option_map, if◌then◌else◌}
 use Rattle.std.proofs.lemmas.List.{length-append}
 use Rattle.sha2.proofs.Facts256.{length-sha256}
 use Rattle.sspi_names.specs.declared.identity.AuthIdentity.{AuthIdentity}
@@ -17,17 +17,22 @@ use Rattle.sspi_mech.specs.KerberosMessages.{as_request, as_reply, tgs_request, 
 use Rattle.sspi_mech.specs.PlainKdc.{first_key, session_key, told_by}
 use Rattle.sspi_mech.proofs.Opened.{same_bytes}
 use Rattle.sspi_tokens.specs.Oids.{kind_of}
+use Rattle.sspi_negotiate.specs.declared.negotiate_config.NegotiateConfig.{NegotiateConfig}
 use Rattle.sspi_negotiate.specs.declared.pick.Choice.TheVariants as choices
+use Rattle.sspi_negotiate.specs.declared.pick.Picked.{Picked}
+use Rattle.sspi_negotiate.specs.declared.protocol.Protocol.{Protocol}
 use Rattle.sspi_negotiate.specs.declared.protocol.Protocol.TheVariants as protocols
 use Rattle.sspi_negotiate.specs.declared.protocol_config.ProtocolConfig.TheVariants as configs
+use Rattle.sspi_negotiate.specs.declared.state.Role.TheVariants.{Client, Server}
 use Rattle.sspi_negotiate.specs.Hand.{Origin, Configured}
+use Rattle.sspi_negotiate.specs.New.{first_in_hand, packages_in}
 use Rattle.sspi_negotiate.specs.IpText.{IsIpText, IsTail}
 use Rattle.sspi_negotiate.specs.Pick.{pick, offered}
 use Rattle.sspi_negotiate.specs.Rows.{is_guest_text}
 use Rattle.sspi_negotiate.specs.Target.{IsNamedByIp}
 use Rattle.sspi_completeness.specs.Examples.{example_target, example_ntlm, example_kerberos, example_ticket, example_kdc}
 use Rattle.sspi_negotiate.specs.Rule.{url_for}
-use Rattle.sspi_completeness.specs.Negotiating.{AreNegotiating, HasFirstKey, begins_with, messages_by}
+use Rattle.sspi_completeness.specs.Negotiating.{AreNegotiating, HasFirstKey, HasSessionKey, Needs, protocol_of, kdc_url, begins_with, messages_by}
 
 -- ---- the target
 
@@ -82,15 +87,30 @@ pub session_replied : (users : List (List ℕ)) (key ticket url : List ℕ) (cal
 session_replied users key ticket url call one two =
     let both : length (key ++ ticket) ≡ 64 = omega (arith, length-append key ticket, one, two) in rw both refl
 
-abbrev first_served : (identity : AuthIdentity) (url : List ℕ) → HasFirstKey (example_kdc identity) 0 (Some url) identity.username
-first_served identity url = record {
-  at = url;
-  url_is = refl;
+-- it has a first key for the client that it knows, and a session key for this ticket
+abbrev pub first_served : (identity : AuthIdentity) (at : List ℕ) (url : Option (List ℕ)) → url ≡ Some at →
+    HasFirstKey (example_kdc identity) 0 url identity.username
+first_served identity at url is = record {
+  at = at;
+  url_is = is;
   replies = told_by (inner_of identity.username ∷ []) [];
   tells = refl;
   key = first_key (inner_of identity.username);
   key_length = length-first_key (inner_of identity.username);
-  reply = first_replied (inner_of identity.username) url 0;
+  reply = first_replied (inner_of identity.username) at 0;
+}
+
+abbrev pub session_served : (identity : AuthIdentity) (at ticket : List ℕ) (url : Option (List ℕ)) → url ≡ Some at → length ticket ≡ 32 →
+    HasSessionKey (example_kdc identity) 0 url identity.username (Some ticket)
+session_served identity at ticket url is long = record {
+  first = first_served identity at url is;
+  sent = ticket;
+  ticket_is = refl;
+  ticket_length = long;
+  key = session_key (first_key (inner_of identity.username) ++ ticket);
+  key_length = length-session_key (first_key (inner_of identity.username) ++ ticket);
+  reply = session_replied (inner_of identity.username ∷ []) (first_key (inner_of identity.username)) ticket at 1
+      (length-first_key (inner_of identity.username)) long;
 }
 
 -- ---- the picks
@@ -128,6 +148,28 @@ never_served (Some domain) =
     ap (λ (url : Option (List ℕ)). begins_with false (record { ntlm = true; kerberos = true }) protocols.Ntlm url)
     (sym (none_served domain))
 
+-- ends that have these in hand and begin with this, where the server picks this and what they need is there
+abbrev pub negotiating : {told : Option (ℕ → NetworkRequest → Reply)} {call : ℕ} {client server : NegotiateConfig} {identity : AuthIdentity} →
+    (hand hand2 : Origin) (begins : Protocol) (picked : Picked) → first_in_hand Client client ≡ Ok hand →
+    first_in_hand Server server ≡ Ok hand2 →
+    begins ≡ begins_with false (packages_in client) (protocol_of hand) (url_for client.kdcs (domain_of identity.username)) →
+    pick (offered begins (packages_in client)) (packages_in server) (protocol_of hand2) ≡ Some picked →
+    Needs told call begins picked.choice (kdc_url client hand identity.username) hand2 identity →
+    AreNegotiating told call client server example_target identity
+negotiating hand hand2 begins picked first first2 begins_is picks needs = record {
+  client_hand = hand;
+  server_hand = hand2;
+  client_first = first;
+  server_first = first2;
+  ip = false;
+  ip_is = not_named;
+  begins = begins;
+  begins_is = begins_is;
+  picked = picked;
+  picks = picks;
+  needs = needs;
+}
+
 abbrev ntlm_hand : List ℕ → Origin
 ntlm_hand computer = Configured (configs.Ntlm (record { client_computer_name = Some computer; challenge = replicate 8 0 }))
 
@@ -143,28 +185,9 @@ pub kerberos_ends : (identity : AuthIdentity) (url ticket computer : List ℕ) �
     identity)
     × (messages_by ends.begins ends.picked.choice ≡ 4)
 kerberos_ends identity url ticket computer long = (
-  record {
-    client_hand = kerberos_hand url computer;
-    server_hand = ticket_hand ticket computer;
-    client_first = refl;
-    server_first = refl;
-    ip = false;
-    ip_is = not_named;
-    begins = protocols.Kerberos;
-    begins_is = refl;
-    picked = record { choice = choices.MsKerberos; index = 0 };
-    picks = picked_kerberos;
-    needs = record {
-      first = first_served identity url;
-      sent = ticket;
-      ticket_is = refl;
-      ticket_length = long;
-      key = session_key (first_key (inner_of identity.username) ++ ticket);
-      key_length = length-session_key (first_key (inner_of identity.username) ++ ticket);
-      reply = session_replied (inner_of identity.username ∷ []) (first_key (inner_of identity.username)) ticket url 1
-          (length-first_key (inner_of identity.username)) long;
-    };
-  },
+  negotiating (kerberos_hand url computer) (ticket_hand ticket computer) protocols.Kerberos
+      (record { choice = choices.MsKerberos; index = 0 }) refl refl refl picked_kerberos
+      (session_served identity url ticket (Some url) refl long),
   refl,
 )
 
@@ -172,19 +195,9 @@ pub changed_ends : (identity : AuthIdentity) (url computer : List ℕ) → is_gu
     (ends : AreNegotiating (example_kdc identity) 0 (example_kerberos url computer) (example_ntlm computer) example_target identity)
     × (messages_by ends.begins ends.picked.choice ≡ 5)
 changed_ends identity url computer no_guest = (
-  record {
-    client_hand = kerberos_hand url computer;
-    server_hand = ntlm_hand computer;
-    client_first = refl;
-    server_first = refl;
-    ip = false;
-    ip_is = not_named;
-    begins = protocols.Kerberos;
-    begins_is = refl;
-    picked = record { choice = choices.Ntlm; index = 2 };
-    picks = picked_ntlm;
-    needs = (first_served identity url, record { no_guest = no_guest; challenge = refl });
-  },
+  negotiating (kerberos_hand url computer) (ntlm_hand computer) protocols.Kerberos (record { choice = choices.Ntlm; index = 2 })
+      refl refl refl picked_ntlm
+      (first_served identity url (Some url) refl, record { no_guest = no_guest; challenge = refl }),
   refl,
 )
 
@@ -193,18 +206,8 @@ pub ntlm_ends : (told : Option (ℕ → NetworkRequest → Reply)) (call : ℕ) 
     (ends : AreNegotiating told call (example_ntlm computer) (example_ntlm computer) example_target identity)
     × (messages_by ends.begins ends.picked.choice ≡ 4)
 ntlm_ends told call identity computer no_guest = (
-  record {
-    client_hand = ntlm_hand computer;
-    server_hand = ntlm_hand computer;
-    client_first = refl;
-    server_first = refl;
-    ip = false;
-    ip_is = not_named;
-    begins = protocols.Ntlm;
-    begins_is = never_served (domain_of identity.username);
-    picked = record { choice = choices.Ntlm; index = 0 };
-    picks = picked_first;
-    needs = record { no_guest = no_guest; challenge = refl };
-  },
+  negotiating (ntlm_hand computer) (ntlm_hand computer) protocols.Ntlm (record { choice = choices.Ntlm; index = 0 }) refl refl
+      (never_served (domain_of identity.username)) picked_first
+      (record { no_guest = no_guest; challenge = refl }),
   refl,
 )

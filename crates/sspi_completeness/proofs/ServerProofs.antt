@@ -38,7 +38,7 @@ use Rattle.sspi_delegate.specs.History.{ServerMakes}
 use Rattle.sspi_completeness.proofs.Accepting.{IsPeer, named_is, come_at}
 use Rattle.sspi_completeness.proofs.Ends.{Comes, is_false, stops_later, sealed_few, Holds, IsMaker, IsTaker, holds_still, sealed_field}
 use Rattle.sspi_completeness.proofs.Ends.{ServerIs}
-use Rattle.sspi_completeness.proofs.ServerTurns.{NegoGiven, nego_acts, stands_noted, cause_past, over_answer, over_cause}
+use Rattle.sspi_completeness.proofs.ServerTurns.{NegoGiven, nego_acts, server_now, cause_past, over_answer, over_cause}
 use Rattle.sspi_completeness.proofs.ServerTurns.{unused, noted_now, replies, over_left, never_finishes, refusal}
 use Rattle.sspi_completeness.proofs.Replies.{proof_back_is, token_back_is}
 
@@ -148,18 +148,10 @@ module _ {C P : Type 0} (c : Meaning ContextSetting C) (laws : IsContext c) (p :
           let opened_one : unsealed_by mid.acts ≡ 1 = rw (proof.checked, unopened mid _ turn) refl in
           let sealed_now : sealed_in c mid.context ≡ 1 = turn.moves.sealed unstarted ∙ (rw (is.sealed_is, one) refl) in
           let noted = noted_at mid h.held h.there turn.moves.noted in
-          let same = turn.moves.same ∙ is.same in
-          let still = stands_noted c laws p mid.settings.least mid.noted w noted in (
+          let same = turn.moves.same ∙ is.same in (
             answered mid r proof (turn.turn.held.reply proof.proved) h noted same sealed_now,
-            record {
-              same = same;
-              state_is = turn.moves.state ∙ (rw proof.proved refl);
-              fits = still.0;
-              young = still.2;
-              notes = still.1;
-              sealed_is = sealed_now;
-              unsealed_is = turn.moves.unsealed unstarted ∙ (rw (is.unsealed_is, opened_one) refl);
-            },
+            server_now c laws p b mid w AuthInfo 1 1 same (turn.moves.state ∙ (rw proof.proved refl)) noted sealed_now
+                (turn.moves.unsealed unstarted ∙ (rw (is.unsealed_is, opened_one) refl)),
             h,
           )
 
@@ -217,6 +209,26 @@ module _ {C P : Type 0} (c : Meaning ContextSetting C) (laws : IsContext c) (p :
           after,
         )
 
+    -- behind a reply its context is left so, and the version stays noted
+    replied : (mid : View) (r : TsRequest) → ServerMakes c p old d (outcome.Reply r) mid →
+        Holds c mid.context z × (mid.output ≡ step.output) × (mid.noted ≡ Some w)
+    replied mid r makes =
+        let done = (replies c laws p b old w d step y handle given mid r makes).done in
+        let left = over_left c laws p b old w d step y handle given mid over done in (
+          record { held = left.held; there = left.there; same = named_is c laws (p.told old.proxy) y z left.held peer left.comes },
+          left.output_is,
+          noted_now c laws p b old w d step y handle given mid left.held left.there makes.0.moves.noted,
+        )
+
+    -- and it answers the client's proof so
+    over_shows : (mid : View) (r : TsRequest) → ServerMakes c p old d (outcome.Reply r) mid → (proof : Option (List ℕ)) →
+        d.pub_key_auth ≡ proof → ShowsOver (server_shown (server_frame c old mid)) (server_turn c d (outcome.Reply r) mid) proof r
+    over_shows mid r makes proof is =
+        let frame = server_frame c old mid in
+        let t = server_turn c d (outcome.Reply r) mid in
+        let s = replies c laws p b old w d step y handle given mid r makes in
+        subst (λ (x : Option (List ℕ)). ShowsOver (server_shown frame) t x r) is (over_answer c laws p step.status frame t r over s.answer)
+
     -- ---- with the client's proof
 
     module _ (own peers : ℕ → List ℕ → List ℕ) (proof_given : ProofGiven b w d z own peers) where
@@ -226,36 +238,19 @@ module _ {C P : Type 0} (c : Meaning ContextSetting C) (laws : IsContext c) (p :
           let turn = makes.0 in
           let frame = server_frame c old mid in
           let t = server_turn c d (outcome.Reply r) mid in
-          let s = replies c laws p b old w d step y handle given mid r makes in
-          let proof : ShowsProofBack (server_shown frame) t r =
-          subst (λ (x : Option (List ℕ)). ShowsOver (server_shown frame) t x r) proof_given.proof
-          (over_answer c laws p step.status frame t r over s.answer) in
-          let left = over_left c laws p b old w d step y handle given mid over s.done in
-          let h : Holds c mid.context z = record {
-            held = left.held;
-            there = left.there;
-            same = named_is c laws (p.told old.proxy) y z left.held peer left.comes;
-          } in
+          let proof : ShowsProofBack (server_shown frame) t r = over_shows mid r makes _ proof_given.proof in
+          let left = replied mid r makes in
           let quiet = nego_acts c laws p frame t turn.turn.shown.acts given.is.state_is in
           let start = unused c laws p b old w d step y handle given in
           let one : sealed_by mid.acts ≡ 1 = rw (proof.proved, quiet.0) refl in
           let opened_one : unsealed_by mid.acts ≡ 1 = rw (proof.checked, quiet.1) refl in
           let sealed_now : sealed_in c mid.context ≡ 1 = turn.moves.sealed start ∙ (rw (given.is.sealed_is, one) refl) in
-          let noted = noted_now c laws p b old w d step y handle given mid h.held h.there turn.moves.noted in
-          let same = turn.moves.same ∙ given.is.same in
-          let still = stands_noted c laws p mid.settings.least mid.noted w noted in (
+          let same = turn.moves.same ∙ given.is.same in (
             answered b old w d z own peers proof_given mid r proof
-                (turn.turn.held.reply proof.proved) h noted same sealed_now,
-            record {
-              same = same;
-              state_is = turn.moves.state ∙ (rw proof.proved refl);
-              fits = still.0;
-              young = still.2;
-              notes = still.1;
-              sealed_is = sealed_now;
-              unsealed_is = turn.moves.unsealed start ∙ (rw (given.is.unsealed_is, opened_one) refl);
-            },
-            h,
+                (turn.turn.held.reply proof.proved) left.0 left.2 same sealed_now,
+            server_now c laws p b mid w AuthInfo 1 1 same (turn.moves.state ∙ (rw proof.proved refl)) left.2 sealed_now
+                (turn.moves.unsealed start ∙ (rw (given.is.unsealed_is, opened_one) refl)),
+            left.0,
           )
 
       exchange_at : (field : Option (List ℕ)) (blob : List ℕ) (mid : View) (kind : ErrorKind) → field ≡ Some blob →
@@ -303,34 +298,21 @@ module _ {C P : Type 0} (c : Meaning ContextSetting C) (laws : IsContext c) (p :
           let frame = server_frame c old mid in
           let t = server_turn c d (outcome.Reply r) mid in
           let s = replies c laws p b old w d step y handle given mid r makes in
-          let token : ShowsOver (server_shown frame) t None r = subst (λ (x : Option (List ℕ)). ShowsOver (server_shown frame) t x r) absent
-          (over_answer c laws p step.status frame t r over s.answer) in
-          let left = over_left c laws p b old w d step y handle given mid over s.done in
-          let h : Holds c mid.context z = record {
-            held = left.held;
-            there = left.there;
-            same = named_is c laws (p.told old.proxy) y z left.held peer left.comes;
-          } in
+          let token = over_shows mid r makes None absent in
+          let left = replied mid r makes in
           let quiet = nego_acts c laws p frame t turn.turn.shown.acts given.is.state_is in
           let start = unused c laws p b old w d step y handle given in
           let unchecked : mid.acts.checked ≡ false = is_false mid.acts.checked
           (λ was. subst IsLong absent (turn.turn.shown.acts.checked was).1) in
           let none_sealed : sealed_by mid.acts ≡ 0 = rw (token.0.unproved, quiet.0) refl in
           let none_opened : unsealed_by mid.acts ≡ 0 = rw (unchecked, quiet.1) refl in
-          let same = turn.moves.same ∙ given.is.same in
-          let still = stands_noted c laws p mid.settings.least mid.noted w
-          (noted_now c laws p b old w d step y handle given mid h.held h.there turn.moves.noted) in (
-            token_back_is frame t r token.0 ∙ (rw (same, left.output_is) refl),
-            record {
-              same = same;
-              state_is = turn.moves.state ∙ (rw (given.is.state_is, token.0.unproved, s.status_is) (asks_proof step.status over));
-              fits = still.0;
-              young = still.2;
-              notes = still.1;
-              sealed_is = turn.moves.sealed start ∙ (rw (given.is.sealed_is, none_sealed) refl);
-              unsealed_is = turn.moves.unsealed start ∙ (rw (given.is.unsealed_is, none_opened) refl);
-            },
-            h,
+          let same = turn.moves.same ∙ given.is.same in (
+            token_back_is frame t r token.0 ∙ (rw (same, left.1) refl),
+            server_now c laws p b mid w PubKeyInfo 0 0 same
+                (turn.moves.state ∙ (rw (given.is.state_is, token.0.unproved, s.status_is) (asks_proof step.status over))) left.2
+                (turn.moves.sealed start ∙ (rw (given.is.sealed_is, none_sealed) refl))
+                (turn.moves.unsealed start ∙ (rw (given.is.unsealed_is, none_opened) refl)),
+            left.0,
           )
 
       over_refused : (mid : View) (kind : ErrorKind) (reply : Option TsRequest) → p.faults mid.proxy ≡ p.faults old.proxy →

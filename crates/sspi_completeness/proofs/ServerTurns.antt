@@ -20,7 +20,8 @@ use Rattle.sspi_credssp.specs.ServerCause.{ServerCause, MakeCause, StateCause, N
 use Rattle.sspi_credssp.specs.ServerStep.{Knowing, Unknown, Completed, DoneStep, HasCome, known_at}
 use Rattle.sspi_credssp.specs.ServerTurn.{ServerTurn, StartsUnused, server_frame, server_turn}
 use Rattle.sspi_credssp.specs.Shown.{IsOver, MayCheck, ShowsNegoBack, ShowsOver, ShowsServerActs, ShowsStateBack, server_shown}
-use Rattle.sspi_credssp.specs.Noted.{differs, is_old, noted_with}
+use Rattle.sspi_credssp.specs.Counts.{sealed_in, unsealed_in}
+use Rattle.sspi_credssp.specs.Noted.{noted_with}
 use Rattle.sspi_credssp.specs.Turn.{ServerFrame}
 use Rattle.sspi_credssp.specs.declared.turn.Outcome.{Outcome}
 use Rattle.sspi_credssp.specs.declared.turn.Outcome.TheVariants as outcome
@@ -39,10 +40,19 @@ module _ {C P : Type 0} (c : Meaning ContextSetting C) (laws : IsContext c) (p :
       (t.acts.sealed ≡ false) × (t.acts.opened ≡ false)
   nego_acts frame t acts nego = (acts.sealed, is_false t.acts.opened (λ was. let s = (acts.opened was).0 in cc (s, nego)))
 
-  -- the version stays noted
-  pub stands_noted : (least : ℕ) (noted : Option ℕ) (w : ℕ) → noted ≡ Some w →
-      (differs noted w ≡ false) × (noted_with least noted w ≡ Some w) × (is_old least noted w ≡ false)
-  stands_noted least noted w is = rw is (differs_never w, refl, refl)
+  -- a server whose peer's version is noted takes that version again
+  pub server_now : (b mid : View) (w : ℕ) (state : CredSspState) (sealed unsealed : ℕ) → mid.settings ≡ b.settings → mid.state ≡ state →
+      mid.noted ≡ Some w → sealed_in c mid.context ≡ sealed → unsealed_in c mid.context ≡ unsealed →
+      ServerIs c b mid w state sealed unsealed
+  server_now b mid w state sealed unsealed same state_is noted sealed_is unsealed_is = record {
+    same = same;
+    state_is = state_is;
+    fits = rw noted (differs_never w);
+    young = rw noted refl;
+    notes = rw noted refl;
+    sealed_is = sealed_is;
+    unsealed_is = unsealed_is;
+  }
 
   -- a refusal is past what a turn looks at first
   pub cause_past : (b old mid : View) (w : ℕ) (d : TsRequest) (state : CredSspState) (sealed unsealed : ℕ) (kind : ErrorKind) →
@@ -192,19 +202,13 @@ module _ {C P : Type 0} (c : Meaning ContextSetting C) (laws : IsContext c) (p :
         (subst (λ (x : CredSspState). MayCheck x mid.acts.status) given.is.state_is (turn.turn.shown.acts.checked was).0)) in
         let none_sealed : sealed_by mid.acts ≡ 0 = rw (unproved, quiet.0) refl in
         let none_opened : unsealed_by mid.acts ≡ 0 = rw (unchecked, quiet.1) refl in
-        let noted = stands_noted mid.settings.least mid.noted w (noted_now mid left.held left.there turn.moves.noted) in
         let same = turn.moves.same ∙ given.is.same in (
           token_back_is (server_frame c old mid) (server_turn c d (outcome.Reply r) mid) r answer ∙
               (rw (same, left.output_is) refl),
-          record {
-            same = same;
-            state_is = turn.moves.state ∙ (rw (given.is.state_is, unproved, status) refl);
-            fits = noted.0;
-            young = noted.2;
-            notes = noted.1;
-            sealed_is = turn.moves.sealed unused ∙ (rw (given.is.sealed_is, none_sealed) refl);
-            unsealed_is = turn.moves.unsealed unused ∙ (rw (given.is.unsealed_is, none_opened) refl);
-          },
+          server_now b mid w NegoToken 0 0 same (turn.moves.state ∙ (rw (given.is.state_is, unproved, status) refl))
+              (noted_now mid left.held left.there turn.moves.noted)
+              (turn.moves.sealed unused ∙ (rw (given.is.sealed_is, none_sealed) refl))
+              (turn.moves.unsealed unused ∙ (rw (given.is.unsealed_is, none_opened) refl)),
           record { held = left.held; there = left.there; same = left.comes },
           left.handle_is,
         )

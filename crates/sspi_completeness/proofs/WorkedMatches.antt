@@ -1,5 +1,5 @@
 -- The ends of the examples match.
-use Rattle.std.proofs.Common.{◌≡◌, ℕ, ◌<◌, ◌≤◌, ◌^◌, ◌∷◌, ◌++◌, [], List, codes, replicate, false, nat_lt, Option, Some, Result}
+use Rattle.std.proofs.Common.{◌≡◌, ℕ, ◌<◌, ◌≤◌, ◌^◌, ◌∷◌, [], List, length, codes, replicate, false, nat_lt, Option, Some, Result}
 use Rattle.std.proofs.Common.{Ok, Err, refl, ap, sym, subst, arith, lit≤}
 use Rattle.std.specs.Prelude.{IfOk}
 use Rattle.std.specs.Str.{IsUtf8, chars, is_utf8}
@@ -13,8 +13,9 @@ use Rattle.sspi_names.specs.Name.{domain_of, inner_of, parse_name, down_level, p
 use Rattle.sspi_names.specs.Utf16.{units_of, text_of}
 use Rattle.sspi_names.proofs.CodeUnits.{text_of-units_of}
 use Rattle.sspi_mech.specs.declared.step.Reply.{Reply}
-use Rattle.sspi_mech.specs.PlainKdc.{PlainKdcState, told_by, first_key, session_key}
+use Rattle.sspi_mech.specs.PlainKdc.{PlainKdcState, told_by}
 use Rattle.sspi_tokens.specs.Oids.{kind_of}
+use Rattle.sspi_negotiate.specs.declared.negotiate_config.NegotiateConfig.{NegotiateConfig}
 use Rattle.sspi_negotiate.specs.declared.pick.Choice.TheVariants as choices
 use Rattle.sspi_negotiate.specs.declared.protocol.Protocol.TheVariants as protocols
 use Rattle.sspi_negotiate.specs.declared.protocol_config.ProtocolConfig.TheVariants as configs
@@ -26,14 +27,13 @@ use Rattle.sspi_negotiate.specs.Pick.{pick, offered}
 use Rattle.sspi_negotiate.specs.Rows.{is_guest_text}
 use Rattle.sspi_tsreq.specs.declared.mode.CredSspMode.{CredSspMode}
 use Rattle.sspi_completeness.specs.Examples.{example_target, example_kdc}
-use Rattle.sspi_completeness.specs.Matching.{IsShort}
-use Rattle.sspi_completeness.specs.Negotiating.{AreNegotiating, HasFirstKey, kdc_url}
+use Rattle.sspi_completeness.specs.Matching.{IsShort, key_limit}
+use Rattle.sspi_completeness.specs.Negotiating.{AreNegotiating, kdc_url, messages_by}
 use Rattle.sspi_completeness.specs.Worked.{Example, Matches, ann, ann_of_realm, realm_kerberos, client_ntlm, server_ntlm}
 use Rattle.sspi_completeness.specs.Worked.{with_ntlm, with_kerberos, with_ticket, with_ntlm_alone, plain}
-use Rattle.sspi_completeness.specs.Worked.{negotiated_at_version_4, negotiated_with_a_long_key}
+use Rattle.sspi_completeness.specs.Worked.{negotiated, negotiated_at_version_4, negotiated_with_a_long_key}
 use Rattle.sspi_completeness.specs.Worked.{user_to_user, given_up_for_ntlm, realm_kdc}
-use Rattle.sspi_completeness.proofs.Examples.{not_named, never_served, picked_kerberos, picked_first, length-first_key, length-session_key}
-use Rattle.sspi_completeness.proofs.Examples.{first_replied, session_replied}
+use Rattle.sspi_completeness.proofs.Examples.{first_served, session_served, picked_kerberos, picked_first, never_served, negotiating}
 
 -- ---- who they are
 
@@ -92,6 +92,25 @@ realm_no_guest : (password : List ℕ) → is_guest_text (text_of (buffers_of (a
 unfolding buffers_of
 realm_no_guest password = rw (realm_shown, text_of-units_of (codes "ann@example.com") utf8.3) refl
 
+-- ends that negotiate at one version match
+negotiated_match : {told : Option (ℕ → NetworkRequest → Reply)} {call messages : ℕ} {key : List ℕ} {identity : AuthIdentity}
+    {version least : ℕ} {client server : NegotiateConfig} → IsIdentity identity → IsShort identity → length key ≤ key_limit →
+    least ≤ version → version < 2 ^ 32 → (ends : AreNegotiating told call client server example_target identity) →
+    messages_by ends.begins ends.picked.choice ≡ messages →
+    Matches told call messages (negotiated key identity version least client server)
+negotiated_match is short key_short takes small ends counted = record {
+  identity_is = is;
+  short = short;
+  key_short = key_short;
+  versions = refl;
+  client_takes = takes;
+  server_takes = takes;
+  client_version = small;
+  server_version = small;
+  modes = ends;
+  counted = counted;
+}
+
 -- ---- NTLM without a negotiation
 
 module _ (told : Option (ℕ → NetworkRequest → Reply)) (call : ℕ) where
@@ -114,49 +133,20 @@ module _ (told : Option (ℕ → NetworkRequest → Reply)) (call : ℕ) where
 
   ntlm_ends : (identity : AuthIdentity) → is_guest_text (text_of (buffers_of identity).user) ≡ false →
       AreNegotiating told call (with_ntlm client_ntlm) (with_ntlm server_ntlm) example_target identity
-  ntlm_ends identity no_guest = record {
-    client_hand = Configured (configs.Ntlm client_ntlm);
-    server_hand = Configured (configs.Ntlm server_ntlm);
-    client_first = refl;
-    server_first = refl;
-    ip = false;
-    ip_is = not_named;
-    begins = protocols.Ntlm;
-    begins_is = never_served (domain_of identity.username);
-    picked = record { choice = choices.Ntlm; index = 0 };
-    picks = picked_first;
-    needs = record { no_guest = no_guest; challenge = refl };
-  }
+  ntlm_ends identity no_guest =
+      negotiating (Configured (configs.Ntlm client_ntlm)) (Configured (configs.Ntlm server_ntlm)) protocols.Ntlm
+      (record { choice = choices.Ntlm; index = 0 }) refl refl (never_served (domain_of identity.username)) picked_first
+      (record { no_guest = no_guest; challenge = refl })
 
   pub version_4_matches : Matches told call 4 negotiated_at_version_4
   unfolding ntlm_ends
-  version_4_matches = record {
-    identity_is = ann_is;
-    short = short_ann;
-    key_short = lit≤ tt;
-    versions = refl;
-    client_takes = lit≤ tt;
-    server_takes = lit≤ tt;
-    client_version = omega arith;
-    server_version = omega arith;
-    modes = ntlm_ends ann ann_no_guest;
-    counted = refl;
-  }
+  version_4_matches = negotiated_match ann_is short_ann (lit≤ tt) (lit≤ tt) (omega arith) (ntlm_ends ann ann_no_guest) refl
 
   pub long_key_matches : Matches told call 4 negotiated_with_a_long_key
   unfolding ntlm_ends
-  long_key_matches = record {
-    identity_is = realm_is (codes "fourteenletter") utf8.5;
-    short = short_realm.1;
-    key_short = lit≤ tt;
-    versions = refl;
-    client_takes = lit≤ tt;
-    server_takes = lit≤ tt;
-    client_version = omega arith;
-    server_version = omega arith;
-    modes = ntlm_ends (ann_of_realm (codes "fourteenletter")) (realm_no_guest (codes "fourteenletter"));
-    counted = refl;
-  }
+  long_key_matches =
+      negotiated_match (realm_is (codes "fourteenletter") utf8.5) short_realm.1 (lit≤ tt) (lit≤ tt) (omega arith)
+      (ntlm_ends (ann_of_realm (codes "fourteenletter")) (realm_no_guest (codes "fourteenletter"))) refl
 
 -- ---- a negotiation that begins with Kerberos
 
@@ -173,40 +163,11 @@ found : kdc_url with_kerberos kerberos_hand who.username ≡ Some (codes "tcp://
 unfolding url_of domain_of
 found = refl
 
-abbrev first : HasFirstKey (example_kdc who) 0 (kdc_url with_kerberos kerberos_hand who.username) who.username
-first = record {
-  at = codes "tcp://kdc";
-  url_is = found;
-  replies = told_by (inner_of who.username ∷ []) [];
-  tells = refl;
-  key = first_key (inner_of who.username);
-  key_length = length-first_key (inner_of who.username);
-  reply = first_replied (inner_of who.username) (codes "tcp://kdc") 0;
-}
-
 kerberos_ends : AreNegotiating (example_kdc who) 0 with_kerberos with_ticket example_target who
-kerberos_ends = record {
-  client_hand = kerberos_hand;
-  server_hand = Configured (configs.KerberosServer realm_kerberos (record { ticket = Some ticket }));
-  client_first = refl;
-  server_first = refl;
-  ip = false;
-  ip_is = not_named;
-  begins = protocols.Kerberos;
-  begins_is = refl;
-  picked = record { choice = choices.MsKerberos; index = 0 };
-  picks = picked_kerberos;
-  needs = record {
-    first = first;
-    sent = ticket;
-    ticket_is = refl;
-    ticket_length = refl;
-    key = session_key (first_key (inner_of who.username) ++ ticket);
-    key_length = length-session_key (first_key (inner_of who.username) ++ ticket);
-    reply = session_replied (inner_of who.username ∷ []) (first_key (inner_of who.username)) ticket (codes "tcp://kdc") 1
-        (length-first_key (inner_of who.username)) refl;
-  };
-}
+kerberos_ends =
+    negotiating kerberos_hand (Configured (configs.KerberosServer realm_kerberos (record { ticket = Some ticket }))) protocols.Kerberos
+    (record { choice = choices.MsKerberos; index = 0 }) refl refl refl picked_kerberos
+    (session_served who (codes "tcp://kdc") ticket (kdc_url with_kerberos kerberos_hand who.username) found refl)
 
 picked_alone : pick (offered protocols.Kerberos (packages_in with_kerberos)) (packages_in with_ntlm_alone) protocols.Ntlm
     ≡ Some (record { choice = choices.Ntlm; index = 2 })
@@ -218,49 +179,22 @@ unfolding is_name_of
 alone_first = refl
 
 changed_ends : AreNegotiating (example_kdc who) 0 with_kerberos with_ntlm_alone example_target who
-changed_ends = record {
-  client_hand = kerberos_hand;
-  server_hand = Configured (configs.Ntlm server_ntlm);
-  client_first = refl;
-  server_first = alone_first;
-  ip = false;
-  ip_is = not_named;
-  begins = protocols.Kerberos;
-  begins_is = refl;
-  picked = record { choice = choices.Ntlm; index = 2 };
-  picks = picked_alone;
-  needs = (first, record { no_guest = realm_no_guest (codes "pw"); challenge = refl });
-}
+changed_ends =
+    negotiating kerberos_hand (Configured (configs.Ntlm server_ntlm)) protocols.Kerberos (record { choice = choices.Ntlm; index = 2 })
+    refl alone_first refl picked_alone (
+      first_served who (codes "tcp://kdc") (kdc_url with_kerberos kerberos_hand who.username) found,
+      record { no_guest = realm_no_guest (codes "pw"); challenge = refl },
+    )
 
 user_to_user_matches : Matches (example_kdc who) 0 4 user_to_user
 unfolding kerberos_ends
-user_to_user_matches = record {
-  identity_is = realm_is (codes "pw") utf8.4;
-  short = short_realm.0;
-  key_short = lit≤ tt;
-  versions = refl;
-  client_takes = lit≤ tt;
-  server_takes = lit≤ tt;
-  client_version = omega arith;
-  server_version = omega arith;
-  modes = kerberos_ends;
-  counted = refl;
-}
+user_to_user_matches =
+    negotiated_match (realm_is (codes "pw") utf8.4) short_realm.0 (lit≤ tt) (lit≤ tt) (omega arith) kerberos_ends refl
 
 given_up_matches : Matches (example_kdc who) 0 5 given_up_for_ntlm
 unfolding changed_ends
-given_up_matches = record {
-  identity_is = realm_is (codes "pw") utf8.4;
-  short = short_realm.0;
-  key_short = lit≤ tt;
-  versions = refl;
-  client_takes = lit≤ tt;
-  server_takes = lit≤ tt;
-  client_version = omega arith;
-  server_version = omega arith;
-  modes = changed_ends;
-  counted = refl;
-}
+given_up_matches =
+    negotiated_match (realm_is (codes "pw") utf8.4) short_realm.0 (lit≤ tt) (lit≤ tt) (omega arith) changed_ends refl
 
 -- ---- by the KDC that is made
 

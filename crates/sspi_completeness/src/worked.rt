@@ -2,9 +2,11 @@
 //! their messages in memory, of which the client may make `turns`. It is `Ok` after so many as its contract says, with the identity
 //! that is delegated, or the turns are spent where they are fewer; or there was no memory.
 
-ghost use Rattle.std.specs.Prelude.{◌≡◌, ◌≤◌, ◌∷◌, [], IfOk, codes, nat_lt, replicate};
+ghost use Rattle.std.specs.Prelude.{◌≡◌, ◌≤◌, ℕ, Some, IfOk, IsSome, codes, nat_lt};
+ghost use Rattle.sspi_names.specs.Name.{parse_name};
+ghost use Rattle.sspi_names.specs.declared.identity.AuthIdentity.{AuthIdentity};
 ghost use Rattle.sspi_completeness.specs.Matching.{delegated_as};
-ghost use Rattle.sspi_completeness.specs.Worked.{AnswersIn, ann, ann_of_realm, nobody};
+ghost use Rattle.sspi_completeness.specs.Worked.{Example, Matches, AnswersIn, ann, ann_of_realm, nobody};
 
 mod ends;
 mod parts;
@@ -14,38 +16,78 @@ use crate::worked::parts::{
     client_with_kerberos, client_with_ntlm, identity_of, plain_client, plain_server, realm_kdc,
     server_with_ntlm, server_with_ntlm_alone, server_with_ticket,
 };
-use sspi_credssp::CredSspMode;
+use sspi_credssp::{ClientMode, CredSspMode, ServerMode};
 use sspi_delegate::{DelegateError, Delegation};
-use sspi_mech::FailingKdc;
+use sspi_mech::{FailingKdc, Kdc};
 use sspi_names::AuthIdentity;
 use std::alloc::{AllocError, Global};
 
-/// The key of the channel, but for one example.
-fn short_key(alloc: Global) -> Result<Vec<u8>, AllocError>
-    ensures { IfOk result (λ key. key.items ≡ 1 ∷ 2 ∷ 3 ∷ []) }
-{
-    Vec::from_slice(alloc, &[1, 2, 3])
+/// What the two ends of an exchange are given, beside how each authenticates.
+#[derive(Clone, Copy)]
+struct Given<'a> {
+    key: &'a [u8],
+    name: &'a str,
+    password: &'a str,
+    delegation: CredSspMode,
+    client_version: u32,
+    server_version: u32,
+    least: u32,
 }
 
-/// The key of the channel that has 270 bytes.
-fn long_key(alloc: Global) -> Result<Vec<u8>, AllocError>
-    ensures { IfOk result (λ key. key.items ≡ replicate 270 0x3B) }
+/// What most of them are given.
+const USUAL: Given<'static> = Given {
+    key: &[1, 2, 3],
+    name: "ann@example.com",
+    password: "pw",
+    delegation: CredSspMode::WithCredentials,
+    client_version: 6,
+    server_version: 6,
+    least: 5,
+};
+
+/// Whom the client authenticates, and the server knows.
+fn who(alloc: Global, given: &Given<'_>) -> Result<AuthIdentity, AllocError>
+    requires { IsSome (parse_name given.now.name.now) }
+    ensures { (identity : AuthIdentity) → parse_name given.now.name.now ≡ Some identity.username → given.now.password.now ≡ identity.password.value →
+        IfOk result (λ who. who ≡ identity) }
 {
-    Vec::from_slice(alloc, &[0x3b; 270])
+    identity_of(alloc, given.name, given.password)
 }
 
-#[tactic(auto, unfolding(sspi_names::specs::Name::parse_name))]
-fn ann(alloc: Global) -> Result<AuthIdentity, AllocError>
-    ensures { IfOk result (λ identity. identity ≡ ann) }
+/// An exchange of two ends that are given this, and authenticate so.
+fn exchange<D: Kdc + Drop>(
+    alloc: Global,
+    given: &Given<'_>,
+    client: Result<ClientMode, AllocError>,
+    server: Result<ServerMode, AllocError>,
+    kdc: Result<D, AllocError>,
+    turns: u32,
+) -> Result<Delegation, DelegateError>
+    requires { IsSome (parse_name given.now.name.now) }
+    ensures { (x : Example) → (messages : ℕ) → given.now.key.now ≡ x.key → parse_name given.now.name.now ≡ Some x.identity.username →
+        given.now.password.now ≡ x.identity.password.value → given.now.delegation ≡ x.delegation → given.now.client_version ≡ x.client_version →
+        given.now.server_version ≡ x.server_version → given.now.least ≡ x.least → IfOk client (λ mode. mode ≡ x.client) →
+        IfOk server (λ mode. mode ≡ x.server) → IfOk kdc (λ kdc. Matches (D.told kdc) (D.asked kdc) messages x) →
+        AnswersIn messages turns (delegated_as x.delegation x.identity) result }
 {
-    identity_of(alloc, "DOM\\ann", "pw")
-}
-
-#[tactic(auto, unfolding(sspi_names::specs::Name::parse_name))]
-fn ann_of_realm(alloc: Global, password: &str) -> Result<AuthIdentity, AllocError>
-    ensures { IfOk result (λ identity. identity ≡ ann_of_realm password.now) }
-{
-    identity_of(alloc, "ann@example.com", password)
+    let client = client_of(
+        alloc,
+        Vec::from_slice(alloc, given.key),
+        who(alloc, given),
+        given.delegation,
+        given.client_version,
+        given.least,
+        client,
+    );
+    let server = server_of(
+        alloc,
+        Vec::from_slice(alloc, given.key),
+        who(alloc, given),
+        given.server_version,
+        given.least,
+        server,
+    );
+    run(alloc, client, server, kdc, turns)
 }
 
 /// Three messages: NTLM without a negotiation, for `DOM\ann` with the password `pw`, at version 6.
@@ -80,118 +122,63 @@ fn by_ntlm_at(
     ensures { nat_lt client_version 5 ≡ nat_lt server_version 5 → least ≤ client_version → least ≤ server_version →
         AnswersIn 3 turns (delegated_as delegation ann) result }
 {
-    let client = client_of(
-        alloc,
-        short_key(alloc),
-        ann(alloc),
+    let given = Given {
+        name: "DOM\\ann",
         delegation,
         client_version,
-        least,
-        plain_client(alloc),
-    );
-    let server = server_of(
-        alloc,
-        short_key(alloc),
-        ann(alloc),
         server_version,
         least,
-        plain_server(),
-    );
-    run(alloc, client, server, Ok(FailingKdc::new()), turns)
+        ..USUAL
+    };
+    let client = plain_client(alloc);
+    let server = plain_server();
+    exchange(alloc, &given, client, server, Ok(FailingKdc::new()), turns)
 }
 
 /// Four messages: a negotiation of NTLM at version 4, where the server's proof is one more than the key.
 pub fn negotiated_at_version_4(alloc: Global, turns: u32) -> Result<Delegation, DelegateError>
     ensures { AnswersIn 4 turns ann result }
 {
-    let client = client_of(
-        alloc,
-        short_key(alloc),
-        ann(alloc),
-        CredSspMode::WithCredentials,
-        4,
-        4,
-        client_with_ntlm(alloc),
-    );
-    let server = server_of(
-        alloc,
-        short_key(alloc),
-        ann(alloc),
-        4,
-        4,
-        server_with_ntlm(alloc),
-    );
-    run(alloc, client, server, Ok(FailingKdc::new()), turns)
+    let given = Given {
+        name: "DOM\\ann",
+        client_version: 4,
+        server_version: 4,
+        least: 4,
+        ..USUAL
+    };
+    let client = client_with_ntlm(alloc);
+    let server = server_with_ntlm(alloc);
+    exchange(alloc, &given, client, server, Ok(FailingKdc::new()), turns)
 }
 
 /// Four messages: a negotiation of NTLM for `ann@example.com`, with a key and a password of usual lengths.
 pub fn negotiated_with_a_long_key(alloc: Global, turns: u32) -> Result<Delegation, DelegateError>
     ensures { AnswersIn 4 turns (ann_of_realm (codes "fourteenletter")) result }
 {
-    let client = client_of(
-        alloc,
-        long_key(alloc),
-        ann_of_realm(alloc, "fourteenletter"),
-        CredSspMode::WithCredentials,
-        6,
-        5,
-        client_with_ntlm(alloc),
-    );
-    let server = server_of(
-        alloc,
-        long_key(alloc),
-        ann_of_realm(alloc, "fourteenletter"),
-        6,
-        5,
-        server_with_ntlm(alloc),
-    );
-    run(alloc, client, server, Ok(FailingKdc::new()), turns)
+    let given = Given {
+        key: &[0x3b; 270],
+        password: "fourteenletter",
+        ..USUAL
+    };
+    let client = client_with_ntlm(alloc);
+    let server = server_with_ntlm(alloc);
+    exchange(alloc, &given, client, server, Ok(FailingKdc::new()), turns)
 }
 
 /// Four messages: a negotiation of Kerberos, user to user, whose KDC the client finds by its realm.
 pub fn user_to_user(alloc: Global, turns: u32) -> Result<Delegation, DelegateError>
     ensures { AnswersIn 4 turns (ann_of_realm (codes "pw")) result }
 {
-    let client = client_of(
-        alloc,
-        short_key(alloc),
-        ann_of_realm(alloc, "pw"),
-        CredSspMode::WithCredentials,
-        6,
-        5,
-        client_with_kerberos(alloc),
-    );
-    let server = server_of(
-        alloc,
-        short_key(alloc),
-        ann_of_realm(alloc, "pw"),
-        6,
-        5,
-        server_with_ticket(alloc),
-    );
-    run(alloc, client, server, realm_kdc(alloc), turns)
+    let client = client_with_kerberos(alloc);
+    let server = server_with_ticket(alloc);
+    exchange(alloc, &USUAL, client, server, realm_kdc(alloc), turns)
 }
 
 /// Five messages: a negotiation that the client begins with Kerberos, to a server that may use NTLM alone.
 pub fn given_up_for_ntlm(alloc: Global, turns: u32) -> Result<Delegation, DelegateError>
     ensures { AnswersIn 5 turns (ann_of_realm (codes "pw")) result }
 {
-    let client = client_of(
-        alloc,
-        short_key(alloc),
-        ann_of_realm(alloc, "pw"),
-        CredSspMode::WithCredentials,
-        6,
-        5,
-        client_with_kerberos(alloc),
-    );
-    let server = server_of(
-        alloc,
-        short_key(alloc),
-        ann_of_realm(alloc, "pw"),
-        6,
-        5,
-        server_with_ntlm_alone(alloc),
-    );
-    run(alloc, client, server, realm_kdc(alloc), turns)
+    let client = client_with_kerberos(alloc);
+    let server = server_with_ntlm_alone(alloc);
+    exchange(alloc, &USUAL, client, server, realm_kdc(alloc), turns)
 }

@@ -25,11 +25,7 @@ pub(crate) fn pair<A: Drop, B: Drop>(
 ) -> Result<(A, B), AllocError>
     ensures { IfOk result (λ both. (first ≡ Ok both.0) × (second ≡ Ok both.1)) }
 {
-    match (first, second) {
-        (Ok(first), Ok(second)) => Ok((first, second)),
-        (Err(error), _) => Err(error),
-        (Ok(_), Err(error)) => Err(error),
-    }
+    Ok((first?, second?))
 }
 
 /// A client of these parts, with a nonce of zeros.
@@ -47,22 +43,18 @@ pub(crate) fn client_of(
         IfOk result (IsClientOf x) }
 {
     let target = String::from_str(alloc, "TERMSRV/host.example.com");
-    match pair(pair(key, identity), pair(mode, target)) {
-        Ok(((key, identity), (mode, target))) => {
-            let client = CredSspClient::new_with_version(
-                alloc,
-                key,
-                Credentials::AuthIdentity(identity),
-                delegation,
-                version,
-                mode,
-                target,
-                [0; 32],
-            );
-            Ok(client.with_least_version(least))
-        }
-        Err(error) => Err(error),
-    }
+    let ((key, identity), (mode, target)) = pair(pair(key, identity), pair(mode, target))?;
+    let client = CredSspClient::new_with_version(
+        alloc,
+        key,
+        Credentials::AuthIdentity(identity),
+        delegation,
+        version,
+        mode,
+        target,
+        [0; 32],
+    );
+    Ok(client.with_least_version(least))
 }
 
 /// A server of these parts, whose proxy knows this identity alone.
@@ -77,13 +69,9 @@ pub(crate) fn server_of(
     ensures { (x : Example) → IfOk key (λ key. key.items ≡ x.key) → IfOk identity (λ identity. identity ≡ x.identity) →
         version ≡ x.server_version → least ≡ x.least → IfOk mode (λ mode. mode ≡ x.server) → IfOk result (IsServerOf x) }
 {
-    match pair(pair(key, proxy_of(alloc, identity)), mode) {
-        Ok(((key, proxy), mode)) => {
-            let server = CredSspServer::new_with_version(alloc, key, proxy, version, mode);
-            Ok(server.with_least_version(least))
-        }
-        Err(error) => Err(error),
-    }
+    let ((key, proxy), mode) = pair(pair(key, proxy_of(alloc, identity)), mode)?;
+    let server = CredSspServer::new_with_version(alloc, key, proxy, version, mode);
+    Ok(server.with_least_version(least))
 }
 
 /// A proxy that knows this identity alone, of which no call fails.
@@ -94,10 +82,8 @@ fn proxy_of(
     ensures { (known : AuthIdentity) → IfOk identity (λ identity. identity ≡ known) →
         IfOk result (λ proxy. proxy ≡ record { entries = known ∷ []; failing = []; calls = 0; faults = 0 }) }
 {
-    match alone(alloc, identity) {
-        Ok(entries) => Ok(TableProxy::new(alloc, entries, Vec::new(alloc))),
-        Err(error) => Err(error),
-    }
+    let entries = alone(alloc, identity)?;
+    Ok(TableProxy::new(alloc, entries, Vec::new(alloc)))
 }
 
 /// A list of this value alone.
@@ -107,14 +93,10 @@ pub(crate) fn alone<T: Drop>(
 ) -> Result<Vec<T>, AllocError>
     ensures { (x : T) → IfOk value (λ value. value ≡ x) → IfOk result (λ list. list.items ≡ x ∷ []) }
 {
-    match value {
-        Ok(value) => {
-            let mut list = Vec::new(alloc);
-            list.push(value)?;
-            Ok(list)
-        }
-        Err(error) => Err(error),
-    }
+    let value = value?;
+    let mut list = Vec::new(alloc);
+    list.push(value)?;
+    Ok(list)
 }
 
 /// What an exchange is run between: both ends, and the KDC that the client may ask.
@@ -169,14 +151,12 @@ fn make_ends<C: Drop, S: Drop, D: Drop>(
 ) -> Result<Ends<C, S, D>, AllocError>
     ensures { IfOk result (λ ends. (client ≡ Ok ends.client) × (server ≡ Ok ends.server) × (kdc ≡ Ok ends.kdc)) }
 {
-    match pair(pair(client, server), kdc) {
-        Ok(((client, server), kdc)) => Ok(Ends {
-            client,
-            server,
-            kdc,
-        }),
-        Err(error) => Err(error),
-    }
+    let ((client, server), kdc) = pair(pair(client, server), kdc)?;
+    Ok(Ends {
+        client,
+        server,
+        kdc,
+    })
 }
 
 /// What comes of it when it is run, where there was memory for it.

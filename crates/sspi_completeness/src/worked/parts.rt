@@ -37,13 +37,11 @@ pub(crate) fn identity_of(
     requires { IsSome (parse_name name.now) }
     ensures { IfOk result (λ identity. (parse_name name.now ≡ Some identity.username) × (identity.password.value ≡ password.now)) }
 {
-    match pair(name_of(alloc, name), Text::from_text(alloc, password)) {
-        Ok((username, password)) => Ok(AuthIdentity {
-            username,
-            password: Secret::from(password),
-        }),
-        Err(error) => Err(error),
-    }
+    let (username, password) = pair(name_of(alloc, name), Text::from_text(alloc, password))?;
+    Ok(AuthIdentity {
+        username,
+        password: Secret::from(password),
+    })
 }
 
 // ---- NTLM
@@ -95,12 +93,11 @@ fn negotiation(
         IfOk packages (λ packages. packages ≡ names) → IfOk kdcs (λ kdcs. kdcs ≡ table) →
         IfOk result (λ config. config ≡ negotiation p names table) }
 {
-    match pair(pair(first, packages), pair(computer(alloc), kdcs)) {
-        Ok(((first, packages), (computer, kdcs))) => {
-            Ok(NegotiateConfig::new(first, packages, computer, kdcs))
-        }
-        Err(error) => Err(error),
-    }
+    let ((first, packages), (computer, kdcs)) = pair(
+        pair(first, packages),
+        pair(computer(alloc), kdcs),
+    )?;
+    Ok(NegotiateConfig::new(first, packages, computer, kdcs))
 }
 
 /// The KDC that serves EXAMPLE.COM.
@@ -108,24 +105,21 @@ fn realm_table(alloc: Global) -> Result<KdcTable, AllocError>
     ensures { IfOk result (λ kdcs. kdcs ≡ realm_table) }
 {
     let mut kdcs = KdcTable::new(alloc);
-    match kdcs.push("EXAMPLE.COM", "tcp://kdc") {
-        Ok(()) => Ok(kdcs),
-        Err(_) => Err(AllocError),
-    }
+    kdcs.push("EXAMPLE.COM", "tcp://kdc")
+        .map_err(|_| AllocError)?;
+    Ok(kdcs)
 }
 
 /// Kerberos, with the KDC of its realm.
 fn realm_kerberos(alloc: Global) -> Result<KerberosConfig, AllocError>
     ensures { IfOk result (λ config. config ≡ realm_kerberos) }
 {
-    match pair(realm_table(alloc), computer(alloc)) {
-        Ok((kdcs, client_computer_name)) => Ok(KerberosConfig {
-            kdc_url: None,
-            kdcs,
-            client_computer_name,
-        }),
-        Err(error) => Err(error),
-    }
+    let (kdcs, client_computer_name) = pair(realm_table(alloc), computer(alloc))?;
+    Ok(KerberosConfig {
+        kdc_url: None,
+        kdcs,
+        client_computer_name,
+    })
 }
 
 fn client_first(alloc: Global) -> Result<ProtocolConfig, AllocError>
@@ -203,8 +197,6 @@ pub(crate) fn server_with_ntlm_alone(alloc: Global) -> Result<ServerMode, AllocE
 pub(crate) fn realm_kdc(alloc: Global) -> Result<PlainKdc, AllocError>
     ensures { IfOk result (λ kdc. kdc ≡ realm_kdc) }
 {
-    match alone(alloc, Text::from_text(alloc, "ann@example.com")) {
-        Ok(users) => Ok(PlainKdc::new(alloc, users, Vec::new(alloc))),
-        Err(error) => Err(error),
-    }
+    let users = alone(alloc, Text::from_text(alloc, "ann@example.com"))?;
+    Ok(PlainKdc::new(alloc, users, Vec::new(alloc)))
 }
