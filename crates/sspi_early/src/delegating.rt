@@ -77,12 +77,10 @@ pub fn tell_early<L: Link, P: Policy>(
         Err(DelegateError::InsufficientMemory) => return Err(EarlyError::InsufficientMemory),
         Err(error) => return Err(EarlyError::Delegate(error)),
     };
-    match authorize(link, policy, &delegation.credentials) {
-        Ok(Authorized { told, heard }) => Ok(Early {
-            delegation,
-            told,
-            heard,
-        }),
-        Err(error) => Err(error),
-    }
+    let Authorized { told, heard } = authorize(link, policy, &delegation.credentials)?;
+    Ok(Early {
+        delegation,
+        told,
+        heard,
+    })
 }

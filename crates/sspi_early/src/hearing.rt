@@ -17,10 +17,7 @@ pub(crate) fn take_result<L: Link>(
     let mut bytes = [0; EARLY_USER_AUTH_RESULT_PDU_SIZE];
     let mut taken = 0;
     while taken < EARLY_USER_AUTH_RESULT_PDU_SIZE {
-        let count = match link.piece(&mut bytes[taken..]) {
-            Ok(count) => count,
-            Err(error) => return Err(error),
-        };
+        let count = link.piece(&mut bytes[taken..])?;
         if count == 0 {
             return Ok(None);
         }
