@@ -67,11 +67,10 @@ fn message_of<N: Mechanism, K: Mechanism>(
     client: &mut CredSspClient<N, K>,
     delivered: TsRequest,
 ) -> Result<TsRequest, Error> {
-    match client.process(delivered) {
-        Ok(Progress::Completed(ClientState::ReplyNeeded(message))) => Ok(message),
-        Ok(Progress::Completed(ClientState::FinalMessage(message))) => Ok(message),
-        Ok(Progress::Suspended(_)) => Err(Error::new(ErrorKind::InternalError, Reason::Kdc)),
-        Err(error) => Err(error),
+    match client.process(delivered)? {
+        Progress::Completed(ClientState::ReplyNeeded(message)) => Ok(message),
+        Progress::Completed(ClientState::FinalMessage(message)) => Ok(message),
+        Progress::Suspended(_) => Err(Error::new(ErrorKind::InternalError, Reason::Kdc)),
     }
 }
 
@@ -99,23 +98,18 @@ fn carry<N: Mechanism, K: Mechanism, C: CredentialsProxy>(
     // the client's first turn has no message to read
     let mut delivered = TsRequest::default();
     for sent in 1..=MESSAGES {
-        match round(alloc, client, server, delivered) {
-            Ok(ServerState::Finished(identity)) => return Ok((identity, sent)),
-            Ok(ServerState::ReplyNeeded(reply)) => delivered = carried(alloc, &reply)?,
-            Err(error) => return Err(error),
+        match round(alloc, client, server, delivered)? {
+            ServerState::Finished(identity) => return Ok((identity, sent)),
+            ServerState::ReplyNeeded(reply) => delivered = carried(alloc, &reply)?,
         }
     }
     Err(Error::new(ErrorKind::OutOfSequence, Reason::Sequence))
 }
 
 fn told(alloc: Global, answer: Result<(AuthIdentity, u32), Error>) -> Result<String, Error> {
-    match answer {
-        Ok((identity, sent)) => {
-            let name = identity.username.inner();
-            Ok(format!(in alloc; "{name} in {sent} messages of the client")?)
-        }
-        Err(error) => Err(error),
-    }
+    let (identity, sent) = answer?;
+    let name = identity.username.inner();
+    Ok(format!(in alloc; "{name} in {sent} messages of the client")?)
 }
 
 /// The two ends of a delegation.
@@ -126,10 +120,8 @@ pub struct Ends<M> {
 }
 
 pub(crate) fn both<M: Mechanism>(alloc: Global) -> Result<Ends<M>, Error> {
-    match pair(client(alloc), server(alloc)) {
-        Ok((client, server)) => Ok(Ends { client, server }),
-        Err(error) => Err(error),
-    }
+    let (client, server) = pair(client(alloc), server(alloc))?;
+    Ok(Ends { client, server })
 }
 
 impl<M: Mechanism> Part for Ends<M> {

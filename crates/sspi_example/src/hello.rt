@@ -134,16 +134,11 @@ impl Mechanism for Hello {
 
     fn accept(&mut self, args: &AcceptSecurityContext<'_>) -> Result<Step, Error> {
         let output = Bytes::from_slice(self.alloc, b"hello")?;
-        match name_in(self.alloc, args.input) {
-            Ok(name) => {
-                self.peer = Some(name);
-                Ok(Step {
-                    status: SecurityStatus::Ok,
-                    output,
-                })
-            }
-            Err(error) => Err(error),
-        }
+        self.peer = Some(name_in(self.alloc, args.input)?);
+        Ok(Step {
+            status: SecurityStatus::Ok,
+            output,
+        })
     }
 
     fn waiting(&self) -> bool {

@@ -39,24 +39,21 @@ fn initialize<'a>(
         target_data_representation: DataRepresentation::Native,
         target_name: None,
         input: input.as_slice(),
-    }) {
-        Ok(Progressing::Done(step)) => Ok(step.output),
-        Ok(Progressing::Suspended(_)) => Err(Error::new(ErrorKind::InternalError, Reason::Kdc)),
-        Err(error) => Err(error),
+    })? {
+        Progressing::Done(step) => Ok(step.output),
+        Progressing::Suspended(_) => Err(Error::new(ErrorKind::InternalError, Reason::Kdc)),
     }
 }
 
 /// The server's token for that of the client.
 fn accept(server: &mut Context, input: &Bytes) -> Result<Bytes, Error> {
-    match server.accept_security_context(&AcceptSecurityContext {
+    let step = server.accept_security_context(&AcceptSecurityContext {
         credentials_handle: None,
         context_requirements: ServerRequestFlags::CONFIDENTIALITY,
         target_data_representation: DataRepresentation::Native,
         input: input.as_slice(),
-    }) {
-        Ok(step) => Ok(step.output),
-        Err(error) => Err(error),
-    }
+    })?;
+    Ok(step.output)
 }
 
 /// A token each way, and the client's last one. Then the server learns who its peer may be, and both have a key.
@@ -96,17 +93,13 @@ pub struct Ends {
 }
 
 pub(crate) fn both(alloc: Global) -> Result<Ends, Error> {
-    match pair(context(alloc), context(alloc)) {
-        Ok((client, server)) => Ok(Ends { client, server }),
-        Err(error) => Err(error),
-    }
+    let (client, server) = pair(context(alloc), context(alloc))?;
+    Ok(Ends { client, server })
 }
 
 impl Part for Ends {
     fn run(&mut self, alloc: Global) -> Result<String, Error> {
-        match authenticate(alloc, &mut self.client, &mut self.server) {
-            Ok(()) => protected(alloc, &mut self.client, &mut self.server),
-            Err(error) => Err(error),
-        }
+        authenticate(alloc, &mut self.client, &mut self.server)?;
+        protected(alloc, &mut self.client, &mut self.server)
     }
 }

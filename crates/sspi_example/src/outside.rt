@@ -196,20 +196,14 @@ pub struct Ends {
 }
 
 pub(crate) fn both(alloc: Global) -> Result<Ends, Error> {
-    match pair(client(alloc), server(alloc)) {
-        Ok((client, server)) => Ok(Ends { client, server }),
-        Err(error) => Err(error),
-    }
+    let (client, server) = pair(client(alloc), server(alloc))?;
+    Ok(Ends { client, server })
 }
 
 impl Part for Ends {
     fn run(&mut self, alloc: Global) -> Result<String, Error> {
-        match remote_kdc(alloc) {
-            Ok(mut kdc) => {
-                let answer = exchange(alloc, &mut self.client, &mut self.server, &mut kdc);
-                told(alloc, answer, kdc.asked)
-            }
-            Err(error) => Err(error),
-        }
+        let mut kdc = remote_kdc(alloc)?;
+        let answer = exchange(alloc, &mut self.client, &mut self.server, &mut kdc);
+        told(alloc, answer, kdc.asked)
     }
 }

@@ -14,11 +14,7 @@ pub(crate) fn pair<A: Drop, B: Drop>(
     client: Result<A, Error>,
     server: Result<B, Error>,
 ) -> Result<(A, B), Error> {
-    match (client, server) {
-        (Ok(client), Ok(server)) => Ok((client, server)),
-        (Err(error), _) => Err(error),
-        (Ok(_), Err(error)) => Err(error),
-    }
+    Ok((client?, server?))
 }
 
 /// Runs a part, and says its name and what there is to tell.
@@ -28,11 +24,7 @@ pub(crate) fn say<P: Part>(
     name: &str,
     made: Result<P, Error>,
 ) -> io::Result<()> {
-    let told = match made {
-        Ok(mut part) => part.run(alloc),
-        Err(error) => Err(error),
-    };
-    match told {
+    match made.and_then(|mut part| part.run(alloc)) {
         Ok(text) => println!(rt; "{name}: {text}"),
         Err(error) => println!(rt; "{name}: {error}"),
     }
