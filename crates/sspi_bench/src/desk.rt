@@ -28,10 +28,7 @@ pub(crate) fn repeat(
 /// Admits so many servers.
 fn fill(alloc: Global, sessions: u32, desk: &mut PlainDesk) -> Result<(), AllocError> {
     for _ in 0..sessions {
-        match server(alloc) {
-            Ok(server) => admit(desk, server)?,
-            Err(error) => return Err(error),
-        }
+        admit(desk, server(alloc)?)?;
     }
     Ok(())
 }
@@ -56,10 +53,8 @@ fn admit<N: Mechanism, K: Mechanism, C: CredentialsProxy>(
     if desk.admitted() == u64::MAX {
         return Err(AllocError);
     }
-    match desk.admit(server) {
-        Ok(_) => Ok(()),
-        Err(_) => Err(AllocError),
-    }
+    desk.admit(server).map_err(|_| AllocError)?;
+    Ok(())
 }
 
 fn sum_of_calls<N: Mechanism, K: Mechanism, C: CredentialsProxy>(
