@@ -78,7 +78,7 @@ given_of [] later log d is given = given
 given_of (t ∷ past) later [] d is given = absurd is
 given_of (t ∷ past) later (e ∷ log) d is given =
     if_some _ e _ (subst (λ (n : ℕ). slice_get (reverse (later ++ (e ∷ log))) n ≡ Some e) (logged_length past log is.2)
-    (at_place later e log)) (given.0, given.1)
+    (at_place later e log)) given
 
 entries_of : (turns : List Turn) (later log : List Carried) → Logged [] turns log → EachHasEntries (reverse (later ++ log)) turns
 entries_of [] later log is = tt

@@ -11,7 +11,7 @@ use Rattle.sspi_credssp.specs.declared.turn.Turn.{Turn}
 use Rattle.sspi_credssp.specs.Requests.{IsLong}
 use Rattle.sspi_credssp.specs.Shown.{ShowsClient, ShowsServer}
 use Rattle.sspi_delegate.specs.declared.carried.Carried.{Carried}
-use Rattle.sspi_delegate.specs.Deliveries.{is_taken}
+use Rattle.sspi_delegate.specs.Deliveries.{delivery_limit, is_taken}
 use Rattle.sspi_delegate.specs.EndTurns.{client_turns, server_turns}
 use Rattle.sspi_delegate.specs.Run.{IsRead, IsEntry}
 use Rattle.sspi_delegate.specs.Turns.{next_end, AllGoOn}
@@ -29,11 +29,12 @@ HasLongBlobs t (outcome.Final r) = IsLong r.auth_info
 HasLongBlobs t outcome.Finished = Unit {0}
 HasLongBlobs t (outcome.Refused kind reply) = Unit {0}
 
--- a turn after these was given what the entry of the turn before it delivered, where that is recorded, and the first one its end's own
--- first request
+-- a turn after these was given what the entry of the turn before it delivered, taken to its end or to the limit and no further, where
+-- that is recorded, and the first one its end's own first request
 abbrev pub IsGiven : List Turn → List Carried → TsRequest → Type 0
 IsGiven [] log request = request ≡ first_request
-IsGiven (t ∷ past) log request = IfSome (slice_get log (length past)) (λ e. (is_taken e ≡ true) × IsRead e.delivered request)
+IsGiven (t ∷ past) log request =
+    IfSome (slice_get log (length past)) (λ e. (is_taken e ≡ true) × IsRead e.delivered request × (length e.delivered ≤ delivery_limit))
 
 -- one turn, after these
 pub record ShownTurn (log : List Carried) (past : List Turn) (t : Turn) : Type 0 where

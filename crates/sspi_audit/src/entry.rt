@@ -1,6 +1,6 @@
 //! Whether a log's entries are those of the turns.
-ghost use Rattle.std.specs.Prelude.{◌≡◌, ◌↔◌, Some, true, IsTrue, IfErr, IfOk};
-ghost use Rattle.sspi_delegate.specs.Deliveries.{is_taken};
+ghost use Rattle.std.specs.Prelude.{◌≡◌, ◌≤◌, ◌↔◌, length, Some, true, IsTrue, IfErr, IfOk};
+ghost use Rattle.sspi_delegate.specs.Deliveries.{delivery_limit, is_taken};
 ghost use Rattle.sspi_delegate.specs.Messages.{Encodes};
 ghost use Rattle.sspi_delegate.specs.Run.{IsEntry, IsRead, IsSent};
 
@@ -33,12 +33,14 @@ fn is_read(alloc: Global, octets: &[u8], request: &TsRequest) -> Result<bool, Er
     }
 }
 
-/// The delivery was taken to its end or to the limit, and begins with this request.
+/// The delivery was taken to its end or to the limit and no further, and begins with this request.
 pub(crate) fn gives(alloc: Global, entry: &Carried, request: &TsRequest) -> Result<bool, Error>
-    ensures gives { IfOk result (λ given. IsTrue given ↔ (is_taken entry.now ≡ true) × IsRead entry.now.delivered request.now) }
+    ensures gives { IfOk result (λ given. IsTrue given ↔ (is_taken entry.now ≡ true) × IsRead entry.now.delivered request.now
+        × (length entry.now.delivered ≤ delivery_limit)) }
     ensures only { IfErr result (λ error. error.error_type ≡ ErrorKind.InsufficientMemory) }
 {
-    if !entry.ended && entry.delivered.len() < DELIVERY_LIMIT {
+    let taken = entry.delivered.len();
+    if taken > DELIVERY_LIMIT || (taken < DELIVERY_LIMIT && !entry.ended) {
         return Ok(false);
     }
     is_read(alloc, entry.delivered.as_slice(), request)

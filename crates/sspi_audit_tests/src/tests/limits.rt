@@ -1,10 +1,12 @@
 use crate::tests::ntlm::EXCHANGE;
 use crate::tests::records::are_judged;
 
-/// A delivery is taken to its end or to 1048581 bytes: at so many the rest may be anything, and below it is not taken.
+/// A delivery is taken to its end or to 1048581 bytes and no further: at so many the rest may be anything, and below it is not taken.
 const DELIVERIES: &str = "\
 yes4 012345 abcde a.delivered=A+00*1048562
 yes4 012345 abcde a.delivered=A+00*1048562 a.ended=no
+no1 012345 abcde a.delivered=A+00*1048563
+no1 012345 abcde a.delivered=A+00*1048563 a.ended=no
 no1 012345 abcde a.delivered=A+00*1048561 a.ended=no
 no1 012345 abcde a.delivered=A~+00*1048562 a.ended=no
 no1 012345 abcde a.delivered=B+00*1048554 a.ended=no
