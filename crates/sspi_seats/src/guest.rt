@@ -108,13 +108,11 @@ impl<N: Mechanism, K: Mechanism, D: Kdc> Guest<N, K, D> {
             request,
         ) {
             ClientRound::Replied => self.speak(alloc, desk, number, turn),
-            ClientRound::Refused(error) => match refusal(error) {
-                Ok(outcome) => {
-                    put(&mut self.outcome, outcome);
-                    Ok(())
-                }
-                Err(error) => Err(error),
-            },
+            ClientRound::Refused(error) => {
+                let outcome = refusal(error)?;
+                put(&mut self.outcome, outcome);
+                Ok(())
+            }
             ClientRound::Lost => Err(AllocError),
         }
     }
@@ -134,17 +132,16 @@ impl<N: Mechanism, K: Mechanism, D: Kdc> Guest<N, K, D> {
             OnOk result (IsKept c C.meaning k came turn self.new (session number desk.new)) }
         ensures others { OthersStay number desk.old desk.new }
     {
-        match message(alloc, &self.transcript) {
-            Ok(Some(bytes)) => {
+        match message(alloc, &self.transcript)? {
+            Some(bytes) => {
                 let answer = serve(desk, number, &bytes);
                 let heard = hear(alloc, turn, &answer);
                 self.keep(bytes, answer, heard)
             }
-            Ok(None) => {
+            None => {
                 put(&mut self.outcome, SeatOutcome::Write(End::Client));
                 Ok(())
             }
-            Err(error) => Err(error),
         }
     }
 }

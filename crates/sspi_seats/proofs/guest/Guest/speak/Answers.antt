@@ -4,20 +4,20 @@ use Rattle.sspi_delegate.specs.Asking.{kdc_calls}
 use Rattle.sspi_seats.proofs.Speaking.{kept_done, speaks_on, long_ends}
 use Rattle.sspi_seats.proofs.guest.Guest.speak.Goals as goal
 
-pub returns-in-Ok-Some-clause-visited : goal.returns-in-Ok-Some-clause-visited
-returns-in-Ok-Some-clause-visited g c came server none speaking alone found =
+pub returns-in-Some-clause-visited : goal.returns-in-Some-clause-visited
+returns-in-Some-clause-visited g c came server none speaking alone found =
     let m = either g.N.Mechanism.REQUESTS g.N.Mechanism.meaning g.K.Mechanism.meaning in
     let p = g.C.CredentialsProxy.meaning in
     let k = kdc_calls g.D.Kdc.told g.D.Kdc.asked g.D.Kdc.faults in
     kept_done c.keep.result (λ keeps. speaks_on m p k came c.args.turn c.args.number c.args.self.now c.keep.new.self c.message.result
-    c.in-Ok-Some.bytes c.serve-answer.result c.hear-heard.result server c.args.desk.now c.serve-answer.new.desk none speaking alone found
-    (c.in-Ok-Some.is ∙ ap Ok c.in-Ok-Some.field-0-is) c.message.ensures c.serve-answer.ensures.serves c.hear-heard.ensures keeps)
+    c.in-Some.bytes c.serve-answer.result c.hear-heard.result server c.args.desk.now c.serve-answer.new.desk none speaking alone found
+    (c.in_ok-bytes.was ∙ ap Ok c.in-Some.is) c.message.ensures c.serve-answer.ensures.serves c.hear-heard.ensures keeps)
     c.keep.ensures
 
-pub returns-in-Ok-None-clause-visited : goal.returns-in-Ok-None-clause-visited
-returns-in-Ok-None-clause-visited g c came server none speaking alone found =
+pub returns-in-None-clause-visited : goal.returns-in-None-clause-visited
+returns-in-None-clause-visited g c came server none speaking alone found =
     let m = either g.N.Mechanism.REQUESTS g.N.Mechanism.meaning g.K.Mechanism.meaning in
     let p = g.C.CredentialsProxy.meaning in
     let k = kdc_calls g.D.Kdc.told g.D.Kdc.asked g.D.Kdc.faults in
     rw c.put.ensures (long_ends m p k came c.args.turn c.args.self.now c.message.result server _ none speaking alone found
-    (c.in-Ok-None.is ∙ ap Ok c.in-Ok-None.field-0-is) c.message.ensures)
+    (c.in_ok-bytes.was ∙ ap Ok c.in-None.is) c.message.ensures)
