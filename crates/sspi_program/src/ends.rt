@@ -32,10 +32,8 @@ pub fn ends_of(alloc: Global, scenario: &Scenario) -> Result<Ends, AllocError>
     ensures { IfOk result (AreEndsOf scenario.now) }
 {
     let kdc = kdc_of(alloc, scenario)?;
-    match server_of(alloc, scenario) {
-        Ok(server) => with_client(alloc, scenario, server, kdc),
-        Err(error) => Err(error),
-    }
+    let server = server_of(alloc, scenario)?;
+    with_client(alloc, scenario, server, kdc)
 }
 
 /// The same, where the server and the KDC are there.
@@ -48,14 +46,12 @@ fn with_client(
     ensures { IsFreshServer server.value → IsServerOf scenario.now server.value → kdc ≡ kdc_in scenario.now →
         IfOk result (AreEndsOf scenario.now) }
 {
-    match client_of(alloc, scenario) {
-        Ok(client) => Ok(Ends {
-            client,
-            server,
-            kdc,
-        }),
-        Err(error) => Err(error),
-    }
+    let client = client_of(alloc, scenario)?;
+    Ok(Ends {
+        client,
+        server,
+        kdc,
+    })
 }
 
 /// The client that the scenario names, to which nothing was delivered.

@@ -15,14 +15,9 @@ pub fn exchange(alloc: Global, scenario: Scenario) -> Result<Record, AllocError>
     ensures scenario { IfOk result (λ kept. kept.scenario ≡ scenario) }
     ensures exchange { HoldsValues scenario → IfOk result HasExchange }
 {
-    let link = match link_of(alloc, &scenario) {
-        Ok(link) => link,
-        Err(error) => return Err(error),
-    };
-    match ends_of(alloc, &scenario) {
-        Ok(ends) => Ok(meet(alloc, scenario, ends, link)),
-        Err(error) => Err(error),
-    }
+    let link = link_of(alloc, &scenario)?;
+    let ends = ends_of(alloc, &scenario)?;
+    Ok(meet(alloc, scenario, ends, link))
 }
 
 /// The exchange of these ends over this link.

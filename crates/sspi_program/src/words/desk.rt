@@ -6,7 +6,7 @@ ghost use Rattle.sspi_scenario.specs.declared.scenario.Scenario.{Scenario};
 ghost use Rattle.sspi_seats.specs.Table.{IsEmpty};
 
 use crate::command::Task;
-use crate::ends::{Ends, ends_of};
+use crate::ends::ends_of;
 use crate::record::{Conducted, PlainSeat, Seats};
 use crate::said::{Said, no_memory};
 use crate::status;
@@ -50,16 +50,12 @@ fn seat_all(
 fn seat_one(alloc: Global, scenario: &Scenario, table: &mut PlainTable) -> Result<(), AllocError>
     ensures { (count : ℕ) → AreSeatedFor scenario.now count table.old → OnOk result (AreSeatedFor scenario.now (count + 1) table.new) }
 {
-    match ends_of(alloc, scenario) {
-        Ok(
-            Ends {
-                client,
-                server,
-                kdc,
-            },
-        ) => table.join(Box::into_inner(client), kdc, Box::into_inner(server)),
-        Err(error) => Err(error),
-    }
+    let ends = ends_of(alloc, scenario)?;
+    table.join(
+        Box::into_inner(ends.client),
+        ends.kdc,
+        Box::into_inner(ends.server),
+    )
 }
 
 /// What is said of the clients at a table, once they were served.

@@ -26,10 +26,8 @@ fn played(alloc: Global, scenario: Scenario) -> Result<Record, AllocError>
     ensures scenario { IfOk result (λ kept. kept.scenario ≡ scenario) }
     ensures play { IfOk result HasPlay }
 {
-    match ends_of(alloc, &scenario) {
-        Ok(ends) => Ok(hand_out(alloc, scenario, ends)),
-        Err(error) => Err(error),
-    }
+    let ends = ends_of(alloc, &scenario)?;
+    Ok(hand_out(alloc, scenario, ends))
 }
 
 /// The play of these ends.

@@ -1,4 +1,4 @@
 use Rattle.sspi_program.proofs.exchange.exchange.Goals as goal
 
-pub returns-in-Ok-ends_of-clause-exchange : goal.returns-in-Ok-ends_of-clause-exchange
-returns-in-Ok-ends_of-clause-exchange c held = c.meet.ensures.exchange c.in-Ok-ends_of.ensures c.in-Ok.ensures held
+pub returns-clause-exchange : goal.returns-clause-exchange
+returns-clause-exchange c held = c.meet.ensures.exchange c.in_ok-ends.ensures c.in_ok-link.ensures held
