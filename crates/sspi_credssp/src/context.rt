@@ -1,10 +1,10 @@
 ghost use Rattle.std.specs.Prelude.{List, [], ◌∷◌, Option, ◌≡◌, ◌≢◌, ◌-◌, true, false, IsTrue, IsErr, IfOk, IfErr, OnOk, OnErr};
 ghost use Rattle.std.specs.Prelude.{option_copied, filter, take};
-ghost use Rattle.sspi_types.specs.Memory.{memory_error};
 ghost use Rattle.sspi_mech.specs.Calls.{step_args, accept_args, no_counts, one_sealed, one_unsealed};
 ghost use Rattle.sspi_mech.specs.Calls.{ToAcquire, ToName, ToIdentify, ToComplete, ToSeal, ToUnseal};
 ghost use Rattle.sspi_mech.specs.Answers.{answer_of};
 ghost use Rattle.sspi_names.specs.declared.identity.AuthIdentity.{AuthIdentity};
+ghost use Rattle.sspi_credssp.specs.Refusal.{IsRefusedBy};
 ghost use Rattle.sspi_credssp.specs.Context.{either, has_password, ForClient, ForServer};
 ghost use Rattle.sspi_credssp.specs.Peers.{IsListed};
 ghost use Rattle.sspi_mech.specs.Context.{IsUnused, IsContext};
@@ -58,9 +58,7 @@ impl<N: Mechanism, K: Mechanism> SspiContext<N, K> {
     pub(crate) fn new_client(alloc: Global, mode: &ClientMode) -> Result<Self, Error>
         ensures made { IfOk result (λ context. (either N.REQUESTS N.meaning K.meaning).made (ForClient mode.now) context) }
         ensures fresh { IfOk result (λ context. (either N.REQUESTS N.meaning K.meaning).counts context ≡ no_counts) }
-        ensures plain { IfErr result (λ error. error.nstatus ≡ None) }
-        ensures cause { IfErr result (λ error. error.error_type ≢ ErrorKind.InsufficientMemory →
-            (either N.REQUESTS N.meaning K.meaning).unmade (ForClient mode.now) error.error_type) }
+        ensures cause { IsRefusedBy result ((either N.REQUESTS N.meaning K.meaning).unmade (ForClient mode.now)) }
     {
         match mode {
             ClientMode::Negotiate(config) => {
@@ -122,10 +120,8 @@ impl<N: Mechanism, K: Mechanism> SspiContext<N, K> {
         ensures acquired { IfOk result (λ buffers.
             (either N.REQUESTS N.meaning K.meaning).acquires self.old credential_use (option_copied auth_data.entry) buffers self.new) }
         ensures unused { let c = either N.REQUESTS N.meaning K.meaning in IsUnused (c.counts self.old) → IsUnused (c.counts self.new) }
-        ensures plain { IfErr result (λ error. error.nstatus ≡ None) }
-        ensures cause { IfErr result (λ error. error.error_type ≢ ErrorKind.InsufficientMemory →
-            (either N.REQUESTS N.meaning K.meaning).refuses self.old (ToAcquire credential_use
-            (option_copied auth_data.entry)) error.error_type) }
+        ensures cause { IsRefusedBy result ((either N.REQUESTS N.meaning K.meaning).refuses self.old
+            (ToAcquire credential_use (option_copied auth_data.entry))) }
     {
         match self {
             SspiContext::Negotiate(negotiation) => {
@@ -203,9 +199,7 @@ impl<N: Mechanism, K: Mechanism> SspiContext<N, K> {
     /// The name that was authenticated: on a server the peer's, on a client its own. `OutOfSequence` before it is known.
     pub fn query_context_names(&self) -> Result<ContextNames, Error>
         ensures named { IfOk result (λ names. (either N.REQUESTS N.meaning K.meaning).names self.now ≡ Some names.username) }
-        ensures plain { IfErr result (λ error. error.nstatus ≡ None) }
-        ensures cause { IfErr result (λ error. error.error_type ≢ ErrorKind.InsufficientMemory →
-            (either N.REQUESTS N.meaning K.meaning).refuses self.now ToName error.error_type) }
+        ensures cause { IsRefusedBy result ((either N.REQUESTS N.meaning K.meaning).refuses self.now ToName) }
     {
         let username = match self {
             SspiContext::Negotiate(negotiation) => return negotiation.query_context_names(),
@@ -252,9 +246,7 @@ impl<N: Mechanism, K: Mechanism> SspiContext<N, K> {
         ensures identified { OnOk result ((either N.REQUESTS N.meaning K.meaning).identifies self.old identities.items self.new) }
         ensures count { (either N.REQUESTS N.meaning K.meaning).counts self.new ≡ (either N.REQUESTS N.meaning K.meaning).counts self.old }
         ensures err { OnErr result (self.new ≡ self.old) }
-        ensures plain { IfErr result (λ error. error.nstatus ≡ None) }
-        ensures cause { IfErr result (λ error. error.error_type ≢ ErrorKind.InsufficientMemory →
-            (either N.REQUESTS N.meaning K.meaning).refuses self.old (ToIdentify identities.items) error.error_type) }
+        ensures cause { IsRefusedBy result ((either N.REQUESTS N.meaning K.meaning).refuses self.old (ToIdentify identities.items)) }
     {
         match self {
             SspiContext::Negotiate(negotiation) => negotiation.custom_set_auth_identities(
@@ -270,9 +262,7 @@ impl<N: Mechanism, K: Mechanism> SspiContext<N, K> {
         ensures same { self.new ≡ self.old }
         ensures keyed { IsTrue ((either N.REQUESTS N.meaning K.meaning).keyed self.old) → result ≡ Ok SecurityStatus.Ok }
         ensures permitted { OnOk result ((either N.REQUESTS N.meaning K.meaning).permits self.old ToComplete) }
-        ensures plain { IfErr result (λ error. error.nstatus ≡ None) }
-        ensures cause { IfErr result (λ error. error.error_type ≢ ErrorKind.InsufficientMemory →
-            (either N.REQUESTS N.meaning K.meaning).refuses self.old ToComplete error.error_type) }
+        ensures cause { IsRefusedBy result ((either N.REQUESTS N.meaning K.meaning).refuses self.old ToComplete) }
     {
         match self {
             SspiContext::Negotiate(negotiation) => negotiation.complete_auth_token(),
@@ -294,9 +284,7 @@ impl<N: Mechanism, K: Mechanism> SspiContext<N, K> {
         ensures count { let c = either N.REQUESTS N.meaning K.meaning in OnOk result (c.counts self.new ≡ one_sealed (c.counts self.old)) }
         ensures permitted { OnOk result ((either N.REQUESTS N.meaning K.meaning).permits self.old (ToSeal text.now)) }
         ensures err { OnErr result (self.new ≡ self.old) }
-        ensures plain { IfErr result (λ error. error.nstatus ≡ None) }
-        ensures cause { IfErr result (λ error. error.error_type ≢ ErrorKind.InsufficientMemory →
-            (either N.REQUESTS N.meaning K.meaning).refuses self.new (ToSeal text.now) error.error_type) }
+        ensures cause { IsRefusedBy result ((either N.REQUESTS N.meaning K.meaning).refuses self.new (ToSeal text.now)) }
     {
         match self {
             SspiContext::Negotiate(negotiation) => negotiation.seal(text),
@@ -320,9 +308,7 @@ impl<N: Mechanism, K: Mechanism> SspiContext<N, K> {
             OnOk result (c.counts self.new ≡ one_unsealed (c.counts self.old)) }
         ensures permitted { OnOk result ((either N.REQUESTS N.meaning K.meaning).permits self.old (ToUnseal blob.now)) }
         ensures err { OnErr result (self.new ≡ self.old) }
-        ensures plain { IfErr result (λ error. error.nstatus ≡ None) }
-        ensures cause { IfErr result (λ error. error.error_type ≢ ErrorKind.InsufficientMemory →
-            (either N.REQUESTS N.meaning K.meaning).refuses self.new (ToUnseal blob.now) error.error_type) }
+        ensures cause { IsRefusedBy result ((either N.REQUESTS N.meaning K.meaning).refuses self.new (ToUnseal blob.now)) }
     {
         match self {
             SspiContext::Negotiate(negotiation) => negotiation.unseal(blob),

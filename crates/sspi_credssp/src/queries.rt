@@ -1,7 +1,8 @@
 // What a context tells of itself: what the mechanism or the negotiation in hand tells.
-ghost use Rattle.std.specs.Prelude.{◌≡◌, ◌≢◌, Some, None, IfOk, IfErr};
+ghost use Rattle.std.specs.Prelude.{◌≡◌, Some, None, IfOk};
 ghost use Rattle.sspi_mech.specs.Calls.{ToDescribe, ToShowKey};
 ghost use Rattle.sspi_messages.specs.Unsupported.{unsupported};
+ghost use Rattle.sspi_credssp.specs.Refusal.{IsRefusedBy};
 ghost use Rattle.sspi_credssp.specs.Context.{either};
 ghost use Rattle.sspi_credssp.specs.Queries.{negotiated_entry, RefusesNegotiated};
 
@@ -9,8 +10,7 @@ use crate::context::SspiContext;
 use sspi_mech::Mechanism;
 use sspi_messages::unsupported;
 use sspi_types::{
-    CertTrustStatus, ConnectionInfo, ContextSizes, Error, ErrorKind, PackageInfo, SessionKeys,
-    StreamSizes,
+    CertTrustStatus, ConnectionInfo, ContextSizes, Error, PackageInfo, SessionKeys, StreamSizes,
 };
 
 impl<N: Mechanism, K: Mechanism> SspiContext<N, K> {
@@ -29,9 +29,7 @@ impl<N: Mechanism, K: Mechanism> SspiContext<N, K> {
     pub fn query_context_session_key(&self) -> Result<SessionKeys, Error>
         ensures key { IfOk result (λ keys.
             (either N.REQUESTS N.meaning K.meaning).session_key self.now ≡ Some keys.session_key.value) }
-        ensures plain { IfErr result (λ error. error.nstatus ≡ None) }
-        ensures cause { IfErr result (λ error. error.error_type ≢ ErrorKind.InsufficientMemory →
-            (either N.REQUESTS N.meaning K.meaning).refuses self.now ToShowKey error.error_type) }
+        ensures cause { IsRefusedBy result ((either N.REQUESTS N.meaning K.meaning).refuses self.now ToShowKey) }
     {
         match self {
             SspiContext::Negotiate(negotiation) => negotiation.query_context_session_key(),
@@ -43,9 +41,7 @@ impl<N: Mechanism, K: Mechanism> SspiContext<N, K> {
     /// The entry of the package: of a negotiation the entry of Negotiate, else that of the mechanism.
     pub fn query_context_package_info(&self) -> Result<PackageInfo, Error>
         ensures entry { IfOk result (λ info. info ≡ (either N.REQUESTS N.meaning K.meaning).entry self.now) }
-        ensures plain { IfErr result (λ error. error.nstatus ≡ None) }
-        ensures cause { IfErr result (λ error. error.error_type ≢ ErrorKind.InsufficientMemory →
-            (either N.REQUESTS N.meaning K.meaning).refuses self.now ToDescribe error.error_type) }
+        ensures cause { IsRefusedBy result ((either N.REQUESTS N.meaning K.meaning).refuses self.now ToDescribe) }
     {
         match self {
             SspiContext::Negotiate(negotiation) => negotiation.query_context_package_info(),
@@ -58,9 +54,7 @@ impl<N: Mechanism, K: Mechanism> SspiContext<N, K> {
     pub fn query_context_negotiation_package(&self) -> Result<PackageInfo, Error>
         ensures entry { IfOk result (λ info. negotiated_entry N.meaning K.meaning self.now ≡ Some info) }
         ensures none { negotiated_entry N.meaning K.meaning self.now ≡ None → result ≡ Err unsupported }
-        ensures plain { IfErr result (λ error. error.nstatus ≡ None) }
-        ensures cause { IfErr result (λ error. error.error_type ≢ ErrorKind.InsufficientMemory →
-            RefusesNegotiated N.meaning K.meaning self.now error.error_type) }
+        ensures cause { IsRefusedBy result (RefusesNegotiated N.meaning K.meaning self.now) }
     {
         match self {
             SspiContext::Negotiate(negotiation) => negotiation.query_context_negotiation_package(),

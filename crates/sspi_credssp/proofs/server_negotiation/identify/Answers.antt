@@ -27,4 +27,4 @@ returns-clause-cause g c =
     (λ error cause memory. unset c.in_ok-names.names.username c.in_ok-candidates.candidates.items (search rules) (search rules)
     c.in_ok-candidates.ensures.some
     (subst (λ all. it.refuses c.args.context.now (ToIdentify all) error.error_type) c.in_ok-identities.ensures.ok (cause memory)))
-    c.custom_set_auth_identities.ensures.cause
+    c.custom_set_auth_identities.ensures.cause.kind

@@ -114,4 +114,4 @@ returns-in_err-complete_auth_token-clause-cause g c = λ start d status same lat
     (subst (λ m. Accepted it tells start c.self.inside.credentials_handle d.nego_tokens Identified answer m)
     (sym c.complete_auth_token.ensures.same) named)
     (subst (λ m. it.refuses m ToComplete c.in_err-complete_auth_token.field-0.0.error_type) (sym c.complete_auth_token.ensures.same)
-    (c.in_err-complete_auth_token.ensures.cause memory)))
+    (c.in_err-complete_auth_token.ensures.cause.kind memory)))
