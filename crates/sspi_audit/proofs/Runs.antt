@@ -28,10 +28,11 @@ use Rattle.sspi_credssp.specs.Shown.{ShownFrame, IsOwn, ShowsNego, ShowsOver, Sh
 use Rattle.sspi_credssp.specs.Shown.{server_shown}
 use Rattle.sspi_credssp.specs.Turn.{AtNoted, ClientFrame, ServerFrame}
 use Rattle.sspi_delegate.specs.declared.carried.Carried.{Carried}
-use Rattle.sspi_delegate.specs.ClientRun.{ClientEnd, client_end, client_noted, client_frame_at, EachClientTurn}
+use Rattle.sspi_delegate.specs.EndRun.{ClientEnd, client_end, ServerEnd, server_end}
+use Rattle.sspi_delegate.specs.ClientRun.{client_noted, client_frame_at, EachClientTurn}
 use Rattle.sspi_delegate.specs.EndTurns.{client_turns, server_turns, onto_client, onto_server}
 use Rattle.sspi_delegate.specs.Headline.{IsRun}
-use Rattle.sspi_delegate.specs.ServerRun.{ServerEnd, server_end, server_noted, server_frame_at, EachServerTurn}
+use Rattle.sspi_delegate.specs.ServerRun.{server_noted, server_frame_at, EachServerTurn}
 use Rattle.sspi_delegate.specs.Turns.{Alternates}
 use Rattle.sspi_audit.specs.Frames.{client_frame, server_frame, own_version, told_by}
 use Rattle.sspi_audit.specs.Left.{LeavesShown}

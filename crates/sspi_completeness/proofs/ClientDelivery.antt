@@ -16,14 +16,13 @@ use Rattle.sspi_credssp.specs.declared.state.CredSspState.TheVariants.{NegoToken
 use Rattle.sspi_credssp.specs.Acts.{sealed_by, unsealed_by}
 use Rattle.sspi_credssp.specs.Begun.{BeginCause}
 use Rattle.sspi_credssp.specs.Client.{ClientSettings, ClientView}
-use Rattle.sspi_credssp.specs.ClientCause.{ClientCause, StateCause, DeliverCause, BlobOpens, OpenedCause, CheckedCause, SealsCause}
-use Rattle.sspi_credssp.specs.ClientCause.{altered, unsealed}
+use Rattle.sspi_credssp.specs.ClientCause.{ClientCause, StateCause, DeliverCause, BlobOpens, SealsCause}
 use Rattle.sspi_credssp.specs.ClientTurn.{StartsUnused, client_frame, client_turn}
 use Rattle.sspi_credssp.specs.Turn.{ClientFrame, OnceNegotiated}
 use Rattle.sspi_credssp.specs.Context.{ContextSetting, ForClient}
 use Rattle.sspi_credssp.specs.Counts.{sealed_in, unsealed_in, SealsIn, SameBut, cleared}
 use Rattle.sspi_credssp.specs.Credentials.{delegated_text, IfText}
-use Rattle.sspi_credssp.specs.Exchange.{opens_other, BlobStops}
+use Rattle.sspi_credssp.specs.Exchange.{opens_other, BlobStops, CheckedCause, altered, unsealed, ProofCause}
 use Rattle.sspi_credssp.specs.PublicKey.{prescribed}
 use Rattle.sspi_credssp.specs.Requests.{is_code}
 use Rattle.sspi_credssp.specs.declared.turn.Outcome.{Outcome}
@@ -121,14 +120,14 @@ module _ {C D : Type 0} (c : Meaning ContextSetting C) (k : KdcCalls D) where
 
     checked_never : (m : C) (kind : ErrorKind) (texts : Result (List ℕ) Error) → texts ≡ Ok text → cleared c m ≡ y →
         (c.counts m).sealed < 2 ^ 64 - 1 →
-        CheckedCause c m (peers 0 proof_text) proof_text texts kind → ⊥
+        CheckedCause c m (peers 0 proof_text) proof_text (SealsCause c m texts kind) kind → ⊥
     checked_never m kind texts is same few (altered (opens_other text2 opens differs) kind_is) =
         differs (given.taker.opened m 0 _ proof_text text2 same opens)
     checked_never m kind texts is same few (unsealed opens h) = seals_never m kind texts is same few h
 
     opened_never : (checked : Bool) (m : C) (kind : ErrorKind) (texts : Result (List ℕ) Error) → texts ≡ Ok text → cleared c m ≡ y →
         (c.counts m).sealed < 2 ^ 64 - 1 →
-        (checked ≡ false → (c.counts m).unsealed ≡ 0) → OpenedCause c checked m (peers 0 proof_text) proof_text texts kind → ⊥
+        (checked ≡ false → (c.counts m).unsealed ≡ 0) → ProofCause c checked m (peers 0 proof_text) proof_text (SealsCause c m texts kind) kind → ⊥
     opened_never false m kind texts is same few next h = given.taker.never m 0 proof_text kind same (next refl) (omega arith) h
     opened_never true m kind texts is same few next h = checked_never m kind texts is same few h
 
@@ -149,8 +148,9 @@ module _ {C D : Type 0} (c : Meaning ContextSetting C) (k : KdcCalls D) where
         (subst (λ (x : Option ℕ). BlobOpens c x mid.context blob mid error.error_type) noted_now later) in
         let proof_is : prescribed Server w mid.settings.nonce mid.settings.public_key ≡ proof_text =
         ap (λ (s : ClientSettings). prescribed Server w s.nonce s.public_key) (turn.moves.same ∙ given.is.same) in
-        let at = subst (λ (p : List ℕ). OpenedCause c mid.acts.checked holds.held blob p
-        (delegated_text mid.settings.credentials mid.settings.delegation) error.error_type) proof_is opens in
+        let at = subst (λ (p : List ℕ). ProofCause c mid.acts.checked holds.held blob p
+        (SealsCause c holds.held (delegated_text mid.settings.credentials mid.settings.delegation) error.error_type)
+        error.error_type) proof_is opens in
         let sealed = turn.moves.sealed unused in
         let opened = turn.moves.unsealed unused in
         let sealed_before = given.is.sealed_is in

@@ -31,7 +31,8 @@ use Rattle.sspi_delegate.specs.EndTurns.{client_turns, server_turns}
 use Rattle.sspi_delegate.specs.History.{ClientPast, ServerHistory}
 use Rattle.sspi_delegate.specs.Link.{StaysTold}
 use Rattle.sspi_delegate.specs.Messages.{newest_message, AnswerTold}
-use Rattle.sspi_delegate.specs.ServerRun.{server_end, GivesNewest}
+use Rattle.sspi_delegate.specs.EndRun.{server_end}
+use Rattle.sspi_delegate.specs.ServerRun.{GivesNewest}
 use Rattle.sspi_completeness.specs.Matching.{MatchModes, messages_of, messages_in, AreMatching, IsUndisturbed, IsCalm, delegated_as}
 use Rattle.sspi_completeness.specs.Matching.{ComesToOkIn}
 use Rattle.sspi_completeness.specs.Negotiating.{Needs, messages_by, kdc_url}

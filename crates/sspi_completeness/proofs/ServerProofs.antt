@@ -18,19 +18,19 @@ use Rattle.sspi_credssp.specs.Acts.{sealed_by, unsealed_by}
 use Rattle.sspi_credssp.specs.Begun.{IfContext}
 use Rattle.sspi_credssp.specs.Context.{ContextSetting}
 use Rattle.sspi_credssp.specs.Counts.{sealed_in, unsealed_in, SealsIn, SameBut, cleared}
-use Rattle.sspi_credssp.specs.Exchange.{opens_other}
+use Rattle.sspi_credssp.specs.Exchange.{opens_other, CheckedCause, altered, unsealed, ProofCause}
 use Rattle.sspi_credssp.specs.PublicKey.{prescribed}
 use Rattle.sspi_credssp.specs.Requests.{nonce_of, IsLong}
 use Rattle.sspi_credssp.specs.Proxy.{ProxyMeaning}
 use Rattle.sspi_credssp.specs.Server.{ServerSettings, ServerView}
 use Rattle.sspi_credssp.specs.ServerCause.{IdentifyCause, OverCause, unknown, incomplete, known, AfterCause, ExchangeCause}
-use Rattle.sspi_credssp.specs.ServerCause.{BlobCause, ProofCause, AnswerCause, altered, unsealed, lacks_nonce}
+use Rattle.sspi_credssp.specs.ServerCause.{BlobCause, lacks_nonce}
 use Rattle.sspi_credssp.specs.ServerStep.{Unknown, Identified, Completed}
 use Rattle.sspi_credssp.specs.Noted.{noted_with}
 use Rattle.sspi_credssp.specs.ServerTurn.{StartsUnused, ServerTurn, after_status, server_frame, server_turn}
 use Rattle.sspi_credssp.specs.Shown.{IsOver, ShowsOver, ShowsProofBack, ShowsStateBack, server_shown}
 use Rattle.sspi_credssp.specs.Turn.{AtNoted, OnceNegotiated}
-use Rattle.sspi_mech.specs.Calls.{ToComplete}
+use Rattle.sspi_mech.specs.Calls.{ToComplete, ToSeal}
 use Rattle.sspi_credssp.specs.declared.turn.Outcome.{Outcome}
 use Rattle.sspi_credssp.specs.declared.turn.Outcome.TheVariants as outcome
 use Rattle.sspi_credssp.specs.Held.{HoldsProofBack}
@@ -89,13 +89,13 @@ module _ {C P : Type 0} (c : Meaning ContextSetting C) (laws : IsContext c) (p :
         proof_back_is (server_frame c old mid) (server_turn c d (outcome.Reply r) mid) r proof ∙ (rw (same, field_is) refl)
 
     answer_never : (m : C) (text : List ℕ) (kind : ErrorKind) → cleared c m ≡ z → (c.counts m).sealed < 2 ^ 64 - 1 →
-        AnswerCause c m (peers 0 client_text) client_text text kind → ⊥
+        CheckedCause c m (peers 0 client_text) client_text (c.refuses m (ToSeal text) kind) kind → ⊥
     answer_never m text kind same few (altered (opens_other text2 opens differs) is) =
         differs (proof_given.taker.opened m 0 _ client_text text2 same opens)
     answer_never m text kind same few (unsealed opens refuses) = proof_given.maker.never m text kind same few refuses
 
     proof_never : (checked : Bool) (m : C) (text : List ℕ) (kind : ErrorKind) → cleared c m ≡ z → (c.counts m).sealed < 2 ^ 64 - 1 →
-        (checked ≡ false → (c.counts m).unsealed ≡ 0) → ProofCause c checked m (peers 0 client_text) client_text text kind → ⊥
+        (checked ≡ false → (c.counts m).unsealed ≡ 0) → ProofCause c checked m (peers 0 client_text) client_text (c.refuses m (ToSeal text) kind) kind → ⊥
     proof_never false m text kind same few next h = proof_given.taker.never m 0 client_text kind same (next refl) (omega arith) h
     proof_never true m text kind same few next h = answer_never m text kind same few h
 
@@ -110,8 +110,8 @@ module _ {C P : Type 0} (c : Meaning ContextSetting C) (laws : IsContext c) (p :
         (stops_later _ InvalidToken kind _ proof_given.nonce at_noted) in
         let at = subst (λ (x : Option C). BlobCause c w x d.client_nonce blob mid kind) holds.there later in
         let exact = subst (λ (s : ServerSettings). ProofCause c mid.acts.checked holds.held blob
-        (prescribed Client w (nonce_of d.client_nonce) s.public_key) (prescribed Server w (nonce_of d.client_nonce) s.public_key) kind)
-        same at in
+        (prescribed Client w (nonce_of d.client_nonce) s.public_key)
+        (c.refuses holds.held (ToSeal (prescribed Server w (nonce_of d.client_nonce) s.public_key)) kind) kind) same at in
         let sealed_here : sealed_in c mid.context ≡ (c.counts holds.held).sealed = ap (sealed_in c) holds.there in
         let opened_here : unsealed_in c mid.context ≡ (c.counts holds.held).unsealed = ap (unsealed_in c) holds.there in
         proof_never mid.acts.checked holds.held _ kind holds.same (omega (arith, few, sealed_here))

@@ -32,7 +32,8 @@ use Rattle.sspi_delegate.specs.History.{ClientHistory, ClientPast, ServerHistory
 use Rattle.sspi_delegate.specs.Link.{FollowsTold, StaysTold}
 use Rattle.sspi_delegate.specs.Messages.{newest_message, CarryFails, AnswerTold}
 use Rattle.sspi_delegate.specs.Run.{LoggedButLast}
-use Rattle.sspi_delegate.specs.ServerRun.{server_end, GivesNewest}
+use Rattle.sspi_delegate.specs.EndRun.{server_end}
+use Rattle.sspi_delegate.specs.ServerRun.{GivesNewest}
 use Rattle.sspi_delegate.specs.Turns.{next_end, Alternates}
 use Rattle.sspi_completeness.specs.Matching.{AreWhole, IsUndisturbed, unedited, shown, IsCalm, NoneFailed, none_told, none_counted}
 use Rattle.sspi_completeness.proofs.Deliveries.{always_readable, never_too_long}

@@ -1,6 +1,6 @@
 -- What a call of a proxy is among the calls of a turn.
-use Rattle.std.proofs.Common.{◌≡◌, ◌∙◌, ◌+◌, ◌-◌, ◌<◌, ◌≤◌, ◌⊎◌, inl, inr, ℕ, zero, suc, add-zero, add-suc, List, [], Option, None}
-use Rattle.std.proofs.Common.{Some, Result, Ok, Err, OnOk, true, false, refl, sym, ap, subst, arith}
+use Rattle.std.proofs.Common.{◌≡◌, ◌∙◌, ◌+◌, ◌-◌, ◌<◌, ◌≤◌, ◌⊎◌, inl, inr, ℕ, zero, suc, add-zero, add-suc, List, Option, None}
+use Rattle.std.proofs.Common.{Some, Result, Ok, Err, OnOk, refl, sym, ap, subst, arith}
 use Rattle.sspi_credssp.specs.declared.proxy.ProxyError.{ProxyError}
 use Rattle.sspi_credssp.specs.declared.proxy.ProxyError.TheVariants.{NotFound, Failed, InsufficientMemory}
 use Rattle.sspi_credssp.specs.Proxy.{ProxyMeaning, ProxyTells, HasAnswered, HasAsked, IsLater, IsAsked, FailsAfter, TellsFailure}

@@ -19,14 +19,13 @@ use Rattle.sspi_credssp.specs.declared.state.CredSspState.{CredSspState}
 use Rattle.sspi_credssp.specs.declared.state.CredSspState.TheVariants.{NegoToken, PubKeyInfo, AuthInfo, Final}
 use Rattle.sspi_credssp.specs.Begun.{BeginCause, unmade, unacquired, IfContext, MadeOr}
 use Rattle.sspi_credssp.specs.Client.{ClientView}
-use Rattle.sspi_credssp.specs.ClientCause.{ClientCause, StateCause, NegoCause, ProveCause, BlobOpens, OpenedCause, CheckedCause}
-use Rattle.sspi_credssp.specs.ClientCause.{altered, unsealed, SealsCause}
+use Rattle.sspi_credssp.specs.ClientCause.{ClientCause, StateCause, NegoCause, ProveCause, BlobOpens, SealsCause}
 use Rattle.sspi_credssp.specs.ClientStep.{client_args, Asked, Walked, stepped, resumed, still_asked, recounted, OnStep, HasStepped}
 use Rattle.sspi_credssp.specs.ClientStep.{refused_answer}
 use Rattle.sspi_credssp.specs.Context.{ContextSetting, ForClient}
 use Rattle.sspi_credssp.specs.Counts.{is_waiting_in}
 use Rattle.sspi_credssp.specs.Credentials.{delegated_text}
-use Rattle.sspi_credssp.specs.Exchange.{BlobStops}
+use Rattle.sspi_credssp.specs.Exchange.{BlobStops, CheckedCause, altered, unsealed, ProofCause}
 use Rattle.sspi_credssp.specs.Heeded.{NeverRefuses, ClientMeetsOld}
 use Rattle.sspi_credssp.specs.Noted.{is_old_in, is_altered_in}
 use Rattle.sspi_credssp.specs.PublicKey.{prescribed}
@@ -106,28 +105,28 @@ module _ {C : Type 0} (c : Meaning ContextSetting C) (never : NeverRefuses c Dow
   prove_never (Some v) None new h = h
   prove_never (Some v) (Some m) new h = never.calls m _ h
 
+  checked_never : (m : C) (blob proof : List ℕ) (Unsealed : Type 0) → (Unsealed → ⊥) →
+      CheckedCause c m blob proof Unsealed DowngradeDetected → ⊥
+  checked_never m blob proof Unsealed refute (altered opens kind) = absurd (cc (kind))
+  checked_never m blob proof Unsealed refute (unsealed opens h) = refute h
+
+  pub proof_never : (checked : Bool) (m : C) (blob proof : List ℕ) (Unsealed : Type 0) → (Unsealed → ⊥) →
+      ProofCause c checked m blob proof Unsealed DowngradeDetected → ⊥
+  proof_never false m blob proof Unsealed refute h = never.calls m _ h
+  proof_never true m blob proof Unsealed refute h = checked_never m blob proof Unsealed refute h
+
   seals_never : (m : C) (text : Result (List ℕ) Error) → IfRefused IsOther text → SealsCause c m text DowngradeDetected → ⊥
   seals_never m (Ok text) other h = never.calls m _ h
   seals_never m (Err error) other h = other (sym h)
-
-  checked_never : (m : C) (blob proof : List ℕ) (text : Result (List ℕ) Error) → IfRefused IsOther text →
-      CheckedCause c m blob proof text DowngradeDetected → ⊥
-  checked_never m blob proof text other (altered opens kind) = absurd (cc (kind))
-  checked_never m blob proof text other (unsealed opens seals) = seals_never m text other seals
-
-  opened_never : (checked : Bool) (m : C) (blob proof : List ℕ) (text : Result (List ℕ) Error) → IfRefused IsOther text →
-      OpenedCause c checked m blob proof text DowngradeDetected → ⊥
-  opened_never false m blob proof text other h = never.calls m _ h
-  opened_never true m blob proof text other h = checked_never m blob proof text other h
 
   opens_never : (noted : Option ℕ) (context : Option C) (blob : List ℕ) (new : ClientView C) →
       BlobOpens c noted context blob new DowngradeDetected → ⊥
   opens_never None context blob new h = h
   opens_never (Some v) None blob new h = h
   opens_never (Some v) (Some m) blob new h =
-      opened_never new.acts.checked m blob (prescribed Server v new.settings.nonce new.settings.public_key)
-      (delegated_text new.settings.credentials new.settings.delegation)
-      (so_delegated IsOther each_other new.settings.credentials new.settings.delegation) h
+      proof_never new.acts.checked m blob (prescribed Server v new.settings.nonce new.settings.public_key) _
+      (seals_never m (delegated_text new.settings.credentials new.settings.delegation)
+      (so_delegated IsOther each_other new.settings.credentials new.settings.delegation)) h
 
   nego_never : (status : Option SecurityStatus) (new : ClientView C) → (status ≡ None → new.acts.negotiated ≡ true → ⊥) →
       NegoCause c status new DowngradeDetected → ⊥

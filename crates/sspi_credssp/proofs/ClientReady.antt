@@ -1,5 +1,6 @@
 -- A turn of the client that is under way stays so over a step of its context.
 use Rattle.std.proofs.Common.{◌≡◌, ◌<◌, ℕ, List, Option, Some, true, refl, sym, ◌∙◌, ap, subst}
+use Rattle.sspi_names.specs.declared.network.NetworkRequest.{NetworkRequest}
 use Rattle.sspi_mech.specs.declared.step.Answer.{Answer}
 use Rattle.sspi_mech.specs.declared.step.Answer.TheVariants.{Done, Ask, Refused}
 use Rattle.sspi_mech.specs.declared.step.Reply.{Reply}
@@ -13,23 +14,41 @@ use Rattle.sspi_credssp.specs.declared.state.CredSspState.{CredSspState}
 use Rattle.sspi_credssp.specs.declared.state.CredSspState.TheVariants.{NegoToken}
 use Rattle.sspi_credssp.specs.Begun.{IfContext}
 use Rattle.sspi_credssp.specs.Client.{ClientView}
-use Rattle.sspi_credssp.specs.ClientTurn.{IsReady, StartsUnused}
+use Rattle.sspi_credssp.specs.ClientTurn.{IsReady}
 use Rattle.sspi_credssp.specs.Context.{ContextSetting}
 use Rattle.sspi_credssp.specs.Counts.{IsUnusedIn, sealed_in, unsealed_in}
-use Rattle.sspi_credssp.specs.Turn.{OnceNegotiated}
+use Rattle.sspi_credssp.specs.Turn.{OnceNegotiated, IsUnspent}
 
 pub not_yet : (s : CredSspState) (P : Type 0) → s ≡ NegoToken → OnceNegotiated s P
 not_yet s P e = subst (λ x. OnceNegotiated x P) (sym e) tt
 
+-- in the authentication a step that leaves the counts of an unused context alone spends nothing
+pub still_unspent : {S C : Type 0} (c : Meaning S C) (Unused : Type 0) (start : CredSspState) (before : Option C) (state : CredSspState)
+    (context : Option C) (m m2 : C) → IsUnspent c Unused start before state context → state ≡ NegoToken → start ≡ NegoToken →
+    context ≡ Some m → (IsUnused (c.counts m) → IsUnused (c.counts m2)) → IsUnspent c Unused start before state (Some m2)
+still_unspent c Unused start before state context m m2 unspent nego begins here stays =
+    let first : Unused → IsUnused (c.counts m) = λ given. subst (λ x. IsUnusedIn c x) here (unspent.unused given nego) in
+    record {
+      sealed = λ given. (stays (first given)).sealed ∙ sym (ap (sealed_in c) here ∙ (first given).sealed) ∙ unspent.sealed given;
+      unsealed = λ given.
+          (stays (first given)).unsealed ∙ sym (ap (unsealed_in c) here ∙ (first given).unsealed) ∙ unspent.unsealed given;
+      unused = λ given _. stays (first given);
+      bare = not_yet start _ begins;
+    }
+
 pub context_here : {C : Type 0} (o : Option C) (m : C) (P : C → Type 0) → o ≡ Some m → IfContext o P → P m
 context_here o m P e h = subst (λ x. IfContext x P) e h
+
+on_ask : (r : Answer) (P : Type 0) → ((request : NetworkRequest) → r ≡ Ask request → P) → OnAsk r P
+on_ask (Done step) P h = tt
+on_ask (Ask request) P h = h request refl
+on_ask (Refused error) P h = tt
 
 module _ {C : Type 0} (c : Meaning ContextSetting C) where
   pub ready_stepped : (start now : ClientView C) (d : TsRequest) (m m2 : C) (acts : Acts) →
       IsReady c start d now → now.state ≡ NegoToken → now.context ≡ Some m →
       (IsUnused (c.counts m) → IsUnused (c.counts m2)) → IsReady c start d (record now { context = Some m2; acts = acts })
   ready_stepped start now d m m2 acts ready nego here stays =
-      let before : StartsUnused c start → IsUnused (c.counts m) = λ su. subst (λ x. IsUnusedIn c x) here (ready.unused su nego) in
       record {
         idle = ready.idle;
         code = ready.code;
@@ -41,10 +60,7 @@ module _ {C : Type 0} (c : Meaning ContextSetting C) where
         young = ready.young;
         passed = ready.passed;
         begun = refl;
-        sealed = λ su. (stays (before su)).sealed ∙ sym (ap (sealed_in c) here ∙ (before su).sealed) ∙ ready.sealed su;
-        unsealed = λ su. (stays (before su)).unsealed ∙ sym (ap (unsealed_in c) here ∙ (before su).unsealed) ∙ ready.unsealed su;
-        unused = λ su _. stays (before su);
-        bare = not_yet start.state _ (sym ready.state ∙ nego);
+        unspent = still_unspent c _ _ _ _ _ m m2 ready.unspent nego (sym ready.state ∙ nego) here stays;
       }
 
   -- what a call forgets of the last one is nothing of the turn
@@ -61,26 +77,28 @@ module _ {C : Type 0} (c : Meaning ContextSetting C) where
     young = ready.young;
     passed = ready.passed;
     begun = ready.begun;
-    sealed = ready.sealed;
-    unsealed = ready.unsealed;
-    unused = ready.unused;
-    bare = ready.bare;
+    unspent = ready.unspent;
   }
 
-module _ {S C : Type 0} (c : Meaning S C) (laws : IsContext c) where
-  -- a context that asked waits
-  pub asked_waits : (m m2 : C) (a : StepArgs) (r : Answer) → c.steps m a r m2 → OnAsk r (c.waits m2 ≡ true)
-  asked_waits m m2 a (Done step) h = tt
-  asked_waits m m2 a (Ask request) h = laws.step_waits m m2 a request h
-  asked_waits m m2 a (Refused error) h = tt
+module _ {C : Type 0} (c : Meaning ContextSetting C) (laws : IsContext c) where
+  -- a step leaves the turn under way, and a context that asked waits
+  pub after_step : (start now : ClientView C) (d : TsRequest) (m m2 : C) (acts : Acts) (a : StepArgs) (r : Answer) →
+      IsReady c start d now → now.state ≡ NegoToken → now.context ≡ Some m → c.steps m a r m2 →
+      IsReady c start d (record now { context = Some m2; acts = acts }) × OnAsk r (c.waits m2 ≡ true)
+  after_step start now d m m2 acts a r ready nego here step = (
+    ready_stepped c start now d m m2 acts ready nego here (λ unused. laws.step_unused m m2 a r unused step),
+    on_ask r (c.waits m2 ≡ true) (λ request is. laws.step_waits m m2 a request (subst (λ x. c.steps m a x m2) is step)),
+  )
 
-  pub asked_again_waits : (m m2 : C) (b : Reply) (r : Answer) → c.resumes m b r m2 → OnAsk r (c.waits m2 ≡ true)
-  asked_again_waits m m2 b (Done step) h = tt
-  asked_again_waits m m2 b (Ask request) h = laws.resume_waits m m2 b request h
-  asked_again_waits m m2 b (Refused error) h = tt
+  pub after_resume : (start now : ClientView C) (d : TsRequest) (m m2 : C) (acts : Acts) (b : Reply) (r : Answer) →
+      IsReady c start d now → now.state ≡ NegoToken → now.context ≡ Some m → c.resumes m b r m2 →
+      IsReady c start d (record now { context = Some m2; acts = acts }) × OnAsk r (c.waits m2 ≡ true)
+  after_resume start now d m m2 acts b r ready nego here step = (
+    ready_stepped c start now d m m2 acts ready nego here (λ unused. laws.resume_unused m m2 b r unused step),
+    on_ask r (c.waits m2 ≡ true) (λ request is. laws.resume_waits m m2 b request (subst (λ x. c.resumes m b x m2) is step)),
+  )
 
   -- each further question is one fewer to come
   pub falls_on : (m m2 : C) (b : Reply) (r : Answer) → c.resumes m b r m2 → OnAsk r (c.left m2 < c.left m)
-  falls_on m m2 b (Done step) h = tt
-  falls_on m m2 b (Ask request) h = laws.resume_asks m m2 b request h
-  falls_on m m2 b (Refused error) h = tt
+  falls_on m m2 b r step =
+      on_ask r (c.left m2 < c.left m) (λ request is. laws.resume_asks m m2 b request (subst (λ x. c.resumes m b x m2) is step))

@@ -10,7 +10,6 @@ use Rattle.sspi_names.specs.declared.credentials.CredentialsBuffers.TheVariants 
 use Rattle.sspi_names.specs.declared.identity.AuthIdentity.{AuthIdentity}
 use Rattle.sspi_names.specs.declared.identity.AuthIdentityBuffers.{AuthIdentityBuffers}
 use Rattle.sspi_names.specs.Credentials.{credentials_buffers_of}
-use Rattle.sspi_names.specs.Refusals.{bad_name}
 use Rattle.sspi_names.specs.declared.identity.KeytabIdentity.{KeytabIdentity}
 use Rattle.sspi_tsreq.specs.declared.mode.CredSspMode.{CredSspMode}
 use Rattle.sspi_tsreq.specs.CredsAnswers.{IsOrMemory}

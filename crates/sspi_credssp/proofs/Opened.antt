@@ -1,20 +1,22 @@
 -- What is known of a blob that was opened, once it is known whether it held the proof.
-use Rattle.std.proofs.Common.{◌≡◌, ◌≢◌, ℕ, ◌-◌, List, Bool, true, false, refl, subst}
+use Rattle.std.proofs.Common.{◌≡◌, ◌≢◌, ℕ, ◌-◌, List, Bool, true, false, refl, ap, subst}
+use Rattle.sspi_types.specs.declared.error_kind.ErrorKind.{ErrorKind}
+use Rattle.sspi_types.specs.declared.error_kind.ErrorKind.TheVariants.{MessageAltered}
 use Rattle.sspi_mech.specs.Meaning.{Meaning}
-use Rattle.sspi_credssp.specs.Exchange.{OpensOther, opens_other}
-use Rattle.sspi_credssp.specs.Opened.{OpensAs}
+use Rattle.sspi_credssp.specs.declared.acts.Acts.{Acts}
+use Rattle.sspi_credssp.specs.Exchange.{ProofCause, opens_other, altered}
+use Rattle.sspi_credssp.specs.Opened.{OpensAs, HasOpened}
 
 module _ {S C : Type 0} (c : Meaning S C) where
-  pub opened_true : (m : C) (blob proof : List ℕ) (same : Bool) → same ≡ true → OpensAs c m blob proof same →
-      c.opens m ((c.counts m).unsealed - 1) blob proof
-  opened_true m blob proof same is h = subst (λ b. OpensAs c m blob proof b) is h
-
-  pub opened_false : (m : C) (blob proof : List ℕ) (same : Bool) → same ≡ false → OpensAs c m blob proof same →
-      OpensOther c m blob proof
-  opened_false m blob proof same is h = subst (λ b. OpensAs c m blob proof b) is h
-
   pub opened_as : (m : C) (blob text proof : List ℕ) (same : Bool) → c.opens m ((c.counts m).unsealed - 1) blob text →
       (same ≡ true → text ≡ proof) → (same ≡ false → text ≢ proof) → OpensAs c m blob proof same
   opened_as m blob text proof true opens is other =
       subst (λ (t : List ℕ). c.opens m ((c.counts m).unsealed - 1) blob t) (is refl) opens
   opened_as m blob text proof false opens is other = opens_other text opens (other refl)
+
+-- another text is the cause of the refusal
+pub other_stops : {S C : Type 0} {c : Meaning S C} {m m2 : C} {acts acts2 : Acts} {blob proof : List ℕ} {same : Bool}
+    {kind : ErrorKind} (Unsealed : Type 0) → HasOpened c m m2 acts acts2 blob proof same → same ≡ false → kind ≡ MessageAltered →
+    ProofCause c acts2.checked m2 blob proof Unsealed kind
+other_stops {c = c} {m2 = m2} {blob = blob} {proof = proof} Unsealed opened other is =
+    rw (ap (λ (a : Acts). a.checked) opened.noted) (altered (subst (λ b. OpensAs c m2 blob proof b) other opened.holds) is)

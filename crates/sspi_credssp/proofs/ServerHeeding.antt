@@ -8,14 +8,12 @@ use Rattle.sspi_types.specs.declared.credential_use.CredentialUse.TheVariants.{I
 use Rattle.sspi_types.specs.declared.security_status.SecurityStatus.{SecurityStatus}
 use Rattle.sspi_types.specs.declared.security_status.SecurityStatus.TheVariants as statuses
 use Rattle.sspi_names.specs.declared.credentials.CredentialsBuffers.{CredentialsBuffers}
-use Rattle.sspi_names.specs.declared.identity.AuthIdentity.{AuthIdentity}
 use Rattle.sspi_names.specs.Name.{Name}
 use Rattle.sspi_tsreq.specs.declared.request.TsRequest.{TsRequest}
 use Rattle.sspi_mech.specs.declared.step.Step.{Step}
 use Rattle.sspi_mech.specs.Meaning.{Meaning}
 use Rattle.sspi_credssp.specs.declared.mode.ServerMode.{ServerMode}
 use Rattle.sspi_credssp.specs.declared.mode.ServerMode.TheVariants as modes
-use Rattle.sspi_credssp.specs.declared.public_key.EndpointType.TheVariants.{Client, Server}
 use Rattle.sspi_credssp.specs.declared.server_state.ServerError.{ServerError}
 use Rattle.sspi_credssp.specs.declared.server_state.ServerState.{ServerState}
 use Rattle.sspi_credssp.specs.declared.state.CredSspState.{CredSspState}
@@ -24,18 +22,16 @@ use Rattle.sspi_credssp.specs.Begun.{BeginCause, unmade, unacquired, IfContext, 
 use Rattle.sspi_credssp.specs.Context.{ContextSetting}
 use Rattle.sspi_credssp.specs.Credentials.{delegated_identity}
 use Rattle.sspi_credssp.specs.Heeded.{NeverRefuses, ServerMeetsOld}
-use Rattle.sspi_credssp.specs.Noted.{differs, is_old, VersionStops}
+use Rattle.sspi_credssp.specs.Noted.{differs, is_old}
 use Rattle.sspi_credssp.specs.Proxy.{ProxyMeaning, ProxyTells}
-use Rattle.sspi_credssp.specs.PublicKey.{prescribed}
-use Rattle.sspi_credssp.specs.Requests.{nonce_of}
 use Rattle.sspi_credssp.specs.Server.{ServerView}
 use Rattle.sspi_credssp.specs.ServerCause.{ServerCause, MakeCause, unlisted, unbegun, ListRefused, StateCause, NegoCause, OverCause}
-use Rattle.sspi_credssp.specs.ServerCause.{unknown, incomplete, known, AfterCause, ExchangeCause, BlobCause, ProofCause, AnswerCause}
-use Rattle.sspi_credssp.specs.ServerCause.{altered, unsealed, OpenedCause, UnreadCause, unread, IdentifyCause, nameless, looked, unset}
-use Rattle.sspi_credssp.specs.ServerCause.{LookUpRefused, failed, nobody, lacks_nonce}
+use Rattle.sspi_credssp.specs.ServerCause.{unknown, incomplete, known, AfterCause, ExchangeCause, BlobCause}
+use Rattle.sspi_credssp.specs.ServerCause.{OpenedCause, UnreadCause, unread, IdentifyCause, nameless, looked, unset}
+use Rattle.sspi_credssp.specs.ServerCause.{LookUpRefused, failed, nobody}
 use Rattle.sspi_credssp.specs.ServerStep.{server_args, Knowing, Unknown, Identified, Accepted, accepted, identified, completed}
 use Rattle.sspi_credssp.specs.ServerStep.{recounted, OnStep, RefusedAt, HasAccepted, HasAcceptedTurn, refused_step}
-use Rattle.sspi_credssp.proofs.ClientHeeding.{IsOther, each_other, not_here, here, blob_never}
+use Rattle.sspi_credssp.proofs.ClientHeeding.{IsOther, each_other, not_here, here, blob_never, proof_never}
 use Rattle.sspi_credssp.proofs.CredentialRefusals.{refused_so, so_read}
 
 look_up_never : (tells : ProxyTells) (name : Name) (before now : ℕ) → LookUpRefused tells name before now DowngradeDetected → ⊥
@@ -60,14 +56,6 @@ module _ {C : Type 0} (c : Meaning ContextSetting C) (never : NeverRefuses c Dow
   begin_never : (s : ContextSetting) → BeginCause c s Inbound None DowngradeDetected → ⊥
   begin_never s (unmade u) = never.makes s u
   begin_never s (unacquired m made refused) = never.calls m _ refused
-
-  answer_never : (m : C) (blob proof answer : List ℕ) → AnswerCause c m blob proof answer DowngradeDetected → ⊥
-  answer_never m blob proof answer (altered opens kind) = absurd (cc (kind))
-  answer_never m blob proof answer (unsealed opens refused) = never.calls m _ refused
-
-  proof_never : (checked : Bool) (m : C) (blob proof answer : List ℕ) → ProofCause c checked m blob proof answer DowngradeDetected → ⊥
-  proof_never false m blob proof answer h = never.calls m _ h
-  proof_never true m blob proof answer h = answer_never m blob proof answer h
 
   unread_never : (m : C) (blob : List ℕ) → UnreadCause c m blob DowngradeDetected → ⊥
   unread_never m blob (unread text error opens read kind) =
@@ -112,7 +100,7 @@ module _ {C : Type 0} (c : Meaning ContextSetting C) (never : NeverRefuses c Dow
     blob_cause_never : (noted : ℕ) (context : Option C) (sent : Option (List ℕ)) (blob : List ℕ) (new : ServerView C P) →
         BlobCause c noted context sent blob new DowngradeDetected → ⊥
     blob_cause_never noted None sent blob new h = h
-    blob_cause_never noted (Some m) sent blob new h = proof_never new.acts.checked m blob _ _ h
+    blob_cause_never noted (Some m) sent blob new h = proof_never c never new.acts.checked m blob _ _ (never.calls m _) h
 
     exchange_never : (field : Option (List ℕ)) (noted : Option ℕ) (sent : Option (List ℕ)) (new : ServerView C P) →
         ExchangeCause c field noted sent new DowngradeDetected → ⊥

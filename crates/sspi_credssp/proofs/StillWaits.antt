@@ -20,7 +20,7 @@ use Rattle.sspi_credssp.specs.ClientStep.{Asked, StepsTo, Walked, still_asked}
 use Rattle.sspi_credssp.specs.ClientTurn.{IsReady, IsUnderway}
 use Rattle.sspi_credssp.specs.Context.{ContextSetting}
 use Rattle.sspi_credssp.specs.Counts.{is_waiting_in}
-use Rattle.sspi_credssp.proofs.ClientReady.{ready_stepped}
+use Rattle.sspi_credssp.proofs.ClientReady.{ready_stepped, ready_forgot}
 
 module _ {C : Type 0} (c : Meaning ContextSetting C) (laws : IsContext c) where
   -- `v` is the client before the call, `stepped` it once its context took the reply, and `new` it as the call leaves it
@@ -51,22 +51,7 @@ module _ {C : Type 0} (c : Meaning ContextSetting C) (laws : IsContext c) where
       (λ unused. laws.resume_unused m m2 reply _ unused resumed) in
       let under : IsUnderway c start d (record v { context = Some m2; acts = record no_acts { negotiated = true }; kept = new.kept }) =
       record {
-        ready = record {
-          idle = ready2.idle;
-          code = ready2.code;
-          same = ready2.same;
-          handle = ready2.handle;
-          state = ready2.state;
-          noted = ready2.noted;
-          fits = ready2.fits;
-          young = ready2.young;
-          passed = ready2.passed;
-          begun = ready2.begun;
-          sealed = ready2.sealed;
-          unsealed = ready2.unsealed;
-          unused = ready2.unused;
-          bare = ready2.bare;
-        };
+        ready = ready_forgot c start _ d (record no_acts { negotiated = true }) v.output new.kept ready2;
         state = nego;
         waiting = again;
         kept = (still none).kept waits ∙ ap Some same;

@@ -1,5 +1,5 @@
 -- Why a client's turn was refused, in the order in which it looks.
-use Rattle.std.specs.Prelude.{◌≡◌, ℕ, ◌-◌, List, Option, None, Some, Result, Ok, Err, Bool, true, false, not, if◌then◌else◌}
+use Rattle.std.specs.Prelude.{◌≡◌, ℕ, List, Option, None, Some, Result, Ok, Err, true, not, if◌then◌else◌}
 use Rattle.sspi_types.specs.declared.credential_use.CredentialUse.TheVariants.{Outbound}
 use Rattle.sspi_types.specs.declared.error.Error.{Error}
 use Rattle.sspi_types.specs.declared.error_kind.ErrorKind.{ErrorKind}
@@ -9,7 +9,7 @@ use Rattle.sspi_types.specs.declared.nstatus.NStatusCode.{NStatusCode}
 use Rattle.sspi_types.specs.declared.security_status.SecurityStatus.{SecurityStatus}
 use Rattle.sspi_types.specs.declared.security_status.SecurityStatus.TheVariants as statuses
 use Rattle.sspi_tsreq.specs.declared.request.TsRequest.{TsRequest}
-use Rattle.sspi_mech.specs.Calls.{ToSeal, ToUnseal}
+use Rattle.sspi_mech.specs.Calls.{ToSeal}
 use Rattle.sspi_mech.specs.Meaning.{Meaning}
 use Rattle.sspi_credssp.specs.declared.public_key.EndpointType.TheVariants.{Client, Server}
 use Rattle.sspi_credssp.specs.declared.state.CredSspState.{CredSspState}
@@ -19,7 +19,7 @@ use Rattle.sspi_credssp.specs.Client.{ClientView}
 use Rattle.sspi_credssp.specs.Context.{ContextSetting, ForClient}
 use Rattle.sspi_credssp.specs.Counts.{is_waiting_in}
 use Rattle.sspi_credssp.specs.Credentials.{delegated_text}
-use Rattle.sspi_credssp.specs.Exchange.{OpensOther, BlobStops}
+use Rattle.sspi_credssp.specs.Exchange.{ProofCause, BlobStops}
 use Rattle.sspi_credssp.specs.Noted.{is_altered_in, is_old_in}
 use Rattle.sspi_credssp.specs.PublicKey.{prescribed}
 use Rattle.sspi_credssp.specs.Requests.{is_code}
@@ -35,22 +35,12 @@ module _ {C : Type 0} (c : Meaning ContextSetting C) where
   SealsCause m (Ok text) kind = c.refuses m (ToSeal text) kind
   SealsCause m (Err error) kind = kind ≡ error.error_type
 
-  -- the blob opened: to another text, or to the proof and the credentials are refused
-  pub data CheckedCause (m : C) (blob proof : List ℕ) (text : Result (List ℕ) Error) (kind : ErrorKind) : Type 0 where
-    altered : OpensOther c m blob proof → kind ≡ MessageAltered → CheckedCause m blob proof text kind
-    unsealed : c.opens m ((c.counts m).unsealed - 1) blob proof → SealsCause m text kind → CheckedCause m blob proof text kind
-
-  -- whether it was opened
-  abbrev pub OpenedCause : Bool → C → List ℕ → List ℕ → Result (List ℕ) Error → ErrorKind → Type 0
-  OpenedCause false m blob proof text kind = c.refuses m (ToUnseal blob) kind
-  OpenedCause true m blob proof text kind = CheckedCause m blob proof text kind
-
   abbrev pub BlobOpens : Option ℕ → Option C → List ℕ → ClientView C → ErrorKind → Type 0
   BlobOpens None context blob new kind = ⊥
   BlobOpens (Some noted) None blob new kind = ⊥
   BlobOpens (Some noted) (Some m) blob new kind =
-      OpenedCause new.acts.checked m blob (prescribed Server noted new.settings.nonce new.settings.public_key)
-      (delegated_text new.settings.credentials new.settings.delegation) kind
+      ProofCause c new.acts.checked m blob (prescribed Server noted new.settings.nonce new.settings.public_key)
+      (SealsCause m (delegated_text new.settings.credentials new.settings.delegation) kind) kind
 
   -- pubKeyAuth is absent, too short, or what it opens to is refused
   abbrev pub DeliverCause : Option (List ℕ) → ClientView C → ErrorKind → Type 0

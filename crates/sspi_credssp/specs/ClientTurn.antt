@@ -2,8 +2,6 @@
 use Rattle.std.specs.Prelude.{◌≡◌, ℕ, ◌+◌, ◌-◌, ◌||◌, List, [], Option, None, Some, is_some, IsSome, Result, Ok, Err, Bool, true}
 use Rattle.std.specs.Prelude.{false, if◌then◌else◌}
 use Rattle.sspi_types.specs.declared.error.Error.{Error}
-use Rattle.sspi_types.specs.declared.security_status.SecurityStatus.{SecurityStatus}
-use Rattle.sspi_types.specs.declared.security_status.SecurityStatus.TheVariants as statuses
 use Rattle.sspi_mech.specs.Meaning.{Meaning}
 use Rattle.sspi_tsreq.specs.declared.request.TsRequest.{TsRequest}
 use Rattle.sspi_credssp.specs.declared.client_state.ClientState.{ClientState}
@@ -12,7 +10,7 @@ use Rattle.sspi_credssp.specs.declared.client_state.Progress.{Progress}
 use Rattle.sspi_credssp.specs.declared.client_state.Progress.TheVariants.{Suspended, Completed}
 use Rattle.sspi_credssp.specs.declared.public_key.EndpointType.TheVariants.{Client, Server}
 use Rattle.sspi_credssp.specs.declared.state.CredSspState.{CredSspState}
-use Rattle.sspi_credssp.specs.declared.state.CredSspState.TheVariants.{NegoToken, PubKeyInfo, AuthInfo, Final}
+use Rattle.sspi_credssp.specs.declared.state.CredSspState.TheVariants.{NegoToken, AuthInfo, Final}
 use Rattle.sspi_credssp.specs.Acts.{no_acts, count_of, sealed_by, unsealed_by}
 use Rattle.sspi_credssp.specs.Client.{ClientView}
 use Rattle.sspi_credssp.specs.Context.{ContextSetting}
@@ -21,9 +19,9 @@ use Rattle.sspi_credssp.specs.Credentials.{delegated_text, IfText}
 use Rattle.sspi_credssp.specs.Held.{HoldsClient}
 use Rattle.sspi_credssp.specs.Noted.{is_altered_in, is_old_in, noted_in}
 use Rattle.sspi_credssp.specs.PublicKey.{prescribed}
-use Rattle.sspi_credssp.specs.Requests.{unless_empty, is_code, IsLong}
+use Rattle.sspi_credssp.specs.Requests.{is_code, IsLong}
 use Rattle.sspi_credssp.specs.Shown.{client_shown, ShowsClient}
-use Rattle.sspi_credssp.specs.Turn.{UnlessRefused, AtNoted, FitsNoted, ClientFrame, OnceNegotiated}
+use Rattle.sspi_credssp.specs.Turn.{UnlessRefused, AtNoted, FitsNoted, ClientFrame, OnceNegotiated, IsUnspent}
 use Rattle.sspi_credssp.specs.declared.turn.End.TheVariants.{Client}
 use Rattle.sspi_credssp.specs.declared.turn.Outcome.{Outcome}
 use Rattle.sspi_credssp.specs.declared.turn.Outcome.TheVariants as outcome
@@ -144,10 +142,7 @@ module _ {C : Type 0} (c : Meaning ContextSetting C) where
     pub young : is_old_in start.context start.settings.least start.noted d.version ≡ false
     pub passed : is_altered_in start.context start.noted d.version ≡ false
     pub begun : IsSome now.context
-    pub sealed : StartsUnused start → sealed_in c now.context ≡ sealed_in c start.context
-    pub unsealed : StartsUnused start → unsealed_in c now.context ≡ unsealed_in c start.context
-    pub unused : StartsUnused start → now.state ≡ NegoToken → IsUnusedIn c now.context
-    pub bare : OnceNegotiated start.state (SameBut c start.context now.context)
+    pub unspent : IsUnspent c (StartsUnused start) start.state start.context now.state now.context
 
   -- a turn on d that began at `start` is suspended
   pub record IsUnderway (start : ClientView C) (d : TsRequest) (now : ClientView C) : Type 0 where

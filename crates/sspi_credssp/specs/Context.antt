@@ -1,5 +1,5 @@
 -- What a security context means: what the mechanism or the negotiation in hand means.
-use Rattle.std.specs.Prelude.{ℕ, ◌⊎◌, List, [], filter, take, Option, Bool, true, false}
+use Rattle.std.specs.Prelude.{ℕ, ◌⊎◌, List, filter, take, Option, Bool, true, false}
 use mathlib.Core.Logic.{inl, inr}
 use Rattle.sspi_names.specs.declared.credentials.Credentials.{Credentials}
 use Rattle.sspi_names.specs.declared.credentials.Credentials.TheVariants.{AuthIdentity, Keytab}

@@ -2,7 +2,8 @@
 use Rattle.std.specs.Prelude.{◌≡◌, ◌≢◌, ◌≤◌, ℕ, ◌+◌, ◌-◌, List, length, Bool, Option, None, Some, Ok, true, false, nat_lt}
 use Rattle.sspi_names.specs.declared.identity.AuthIdentity.{AuthIdentity}
 use Rattle.sspi_types.specs.declared.error_kind.ErrorKind.{ErrorKind}
-use Rattle.sspi_types.specs.declared.error_kind.ErrorKind.TheVariants.{InvalidToken}
+use Rattle.sspi_types.specs.declared.error_kind.ErrorKind.TheVariants.{InvalidToken, MessageAltered}
+use Rattle.sspi_mech.specs.Calls.{ToUnseal}
 use Rattle.sspi_mech.specs.Meaning.{Meaning}
 use Rattle.sspi_credssp.specs.declared.acts.Acts.{Acts}
 use Rattle.sspi_credssp.specs.Acts.{count_of}
@@ -29,6 +30,16 @@ module _ {S C : Type 0} (c : Meaning S C) where
   -- the last blob that the context opened holds another text than the proof
   pub data OpensOther (m : C) (blob proof : List ℕ) : Type 0 where
     opens_other : (text : List ℕ) → c.opens m ((c.counts m).unsealed - 1) blob text → text ≢ proof → OpensOther m blob proof
+
+  -- the peer's blob opened to another text than its proof; or to the proof, and what the end then owes is not sealed
+  pub data CheckedCause (m : C) (blob proof : List ℕ) (Unsealed : Type 0) (kind : ErrorKind) : Type 0 where
+    altered : OpensOther m blob proof → kind ≡ MessageAltered → CheckedCause m blob proof Unsealed kind
+    unsealed : c.opens m ((c.counts m).unsealed - 1) blob proof → Unsealed → CheckedCause m blob proof Unsealed kind
+
+  -- why an exchange of proofs was refused, by whether the blob was opened
+  abbrev pub ProofCause : Bool → C → List ℕ → List ℕ → Type 0 → ErrorKind → Type 0
+  ProofCause false m blob proof Unsealed kind = c.refuses m (ToUnseal blob) kind
+  ProofCause true m blob proof Unsealed kind = CheckedCause m blob proof Unsealed kind
 
   -- an end opened the peer's proof, and perhaps sealed what it then owes: what that did to the context
   pub record Exchanges (m : C) (blob proof : List ℕ) (m2 : C) (checked sealed : Bool) : Type 0 where

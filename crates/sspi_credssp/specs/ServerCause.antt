@@ -3,7 +3,7 @@ use Rattle.std.specs.Prelude.{◌≡◌, ◌≢◌, ℕ, ◌-◌, ◌≤◌, Lis
 use Rattle.sspi_types.specs.declared.credential_use.CredentialUse.TheVariants.{Inbound}
 use Rattle.sspi_types.specs.declared.error.Error.{Error}
 use Rattle.sspi_types.specs.declared.error_kind.ErrorKind.{ErrorKind}
-use Rattle.sspi_types.specs.declared.error_kind.ErrorKind.TheVariants.{InvalidToken, MessageAltered, InternalError, LogonDenied}
+use Rattle.sspi_types.specs.declared.error_kind.ErrorKind.TheVariants.{InvalidToken, InternalError, LogonDenied}
 use Rattle.sspi_types.specs.declared.error_kind.ErrorKind.TheVariants.{NoCredentials, UnsupportedFunction}
 use Rattle.sspi_types.specs.declared.security_status.SecurityStatus.{SecurityStatus}
 use Rattle.sspi_types.specs.declared.security_status.SecurityStatus.TheVariants as statuses
@@ -21,7 +21,7 @@ use Rattle.sspi_credssp.specs.declared.state.CredSspState.TheVariants.{NegoToken
 use Rattle.sspi_credssp.specs.Begun.{BeginCause, IfContext, MadeOr}
 use Rattle.sspi_credssp.specs.Context.{ContextSetting, ForServer}
 use Rattle.sspi_credssp.specs.Credentials.{delegated_identity}
-use Rattle.sspi_credssp.specs.Exchange.{OpensOther, BlobStops}
+use Rattle.sspi_credssp.specs.Exchange.{ProofCause, BlobStops}
 use Rattle.sspi_credssp.specs.Noted.{VersionStops}
 use Rattle.sspi_credssp.specs.Proxy.{ProxyMeaning, ProxyTells, counted_on, AreFound}
 use Rattle.sspi_credssp.specs.PublicKey.{prescribed}
@@ -54,16 +54,6 @@ module _ {C : Type 0} (c : Meaning ContextSetting C) where
     unset : (name : Name) (identities : List AuthIdentity) → c.names m ≡ Some name → AreFound tells name identities →
         identities ≢ [] → c.refuses m (ToIdentify (map credentials.AuthIdentity identities)) kind → IdentifyCause m tells before now kind
 
-  -- the blob opened to another text than the client's proof, or the server's own is not sealed
-  pub data AnswerCause (m : C) (blob proof answer : List ℕ) (kind : ErrorKind) : Type 0 where
-    altered : OpensOther c m blob proof → kind ≡ MessageAltered → AnswerCause m blob proof answer kind
-    unsealed : c.opens m ((c.counts m).unsealed - 1) blob proof → c.refuses m (ToSeal answer) kind → AnswerCause m blob proof answer kind
-
-  -- whether it was opened
-  abbrev pub ProofCause : Bool → C → List ℕ → List ℕ → List ℕ → ErrorKind → Type 0
-  ProofCause false m blob proof answer kind = c.refuses m (ToUnseal blob) kind
-  ProofCause true m blob proof answer kind = AnswerCause m blob proof answer kind
-
   -- the text that was opened has no credentials, or was not opened
   pub data UnreadCause (m : C) (blob : List ℕ) (kind : ErrorKind) : Type 0 where
     unread : (text : List ℕ) (error : Error) → c.opens m ((c.counts m).unsealed - 1) blob text → delegated_identity text ≡ Err error →
@@ -78,8 +68,8 @@ module _ {C : Type 0} (c : Meaning ContextSetting C) where
     abbrev pub BlobCause : ℕ → Option C → Option (List ℕ) → List ℕ → ServerView C P → ErrorKind → Type 0
     BlobCause noted None sent_nonce blob new kind = ⊥
     BlobCause noted (Some m) sent_nonce blob new kind =
-        ProofCause new.acts.checked m blob (prescribed Client noted (nonce_of sent_nonce) new.settings.public_key)
-        (prescribed Server noted (nonce_of sent_nonce) new.settings.public_key) kind
+        ProofCause c new.acts.checked m blob (prescribed Client noted (nonce_of sent_nonce) new.settings.public_key)
+        (c.refuses m (ToSeal (prescribed Server noted (nonce_of sent_nonce) new.settings.public_key)) kind) kind
 
     -- the field with the proof and the nonce that came with it: presence, nonce, length, and what the blob opens to
     abbrev pub ExchangeCause : Option (List ℕ) → Option ℕ → Option (List ℕ) → ServerView C P → ErrorKind → Type 0

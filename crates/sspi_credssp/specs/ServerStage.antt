@@ -7,12 +7,18 @@ use Rattle.sspi_types.specs.declared.security_status.SecurityStatus.{SecuritySta
 use Rattle.sspi_mech.specs.Meaning.{Meaning}
 use Rattle.sspi_credssp.specs.declared.acts.Acts.{Acts}
 use Rattle.sspi_credssp.specs.declared.state.CredSspState.TheVariants.{NegoToken}
-use Rattle.sspi_credssp.specs.Begun.{Begun, OnContext}
+use Rattle.sspi_credssp.specs.Begun.{Begun, IfContext, OnContext}
 use Rattle.sspi_credssp.specs.Context.{ContextSetting}
 use Rattle.sspi_credssp.specs.Noted.{differs, is_old}
-use Rattle.sspi_credssp.specs.Proxy.{ProxyMeaning}
+use Rattle.sspi_credssp.specs.Proxy.{ProxyMeaning, IsLater}
 use Rattle.sspi_credssp.specs.Server.{ServerView}
 use Rattle.sspi_credssp.specs.ServerStep.{server_setting}
+
+-- it is where its call takes the step: its proxy tells what it told before the call, and its context is the one that it had
+-- then, or a new one
+pub record IsAtStep {C P : Type 0} (c : Meaning ContextSetting C) (p : ProxyMeaning P) (start now : ServerView C P) : Type 0 where
+  pub later : IsLater p start.proxy now.proxy
+  pub begun : IfContext now.context (Begun c start.context start.handle (server_setting p start) Inbound None now.handle)
 
 -- it has a context and has noted its client's version, and this call did so much
 pub record HasDone {C P : Type 0} (did : Acts) (now : ServerView C P) : Type 0 where

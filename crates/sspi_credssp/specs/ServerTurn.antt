@@ -8,7 +8,7 @@ use Rattle.sspi_types.specs.declared.security_status.SecurityStatus.TheVariants 
 use Rattle.sspi_names.specs.declared.identity.AuthIdentity.{AuthIdentity}
 use Rattle.sspi_mech.specs.Meaning.{Meaning}
 use Rattle.sspi_tsreq.specs.declared.request.TsRequest.{TsRequest}
-use Rattle.sspi_credssp.specs.declared.public_key.EndpointType.TheVariants.{Client, Server}
+use Rattle.sspi_credssp.specs.declared.public_key.EndpointType.TheVariants.{Server}
 use Rattle.sspi_credssp.specs.declared.server_negotiation.Answer.{Answer}
 use Rattle.sspi_credssp.specs.declared.server_negotiation.Answer.TheVariants as answers
 use Rattle.sspi_credssp.specs.declared.server_state.ServerError.{ServerError}
@@ -19,7 +19,7 @@ use Rattle.sspi_credssp.specs.declared.state.CredSspState.TheVariants.{NegoToken
 use Rattle.sspi_credssp.specs.Acts.{no_acts, count_of, sealed_by, unsealed_by}
 use Rattle.sspi_credssp.specs.Begun.{Begun}
 use Rattle.sspi_credssp.specs.Context.{ContextSetting, ForServer}
-use Rattle.sspi_credssp.specs.Counts.{sealed_in, unsealed_in, IsUnusedIn, SameBut, cleared, SealsIn, OpensIn}
+use Rattle.sspi_credssp.specs.Counts.{sealed_in, unsealed_in, IsUnusedIn, SameBut, cleared, SealsIn}
 use Rattle.sspi_credssp.specs.Exchange.{OpensIdentity}
 use Rattle.sspi_credssp.specs.Held.{HoldsServer, Proven}
 use Rattle.sspi_credssp.specs.ErrorRequest.{error_request, version_back}
@@ -28,7 +28,7 @@ use Rattle.sspi_credssp.specs.Requests.{IsLong, nonce_of}
 use Rattle.sspi_credssp.specs.Server.{ServerView}
 use Rattle.sspi_credssp.specs.Shown.{server_shown, ShowsServer, HasNonce}
 use Rattle.sspi_credssp.specs.Noted.{differs, is_old, noted_with}
-use Rattle.sspi_credssp.specs.Turn.{UnlessRefused, AtNoted, ServerFrame, OnceNegotiated}
+use Rattle.sspi_credssp.specs.Turn.{UnlessRefused, AtNoted, ServerFrame, OnceNegotiated, IsUnspent}
 use Rattle.sspi_credssp.specs.declared.turn.End.TheVariants.{Server}
 use Rattle.sspi_credssp.specs.declared.turn.Outcome.{Outcome}
 use Rattle.sspi_credssp.specs.declared.turn.Outcome.TheVariants as outcome
@@ -83,6 +83,7 @@ module _ {C : Type 0} (c : Meaning ContextSetting C) where
       state = old.state;
       made = sealed_in c new.context - 1;
       opened = unsealed_in c new.context - 1;
+      looks = true;
       noted = new.noted;
       context = new.context;
     }
@@ -135,10 +136,7 @@ module _ {C : Type 0} (c : Meaning ContextSetting C) where
       pub young : is_old start.settings.least start.noted d.version ≡ false
       pub passed : differs start.noted d.version ≡ false
       pub begun : IsSome now.context
-      pub sealed : StartsUnused start → sealed_in c now.context ≡ sealed_in c start.context
-      pub unsealed : StartsUnused start → unsealed_in c now.context ≡ unsealed_in c start.context
-      pub unused : StartsUnused start → now.state ≡ NegoToken → IsUnusedIn c now.context
-      pub bare : OnceNegotiated start.state (SameBut c start.context now.context)
+      pub unspent : IsUnspent c (StartsUnused start) start.state start.context now.state now.context
 
     -- checking the client's proof, and sealing the server's own where it was the right one
     pub record ServerChecks (old : ServerView C P) (d : TsRequest) (new : ServerView C P) : Type 0 where

@@ -1,10 +1,12 @@
 -- One turn of an end: the message that it has for the peer, and what the end is at it.
 use Rattle.std.specs.Prelude.{◌≡◌, ℕ, Option, None, Some, Bool, true, false}
 use Rattle.sspi_tsreq.specs.declared.request.TsRequest.{TsRequest}
+use Rattle.sspi_mech.specs.Meaning.{Meaning}
 use Rattle.sspi_credssp.specs.declared.state.CredSspState.{CredSspState}
 use Rattle.sspi_credssp.specs.declared.state.CredSspState.TheVariants.{NegoToken, PubKeyInfo, AuthInfo}
 use Rattle.sspi_credssp.specs.declared.state.CredSspState.TheVariants as states
 use Rattle.sspi_credssp.specs.Client.{ClientSettings}
+use Rattle.sspi_credssp.specs.Counts.{sealed_in, unsealed_in, IsUnusedIn, SameBut}
 use Rattle.sspi_credssp.specs.Server.{ServerSettings}
 use Rattle.sspi_credssp.specs.declared.turn.Outcome.{Outcome}
 use Rattle.sspi_credssp.specs.declared.turn.Outcome.TheVariants.{Reply, Final, Finished, Refused}
@@ -40,11 +42,11 @@ abbrev pub FitsNoted : Bool → Option ℕ → ℕ → Type 0
 FitsNoted false noted version = Unit {0}
 FitsNoted true noted version = AtNoted noted (λ n. version ≡ n)
 
--- What a client is at a turn: its settings; its state before the turn; the numbers that the messages of this turn have
--- among those that its context sealed and opened; whether it looks at the delivered version, as in each turn but its first;
+-- What an end is at a turn: its settings; its state before the turn; the numbers that the messages of this turn have among
+-- those that its context sealed and opened; whether it looks at the delivered version, as in each turn but a client's first;
 -- the version that is noted once the turn is over; and its context.
-pub record ClientFrame (C : Type 0) : Type 0 where
-  pub settings : ClientSettings
+pub record Frame (S C : Type 0) : Type 0 where
+  pub settings : S
   pub state : CredSspState
   pub made : ℕ
   pub opened : ℕ
@@ -52,11 +54,17 @@ pub record ClientFrame (C : Type 0) : Type 0 where
   pub noted : Option ℕ
   pub context : Option C
 
--- what a server is at a turn
-pub record ServerFrame (C : Type 0) : Type 0 where
-  pub settings : ServerSettings
-  pub state : CredSspState
-  pub made : ℕ
-  pub opened : ℕ
-  pub noted : Option ℕ
-  pub context : Option C
+abbrev pub ClientFrame : Type 0 → Type 0
+ClientFrame C = Frame ClientSettings C
+
+abbrev pub ServerFrame : Type 0 → Type 0
+ServerFrame C = Frame ServerSettings C
+
+-- What the context of an end keeps until a turn uses it: one that nothing was sealed or opened with stays so, and past the
+-- authentication it differs in its counts alone.
+pub record IsUnspent {S C : Type 0} (c : Meaning S C) (Unused : Type 0) (start : CredSspState) (before : Option C)
+    (state : CredSspState) (context : Option C) : Type 0 where
+  pub sealed : Unused → sealed_in c context ≡ sealed_in c before
+  pub unsealed : Unused → unsealed_in c context ≡ unsealed_in c before
+  pub unused : Unused → state ≡ NegoToken → IsUnusedIn c context
+  pub bare : OnceNegotiated start (SameBut c before context)

@@ -12,7 +12,7 @@ ghost use Rattle.sspi_credssp.specs.Stops.{StopsIf};
 
 use crate::acts::Acts;
 use crate::both_ends::{adopt, forget};
-use crate::client_state::{ClientState, Progress};
+use crate::client_state::Progress;
 use crate::context::SspiContext;
 use crate::mode::ClientMode;
 use crate::peer_version::{DEFAULT_LEAST_VERSION, note_version};
@@ -155,19 +155,19 @@ impl<N, K> CredSspClient<N, K> {
         client
     }
 
+    /// What the last call did on the security context, also where it was refused.
+    pub fn last_acts(&self) -> Acts
+        ensures { result ≡ self.now.acts }
+    {
+        self.acts
+    }
+
     /// The nonce that goes into the proofs from version 5 on: the 32 bytes that the client was made with.
     pub fn client_nonce(&self) -> &[u8; 32]
         ensures nonce { result.now ≡ self.now.settings.nonce }
         ensures size { length self.now.settings.nonce ≡ 32 }
     {
         &self.client_nonce
-    }
-
-    /// What the last call did on the security context, also where it was refused.
-    pub fn last_acts(&self) -> Acts
-        ensures { result ≡ self.now.acts }
-    {
-        self.acts
     }
 
     /// Takes the token that the context's step gave in the last call, resumes included; empty where no step answered, and

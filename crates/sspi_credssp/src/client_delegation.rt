@@ -2,10 +2,10 @@
 ghost use Rattle.std.specs.Prelude.{◌≡◌, ◌≢◌, ◌-◌, [], true, false, None, IsSome, IfOk, IfErr, OnOk, OnErr};
 ghost use Rattle.sspi_mech.specs.Calls.{one_sealed};
 ghost use Rattle.sspi_credssp.specs.Acts.{no_acts};
-ghost use Rattle.sspi_credssp.specs.ClientCause.{SealsCause, OpenedCause, DeliverCause};
+ghost use Rattle.sspi_credssp.specs.ClientCause.{SealsCause, DeliverCause};
 ghost use Rattle.sspi_credssp.specs.Context.{either};
 ghost use Rattle.sspi_credssp.specs.Credentials.{delegated_text, IfText};
-ghost use Rattle.sspi_credssp.specs.Exchange.{Exchanges};
+ghost use Rattle.sspi_credssp.specs.Exchange.{Exchanges, ProofCause};
 ghost use Rattle.sspi_credssp.specs.PublicKey.{prescribed};
 
 use crate::acts::Acts;
@@ -70,8 +70,9 @@ fn deliver<N: Mechanism, K: Mechanism>(
         (λ text. c.seals context.new ((c.counts context.new).sealed - 1) text blob)) }
     ensures plain { IfErr result (λ error. error.nstatus ≡ None) }
     ensures cause { IfErr result (λ error. error.error_type ≢ ErrorKind.InsufficientMemory →
-        OpenedCause (either N.REQUESTS N.meaning K.meaning)
-        acts.new.checked context.new blob.now proof.now (delegated_text credentials.now mode) error.error_type) }
+        ProofCause (either N.REQUESTS N.meaning K.meaning) acts.new.checked context.new blob.now proof.now
+        (SealsCause (either N.REQUESTS N.meaning K.meaning) context.new (delegated_text credentials.now mode) error.error_type)
+        error.error_type) }
 {
     if opens_to(context, acts, blob, proof)? {
         seal_credentials(alloc, context, acts, credentials, mode)

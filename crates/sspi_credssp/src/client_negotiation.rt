@@ -21,7 +21,7 @@ use crate::request::{with_proof, with_tokens};
 use crate::state::CredSspState;
 use crate::token::{copy_token, token_of};
 use bitflags::Flags;
-use sspi_mech::{InitializeSecurityContext, Mechanism, Progressing, Reply, Step};
+use sspi_mech::{InitializeSecurityContext, Mechanism, Progressing, Reply};
 use sspi_names::CredentialsBuffers;
 use sspi_tsreq::TsRequest;
 use sspi_types::{

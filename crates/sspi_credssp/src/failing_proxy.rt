@@ -1,4 +1,4 @@
-ghost use Rattle.std.specs.Prelude.{◌≡◌, None, Err};
+ghost use Rattle.std.specs.Prelude.{◌≡◌, Err};
 ghost use Rattle.sspi_credssp.specs.Proxy.{counted_on, IsList, HasAnswered};
 
 use crate::proxy::{CredentialsProxy, ProxyError};

@@ -1,9 +1,9 @@
 // Proofs of the channel's key: the blob that holds the peer's, what it opens to, and the sealing of one's own.
 ghost use Rattle.std.specs.Prelude.{◌≡◌, ◌≢◌, ◌==◌, ◌-◌, None, Some, true, false, length, nat_lt, IsTrue, IfOk, IfErr, OnErr, OnOk};
-ghost use Rattle.sspi_mech.specs.Calls.{one_sealed, one_unsealed, ToSeal, ToUnseal};
+ghost use Rattle.sspi_mech.specs.Calls.{one_sealed, ToSeal, ToUnseal};
 ghost use Rattle.sspi_credssp.specs.Context.{either};
 ghost use Rattle.sspi_credssp.specs.Exchange.{IsLongBlob, IsSealedBlob, BlobStops};
-ghost use Rattle.sspi_credssp.specs.Opened.{OpensAs};
+ghost use Rattle.sspi_credssp.specs.Opened.{HasOpened};
 
 use crate::acts::Acts;
 use crate::context::SspiContext;
@@ -52,12 +52,8 @@ pub fn opens_to<N: Mechanism, K: Mechanism>(
     blob: &[u8],
     proof: &[u8],
 ) -> Result<bool, Error>
-    ensures acts { OnOk result (acts.new ≡ record acts.old { checked = true }) }
-    ensures ok { let c = either N.REQUESTS N.meaning K.meaning in
-        OnOk result (context.new ≡ c.counted context.old (one_unsealed (c.counts context.old))) }
-    ensures count { let c = either N.REQUESTS N.meaning K.meaning in
-        OnOk result (c.counts context.new ≡ one_unsealed (c.counts context.old)) }
-    ensures opens { IfOk result (OpensAs (either N.REQUESTS N.meaning K.meaning) context.new blob.now proof.now) }
+    ensures opened { IfOk result (HasOpened (either N.REQUESTS N.meaning K.meaning)
+        context.old context.new acts.old acts.new blob.now proof.now) }
     ensures err { OnErr result (context.new ≡ context.old) }
     ensures err_acts { OnErr result (acts.new ≡ acts.old) }
     ensures plain { IfErr result (λ error. error.nstatus ≡ None) }

@@ -7,7 +7,6 @@ ghost use Rattle.sspi_credssp.specs.Context.{either};
 ghost use Rattle.sspi_credssp.specs.Counts.{IsUnusedIn};
 ghost use Rattle.sspi_credssp.specs.Noted.{differs, is_old, VersionStops};
 ghost use Rattle.sspi_credssp.specs.Peers.{list_calls, lists_in};
-ghost use Rattle.sspi_credssp.specs.Proxy.{IsLater};
 ghost use Rattle.sspi_credssp.specs.Refusal.{IsRefusedBy};
 
 use crate::acts::Acts;
@@ -130,19 +129,19 @@ impl<N, K, C> CredSspServer<N, K, C> {
         server
     }
 
-    /// What the last call did on the security context, also where it was refused.
-    pub fn last_acts(&self) -> Acts
-        ensures { result ≡ self.now.acts }
-    {
-        self.acts
-    }
-
     /// Takes the token that the context's step gave in the last call; empty where no step answered, and once it was taken.
     pub fn take_output(&mut self) -> Bytes
         ensures output { result ≡ self.old.output }
         ensures rest { self.new ≡ record self.old { output = [] } }
     {
         std::mem::replace(&mut self.output, Bytes::new(self.alloc))
+    }
+
+    /// What the last call did on the security context, also where it was refused.
+    pub fn last_acts(&self) -> Acts
+        ensures { result ≡ self.now.acts }
+    {
+        self.acts
     }
 }
 
@@ -151,7 +150,7 @@ impl<N: Mechanism, K: Mechanism, C: CredentialsProxy> CredSspServer<N, K, C> {
     ghost use Rattle.sspi_credssp.specs.ServerAsks.{look_ups_at};
     ghost use Rattle.sspi_credssp.specs.ServerCall.{ServerCall};
     ghost use Rattle.sspi_credssp.specs.ServerCause.{MakeCause, StateCause};
-    ghost use Rattle.sspi_credssp.specs.ServerStage.{HasDone, LooksAt, MakesContext};
+    ghost use Rattle.sspi_credssp.specs.ServerStage.{HasDone, IsAtStep, LooksAt, MakesContext};
     ghost use Rattle.sspi_credssp.specs.ServerStep.{HasAcceptedTurn, server_setting};
     ghost use Rattle.sspi_credssp.specs.ServerTurn.{ServerGoes, IsReady, BeginRefused};
 
@@ -247,14 +246,10 @@ impl<N: Mechanism, K: Mechanism, C: CredentialsProxy> CredSspServer<N, K, C> {
             request ≡ record d { version = self.old.settings.version } → IsReady c start d self.old → self.old.output ≡ [] →
             ServerGoes c start d result self.new }
         ensures step { let c = either N.REQUESTS N.meaning K.meaning in (start : ServerView (SspiContext N K) C) (d : TsRequest) →
-            d.nego_tokens ≡ request.nego_tokens → IsLater C.meaning start.proxy self.old.proxy →
-            IfContext self.old.context (Begun c start.context start.handle
-            (server_setting C.meaning start) purposes.Inbound None self.old.handle) →
+            d.nego_tokens ≡ request.nego_tokens → IsAtStep c C.meaning start self.old →
             HasAcceptedTurn c C.meaning start d result self.new }
         ensures cause { let c = either N.REQUESTS N.meaning K.meaning in (start : ServerView (SspiContext N K) C) (d : TsRequest) →
-            request ≡ record d { version = self.old.settings.version } → IsLater C.meaning start.proxy self.old.proxy →
-            IfContext self.old.context (Begun c start.context start.handle
-            (server_setting C.meaning start) purposes.Inbound None self.old.handle) →
+            request ≡ record d { version = self.old.settings.version } → IsAtStep c C.meaning start self.old →
             IfErr result (λ refusal. refusal.error.error_type ≢ ErrorKind.InsufficientMemory →
             StateCause c C.meaning self.old.state start d self.new refusal.error.error_type) }
         ensures plain { IfErr result (λ refusal. refusal.error.nstatus ≡ None) }

@@ -1,10 +1,11 @@
 // The server's turns past the authentication: the exchange of proofs, and the credentials.
 ghost use Rattle.std.specs.Prelude.{◌≡◌, ◌≢◌, ◌-◌, [], None, Some, true, false, nat_lt, IsSome, OnOk, OnErr, IfOk, IfErr};
+ghost use Rattle.sspi_mech.specs.Calls.{ToSeal};
 ghost use Rattle.sspi_credssp.specs.Acts.{no_acts};
 ghost use Rattle.sspi_credssp.specs.Context.{either};
-ghost use Rattle.sspi_credssp.specs.Exchange.{BlobStops, Exchanges, Opens, OpensIdentity};
+ghost use Rattle.sspi_credssp.specs.Exchange.{BlobStops, Exchanges, Opens, OpensIdentity, ProofCause};
 ghost use Rattle.sspi_credssp.specs.Requests.{nonce_of};
-ghost use Rattle.sspi_credssp.specs.ServerCause.{ProofCause, OpenedCause, lacks_nonce};
+ghost use Rattle.sspi_credssp.specs.ServerCause.{OpenedCause, lacks_nonce};
 ghost use Rattle.sspi_credssp.specs.Shown.{HasNonce};
 
 use crate::acts::Acts;
@@ -59,8 +60,8 @@ fn answer_proof<N: Mechanism, K: Mechanism>(
         c.seals context.new ((c.counts context.new).sealed - 1) proof.now answer) }
     ensures plain { IfErr result (λ error. error.nstatus ≡ None) }
     ensures cause { IfErr result (λ error. error.error_type ≢ ErrorKind.InsufficientMemory →
-        ProofCause (either N.REQUESTS N.meaning K.meaning)
-        acts.new.checked context.new blob.now expected.now proof.now error.error_type) }
+        ProofCause (either N.REQUESTS N.meaning K.meaning) acts.new.checked context.new blob.now expected.now
+        ((either N.REQUESTS N.meaning K.meaning).refuses context.new (ToSeal proof.now) error.error_type) error.error_type) }
 {
     if opens_to(context, acts, blob, expected)? {
         seal_proof(context, acts, proof)

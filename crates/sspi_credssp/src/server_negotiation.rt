@@ -3,15 +3,14 @@ ghost use Rattle.std.specs.Prelude.{ℕ, List, Option, Result, Ok, ◌≡◌, �
 ghost use Rattle.std.specs.Prelude.{OnErr, IfOk, IfErr};
 ghost use Rattle.sspi_names.specs.declared.credentials.Credentials.TheVariants as credentials;
 ghost use Rattle.sspi_credssp.specs.Acts.{no_acts};
-ghost use Rattle.sspi_types.specs.declared.credential_use.CredentialUse.TheVariants as purposes;
-ghost use Rattle.sspi_credssp.specs.Begun.{Begun, IfContext};
+ghost use Rattle.sspi_credssp.specs.Begun.{IfContext};
 ghost use Rattle.sspi_credssp.specs.Context.{either};
 ghost use Rattle.sspi_credssp.specs.Counts.{SameBut};
 ghost use Rattle.sspi_credssp.specs.Proxy.{IsAsked, HasAsked, IsLater, AreFound};
 ghost use Rattle.sspi_credssp.specs.ServerCause.{IdentifyCause, LookUpRefused};
 ghost use Rattle.sspi_credssp.specs.ServerTurn.{answered_by};
 ghost use Rattle.sspi_credssp.specs.Shown.{IsOver};
-ghost use Rattle.sspi_credssp.specs.ServerStep.{IsIdentified, server_requirements, server_args, server_setting};
+ghost use Rattle.sspi_credssp.specs.ServerStep.{IsIdentified, server_requirements, server_args};
 
 use crate::context::SspiContext;
 use crate::proxy::{CredentialsProxy, ProxyError};
@@ -154,7 +153,7 @@ impl<N: Mechanism, K: Mechanism, C: CredentialsProxy> CredSspServer<N, K, C> {
     ghost use Rattle.sspi_credssp.specs.Server.{ServerView};
     ghost use Rattle.sspi_credssp.specs.ServerAsks.{look_ups_at};
     ghost use Rattle.sspi_credssp.specs.ServerCause.{NegoCause, OverCause, AfterCause};
-    ghost use Rattle.sspi_credssp.specs.ServerStage.{HasDone, HasReached, KeepsStep};
+    ghost use Rattle.sspi_credssp.specs.ServerStage.{HasDone, HasReached, IsAtStep, KeepsStep};
     ghost use Rattle.sspi_credssp.specs.ServerStep.{Unknown, Accepted, HasCome, CompletedStep, HasAccepted, HasAcceptedTurn};
     ghost use Rattle.sspi_credssp.specs.ServerTurn.{ServerGoes, Answered, IsReady};
 
@@ -165,14 +164,10 @@ impl<N: Mechanism, K: Mechanism, C: CredentialsProxy> CredSspServer<N, K, C> {
             self.old.state ≡ CredSspState.NegoToken →
             self.old.output ≡ [] → ServerGoes c start d result self.new }
         ensures step { let c = either N.REQUESTS N.meaning K.meaning in (start : ServerView (SspiContext N K) C) (d : TsRequest) →
-            d.nego_tokens ≡ request.nego_tokens → IsLater C.meaning start.proxy self.old.proxy →
-            IfContext self.old.context (Begun c start.context start.handle
-            (server_setting C.meaning start) purposes.Inbound None self.old.handle) →
+            d.nego_tokens ≡ request.nego_tokens → IsAtStep c C.meaning start self.old →
             HasAcceptedTurn c C.meaning start d result self.new }
         ensures cause { let c = either N.REQUESTS N.meaning K.meaning in (start : ServerView (SspiContext N K) C) (d : TsRequest) →
-            request ≡ record d { version = self.old.settings.version } → IsLater C.meaning start.proxy self.old.proxy →
-            IfContext self.old.context (Begun c start.context start.handle
-            (server_setting C.meaning start) purposes.Inbound None self.old.handle) →
+            request ≡ record d { version = self.old.settings.version } → IsAtStep c C.meaning start self.old →
             IfErr result (λ refusal. refusal.error.error_type ≢ ErrorKind.InsufficientMemory →
             NegoCause c C.meaning self.new.acts.status start d self.new refusal.error.error_type) }
         ensures plain { IfErr result (λ refusal. refusal.error.nstatus ≡ None) }
@@ -192,15 +187,11 @@ impl<N: Mechanism, K: Mechanism, C: CredentialsProxy> CredSspServer<N, K, C> {
             self.old.state ≡ CredSspState.NegoToken →
             self.old.output ≡ [] → Answered c start d result self.new }
         ensures step { let c = either N.REQUESTS N.meaning K.meaning in (start : ServerView (SspiContext N K) C) (d : TsRequest) →
-            d.nego_tokens ≡ request.now.nego_tokens → IsLater C.meaning start.proxy self.old.proxy →
-            IfContext self.old.context (Begun c start.context start.handle
-            (server_setting C.meaning start) purposes.Inbound None self.old.handle) →
+            d.nego_tokens ≡ request.now.nego_tokens → IsAtStep c C.meaning start self.old →
             HasAccepted c C.meaning start d result self.new }
         ensures kept { (self.new.settings.version ≡ self.old.settings.version) × OnErr result (self.new.state ≡ self.old.state) }
         ensures cause { let c = either N.REQUESTS N.meaning K.meaning in (start : ServerView (SspiContext N K) C) (d : TsRequest) →
-            request.now ≡ record d { version = self.old.settings.version } → IsLater C.meaning start.proxy self.old.proxy →
-            IfContext self.old.context (Begun c start.context start.handle
-            (server_setting C.meaning start) purposes.Inbound None self.old.handle) →
+            request.now ≡ record d { version = self.old.settings.version } → IsAtStep c C.meaning start self.old →
             IfErr result (λ error. error.error_type ≢ ErrorKind.InsufficientMemory →
             NegoCause c C.meaning self.new.acts.status start d self.new error.error_type) }
         ensures plain { IfErr result (λ error. error.nstatus ≡ None) }

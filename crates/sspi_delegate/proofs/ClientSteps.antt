@@ -24,14 +24,15 @@ use Rattle.sspi_credssp.specs.Context.{ContextSetting}
 use Rattle.sspi_credssp.specs.Counts.{sealed_in, unsealed_in, SameBut, silent, is_waiting_in}
 use Rattle.sspi_credssp.specs.Noted.{noted_in, noted_with}
 use Rattle.sspi_credssp.specs.Turn.{ClientFrame, UnlessRefused, FitsNoted, OnceNegotiated}
-use Rattle.sspi_delegate.specs.ClientRun.{client_state, client_noted, has_turn, ClientEnd, client_end, client_frame_at, EachClientTurn}
+use Rattle.sspi_delegate.specs.EndRun.{ClientEnd, client_end}
+use Rattle.sspi_delegate.specs.ClientRun.{client_state, client_noted, has_turn, client_frame_at, EachClientTurn}
 use Rattle.sspi_delegate.specs.ClientRun.{ClientRan, HasBegun, ClientFollows}
-use Rattle.sspi_delegate.specs.EndTurns.{made_in, opened_in, is_replied, is_ended, any_proved, any_ended}
+use Rattle.sspi_delegate.specs.EndTurns.{made_in, opened_in, is_replied, is_ended, any_proved, any_ended, OthersGoOn}
 use Rattle.sspi_delegate.specs.Turns.{GoesOn, AllGoOn}
 use Rattle.sspi_delegate.specs.Refusals.{StepsSo}
 use Rattle.sspi_delegate.proofs.Alternating.{others_go}
 use Rattle.sspi_delegate.proofs.ClientOver.{client_over}
-use Rattle.sspi_delegate.proofs.EndSteps.{or_false, or_not, is_false, IsQuiet, AllQuiet, quiet_made, Touched, touched, untouched}
+use Rattle.sspi_delegate.proofs.EndSteps.{none_ran, or_false, or_not, is_false, IsQuiet, AllQuiet, quiet_made, Touched, touched, untouched}
 use Rattle.sspi_delegate.proofs.EndSteps.{unless_given, unless_map, made_by_proof, made_by_seal, opened_by_check, unused_in, same_but}
 use Rattle.sspi_credssp.specs.declared.turn.Outcome.{Outcome}
 use Rattle.sspi_credssp.specs.declared.turn.Outcome.TheVariants as outcome
@@ -319,35 +320,18 @@ module _ {C : Type 0} (c : Meaning ContextSetting C) where
       let unused = starts_unused first old past follows in
       record {
         same = way.ready.same ∙ follows.ran.same;
-        made = way.ready.sealed unused ∙ follows.ran.made;
-        opened = way.ready.unsealed unused ∙ follows.ran.opened;
+        made = way.ready.unspent.sealed unused ∙ follows.ran.made;
+        opened = way.ready.unspent.unsealed unused ∙ follows.ran.opened;
         each = each_over law (client_end old) (client_end now) past way.ready.same
             (touched_by (client_end old) old.state past (SameBut c old.context now.context) follows.state follows.ran.each follows.going
-            way.ready.bare)
+            way.ready.unspent.bare)
             follows.ran.each;
         others = others_go past follows.going;
       }
 
-  -- what was taken out of the client is no part of its run
-  pub client_emptied : (first now : ClientView C) (past : List Turn) → ClientRan c first now past →
-      ClientRan c first (record now { output = [] }) past
-  client_emptied first now past ran = record {
-    same = ran.same;
-    made = ran.made;
-    opened = ran.opened;
-    each = ran.each;
-    others = ran.others;
-  }
-
   pub client_fresh : (first : ClientView C) → IsFreshClient first → ClientFollows c first first []
   client_fresh first fresh = record {
-    ran = record {
-      same = refl;
-      made = rw fresh.context refl;
-      opened = rw fresh.context refl;
-      each = tt;
-      others = tt;
-    };
+    ran = none_ran c (EachClientTurn c (client_end first)) OthersGoOn (client_end first) fresh.context tt tt;
     state = fresh.state;
     noted = fresh.noted;
     begun = fresh.context;

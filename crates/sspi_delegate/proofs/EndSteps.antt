@@ -4,11 +4,24 @@ use Rattle.sspi_mech.specs.Meaning.{Meaning}
 use Rattle.sspi_credssp.specs.declared.acts.Acts.{Acts}
 use Rattle.sspi_credssp.specs.Acts.{sealed_by, unsealed_by}
 use Rattle.sspi_credssp.specs.Counts.{sealed_in, unsealed_in, IsUnusedIn, SameBut}
+use Rattle.sspi_credssp.specs.Context.{ContextSetting}
 use Rattle.sspi_credssp.specs.Turn.{UnlessRefused}
+use Rattle.sspi_delegate.specs.EndRun.{Kept, Ran}
 use Rattle.sspi_delegate.specs.EndTurns.{made_in, opened_in}
 use Rattle.sspi_credssp.specs.declared.turn.Outcome.{Outcome}
 use Rattle.sspi_credssp.specs.declared.turn.Outcome.TheVariants as outcome
 use Rattle.sspi_credssp.specs.declared.turn.Turn.{Turn}
+
+-- an end that has made no turn yet
+pub none_ran : {S C : Type 0} (c : Meaning ContextSetting C) (Each Others : List Turn → Type 0) (end : Kept S C) →
+    end.context ≡ None → Each [] → Others [] → Ran c Each Others end end []
+none_ran c Each Others end none each others = record {
+  same = refl;
+  made = rw none refl;
+  opened = rw none refl;
+  each = each;
+  others = others;
+}
 
 pub or_false : (a b : Bool) → a || b ≡ false → (a ≡ false) × (b ≡ false)
 or_false true b h = absurd (cc (h))

@@ -17,13 +17,14 @@ use Rattle.sspi_credssp.specs.declared.turn.Outcome.TheVariants as outcome
 use Rattle.sspi_credssp.specs.declared.turn.Turn.{Turn}
 use Rattle.sspi_credssp.specs.Shown.{ShowsAnswer, ShowsClientActs, ShowsReply, client_shown, server_shown}
 use Rattle.sspi_delegate.specs.Causes.{NewestIs, IsFinished, RunEnds}
-use Rattle.sspi_delegate.specs.ClientRun.{ClientEnd, client_frame_at, EachClientTurn}
+use Rattle.sspi_delegate.specs.EndRun.{ClientEnd, ServerEnd}
+use Rattle.sspi_delegate.specs.ClientRun.{client_frame_at, EachClientTurn}
 use Rattle.sspi_delegate.specs.EndTurns.{onto_client, onto_server, client_turns, server_turns, is_replied, is_ended, any_ended}
 use Rattle.sspi_delegate.specs.EndTurns.{any_proved, any_finished, OthersGoOn}
 use Rattle.sspi_delegate.specs.Turns.{GoesOn, AllGoOn, Alternates}
 use Rattle.sspi_delegate.specs.Headline.{sealed_turns, NeverSeals, SealsAfterProof, any_exchange, HasExchanged}
 use Rattle.sspi_delegate.specs.Run.{HasLog}
-use Rattle.sspi_delegate.specs.ServerRun.{server_state, any_over, ServerEnd, server_frame_at, EachServerTurn}
+use Rattle.sspi_delegate.specs.ServerRun.{server_state, any_over, server_frame_at, EachServerTurn}
 use Rattle.sspi_delegate.proofs.Alternating.{others_go}
 use Rattle.sspi_delegate.proofs.ClientSteps.{state_auth, reply_state}
 use Rattle.sspi_delegate.proofs.EndSteps.{or_false, is_false}

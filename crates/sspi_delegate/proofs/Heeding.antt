@@ -24,13 +24,14 @@ use Rattle.sspi_delegate.specs.declared.answer.Delegation.{Delegation}
 use Rattle.sspi_delegate.specs.declared.answer.DelegateError.{DelegateError}
 use Rattle.sspi_delegate.specs.declared.answer.DelegateError.TheVariants as errors
 use Rattle.sspi_delegate.specs.Asking.{KdcCalls}
-use Rattle.sspi_delegate.specs.ClientRun.{client_noted, ClientEnd, client_end, EachClientTurn, HasBegun, ClientFollows}
+use Rattle.sspi_delegate.specs.EndRun.{ClientEnd, client_end, ServerEnd, server_end}
+use Rattle.sspi_delegate.specs.ClientRun.{client_noted, EachClientTurn, HasBegun, ClientFollows}
 use Rattle.sspi_delegate.specs.EndTurns.{OthersGoOn, OthersUnrefused}
 use Rattle.sspi_delegate.specs.Heeded.{is_first, is_second, IsDowngrade, FindsOldServer, FindsOldClient, HeedsServer, HeedsClient}
 use Rattle.sspi_delegate.specs.Heeded.{EachHeedsServer, EachHeedsClient}
 use Rattle.sspi_delegate.specs.History.{ClientMakes, ClientHistory, ClientLeft, between, waiting, ClientStops, ClientPast, ServerMakes}
 use Rattle.sspi_delegate.specs.History.{ServerHistory, ServerPast}
-use Rattle.sspi_delegate.specs.ServerRun.{server_noted, ServerEnd, server_end, EachServerTurn, ServerFollows}
+use Rattle.sspi_delegate.specs.ServerRun.{server_noted, EachServerTurn, ServerFollows}
 use Rattle.sspi_delegate.specs.Turns.{GoesOn, AllGoOn, IsUnrefused, NoneRefused}
 use Rattle.sspi_delegate.proofs.ClientSteps.{client_underway, noted_by_two}
 use Rattle.sspi_delegate.proofs.Histories.{client_stopped_history, server_past_history}

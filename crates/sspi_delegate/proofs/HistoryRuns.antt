@@ -19,11 +19,12 @@ use Rattle.sspi_delegate.specs.Turns.{GoesOn, AllGoOn, IsUnrefused, NoneRefused}
 use Rattle.sspi_delegate.specs.History.{ClientMakes, ClientHistory, ClientLeft, between, waiting, ClientStops, ClientPast, ServerMakes}
 use Rattle.sspi_delegate.specs.History.{ServerHistory, ServerPast}
 use Rattle.sspi_delegate.specs.Refusals.{ProxyStays}
-use Rattle.sspi_delegate.specs.ServerRun.{ServerRan, ServerFollows, server_end, GivesNewest}
-use Rattle.sspi_delegate.proofs.ClientSteps.{client_fresh, client_turned, client_replied, client_ended, client_underway, client_emptied}
+use Rattle.sspi_delegate.specs.EndRun.{server_end}
+use Rattle.sspi_delegate.specs.ServerRun.{ServerRan, ServerFollows, GivesNewest}
+use Rattle.sspi_delegate.proofs.ClientSteps.{client_fresh, client_turned, client_replied, client_ended, client_underway}
 use Rattle.sspi_delegate.proofs.Histories.{client_stopped_history, server_past_history}
 use Rattle.sspi_delegate.proofs.Refusing.{proxy_on, proxy_asked}
-use Rattle.sspi_delegate.proofs.ServerSteps.{server_fresh, server_turned, server_follows, server_finished, server_emptied}
+use Rattle.sspi_delegate.proofs.ServerSteps.{server_fresh, server_turned, server_follows, server_finished}
 use Rattle.sspi_credssp.specs.declared.turn.Outcome.{Outcome}
 use Rattle.sspi_credssp.specs.declared.turn.Outcome.TheVariants as outcome
 use Rattle.sspi_credssp.specs.declared.turn.Turn.{Turn}
@@ -34,7 +35,7 @@ module _ {C : Type 0} (c : Meaning ContextSetting C) (law : IsContext c) where
   client_follows_emptied : (first now : ClientView C) (past : List Turn) → ClientFollows c first now past →
       ClientFollows c first (record now { output = [] }) past
   client_follows_emptied first now past follows = record {
-    ran = client_emptied c first now past follows.ran;
+    ran = follows.ran;
     state = follows.state;
     noted = follows.noted;
     begun = follows.begun;
@@ -80,9 +81,8 @@ module _ {C : Type 0} (c : Meaning ContextSetting C) (law : IsContext c) where
         let follows = history_follows first h.0 kdc h.1 past fresh others h.2 in
         subst (λ (x : Turn). ClientRan c first now (x ∷ past)) (sym made.turn)
         (subst (λ (v : ClientView C). ClientRan c first v (client_turn c t.delivered t.outcome made.mid ∷ past)) (sym made.rest)
-        (client_emptied c first made.mid _
         (client_turned c law first h.0 made.mid past t.delivered t.outcome follows
-        (client_turn_of h.0 made.mid h.1 kdc2 t.delivered t.outcome made.makes))))
+        (client_turn_of h.0 made.mid h.1 kdc2 t.delivered t.outcome made.makes)))
 
     left_ran : (first now : ClientView C) (kdc kdc2 : D) (turns : List Turn) → IsFreshClient first → OthersGoOn turns →
         ClientLeft c k first kdc turns now kdc2 → ClientRan c first now turns
@@ -113,7 +113,7 @@ module _ {C : Type 0} (c : Meaning ContextSetting C) (law : IsContext c) where
     server_follows_emptied : (first now : ServerView C P) (past : List Turn) → ServerFollows c first now past →
         ServerFollows c first (record now { output = [] }) past
     server_follows_emptied first now past follows = record {
-      ran = server_emptied c first now past follows.ran;
+      ran = follows.ran;
       state = follows.state;
       noted = follows.noted;
       unrefused = follows.unrefused;
@@ -153,9 +153,8 @@ module _ {C : Type 0} (c : Meaning ContextSetting C) (law : IsContext c) where
         let follows = server_history_follows first h.0 past fresh others h.1 in
         subst (λ (x : Turn). ServerRan c first now (x ∷ past)) (sym made.turn)
         (subst (λ (v : ServerView C P). ServerRan c first v (server_turn c t.delivered t.outcome made.mid ∷ past)) (sym made.rest)
-        (server_emptied c first made.mid _
         (server_turned c law first h.0 made.mid past t.delivered t.outcome follows
-        (server_turn_of h.0 made.mid t.delivered t.outcome made.makes))))
+        (server_turn_of h.0 made.mid t.delivered t.outcome made.makes)))
 
     pub server_past_ran : (first now : ServerView C P) (turns : List Turn) (result : Result Delegation DelegateError) →
         IsFreshServer first →

@@ -16,11 +16,12 @@ use Rattle.sspi_credssp.specs.Server.{ServerSettings, ServerView, IsFreshServer}
 use Rattle.sspi_credssp.specs.ServerTurn.{ServerTurn, StartsUnused, server_frame, server_turn, after_reply}
 use Rattle.sspi_credssp.specs.Shown.{IsOver, MayCheck, ShowsAnswer, ShowsNegoBack, ShowsServerActs, ShowsStateBack, server_shown}
 use Rattle.sspi_credssp.specs.Turn.{ServerFrame, UnlessRefused, FitsNoted, OnceNegotiated}
-use Rattle.sspi_delegate.specs.EndTurns.{made_in, opened_in, is_replied, is_finished, any_proved, any_finished}
+use Rattle.sspi_delegate.specs.EndTurns.{made_in, opened_in, is_replied, is_finished, any_proved, any_finished, OthersUnrefused}
 use Rattle.sspi_delegate.specs.Turns.{IsUnrefused, NoneRefused}
-use Rattle.sspi_delegate.specs.ServerRun.{is_over, any_over, server_state, server_noted, ServerEnd, server_end, server_frame_at}
+use Rattle.sspi_delegate.specs.EndRun.{ServerEnd, server_end}
+use Rattle.sspi_delegate.specs.ServerRun.{is_over, any_over, server_state, server_noted, server_frame_at}
 use Rattle.sspi_delegate.specs.ServerRun.{EachServerTurn, ServerRan, ServerFollows}
-use Rattle.sspi_delegate.proofs.EndSteps.{IsQuiet, AllQuiet, or_false, or_not, is_false, quiet_made, unused_in, same_but, Touched}
+use Rattle.sspi_delegate.proofs.EndSteps.{none_ran, IsQuiet, AllQuiet, or_false, or_not, is_false, quiet_made, unused_in, same_but, Touched}
 use Rattle.sspi_delegate.proofs.EndSteps.{touched, untouched, unless_given, unless_map, made_by_proof, opened_by_check}
 use Rattle.sspi_delegate.proofs.ServerOver.{OnceRefused, server_over}
 use Rattle.sspi_credssp.specs.declared.turn.Outcome.{Outcome}
@@ -294,25 +295,9 @@ module _ {C : Type 0} (c : Meaning ContextSetting C) where
       unrefused = (tt, follows.unrefused);
     }
 
-    pub server_emptied : (first now : ServerView C P) (past : List Turn) → ServerRan c first now past →
-        ServerRan c first (record now { output = [] }) past
-    server_emptied first now past ran = record {
-      same = ran.same;
-      made = ran.made;
-      opened = ran.opened;
-      each = ran.each;
-      others = ran.others;
-    }
-
     pub server_fresh : (first : ServerView C P) → IsFreshServer first → ServerFollows c first first []
     server_fresh first fresh = record {
-      ran = record {
-        same = refl;
-        made = rw fresh.context refl;
-        opened = rw fresh.context refl;
-        each = tt;
-        others = tt;
-      };
+      ran = none_ran c (EachServerTurn c (server_end first)) OthersUnrefused (server_end first) fresh.context tt tt;
       state = fresh.state;
       noted = fresh.noted;
       unrefused = tt;

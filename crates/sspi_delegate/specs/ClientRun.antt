@@ -4,13 +4,14 @@ use Rattle.std.specs.Prelude.{◌≡◌, ℕ, List, [], ◌∷◌, Option, None,
 use Rattle.sspi_mech.specs.Meaning.{Meaning}
 use Rattle.sspi_credssp.specs.declared.state.CredSspState.{CredSspState}
 use Rattle.sspi_credssp.specs.declared.state.CredSspState.TheVariants.{NegoToken, AuthInfo, Final}
-use Rattle.sspi_credssp.specs.Client.{ClientSettings, ClientView}
+use Rattle.sspi_credssp.specs.Client.{ClientView}
 use Rattle.sspi_credssp.specs.ClientTurn.{IsClientTurn}
 use Rattle.sspi_credssp.specs.Context.{ContextSetting}
-use Rattle.sspi_credssp.specs.Counts.{sealed_in, unsealed_in, is_waiting_in}
+use Rattle.sspi_credssp.specs.Counts.{is_waiting_in}
 use Rattle.sspi_credssp.specs.Noted.{noted_with}
 use Rattle.sspi_credssp.specs.Turn.{ClientFrame}
-use Rattle.sspi_delegate.specs.EndTurns.{made_in, opened_in, any_proved, any_ended, OthersGoOn}
+use Rattle.sspi_delegate.specs.EndRun.{ClientEnd, client_end, frame_at, EachTurn, Ran}
+use Rattle.sspi_delegate.specs.EndTurns.{any_proved, any_ended, OthersGoOn}
 use Rattle.sspi_delegate.specs.Turns.{AllGoOn}
 use Rattle.sspi_credssp.specs.declared.turn.Turn.{Turn}
 
@@ -30,40 +31,16 @@ abbrev pub has_turn : List Turn → Bool
 has_turn [] = false
 has_turn (t ∷ past) = true
 
--- what a client keeps over its turns, and its context
-pub record ClientEnd (C : Type 0) : Type 0 where
-  pub settings : ClientSettings
-  pub context : Option C
-
-abbrev pub client_end : {C : Type 0} → ClientView C → ClientEnd C
-client_end client = record { settings = client.settings; context = client.context }
-
 -- what the client is at the turn t after these turns
 abbrev pub client_frame_at : {C : Type 0} → ClientEnd C → List Turn → Turn → ClientFrame C
-client_frame_at e past t = record {
-  settings = e.settings;
-  state = client_state past;
-  made = made_in past;
-  opened = opened_in past;
-  looks = has_turn past;
-  noted = client_noted e.settings.least (t ∷ past);
-  context = e.context;
-}
+client_frame_at e past t = frame_at client_state (client_noted e.settings.least) (has_turn past) e past t
 
 module _ {C : Type 0} (c : Meaning ContextSetting C) where
   abbrev pub EachClientTurn : ClientEnd C → List Turn → Type 0
-  EachClientTurn e [] = Unit {0}
-  EachClientTurn e (t ∷ past) = IsClientTurn c (client_frame_at e past t) t × EachClientTurn e past
+  EachClientTurn e past = EachTurn (λ past t. IsClientTurn c (client_frame_at e past t) t) past
 
-  -- A client that was `first` and has made these turns: each is a turn over the context that it has now, which sealed and
-  -- opened exactly what the turns say.
-  pub record ClientRan (first now : ClientView C) (past : List Turn) : Type 0 where
-    pub same : now.settings ≡ first.settings
-    pub made : sealed_in c now.context ≡ made_in past
-    pub opened : unsealed_in c now.context ≡ opened_in past
-    pub each : EachClientTurn (client_end now) past
-    -- only the newest turn may have been refused
-    pub others : OthersGoOn past
+  abbrev pub ClientRan : ClientView C → ClientView C → List Turn → Type 0
+  ClientRan first now past = Ran c (EachClientTurn (client_end now)) OthersGoOn (client_end first) (client_end now) past
 
   abbrev pub HasBegun : Option C → List Turn → Type 0
   HasBegun context [] = context ≡ None

@@ -17,7 +17,7 @@ use Rattle.sspi_credssp.specs.declared.turn.Turn.{Turn}
 use Rattle.sspi_delegate.specs.Asking.{KdcCalls, kdc_calls}
 use Rattle.sspi_delegate.specs.Causes.{RunEnds}
 use Rattle.sspi_delegate.specs.Chain.{client_stage, ClientChained, server_stage, ServerChain}
-use Rattle.sspi_delegate.specs.ClientRun.{client_end}
+use Rattle.sspi_delegate.specs.EndRun.{client_end, server_end}
 use Rattle.sspi_delegate.specs.EndTurns.{client_turns, server_turns}
 use Rattle.sspi_delegate.specs.Exactly.{Exactly}
 use Rattle.sspi_delegate.specs.Headline.{IsRun, sealed_turns, SealsAfterProof, NeverSeals, HasExchanged}
@@ -25,7 +25,7 @@ use Rattle.sspi_delegate.specs.History.{ClientPast, ServerPast}
 use Rattle.sspi_delegate.specs.Link.{StaysTold}
 use Rattle.sspi_delegate.specs.Messages.{newest_message, AnswerTold}
 use Rattle.sspi_delegate.specs.Refusals.{RefusedBy, KdcStays, ProxyStays}
-use Rattle.sspi_delegate.specs.ServerRun.{server_end, GivesNewest}
+use Rattle.sspi_delegate.specs.ServerRun.{GivesNewest}
 
 -- what is told by the three round the ends: the proxy, the link and the KDC
 pub record Around (P L D : Type 0) : Type 0 where

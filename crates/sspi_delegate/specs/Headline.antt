@@ -12,7 +12,8 @@ use Rattle.sspi_credssp.specs.Server.{ServerView, IsFreshServer}
 use Rattle.sspi_credssp.specs.Turn.{AtNoted}
 use Rattle.sspi_delegate.specs.declared.carried.Carried.{Carried}
 use Rattle.sspi_credssp.specs.declared.turn.Turn.{Turn}
-use Rattle.sspi_delegate.specs.ClientRun.{client_state, client_noted, ClientEnd, ClientRan}
+use Rattle.sspi_delegate.specs.EndRun.{ClientEnd}
+use Rattle.sspi_delegate.specs.ClientRun.{client_state, client_noted, ClientRan}
 use Rattle.sspi_delegate.specs.EndTurns.{client_turns, server_turns, opened_in}
 use Rattle.sspi_delegate.specs.Heeded.{EachHeedsServer, EachHeedsClient}
 use Rattle.sspi_delegate.specs.Run.{HasLog}

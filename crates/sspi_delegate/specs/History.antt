@@ -26,7 +26,8 @@ use Rattle.sspi_delegate.specs.Asking.{KdcCalls}
 use Rattle.sspi_credssp.specs.Turn.{UnlessRefused}
 use Rattle.sspi_delegate.specs.Turns.{AllGoOn}
 use Rattle.sspi_delegate.specs.Refusals.{StepsSo, ClientRefuses}
-use Rattle.sspi_delegate.specs.ServerRun.{server_end, GivesNewest}
+use Rattle.sspi_delegate.specs.EndRun.{server_end}
+use Rattle.sspi_delegate.specs.ServerRun.{GivesNewest}
 use Rattle.sspi_credssp.specs.declared.turn.Outcome.{Outcome}
 use Rattle.sspi_credssp.specs.declared.turn.Outcome.TheVariants as outcome
 use Rattle.sspi_credssp.specs.declared.turn.Turn.{Turn}

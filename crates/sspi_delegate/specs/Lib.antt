@@ -6,6 +6,7 @@ pub mod Delegates
 pub mod Deliveries
 pub mod Readers
 pub mod Edits
+pub mod EndRun
 pub mod EndTurns
 pub mod Exactly
 pub mod Headline

@@ -8,12 +8,12 @@ use Rattle.sspi_names.specs.declared.identity.AuthIdentity.{AuthIdentity}
 use Rattle.sspi_credssp.specs.declared.state.CredSspState.{CredSspState}
 use Rattle.sspi_credssp.specs.declared.state.CredSspState.TheVariants.{NegoToken, PubKeyInfo, AuthInfo, Final}
 use Rattle.sspi_credssp.specs.Context.{ContextSetting}
-use Rattle.sspi_credssp.specs.Counts.{sealed_in, unsealed_in}
 use Rattle.sspi_credssp.specs.Noted.{noted_with}
-use Rattle.sspi_credssp.specs.Server.{ServerSettings, ServerView}
+use Rattle.sspi_credssp.specs.Server.{ServerView}
 use Rattle.sspi_credssp.specs.ServerTurn.{IsServerTurn, HoldsIdentity}
 use Rattle.sspi_credssp.specs.Turn.{ServerFrame}
-use Rattle.sspi_delegate.specs.EndTurns.{made_in, opened_in, is_replied, any_proved, any_finished, OthersUnrefused}
+use Rattle.sspi_delegate.specs.EndRun.{ServerEnd, server_end, frame_at, EachTurn, Ran}
+use Rattle.sspi_delegate.specs.EndTurns.{is_replied, any_proved, any_finished, OthersUnrefused}
 use Rattle.sspi_delegate.specs.Turns.{NoneRefused}
 use Rattle.sspi_credssp.specs.declared.turn.Turn.{Turn}
 
@@ -39,29 +39,13 @@ server_noted least [] = None
 server_noted least (t ∷ []) = noted_with least None t.delivered.version
 server_noted least (t ∷ u ∷ past) = server_noted least (u ∷ past)
 
--- what a server keeps over its turns, and its context
-pub record ServerEnd (C : Type 0) : Type 0 where
-  pub settings : ServerSettings
-  pub context : Option C
-
-abbrev pub server_end : {C P : Type 0} → ServerView C P → ServerEnd C
-server_end server = record { settings = server.settings; context = server.context }
-
 -- what the server is at the turn t after these turns
 abbrev pub server_frame_at : {C : Type 0} → ServerEnd C → List Turn → Turn → ServerFrame C
-server_frame_at e past t = record {
-  settings = e.settings;
-  state = server_state past;
-  made = made_in past;
-  opened = opened_in past;
-  noted = server_noted e.settings.least (t ∷ past);
-  context = e.context;
-}
+server_frame_at e past t = frame_at server_state (server_noted e.settings.least) true e past t
 
 module _ {C : Type 0} (c : Meaning ContextSetting C) where
   abbrev pub EachServerTurn : ServerEnd C → List Turn → Type 0
-  EachServerTurn e [] = Unit {0}
-  EachServerTurn e (t ∷ past) = IsServerTurn c (server_frame_at e past t) t × EachServerTurn e past
+  EachServerTurn e past = EachTurn (λ past t. IsServerTurn c (server_frame_at e past t) t) past
 
   -- the identity is the one in the text that the context opened last, which is the newest turn's
   abbrev pub GivesNewest : ServerEnd C → List Turn → AuthIdentity → Type 0
@@ -69,15 +53,8 @@ module _ {C : Type 0} (c : Meaning ContextSetting C) where
   GivesNewest e (t ∷ past) identity = HoldsIdentity c e.context t.delivered.auth_info identity
 
   module _ {P : Type 0} where
-    -- A server that was `first` and has made these turns: each is a turn over the context that it has now, which sealed
-    -- and opened exactly what the turns say.
-    pub record ServerRan (first now : ServerView C P) (past : List Turn) : Type 0 where
-      pub same : now.settings ≡ first.settings
-      pub made : sealed_in c now.context ≡ made_in past
-      pub opened : unsealed_in c now.context ≡ opened_in past
-      pub each : EachServerTurn (server_end now) past
-      -- only the newest turn may have been refused
-      pub others : OthersUnrefused past
+    abbrev pub ServerRan : ServerView C P → ServerView C P → List Turn → Type 0
+    ServerRan first now past = Ran c (EachServerTurn (server_end now)) OthersUnrefused (server_end first) (server_end now) past
 
     -- none of the turns was refused, and the server is where they left it
     pub record ServerFollows (first now : ServerView C P) (past : List Turn) : Type 0 where

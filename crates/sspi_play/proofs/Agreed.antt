@@ -25,10 +25,11 @@ use Rattle.sspi_credssp.specs.ServerTurn.{HoldsIdentity}
 use Rattle.sspi_credssp.specs.Shown.{ShowsAnswer, server_shown}
 use Rattle.sspi_credssp.specs.Turn.{ServerFrame}
 use Rattle.sspi_delegate.specs.Causes.{IsFinished}
-use Rattle.sspi_delegate.specs.ClientRun.{ClientEnd, client_noted, EachClientTurn}
+use Rattle.sspi_delegate.specs.EndRun.{ClientEnd, ServerEnd}
+use Rattle.sspi_delegate.specs.ClientRun.{client_noted, EachClientTurn}
 use Rattle.sspi_delegate.specs.EndTurns.{onto_client, onto_server, client_turns, server_turns, opened_in, OthersGoOn}
 use Rattle.sspi_delegate.specs.EndTurns.{OthersUnrefused}
-use Rattle.sspi_delegate.specs.ServerRun.{ServerEnd, server_noted, server_frame_at, EachServerTurn}
+use Rattle.sspi_delegate.specs.ServerRun.{server_noted, server_frame_at, EachServerTurn}
 use Rattle.sspi_delegate.specs.Turns.{AllGoOn, NoneRefused}
 use Rattle.sspi_play.specs.Agreement.{OpensBehindTag, NoEcho, AreAlike, Agrees}
 use Rattle.sspi_play.specs.Agreement.{HoldsSealed, Agreement}

@@ -20,7 +20,8 @@ use Rattle.sspi_credssp.specs.Credentials.{delegated_text}
 use Rattle.sspi_credssp.specs.PublicKey.{prescribed}
 use Rattle.sspi_credssp.specs.Shown.{client_shown, ShowsClientActs, ShowsNego, ShowsReply}
 use Rattle.sspi_credssp.specs.Turn.{ClientFrame}
-use Rattle.sspi_delegate.specs.ClientRun.{client_noted, ClientEnd, client_frame_at, EachClientTurn}
+use Rattle.sspi_delegate.specs.EndRun.{ClientEnd}
+use Rattle.sspi_delegate.specs.ClientRun.{client_noted, client_frame_at, EachClientTurn}
 use Rattle.sspi_delegate.specs.EndTurns.{onto_client, client_turns, is_replied, is_ended, any_proved, any_ended, OthersGoOn}
 use Rattle.sspi_delegate.specs.Turns.{GoesOn, AllGoOn}
 use Rattle.sspi_play.specs.Agreement.{TurnOf, HasSealed}

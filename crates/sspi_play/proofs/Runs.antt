@@ -13,10 +13,9 @@ use Rattle.sspi_credssp.specs.declared.turn.Turn.{Turn}
 use Rattle.sspi_delegate.specs.declared.answer.DelegateError.{DelegateError}
 use Rattle.sspi_delegate.specs.declared.answer.DelegateError.TheVariants as errors
 use Rattle.sspi_delegate.specs.Asking.{KdcCalls}
-use Rattle.sspi_delegate.specs.ClientRun.{client_end}
+use Rattle.sspi_delegate.specs.EndRun.{client_end, server_end}
 use Rattle.sspi_delegate.specs.EndTurns.{client_turns, server_turns, OthersGoOn, OthersUnrefused}
 use Rattle.sspi_delegate.specs.History.{ClientHistory, ClientLeft, between, waiting}
-use Rattle.sspi_delegate.specs.ServerRun.{server_end}
 use Rattle.sspi_delegate.specs.Turns.{AllGoOn}
 use Rattle.sspi_delegate.proofs.Headline.{sealed_once}
 use Rattle.sspi_delegate.proofs.Heeding.{client_past_heeds, server_past_heeds}

@@ -22,7 +22,8 @@ use Rattle.sspi_credssp.specs.Shown.{server_shown, IsOver, MayCheck, HasNonce, S
 use Rattle.sspi_credssp.specs.Shown.{ShowsStateBack, ShowsAnswer}
 use Rattle.sspi_credssp.specs.Turn.{ServerFrame, AtNoted}
 use Rattle.sspi_delegate.specs.EndTurns.{onto_server, server_turns, is_replied, is_finished, any_proved, any_finished}
-use Rattle.sspi_delegate.specs.ServerRun.{any_over, server_state, server_noted, ServerEnd, server_frame_at, EachServerTurn}
+use Rattle.sspi_delegate.specs.EndRun.{ServerEnd}
+use Rattle.sspi_delegate.specs.ServerRun.{any_over, server_state, server_noted, server_frame_at, EachServerTurn}
 use Rattle.sspi_delegate.specs.Turns.{IsUnrefused, NoneRefused}
 use Rattle.sspi_play.specs.Agreement.{TurnOf, OpensBehindTag}
 use Rattle.sspi_play.specs.Faithful.{behind_tag, server_texts, server_sealed, opened_texts}

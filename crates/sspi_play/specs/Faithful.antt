@@ -10,9 +10,10 @@ use Rattle.sspi_credssp.specs.Context.{ContextSetting}
 use Rattle.sspi_credssp.specs.Credentials.{delegated_text}
 use Rattle.sspi_credssp.specs.PublicKey.{magic, prescribed}
 use Rattle.sspi_credssp.specs.Requests.{nonce_of}
-use Rattle.sspi_delegate.specs.ClientRun.{ClientEnd, client_noted}
+use Rattle.sspi_delegate.specs.EndRun.{ClientEnd, ServerEnd}
+use Rattle.sspi_delegate.specs.ClientRun.{client_noted}
 use Rattle.sspi_delegate.specs.EndTurns.{client_turns, server_turns}
-use Rattle.sspi_delegate.specs.ServerRun.{ServerEnd, server_noted}
+use Rattle.sspi_delegate.specs.ServerRun.{server_noted}
 
 -- ---- the texts that an end sealed and opened
 

@@ -6,12 +6,11 @@ use Rattle.sspi_credssp.specs.Client.{ClientView}
 use Rattle.sspi_credssp.specs.Server.{ServerView}
 use Rattle.sspi_credssp.specs.Table.{TableView, table_meaning}
 use Rattle.sspi_delegate.specs.declared.answer.DelegateError.{DelegateError}
-use Rattle.sspi_delegate.specs.ClientRun.{client_end}
+use Rattle.sspi_delegate.specs.EndRun.{client_end, server_end}
 use Rattle.sspi_delegate.specs.Delegates.{calls_of_kdc}
 use Rattle.sspi_delegate.specs.Edits.{MemoryLinkView}
 use Rattle.sspi_delegate.specs.Headline.{IsFresh}
 use Rattle.sspi_delegate.specs.Refusals.{KdcStays, ProxyStays}
-use Rattle.sspi_delegate.specs.ServerRun.{server_end}
 use Rattle.sspi_play.specs.Agreement.{AgreesIfFaithful}
 use Rattle.sspi_play.specs.Kept.{kept_list, identity_of}
 use Rattle.sspi_play.specs.Negotiated.{NegotiatesIfFaithful}

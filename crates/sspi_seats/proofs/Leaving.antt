@@ -13,10 +13,9 @@ use Rattle.sspi_credssp.specs.Proxy.{ProxyMeaning}
 use Rattle.sspi_credssp.specs.Server.{ServerView}
 use Rattle.sspi_delegate.specs.declared.answer.DelegateError.TheVariants as errors
 use Rattle.sspi_delegate.specs.Asking.{KdcCalls}
-use Rattle.sspi_delegate.specs.ClientRun.{client_end}
+use Rattle.sspi_delegate.specs.EndRun.{client_end, server_end}
 use Rattle.sspi_delegate.specs.EndTurns.{OthersGoOn}
 use Rattle.sspi_delegate.specs.History.{ClientHistory}
-use Rattle.sspi_delegate.specs.ServerRun.{server_end}
 use Rattle.sspi_delegate.specs.Turns.{AllGoOn}
 use Rattle.sspi_delegate.proofs.Headline.{sealed_once, seals_after_proof}
 use Rattle.sspi_delegate.proofs.Heeding.{client_past_heeds}

@@ -8,7 +8,8 @@ use Rattle.sspi_credssp.specs.Context.{ContextSetting}
 use Rattle.sspi_credssp.specs.Proxy.{ProxyMeaning}
 use Rattle.sspi_credssp.specs.Server.{ServerView}
 use Rattle.sspi_delegate.specs.Asking.{KdcCalls}
-use Rattle.sspi_delegate.specs.ClientRun.{client_end, ClientRan}
+use Rattle.sspi_delegate.specs.EndRun.{client_end}
+use Rattle.sspi_delegate.specs.ClientRun.{ClientRan}
 use Rattle.sspi_delegate.specs.Headline.{sealed_turns, SealsAfterProof}
 use Rattle.sspi_delegate.specs.Heeded.{EachHeedsServer}
 use Rattle.sspi_delegate.specs.History.{ClientHistory, ClientStopped}

@@ -1,11 +1,15 @@
-use Rattle.std.proofs.Common.{◌∙◌, sym}
+use Rattle.std.proofs.Common.{◌∙◌, sym, rules}
 use Rattle.sspi_credssp.specs.Context.{either}
 use Rattle.sspi_credssp.proofs.Opened.{opened_as}
 use Rattle.sspi_credssp.proofs.proof.opens_to.Goals as goal
 
-pub returns-clause-opens : goal.returns-clause-opens
-returns-clause-opens g c =
-    opened_as (either g.N.Mechanism.REQUESTS g.N.Mechanism.meaning g.K.Mechanism.meaning) _ _ c.in_ok-text.text.items _ _
-    c.in_ok-text.ensures.last
-    (λ same. sym c.deref.ensures.value ∙ c.same_bytes.ensures.same same)
-    (λ differs same. c.same_bytes.ensures.other differs (c.deref.ensures.value ∙ same))
+pub returns-clause-opened : goal.returns-clause-opened
+returns-clause-opened g c = record {
+  noted = search rules;
+  counted = c.in_ok-text.ensures.ok;
+  count = c.in_ok-text.ensures.count;
+  holds = opened_as (either g.N.Mechanism.REQUESTS g.N.Mechanism.meaning g.K.Mechanism.meaning) _ _ c.in_ok-text.text.items _ _
+      c.in_ok-text.ensures.last
+      (λ same. sym c.deref.ensures.value ∙ c.same_bytes.ensures.same same)
+      (λ differs same. c.same_bytes.ensures.other differs (c.deref.ensures.value ∙ same));
+}

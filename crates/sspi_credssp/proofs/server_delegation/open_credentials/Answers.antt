@@ -1,4 +1,4 @@
-use Rattle.std.proofs.Common.{refl, rules}
+use Rattle.std.proofs.Common.{refl}
 use Rattle.std.proofs.lemmas.Result.{IfOk-weaker, IfErr-weaker}
 use Rattle.sspi_credssp.specs.Exchange.{opens_identity}
 use Rattle.sspi_credssp.specs.ServerCause.{unread}

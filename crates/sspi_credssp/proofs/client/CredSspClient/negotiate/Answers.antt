@@ -1,10 +1,10 @@
-use Rattle.std.proofs.Common.{◌≡◌, Some, sym, subst, rules}
+use Rattle.std.proofs.Common.{◌≡◌, Some, true, sym, subst, rules}
 use Rattle.sspi_types.specs.declared.credential_use.CredentialUse.TheVariants.{Outbound}
 use Rattle.sspi_credssp.specs.Begun.{Begun, IfContext}
 use Rattle.sspi_credssp.specs.ClientStep.{stepped}
 use Rattle.sspi_credssp.specs.ClientTurn.{IsReady}
 use Rattle.sspi_credssp.specs.Context.{either, ForClient}
-use Rattle.sspi_credssp.proofs.ClientReady.{ready_stepped, asked_waits, context_here}
+use Rattle.sspi_credssp.proofs.ClientReady.{after_step, context_here}
 use Rattle.sspi_credssp.proofs.ContextLaws.{lawful}
 use Rattle.sspi_credssp.proofs.client.CredSspClient.negotiate.Goals as goal
 
@@ -12,11 +12,9 @@ pub returns-clause-turn : goal.returns-clause-turn
 returns-clause-turn g c = λ start d same ready nego output.
     let it = either g.N.Mechanism.REQUESTS g.N.Mechanism.meaning g.K.Mechanism.meaning in
     let laws = lawful _ _ g.N.Mechanism.meaning g.K.Mechanism.meaning g.met.N.Mechanism.laws g.met.K.Mechanism.laws in
-    c.go_on.ensures.turn start d (search rules)
-    (ready_stepped it start _ d c.in-Some.context _ _ (subst (λ v. IsReady it start d v) (sym c.self.view_is) ready) (search rules)
-    (search rules)
-    (λ unused. laws.step_unused _ _ _ _ unused c.initialize-progress.ensures.step))
-    (search rules) (search rules) (asked_waits it laws _ _ _ _ c.initialize-progress.ensures.step)
+    let after = after_step it laws start _ d c.in-Some.context _ (record c.self.inside.acts { negotiated = true }) _ _
+    (subst (λ v. IsReady it start d v) (sym c.self.view_is) ready) (search rules) (search rules) c.initialize-progress.ensures.step in
+    c.go_on.ensures.turn start d (search rules) after.0 (search rules) (search rules) after.1
 
 pub returns-clause-step : goal.returns-clause-step
 returns-clause-step g c = λ start d token target begun.

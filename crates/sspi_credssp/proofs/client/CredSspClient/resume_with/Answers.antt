@@ -1,9 +1,9 @@
-use Rattle.std.proofs.Common.{◌≡◌, Some, refl, sym, subst, rules}
+use Rattle.std.proofs.Common.{◌≡◌, Some, true, refl, sym, subst, rules}
 use Rattle.sspi_mech.specs.declared.step.Answer.TheVariants.{Ask}
 use Rattle.sspi_credssp.specs.ClientStep.{StepsTo, resumed}
 use Rattle.sspi_credssp.specs.ClientTurn.{IsReady}
 use Rattle.sspi_credssp.specs.Context.{either}
-use Rattle.sspi_credssp.proofs.ClientReady.{ready_stepped, asked_again_waits, falls_on, context_here}
+use Rattle.sspi_credssp.proofs.ClientReady.{after_resume, falls_on, context_here}
 use Rattle.sspi_credssp.proofs.StillWaits.{still_waits}
 use Rattle.sspi_credssp.proofs.ContextLaws.{lawful}
 use Rattle.sspi_credssp.proofs.client.CredSspClient.resume_with.Goals as goal
@@ -12,11 +12,9 @@ pub returns-clause-turn : goal.returns-clause-turn
 returns-clause-turn g c = λ start d same ready nego output.
     let it = either g.N.Mechanism.REQUESTS g.N.Mechanism.meaning g.K.Mechanism.meaning in
     let laws = lawful _ _ g.N.Mechanism.meaning g.K.Mechanism.meaning g.met.N.Mechanism.laws g.met.K.Mechanism.laws in
-    c.go_on.ensures.turn start d (search rules)
-    (ready_stepped it start _ d c.in-Some.context _ _ (subst (λ v. IsReady it start d v) (sym c.self.view_is) ready) (search rules)
-    (search rules)
-    (λ unused. laws.resume_unused _ _ _ _ unused c.resume-progress.ensures.step))
-    (search rules) (search rules) (asked_again_waits it laws _ _ _ _ c.resume-progress.ensures.step)
+    let after = after_resume it laws start _ d c.in-Some.context _ (record c.self.inside.acts { negotiated = true }) _ _
+    (subst (λ v. IsReady it start d v) (sym c.self.view_is) ready) (search rules) (search rules) c.resume-progress.ensures.step in
+    c.go_on.ensures.turn start d (search rules) after.0 (search rules) (search rules) after.1
 
 pub returns-clause-step : goal.returns-clause-step
 returns-clause-step g c = λ start d tries log q walked.

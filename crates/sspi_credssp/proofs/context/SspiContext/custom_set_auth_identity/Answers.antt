@@ -1,4 +1,3 @@
-use Rattle.std.proofs.Common.{◌≡◌}
 use Rattle.sspi_credssp.proofs.context.SspiContext.custom_set_auth_identity.Goals as goal
 
 pub returns-in-Negotiate-clause-keytab : goal.returns-in-Negotiate-clause-keytab

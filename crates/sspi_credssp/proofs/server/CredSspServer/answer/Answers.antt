@@ -27,10 +27,11 @@ returns-clause-turn g c = λ start d same ready nego output.
     (search rules)
 
 pub returns-clause-step : goal.returns-clause-step
-returns-clause-step g c = λ start d token told begun.
+returns-clause-step g c = λ start d token at.
+    let later = at.later in
     let it = either g.N.Mechanism.REQUESTS g.N.Mechanism.meaning g.K.Mechanism.meaning in
     let begun_inside = subst (λ v. IfContext v.context (Begun it start.context start.handle
-    (server_setting g.C.CredentialsProxy.meaning start) Inbound None v.handle)) (sym c.self.view_is) begun in
+    (server_setting g.C.CredentialsProxy.meaning start) Inbound None v.handle)) (sym c.self.view_is) at.begun in
     let here : c.self.inside.context ≡ Some c.in-Some.context = search rules in
     c.answer_step.ensures.step start d (search rules)
     (accepted c.in-Some.context _ _ (context_here _ _ _ here begun_inside)
@@ -38,11 +39,12 @@ returns-clause-step g c = λ start d token told begun.
     (sym token) c.in_ok-step.ensures.step))
 
 pub returns-in_err-step-clause-step : goal.returns-in_err-step-clause-step
-returns-in_err-step-clause-step g c = λ start d token told begun.
+returns-in_err-step-clause-step g c = λ start d token at.
+    let later = at.later in
     let it = either g.N.Mechanism.REQUESTS g.N.Mechanism.meaning g.K.Mechanism.meaning in
     let tells = g.C.CredentialsProxy.meaning in
     let begun_inside = subst (λ v. IfContext v.context (Begun it start.context start.handle
-    (server_setting g.C.CredentialsProxy.meaning start) Inbound None v.handle)) (sym c.self.view_is) begun in
+    (server_setting g.C.CredentialsProxy.meaning start) Inbound None v.handle)) (sym c.self.view_is) at.begun in
     let here : c.self.inside.context ≡ Some c.in-Some.context = search rules in
     let none : c.self.inside.acts.status ≡ None = search rules in
     let p = err_from_is_err_and c.from_residual.result c.from_residual.ensures.1 in
@@ -55,10 +57,11 @@ returns-in_err-step-clause-step g c = λ start d token told begun.
     (sym token) c.in_err-step.ensures.step)))
 
 pub returns-clause-cause : goal.returns-clause-cause
-returns-clause-cause g c = λ start d same proxy begun.
+returns-clause-cause g c = λ start d same at.
+    let later = at.later in
     let it = either g.N.Mechanism.REQUESTS g.N.Mechanism.meaning g.K.Mechanism.meaning in
     let begun_inside = subst (λ v. IfContext v.context (Begun it start.context start.handle
-    (server_setting g.C.CredentialsProxy.meaning start) Inbound None v.handle)) (sym c.self.view_is) begun in
+    (server_setting g.C.CredentialsProxy.meaning start) Inbound None v.handle)) (sym c.self.view_is) at.begun in
     let here : c.self.inside.context ≡ Some c.in-Some.context = search rules in
     let token : d.nego_tokens ≡ c.args.request.now.nego_tokens = ap (λ (x : TsRequest). x.nego_tokens) (sym same) in
     let new = c.answer_step.new.self in

@@ -1,9 +1,6 @@
-use Rattle.std.proofs.Common.{◌≡◌, sym, subst, rules}
-use Rattle.sspi_credssp.specs.Begun.{unmade}
+use Rattle.std.proofs.Common.{subst}
 use Rattle.sspi_credssp.specs.Context.{either}
-use Rattle.sspi_credssp.specs.Peers.{list_calls}
-use Rattle.sspi_credssp.specs.Proxy.{IsAsked}
-use Rattle.sspi_credssp.specs.ServerCause.{ListRefused, unlisted, unbegun}
+use Rattle.sspi_credssp.specs.ServerCause.{unbegun}
 use Rattle.sspi_credssp.specs.ServerStep.{server_setting}
 use Rattle.sspi_credssp.proofs.Adopting.{adopted, unadopted}
 use Rattle.sspi_credssp.proofs.server.CredSspServer.make_context.Goals as goal

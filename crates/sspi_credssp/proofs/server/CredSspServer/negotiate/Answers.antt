@@ -28,20 +28,20 @@ returns-clause-turn g c = λ start d same ready nego output.
     ]
 
 pub returns-clause-step : goal.returns-clause-step
-returns-clause-step g c = λ start d token told begun.
+returns-clause-step g c = λ start d token at.
     let it = either g.N.Mechanism.REQUESTS g.N.Mechanism.meaning g.K.Mechanism.meaning in
     let laws = lawful _ _ g.N.Mechanism.meaning g.K.Mechanism.meaning g.met.N.Mechanism.laws g.met.K.Mechanism.laws in
     let tells = g.C.CredentialsProxy.meaning in
     elim c.match-answer.branch [
       | in-Ok w ↦ subst (λ r. HasAcceptedTurn it tells start d r c.answer.new.self) (sym w.result-is)
-          (w.in-Ok.ensures.step start d token told begun)
+          (w.in-Ok.ensures.step start d token at)
       | in-Err w ↦ subst (λ r. HasAcceptedTurn it tells start d r c.answer.new.self) (sym w.result-is)
           (refused_as it laws tells start c.answer.new.self d w.in-Err.error w.refusal.result.error (search rules)
-          (w.in-Err.ensures.step start d token told begun))
+          (w.in-Err.ensures.step start d token at))
     ]
 
 pub returns-clause-cause : goal.returns-clause-cause
-returns-clause-cause g c = λ start d same proxy begun.
+returns-clause-cause g c = λ start d same at.
     let it = either g.N.Mechanism.REQUESTS g.N.Mechanism.meaning g.K.Mechanism.meaning in
     let tells = g.C.CredentialsProxy.meaning in
     let new = c.answer.new.self in
@@ -52,7 +52,7 @@ returns-clause-cause g c = λ start d same proxy begun.
           NegoCause it tells new.acts.status start d new refusal.error.error_type)) (sym w.result-is)
           (λ memory. let e : w.refusal.result.error ≡ w.in-Err.error = search rules in
           subst (λ (x : Error). NegoCause it tells new.acts.status start d new x.error_type) (sym e)
-          (w.in-Err.ensures.cause start d same proxy begun (λ lacking. memory (ap (λ (x : Error). x.error_type) e ∙ lacking))))
+          (w.in-Err.ensures.cause start d same at (λ lacking. memory (ap (λ (x : Error). x.error_type) e ∙ lacking))))
     ]
 
 pub returns-clause-proxy : goal.returns-clause-proxy

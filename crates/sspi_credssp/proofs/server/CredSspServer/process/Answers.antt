@@ -9,6 +9,7 @@ use Rattle.sspi_credssp.specs.Noted.{VersionStops, is_old}
 use Rattle.sspi_credssp.specs.Peers.{lists_in}
 use Rattle.sspi_credssp.specs.Proxy.{IsAsked, HasAsked}
 use Rattle.sspi_credssp.specs.ServerCause.{MakeCause, ServerCause}
+use Rattle.sspi_credssp.specs.ServerStage.{IsAtStep}
 use Rattle.sspi_credssp.specs.ServerStep.{HasAcceptedTurn, server_setting}
 use Rattle.sspi_credssp.specs.ServerTurn.{BeginRefused}
 use Rattle.sspi_credssp.proofs.Asked.{later, asked_on, turn_asked}
@@ -31,12 +32,12 @@ returns-in-Ok g c =
     c.in-Ok.ensures.made.made) in
     let listed = subst (λ v. IsAsked p (lists_in v.context v.settings.mode) v.proxy c.begin.new.self.proxy) c.forget_last_call.ensures
     c.in-Ok.ensures.proxy.at_most in
-    let since = later p _ _ _ listed in
-    let step : HasAcceptedTurn it p now d c.take-in-Ok.result new = c.take-in-Ok.ensures.step now d (search rules) since begun in
+    let at : IsAtStep it p now c.begin.new.self = record { later = later p _ _ _ listed; begun = begun } in
+    let step : HasAcceptedTurn it p now d c.take-in-Ok.result new = c.take-in-Ok.ensures.step now d (search rules) at in
     let cause : IfErr c.take-in-Ok.result (λ refusal. refusal.error.error_type ≢ InsufficientMemory →
     ServerCause it p now d new refusal.error.error_type) =
     server_cause_past it p now new d _ _ (search rules) (search rules) c.take-in-Ok.ensures.begun (search rules)
-    (c.take-in-Ok.ensures.cause now d (search rules) since begun) in
+    (c.take-in-Ok.ensures.cause now d (search rules) at) in
     let young : is_old now.settings.least now.noted d.version ≡ false = search rules in
     record {
       turn = c.take-in-Ok.ensures.turn now d (search rules) ready (search rules);
