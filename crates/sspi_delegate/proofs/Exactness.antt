@@ -182,6 +182,9 @@ module _ (base : List Carried) (start limit : ℕ) where
   only_ok (Err errors.TurnsSpent) turns log now ends newest = newest_goes_apart Server IsFinished finished_goes turns newest ends.cause.0
   only_ok (Err errors.InsufficientMemory) turns log now ends newest = newest_may_lack turns newest ends.cause.0
 
+  refused_client_goes : (kind : ErrorKind) (turns : List Turn) → NewestIs Client (IsClientRefusal kind) turns → AllGoOn turns → ⊥
+  refused_client_goes kind turns newest going = newest_goes_apart Client (IsClientRefusal kind) (client_refusal_goes kind) turns newest going
+
   only_client : (kind : ErrorKind) (result : Result Delegation DelegateError) (turns : List Turn) (log : List Carried) (now : ℕ) →
       RunEnds base start limit result turns log now → NewestIs Client (IsClientRefusal kind) turns → IsOnly (IsClientError kind) result
   only_client kind (Ok delegation) turns log now ends newest = newest_ends (IsClientRefusal kind) IsFinished turns newest ends.0.newest
@@ -190,15 +193,14 @@ module _ (base : List Carried) (start limit : ℕ) where
       (one_client_refusal error.error_type kind) turns ends.cause.1 newest
   only_client kind (Err (errors.Server error)) turns log now ends newest =
       newest_ends (IsClientRefusal kind) (IsServerRefusal error.error_type) turns newest ends.cause.1
-  only_client kind (Err (errors.Read end wire)) turns log now ends newest =
-      newest_goes_apart Client (IsClientRefusal kind) (client_refusal_goes kind) turns newest ends.cause.0
-  only_client kind (Err (errors.Write end)) turns log now ends newest =
-      newest_goes_apart Client (IsClientRefusal kind) (client_refusal_goes kind) turns newest ends.cause.0
-  only_client kind (Err errors.LinkFault) turns log now ends newest =
-      newest_goes_apart Client (IsClientRefusal kind) (client_refusal_goes kind) turns newest ends.cause.0
-  only_client kind (Err errors.TurnsSpent) turns log now ends newest =
-      newest_goes_apart Client (IsClientRefusal kind) (client_refusal_goes kind) turns newest ends.cause.0
+  only_client kind (Err (errors.Read end wire)) turns log now ends newest = refused_client_goes kind turns newest ends.cause.0
+  only_client kind (Err (errors.Write end)) turns log now ends newest = refused_client_goes kind turns newest ends.cause.0
+  only_client kind (Err errors.LinkFault) turns log now ends newest = refused_client_goes kind turns newest ends.cause.0
+  only_client kind (Err errors.TurnsSpent) turns log now ends newest = refused_client_goes kind turns newest ends.cause.0
   only_client kind (Err errors.InsufficientMemory) turns log now ends newest = tt
+
+  refused_server_goes : (kind : ErrorKind) (turns : List Turn) → NewestIs Server (IsServerRefusal kind) turns → AllGoOn turns → ⊥
+  refused_server_goes kind turns newest going = newest_goes_apart Server (IsServerRefusal kind) (server_refusal_goes kind) turns newest going
 
   only_server : (kind : ErrorKind) (result : Result Delegation DelegateError) (turns : List Turn) (log : List Carried) (now : ℕ) →
       RunEnds base start limit result turns log now → NewestIs Server (IsServerRefusal kind) turns → IsOnly (IsServerError kind) result
@@ -209,14 +211,10 @@ module _ (base : List Carried) (start limit : ℕ) where
   only_server kind (Err (errors.Server error)) turns log now ends newest =
       newest_one Server (IsServerRefusal error.error_type) (IsServerRefusal kind) (error.error_type ≡ kind)
       (one_server_refusal error.error_type kind) turns ends.cause.1 newest
-  only_server kind (Err (errors.Read end wire)) turns log now ends newest =
-      newest_goes_apart Server (IsServerRefusal kind) (server_refusal_goes kind) turns newest ends.cause.0
-  only_server kind (Err (errors.Write end)) turns log now ends newest =
-      newest_goes_apart Server (IsServerRefusal kind) (server_refusal_goes kind) turns newest ends.cause.0
-  only_server kind (Err errors.LinkFault) turns log now ends newest =
-      newest_goes_apart Server (IsServerRefusal kind) (server_refusal_goes kind) turns newest ends.cause.0
-  only_server kind (Err errors.TurnsSpent) turns log now ends newest =
-      newest_goes_apart Server (IsServerRefusal kind) (server_refusal_goes kind) turns newest ends.cause.0
+  only_server kind (Err (errors.Read end wire)) turns log now ends newest = refused_server_goes kind turns newest ends.cause.0
+  only_server kind (Err (errors.Write end)) turns log now ends newest = refused_server_goes kind turns newest ends.cause.0
+  only_server kind (Err errors.LinkFault) turns log now ends newest = refused_server_goes kind turns newest ends.cause.0
+  only_server kind (Err errors.TurnsSpent) turns log now ends newest = refused_server_goes kind turns newest ends.cause.0
   only_server kind (Err errors.InsufficientMemory) turns log now ends newest = tt
 
   only_read : (kind : WireKind) (result : Result Delegation DelegateError) (turns : List Turn) (log : List Carried) (now : ℕ) →

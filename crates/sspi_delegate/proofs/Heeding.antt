@@ -1,5 +1,5 @@
 -- Each turn of a run is refused for the age of its peer's version exactly where it finds one.
-use Rattle.std.proofs.Common.{◌≡◌, ℕ, ◌<◌, List, [], ◌∷◌, Bool, true, false, Option, None, Some, IsSome, Result, Ok, Err, refl, sym}
+use Rattle.std.proofs.Common.{◌≡◌, ℕ, ◌<◌, List, [], ◌∷◌, Bool, true, false, Option, None, Some, IsSome, Result, refl, sym}
 use Rattle.std.proofs.Common.{◌∙◌, ap, subst, nat_lt, if◌then◌else◌}
 use Rattle.std.proofs.lemmas.Bool.{ltb-true, lt-ltb, true≢false}
 use Rattle.sspi_types.specs.declared.error.Error.{Error}
@@ -22,19 +22,18 @@ use Rattle.sspi_credssp.proofs.ClientHeeding.{client_met}
 use Rattle.sspi_credssp.proofs.ServerHeeding.{server_met}
 use Rattle.sspi_delegate.specs.declared.answer.Delegation.{Delegation}
 use Rattle.sspi_delegate.specs.declared.answer.DelegateError.{DelegateError}
-use Rattle.sspi_delegate.specs.declared.answer.DelegateError.TheVariants as errors
 use Rattle.sspi_delegate.specs.Asking.{KdcCalls}
 use Rattle.sspi_delegate.specs.EndRun.{ClientEnd, client_end, ServerEnd, server_end}
 use Rattle.sspi_delegate.specs.ClientRun.{client_noted, EachClientTurn, HasBegun, ClientFollows}
 use Rattle.sspi_delegate.specs.EndTurns.{OthersGoOn, OthersUnrefused}
 use Rattle.sspi_delegate.specs.Heeded.{is_first, is_second, IsDowngrade, FindsOldServer, FindsOldClient, HeedsServer, HeedsClient}
 use Rattle.sspi_delegate.specs.Heeded.{EachHeedsServer, EachHeedsClient}
-use Rattle.sspi_delegate.specs.History.{ClientMakes, ClientHistory, ClientLeft, between, waiting, ClientStops, ClientPast, ServerMakes}
+use Rattle.sspi_delegate.specs.History.{ClientMakes, ClientHistory, ClientLeft, between, waiting, ClientPast, ServerMakes}
 use Rattle.sspi_delegate.specs.History.{ServerHistory, ServerPast}
 use Rattle.sspi_delegate.specs.ServerRun.{server_noted, EachServerTurn, ServerFollows}
 use Rattle.sspi_delegate.specs.Turns.{GoesOn, AllGoOn, IsUnrefused, NoneRefused}
 use Rattle.sspi_delegate.proofs.ClientSteps.{client_underway, noted_by_two}
-use Rattle.sspi_delegate.proofs.Histories.{client_stopped_history, server_past_history}
+use Rattle.sspi_delegate.proofs.Histories.{client_past_left, server_past_history}
 use Rattle.sspi_delegate.proofs.HistoryRuns.{client_turn_of, client_went, history_follows, server_turn_of, server_went}
 use Rattle.sspi_delegate.proofs.HistoryRuns.{server_history_follows}
 use Rattle.sspi_delegate.proofs.ServerSteps.{noted_by_one, server_turned}
@@ -177,23 +176,11 @@ module _ {C : Type 0} (c : Meaning ContextSetting C) where
           (history_follows c law k first old kdc kdc1 turns fresh went h) way.underway in
           went_heeds (client_end now) turns ran.each went
 
-      stops_heeds : (first now : ClientView C) (kdc kdc2 : D) (turns : List Turn) (error : DelegateError) → IsFreshClient first →
-          OthersGoOn turns →
-          ClientStops c k first kdc error turns now kdc2 → EachHeedsServer c now.settings.least turns
-      stops_heeds first now kdc kdc2 turns (errors.Client error) fresh others s =
-          history_heeds first now kdc kdc2 turns fresh others (client_stopped_history c k first now kdc kdc2 error turns s)
-      stops_heeds first now kdc kdc2 turns (errors.Server error) fresh others h = history_heeds first now kdc kdc2 turns fresh others h
-      stops_heeds first now kdc kdc2 turns (errors.Read to kind) fresh others h = history_heeds first now kdc kdc2 turns fresh others h
-      stops_heeds first now kdc kdc2 turns (errors.Write from) fresh others h = history_heeds first now kdc kdc2 turns fresh others h
-      stops_heeds first now kdc kdc2 turns errors.LinkFault fresh others h = history_heeds first now kdc kdc2 turns fresh others h
-      stops_heeds first now kdc kdc2 turns errors.TurnsSpent fresh others h = history_heeds first now kdc kdc2 turns fresh others h
-      stops_heeds first now kdc kdc2 turns errors.InsufficientMemory fresh others h = left_heeds first now kdc kdc2 turns fresh others h
-
       pub client_past_heeds : (first now : ClientView C) (kdc kdc2 : D) (turns : List Turn) (result : Result Delegation DelegateError) →
           IsFreshClient first → OthersGoOn turns → ClientPast c k first kdc result turns now kdc2 →
           EachHeedsServer c now.settings.least turns
-      client_past_heeds first now kdc kdc2 turns (Ok delegation) fresh others h = history_heeds first now kdc kdc2 turns fresh others h
-      client_past_heeds first now kdc kdc2 turns (Err error) fresh others h = stops_heeds first now kdc kdc2 turns error fresh others h
+      client_past_heeds first now kdc kdc2 turns result fresh others h =
+          left_heeds first now kdc kdc2 turns fresh others (client_past_left c k first now kdc kdc2 turns result h)
 
   -- ---- a server's turns
 

@@ -10,6 +10,8 @@ use Rattle.sspi_credssp.specs.Context.{ContextSetting}
 use Rattle.sspi_credssp.specs.Proxy.{ProxyMeaning, IsAsked, HasAsked}
 use Rattle.sspi_credssp.specs.Server.{ServerView}
 use Rattle.sspi_credssp.specs.ServerAsks.{calls_in}
+use Rattle.sspi_credssp.specs.declared.server_state.ServerError.{ServerError}
+use Rattle.sspi_credssp.specs.ServerCall.{ServerCall}
 use Rattle.sspi_credssp.specs.ServerStep.{DoneStep, MakesAlone}
 use Rattle.sspi_credssp.specs.ServerTurn.{ServerTurn, HoldsIdentity}
 use Rattle.sspi_credssp.specs.Turn.{UnlessRefused}
@@ -22,10 +24,11 @@ use Rattle.sspi_credssp.specs.declared.turn.Outcome.TheVariants as outcome
 use Rattle.sspi_credssp.specs.declared.turn.Turn.{Turn}
 use Rattle.sspi_delegate.specs.Asking.{KdcCalls}
 use Rattle.sspi_delegate.specs.EndTurns.{client_turns, server_turns}
-use Rattle.sspi_delegate.specs.History.{ClientMakes, ClientHistory, ClientStopped, ServerMakes, ServerRefuses, ServerHistory}
-use Rattle.sspi_delegate.specs.History.{ServerGave, ServerStopped, ServerPast}
+use Rattle.sspi_delegate.specs.History.{ClientMakes, ClientHistory, ClientStopped, ClientLeft, between, ClientPast, ServerMakes}
+use Rattle.sspi_delegate.specs.History.{ServerRefuses, ServerHistory, ServerGave, ServerStopped, ServerPast}
 use Rattle.sspi_delegate.specs.Refusals.{ClientRefuses}
-use Rattle.sspi_delegate.specs.Rounds.{recorded, newest_alone}
+use Rattle.sspi_delegate.specs.Rounds.{newest_alone}
+use Rattle.sspi_delegate.specs.Turns.{recorded}
 
 module _ {C D : Type 0} (c : Meaning ContextSetting C) (k : KdcCalls D) where
   pub client_made : (first old mid new : ClientView C) (kdc_first kdc kdc2 : D) (d : TsRequest) (out : Outcome) (turns turns2 : List Turn) →
@@ -78,6 +81,19 @@ module _ {C D : Type 0} (c : Meaning ContextSetting C) (k : KdcCalls D) where
     record { mid = s.mid; turn = refl; makes = (error, refl, s.turn, s.refuses); rest = s.rest },
   )
 
+  -- whatever the answer, its turns are a history, but for a turn in which it may wait
+  pub client_past_left : (first now : ClientView C) (kdc kdc2 : D) (turns : List Turn) (result : Result Delegation DelegateError) →
+      ClientPast c k first kdc result turns now kdc2 → ClientLeft c k first kdc turns now kdc2
+  client_past_left first now kdc kdc2 turns (Ok delegation) h = between h
+  client_past_left first now kdc kdc2 turns (Err (errors.Client error)) s =
+      between (client_stopped_history first now kdc kdc2 error turns s)
+  client_past_left first now kdc kdc2 turns (Err (errors.Server error)) h = between h
+  client_past_left first now kdc kdc2 turns (Err (errors.Read to kind)) h = between h
+  client_past_left first now kdc kdc2 turns (Err (errors.Write from)) h = between h
+  client_past_left first now kdc kdc2 turns (Err errors.LinkFault) h = between h
+  client_past_left first now kdc kdc2 turns (Err errors.TurnsSpent) h = between h
+  client_past_left first now kdc kdc2 turns (Err errors.InsufficientMemory) h = h
+
 module _ {C : Type 0} (c : Meaning ContextSetting C) where
   module _ {P : Type 0} (p : ProxyMeaning P) where
     pub server_made : (first old mid new : ServerView C P) (d : TsRequest) (out : Outcome) (turns turns2 : List Turn) →
@@ -122,6 +138,16 @@ module _ {C : Type 0} (c : Meaning ContextSetting C) where
       made = alone;
       proxy = proxy;
       rest = rest;
+    }
+
+    -- what a refused call says of its refusal
+    pub server_refuses : (old : ServerView C P) (d : TsRequest) (refusal : ServerError) (new : ServerView C P) →
+        ServerCall c p old d (Err refusal) new → ServerRefuses c p old d refusal.error new
+    server_refuses old d refusal new call = record {
+      cause = call.cause.kind;
+      heeds = λ met. (call.heeded.refuses met).0;
+      status = call.cause.plain;
+      step = call.step;
     }
 
     -- the same of the newest turn alone

@@ -11,18 +11,17 @@ use Rattle.sspi_credssp.specs.Server.{ServerView, IsFreshServer}
 use Rattle.sspi_credssp.specs.ServerTurn.{ServerTurn, server_turn}
 use Rattle.sspi_delegate.specs.declared.answer.Delegation.{Delegation}
 use Rattle.sspi_delegate.specs.declared.answer.DelegateError.{DelegateError}
-use Rattle.sspi_delegate.specs.declared.answer.DelegateError.TheVariants as errors
 use Rattle.sspi_delegate.specs.Asking.{KdcCalls}
 use Rattle.sspi_delegate.specs.ClientRun.{ClientRan, ClientFollows}
 use Rattle.sspi_delegate.specs.EndTurns.{OthersGoOn, OthersUnrefused}
 use Rattle.sspi_delegate.specs.Turns.{GoesOn, AllGoOn, IsUnrefused, NoneRefused}
-use Rattle.sspi_delegate.specs.History.{ClientMakes, ClientHistory, ClientLeft, between, waiting, ClientStops, ClientPast, ServerMakes}
+use Rattle.sspi_delegate.specs.History.{ClientMakes, ClientHistory, ClientLeft, between, waiting, ClientPast, ServerMakes}
 use Rattle.sspi_delegate.specs.History.{ServerHistory, ServerPast}
 use Rattle.sspi_delegate.specs.Refusals.{ProxyStays}
 use Rattle.sspi_delegate.specs.EndRun.{server_end}
 use Rattle.sspi_delegate.specs.ServerRun.{ServerRan, ServerFollows, GivesNewest}
 use Rattle.sspi_delegate.proofs.ClientSteps.{client_fresh, client_turned, client_replied, client_ended, client_underway}
-use Rattle.sspi_delegate.proofs.Histories.{client_stopped_history, server_past_history}
+use Rattle.sspi_delegate.proofs.Histories.{client_past_left, server_past_history}
 use Rattle.sspi_delegate.proofs.Refusing.{proxy_on, proxy_asked}
 use Rattle.sspi_delegate.proofs.ServerSteps.{server_fresh, server_turned, server_follows, server_finished}
 use Rattle.sspi_credssp.specs.declared.turn.Outcome.{Outcome}
@@ -90,22 +89,10 @@ module _ {C : Type 0} (c : Meaning ContextSetting C) (law : IsContext c) where
     left_ran first now kdc kdc2 turns fresh others (waiting old kdc1 d went h way) =
         client_underway c law first old now turns d (history_follows first old kdc kdc1 turns fresh went h) way.underway
 
-    stops_ran : (first now : ClientView C) (kdc kdc2 : D) (turns : List Turn) (error : DelegateError) → IsFreshClient first →
-        OthersGoOn turns →
-        ClientStops c k first kdc error turns now kdc2 → ClientRan c first now turns
-    stops_ran first now kdc kdc2 turns (errors.Client error) fresh others s =
-        history_ran first now kdc kdc2 turns fresh others (client_stopped_history c k first now kdc kdc2 error turns s)
-    stops_ran first now kdc kdc2 turns (errors.Server error) fresh others h = history_ran first now kdc kdc2 turns fresh others h
-    stops_ran first now kdc kdc2 turns (errors.Read to kind) fresh others h = history_ran first now kdc kdc2 turns fresh others h
-    stops_ran first now kdc kdc2 turns (errors.Write from) fresh others h = history_ran first now kdc kdc2 turns fresh others h
-    stops_ran first now kdc kdc2 turns errors.LinkFault fresh others h = history_ran first now kdc kdc2 turns fresh others h
-    stops_ran first now kdc kdc2 turns errors.TurnsSpent fresh others h = history_ran first now kdc kdc2 turns fresh others h
-    stops_ran first now kdc kdc2 turns errors.InsufficientMemory fresh others h = left_ran first now kdc kdc2 turns fresh others h
-
     pub client_past_ran : (first now : ClientView C) (kdc kdc2 : D) (turns : List Turn) (result : Result Delegation DelegateError) →
         IsFreshClient first → OthersGoOn turns → ClientPast c k first kdc result turns now kdc2 → ClientRan c first now turns
-    client_past_ran first now kdc kdc2 turns (Ok delegation) fresh others h = history_ran first now kdc kdc2 turns fresh others h
-    client_past_ran first now kdc kdc2 turns (Err error) fresh others h = stops_ran first now kdc kdc2 turns error fresh others h
+    client_past_ran first now kdc kdc2 turns result fresh others h =
+        left_ran first now kdc kdc2 turns fresh others (client_past_left c k first now kdc kdc2 turns result h)
 
   -- ---- the server
 

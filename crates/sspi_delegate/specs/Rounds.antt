@@ -1,9 +1,8 @@
 -- What a turn, and what half a round, makes of an end and of its history.
-use Rattle.std.specs.Prelude.{ℕ, List, [], ◌∷◌, Option, None, Some, Result, Ok, Err}
+use Rattle.std.specs.Prelude.{List, [], ◌∷◌, Option, None, Some, Result, Ok, Err}
 use Rattle.sspi_mech.specs.Meaning.{Meaning}
 use Rattle.sspi_names.specs.declared.identity.AuthIdentity.{AuthIdentity}
 use Rattle.sspi_tsreq.specs.declared.request.TsRequest.{TsRequest}
-use Rattle.sspi_credssp.specs.declared.acts.Acts.{Acts}
 use Rattle.sspi_credssp.specs.declared.client_state.ClientState.TheVariants.{ReplyNeeded, FinalMessage}
 use Rattle.sspi_credssp.specs.Client.{ClientView}
 use Rattle.sspi_credssp.specs.ClientTurn.{ClientTurn, IsUnderway}
@@ -13,24 +12,18 @@ use Rattle.sspi_credssp.specs.Server.{ServerView}
 use Rattle.sspi_credssp.specs.declared.client_state.Progress.TheVariants.{Completed}
 use Rattle.sspi_delegate.specs.declared.answer.DelegateError.{DelegateError}
 use Rattle.sspi_delegate.specs.declared.answer.DelegateError.TheVariants as errors
-use Rattle.sspi_credssp.specs.declared.turn.End.{End}
 use Rattle.sspi_delegate.specs.declared.ends.ClientRound.{ClientRound}
 use Rattle.sspi_delegate.specs.declared.ends.ClientRound.TheVariants as client
 use Rattle.sspi_delegate.specs.declared.ends.Concluded.{Concluded}
 use Rattle.sspi_delegate.specs.declared.ends.Concluded.TheVariants as concluded
 use Rattle.sspi_delegate.specs.declared.ends.ServerRound.{ServerRound}
 use Rattle.sspi_delegate.specs.declared.ends.ServerRound.TheVariants as server
-use Rattle.sspi_credssp.specs.declared.turn.Outcome.{Outcome}
 use Rattle.sspi_credssp.specs.declared.turn.Turn.{Turn}
 use Rattle.sspi_delegate.specs.Asking.{KdcCalls}
 use Rattle.sspi_delegate.specs.History.{ClientHistory, IsWaiting, ClientStopped, ClientLeft, ClientStops, ServerHistory, ServerGave}
 use Rattle.sspi_delegate.specs.History.{ServerStopped, ServerStops}
 use Rattle.sspi_delegate.specs.Refusals.{StepsSo, ClientRefuses}
 use Rattle.sspi_credssp.specs.declared.turn.Outcome.TheVariants as outcome
-
--- a turn as it is recorded
-abbrev pub recorded : End → TsRequest → Acts → List ℕ → Outcome → Turn
-recorded end request acts output outcome = record { end = end; delivered = request; acts = acts; output = output; outcome = outcome }
 
 abbrev pub newest_alone : List Turn → List Turn
 newest_alone [] = []

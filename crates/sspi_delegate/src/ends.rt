@@ -4,16 +4,16 @@ ghost use Rattle.sspi_credssp.specs.Context.{either};
 ghost use Rattle.sspi_credssp.specs.Server.{ServerView};
 ghost use Rattle.sspi_delegate.specs.Asking.{HasReplied, HasNoReply, kdc_calls};
 ghost use Rattle.sspi_delegate.specs.EndTurns.{client_turns, server_turns};
-ghost use Rattle.sspi_delegate.specs.Turns.{AllGoOn};
+ghost use Rattle.sspi_delegate.specs.Turns.{AllGoOn, recorded};
 ghost use Rattle.sspi_delegate.specs.History.{ClientHistory, ServerHistory};
 ghost use Rattle.sspi_delegate.specs.Recorded.{ClientPushed, ServerPushed};
 ghost use Rattle.sspi_delegate.specs.Refusals.{KdcStays, ProxyStays};
-ghost use Rattle.sspi_delegate.specs.Rounds.{recorded, added_by_client, added_by_server, ClientConcludes, WaitsWhereLost, ClientRoundPast, ServerRoundPast};
+ghost use Rattle.sspi_delegate.specs.Rounds.{added_by_client, added_by_server, ClientConcludes, WaitsWhereLost, ClientRoundPast, ServerRoundPast};
 
 use crate::transcript::Transcript;
 use sspi_credssp::{
     ClientState, CredSspClient, CredSspServer, CredentialsProxy, End, Outcome, Progress,
-    ServerError, ServerState, SspiContext, Turn,
+    ServerError, ServerState, SspiContext,
 };
 use sspi_mech::{Kdc, KdcError, Mechanism, Reply};
 use sspi_names::{AuthIdentity, NetworkRequest};
@@ -160,13 +160,7 @@ fn record_client<N: Mechanism, K: Mechanism>(
 {
     let acts = client.last_acts();
     let output = client.take_output();
-    transcript.push(Turn {
-        end: End::Client,
-        delivered,
-        acts,
-        output,
-        outcome,
-    });
+    transcript.record(End::Client, delivered, acts, output, outcome);
 }
 
 /// A turn of the server on this request, which is recorded whether or not it is refused.
@@ -193,44 +187,22 @@ pub fn server_round<N: Mechanism, K: Mechanism, C: CredentialsProxy>(
     let Ok(delivered) = request.clone(alloc) else {
         return ServerRound::Lost;
     };
-    match server.process(request) {
+    let answered = server.process(request);
+    let acts = server.last_acts();
+    let output = server.take_output();
+    match answered {
         Ok(ServerState::ReplyNeeded(reply)) => {
-            record_server(server, transcript, delivered, Outcome::Reply(reply));
+            transcript.record(End::Server, delivered, acts, output, Outcome::Reply(reply));
             ServerRound::Replied
         }
         Ok(ServerState::Finished(identity)) => {
-            record_server(server, transcript, delivered, Outcome::Finished);
+            transcript.record(End::Server, delivered, acts, output, Outcome::Finished);
             ServerRound::Finished(identity)
         }
         Err(ServerError { ts_request, error }) => {
-            record_server(
-                server,
-                transcript,
-                delivered,
-                Outcome::Refused(error.error_type, ts_request),
-            );
+            let outcome = Outcome::Refused(error.error_type, ts_request);
+            transcript.record(End::Server, delivered, acts, output, outcome);
             ServerRound::Refused(error)
         }
     }
-}
-
-fn record_server<N: Mechanism, K: Mechanism, C: CredentialsProxy>(
-    server: &mut CredSspServer<N, K, C>,
-    transcript: &mut Transcript,
-    delivered: TsRequest,
-    outcome: Outcome,
-)
-    requires { 0 < transcript.old.room }
-    ensures turn { transcript.new.turns ≡ recorded End.Server delivered server.old.acts server.old.output outcome ∷ transcript.old.turns }
-    ensures rest { server.new ≡ record server.old { output = [] } }
-{
-    let acts = server.last_acts();
-    let output = server.take_output();
-    transcript.push(Turn {
-        end: End::Server,
-        delivered,
-        acts,
-        output,
-        outcome,
-    });
 }

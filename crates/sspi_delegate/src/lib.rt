@@ -21,6 +21,7 @@ pub mod link;
 mod log;
 pub mod memory_link;
 mod messages;
+mod room;
 pub mod transcript;
 
 pub use answer::{DelegateError, Delegation};

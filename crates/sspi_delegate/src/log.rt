@@ -6,25 +6,14 @@ ghost use Rattle.sspi_delegate.specs.Log.{grown};
 use crate::carried::Carried;
 use crate::kept_link::Carrier;
 use crate::link::LinkError;
+use crate::room::reserve_one;
 use std::alloc::{AllocError, Global};
 use std::marker::Model;
-
-// Room for the messages of most exchanges is taken with the first one.
-const USUAL_ENTRIES: usize = 8;
 
 /// The log of a link in memory.
 #[derive(Drop)]
 pub struct Log {
     entries: Vec<Carried>,
-}
-
-impl Model for Log {
-    ghost use Rattle.std.specs.Prelude.{◌-◌, reverse, vec_len, vec_capacity};
-    ghost use Rattle.sspi_delegate.specs.Log.{LogView};
-
-    ghost Value = { LogView };
-
-    ghost view = { λ log. record { entries = reverse log.entries.items; room = vec_capacity log.entries - vec_len log.entries } };
 }
 
 impl Log {
@@ -48,12 +37,7 @@ impl Log {
         ensures entries { self.new.entries ≡ self.old.entries }
         ensures room { OnOk result (0 < self.new.room) }
     {
-        let more = if self.entries.is_empty() {
-            USUAL_ENTRIES
-        } else {
-            1
-        };
-        self.entries.reserve(more)
+        reserve_one(&mut self.entries)
     }
 
     /// Adds an entry, for which there is room.
@@ -101,6 +85,15 @@ impl Log {
         };
         receive(&mut self.entries[last], carrier, into)
     }
+}
+
+impl Model for Log {
+    ghost use Rattle.std.specs.Prelude.{◌-◌, reverse, vec_len, vec_capacity};
+    ghost use Rattle.sspi_delegate.specs.Log.{LogView};
+
+    ghost Value = { LogView };
+
+    ghost view = { λ log. record { entries = reverse log.entries.items; room = vec_capacity log.entries - vec_len log.entries } };
 }
 
 fn hand_out(

@@ -1,4 +1,4 @@
-ghost use Rattle.std.specs.Prelude.{◌≡◌, ◌+◌, ◌<◌, ◌≤◌, length};
+ghost use Rattle.std.specs.Prelude.{◌+◌, ◌<◌, ◌≤◌};
 ghost use Rattle.sspi_delegate.specs.Deliveries.{IsUnread};
 ghost use Rattle.sspi_delegate.specs.Readers.{TakesIn};
 ghost use Rattle.sspi_delegate.specs.Link.{LinkCause, NeverFails, StaysTold};

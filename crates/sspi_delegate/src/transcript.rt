@@ -1,12 +1,13 @@
 ghost use Rattle.std.specs.Prelude.{◌≡◌, ◌<◌, [], ◌∷◌, reverse, slice_get, OnOk};
 ghost use Rattle.std.specs.Option.{option_copied};
+ghost use Rattle.sspi_delegate.specs.Turns.{recorded};
 
-use sspi_credssp::Turn;
+use crate::room::reserve_one;
+use sspi_credssp::{Acts, End, Outcome, Turn};
+use sspi_tsreq::TsRequest;
+use sspi_types::Bytes;
 use std::alloc::{AllocError, Global};
 use std::marker::Model;
-
-// Room for the turns of most exchanges is taken with the first one.
-const USUAL_TURNS: usize = 8;
 
 /// The turns of an exchange, in their order.
 #[derive(Drop)]
@@ -36,6 +37,36 @@ impl Transcript {
         }
     }
 
+    /// Makes room for one more turn.
+    pub(crate) fn reserve(&mut self) -> Result<(), AllocError>
+        ensures turns { self.new.turns ≡ self.old.turns }
+        ensures room { OnOk result (0 < self.new.room) }
+    {
+        reserve_one(&mut self.turns)
+    }
+
+    /// Records a turn, for which there is room.
+    pub(crate) fn record(
+        &mut self,
+        end: End,
+        delivered: TsRequest,
+        acts: Acts,
+        output: Bytes,
+        outcome: Outcome,
+    )
+        requires { 0 < self.old.room }
+        ensures { self.new.turns ≡ recorded end delivered acts output outcome ∷ self.old.turns }
+    {
+        let turn = Turn {
+            end,
+            delivered,
+            acts,
+            output,
+            outcome,
+        };
+        self.turns.push_reserved(turn);
+    }
+
     /// The turns, the first one first. Takes no memory.
     pub fn turns(&self) -> &[Turn]
         ensures { result.now ≡ reverse self.now.turns }
@@ -48,27 +79,6 @@ impl Transcript {
         ensures { result.items ≡ reverse self.turns }
     {
         self.turns
-    }
-
-    /// Makes room for one more turn.
-    pub(crate) fn reserve(&mut self) -> Result<(), AllocError>
-        ensures turns { self.new.turns ≡ self.old.turns }
-        ensures room { OnOk result (0 < self.new.room) }
-    {
-        let more = if self.turns.is_empty() {
-            USUAL_TURNS
-        } else {
-            1
-        };
-        self.turns.reserve(more)
-    }
-
-    /// Adds a turn, for which there is room.
-    pub(crate) fn push(&mut self, turn: Turn)
-        requires { 0 < self.old.room }
-        ensures { self.new.turns ≡ turn ∷ self.old.turns }
-    {
-        self.turns.push_reserved(turn);
     }
 
     /// The last turn. Takes no memory.

@@ -1,0 +1,16 @@
+// Room in the lists that an exchange fills.
+ghost use Rattle.std.specs.Prelude.{◌≡◌, ◌<◌, ◌-◌, vec_len, vec_capacity, OnOk};
+
+use std::alloc::AllocError;
+
+// What most exchanges come to is taken with the first entry.
+const USUAL: usize = 8;
+
+// Makes room for one more entry.
+pub fn reserve_one<T>(entries: &mut Vec<T>) -> Result<(), AllocError>
+    ensures items { entries.new.items ≡ entries.old.items }
+    ensures room { OnOk result (0 < vec_capacity entries.new - vec_len entries.new) }
+{
+    let more = if entries.is_empty() { USUAL } else { 1 };
+    entries.reserve(more)
+}
