@@ -44,9 +44,11 @@ impl Source for FaultySource<'_> {
 
     /// Fails exactly where the number of this call is `failing`.
     fn read(&mut self, into: &mut [u8]) -> Result<usize, SourceError>
+        // What a source promises.
         ensures bound { IfOk result (λ count. count ≤ length into.new) }
         ensures bytes { ReadConsumes (Some self.old.source) (Some self.new.source) result into.new }
         ensures cause { SourceCause self.old.faults self.new.faults result }
+        // Which call fails.
         ensures fails { IsErrOf result SourceError.Failed ↔ (self.old.calls ≡ self.old.failing) }
         ensures calls { Counts self.old.calls self.new.calls }
         ensures failing { self.new.failing ≡ self.old.failing }
@@ -104,10 +106,12 @@ impl Sink for FaultySink {
 
     /// Fails exactly where the number of this call is `failing`.
     fn write(&mut self, piece: &[u8]) -> Result<usize, SinkError>
+        // What a sink promises.
         ensures bound { IfOk result (λ count. count ≤ length piece.now) }
         ensures some { 0 < length piece.now → IfOk result (λ count. 0 < count) }
         ensures bytes { WriteAppends (Some self.old.sink) (Some self.new.sink) result piece.now }
         ensures cause { SinkCause self.old.faults self.new.faults result }
+        // Which call fails.
         ensures fails { IsErrOf result SinkError.Failed ↔ (self.old.calls ≡ self.old.failing) }
         ensures calls { Counts self.old.calls self.new.calls }
         ensures failing { self.new.failing ≡ self.old.failing }

@@ -57,8 +57,10 @@ pub fn shortest_is_shortest()
 
 /// The named constants are the limit of all lengths, the octets that they may need, and the identifier octets of X.690 8.1.2 for these types.
 pub fn constants_have_their_numbers()
+    // The limits of a length.
     ensures limit { MAX_CONTENT ≡ 1048576 }
     ensures octets { MAX_LENGTH_OCTETS ≡ 3 }
+    // The identifier octets.
     ensures sequence { SEQUENCE ≡ 0x30 }
     ensures integer { INTEGER ≡ 0x02 }
     ensures octet_string { OCTET_STRING ≡ 0x04 }

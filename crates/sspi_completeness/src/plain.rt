@@ -29,6 +29,7 @@ pub fn delegate_plainly<C: CredentialsProxy, L: Link, D: Kdc>(
     turns: u32,
     transcript: &mut Transcript,
 ) -> Result<Delegation, DelegateError>
+    // What `delegate` promises.
     ensures delegates { IsFresh client.old server.old transcript.old.turns → Delegates (either 0 ntlm_meaning kerberos_meaning)
         (around_by C.meaning L.log L.edits L.faults D.told D.asked D.faults)
         (parties client.old server.old link.old kdc.old transcript.old.turns) turns result
@@ -40,9 +41,11 @@ pub fn delegate_plainly<C: CredentialsProxy, L: Link, D: Kdc>(
     ensures stays { Stays (around_by C.meaning L.log L.edits L.faults D.told D.asked D.faults)
         (parties client.old server.old link.old kdc.old transcript.old.turns) turns result
         (parties client.new server.new link.new kdc.new transcript.new.turns) }
+    // How many messages are too few.
     ensures three { IsPlainServer server.old.settings.mode → IsFresh client.old server.old transcript.old.turns →
         IfOk result (λ delegation. 3 ≤ delegation.turns) }
     ensures few { IsPlainServer server.old.settings.mode → IsFresh client.old server.old transcript.old.turns → turns < 3 → IsErr result }
+    // To what ends that match come.
     ensures comes { (matching : AreMatching C.meaning (D.told kdc.old) (D.asked kdc.old) client.old server.old) →
         IsFresh client.old server.old transcript.old.turns →
         IsUndisturbed (L.edits link.old) (L.log link.old) (L.log link.new) (L.faults link.old) (L.faults link.new) →

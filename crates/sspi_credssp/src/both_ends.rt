@@ -23,10 +23,12 @@ pub fn adopt<N: Mechanism, K: Mechanism>(
     place: &mut Option<SspiContext<N, K>>,
     handle: &mut Option<CredentialsBuffers>,
 ) -> Result<(), Error>
+    // What `Ok` holds, and that nothing was used.
     ensures acquired { let c = either N.REQUESTS N.meaning K.meaning in OnOk result (IfContext place.new
         (c.acquires context purpose (option_copied credentials.entry) handle.new)) }
     ensures unused { let c = either N.REQUESTS N.meaning K.meaning in IsUnused (c.counts context) →
         OnOk result (IsUnusedIn c place.new) }
+    // What a refusal says, and what it leaves.
     ensures err { OnErr result ((place.new ≡ place.old) × (handle.new ≡ handle.old)) }
     ensures plain { IfErr result (λ error. error.nstatus ≡ None) }
     ensures cause { IfErr result (λ error. error.error_type ≢ ErrorKind.InsufficientMemory →

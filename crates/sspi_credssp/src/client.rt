@@ -254,8 +254,10 @@ impl<N: Mechanism, K: Mechanism> CredSspClient<N, K> {
 
     // The turn, once the request's code and version were looked at.
     fn take(&mut self, request: TsRequest) -> Result<Progress, Error>
+        // What must hold before.
         requires acts { self.old.acts ≡ no_acts }
         requires begun { IsSome self.old.context }
+        // The turn, and the step in it.
         ensures turn { let c = either N.REQUESTS N.meaning K.meaning in (start : ClientView (SspiContext N K)) (d : TsRequest) →
             request ≡ record d { version = self.old.settings.version } → IsReady c start d self.old → self.old.output ≡ [] →
             ClientGoes c start d result self.new }
@@ -264,9 +266,11 @@ impl<N: Mechanism, K: Mechanism> CredSspClient<N, K> {
             IfContext self.old.context (Begun c start.context start.handle (ForClient start.settings.mode) purposes.Outbound
             (Some start.settings.credentials) self.old.handle) →
             HasStepped c start d 0 [] result self.new }
+        // What a refusal says.
         ensures cause { IfErr result (λ error. error.error_type ≢ ErrorKind.InsufficientMemory →
             StateCause (either N.REQUESTS N.meaning K.meaning) self.old.state request self.new error.error_type) }
         ensures plain { IfErr result (λ error. error.nstatus ≡ None) }
+        // What is so afterwards.
         ensures begun { IsSome self.new.context }
     {
         match self.state {
@@ -279,6 +283,7 @@ impl<N: Mechanism, K: Mechanism> CredSspClient<N, K> {
     }
 
     fn begin(&mut self, version: u32) -> Result<(), Error>
+        // What `Ok` holds, and what alone may change.
         ensures frame { self.new ≡ record self.old { context = self.new.context; handle = self.new.handle; noted = self.new.noted } }
         ensures ready { let c = either N.REQUESTS N.meaning K.meaning in
             OnOk result ((start : ClientView (SspiContext N K)) (d : TsRequest) →
@@ -287,8 +292,10 @@ impl<N: Mechanism, K: Mechanism> CredSspClient<N, K> {
         ensures begun { let c = either N.REQUESTS N.meaning K.meaning in OnOk result (IfContext self.new.context
             (Begun c self.old.context self.old.handle (ForClient self.old.settings.mode) purposes.Outbound
             (Some self.old.settings.credentials) self.new.handle)) }
+        // What a refusal leaves.
         ensures err { OnErr result (self.new ≡ self.old) }
         ensures noted { OnErr result (self.new.noted ≡ noted_in self.old.context self.old.settings.least self.old.noted version) }
+        // How the version was looked at, and what a refusal says.
         ensures passed { OnOk result (IsSome self.new.context × (is_altered_in self.old.context self.old.noted version ≡ false)
             × (is_old_in self.old.context self.old.settings.least self.old.noted version ≡ false)) }
         ensures cause { let c = either N.REQUESTS N.meaning K.meaning in
@@ -311,13 +318,16 @@ impl<N: Mechanism, K: Mechanism> CredSspClient<N, K> {
 
     // The context and the credentials that it acquires are kept only together.
     fn make_context(&mut self) -> Result<(), Error>
+        // What must hold before.
         requires { self.old.context ≡ None }
+        // What `Ok` holds, and what alone may change.
         ensures frame { self.new ≡ record self.old { context = self.new.context; handle = self.new.handle } }
         ensures begun { let c = either N.REQUESTS N.meaning K.meaning in OnOk result (IfContext self.new.context
             (Begun c self.old.context self.old.handle (ForClient self.old.settings.mode) purposes.Outbound
             (Some self.old.settings.credentials) self.new.handle)) }
         ensures made { OnOk result (IsSome self.new.context) }
         ensures unused { OnOk result (IsUnusedIn (either N.REQUESTS N.meaning K.meaning) self.new.context) }
+        // What a refusal says, and what it leaves.
         ensures err { OnErr result (self.new ≡ self.old) }
         ensures fresh { (self.old.noted ≡ None) × (self.old.state ≡ CredSspState.NegoToken) }
         ensures cause { let c = either N.REQUESTS N.meaning K.meaning in

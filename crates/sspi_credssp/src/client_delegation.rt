@@ -30,6 +30,7 @@ fn seal_credentials<N: Mechanism, K: Mechanism>(
     credentials: &Credentials,
     mode: CredSspMode,
 ) -> Result<Bytes, Error>
+    // What `Ok` holds.
     ensures blob { let c = either N.REQUESTS N.meaning K.meaning in IfOk result (λ blob. IfText (delegated_text credentials.now mode)
         (λ text. c.seals context.new ((c.counts context.new).sealed - 1) text blob)) }
     ensures acts { OnOk result (acts.new ≡ record acts.old { sealed = true }) }
@@ -37,6 +38,7 @@ fn seal_credentials<N: Mechanism, K: Mechanism>(
         OnOk result (context.new ≡ c.counted context.old (one_sealed (c.counts context.old))) }
     ensures count { let c = either N.REQUESTS N.meaning K.meaning in
         OnOk result (c.counts context.new ≡ one_sealed (c.counts context.old)) }
+    // What a refusal says, and what it leaves.
     ensures err { OnErr result (context.new ≡ context.old) }
     ensures err_acts { OnErr result (acts.new ≡ acts.old) }
     ensures plain { IfErr result (λ error. error.nstatus ≡ None) }
@@ -60,14 +62,18 @@ fn deliver<N: Mechanism, K: Mechanism>(
     credentials: &Credentials,
     mode: CredSspMode,
 ) -> Result<Bytes, Error>
+    // What must hold before.
     requires checked { acts.old.checked ≡ false }
     requires sealed { acts.old.sealed ≡ false }
+    // What holds of every answer.
     ensures exchanges { Exchanges (either N.REQUESTS N.meaning K.meaning) context.old blob.now proof.now context.new
         acts.new.checked acts.new.sealed }
     ensures acts { acts.new ≡ record acts.old { checked = acts.new.checked; sealed = acts.new.sealed } }
+    // What `Ok` holds.
     ensures ok { OnOk result (acts.new ≡ record acts.old { checked = true; sealed = true }) }
     ensures blob { let c = either N.REQUESTS N.meaning K.meaning in IfOk result (λ blob. IfText (delegated_text credentials.now mode)
         (λ text. c.seals context.new ((c.counts context.new).sealed - 1) text blob)) }
+    // What a refusal says.
     ensures plain { IfErr result (λ error. error.nstatus ≡ None) }
     ensures cause { IfErr result (λ error. error.error_type ≢ ErrorKind.InsufficientMemory →
         ProofCause (either N.REQUESTS N.meaning K.meaning) acts.new.checked context.new blob.now proof.now
@@ -86,17 +92,21 @@ impl<N: Mechanism, K: Mechanism> CredSspClient<N, K> {
     ghost use Rattle.sspi_credssp.specs.ClientTurn.{ClientAnswers, IsReady, ClientDelivers};
 
     pub(crate) fn conclude(&mut self, request: TsRequest) -> Result<ClientState, Error>
+        // What must hold before.
         requires acts { self.old.acts ≡ no_acts }
         requires begun { IsSome self.old.context }
         requires noted { IsSome self.old.noted }
+        // The turn.
         ensures turn { let c = either N.REQUESTS N.meaning K.meaning in (start : ClientView (SspiContext N K)) (d : TsRequest) →
             request ≡ record d { version = self.old.settings.version } → IsReady c start d self.old →
             self.old.state ≡ CredSspState.AuthInfo →
             self.old.output ≡ [] → ClientAnswers c start d result self.new }
         ensures begun { IsSome self.new.context }
+        // What a refusal says.
         ensures cause { IfErr result (λ error. error.error_type ≢ ErrorKind.InsufficientMemory →
             DeliverCause (either N.REQUESTS N.meaning K.meaning) request.pub_key_auth self.new error.error_type) }
         ensures plain { IfErr result (λ error. error.nstatus ≡ None) }
+        // What is so afterwards.
         ensures acts { (self.new.acts.status ≡ None) × (self.new.acts.negotiated ≡ false) }
     {
         let credentials = self.exchange(&request.pub_key_auth)?;
@@ -118,11 +128,14 @@ impl<N: Mechanism, K: Mechanism> CredSspClient<N, K> {
     }
 
     fn exchange(&mut self, pub_key_auth: &Option<Bytes>) -> Result<Bytes, Error>
+        // What must hold before.
         requires acts { self.old.acts ≡ no_acts }
         requires begun { IsSome self.old.context }
         requires noted { IsSome self.old.noted }
+        // What holds of every answer.
         ensures delivers { ClientDelivers (either N.REQUESTS N.meaning K.meaning) self.old pub_key_auth.now result self.new }
         ensures begun { IsSome self.new.context }
+        // What a refusal says.
         ensures cause { IfErr result (λ error. error.error_type ≢ ErrorKind.InsufficientMemory →
             DeliverCause (either N.REQUESTS N.meaning K.meaning) pub_key_auth.now self.new error.error_type) }
         ensures plain { IfErr result (λ error. error.nstatus ≡ None) }

@@ -63,8 +63,10 @@ impl<N: Mechanism, K: Mechanism> CredSspClient<N, K> {
     ghost use Rattle.sspi_credssp.specs.ClientTurn.{ClientGoes, ClientAnswers, IsReady, ClientProves};
 
     pub(crate) fn negotiate(&mut self, request: TsRequest) -> Result<Progress, Error>
+        // What must hold before.
         requires acts { self.old.acts ≡ no_acts }
         requires begun { IsSome self.old.context }
+        // The turn, and the step in it.
         ensures turn { let c = either N.REQUESTS N.meaning K.meaning in (start : ClientView (SspiContext N K)) (d : TsRequest) →
             request ≡ record d { version = self.old.settings.version } → IsReady c start d self.old →
             self.old.state ≡ CredSspState.NegoToken →
@@ -74,9 +76,11 @@ impl<N: Mechanism, K: Mechanism> CredSspClient<N, K> {
             IfContext self.old.context (Begun c start.context start.handle (ForClient start.settings.mode) purposes.Outbound
             (Some start.settings.credentials) self.old.handle) →
             HasStepped c start d 0 [] result self.new }
+        // What a refusal says.
         ensures cause { IfErr result (λ error. error.error_type ≢ ErrorKind.InsufficientMemory →
             NegoCause (either N.REQUESTS N.meaning K.meaning) self.new.acts.status self.new error.error_type) }
         ensures plain { IfErr result (λ error. error.nstatus ≡ None) }
+        // What is so afterwards.
         ensures begun { IsSome self.new.context }
     {
         self.acts.negotiated = true;
@@ -97,8 +101,10 @@ impl<N: Mechanism, K: Mechanism> CredSspClient<N, K> {
         reply: &Reply,
         request: TsRequest,
     ) -> Result<Progress, Error>
+        // What must hold before.
         requires acts { self.old.acts ≡ no_acts }
         requires begun { IsSome self.old.context }
+        // The turn, and the step in it.
         ensures on { HasGoneOn (either N.REQUESTS N.meaning K.meaning) self.old self.new }
         ensures turn { let c = either N.REQUESTS N.meaning K.meaning in (start : ClientView (SspiContext N K)) (d : TsRequest) →
             request ≡ record d { version = self.old.settings.version } → IsReady c start d self.old →
@@ -108,6 +114,7 @@ impl<N: Mechanism, K: Mechanism> CredSspClient<N, K> {
             (tries : ℕ) (log : List Asked) (q : NetworkRequest) →
             StepsTo c start d tries log (answers.Ask q) self.old →
             HasStepped c start d tries (record { question = q; reply = reply.now } ∷ log) result self.new }
+        // What a step that did not end leaves.
         ensures still { let c = either N.REQUESTS N.meaning K.meaning in (start : ClientView (SspiContext N K)) (d : TsRequest)
             (tries : ℕ) (log : List Asked) (q : NetworkRequest) →
             request ≡ record d { version = self.old.settings.version } → IsReady c start d self.old →
@@ -117,6 +124,7 @@ impl<N: Mechanism, K: Mechanism> CredSspClient<N, K> {
             Awaits c start d (tries + 1) (record { question = q; reply = reply.now } ∷ log) q self.new) }
         ensures falls { let c = either N.REQUESTS N.meaning K.meaning in
             OnSuspended result (left_in c self.new.context < left_in c self.old.context) }
+        // What a refusal says.
         ensures cause { IsRefusedBy result (NegoCause (either N.REQUESTS N.meaning K.meaning) self.new.acts.status self.new) }
     {
         self.acts.negotiated = true;
@@ -134,8 +142,10 @@ impl<N: Mechanism, K: Mechanism> CredSspClient<N, K> {
         progress: Result<Progressing, Error>,
         request: TsRequest,
     ) -> Result<Progress, Error>
+        // What must hold before.
         requires done { HasDone (record no_acts { negotiated = true }) self.old }
         requires plain { IfErr progress (λ error. error.nstatus ≡ None) }
+        // The turn, and the step in it.
         ensures on { HasGoneOn (either N.REQUESTS N.meaning K.meaning) self.old self.new }
         ensures turn { let c = either N.REQUESTS N.meaning K.meaning in (start : ClientView (SspiContext N K)) (d : TsRequest) →
             request ≡ record d { version = self.old.settings.version } → IsReady c start d self.old →
@@ -145,11 +155,13 @@ impl<N: Mechanism, K: Mechanism> CredSspClient<N, K> {
         ensures step { let c = either N.REQUESTS N.meaning K.meaning in
             (start : ClientView (SspiContext N K)) (d : TsRequest) (tries : ℕ) (log : List Asked) →
             StepsTo c start d tries log (answer_of progress) self.old → HasStepped c start d tries log result self.new }
+        // What a step that did not end leaves.
         ensures still { OnErr result (self.new.acts.status ≡ None →
             KeepsRequest (either N.REQUESTS N.meaning K.meaning) self.old progress request self.new) }
         ensures falls { let c = either N.REQUESTS N.meaning K.meaning in (n : ℕ) →
             OnAsk (answer_of progress) (left_in c self.old.context < n) →
             OnSuspended result (left_in c self.new.context < n) }
+        // What a refusal says.
         ensures cause { IsRefusedBy result (NegoCause (either N.REQUESTS N.meaning K.meaning) self.new.acts.status self.new) }
     {
         match progress {
@@ -176,13 +188,16 @@ impl<N: Mechanism, K: Mechanism> CredSspClient<N, K> {
         output: Bytes,
         request: TsRequest,
     ) -> Result<ClientState, Error>
+        // What must hold before.
         requires acts { self.old.acts ≡ record no_acts { negotiated = true } }
         requires begun { IsSome self.old.context }
+        // The turn, and the step in it.
         ensures turn { let c = either N.REQUESTS N.meaning K.meaning in (start : ClientView (SspiContext N K)) (d : TsRequest) →
             request ≡ record d { version = self.old.settings.version } → IsReady c start d self.old →
             self.old.state ≡ CredSspState.NegoToken →
             ClientAnswers c start d result self.new }
         ensures step { KeepsStep (either N.REQUESTS N.meaning K.meaning) self.old status output self.new }
+        // What a refusal says.
         ensures cause { IsRefusedBy result (NegoCause (either N.REQUESTS N.meaning K.meaning) self.new.acts.status self.new) }
     {
         self.acts.status = Some(status);
@@ -196,13 +211,16 @@ impl<N: Mechanism, K: Mechanism> CredSspClient<N, K> {
 
     // The authentication has ended: the client's proof goes with the last token, if there is one.
     fn prove(&mut self, request: TsRequest) -> Result<ClientState, Error>
+        // What must hold before.
         requires acts { self.old.acts ≡ record no_acts { negotiated = true; status = Some SecurityStatus.Ok } }
         requires begun { IsSome self.old.context }
+        // The turn, and the step in it.
         ensures turn { let c = either N.REQUESTS N.meaning K.meaning in (start : ClientView (SspiContext N K)) (d : TsRequest) →
             request ≡ record d { version = self.old.settings.version } → IsReady c start d self.old →
             self.old.state ≡ CredSspState.NegoToken →
             ClientAnswers c start d result self.new }
         ensures step { KeepsStep (either N.REQUESTS N.meaning K.meaning) self.old SecurityStatus.Ok self.old.output self.new }
+        // What a refusal says.
         ensures cause { IsRefusedBy result (ProveCause (either N.REQUESTS N.meaning K.meaning) self.new.noted self.new.context self.new) }
     {
         let tokens = copy_token(self.alloc, &self.output)?;
@@ -212,10 +230,13 @@ impl<N: Mechanism, K: Mechanism> CredSspClient<N, K> {
     }
 
     fn seal_proof(&mut self) -> Result<Bytes, Error>
+        // What must hold before.
         requires proved { self.old.acts.proved ≡ false }
         requires begun { IsSome self.old.context }
+        // What holds of every answer.
         ensures proves { ClientProves (either N.REQUESTS N.meaning K.meaning) self.old result self.new }
         ensures moved { SameBut (either N.REQUESTS N.meaning K.meaning) self.old.context self.new.context }
+        // What a refusal says.
         ensures cause { IfErr result (λ error. error.error_type ≢ ErrorKind.InsufficientMemory →
             ProveCause (either N.REQUESTS N.meaning K.meaning) self.new.noted self.new.context self.new error.error_type) }
         ensures plain { IfErr result (λ error. error.nstatus ≡ None) }

@@ -214,8 +214,10 @@ impl<N: Mechanism, K: Mechanism> SspiContext<N, K> {
     /// Tells a server which identity its peer may have. `IncompleteCredentials` exactly for a keytab with NTLM in hand, also
     /// where it was negotiated; else as `custom_set_auth_identities` of this one. Refused, the context is as it was.
     pub fn custom_set_auth_identity(&mut self, identity: Credentials) -> Result<(), Error>
+        // What `Ok` holds, and that the counts stay.
         ensures identified { OnOk result ((either N.REQUESTS N.meaning K.meaning).identifies self.old (identity ∷ []) self.new) }
         ensures count { (either N.REQUESTS N.meaning K.meaning).counts self.new ≡ (either N.REQUESTS N.meaning K.meaning).counts self.old }
+        // What a refusal says, and what it leaves.
         ensures err { OnErr result (self.new ≡ self.old) }
         ensures plain { IfErr result (λ error. error.nstatus ≡ None) }
         ensures keytab { is_refused_identity (protocol_of self.old) identity ≡ true →
@@ -275,6 +277,7 @@ impl<N: Mechanism, K: Mechanism> SspiContext<N, K> {
     ///
     /// `OutOfSequence` before there is a key, `ContextExpired` once all numbers of messages are used.
     pub fn seal(&mut self, text: &[u8]) -> Result<Vec<u8>, Error>
+        // What `Ok` holds.
         ensures blob { let c = either N.REQUESTS N.meaning K.meaning in
             IfOk result (λ blob. c.seals self.new (c.counts self.old).sealed text.now blob.items) }
         ensures last { let c = either N.REQUESTS N.meaning K.meaning in
@@ -283,6 +286,7 @@ impl<N: Mechanism, K: Mechanism> SspiContext<N, K> {
             OnOk result (self.new ≡ c.counted self.old (one_sealed (c.counts self.old))) }
         ensures count { let c = either N.REQUESTS N.meaning K.meaning in OnOk result (c.counts self.new ≡ one_sealed (c.counts self.old)) }
         ensures permitted { OnOk result ((either N.REQUESTS N.meaning K.meaning).permits self.old (ToSeal text.now)) }
+        // What a refusal says, and what it leaves.
         ensures err { OnErr result (self.new ≡ self.old) }
         ensures cause { IsRefusedBy result ((either N.REQUESTS N.meaning K.meaning).refuses self.new (ToSeal text.now)) }
     {
@@ -298,6 +302,7 @@ impl<N: Mechanism, K: Mechanism> SspiContext<N, K> {
     /// `OutOfSequence` before there is a key, `ContextExpired` once all numbers of messages are used, `InvalidToken` for a
     /// blob of under 16 bytes, and `MessageAltered` for one that the peer did not seal as this message.
     pub fn unseal(&mut self, blob: &[u8]) -> Result<Vec<u8>, Error>
+        // What `Ok` holds.
         ensures text { let c = either N.REQUESTS N.meaning K.meaning in
             IfOk result (λ text. c.opens self.new (c.counts self.old).unsealed blob.now text.items) }
         ensures last { let c = either N.REQUESTS N.meaning K.meaning in
@@ -307,6 +312,7 @@ impl<N: Mechanism, K: Mechanism> SspiContext<N, K> {
         ensures count { let c = either N.REQUESTS N.meaning K.meaning in
             OnOk result (c.counts self.new ≡ one_unsealed (c.counts self.old)) }
         ensures permitted { OnOk result ((either N.REQUESTS N.meaning K.meaning).permits self.old (ToUnseal blob.now)) }
+        // What a refusal says, and what it leaves.
         ensures err { OnErr result (self.new ≡ self.old) }
         ensures cause { IsRefusedBy result ((either N.REQUESTS N.meaning K.meaning).refuses self.new (ToUnseal blob.now)) }
     {

@@ -116,9 +116,11 @@ impl<N: Mechanism, K: Mechanism> SspiContext<N, K> {
         message: &mut [SecurityBuffer],
         _sequence_number: u32,
     ) -> Result<u32, Error>
+        // What `Ok` holds.
         ensures zero { IfOk result (λ answer. answer ≡ 0) }
         ensures verified { IfOk result (λ answer.
             Verifies (protecting (either N.REQUESTS N.meaning K.meaning)) self.old message.old self.new) }
+        // What a refusal says, and what it leaves.
         ensures refused { IfErr result (λ error.
             Refuses (protecting (either N.REQUESTS N.meaning K.meaning)) (to_verify message.old) self.old error self.new) }
         ensures exact { IfErr result (λ error. IsRefusal (protecting (either N.REQUESTS N.meaning K.meaning)) self.old

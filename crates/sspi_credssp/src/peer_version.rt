@@ -9,11 +9,14 @@ pub const DEFAULT_LEAST_VERSION: u32 = 5;
 
 // Notes the version of the peer's first request, and wants each later request to have it.
 pub fn note_version(peer_version: &mut Option<u32>, least: u32, version: u32) -> Result<(), Error>
+    // What is noted.
     ensures noted { peer_version.new ≡ noted_with least peer_version.old version }
     ensures ok { OnOk result (peer_version.new ≡ Some version) }
     ensures err { OnErr result (peer_version.new ≡ peer_version.old) }
+    // What `Ok` tells of the version.
     ensures young { OnOk result (is_old least peer_version.old version ≡ false) }
     ensures passed { OnOk result (differs peer_version.old version ≡ false) }
+    // What a refusal says.
     ensures cause { IfErr result (λ error. VersionStops least peer_version.old version error.error_type ⊥) }
     ensures plain { IfErr result (λ error. error.nstatus ≡ None) }
 {

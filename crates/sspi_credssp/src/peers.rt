@@ -16,9 +16,11 @@ pub(crate) fn list_peers<C: CredentialsProxy>(
     mode: &ServerMode,
     proxy: &mut C,
 ) -> Result<Vec<AuthIdentity>, Error>
+    // What `Ok` holds, and what the proxy was asked.
     ensures listed { IfOk result (λ known. IsListed mode.now (C.meaning.told proxy.old).entries known.items) }
     ensures proxy { IsAsked C.meaning (list_calls mode.now) proxy.old proxy.new }
     ensures asked { OnOk result (HasAsked C.meaning (list_calls mode.now) proxy.old proxy.new) }
+    // What a refusal says.
     ensures plain { IfErr result (λ error. error.nstatus ≡ None) }
     ensures cause { IfErr result (λ error. error.error_type ≢ ErrorKind.InsufficientMemory →
         ListRefused mode.now (C.meaning.faults proxy.old) (C.meaning.faults proxy.new) error.error_type) }
@@ -30,9 +32,11 @@ pub(crate) fn list_peers<C: CredentialsProxy>(
 }
 
 fn list_all<C: CredentialsProxy>(proxy: &mut C) -> Result<Vec<AuthIdentity>, Error>
+    // What `Ok` holds, and what the proxy was asked.
     ensures listed { IfOk result (λ known. IsTold (C.meaning.told proxy.old).entries known.items) }
     ensures proxy { IsAsked C.meaning 1 proxy.old proxy.new }
     ensures asked { OnOk result (HasAsked C.meaning 1 proxy.old proxy.new) }
+    // What a refusal says.
     ensures plain { IfErr result (λ error. error.nstatus ≡ None) }
     ensures risen { IfErr result (λ error. error.error_type ≢ ErrorKind.InsufficientMemory →
         counted_on (C.meaning.faults proxy.old) ≤ C.meaning.faults proxy.new) }

@@ -52,8 +52,10 @@ pub fn opens_to<N: Mechanism, K: Mechanism>(
     blob: &[u8],
     proof: &[u8],
 ) -> Result<bool, Error>
+    // What `Ok` holds.
     ensures opened { IfOk result (HasOpened (either N.REQUESTS N.meaning K.meaning)
         context.old context.new acts.old acts.new blob.now proof.now) }
+    // What a refusal says, and what it leaves.
     ensures err { OnErr result (context.new ≡ context.old) }
     ensures err_acts { OnErr result (acts.new ≡ acts.old) }
     ensures plain { IfErr result (λ error. error.nstatus ≡ None) }
@@ -71,6 +73,7 @@ pub fn seal_proof<N: Mechanism, K: Mechanism>(
     acts: &mut Acts,
     proof: &[u8],
 ) -> Result<Bytes, Error>
+    // What `Ok` holds.
     ensures blob { let c = either N.REQUESTS N.meaning K.meaning in IfOk result (λ blob.
         c.seals context.new ((c.counts context.new).sealed - 1) proof.now blob) }
     ensures acts { OnOk result (acts.new ≡ record acts.old { proved = true }) }
@@ -78,6 +81,7 @@ pub fn seal_proof<N: Mechanism, K: Mechanism>(
         OnOk result (context.new ≡ c.counted context.old (one_sealed (c.counts context.old))) }
     ensures count { let c = either N.REQUESTS N.meaning K.meaning in
         OnOk result (c.counts context.new ≡ one_sealed (c.counts context.old)) }
+    // What a refusal says, and what it leaves.
     ensures err { OnErr result (context.new ≡ context.old) }
     ensures err_acts { OnErr result (acts.new ≡ acts.old) }
     ensures plain { IfErr result (λ error. error.nstatus ≡ None) }

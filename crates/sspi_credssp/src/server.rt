@@ -186,6 +186,7 @@ impl<N: Mechanism, K: Mechanism, C: CredentialsProxy> CredSspServer<N, K, C> {
     }
 
     fn begin(&mut self, version: u32) -> Result<(), Error>
+        // What `Ok` holds, and what alone may change.
         ensures frame { self.new ≡ record self.old {
           proxy = self.new.proxy;
           context = self.new.context;
@@ -198,12 +199,14 @@ impl<N: Mechanism, K: Mechanism, C: CredentialsProxy> CredSspServer<N, K, C> {
         ensures made { MakesContext (either N.REQUESTS N.meaning K.meaning) C.meaning self.old self.new }
         ensures passed { OnOk result (IsSome self.new.context × (differs self.old.noted version ≡ false)
             × (is_old self.old.settings.least self.old.noted version ≡ false) × IsSome self.new.noted) }
+        // What a refusal says, and what it leaves.
         ensures refused { OnErr result (BeginRefused (either N.REQUESTS N.meaning K.meaning) self.old version self.new
             × (self.new ≡ record self.old { proxy = self.new.proxy; context = self.new.context; handle = self.new.handle })) }
         ensures looked { LooksAt version self.old result self.new }
         ensures cause { let c = either N.REQUESTS N.meaning K.meaning in IsRefusedBy result (λ kind.
             MadeOr self.old.context self.new.context (MakeCause c C.meaning self.old.settings.mode self.old.proxy self.new.proxy kind)
             (VersionStops self.old.settings.least self.old.noted version kind ⊥)) }
+        // What the proxy was asked.
         ensures proxy { Asks C.meaning (lists_in self.old.context self.old.settings.mode) result self.old.proxy self.new.proxy }
     {
         match &self.context {
@@ -217,15 +220,19 @@ impl<N: Mechanism, K: Mechanism, C: CredentialsProxy> CredSspServer<N, K, C> {
 
     // The context and the credentials that it acquires are kept only together. A negotiation is made with the proxy's list.
     fn make_context(&mut self) -> Result<(), Error>
+        // What must hold before.
         requires { self.old.context ≡ None }
+        // What `Ok` holds, and what alone may change.
         ensures frame { self.new ≡ record self.old { proxy = self.new.proxy; context = self.new.context; handle = self.new.handle } }
         ensures begun { let c = either N.REQUESTS N.meaning K.meaning in OnOk result (IfContext self.new.context
             (Begun c self.old.context self.old.handle (server_setting C.meaning self.old) purposes.Inbound None self.new.handle)) }
         ensures made { OnOk result (IsSome self.new.context × IsUnusedIn (either N.REQUESTS N.meaning K.meaning) self.new.context) }
+        // What a refusal says, and what it leaves.
         ensures err { OnErr result (self.new ≡ record self.old { proxy = self.new.proxy }) }
         ensures fresh { (self.old.noted ≡ None) × (self.old.state ≡ CredSspState.NegoToken) }
         ensures cause { let c = either N.REQUESTS N.meaning K.meaning in
             IsRefusedBy result (MakeCause c C.meaning self.old.settings.mode self.old.proxy self.new.proxy) }
+        // What the proxy was asked.
         ensures proxy { Asks C.meaning (list_calls self.old.settings.mode) result self.old.proxy self.new.proxy }
     {
         let known = list_peers(self.alloc, &self.server_mode, &mut self.credentials)?;
@@ -241,18 +248,22 @@ impl<N: Mechanism, K: Mechanism, C: CredentialsProxy> CredSspServer<N, K, C> {
 
     // The turn, once the request's version was looked at.
     fn take(&mut self, request: TsRequest) -> Result<ServerState, ServerError>
+        // What must hold before.
         requires { HasDone no_acts self.old }
+        // The turn, and the step in it.
         ensures turn { let c = either N.REQUESTS N.meaning K.meaning in (start : ServerView (SspiContext N K) C) (d : TsRequest) →
             request ≡ record d { version = self.old.settings.version } → IsReady c start d self.old → self.old.output ≡ [] →
             ServerGoes c start d result self.new }
         ensures step { let c = either N.REQUESTS N.meaning K.meaning in (start : ServerView (SspiContext N K) C) (d : TsRequest) →
             d.nego_tokens ≡ request.nego_tokens → IsAtStep c C.meaning start self.old →
             HasAcceptedTurn c C.meaning start d result self.new }
+        // What a refusal says.
         ensures cause { let c = either N.REQUESTS N.meaning K.meaning in (start : ServerView (SspiContext N K) C) (d : TsRequest) →
             request ≡ record d { version = self.old.settings.version } → IsAtStep c C.meaning start self.old →
             IfErr result (λ refusal. refusal.error.error_type ≢ ErrorKind.InsufficientMemory →
             StateCause c C.meaning self.old.state start d self.new refusal.error.error_type) }
         ensures plain { IfErr result (λ refusal. refusal.error.nstatus ≡ None) }
+        // What is so afterwards, and what the proxy was asked.
         ensures begun { IsSome self.new.context }
         ensures negotiated { self.old.state ≡ CredSspState.NegoToken → self.new.acts.negotiated ≡ true }
         ensures proxy { Asks C.meaning (look_ups_at self.new.acts.status) result self.old.proxy self.new.proxy }

@@ -27,9 +27,11 @@ use std::alloc::Global;
 
 // The nonce that the proofs are made with, which must be there from version 5 on.
 fn nonce_for(version: u32, nonce: &Option<[u8; 32]>) -> Result<&[u8], Error>
+    // What `Ok` holds.
     ensures ok { IfOk result (λ bytes. bytes.now ≡ nonce_of nonce.now) }
     ensures there { OnOk result (HasNonce (nat_lt version 5) nonce.now) }
     ensures passed { OnOk result (lacks_nonce (nat_lt version 5) nonce.now ≡ false) }
+    // What a refusal says.
     ensures lacking { OnErr result (lacks_nonce (nat_lt version 5) nonce.now ≡ true) }
     ensures kind { IfErr result (λ error. error.error_type ≡ ErrorKind.InvalidToken) }
     ensures plain { IfErr result (λ error. error.nstatus ≡ None) }
@@ -50,14 +52,18 @@ fn answer_proof<N: Mechanism, K: Mechanism>(
     proof: &[u8],
     version: u32,
 ) -> Result<Bytes, Error>
+    // What must hold before.
     requires checked { acts.old.checked ≡ false }
     requires proved { acts.old.proved ≡ false }
+    // What holds of every answer.
     ensures exchanges { Exchanges (either N.REQUESTS N.meaning K.meaning) context.old blob.now expected.now context.new
         acts.new.checked acts.new.proved }
     ensures acts { acts.new ≡ record acts.old { checked = acts.new.checked; proved = acts.new.proved } }
+    // What `Ok` holds.
     ensures ok { OnOk result (acts.new ≡ record acts.old { checked = true; proved = true }) }
     ensures blob { let c = either N.REQUESTS N.meaning K.meaning in IfOk result (λ answer.
         c.seals context.new ((c.counts context.new).sealed - 1) proof.now answer) }
+    // What a refusal says.
     ensures plain { IfErr result (λ error. error.nstatus ≡ None) }
     ensures cause { IfErr result (λ error. error.error_type ≢ ErrorKind.InsufficientMemory →
         ProofCause (either N.REQUESTS N.meaning K.meaning) acts.new.checked context.new blob.now expected.now
@@ -76,10 +82,14 @@ fn open_credentials<N: Mechanism, K: Mechanism>(
     acts: &mut Acts,
     blob: &[u8],
 ) -> Result<AuthIdentity, Error>
+    // What must hold before.
     requires { acts.old.opened ≡ false }
+    // What holds of every answer.
     ensures opens { Opens (either N.REQUESTS N.meaning K.meaning) context.old context.new acts.old acts.new }
+    // What `Ok` holds.
     ensures ok { OnOk result (acts.new.opened ≡ true) }
     ensures gives { IfOk result (λ identity. OpensIdentity (either N.REQUESTS N.meaning K.meaning) context.new blob.now identity) }
+    // What a refusal says.
     ensures plain { IfErr result (λ error. error.nstatus ≡ None) }
     ensures cause { IfErr result (λ error. error.error_type ≢ ErrorKind.InsufficientMemory →
         OpenedCause (either N.REQUESTS N.meaning K.meaning) acts.new.opened (Some context.new) blob.now error.error_type) }
@@ -95,17 +105,21 @@ impl<N: Mechanism, K: Mechanism, C: CredentialsProxy> CredSspServer<N, K, C> {
     ghost use Rattle.sspi_credssp.specs.ServerTurn.{ServerGoes, ServerExchanges, ServerOpens, IsReady};
 
     pub(crate) fn prove(&mut self, request: TsRequest) -> Result<ServerState, ServerError>
+        // What must hold before.
         requires acts { self.old.acts ≡ no_acts }
         requires begun { IsSome self.old.context }
         requires noted { IsSome self.old.noted }
+        // The turn.
         ensures turn { let c = either N.REQUESTS N.meaning K.meaning in (start : ServerView (SspiContext N K) C) (d : TsRequest) →
             request ≡ record d { version = self.old.settings.version } → IsReady c start d self.old →
             self.old.state ≡ CredSspState.PubKeyInfo →
             self.old.output ≡ [] → ServerGoes c start d result self.new }
+        // What a refusal says.
         ensures cause { IfErr result (λ refusal. refusal.error.error_type ≢ ErrorKind.InsufficientMemory →
             ExchangeCause (either N.REQUESTS N.meaning K.meaning) request.pub_key_auth self.new.noted
             request.client_nonce self.new refusal.error.error_type) }
         ensures plain { IfErr result (λ refusal. refusal.error.nstatus ≡ None) }
+        // What is so afterwards.
         ensures acts { (self.new.acts.status ≡ None) × (self.new.acts.negotiated ≡ false) }
         ensures kept { IsSome self.new.context × (self.new.proxy ≡ self.old.proxy) }
     {
@@ -119,17 +133,21 @@ impl<N: Mechanism, K: Mechanism, C: CredentialsProxy> CredSspServer<N, K, C> {
     }
 
     pub(crate) fn finish(&mut self, request: TsRequest) -> Result<ServerState, ServerError>
+        // What must hold before.
         requires acts { self.old.acts ≡ no_acts }
         requires begun { IsSome self.old.context }
+        // The turn.
         ensures turn { let c = either N.REQUESTS N.meaning K.meaning in (start : ServerView (SspiContext N K) C) (d : TsRequest) →
             request ≡ record d { version = self.old.settings.version } → IsReady c start d self.old →
             self.old.state ≡ CredSspState.AuthInfo →
             self.old.output ≡ [] → ServerGoes c start d result self.new }
+        // What a refusal says.
         ensures cause { let c = either N.REQUESTS N.meaning K.meaning in
             IfErr result (λ refusal. refusal.error.error_type ≢ ErrorKind.InsufficientMemory →
             BlobStops request.auth_info refusal.error.error_type
             (λ blob. OpenedCause c self.new.acts.opened self.new.context blob refusal.error.error_type)) }
         ensures plain { IfErr result (λ refusal. refusal.error.nstatus ≡ None) }
+        // What is so afterwards.
         ensures acts { (self.new.acts.status ≡ None) × (self.new.acts.negotiated ≡ false) }
         ensures begun { IsSome self.new.context }
         ensures proxy { self.new.proxy ≡ self.old.proxy }
@@ -144,13 +162,17 @@ impl<N: Mechanism, K: Mechanism, C: CredentialsProxy> CredSspServer<N, K, C> {
     }
 
     fn open(&mut self, auth_info: &Option<Bytes>) -> Result<AuthIdentity, Error>
+        // What must hold before.
         requires acts { self.old.acts ≡ no_acts }
         requires begun { IsSome self.old.context }
+        // What holds of every answer.
         ensures opens { ServerOpens (either N.REQUESTS N.meaning K.meaning) self.old auth_info.now result self.new }
+        // What a refusal says.
         ensures cause { let c = either N.REQUESTS N.meaning K.meaning in
             IfErr result (λ error. error.error_type ≢ ErrorKind.InsufficientMemory →
             BlobStops auth_info.now error.error_type (λ blob. OpenedCause c self.new.acts.opened self.new.context blob error.error_type)) }
         ensures plain { IfErr result (λ error. error.nstatus ≡ None) }
+        // What is so afterwards.
         ensures begun { IsSome self.new.context }
     {
         let blob = sealed_blob(auth_info, Reason::NoAuthInfo)?;
@@ -162,15 +184,19 @@ impl<N: Mechanism, K: Mechanism, C: CredentialsProxy> CredSspServer<N, K, C> {
 
     // Checks the client's proof and seals the server's.
     pub(crate) fn exchange(&mut self, request: &TsRequest) -> Result<Bytes, Error>
+        // What must hold before.
         requires checked { self.old.acts.checked ≡ false }
         requires proved { self.old.acts.proved ≡ false }
         requires begun { IsSome self.old.context }
         requires noted { IsSome self.old.noted }
+        // What holds of every answer.
         ensures exchanges { ServerExchanges (either N.REQUESTS N.meaning K.meaning) self.old request.now result self.new }
+        // What a refusal says.
         ensures cause { IfErr result (λ error. error.error_type ≢ ErrorKind.InsufficientMemory →
             ExchangeCause (either N.REQUESTS N.meaning K.meaning) request.now.pub_key_auth self.new.noted
             request.now.client_nonce self.new error.error_type) }
         ensures plain { IfErr result (λ error. error.nstatus ≡ None) }
+        // What is so afterwards.
         ensures begun { IsSome self.new.context }
     {
         let Some(version) = self.peer_version else {

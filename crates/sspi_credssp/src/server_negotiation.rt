@@ -82,10 +82,12 @@ fn look_up<C: CredentialsProxy>(
     proxy: &mut C,
     username: &Username,
 ) -> Result<Vec<AuthIdentity>, Error>
+    // What `Ok` holds, and what the proxy was asked.
     ensures found { IfOk result (λ identities. AreFound (C.meaning.told proxy.old) username.now identities.items) }
     ensures some { IfOk result (λ identities. identities.items ≢ []) }
     ensures proxy { IsAsked C.meaning 1 proxy.old proxy.new }
     ensures asked { OnOk result (HasAsked C.meaning 1 proxy.old proxy.new) }
+    // What a refusal says.
     ensures plain { IfErr result (λ error. error.nstatus ≡ None) }
     ensures cause { IfErr result (λ error. error.error_type ≢ ErrorKind.InsufficientMemory →
         LookUpRefused (C.meaning.told proxy.old) username.now (C.meaning.faults proxy.old) (C.meaning.faults proxy.new) error.error_type) }
@@ -101,8 +103,10 @@ fn look_up<C: CredentialsProxy>(
 }
 
 fn some_of(candidates: Vec<AuthIdentity>) -> Result<Vec<AuthIdentity>, Error>
+    // What `Ok` holds.
     ensures ok { IfOk result (λ identities. identities.items ≡ candidates.items) }
     ensures some { IfOk result (λ identities. identities.items ≢ []) }
+    // What a refusal says.
     ensures err { OnErr result (candidates.items ≡ []) }
     ensures kind { IfErr result (λ error. error.error_type ≡ ErrorKind.NoCredentials) }
     ensures plain { IfErr result (λ error. error.nstatus ≡ None) }
@@ -131,12 +135,15 @@ fn identify<N: Mechanism, K: Mechanism, C: CredentialsProxy>(
     context: &mut SspiContext<N, K>,
     proxy: &mut C,
 ) -> Result<(), Error>
+    // What was identified, and what a refusal leaves.
     ensures identified { OnOk result (IsIdentified (either N.REQUESTS N.meaning K.meaning)
         (C.meaning.told proxy.old) context.old context.new) }
     ensures counts { let c = either N.REQUESTS N.meaning K.meaning in c.counts context.new ≡ c.counts context.old }
     ensures err { OnErr result (context.new ≡ context.old) }
+    // What the proxy was asked.
     ensures proxy { IsAsked C.meaning 1 proxy.old proxy.new }
     ensures asked { OnOk result (HasAsked C.meaning 1 proxy.old proxy.new) }
+    // What a refusal says.
     ensures plain { IfErr result (λ error. error.nstatus ≡ None) }
     ensures cause { IfErr result (λ error. error.error_type ≢ ErrorKind.InsufficientMemory →
         IdentifyCause (either N.REQUESTS N.meaning K.meaning)
@@ -158,7 +165,9 @@ impl<N: Mechanism, K: Mechanism, C: CredentialsProxy> CredSspServer<N, K, C> {
     ghost use Rattle.sspi_credssp.specs.ServerTurn.{ServerGoes, Answered, IsReady};
 
     pub(crate) fn negotiate(&mut self, request: TsRequest) -> Result<ServerState, ServerError>
+        // What must hold before.
         requires { HasDone no_acts self.old }
+        // The turn, and the step in it.
         ensures turn { let c = either N.REQUESTS N.meaning K.meaning in (start : ServerView (SspiContext N K) C) (d : TsRequest) →
             request ≡ record d { version = self.old.settings.version } → IsReady c start d self.old →
             self.old.state ≡ CredSspState.NegoToken →
@@ -166,11 +175,13 @@ impl<N: Mechanism, K: Mechanism, C: CredentialsProxy> CredSspServer<N, K, C> {
         ensures step { let c = either N.REQUESTS N.meaning K.meaning in (start : ServerView (SspiContext N K) C) (d : TsRequest) →
             d.nego_tokens ≡ request.nego_tokens → IsAtStep c C.meaning start self.old →
             HasAcceptedTurn c C.meaning start d result self.new }
+        // What a refusal says.
         ensures cause { let c = either N.REQUESTS N.meaning K.meaning in (start : ServerView (SspiContext N K) C) (d : TsRequest) →
             request ≡ record d { version = self.old.settings.version } → IsAtStep c C.meaning start self.old →
             IfErr result (λ refusal. refusal.error.error_type ≢ ErrorKind.InsufficientMemory →
             NegoCause c C.meaning self.new.acts.status start d self.new refusal.error.error_type) }
         ensures plain { IfErr result (λ refusal. refusal.error.nstatus ≡ None) }
+        // What is so afterwards, and what the proxy was asked.
         ensures reached { HasReached self.new.acts.status self.new }
         ensures proxy { Asks C.meaning (look_ups_at self.new.acts.status) result self.old.proxy self.new.proxy }
     {
@@ -181,7 +192,9 @@ impl<N: Mechanism, K: Mechanism, C: CredentialsProxy> CredSspServer<N, K, C> {
     }
 
     fn answer(&mut self, request: &TsRequest) -> Result<Answer, Error>
+        // What must hold before.
         requires { HasDone no_acts self.old }
+        // The turn, and the step in it.
         ensures turn { let c = either N.REQUESTS N.meaning K.meaning in (start : ServerView (SspiContext N K) C) (d : TsRequest) →
             request.now ≡ record d { version = self.old.settings.version } → IsReady c start d self.old →
             self.old.state ≡ CredSspState.NegoToken →
@@ -190,11 +203,13 @@ impl<N: Mechanism, K: Mechanism, C: CredentialsProxy> CredSspServer<N, K, C> {
             d.nego_tokens ≡ request.now.nego_tokens → IsAtStep c C.meaning start self.old →
             HasAccepted c C.meaning start d result self.new }
         ensures kept { (self.new.settings.version ≡ self.old.settings.version) × OnErr result (self.new.state ≡ self.old.state) }
+        // What a refusal says.
         ensures cause { let c = either N.REQUESTS N.meaning K.meaning in (start : ServerView (SspiContext N K) C) (d : TsRequest) →
             request.now ≡ record d { version = self.old.settings.version } → IsAtStep c C.meaning start self.old →
             IfErr result (λ error. error.error_type ≢ ErrorKind.InsufficientMemory →
             NegoCause c C.meaning self.new.acts.status start d self.new error.error_type) }
         ensures plain { IfErr result (λ error. error.nstatus ≡ None) }
+        // What is so afterwards, and what the proxy was asked.
         ensures reached { HasReached self.new.acts.status self.new }
         ensures proxy { Asks C.meaning (look_ups_at self.new.acts.status) result self.old.proxy self.new.proxy }
     {
@@ -209,7 +224,9 @@ impl<N: Mechanism, K: Mechanism, C: CredentialsProxy> CredSspServer<N, K, C> {
     }
 
     fn answer_step(&mut self, status: SecurityStatus, request: &TsRequest) -> Result<Answer, Error>
+        // What must hold before.
         requires { HasDone (record no_acts { negotiated = true; status = Some status }) self.old }
+        // The turn, and the step in it.
         ensures turn { let c = either N.REQUESTS N.meaning K.meaning in (start : ServerView (SspiContext N K) C) (d : TsRequest) →
             request.now ≡ record d { version = self.old.settings.version } → IsReady c start d self.old →
             self.old.state ≡ CredSspState.NegoToken →
@@ -220,12 +237,14 @@ impl<N: Mechanism, K: Mechanism, C: CredentialsProxy> CredSspServer<N, K, C> {
             (Ok (record { status = status; output = self.old.output }))) →
             HasAccepted c C.meaning start d result self.new }
         ensures kept { KeepsStep self.old result self.new }
+        // What a refusal says.
         ensures cause { let c = either N.REQUESTS N.meaning K.meaning in (start : ServerView (SspiContext N K) C) (d : TsRequest) →
             request.now ≡ record d { version = self.old.settings.version } → IsLater C.meaning start.proxy self.old.proxy →
             HasCome c C.meaning Unknown status start d self.old →
             IfErr result (λ error. error.error_type ≢ ErrorKind.InsufficientMemory →
             NegoCause c C.meaning (Some status) start d self.new error.error_type) }
         ensures plain { IfErr result (λ error. error.nstatus ≡ None) }
+        // What is so afterwards, and what the proxy was asked.
         ensures reached { HasReached (Some status) self.new }
         ensures proxy { Asks C.meaning (look_ups_at self.new.acts.status) result self.old.proxy self.new.proxy }
     {
@@ -248,7 +267,9 @@ impl<N: Mechanism, K: Mechanism, C: CredentialsProxy> CredSspServer<N, K, C> {
 
     // The authentication has ended: the peer is looked up and the context completed, and then the client is answered.
     fn complete(&mut self, request: &TsRequest) -> Result<Answer, Error>
+        // What must hold before.
         requires { HasDone (record no_acts { negotiated = true; status = self.old.acts.status }) self.old }
+        // The turn, and the step in it.
         ensures turn { let c = either N.REQUESTS N.meaning K.meaning in (start : ServerView (SspiContext N K) C) (d : TsRequest) →
             request.now ≡ record d { version = self.old.settings.version } → IsReady c start d self.old →
             self.old.state ≡ CredSspState.NegoToken →
@@ -258,8 +279,10 @@ impl<N: Mechanism, K: Mechanism, C: CredentialsProxy> CredSspServer<N, K, C> {
             IsLater C.meaning start.proxy self.old.proxy →
             IfContext self.old.context (Accepted c C.meaning start self.old.handle token Unknown answer) →
             CompletedStep c C.meaning start self.old.handle token answer result self.new.context }
+        // What is so afterwards.
         ensures kept { KeepsStep self.old result self.new }
         ensures reached { HasReached self.old.acts.status self.new }
+        // What a refusal says.
         ensures cause { let c = either N.REQUESTS N.meaning K.meaning in
             (start : ServerView (SspiContext N K) C) (d : TsRequest) (status : SecurityStatus) →
             request.now ≡ record d { version = self.old.settings.version } → IsLater C.meaning start.proxy self.old.proxy →
@@ -267,6 +290,7 @@ impl<N: Mechanism, K: Mechanism, C: CredentialsProxy> CredSspServer<N, K, C> {
             IfErr result (λ error. error.error_type ≢ ErrorKind.InsufficientMemory →
             OverCause c C.meaning status start d self.new error.error_type) }
         ensures plain { IfErr result (λ error. error.nstatus ≡ None) }
+        // What the proxy was asked.
         ensures proxy { Asks C.meaning 1 result self.old.proxy self.new.proxy }
     {
         let Some(context) = &mut self.context else {
@@ -279,15 +303,19 @@ impl<N: Mechanism, K: Mechanism, C: CredentialsProxy> CredSspServer<N, K, C> {
 
     // Answers the proof that came already, or asks for it by the last token.
     fn answer_peer(&mut self, request: &TsRequest) -> Result<Answer, Error>
+        // What must hold before.
         requires { HasDone (record no_acts { negotiated = true; status = self.old.acts.status }) self.old }
+        // The turn.
         ensures turn { let c = either N.REQUESTS N.meaning K.meaning in (start : ServerView (SspiContext N K) C) (d : TsRequest) →
             request.now ≡ record d { version = self.old.settings.version } → IsReady c start d self.old →
             self.old.state ≡ CredSspState.NegoToken →
             IsOver self.old.acts.status → Answered c start d result self.new }
+        // What alone may change, and where the end then stands.
         ensures frame { self.new ≡ record self.old { state = self.new.state; context = self.new.context; acts = self.new.acts } }
         ensures moved { SameBut (either N.REQUESTS N.meaning K.meaning) self.old.context self.new.context }
         ensures state { OnErr result (self.new.state ≡ self.old.state) }
         ensures reached { HasReached self.old.acts.status self.new }
+        // What a refusal says.
         ensures cause { IfErr result (λ error. error.error_type ≢ ErrorKind.InsufficientMemory →
             AfterCause (either N.REQUESTS N.meaning K.meaning) request.now.pub_key_auth request.now.client_nonce self.new
             error.error_type) }

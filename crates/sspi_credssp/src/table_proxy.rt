@@ -40,8 +40,10 @@ impl TableProxy {
 
     // Counts a call, and says whether it fails.
     fn count(&mut self) -> bool
+        // Which call fails, and what alone may change.
         ensures fails { result ≡ fails_at self.old.failing self.old.calls }
         ensures counted { self.new ≡ record self.old { calls = counted_on self.old.calls; faults = self.new.faults } }
+        // When the count of faults rises.
         ensures rises { self.old.faults ≤ self.new.faults }
         ensures failed { IsTrue result → counted_on self.old.faults ≤ self.new.faults }
         ensures kept { result ≡ false → self.new.faults ≡ self.old.faults }

@@ -110,6 +110,7 @@ pub fn client_round<N: Mechanism, K: Mechanism, D: Kdc>(
     transcript: &mut Transcript,
     request: TsRequest,
 ) -> ClientRound
+    // The turn that was made and recorded.
     ensures turn { ClientPushed request result transcript.old.turns transcript.new.turns }
     ensures made { ClientRoundPast (either N.REQUESTS N.meaning K.meaning) (kdc_calls D.told D.asked D.faults) client.old kdc.old result
         (client_turns (added_by_client result transcript.new.turns)) client.new kdc.new }
@@ -117,6 +118,7 @@ pub fn client_round<N: Mechanism, K: Mechanism, D: Kdc>(
         (first : ClientView (SspiContext N K)) (kdc_first : D) → AllGoOn (client_turns transcript.old.turns) →
         ClientHistory c k first kdc_first (client_turns transcript.old.turns) client.old kdc.old →
         ClientRoundPast c k first kdc_first result (client_turns transcript.new.turns) client.new kdc.new }
+    // What stays.
     ensures server { server_turns transcript.new.turns ≡ server_turns transcript.old.turns }
     ensures kdc { KdcStays D.told D.faults kdc.old kdc.new }
 {
@@ -172,12 +174,14 @@ pub fn server_round<N: Mechanism, K: Mechanism, C: CredentialsProxy>(
     transcript: &mut Transcript,
     request: TsRequest,
 ) -> ServerRound
+    // The turn that was made and recorded.
     ensures turn { ServerPushed request result transcript.old.turns transcript.new.turns }
     ensures made { ServerRoundPast (either N.REQUESTS N.meaning K.meaning) C.meaning server.old result
         (server_turns (added_by_server result transcript.new.turns)) server.new }
     ensures server_history { let c = either N.REQUESTS N.meaning K.meaning in (first : ServerView (SspiContext N K) C) →
         ServerHistory c C.meaning first (server_turns transcript.old.turns) server.old →
         ServerRoundPast c C.meaning first result (server_turns transcript.new.turns) server.new }
+    // What stays.
     ensures proxy { ProxyStays C.meaning server.old.proxy server.new.proxy }
     ensures client { client_turns transcript.new.turns ≡ client_turns transcript.old.turns }
 {

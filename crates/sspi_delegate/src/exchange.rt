@@ -89,12 +89,14 @@ fn rounds<N: Mechanism, K: Mechanism, C: CredentialsProxy, L: Link, D: Kdc>(
     turns: u32,
     transcript: &mut Transcript,
 ) -> Result<Delegation, DelegateError>
+    // What the answer says of the link and the turns.
     ensures cause { transcript.old.turns ≡ [] → RunEnds (L.log link.old) (L.faults link.old) turns result transcript.new.turns
         (L.log link.new) (L.faults link.new) }
     ensures told { StaysTold (L.edits link.old) (L.edits link.new) (L.log link.old) (L.log link.new) }
     ensures still { AnswerTold (L.edits link.old) (L.faults link.old) (L.faults link.new) result (L.log link.new)
         (newest_message transcript.new.turns) }
     ensures limit { (turns ≡ 0 → result ≡ Err DelegateError.TurnsSpent) × IfOk result (λ delegation. delegation.turns ≤ turns) }
+    // What both ends did.
     ensures client_history { transcript.old.turns ≡ [] →
         ClientPast (either N.REQUESTS N.meaning K.meaning) (kdc_calls D.told D.asked D.faults) client.old kdc.old result
         (client_turns transcript.new.turns) client.new kdc.new }
@@ -123,15 +125,18 @@ fn client_half<N: Mechanism, K: Mechanism, L: Link, D: Kdc>(
     kdc: &mut D,
     transcript: &mut Transcript,
 ) -> Result<(), DelegateError>
+    // Where the exchange stands.
     ensures half { (base : List Carried) (start limit : ℕ) →
         next_end transcript.old.turns ≡ End.Client → TurnLeft limit transcript.old.turns →
         Between base start transcript.old.turns (L.log link.old) (L.faults link.old) →
         ClientHalf base start limit result transcript.new.turns (L.log link.new) (L.faults link.new) }
     ensures next { OnOk result (next_end transcript.new.turns ≡ End.Server) }
     ensures count { OnOk result (turns_of End.Client transcript.new.turns ≡ turns_of End.Client transcript.old.turns + 1) }
+    // What the answer says of the link.
     ensures told { StaysTold (L.edits link.old) (L.edits link.new) (L.log link.old) (L.log link.new) }
     ensures still { AnswerTold (L.edits link.old) (L.faults link.old) (L.faults link.new) result (L.log link.new)
         (newest_message transcript.new.turns) }
+    // What the ends did.
     ensures client_history { let c = either N.REQUESTS N.meaning K.meaning in let k = kdc_calls D.told D.asked D.faults in
         (first : ClientView (SspiContext N K)) (kdc_first : D) → AllGoOn transcript.old.turns →
         ClientHistory c k first kdc_first (client_turns transcript.old.turns) client.old kdc.old →
@@ -157,14 +162,17 @@ fn server_half<N: Mechanism, K: Mechanism, C: CredentialsProxy, L: Link>(
     link: &mut L,
     transcript: &mut Transcript,
 ) -> Result<Option<AuthIdentity>, DelegateError>
+    // Where the exchange stands.
     ensures half { (base : List Carried) (start limit : ℕ) → next_end transcript.old.turns ≡ End.Server →
         Between base start transcript.old.turns (L.log link.old) (L.faults link.old) →
         ServerHalf base start limit result transcript.new.turns (L.log link.new) (L.faults link.new) }
     ensures next { OnOk result (next_end transcript.new.turns ≡ End.Client) }
     ensures count { OnOk result (turns_of End.Client transcript.new.turns ≡ turns_of End.Client transcript.old.turns) }
+    // What the answer says of the link.
     ensures told { StaysTold (L.edits link.old) (L.edits link.new) (L.log link.old) (L.log link.new) }
     ensures still { AnswerTold (L.edits link.old) (L.faults link.old) (L.faults link.new) result (L.log link.new)
         (newest_message transcript.new.turns) }
+    // What the ends did.
     ensures server_history { let c = either N.REQUESTS N.meaning K.meaning in (first : ServerView (SspiContext N K) C) →
         ServerHistory c C.meaning first (server_turns transcript.old.turns) server.old →
         ServerHalfPast c C.meaning first result (server_turns transcript.new.turns) server.new }
@@ -194,6 +202,7 @@ fn next_request<L: Link>(
     transcript: &Transcript,
     to: End,
 ) -> Result<TsRequest, DelegateError>
+    // Where the exchange stands.
     ensures ok { IfOk result (λ request. (base : List Carried) (start : ℕ) →
         Between base start transcript.now.turns (L.log link.old) (L.faults link.old) →
         Asked base start transcript.now.turns (L.log link.new) (L.faults link.new) request) }
@@ -201,6 +210,7 @@ fn next_request<L: Link>(
         next_end transcript.now.turns ≡ to → TurnLeft limit transcript.now.turns →
         Between base start transcript.now.turns (L.log link.old) (L.faults link.old) →
         Stopped base start limit error transcript.now.turns (L.log link.new) (L.faults link.new)) }
+    // What the answer says of the link.
     ensures told { StaysTold (L.edits link.old) (L.edits link.new) (L.log link.old) (L.log link.new) }
     ensures link { IfErr result IsNoRefusal }
     ensures still { RequestTold (L.edits link.old) (L.faults link.old) (L.faults link.new) result }
@@ -221,6 +231,7 @@ fn next_request<L: Link>(
 
 /// Carries the message of the newest turn.
 fn give<L: Link>(alloc: Global, link: &mut L, transcript: &Transcript) -> Result<(), DelegateError>
+    // Where the exchange stands.
     ensures ok { OnOk result ((base : List Carried) (start : ℕ) →
         Turned base start transcript.now.turns (L.log link.old) (L.faults link.old) →
         Between base start transcript.now.turns (L.log link.new) (L.faults link.new)) }
@@ -229,6 +240,7 @@ fn give<L: Link>(alloc: Global, link: &mut L, transcript: &Transcript) -> Result
         Stopped base start limit error transcript.now.turns (L.log link.new) (L.faults link.new)) }
     ensures given { (base : List Carried) (start : ℕ) → L.faults link.old ≡ start → HasMessage transcript.now.turns →
         LoggedButLast base transcript.now.turns (L.log link.old) → Given base start transcript.now.turns (L.log link.new) (L.faults link.new) }
+    // What the answer says of the link.
     ensures link { IfErr result IsNoRefusal }
     ensures same { OnErr result (L.log link.new ≡ L.log link.old) }
     ensures told { StaysTold (L.edits link.old) (L.edits link.new) (L.log link.old) (L.log link.new) }

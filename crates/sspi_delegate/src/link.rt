@@ -58,11 +58,14 @@ pub trait Link: Drop {
     /// Gives `sent` to the link, and begins its delivery: what was left of the last one is dropped.
     /// A call that is not `Ok` adds no entry to the log.
     fn carry(&mut self, from: End, sent: &[u8]) -> Result<(), LinkError>
+        // What was sent, and why not.
         ensures ok { OnOk result (log self.new ≡ begun from sent.now ∷ log self.old) }
         ensures err { OnErr result (log self.new ≡ log self.old) }
         ensures cause { LinkCause (faults self.old) (faults self.new) result }
+        // What stays.
         ensures edits { edits self.new ≡ edits self.old }
         ensures most { most self.new ≡ most self.old }
+        // What the edits say of a call.
         ensures told { CarryTold (edits self.old) (log self.old) sent.now (faults self.old) (faults self.new) result }
         ensures follows { FollowsTold (edits self.new) (log self.new) };
 
@@ -70,12 +73,15 @@ pub trait Link: Drop {
     /// None, where `into` is not empty, is the end of the delivery. Without an entry there are none, and nothing changes.
     /// A call that is not `Ok` leaves the log.
     fn piece(&mut self, into: &mut [u8]) -> Result<usize, LinkError>
+        // What was received, and why not.
         ensures gives { PieceGives (log self.old) (log self.new) result into.new }
         ensures within { IsWithin (most self.old) result }
         ensures cause { LinkCause (faults self.old) (faults self.new) result }
+        // What stays.
         ensures edits { edits self.new ≡ edits self.old }
         ensures most { most self.new ≡ most self.old }
         ensures none { log self.old ≡ [] → (result ≡ Ok 0) × (self.new ≡ self.old) }
+        // What the edits say of a call.
         ensures told { NeverFails (edits self.old) (faults self.old) (faults self.new) result }
         ensures follows { FollowsTold (edits self.new) (log self.new) };
 }

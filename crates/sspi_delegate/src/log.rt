@@ -55,11 +55,14 @@ impl Log {
         most: usize,
         into: &mut [u8],
     ) -> Result<usize, LinkError>
+        // What must hold before.
         requires newest { NewestDelivers text.now self.old.entries }
         requires some { 0 < most }
+        // What was handed out.
         ensures gives { PieceGives self.old.entries self.new.entries result into.new }
         ensures within { IfOk result (λ n. n ≤ most) }
         ensures delivers { NewestDelivers text.now self.new.entries }
+        // When nothing is.
         ensures memory { IfErr result (λ error. error ≡ LinkError.InsufficientMemory) }
         ensures none { self.old.entries ≡ [] → (result ≡ Ok 0) × (self.new ≡ self.old) }
     {
@@ -102,12 +105,16 @@ fn hand_out(
     most: usize,
     into: &mut [u8],
 ) -> Result<usize, LinkError>
+    // What must hold before.
     requires delivers { Delivers (Some text.now) entry.old }
     requires some { 0 < most }
+    // What was handed out.
     ensures ok { IfOk result (λ n. (n ≤ length into.new) × (entry.old.ended ≡ true → n ≡ 0) × (entry.new ≡ grown entry.old n into.new)) }
     ensures err { OnErr result (entry.new ≡ entry.old) }
+    // How much, and that the delivery stays the same.
     ensures within { IfOk result (λ n. n ≤ most) }
     ensures delivers { Delivers (Some text.now) entry.new }
+    // What a refusal says.
     ensures memory { IfErr result (λ error. error ≡ LinkError.InsufficientMemory) }
 {
     let (_, rest) = text.split_at(entry.delivered.len());

@@ -45,9 +45,12 @@ pub trait Mechanism: Sized + Drop {
         credential_use: CredentialUse,
         auth_data: Option<&Credentials>,
     ) -> Result<Option<CredentialsBuffers>, Error>
+        // What `Ok` holds.
         ensures acquired { IfOk result (λ buffers. meaning.acquires self.old credential_use
             (option_copied auth_data.entry) buffers self.new) }
+        // What holds of every answer.
         ensures count { meaning.counts self.new ≡ meaning.counts self.old }
+        // What a refusal says, and what it leaves.
         ensures err { OnErr result (self.new ≡ self.old) }
         ensures plain { IfErr result (λ error. error.nstatus ≡ None) }
         ensures cause { IfErr result (λ error. error.error_type ≢ ErrorKind.InsufficientMemory →
@@ -82,9 +85,11 @@ pub trait Mechanism: Sized + Drop {
 
     /// Completes the authentication (CompleteAuthToken). Once there is a key it answers `Ok`.
     fn complete(&mut self) -> Result<SecurityStatus, Error>
+        // What stays, and what `Ok` holds.
         ensures same { self.new ≡ self.old }
         ensures keyed { IsTrue (meaning.keyed self.old) → result ≡ Ok SecurityStatus.Ok }
         ensures permitted { OnOk result (meaning.permits self.old ToComplete) }
+        // What a refusal says.
         ensures plain { IfErr result (λ error. error.nstatus ≡ None) }
         ensures cause { IfErr result (λ error. error.error_type ≢ ErrorKind.InsufficientMemory →
             meaning.refuses self.old ToComplete error.error_type) };
@@ -98,8 +103,11 @@ pub trait Mechanism: Sized + Drop {
 
     /// Tells a server which identities its peer may have.
     fn set_identities(&mut self, identities: &[Credentials]) -> Result<(), Error>
+        // What `Ok` holds.
         ensures identified { OnOk result (meaning.identifies self.old identities.now self.new) }
+        // What holds of every answer.
         ensures count { meaning.counts self.new ≡ meaning.counts self.old }
+        // What a refusal says, and what it leaves.
         ensures err { OnErr result (self.new ≡ self.old) }
         ensures plain { IfErr result (λ error. error.nstatus ≡ None) }
         ensures cause { IfErr result (λ error. error.error_type ≢ ErrorKind.InsufficientMemory →
@@ -107,10 +115,12 @@ pub trait Mechanism: Sized + Drop {
 
     /// Seals a text for the peer (EncryptMessage).
     fn seal(&mut self, text: &[u8]) -> Result<Vec<u8>, Error>
+        // What `Ok` holds.
         ensures blob { IfOk result (λ blob. meaning.seals self.new (meaning.counts self.old).sealed text.now blob.items) }
         ensures ok { OnOk result (self.new ≡ meaning.counted self.old (one_sealed (meaning.counts self.old))) }
         ensures count { OnOk result (meaning.counts self.new ≡ one_sealed (meaning.counts self.old)) }
         ensures permitted { OnOk result (meaning.permits self.old (ToSeal text.now)) }
+        // What a refusal says, and what it leaves.
         ensures err { OnErr result (self.new ≡ self.old) }
         ensures plain { IfErr result (λ error. error.nstatus ≡ None) }
         ensures cause { IfErr result (λ error. error.error_type ≢ ErrorKind.InsufficientMemory →
@@ -118,10 +128,12 @@ pub trait Mechanism: Sized + Drop {
 
     /// Opens what the peer sealed (DecryptMessage).
     fn unseal(&mut self, blob: &[u8]) -> Result<Vec<u8>, Error>
+        // What `Ok` holds.
         ensures text { IfOk result (λ text. meaning.opens self.new (meaning.counts self.old).unsealed blob.now text.items) }
         ensures ok { OnOk result (self.new ≡ meaning.counted self.old (one_unsealed (meaning.counts self.old))) }
         ensures count { OnOk result (meaning.counts self.new ≡ one_unsealed (meaning.counts self.old)) }
         ensures permitted { OnOk result (meaning.permits self.old (ToUnseal blob.now)) }
+        // What a refusal says, and what it leaves.
         ensures err { OnErr result (self.new ≡ self.old) }
         ensures plain { IfErr result (λ error. error.nstatus ≡ None) }
         ensures cause { IfErr result (λ error. error.error_type ≢ ErrorKind.InsufficientMemory →
@@ -129,10 +141,12 @@ pub trait Mechanism: Sized + Drop {
 
     /// The MIC of a text for the peer (MakeSignature).
     fn sign(&mut self, text: &[u8]) -> Result<Vec<u8>, Error>
+        // What `Ok` holds.
         ensures mic { IfOk result (λ mic. meaning.signs self.new (meaning.counts self.old).signed text.now mic.items) }
         ensures ok { OnOk result (self.new ≡ meaning.counted self.old (one_signed (meaning.counts self.old))) }
         ensures count { OnOk result (meaning.counts self.new ≡ one_signed (meaning.counts self.old)) }
         ensures permitted { OnOk result (meaning.permits self.old (ToSign text.now)) }
+        // What a refusal says, and what it leaves.
         ensures err { OnErr result (self.new ≡ self.old) }
         ensures plain { IfErr result (λ error. error.nstatus ≡ None) }
         ensures cause { IfErr result (λ error. error.error_type ≢ ErrorKind.InsufficientMemory →
@@ -140,10 +154,12 @@ pub trait Mechanism: Sized + Drop {
 
     /// Checks the MIC that the peer made of a text (VerifySignature). Takes no memory: each refusal is one of the mechanism itself.
     fn verify(&mut self, mic: &[u8], text: &[u8]) -> Result<(), Error>
+        // What `Ok` holds.
         ensures mic { OnOk result (meaning.verifies self.new (meaning.counts self.old).verified mic.now text.now) }
         ensures ok { OnOk result (self.new ≡ meaning.counted self.old (one_verified (meaning.counts self.old))) }
         ensures count { OnOk result (meaning.counts self.new ≡ one_verified (meaning.counts self.old)) }
         ensures permitted { OnOk result (meaning.permits self.old (ToVerify mic.now text.now)) }
+        // What a refusal says, and what it leaves.
         ensures err { OnErr result (self.new ≡ self.old) }
         ensures plain { IfErr result (λ error. error.nstatus ≡ None) }
         ensures cause { IfErr result (λ error. meaning.refuses self.old (ToVerify mic.now text.now) error.error_type) };

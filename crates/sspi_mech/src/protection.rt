@@ -78,9 +78,11 @@ impl Protection {
         direction: Direction,
         text: &[u8],
     ) -> Result<Vec<u8>, Error>
+        // What `Ok` holds.
         ensures blob { IfOk result (λ blob. SealsBy self.new.key direction self.old.sealed text.now blob.items) }
         ensures ok { OnOk result (self.new ≡ record self.old { sealed = self.old.sealed + 1 }) }
         ensures permitted { OnOk result (making_refusal self.old.key self.old.sealed ≡ None) }
+        // What a refusal says, and what it leaves.
         ensures err { OnErr result (self.new ≡ self.old) }
         ensures plain { IfErr result (λ error. error.nstatus ≡ None) }
         ensures cause { IfErr result (λ error. IsCause (making_refusal self.old.key self.old.sealed) error.error_type) }
@@ -102,9 +104,11 @@ impl Protection {
         direction: Direction,
         blob: &[u8],
     ) -> Result<Vec<u8>, Error>
+        // What `Ok` holds.
         ensures text { IfOk result (λ text. OpensBy self.new.key direction self.old.unsealed blob.now text.items) }
         ensures ok { OnOk result (self.new ≡ record self.old { unsealed = self.old.unsealed + 1 }) }
         ensures permitted { OnOk result (unseal_refusal self.old.key direction self.old.unsealed blob.now ≡ None) }
+        // What a refusal says, and what it leaves.
         ensures err { OnErr result (self.new ≡ self.old) }
         ensures plain { IfErr result (λ error. error.nstatus ≡ None) }
         ensures cause { IfErr result (λ error. IsCause (unseal_refusal self.old.key direction self.old.unsealed blob.now)
@@ -131,9 +135,11 @@ impl Protection {
         direction: Direction,
         text: &[u8],
     ) -> Result<Vec<u8>, Error>
+        // What `Ok` holds.
         ensures mic { IfOk result (λ mic. SignsBy self.new.key direction self.old.signed text.now mic.items) }
         ensures ok { OnOk result (self.new ≡ record self.old { signed = self.old.signed + 1 }) }
         ensures permitted { OnOk result (making_refusal self.old.key self.old.signed ≡ None) }
+        // What a refusal says, and what it leaves.
         ensures err { OnErr result (self.new ≡ self.old) }
         ensures plain { IfErr result (λ error. error.nstatus ≡ None) }
         ensures cause { IfErr result (λ error. IsCause (making_refusal self.old.key self.old.signed) error.error_type) }
@@ -148,9 +154,11 @@ impl Protection {
 
     /// Whether the MIC is that of the text; MessageAltered where it is not.
     pub fn verify(&mut self, direction: Direction, mic: &[u8], text: &[u8]) -> Result<(), Error>
+        // What `Ok` holds.
         ensures mic { OnOk result (VerifiesBy self.new.key direction self.old.verified mic.now text.now) }
         ensures ok { OnOk result (self.new ≡ record self.old { verified = self.old.verified + 1 }) }
         ensures permitted { OnOk result (verify_refusal self.old.key direction self.old.verified mic.now text.now ≡ None) }
+        // What a refusal says, and what it leaves.
         ensures err { OnErr result (self.new ≡ self.old) }
         ensures plain { IfErr result (λ error. error.nstatus ≡ None) }
         ensures cause { IfErr result (λ error. verify_refusal self.old.key direction self.old.verified mic.now text.now ≡ Some

@@ -63,9 +63,11 @@ pub fn equality_is_of_the_parts()
 /// `==` at each type of texts, names and identities says that the values are the same.
 #[tactic(auto, using(crate::proofs::SameValues::name_decided))]
 pub fn equality_is_of_values()
+    // Of names.
     ensures texts { ComparesValues ⟦<Utf16Text as PartialEq>⟧.eq }
     ensures names { ComparesValues ⟦<Username as PartialEq>⟧.eq }
     ensures context_names { ComparesValues ⟦<ContextNames as PartialEq>⟧.eq }
+    // Of identities.
     ensures identities { ComparesValues ⟦<AuthIdentity as PartialEq>⟧.eq }
     ensures buffers { ComparesValues ⟦<AuthIdentityBuffers as PartialEq>⟧.eq }
 {}
@@ -73,9 +75,11 @@ pub fn equality_is_of_values()
 /// So it does at each type of credentials, and at the requests and tables of a KDC.
 #[tactic(auto, using(crate::proofs::SameValues::name_decided, crate::specs::Same::table_decided))]
 pub fn equality_of_credentials_is_of_values()
+    // Of credentials.
     ensures keytabs { ComparesValues ⟦<KeytabIdentity as PartialEq>⟧.eq }
     ensures credentials { ComparesValues ⟦<Credentials as PartialEq>⟧.eq }
     ensures credentials_buffers { ComparesValues ⟦<CredentialsBuffers as PartialEq>⟧.eq }
+    // Of what the KDC is asked.
     ensures requests { ComparesValues ⟦<NetworkRequest as PartialEq>⟧.eq }
     ensures tables { ComparesValues ⟦<KdcTable as PartialEq>⟧.eq }
 {}

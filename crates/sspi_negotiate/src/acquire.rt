@@ -64,10 +64,13 @@ impl<N: Mechanism, K: Mechanism> Negotiate<N, K> {
         credential_use: CredentialUse,
         auth_data: Option<&Credentials>,
     ) -> Result<Option<CredentialsBuffers>, Error>
+        // What was acquired, and what a refusal leaves.
         ensures acquired { IfOk result (λ buffers.
             Acquires N.meaning K.meaning self.old credential_use (option_copied auth_data.entry) buffers self.new) }
         ensures stays { OnErr result (Stays (values_of self.old) (values_of self.new)) }
+        // What holds of every answer.
         ensures unused { StaysUnused N.meaning K.meaning self.old self.new }
+        // What a refusal says.
         ensures plain { IfErr result (λ error. error.nstatus ≡ None) }
         ensures cause { IfErr result (λ error. error.error_type ≢ ErrorKind.InsufficientMemory →
             RefusesToAcquire N.meaning K.meaning self.old credential_use (option_copied auth_data.entry) error.error_type) }
@@ -82,11 +85,14 @@ impl<N: Mechanism, K: Mechanism> Negotiate<N, K> {
 
     /// Takes Kerberos in the place of NTLM on a client, where a KDC serves the domain of a name with a password.
     fn rule_for(&mut self, auth_data: Option<&Credentials>) -> Result<(), Error>
+        // What `Ok` holds.
         ensures taken { OnOk result (TakenBy (hand N.meaning K.meaning)
             (acquired_url self.old.role (values_of self.old) (option_copied auth_data.entry))
             self.old.kdcs self.old.computer self.old.mech self.new.mech) }
+        // What holds of every answer.
         ensures rest { self.new ≡ record self.old { mech = self.new.mech } }
         ensures unused { StaysUnused N.meaning K.meaning self.old self.new }
+        // What a refusal says.
         ensures plain { IfErr result (λ error. error.nstatus ≡ None) }
         ensures err { IfErr result (λ error. error.error_type ≡ ErrorKind.InsufficientMemory) }
     {
@@ -106,11 +112,14 @@ impl<N: Mechanism, K: Mechanism> Negotiate<N, K> {
         auth_data: Option<&Credentials>,
         kept: Option<CredentialsBuffers>,
     ) -> Result<Option<CredentialsBuffers>, Error>
+        // What was acquired, and what a refusal leaves.
         ensures acquired { IfOk result (λ buffers.
             (hand N.meaning K.meaning).acquires self.old.mech credential_use (option_copied auth_data.entry) buffers self.new.mech) }
         ensures kept { OnOk result (self.new ≡ record self.old { kept = kept; mech = self.new.mech }) }
         ensures err { OnErr result (self.new ≡ self.old) }
+        // What holds of every answer.
         ensures unused { StaysUnused N.meaning K.meaning self.old self.new }
+        // What a refusal says.
         ensures plain { IfErr result (λ error. error.nstatus ≡ None) }
         ensures cause { IfErr result (λ error. error.error_type ≢ ErrorKind.InsufficientMemory →
             (hand N.meaning K.meaning).refuses self.old.mech (ToAcquire credential_use (option_copied auth_data.entry)) error.error_type) }

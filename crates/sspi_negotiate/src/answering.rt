@@ -382,8 +382,10 @@ impl<N: Mechanism, K: Mechanism> Negotiate<N, K> {
     }
 
     fn resume_at(&mut self, reply: &Reply) -> Result<Progressing, Error>
+        // The step, and what a refused one leaves.
         ensures step { Does N.meaning K.meaning (spnego_resumed (values_of self.old) reply.now) self.old (answer_of result) self.new }
         ensures stays { OnErr result (Stays (values_of self.old) (values_of self.new)) }
+        // What every answer keeps, and that a refusal is plain.
         ensures unused { StaysUnused N.meaning K.meaning self.old self.new }
         ensures first { is_answering self.old.branch ≡ false → StaysUnmarked N.meaning K.meaning self.old self.new }
         ensures plain { IfErr result (λ error. error.nstatus ≡ None) }

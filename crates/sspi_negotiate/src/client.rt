@@ -59,9 +59,11 @@ impl<N: Mechanism, K: Mechanism> Negotiate<N, K> {
     }
 
     fn step(&mut self, ip: bool, args: &InitializeSecurityContext<'_>) -> Result<Progressing, Error>
+        // The step, and what a refused one leaves.
         ensures step { Does N.meaning K.meaning (spnego_client ip (values_of self.old) (step_args args.now))
             self.old (answer_of result) self.new }
         ensures stays { OnErr result (Stays (values_of self.old) (values_of self.new)) }
+        // What every answer keeps, and that a refusal is plain.
         ensures unused { StaysUnused N.meaning K.meaning self.old self.new }
         ensures first { self.old.state ≡ states.Initial → StaysUnmarked N.meaning K.meaning self.old self.new }
         ensures plain { IfErr result (λ error. error.nstatus ≡ None) }
@@ -79,9 +81,11 @@ impl<N: Mechanism, K: Mechanism> Negotiate<N, K> {
         ip: bool,
         args: &InitializeSecurityContext<'_>,
     ) -> Result<Progressing, Error>
+        // The step, and what a refused one leaves.
         ensures step { Does N.meaning K.meaning (by_target ip (values_of self.old) (step_args args.now))
             self.old (answer_of result) self.new }
         ensures stays { OnErr result (Stays (values_of self.old) (values_of self.new)) }
+        // What every answer keeps, and that a refusal is plain.
         ensures unused { StaysUnused N.meaning K.meaning self.old self.new }
         ensures first { self.old.state ≡ states.Initial → StaysUnmarked N.meaning K.meaning self.old self.new }
         ensures plain { IfErr result (λ error. error.nstatus ≡ None) }
@@ -94,6 +98,7 @@ impl<N: Mechanism, K: Mechanism> Negotiate<N, K> {
     }
 
     fn leave_kerberos(&mut self, args: &InitializeSecurityContext<'_>) -> Result<Progressing, Error>
+        // The step, and what a refused one leaves.
         ensures step { Does N.meaning K.meaning
             (in_ntlm (hand_of self.old.mech) self.old.computer (with_handle (record (values_of self.old) {
               hand = protocols.Ntlm;
@@ -101,6 +106,7 @@ impl<N: Mechanism, K: Mechanism> Negotiate<N, K> {
             }) (step_args args.now)))
             self.old (answer_of result) self.new }
         ensures stays { OnErr result (Stays (values_of self.old) (values_of self.new)) }
+        // What every answer keeps, and that a refusal is plain.
         ensures unused { StaysUnused N.meaning K.meaning self.old self.new }
         ensures first { self.old.state ≡ states.Initial → StaysUnmarked N.meaning K.meaning self.old self.new }
         ensures plain { IfErr result (λ error. error.nstatus ≡ None) }
@@ -113,10 +119,12 @@ impl<N: Mechanism, K: Mechanism> Negotiate<N, K> {
         &mut self,
         args: &InitializeSecurityContext<'_>,
     ) -> Result<Progressing, Error>
+        // The step, and what a refused one leaves.
         ensures step { Does N.meaning K.meaning
             (with_handle (record (values_of self.old) { packages = record self.old.packages { kerberos = false } }) (step_args args.now))
             self.old (answer_of result) self.new }
         ensures stays { OnErr result (Stays (values_of self.old) (values_of self.new)) }
+        // What every answer keeps, and that a refusal is plain.
         ensures unused { StaysUnused N.meaning K.meaning self.old self.new }
         ensures first { self.old.state ≡ states.Initial → StaysUnmarked N.meaning K.meaning self.old self.new }
         ensures plain { IfErr result (λ error. error.nstatus ≡ None) }
@@ -127,9 +135,11 @@ impl<N: Mechanism, K: Mechanism> Negotiate<N, K> {
 
     #[tactic(auto, unfolding(crate::specs::Client::with_handle))]
     fn with_handle(&mut self, args: &InitializeSecurityContext<'_>) -> Result<Progressing, Error>
+        // The step, and what a refused one leaves.
         ensures step { Does N.meaning K.meaning (with_handle (values_of self.old) (step_args args.now))
             self.old (answer_of result) self.new }
         ensures stays { OnErr result (Stays (values_of self.old) (values_of self.new)) }
+        // What every answer keeps, and that a refusal is plain.
         ensures unused { StaysUnused N.meaning K.meaning self.old self.new }
         ensures first { self.old.state ≡ states.Initial → StaysUnmarked N.meaning K.meaning self.old self.new }
         ensures plain { IfErr result (λ error. error.nstatus ≡ None) }
@@ -147,9 +157,11 @@ impl<N: Mechanism, K: Mechanism> Negotiate<N, K> {
         buffers: &AuthIdentityBuffers,
         args: &InitializeSecurityContext<'_>,
     ) -> Result<Progressing, Error>
+        // The step, and what a refused one leaves.
         ensures step { Does N.meaning K.meaning (keeps (identity_of buffers.now) (values_of self.old) (step_args args.now))
             self.old (answer_of result) self.new }
         ensures stays { OnErr result (Stays (values_of self.old) (values_of self.new)) }
+        // What every answer keeps, and that a refusal is plain.
         ensures unused { StaysUnused N.meaning K.meaning self.old self.new }
         ensures first { self.old.state ≡ states.Initial → StaysUnmarked N.meaning K.meaning self.old self.new }
         ensures plain { IfErr result (λ error. error.nstatus ≡ None) }
@@ -163,11 +175,13 @@ impl<N: Mechanism, K: Mechanism> Negotiate<N, K> {
         identity: &AuthIdentity,
         args: &InitializeSecurityContext<'_>,
     ) -> Result<Progressing, Error>
+        // The step, and what a refused one leaves.
         ensures step { Does N.meaning K.meaning
             (ruled (rule_url (values_of self.old) identity.now.username)
             (record (values_of self.old) { kept = Some (buffered.AuthIdentity (buffers_of identity.now)) }) (step_args args.now))
             self.old (answer_of result) self.new }
         ensures stays { OnErr result (Stays (values_of self.old) (values_of self.new)) }
+        // What every answer keeps, and that a refusal is plain.
         ensures unused { StaysUnused N.meaning K.meaning self.old self.new }
         ensures first { self.old.state ≡ states.Initial → StaysUnmarked N.meaning K.meaning self.old self.new }
         ensures plain { IfErr result (λ error. error.nstatus ≡ None) }
@@ -182,9 +196,11 @@ impl<N: Mechanism, K: Mechanism> Negotiate<N, K> {
         name: &Username,
         args: &InitializeSecurityContext<'_>,
     ) -> Result<Progressing, Error>
+        // The step, and what a refused one leaves.
         ensures step { Does N.meaning K.meaning (ruled (rule_url (values_of self.old) name.now) (values_of self.old) (step_args args.now))
             self.old (answer_of result) self.new }
         ensures stays { OnErr result (Stays (values_of self.old) (values_of self.new)) }
+        // What every answer keeps, and that a refusal is plain.
         ensures unused { StaysUnused N.meaning K.meaning self.old self.new }
         ensures first { self.old.state ≡ states.Initial → StaysUnmarked N.meaning K.meaning self.old self.new }
         ensures plain { IfErr result (λ error. error.nstatus ≡ None) }
@@ -195,9 +211,11 @@ impl<N: Mechanism, K: Mechanism> Negotiate<N, K> {
 
     #[tactic(auto, unfolding(crate::specs::Client::client_at))]
     fn step_at(&mut self, args: &InitializeSecurityContext<'_>) -> Result<Progressing, Error>
+        // The step, and what a refused one leaves.
         ensures step { Does N.meaning K.meaning (client_at self.old.state (values_of self.old) (step_args args.now))
             self.old (answer_of result) self.new }
         ensures stays { OnErr result (Stays (values_of self.old) (values_of self.new)) }
+        // What every answer keeps, and that a refusal is plain.
         ensures unused { StaysUnused N.meaning K.meaning self.old self.new }
         ensures first { self.old.state ≡ states.Initial → StaysUnmarked N.meaning K.meaning self.old self.new }
         ensures plain { IfErr result (λ error. error.nstatus ≡ None) }

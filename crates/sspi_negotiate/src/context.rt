@@ -39,8 +39,10 @@ impl<N: Mechanism, K: Mechanism> Negotiate<N, K> {
     /// Tells a server which identity its peer may have. `IncompleteCredentials` exactly for a keytab with NTLM in hand; else
     /// as `custom_set_auth_identities`. The kept credentials stay.
     pub fn custom_set_auth_identity(&mut self, identity: Credentials) -> Result<(), Error>
+        // What `Ok` holds, and that the counts stay.
         ensures identified { OnOk result ((negotiate N.REQUESTS N.meaning K.meaning).identifies self.old (identity ∷ []) self.new) }
         ensures count { let c = negotiate N.REQUESTS N.meaning K.meaning in c.counts self.new ≡ c.counts self.old }
+        // What a refusal says, and what it leaves.
         ensures err { OnErr result (self.new ≡ self.old) }
         ensures plain { IfErr result (λ error. error.nstatus ≡ None) }
         ensures keytab { is_refused_identity (hand_of self.old.mech) identity ≡ true →
@@ -60,8 +62,11 @@ impl<N: Mechanism, K: Mechanism> Negotiate<N, K> {
     /// Tells a server which identities its peer may have. NTLM takes those with a password, Kerberos the first. The kept
     /// credentials stay.
     pub fn custom_set_auth_identities(&mut self, identities: Vec<Credentials>) -> Result<(), Error>
+        // What `Ok` holds.
         ensures identified { OnOk result ((negotiate N.REQUESTS N.meaning K.meaning).identifies self.old identities.items self.new) }
+        // What holds of every answer.
         ensures count { let c = negotiate N.REQUESTS N.meaning K.meaning in c.counts self.new ≡ c.counts self.old }
+        // What a refusal says, and what it leaves.
         ensures err { OnErr result (self.new ≡ self.old) }
         ensures plain { IfErr result (λ error. error.nstatus ≡ None) }
         ensures cause { IfErr result (λ error. error.error_type ≢ ErrorKind.InsufficientMemory →
@@ -72,9 +77,11 @@ impl<N: Mechanism, K: Mechanism> Negotiate<N, K> {
 
     /// Completes the authentication (CompleteAuthToken). `OutOfSequence` before there is a key.
     pub fn complete_auth_token(&mut self) -> Result<SecurityStatus, Error>
+        // What stays, and what `Ok` holds.
         ensures same { self.new ≡ self.old }
         ensures keyed { IsTrue ((negotiate N.REQUESTS N.meaning K.meaning).keyed self.old) → result ≡ Ok SecurityStatus.Ok }
         ensures permitted { OnOk result ((negotiate N.REQUESTS N.meaning K.meaning).permits self.old ToComplete) }
+        // What a refusal says.
         ensures plain { IfErr result (λ error. error.nstatus ≡ None) }
         ensures cause { IfErr result (λ error. error.error_type ≢ ErrorKind.InsufficientMemory →
             (negotiate N.REQUESTS N.meaning K.meaning).refuses self.old ToComplete error.error_type) }
@@ -86,6 +93,7 @@ impl<N: Mechanism, K: Mechanism> Negotiate<N, K> {
     ///
     /// `OutOfSequence` before there is a key, `ContextExpired` once all numbers of messages are used.
     pub fn seal(&mut self, text: &[u8]) -> Result<Vec<u8>, Error>
+        // What `Ok` holds.
         ensures blob { let c = negotiate N.REQUESTS N.meaning K.meaning in
             IfOk result (λ blob. c.seals self.new (c.counts self.old).sealed text.now blob.items) }
         ensures last { let c = negotiate N.REQUESTS N.meaning K.meaning in
@@ -95,6 +103,7 @@ impl<N: Mechanism, K: Mechanism> Negotiate<N, K> {
         ensures count { let c = negotiate N.REQUESTS N.meaning K.meaning in
             OnOk result (c.counts self.new ≡ one_sealed (c.counts self.old)) }
         ensures permitted { OnOk result ((negotiate N.REQUESTS N.meaning K.meaning).permits self.old (ToSeal text.now)) }
+        // What a refusal says, and what it leaves.
         ensures err { OnErr result (self.new ≡ self.old) }
         ensures plain { IfErr result (λ error. error.nstatus ≡ None) }
         ensures cause { IfErr result (λ error. error.error_type ≢ ErrorKind.InsufficientMemory →
@@ -108,6 +117,7 @@ impl<N: Mechanism, K: Mechanism> Negotiate<N, K> {
     /// `OutOfSequence` before there is a key, `ContextExpired` once all numbers of messages are used, `InvalidToken` for a
     /// blob of under 16 bytes, and `MessageAltered` for one that the peer did not seal as this message.
     pub fn unseal(&mut self, blob: &[u8]) -> Result<Vec<u8>, Error>
+        // What `Ok` holds.
         ensures text { let c = negotiate N.REQUESTS N.meaning K.meaning in
             IfOk result (λ text. c.opens self.new (c.counts self.old).unsealed blob.now text.items) }
         ensures last { let c = negotiate N.REQUESTS N.meaning K.meaning in
@@ -117,6 +127,7 @@ impl<N: Mechanism, K: Mechanism> Negotiate<N, K> {
         ensures count { let c = negotiate N.REQUESTS N.meaning K.meaning in
             OnOk result (c.counts self.new ≡ one_unsealed (c.counts self.old)) }
         ensures permitted { OnOk result ((negotiate N.REQUESTS N.meaning K.meaning).permits self.old (ToUnseal blob.now)) }
+        // What a refusal says, and what it leaves.
         ensures err { OnErr result (self.new ≡ self.old) }
         ensures plain { IfErr result (λ error. error.nstatus ≡ None) }
         ensures cause { IfErr result (λ error. error.error_type ≢ ErrorKind.InsufficientMemory →

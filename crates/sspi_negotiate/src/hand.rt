@@ -97,10 +97,13 @@ impl<N: Mechanism, K: Mechanism> NegotiatedProtocol<N, K> {
         credential_use: CredentialUse,
         auth_data: Option<&Credentials>,
     ) -> Result<Option<CredentialsBuffers>, Error>
+        // What `Ok` holds.
         ensures acquired { IfOk result (λ buffers.
             (hand N.meaning K.meaning).acquires self.old credential_use (option_copied auth_data.entry) buffers self.new) }
+        // What holds of every answer.
         ensures count { (hand N.meaning K.meaning).counts self.new ≡ (hand N.meaning K.meaning).counts self.old }
         ensures named { hand_of self.new ≡ hand_of self.old }
+        // What a refusal says, and what it leaves.
         ensures err { OnErr result (self.new ≡ self.old) }
         ensures plain { IfErr result (λ error. error.nstatus ≡ None) }
         ensures cause { IfErr result (λ error. error.error_type ≢ ErrorKind.InsufficientMemory →
@@ -113,7 +116,9 @@ impl<N: Mechanism, K: Mechanism> NegotiatedProtocol<N, K> {
     }
 
     pub(crate) fn initialize(&mut self, args: &InitializeSecurityContext<'_>) -> Answer
+        // The step.
         ensures step { (hand N.meaning K.meaning).steps self.old (step_args args.now) result self.new }
+        // What every answer keeps, and that a refusal is plain.
         ensures unused { IsUnused ((hand N.meaning K.meaning).counts self.old) → IsUnused ((hand N.meaning K.meaning).counts self.new) }
         ensures unmarked { HasNoMic ((hand N.meaning K.meaning).counts self.old) → HasNoMic ((hand N.meaning K.meaning).counts self.new) }
         ensures named { hand_of self.new ≡ hand_of self.old }
@@ -126,7 +131,9 @@ impl<N: Mechanism, K: Mechanism> NegotiatedProtocol<N, K> {
     }
 
     pub(crate) fn resume(&mut self, reply: &Reply) -> Answer
+        // The step.
         ensures step { (hand N.meaning K.meaning).resumes self.old reply.now result self.new }
+        // What every answer keeps, and that a refusal is plain.
         ensures unused { IsUnused ((hand N.meaning K.meaning).counts self.old) → IsUnused ((hand N.meaning K.meaning).counts self.new) }
         ensures unmarked { HasNoMic ((hand N.meaning K.meaning).counts self.old) → HasNoMic ((hand N.meaning K.meaning).counts self.new) }
         ensures named { hand_of self.new ≡ hand_of self.old }
@@ -139,7 +146,9 @@ impl<N: Mechanism, K: Mechanism> NegotiatedProtocol<N, K> {
     }
 
     pub(crate) fn accept(&mut self, args: &AcceptSecurityContext<'_>) -> Result<Step, Error>
+        // The step.
         ensures step { (hand N.meaning K.meaning).accepts self.old (accept_args args.now) result self.new }
+        // What every answer keeps, and that a refusal is plain.
         ensures unused { IsUnused ((hand N.meaning K.meaning).counts self.old) → IsUnused ((hand N.meaning K.meaning).counts self.new) }
         ensures unmarked { HasNoMic ((hand N.meaning K.meaning).counts self.old) → HasNoMic ((hand N.meaning K.meaning).counts self.new) }
         ensures named { hand_of self.new ≡ hand_of self.old }
@@ -163,9 +172,11 @@ impl<N: Mechanism, K: Mechanism> NegotiatedProtocol<N, K> {
     }
 
     pub(crate) fn complete(&mut self) -> Result<SecurityStatus, Error>
+        // What stays, and what `Ok` holds.
         ensures same { self.new ≡ self.old }
         ensures keyed { IsTrue ((hand N.meaning K.meaning).keyed self.old) → result ≡ Ok SecurityStatus.Ok }
         ensures permitted { OnOk result ((hand N.meaning K.meaning).permits self.old ToComplete) }
+        // What a refusal says.
         ensures plain { IfErr result (λ error. error.nstatus ≡ None) }
         ensures cause { IfErr result (λ error. error.error_type ≢ ErrorKind.InsufficientMemory →
             (hand N.meaning K.meaning).refuses self.old ToComplete error.error_type) }
@@ -189,9 +200,12 @@ impl<N: Mechanism, K: Mechanism> NegotiatedProtocol<N, K> {
     }
 
     pub(crate) fn set_identities(&mut self, identities: Vec<Credentials>) -> Result<(), Error>
+        // What `Ok` holds.
         ensures identified { OnOk result ((hand N.meaning K.meaning).identifies self.old identities.items self.new) }
+        // What holds of every answer.
         ensures count { (hand N.meaning K.meaning).counts self.new ≡ (hand N.meaning K.meaning).counts self.old }
         ensures named { hand_of self.new ≡ hand_of self.old }
+        // What a refusal says, and what it leaves.
         ensures err { OnErr result (self.new ≡ self.old) }
         ensures plain { IfErr result (λ error. error.nstatus ≡ None) }
         ensures cause { IfErr result (λ error. error.error_type ≢ ErrorKind.InsufficientMemory →
@@ -208,11 +222,13 @@ impl<N: Mechanism, K: Mechanism> NegotiatedProtocol<N, K> {
     }
 
     pub(crate) fn seal(&mut self, text: &[u8]) -> Result<Vec<u8>, Error>
+        // What `Ok` holds.
         ensures blob { let c = hand N.meaning K.meaning in
             IfOk result (λ blob. c.seals self.new (c.counts self.old).sealed text.now blob.items) }
         ensures ok { let c = hand N.meaning K.meaning in OnOk result (self.new ≡ c.counted self.old (one_sealed (c.counts self.old))) }
         ensures count { let c = hand N.meaning K.meaning in OnOk result (c.counts self.new ≡ one_sealed (c.counts self.old)) }
         ensures permitted { OnOk result ((hand N.meaning K.meaning).permits self.old (ToSeal text.now)) }
+        // What a refusal says, and what it leaves.
         ensures err { OnErr result (self.new ≡ self.old) }
         ensures plain { IfErr result (λ error. error.nstatus ≡ None) }
         ensures cause { IfErr result (λ error. error.error_type ≢ ErrorKind.InsufficientMemory →
@@ -225,11 +241,13 @@ impl<N: Mechanism, K: Mechanism> NegotiatedProtocol<N, K> {
     }
 
     pub(crate) fn unseal(&mut self, blob: &[u8]) -> Result<Vec<u8>, Error>
+        // What `Ok` holds.
         ensures text { let c = hand N.meaning K.meaning in
             IfOk result (λ text. c.opens self.new (c.counts self.old).unsealed blob.now text.items) }
         ensures ok { let c = hand N.meaning K.meaning in OnOk result (self.new ≡ c.counted self.old (one_unsealed (c.counts self.old))) }
         ensures count { let c = hand N.meaning K.meaning in OnOk result (c.counts self.new ≡ one_unsealed (c.counts self.old)) }
         ensures permitted { OnOk result ((hand N.meaning K.meaning).permits self.old (ToUnseal blob.now)) }
+        // What a refusal says, and what it leaves.
         ensures err { OnErr result (self.new ≡ self.old) }
         ensures plain { IfErr result (λ error. error.nstatus ≡ None) }
         ensures cause { IfErr result (λ error. error.error_type ≢ ErrorKind.InsufficientMemory →
@@ -244,12 +262,14 @@ impl<N: Mechanism, K: Mechanism> NegotiatedProtocol<N, K> {
     /// The MIC of a text for the peer, as the next of its MICs (MakeSignature). `OutOfSequence` before there is a key,
     /// `ContextExpired` once all numbers of MICs are used.
     pub fn generate_mic_token(&mut self, text: &[u8]) -> Result<Vec<u8>, Error>
+        // What `Ok` holds, and that the mechanism is the same.
         ensures mic { let c = hand N.meaning K.meaning in
             IfOk result (λ mic. c.signs self.new (c.counts self.old).signed text.now mic.items) }
         ensures ok { let c = hand N.meaning K.meaning in OnOk result (self.new ≡ c.counted self.old (one_signed (c.counts self.old))) }
         ensures count { let c = hand N.meaning K.meaning in OnOk result (c.counts self.new ≡ one_signed (c.counts self.old)) }
         ensures named { hand_of self.new ≡ hand_of self.old }
         ensures permitted { OnOk result ((hand N.meaning K.meaning).permits self.old (ToSign text.now)) }
+        // What a refusal says, and what it leaves.
         ensures err { OnErr result (self.new ≡ self.old) }
         ensures plain { IfErr result (λ error. error.nstatus ≡ None) }
         ensures cause { IfErr result (λ error. error.error_type ≢ ErrorKind.InsufficientMemory →
@@ -264,12 +284,14 @@ impl<N: Mechanism, K: Mechanism> NegotiatedProtocol<N, K> {
     /// Whether `token` is the MIC that the peer made of `text` as the next of its MICs (VerifySignature): `Ok`, or
     /// `MessageAltered`, also where it has another length. `OutOfSequence` and `ContextExpired` as `generate_mic_token`.
     pub fn verify_mic_token(&mut self, token: &[u8], text: &[u8]) -> Result<(), Error>
+        // What `Ok` holds, and that the mechanism is the same.
         ensures mic { let c = hand N.meaning K.meaning in
             OnOk result (c.verifies self.new (c.counts self.old).verified token.now text.now) }
         ensures ok { let c = hand N.meaning K.meaning in OnOk result (self.new ≡ c.counted self.old (one_verified (c.counts self.old))) }
         ensures count { let c = hand N.meaning K.meaning in OnOk result (c.counts self.new ≡ one_verified (c.counts self.old)) }
         ensures named { hand_of self.new ≡ hand_of self.old }
         ensures permitted { OnOk result ((hand N.meaning K.meaning).permits self.old (ToVerify token.now text.now)) }
+        // What a refusal says, and what it leaves.
         ensures err { OnErr result (self.new ≡ self.old) }
         ensures plain { IfErr result (λ error. error.nstatus ≡ None) }
         ensures cause { IfErr result (λ error.

@@ -26,6 +26,7 @@ fn verify_with<N: Mechanism, K: Mechanism>(
     mic: &Bytes,
     text: &Bytes,
 ) -> Result<(), Error>
+    // What `Ok` holds, and that the mechanism is the same.
     ensures mic { let c = hand N.meaning K.meaning in
         OnOk result (c.verifies protocol.new (c.counts protocol.old).verified mic.now text.now) }
     ensures ok { let c = hand N.meaning K.meaning in
@@ -33,6 +34,7 @@ fn verify_with<N: Mechanism, K: Mechanism>(
     ensures count { let c = hand N.meaning K.meaning in OnOk result (c.counts protocol.new ≡ one_verified (c.counts protocol.old)) }
     ensures named { hand_of protocol.new ≡ hand_of protocol.old }
     ensures permitted { OnOk result ((hand N.meaning K.meaning).permits protocol.old (ToVerify mic.now text.now)) }
+    // What a refusal says, and what it leaves.
     ensures err { OnErr result (protocol.new ≡ protocol.old) }
     ensures plain { IfErr result (λ error. error.nstatus ≡ None) }
     ensures cause { IfErr result (λ error.
@@ -45,6 +47,7 @@ fn sign_with<N: Mechanism, K: Mechanism>(
     protocol: &mut NegotiatedProtocol<N, K>,
     text: &Bytes,
 ) -> Result<Bytes, Error>
+    // What `Ok` holds, and that the mechanism is the same.
     ensures mic { let c = hand N.meaning K.meaning in
         IfOk result (λ mic. c.signs protocol.new (c.counts protocol.old).signed text.now mic) }
     ensures ok { let c = hand N.meaning K.meaning in
@@ -52,6 +55,7 @@ fn sign_with<N: Mechanism, K: Mechanism>(
     ensures count { let c = hand N.meaning K.meaning in OnOk result (c.counts protocol.new ≡ one_signed (c.counts protocol.old)) }
     ensures named { hand_of protocol.new ≡ hand_of protocol.old }
     ensures permitted { OnOk result ((hand N.meaning K.meaning).permits protocol.old (ToSign text.now)) }
+    // What a refusal says, and what it leaves.
     ensures err { OnErr result (protocol.new ≡ protocol.old) }
     ensures plain { IfErr result (λ error. error.nstatus ≡ None) }
     ensures cause { IfErr result (λ error. error.error_type ≢ ErrorKind.InsufficientMemory →
@@ -64,7 +68,9 @@ fn sign_with<N: Mechanism, K: Mechanism>(
 impl<N: Mechanism, K: Mechanism> Negotiate<N, K> {
     /// Takes the MIC of the client, of whom a server must know the identity first.
     pub(crate) fn check(&mut self, mic: &Bytes) -> Result<(), Error>
+        // The step.
         ensures step { Passes N.meaning K.meaning (checks mic.now (values_of self.old)) (values_of self.old) self.old result self.new }
+        // What every answer keeps, and that a refusal is plain.
         ensures stays { Stays (values_of self.old) (values_of self.new) }
         ensures unused { StaysUnused N.meaning K.meaning self.old self.new }
         ensures picked { StaysPicked (values_of self.old) (values_of self.new) }
@@ -75,7 +81,9 @@ impl<N: Mechanism, K: Mechanism> Negotiate<N, K> {
     }
 
     fn identify(&mut self) -> Result<(), Error>
+        // The step.
         ensures step { Passes N.meaning K.meaning (identifies (values_of self.old)) (values_of self.old) self.old result self.new }
+        // What every answer keeps, and that a refusal is plain.
         ensures stays { Stays (values_of self.old) (values_of self.new) }
         ensures unused { StaysUnused N.meaning K.meaning self.old self.new }
         ensures picked { StaysPicked (values_of self.old) (values_of self.new) }
@@ -86,9 +94,11 @@ impl<N: Mechanism, K: Mechanism> Negotiate<N, K> {
     }
 
     fn identify_as(&mut self, name: &Username) -> Result<(), Error>
+        // The step.
         ensures step { Passes N.meaning K.meaning
             (λ rest. identifies_among (map credentials.AuthIdentity (named name.now self.old.known)) (values_of self.old) rest)
             (values_of self.old) self.old result self.new }
+        // What every answer keeps, and that a refusal is plain.
         ensures stays { Stays (values_of self.old) (values_of self.new) }
         ensures unused { StaysUnused N.meaning K.meaning self.old self.new }
         ensures picked { StaysPicked (values_of self.old) (values_of self.new) }
@@ -103,8 +113,10 @@ impl<N: Mechanism, K: Mechanism> Negotiate<N, K> {
     }
 
     fn identify_by(&mut self, found: Vec<Credentials>) -> Result<(), Error>
+        // The step.
         ensures step { Passes N.meaning K.meaning (Identifies found.items (values_of self.old))
             (values_of self.old) self.old result self.new }
+        // What every answer keeps, and that a refusal is plain.
         ensures stays { Stays (values_of self.old) (values_of self.new) }
         ensures unused { StaysUnused N.meaning K.meaning self.old self.new }
         ensures picked { StaysPicked (values_of self.old) (values_of self.new) }
@@ -115,7 +127,9 @@ impl<N: Mechanism, K: Mechanism> Negotiate<N, K> {
 
     /// Takes the peer's MIC, which must be over the list as it is kept.
     pub(crate) fn verify(&mut self, mic: &Bytes) -> Result<(), Error>
+        // The step.
         ensures step { Passes N.meaning K.meaning (verifies mic.now (values_of self.old)) (values_of self.old) self.old result self.new }
+        // What every answer keeps, and that a refusal is plain.
         ensures stays { Stays (values_of self.old) (values_of self.new) }
         ensures unused { StaysUnused N.meaning K.meaning self.old self.new }
         ensures picked { StaysPicked (values_of self.old) (values_of self.new) }
@@ -126,8 +140,10 @@ impl<N: Mechanism, K: Mechanism> Negotiate<N, K> {
     }
 
     fn verify_over(&mut self, mic: &Bytes, text: &Bytes) -> Result<(), Error>
+        // The step.
         ensures step { Passes N.meaning K.meaning (Verifies mic.now text.now (values_of self.old))
             (values_of self.old) self.old result self.new }
+        // What every answer keeps, and that a refusal is plain.
         ensures stays { Stays (values_of self.old) (values_of self.new) }
         ensures unused { StaysUnused N.meaning K.meaning self.old self.new }
         ensures picked { StaysPicked (values_of self.old) (values_of self.new) }
@@ -146,9 +162,11 @@ impl<N: Mechanism, K: Mechanism> Negotiate<N, K> {
         status: SecurityStatus,
         token: Bytes,
     ) -> Result<Step, Error>
+        // The step, and what a refused one leaves.
         ensures step { Does N.meaning K.meaning
             (answers_signed result_field state status (values_of self.old) token) self.old (told result) self.new }
         ensures stays { OnErr result (Stays (values_of self.old) (values_of self.new)) }
+        // What every answer keeps, and that a refusal is plain.
         ensures unused { StaysUnused N.meaning K.meaning self.old self.new }
         ensures picked { StaysPicked (values_of self.old) (values_of self.new) }
         ensures plain { IfErr result (λ error. error.nstatus ≡ None) }
@@ -165,10 +183,12 @@ impl<N: Mechanism, K: Mechanism> Negotiate<N, K> {
         token: Bytes,
         text: &Bytes,
     ) -> Result<Step, Error>
+        // The step, and what a refused one leaves.
         ensures step { let v = values_of self.old in Does N.meaning K.meaning
             (Signs text.now v (λ mic. writes (targ result_field None (if_some token) (Some mic)) v (record v { state = state }) status))
             self.old (told result) self.new }
         ensures stays { OnErr result (Stays (values_of self.old) (values_of self.new)) }
+        // What every answer keeps, and that a refusal is plain.
         ensures unused { StaysUnused N.meaning K.meaning self.old self.new }
         ensures picked { StaysPicked (values_of self.old) (values_of self.new) }
         ensures plain { IfErr result (λ error. error.nstatus ≡ None) }
@@ -185,8 +205,10 @@ impl<N: Mechanism, K: Mechanism> Negotiate<N, K> {
 
     /// Both MICs are made.
     pub(crate) fn complete_signed(&mut self, token: Bytes) -> Result<Step, Error>
+        // The step, and what a refused one leaves.
         ensures step { Does N.meaning K.meaning (completes_signed (values_of self.old) token) self.old (told result) self.new }
         ensures stays { OnErr result (Stays (values_of self.old) (values_of self.new)) }
+        // What every answer keeps, and that a refusal is plain.
         ensures unused { StaysUnused N.meaning K.meaning self.old self.new }
         ensures picked { StaysPicked (values_of self.old) (values_of self.new) }
         ensures plain { IfErr result (λ error. error.nstatus ≡ None) }
@@ -201,8 +223,10 @@ impl<N: Mechanism, K: Mechanism> Negotiate<N, K> {
 
     /// The own MIC goes first, and the peer's is to come.
     pub(crate) fn hand_mic(&mut self, token: Bytes) -> Result<Step, Error>
+        // The step, and what a refused one leaves.
         ensures step { Does N.meaning K.meaning (hands_mic (values_of self.old) token) self.old (told result) self.new }
         ensures stays { OnErr result (Stays (values_of self.old) (values_of self.new)) }
+        // What every answer keeps, and that a refusal is plain.
         ensures unused { StaysUnused N.meaning K.meaning self.old self.new }
         ensures picked { StaysPicked (values_of self.old) (values_of self.new) }
         ensures plain { IfErr result (λ error. error.nstatus ≡ None) }

@@ -99,8 +99,10 @@ impl<N: Mechanism, K: Mechanism> Negotiate<N, K> {
 
     /// Takes a new NTLM in hand, where Kerberos was.
     pub(crate) fn take_ntlm(&mut self) -> Result<(), Error>
+        // The step.
         ensures step { Passes N.meaning K.meaning (in_ntlm (hand_of self.old.mech) self.old.computer)
             (record (values_of self.old) { hand = protocols.Ntlm }) self.old result self.new }
+        // What every answer keeps, and that a refusal is plain.
         ensures stays { Stays (values_of self.old) (values_of self.new) }
         ensures unused { StaysUnused N.meaning K.meaning self.old self.new }
         ensures unmarked { StaysUnmarked N.meaning K.meaning self.old self.new }
@@ -113,8 +115,10 @@ impl<N: Mechanism, K: Mechanism> Negotiate<N, K> {
     }
 
     fn replace_kerberos(&mut self) -> Result<(), Error>
+        // The step.
         ensures step { Passes N.meaning K.meaning (in_ntlm protocols.Kerberos self.old.computer)
             (record (values_of self.old) { hand = protocols.Ntlm }) self.old result self.new }
+        // What every answer keeps, and that a refusal is plain.
         ensures stays { Stays (values_of self.old) (values_of self.new) }
         ensures unused { StaysUnused N.meaning K.meaning self.old self.new }
         ensures unmarked { StaysUnmarked N.meaning K.meaning self.old self.new }
@@ -132,10 +136,12 @@ impl<N: Mechanism, K: Mechanism> Negotiate<N, K> {
         state: NegotiateState,
         status: SecurityStatus,
     ) -> Result<Step, Error>
+        // The step, and what a refused one leaves.
         ensures step { Does N.meaning K.meaning
             (writes token.now (values_of self.old) (record (values_of self.old) { need = need; state = state }) status)
             self.old (told result) self.new }
         ensures stays { OnErr result (Stays (values_of self.old) (values_of self.new)) }
+        // What every answer keeps, and that a refusal is plain.
         ensures unused { StaysUnused N.meaning K.meaning self.old self.new }
         ensures unmarked { StaysUnmarked N.meaning K.meaning self.old self.new }
         ensures picked { StaysPicked (values_of self.old) (values_of self.new) }
@@ -150,8 +156,10 @@ impl<N: Mechanism, K: Mechanism> Negotiate<N, K> {
     /// The negotiation is over.
     #[tactic(auto, unfolding(crate::specs::Rows::completes))]
     pub(crate) fn complete(&mut self, token: Bytes, mic: Option<Bytes>) -> Result<Step, Error>
+        // The step, and what a refused one leaves.
         ensures step { Does N.meaning K.meaning (completes (values_of self.old) token mic) self.old (told result) self.new }
         ensures stays { OnErr result (Stays (values_of self.old) (values_of self.new)) }
+        // What every answer keeps, and that a refusal is plain.
         ensures unused { StaysUnused N.meaning K.meaning self.old self.new }
         ensures picked { StaysPicked (values_of self.old) (values_of self.new) }
         ensures plain { IfErr result (λ error. error.nstatus ≡ None) }
@@ -172,10 +180,12 @@ impl<N: Mechanism, K: Mechanism> Negotiate<N, K> {
 
     /// The negotiation is over, and nothing is left to be sent.
     pub(crate) fn end(&mut self) -> Result<Step, Error>
+        // The step, and what a refused one leaves.
         ensures step { Does N.meaning K.meaning
             (Goes (record (values_of self.old) { state = states.Ok }) (record { status = statuses.Ok; output = [] }))
             self.old (told result) self.new }
         ensures stays { OnErr result (Stays (values_of self.old) (values_of self.new)) }
+        // What every answer keeps, and that a refusal is plain.
         ensures unused { StaysUnused N.meaning K.meaning self.old self.new }
         ensures picked { StaysPicked (values_of self.old) (values_of self.new) }
         ensures plain { IfErr result (λ error. error.nstatus ≡ None) }
@@ -190,8 +200,10 @@ impl<N: Mechanism, K: Mechanism> Negotiate<N, K> {
     /// The authentication goes on with this status.
     #[tactic(auto, unfolding(crate::specs::Rows::carries_on))]
     pub(crate) fn carry_on(&mut self, token: Bytes, status: SecurityStatus) -> Result<Step, Error>
+        // The step, and what a refused one leaves.
         ensures step { Does N.meaning K.meaning (carries_on (values_of self.old) token status) self.old (told result) self.new }
         ensures stays { OnErr result (Stays (values_of self.old) (values_of self.new)) }
+        // What every answer keeps, and that a refusal is plain.
         ensures unused { StaysUnused N.meaning K.meaning self.old self.new }
         ensures picked { StaysPicked (values_of self.old) (values_of self.new) }
         ensures plain { IfErr result (λ error. error.nstatus ≡ None) }

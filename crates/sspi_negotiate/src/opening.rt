@@ -38,9 +38,11 @@ pub(crate) fn step_with<N: Mechanism, K: Mechanism>(
     kept: &Option<CredentialsBuffers>,
     args: &InitializeSecurityContext<'_>,
 ) -> Answer
+    // The step.
     ensures step { (hand N.meaning K.meaning).steps protocol.old
         (record (step_args args.now) { handle = handle_for (hand_of protocol.old) kept.now (option_copied args.now.credentials_handle) })
         result protocol.new }
+    // What every answer keeps, and that a refusal is plain.
     ensures unused { IsUnused ((hand N.meaning K.meaning).counts protocol.old) → IsUnused ((hand N.meaning K.meaning).counts protocol.new) }
     ensures unmarked { HasNoMic ((hand N.meaning K.meaning).counts protocol.old)
         → HasNoMic ((hand N.meaning K.meaning).counts protocol.new) }
@@ -64,12 +66,14 @@ fn step_again<N: Mechanism, K: Mechanism>(
     first: &Opening,
     data_representation: DataRepresentation,
 ) -> Answer
+    // The step.
     ensures step { (hand N.meaning K.meaning).steps protocol.old (record {
       handle = passwords kept.now;
       requirements = first.now.context_requirements;
       target = first.now.target_name;
       input = first.now.input;
     }) result protocol.new }
+    // What every answer keeps, and that a refusal is plain.
     ensures unused { IsUnused ((hand N.meaning K.meaning).counts protocol.old) → IsUnused ((hand N.meaning K.meaning).counts protocol.new) }
     ensures unmarked { HasNoMic ((hand N.meaning K.meaning).counts protocol.old)
         → HasNoMic ((hand N.meaning K.meaning).counts protocol.new) }
@@ -95,9 +99,11 @@ impl<N: Mechanism, K: Mechanism> Negotiate<N, K> {
         &mut self,
         args: &InitializeSecurityContext<'_>,
     ) -> Result<Progressing, Error>
+        // The step, and what a refused one leaves.
         ensures step { Does N.meaning K.meaning (at_initial (values_of self.old) (step_args args.now))
             self.old (answer_of result) self.new }
         ensures stays { OnErr result (Stays (values_of self.old) (values_of self.new)) }
+        // What every answer keeps, and that a refusal is plain.
         ensures unused { StaysUnused N.meaning K.meaning self.old self.new }
         ensures unmarked { StaysUnmarked N.meaning K.meaning self.old self.new }
         ensures plain { IfErr result (λ error. error.nstatus ≡ None) }
@@ -113,9 +119,11 @@ impl<N: Mechanism, K: Mechanism> Negotiate<N, K> {
         first: Opening,
         args: &InitializeSecurityContext<'_>,
     ) -> Result<Progressing, Error>
+        // The step, and what a refused one leaves.
         ensures step { Does N.meaning K.meaning (first_step first (values_of self.old) (step_args args.now))
             self.old (answer_of result) self.new }
         ensures stays { OnErr result (Stays (values_of self.old) (values_of self.new)) }
+        // What every answer keeps, and that a refusal is plain.
         ensures unused { StaysUnused N.meaning K.meaning self.old self.new }
         ensures unmarked { StaysUnmarked N.meaning K.meaning self.old self.new }
         ensures plain { IfErr result (λ error. error.nstatus ≡ None) }
@@ -131,8 +139,10 @@ impl<N: Mechanism, K: Mechanism> Negotiate<N, K> {
     }
 
     fn begin(&mut self, step: Step) -> Result<Step, Error>
+        // The step, and what a refused one leaves.
         ensures step { Does N.meaning K.meaning (begun (values_of self.old) step) self.old (told result) self.new }
         ensures stays { OnErr result (Stays (values_of self.old) (values_of self.new)) }
+        // What every answer keeps, and that a refusal is plain.
         ensures unused { StaysUnused N.meaning K.meaning self.old self.new }
         ensures unmarked { StaysUnmarked N.meaning K.meaning self.old self.new }
         ensures plain { IfErr result (λ error. error.nstatus ≡ None) }
@@ -146,8 +156,10 @@ impl<N: Mechanism, K: Mechanism> Negotiate<N, K> {
 
     #[tactic(auto, unfolding(crate::specs::Client::offers))]
     fn offer(&mut self, token: Bytes) -> Result<Step, Error>
+        // The step, and what a refused one leaves.
         ensures step { Does N.meaning K.meaning (offers (values_of self.old) token) self.old (told result) self.new }
         ensures stays { OnErr result (Stays (values_of self.old) (values_of self.new)) }
+        // What every answer keeps, and that a refusal is plain.
         ensures unused { StaysUnused N.meaning K.meaning self.old self.new }
         ensures unmarked { StaysUnmarked N.meaning K.meaning self.old self.new }
         ensures plain { IfErr result (λ error. error.nstatus ≡ None) }
@@ -175,9 +187,11 @@ impl<N: Mechanism, K: Mechanism> Negotiate<N, K> {
 
     #[tactic(auto, using(crate::proofs::Tokens::fallback_is_other))]
     fn fall(&mut self, error: Error, first: Opening) -> Result<Progressing, Error>
+        // The step, and what a refused one leaves.
         ensures step { Does N.meaning K.meaning (falls (values_of self.old) (values_of self.old) first error.error_type)
             self.old (answer_of result) self.new }
         ensures stays { OnErr result (Stays (values_of self.old) (values_of self.new)) }
+        // What every answer keeps, and that a refusal is plain.
         ensures unused { StaysUnused N.meaning K.meaning self.old self.new }
         ensures unmarked { StaysUnmarked N.meaning K.meaning self.old self.new }
         ensures other { UnlessMemory (answer_of result) (error.error_type ≢ ErrorKind.InsufficientMemory) }
@@ -192,10 +206,12 @@ impl<N: Mechanism, K: Mechanism> Negotiate<N, K> {
 
     #[tactic(auto, using(crate::proofs::Tokens::fallback_is_other))]
     fn fall_waiting(&mut self, error: Error, first: Opening) -> Result<Progressing, Error>
+        // The step, and what a refused one leaves.
         ensures step { Does N.meaning K.meaning
             (falls (record (values_of self.old) { branch = branches.Opening first }) (values_of self.old) first error.error_type)
             self.old (answer_of result) self.new }
         ensures stays { OnErr result (Stays (values_of self.old) (values_of self.new)) }
+        // What every answer keeps, and that a refusal is plain.
         ensures unused { StaysUnused N.meaning K.meaning self.old self.new }
         ensures unmarked { StaysUnmarked N.meaning K.meaning self.old self.new }
         ensures other { UnlessMemory (answer_of result) (error.error_type ≢ ErrorKind.InsufficientMemory) }
@@ -212,8 +228,10 @@ impl<N: Mechanism, K: Mechanism> Negotiate<N, K> {
     /// NTLM makes the step. Where there is no memory for it, a step that waited for a KDC waits still.
     #[tactic(auto, unfolding(crate::specs::Client::falls_back))]
     fn fall_back(&mut self, first: Opening, waited: bool) -> Result<Progressing, Error>
+        // The step, and what a refused one leaves.
         ensures step { Does N.meaning K.meaning (falls_back (values_of self.old) first) self.old (answer_of result) self.new }
         ensures stays { OnErr result (Stays (values_of self.old) (values_of self.new)) }
+        // What every answer keeps, and that a refusal is plain.
         ensures unused { StaysUnused N.meaning K.meaning self.old self.new }
         ensures unmarked { StaysUnmarked N.meaning K.meaning self.old self.new }
         ensures plain { IfErr result (λ error. error.nstatus ≡ None) }
@@ -235,8 +253,10 @@ impl<N: Mechanism, K: Mechanism> Negotiate<N, K> {
 
     #[tactic(auto, unfolding(crate::specs::Client::steps_again))]
     fn open_again(&mut self, first: Opening) -> Result<Progressing, Error>
+        // The step, and what a refused one leaves.
         ensures step { Does N.meaning K.meaning (steps_again (values_of self.old) first) self.old (answer_of result) self.new }
         ensures stays { OnErr result (Stays (values_of self.old) (values_of self.new)) }
+        // What every answer keeps, and that a refusal is plain.
         ensures unused { StaysUnused N.meaning K.meaning self.old self.new }
         ensures unmarked { StaysUnmarked N.meaning K.meaning self.old self.new }
         ensures plain { IfErr result (λ error. error.nstatus ≡ None) }
@@ -263,9 +283,11 @@ impl<N: Mechanism, K: Mechanism> Negotiate<N, K> {
         first: Opening,
         reply: &Reply,
     ) -> Result<Progressing, Error>
+        // The step, and what a refused one leaves.
         ensures step { Does N.meaning K.meaning (resumes_opening first (values_of self.old) reply.now)
             self.old (answer_of result) self.new }
         ensures stays { OnErr result (Stays (values_of self.old) (values_of self.new)) }
+        // What every answer keeps, and that a refusal is plain.
         ensures unused { StaysUnused N.meaning K.meaning self.old self.new }
         ensures unmarked { StaysUnmarked N.meaning K.meaning self.old self.new }
         ensures plain { IfErr result (λ error. error.nstatus ≡ None) }

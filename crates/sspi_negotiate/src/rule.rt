@@ -35,12 +35,15 @@ impl<N: Mechanism, K: Mechanism> Negotiate<N, K> {
 
     /// Takes Kerberos in the place of NTLM, where a KDC serves the name's domain.
     pub(crate) fn take_by_rule(&mut self, name: &Username) -> Result<(), Error>
+        // What `Ok` holds.
         ensures taken { OnOk result (TakenBy (hand N.meaning K.meaning)
             (rule_url (values_of self.old) name.now) self.old.kdcs self.old.computer self.old.mech self.new.mech) }
         ensures named { OnOk result (values_of self.new ≡ ruled_values (rule_url (values_of self.old) name.now) (values_of self.old)) }
+        // What holds of every answer.
         ensures rest { self.new ≡ record self.old { mech = self.new.mech } }
         ensures unused { StaysUnused N.meaning K.meaning self.old self.new }
         ensures unmarked { StaysUnmarked N.meaning K.meaning self.old self.new }
+        // What a refusal says.
         ensures plain { IfErr result (λ error. error.nstatus ≡ None) }
         ensures err { IfErr result (λ error. error.error_type ≡ kinds.InsufficientMemory) }
     {

@@ -34,8 +34,10 @@ pub(crate) fn accept_with<N: Mechanism, K: Mechanism>(
     args: &AcceptSecurityContext<'_>,
     token: &Option<Bytes>,
 ) -> Result<Step, Error>
+    // The step.
     ensures step { (hand N.meaning K.meaning).accepts protocol.old
         (record (accept_args args.now) { input = or_empty token.now }) result protocol.new }
+    // What every answer keeps, and that a refusal is plain.
     ensures unused { IsUnused ((hand N.meaning K.meaning).counts protocol.old) → IsUnused ((hand N.meaning K.meaning).counts protocol.new) }
     ensures unmarked { HasNoMic ((hand N.meaning K.meaning).counts protocol.old)
         → HasNoMic ((hand N.meaning K.meaning).counts protocol.new) }
@@ -89,9 +91,11 @@ impl<N: Mechanism, K: Mechanism> Negotiate<N, K> {
     }
 
     fn accept_at(&mut self, args: &AcceptSecurityContext<'_>) -> Result<Step, Error>
+        // The step, and what a refused one leaves.
         ensures step { Does N.meaning K.meaning (spnego_server (values_of self.old) (accept_args args.now))
             self.old (told result) self.new }
         ensures stays { OnErr result (Stays (values_of self.old) (values_of self.new)) }
+        // What every answer keeps, and that a refusal is plain.
         ensures unused { StaysUnused N.meaning K.meaning self.old self.new }
         ensures first { self.old.state ≡ states.Initial → StaysUnmarked N.meaning K.meaning self.old self.new }
         ensures picked { self.old.state ≢ states.Initial → StaysPicked (values_of self.old) (values_of self.new) }
@@ -109,10 +113,13 @@ impl<N: Mechanism, K: Mechanism> Negotiate<N, K> {
     }
 
     fn read_init(&mut self, args: &AcceptSecurityContext<'_>) -> Result<Step, Error>
+        // What must hold before.
         requires server { self.now.role ≡ roles.Server }
+        // The step, and what a refused one leaves.
         ensures step { Does N.meaning K.meaning (at_initial (init_of args.now.input.now) (values_of self.old) (accept_args args.now))
             self.old (told result) self.new }
         ensures stays { OnErr result (Stays (values_of self.old) (values_of self.new)) }
+        // What every answer keeps, and that a refusal is plain.
         ensures unused { StaysUnused N.meaning K.meaning self.old self.new }
         ensures unmarked { StaysUnmarked N.meaning K.meaning self.old self.new }
         ensures plain { IfErr result (λ error. error.nstatus ≡ None) }
@@ -128,10 +135,13 @@ impl<N: Mechanism, K: Mechanism> Negotiate<N, K> {
         token: Option<Bytes>,
         args: &AcceptSecurityContext<'_>,
     ) -> Result<Step, Error>
+        // What must hold before.
         requires server { self.now.role ≡ roles.Server }
+        // The step, and what a refused one leaves.
         ensures step { Does N.meaning K.meaning (reads_list list token (values_of self.old) (accept_args args.now))
             self.old (told result) self.new }
         ensures stays { OnErr result (Stays (values_of self.old) (values_of self.new)) }
+        // What every answer keeps, and that a refusal is plain.
         ensures unused { StaysUnused N.meaning K.meaning self.old self.new }
         ensures unmarked { StaysUnmarked N.meaning K.meaning self.old self.new }
         ensures plain { IfErr result (λ error. error.nstatus ≡ None) }
@@ -153,10 +163,13 @@ impl<N: Mechanism, K: Mechanism> Negotiate<N, K> {
         token: Option<Bytes>,
         args: &AcceptSecurityContext<'_>,
     ) -> Result<Step, Error>
+        // What must hold before.
         requires server { self.now.role ≡ roles.Server }
+        // The step, and what a refused one leaves.
         ensures step { Does N.meaning K.meaning (picks picked list token (values_of self.old) (accept_args args.now))
             self.old (told result) self.new }
         ensures stays { OnErr result (Stays (values_of self.old) (values_of self.new)) }
+        // What every answer keeps, and that a refusal is plain.
         ensures unused { StaysUnused N.meaning K.meaning self.old self.new }
         ensures unmarked { StaysUnmarked N.meaning K.meaning self.old self.new }
         ensures plain { IfErr result (λ error. error.nstatus ≡ None) }
@@ -176,9 +189,11 @@ impl<N: Mechanism, K: Mechanism> Negotiate<N, K> {
         token: Option<Bytes>,
         args: &AcceptSecurityContext<'_>,
     ) -> Result<Step, Error>
+        // The step, and what a refused one leaves.
         ensures step { Does N.meaning K.meaning (takes_pick picked.choice token picked (values_of self.old) (accept_args args.now))
             self.old (told result) self.new }
         ensures stays { OnErr result (Stays (values_of self.old) (values_of self.new)) }
+        // What every answer keeps, and that a refusal is plain.
         ensures unused { StaysUnused N.meaning K.meaning self.old self.new }
         ensures unmarked { StaysUnmarked N.meaning K.meaning self.old self.new }
         ensures plain { IfErr result (λ error. error.nstatus ≡ None) }
@@ -196,10 +211,12 @@ impl<N: Mechanism, K: Mechanism> Negotiate<N, K> {
         token: Option<Bytes>,
         args: &AcceptSecurityContext<'_>,
     ) -> Result<Step, Error>
+        // The step, and what a refused one leaves.
         ensures step { Does N.meaning K.meaning (in_ntlm (hand_of self.old.mech) self.old.computer
             (placed token picked (record (values_of self.old) { hand = protocols.Ntlm }) (accept_args args.now)))
             self.old (told result) self.new }
         ensures stays { OnErr result (Stays (values_of self.old) (values_of self.new)) }
+        // What every answer keeps, and that a refusal is plain.
         ensures unused { StaysUnused N.meaning K.meaning self.old self.new }
         ensures unmarked { StaysUnmarked N.meaning K.meaning self.old self.new }
         ensures plain { IfErr result (λ error. error.nstatus ≡ None) }
@@ -215,9 +232,11 @@ impl<N: Mechanism, K: Mechanism> Negotiate<N, K> {
         token: Option<Bytes>,
         args: &AcceptSecurityContext<'_>,
     ) -> Result<Step, Error>
+        // The step, and what a refused one leaves.
         ensures step { Does N.meaning K.meaning (placed token picked (values_of self.old) (accept_args args.now))
             self.old (told result) self.new }
         ensures stays { OnErr result (Stays (values_of self.old) (values_of self.new)) }
+        // What every answer keeps, and that a refusal is plain.
         ensures unused { StaysUnused N.meaning K.meaning self.old self.new }
         ensures unmarked { StaysUnmarked N.meaning K.meaning self.old self.new }
         ensures plain { IfErr result (λ error. error.nstatus ≡ None) }
@@ -237,9 +256,11 @@ impl<N: Mechanism, K: Mechanism> Negotiate<N, K> {
         need: bool,
         state: NegotiateState,
     ) -> Result<Step, Error>
+        // The step, and what a refused one leaves.
         ensures step { Does N.meaning K.meaning (goes_on_with picked token need state (values_of self.old))
             self.old (told result) self.new }
         ensures stays { OnErr result (Stays (values_of self.old) (values_of self.new)) }
+        // What every answer keeps, and that a refusal is plain.
         ensures unused { StaysUnused N.meaning K.meaning self.old self.new }
         ensures unmarked { StaysUnmarked N.meaning K.meaning self.old self.new }
         ensures plain { IfErr result (λ error. error.nstatus ≡ None) }
@@ -251,8 +272,10 @@ impl<N: Mechanism, K: Mechanism> Negotiate<N, K> {
 
     #[tactic(auto, unfolding(crate::specs::Server::drops))]
     fn drop_token(&mut self, picked: Picked) -> Result<Step, Error>
+        // The step, and what a refused one leaves.
         ensures step { Does N.meaning K.meaning (drops picked (values_of self.old)) self.old (told result) self.new }
         ensures stays { OnErr result (Stays (values_of self.old) (values_of self.new)) }
+        // What every answer keeps, and that a refusal is plain.
         ensures unused { StaysUnused N.meaning K.meaning self.old self.new }
         ensures unmarked { StaysUnmarked N.meaning K.meaning self.old self.new }
         ensures plain { IfErr result (λ error. error.nstatus ≡ None) }
@@ -267,9 +290,11 @@ impl<N: Mechanism, K: Mechanism> Negotiate<N, K> {
         token: Option<Bytes>,
         args: &AcceptSecurityContext<'_>,
     ) -> Result<Step, Error>
+        // The step, and what a refused one leaves.
         ensures step { Does N.meaning K.meaning (first_token token picked (values_of self.old) (accept_args args.now))
             self.old (told result) self.new }
         ensures stays { OnErr result (Stays (values_of self.old) (values_of self.new)) }
+        // What every answer keeps, and that a refusal is plain.
         ensures unused { StaysUnused N.meaning K.meaning self.old self.new }
         ensures unmarked { StaysUnmarked N.meaning K.meaning self.old self.new }
         ensures plain { IfErr result (λ error. error.nstatus ≡ None) }
@@ -294,9 +319,11 @@ impl<N: Mechanism, K: Mechanism> Negotiate<N, K> {
         picked: Picked,
         args: &AcceptSecurityContext<'_>,
     ) -> Result<Step, Error>
+        // The step, and what a refused one leaves.
         ensures step { let v = values_of self.old in Does N.meaning K.meaning
             (Pairs (λ pairs. waits_for_token picked v (needs_mic v (accept_args args.now) pairs))) self.old (told result) self.new }
         ensures stays { OnErr result (Stays (values_of self.old) (values_of self.new)) }
+        // What every answer keeps, and that a refusal is plain.
         ensures unused { StaysUnused N.meaning K.meaning self.old self.new }
         ensures unmarked { StaysUnmarked N.meaning K.meaning self.old self.new }
         ensures plain { IfErr result (λ error. error.nstatus ≡ None) }
@@ -311,11 +338,13 @@ impl<N: Mechanism, K: Mechanism> Negotiate<N, K> {
         token: Option<Bytes>,
         args: &AcceptSecurityContext<'_>,
     ) -> Result<Step, Error>
+        // The step, and what a refused one leaves.
         ensures step { let v = values_of self.old in Does N.meaning K.meaning
             (Accepts (record (accept_args args.now) { input = or_empty token }) v
             (λ step. Pairs (λ pairs. opens picked v step (needs_mic v (accept_args args.now) pairs))))
             self.old (told result) self.new }
         ensures stays { OnErr result (Stays (values_of self.old) (values_of self.new)) }
+        // What every answer keeps, and that a refusal is plain.
         ensures unused { StaysUnused N.meaning K.meaning self.old self.new }
         ensures unmarked { StaysUnmarked N.meaning K.meaning self.old self.new }
         ensures plain { IfErr result (λ error. error.nstatus ≡ None) }
@@ -330,9 +359,11 @@ impl<N: Mechanism, K: Mechanism> Negotiate<N, K> {
         step: Step,
         args: &AcceptSecurityContext<'_>,
     ) -> Result<Step, Error>
+        // The step, and what a refused one leaves.
         ensures step { let v = values_of self.old in Does N.meaning K.meaning
             (Pairs (λ pairs. opens picked v step (needs_mic v (accept_args args.now) pairs))) self.old (told result) self.new }
         ensures stays { OnErr result (Stays (values_of self.old) (values_of self.new)) }
+        // What every answer keeps, and that a refusal is plain.
         ensures unused { StaysUnused N.meaning K.meaning self.old self.new }
         ensures unmarked { StaysUnmarked N.meaning K.meaning self.old self.new }
         ensures plain { IfErr result (λ error. error.nstatus ≡ None) }
@@ -342,8 +373,10 @@ impl<N: Mechanism, K: Mechanism> Negotiate<N, K> {
     }
 
     fn open_by_need(&mut self, picked: Picked, step: Step, need: bool) -> Result<Step, Error>
+        // The step, and what a refused one leaves.
         ensures step { Does N.meaning K.meaning (opens picked (values_of self.old) step need) self.old (told result) self.new }
         ensures stays { OnErr result (Stays (values_of self.old) (values_of self.new)) }
+        // What every answer keeps, and that a refusal is plain.
         ensures unused { StaysUnused N.meaning K.meaning self.old self.new }
         ensures unmarked { StaysUnmarked N.meaning K.meaning self.old self.new }
         ensures plain { IfErr result (λ error. error.nstatus ≡ None) }
@@ -361,8 +394,10 @@ impl<N: Mechanism, K: Mechanism> Negotiate<N, K> {
 
     #[tactic(auto, unfolding(crate::specs::Server::goes_on))]
     fn go_on(&mut self, picked: Picked, step: Step, need: bool) -> Result<Step, Error>
+        // The step, and what a refused one leaves.
         ensures step { Does N.meaning K.meaning (goes_on picked (values_of self.old) need step) self.old (told result) self.new }
         ensures stays { OnErr result (Stays (values_of self.old) (values_of self.new)) }
+        // What every answer keeps, and that a refusal is plain.
         ensures unused { StaysUnused N.meaning K.meaning self.old self.new }
         ensures unmarked { StaysUnmarked N.meaning K.meaning self.old self.new }
         ensures plain { IfErr result (λ error. error.nstatus ≡ None) }
@@ -372,8 +407,10 @@ impl<N: Mechanism, K: Mechanism> Negotiate<N, K> {
 
     #[tactic(auto, unfolding(crate::specs::Server::awaits_mic))]
     fn await_mic(&mut self, picked: Picked, step: Step) -> Result<Step, Error>
+        // The step, and what a refused one leaves.
         ensures step { Does N.meaning K.meaning (awaits_mic picked (values_of self.old) step) self.old (told result) self.new }
         ensures stays { OnErr result (Stays (values_of self.old) (values_of self.new)) }
+        // What every answer keeps, and that a refusal is plain.
         ensures unused { StaysUnused N.meaning K.meaning self.old self.new }
         ensures unmarked { StaysUnmarked N.meaning K.meaning self.old self.new }
         ensures plain { IfErr result (λ error. error.nstatus ≡ None) }
@@ -383,8 +420,10 @@ impl<N: Mechanism, K: Mechanism> Negotiate<N, K> {
 
     #[tactic(auto, unfolding(crate::specs::Server::ends_at_once))]
     fn end_at_once(&mut self, picked: Picked, step: Step) -> Result<Step, Error>
+        // The step, and what a refused one leaves.
         ensures step { Does N.meaning K.meaning (ends_at_once picked (values_of self.old) step) self.old (told result) self.new }
         ensures stays { OnErr result (Stays (values_of self.old) (values_of self.new)) }
+        // What every answer keeps, and that a refusal is plain.
         ensures unused { StaysUnused N.meaning K.meaning self.old self.new }
         ensures unmarked { StaysUnmarked N.meaning K.meaning self.old self.new }
         ensures plain { IfErr result (λ error. error.nstatus ≡ None) }

@@ -21,9 +21,11 @@ use sspi_types::{Bytes, Error, Reason};
 
 impl<N: Mechanism, K: Mechanism> Negotiate<N, K> {
     pub(crate) fn read_response(&mut self, args: &AcceptSecurityContext<'_>) -> Result<Step, Error>
+        // The step, and what a refused one leaves.
         ensures step { Does N.meaning K.meaning (at_progress (targ_of args.now.input.now) (values_of self.old) (accept_args args.now))
             self.old (told result) self.new }
         ensures stays { OnErr result (Stays (values_of self.old) (values_of self.new)) }
+        // What every answer keeps, and that a refusal is plain.
         ensures unused { StaysUnused N.meaning K.meaning self.old self.new }
         ensures picked { StaysPicked (values_of self.old) (values_of self.new) }
         ensures plain { IfErr result (λ error. error.nstatus ≡ None) }
@@ -37,11 +39,13 @@ impl<N: Mechanism, K: Mechanism> Negotiate<N, K> {
         token: NegTokenTarg,
         args: &AcceptSecurityContext<'_>,
     ) -> Result<Step, Error>
+        // The step, and what a refused one leaves.
         ensures step { Does N.meaning K.meaning
             (Accepts (record (accept_args args.now) { input = or_empty token.response_token }) (values_of self.old)
             (λ step. accepted token (values_of self.old) step))
             self.old (told result) self.new }
         ensures stays { OnErr result (Stays (values_of self.old) (values_of self.new)) }
+        // What every answer keeps, and that a refusal is plain.
         ensures unused { StaysUnused N.meaning K.meaning self.old self.new }
         ensures picked { StaysPicked (values_of self.old) (values_of self.new) }
         ensures plain { IfErr result (λ error. error.nstatus ≡ None) }
@@ -51,8 +55,10 @@ impl<N: Mechanism, K: Mechanism> Negotiate<N, K> {
     }
 
     fn respond(&mut self, token: NegTokenTarg, step: Step) -> Result<Step, Error>
+        // The step, and what a refused one leaves.
         ensures step { Does N.meaning K.meaning (accepted token (values_of self.old) step) self.old (told result) self.new }
         ensures stays { OnErr result (Stays (values_of self.old) (values_of self.new)) }
+        // What every answer keeps, and that a refusal is plain.
         ensures unused { StaysUnused N.meaning K.meaning self.old self.new }
         ensures picked { StaysPicked (values_of self.old) (values_of self.new) }
         ensures plain { IfErr result (λ error. error.nstatus ≡ None) }
@@ -72,8 +78,10 @@ impl<N: Mechanism, K: Mechanism> Negotiate<N, K> {
         complete: bool,
         token: Bytes,
     ) -> Result<Step, Error>
+        // The step, and what a refused one leaves.
         ensures step { Does N.meaning K.meaning (settles need mic complete (values_of self.old) token) self.old (told result) self.new }
         ensures stays { OnErr result (Stays (values_of self.old) (values_of self.new)) }
+        // What every answer keeps, and that a refusal is plain.
         ensures unused { StaysUnused N.meaning K.meaning self.old self.new }
         ensures picked { StaysPicked (values_of self.old) (values_of self.new) }
         ensures plain { IfErr result (λ error. error.nstatus ≡ None) }
@@ -89,9 +97,11 @@ impl<N: Mechanism, K: Mechanism> Negotiate<N, K> {
     }
 
     fn check_and_sign(&mut self, mic: &Bytes, token: Bytes) -> Result<Step, Error>
+        // The step, and what a refused one leaves.
         ensures step { Does N.meaning K.meaning (checks mic.now (values_of self.old) (completes_signed (values_of self.old) token))
             self.old (told result) self.new }
         ensures stays { OnErr result (Stays (values_of self.old) (values_of self.new)) }
+        // What every answer keeps, and that a refusal is plain.
         ensures unused { StaysUnused N.meaning K.meaning self.old self.new }
         ensures picked { StaysPicked (values_of self.old) (values_of self.new) }
         ensures plain { IfErr result (λ error. error.nstatus ≡ None) }
@@ -102,8 +112,10 @@ impl<N: Mechanism, K: Mechanism> Negotiate<N, K> {
 
     #[tactic(auto, unfolding(crate::specs::Server::without_mic))]
     fn go_without_mic(&mut self, complete: bool, token: Bytes) -> Result<Step, Error>
+        // The step, and what a refused one leaves.
         ensures step { Does N.meaning K.meaning (without_mic complete (values_of self.old) token) self.old (told result) self.new }
         ensures stays { OnErr result (Stays (values_of self.old) (values_of self.new)) }
+        // What every answer keeps, and that a refusal is plain.
         ensures unused { StaysUnused N.meaning K.meaning self.old self.new }
         ensures picked { StaysPicked (values_of self.old) (values_of self.new) }
         ensures plain { IfErr result (λ error. error.nstatus ≡ None) }
@@ -116,9 +128,11 @@ impl<N: Mechanism, K: Mechanism> Negotiate<N, K> {
     }
 
     fn excuse(&mut self, token: Bytes) -> Result<Step, Error>
+        // The step, and what a refused one leaves.
         ensures step { Does N.meaning K.meaning (Names (values_of self.old) (λ name. excuses (values_of self.old) token name))
             self.old (told result) self.new }
         ensures stays { OnErr result (Stays (values_of self.old) (values_of self.new)) }
+        // What every answer keeps, and that a refusal is plain.
         ensures unused { StaysUnused N.meaning K.meaning self.old self.new }
         ensures picked { StaysPicked (values_of self.old) (values_of self.new) }
         ensures plain { IfErr result (λ error. error.nstatus ≡ None) }
@@ -128,8 +142,10 @@ impl<N: Mechanism, K: Mechanism> Negotiate<N, K> {
     }
 
     fn excuse_name(&mut self, token: Bytes, name: &Username) -> Result<Step, Error>
+        // The step, and what a refused one leaves.
         ensures step { Does N.meaning K.meaning (excuses (values_of self.old) token name.now) self.old (told result) self.new }
         ensures stays { OnErr result (Stays (values_of self.old) (values_of self.new)) }
+        // What every answer keeps, and that a refusal is plain.
         ensures unused { StaysUnused N.meaning K.meaning self.old self.new }
         ensures picked { StaysPicked (values_of self.old) (values_of self.new) }
         ensures plain { IfErr result (λ error. error.nstatus ≡ None) }
@@ -143,9 +159,11 @@ impl<N: Mechanism, K: Mechanism> Negotiate<N, K> {
     }
 
     pub(crate) fn read_last(&mut self, args: &AcceptSecurityContext<'_>) -> Result<Step, Error>
+        // The step, and what a refused one leaves.
         ensures step { Does N.meaning K.meaning (at_verify_mic (targ_of args.now.input.now) (values_of self.old))
             self.old (told result) self.new }
         ensures stays { OnErr result (Stays (values_of self.old) (values_of self.new)) }
+        // What every answer keeps, and that a refusal is plain.
         ensures unused { StaysUnused N.meaning K.meaning self.old self.new }
         ensures picked { StaysPicked (values_of self.old) (values_of self.new) }
         ensures plain { IfErr result (λ error. error.nstatus ≡ None) }
@@ -155,8 +173,10 @@ impl<N: Mechanism, K: Mechanism> Negotiate<N, K> {
     }
 
     fn take_last(&mut self, mic: Option<Bytes>) -> Result<Step, Error>
+        // The step, and what a refused one leaves.
         ensures step { Does N.meaning K.meaning (last_mic mic (values_of self.old)) self.old (told result) self.new }
         ensures stays { OnErr result (Stays (values_of self.old) (values_of self.new)) }
+        // What every answer keeps, and that a refusal is plain.
         ensures unused { StaysUnused N.meaning K.meaning self.old self.new }
         ensures picked { StaysPicked (values_of self.old) (values_of self.new) }
         ensures plain { IfErr result (λ error. error.nstatus ≡ None) }
@@ -168,11 +188,13 @@ impl<N: Mechanism, K: Mechanism> Negotiate<N, K> {
     }
 
     fn check_last(&mut self, mic: &Bytes) -> Result<Step, Error>
+        // The step, and what a refused one leaves.
         ensures step { Does N.meaning K.meaning
             (checks mic.now (values_of self.old)
             (Goes (record (values_of self.old) { state = states.Ok }) (record { status = statuses.Ok; output = [] })))
             self.old (told result) self.new }
         ensures stays { OnErr result (Stays (values_of self.old) (values_of self.new)) }
+        // What every answer keeps, and that a refusal is plain.
         ensures unused { StaysUnused N.meaning K.meaning self.old self.new }
         ensures picked { StaysPicked (values_of self.old) (values_of self.new) }
         ensures plain { IfErr result (λ error. error.nstatus ≡ None) }

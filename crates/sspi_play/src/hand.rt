@@ -131,11 +131,13 @@ pub(crate) fn hand<N: Mechanism, K: Mechanism, C: CredentialsProxy, D: Kdc>(
     transcript: &mut Transcript,
     standing: &mut Standing,
 ) -> Result<(), DelegateError>
+    // Which delivery was handed, and why none was.
     ensures stands { OnOk result ((past : List Delivery) → Stands past transcript.old.turns standing.old →
         Stands (delivery.now ∷ past) transcript.new.turns standing.new) }
     ensures stops { OnErr result ((past : List Delivery) → Stands past transcript.old.turns standing.old →
         StopsAt delivery.now past transcript.new.turns) }
     ensures only { IfErr result (λ error. error ≡ DelegateError.InsufficientMemory) }
+    // What both ends did.
     ensures client_history { let c = either N.REQUESTS N.meaning K.meaning in let k = kdc_calls D.told D.asked D.faults in
         (first : ClientView (SspiContext N K)) (kdc_first : D) (past : List Delivery) → Stands past transcript.old.turns standing.old →
         ClientHistory c k first kdc_first (client_turns transcript.old.turns) client.old kdc.old →
@@ -147,6 +149,7 @@ pub(crate) fn hand<N: Mechanism, K: Mechanism, C: CredentialsProxy, D: Kdc>(
         ServerHistory c C.meaning first (server_turns transcript.old.turns) server.old →
         Gave c C.meaning first standing.old.played.identity (server_turns transcript.old.turns) →
         OnOk result (Gave c C.meaning first standing.new.played.identity (server_turns transcript.new.turns)) }
+    // What stays.
     ensures kdc { KdcStays D.told D.faults kdc.old kdc.new }
     ensures proxy { ProxyStays C.meaning server.old.proxy server.new.proxy }
 {

@@ -39,16 +39,19 @@ pub fn play<N: Mechanism, K: Mechanism, C: CredentialsProxy, D: Kdc>(
     kdc: &mut D,
     transcript: &mut Transcript,
 ) -> Result<Played, DelegateError>
+    // Of any ends.
     ensures only { IfErr result (λ error. error ≡ DelegateError.InsufficientMemory) }
     ensures accounts { transcript.old.turns ≡ [] → Accounts (either N.REQUESTS N.meaning K.meaning) C.meaning
         (kdc_calls D.told D.asked D.faults) schedule.now (both client.old server.old kdc.old transcript.old.turns) result
         (both client.new server.new kdc.new transcript.new.turns) }
+    // Of ends that were just made.
     ensures plays { IsFresh client.old server.old transcript.old.turns → IsPlay (either N.REQUESTS N.meaning K.meaning)
         (both client.old server.old kdc.old transcript.old.turns) (both client.new server.new kdc.new transcript.new.turns) }
     ensures agrees { IsFresh client.old server.old transcript.old.turns → AgreesIfFaithful (either N.REQUESTS N.meaning K.meaning) kept_list
         (client_end client.new) (server_end server.new) transcript.new.turns (identity_of result) }
     ensures negotiates { IsFresh client.old server.old transcript.old.turns → NegotiatesIfFaithful N.REQUESTS N.meaning K.meaning
         (client_end client.new) (server_end server.new) server.old.settings.mode transcript.new.turns }
+    // What stays.
     ensures kdc { KdcStays D.told D.faults kdc.old kdc.new }
     ensures proxy { ProxyStays C.meaning server.old.proxy server.new.proxy }
 {

@@ -93,9 +93,11 @@ fn status_without<R: Drop, T: Drop, S: Drop>(status: u8, _kept: R, _tally: T, _s
 
 /// What the words and the text of the source come to.
 fn conduct<S: Source>(alloc: Global, words: &[String], source: &mut S) -> Said
+    // What comes of it.
     ensures comes { Comes (command_of words.now) (S.left source.old) (S.faults source.old) (S.faults source.new) result }
     ensures unread { task_in (command_of words.now) ≡ None → source.new ≡ source.old }
     ensures judged { IsSome (task_in (command_of words.now)) → IsJudged (S.left source.old) (S.left source.new) result }
+    // What was read for it.
     ensures taken { TakesAtMost (TEXT_LIMIT + 1) (S.left source.old) (S.left source.new) }
     ensures faults { S.faults source.old ≤ S.faults source.new }
 {

@@ -24,8 +24,10 @@ pub enum TextError {
 /// `TooLong` where more than `TEXT_LIMIT` bytes are left, of which one past the limit is read and no more. `Failed` where a
 /// call on the source fails. What was read is lost with a refusal.
 pub fn read_text<S: Source>(alloc: Global, source: &mut S) -> Result<Vec<u8>, TextError>
+    // What was read.
     ensures text { ReadsText (S.left source.old) result }
     ensures short { IfOk result (λ text. length text.items ≤ text_limit) }
+    // What was taken of the source, and why no more.
     ensures taken { TakesAtMost (text_limit + 1) (S.left source.old) (S.left source.new) }
     ensures so_far { ReadsSoFar (S.left source.old) (S.left source.new) result }
     ensures cause { TextCause (S.faults source.old) (S.faults source.new) result }

@@ -26,9 +26,12 @@ pub fn read_ts_credentials<S: Source>(
     alloc: Global,
     source: &mut S,
 ) -> Result<CredentialsBuffers, Error>
+    // What was read.
     ensures read { ReadsCreds (S.left source.old) (S.left source.new) result }
+    // What a refusal says.
     ensures kinds { IfErr result IsCredsRefusal }
     ensures memory { IfErr result (λ error. error ≡ memory_error → IfSome (S.left source.old) BeginsSequence) }
+    // What became of the source.
     ensures cause { CredsCause (S.faults source.old) (S.faults source.new) result }
     ensures rest { LeavesRest (S.left source.old) (S.left source.new) }
 {

@@ -119,9 +119,11 @@ fn capped_body(domain: usize, user: usize, password: usize) -> usize
 /// TSCredentials whose content has `size` bytes.
 #[tactic(auto, using(sspi_ber::proofs::Written::writing), unfolding(sspi_ber::specs::Short::element))]
 fn write_creds<W: Sink>(sink: &mut W, texts: &Texts<'_>, size: usize) -> Result<(), WireKind>
+    // What must hold before.
     requires fit { FitTexts (length texts.now.domain.now) (length texts.now.user.now) (length texts.now.password.now) }
     requires size { size ≡ length (creds_body texts.now.domain.now texts.now.user.now texts.now.password.now) }
     requires small { size ≤ max_content }
+    // What was written, and why not all.
     ensures wrote { Writes (W.written sink.old) (W.written sink.new) result
         (element 0x30 (creds_body texts.now.domain.now texts.now.user.now texts.now.password.now)) }
     ensures cause { WriteCause (W.faults sink.old) (W.faults sink.new) result }

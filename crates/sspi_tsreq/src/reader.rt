@@ -72,8 +72,10 @@ fn lengthen(alloc: Global, field: &mut Option<Bytes>, octets: &[u8]) -> Result<(
 
 /// The bytes of the piece that belong to the field in which the reader stands, and the place behind them.
 fn first_octets<'a>(place: Place, body: &'a [u8]) -> (&'a [u8], Place)
+    // Which bytes these are.
     ensures front { result.0.now ≡ take (length result.0.now) body.now }
     ensures within { length result.0.now ≤ length body.now }
+    // Where reading goes on.
     ensures goes { (nonce more : List ℕ) (r : TsRequest) → rest_at nonce place r (result.0.now ++ more) ≡ rest_at nonce result.1
         (lengthened place r result.0.now) more }
     ensures text { IsInText result.1 → drop (length result.0.now) body.now ≡ [] }
@@ -126,9 +128,12 @@ impl TsReader {
     /// the identifier octet of an OCTET STRING, and none once the message is whole or its header is none. What stands behind
     /// the request is dropped. Faults are told by `finish`.
     pub fn feed(&mut self, piece: &[u8]) -> Result<(), WireKind>
+        // What `Ok` holds.
         ensures ok { (bytes : List ℕ) → Stands self.old bytes → OnOk result (Stands self.new (bytes ++ piece.now)) }
+        // What a refusal says, and what it leaves.
         ensures err { OnErr result (self.new ≡ self.old) }
         ensures kind { IfErr result (λ kind. kind ≡ WireKind.InsufficientMemory) }
+        // Where no refusal comes.
         ensures free { (bytes : List ℕ) → Stands self.old bytes → IsWithout 0x04 (bytes ++ piece.now) → IsOk result }
         ensures past { (bytes : List ℕ) → Stands self.old bytes → IsPastReading bytes → IsOk result }
     {
@@ -143,10 +148,14 @@ impl TsReader {
 
     /// The first piece.
     fn feed_first(&mut self, piece: &[u8]) -> Result<(), WireKind>
+        // What must hold before.
         requires { self.old.stage ≡ Stage.OuterTag }
+        // What `Ok` holds.
         ensures ok { (bytes : List ℕ) → Stands self.old bytes → OnOk result (Stands self.new (bytes ++ piece.now)) }
+        // What a refusal says, and what it leaves.
         ensures err { OnErr result (self.new ≡ self.old) }
         ensures kind { IfErr result (λ kind. kind ≡ WireKind.InsufficientMemory) }
+        // Where no refusal comes.
         ensures free { (bytes : List ℕ) → Stands self.old bytes → IsWithout 0x04 (bytes ++ piece.now) → IsOk result }
         ensures past { (bytes : List ℕ) → Stands self.old bytes → IsPastReading bytes → IsOk result }
     {
@@ -183,9 +192,12 @@ impl TsReader {
     /// One byte.
     #[inline(never)]
     fn feed_byte(&mut self, byte: u8) -> Result<(), WireKind>
+        // What `Ok` holds.
         ensures ok { (bytes : List ℕ) → Stands self.old bytes → OnOk result (Stands self.new (bytes ++ byte ∷ [])) }
+        // What a refusal says, and what it leaves.
         ensures err { OnErr result (self.new ≡ self.old) }
         ensures kind { IfErr result (λ kind. kind ≡ WireKind.InsufficientMemory) }
+        // Where no refusal comes.
         ensures free { (bytes : List ℕ) → Stands self.old bytes → IsWithout 0x04 (bytes ++ byte ∷ []) → IsOk result }
         ensures past { (bytes : List ℕ) → Stands self.old bytes → IsPastReading bytes → IsOk result }
     {
@@ -201,9 +213,12 @@ impl TsReader {
     /// Field by field, from where the reader stands.
     #[inline(never)]
     fn feed_on(&mut self, piece: &[u8]) -> Result<(), WireKind>
+        // What `Ok` holds.
         ensures ok { (bytes : List ℕ) → Stands self.old bytes → OnOk result (Stands self.new (bytes ++ piece.now)) }
+        // What a refusal says, and what it leaves.
         ensures err { OnErr result (self.new ≡ self.old) }
         ensures kind { IfErr result (λ kind. kind ≡ WireKind.InsufficientMemory) }
+        // Where no refusal comes.
         ensures free { (bytes : List ℕ) → Stands self.old bytes → IsWithout 0x04 (bytes ++ piece.now) → IsOk result }
         ensures past { (bytes : List ℕ) → Stands self.old bytes → IsPastReading bytes → IsOk result }
     {
@@ -260,10 +275,13 @@ impl TsReader {
 
     /// As many bytes of the content as are still to come.
     fn feed_content(&mut self, left: u32, place: Place, behind: &[u8]) -> Result<(), WireKind>
+        // What `Ok` holds.
         ensures ok { (bytes : List ℕ) → StandsInside self.old.nonce left place self.old.request bytes →
             OnOk result (Stands self.new (bytes ++ behind.now)) }
+        // What a refusal says, and what it leaves.
         ensures err { OnErr result (self.new ≡ self.old) }
         ensures kind { IfErr result (λ kind. kind ≡ WireKind.InsufficientMemory) }
+        // Where no refusal comes.
         ensures free { (Opened place → ⊥) → IsWithout 0x04 behind.now → IsOk result }
         ensures past { left ≡ 0 → IsOk result }
     {

@@ -322,11 +322,13 @@ impl<'a> Walk<'a> {
 
     /// The nonce, at once where it is whole in the piece.
     fn nonce_octets(&mut self, len: u32, rest: &'a [u8]) -> &'a [u8]
+        // Where reading goes on.
         ensures goes { (base : TsRequest) (more : List ℕ) → answered
             (behind (Element.Required Inner.NonceOctets) (filled base self.old) len (rest.now ++ more)) ≡ goes_on self.new base
             (result.now ++ more) }
         ensures text { IsInText self.new.place → ⊥ }
         ensures shorter { length result.now ≤ length rest.now }
+        // Without an OCTET STRING.
         ensures quiet { IsQuiet self.old → IsQuiet self.new }
         ensures without { IsWithout 0x04 rest.now → IsWithout 0x04 result.now }
     {
@@ -370,11 +372,14 @@ impl<'a> Walk<'a> {
 
     /// One byte, and as many of `rest` as it settles; the answer is what is behind them.
     fn step(&mut self, byte: u8, rest: &'a [u8]) -> &'a [u8]
+        // What must hold before.
         requires { IsInText self.old.place → ⊥ }
+        // Where reading goes on.
         ensures goes { (base : TsRequest) (more : List ℕ) → goes_on self.old base (byte ∷ (rest.now ++ more)) ≡ goes_on self.new base
             (result.now ++ more) }
         ensures text { IsInText self.new.place → result.now ≡ [] }
         ensures shorter { length result.now ≤ length rest.now }
+        // Without an OCTET STRING.
         ensures quiet { IsQuiet self.old → (byte ≡ 0x04 → ⊥) → IsWithout 0x04 rest.now → IsQuiet self.new × IsWithout 0x04 result.now }
     {
         match self.place {

@@ -43,8 +43,10 @@ use crate::security_status::SecurityStatus;
 
 /// No two values of an enum of errors, statuses, buffers or credentials have the same number.
 pub fn numbers_are_distinct()
+    // Of statuses.
     ensures error_kind { AreDistinct error_kind_number }
     ensures security_status { AreDistinct security_status_number }
+    // Of what is handed in.
     ensures buffer_type { AreDistinct buffer_type_number }
     ensures data_representation { AreDistinct data_representation_number }
     ensures credential_use { AreDistinct credential_use_number }
@@ -52,17 +54,21 @@ pub fn numbers_are_distinct()
 
 /// Nor have two values of an enum of connections or certificates.
 pub fn connection_numbers_are_distinct()
+    // Of a connection.
     ensures connection_protocol { AreDistinct connection_protocol_number }
     ensures connection_cipher { AreDistinct connection_cipher_number }
     ensures connection_hash { AreDistinct connection_hash_number }
     ensures connection_key_exchange { AreDistinct connection_key_exchange_number }
+    // Of a certificate.
     ensures cert_encoding_type { AreDistinct cert_encoding_type_number }
 {}
 
 /// What `from_u32` gives at the number of a value is that value, at an enum of errors, statuses, buffers or credentials.
 pub fn values_are_read_back()
+    // Of statuses.
     ensures error_kind { AreReadBack error_kind_number }
     ensures security_status { AreReadBack security_status_number }
+    // Of what is handed in.
     ensures buffer_type { AreReadBack buffer_type_number }
     ensures data_representation { AreReadBack data_representation_number }
     ensures credential_use { AreReadBack credential_use_number }
@@ -70,28 +76,34 @@ pub fn values_are_read_back()
 
 /// So it is at an enum of connections or certificates.
 pub fn connection_values_are_read_back()
+    // Of a connection.
     ensures connection_protocol { AreReadBack connection_protocol_number }
     ensures connection_cipher { AreReadBack connection_cipher_number }
     ensures connection_hash { AreReadBack connection_hash_number }
     ensures connection_key_exchange { AreReadBack connection_key_exchange_number }
+    // Of a certificate.
     ensures cert_encoding_type { AreReadBack cert_encoding_type_number }
 {}
 
 /// `==` at an enum of errors, statuses, buffers or credentials, and at `NStatusCode`, compares the numbers.
 pub fn equality_is_of_numbers()
+    // Of statuses.
     ensures error_kind { ComparesNumbers ⟦<ErrorKind as PartialEq>⟧.eq error_kind_number }
     ensures security_status { ComparesNumbers ⟦<SecurityStatus as PartialEq>⟧.eq
         security_status_number }
+    // Of what is handed in.
     ensures buffer_type { ComparesNumbers ⟦<BufferType as PartialEq>⟧.eq buffer_type_number }
     ensures data_representation { ComparesNumbers ⟦<DataRepresentation as PartialEq>⟧.eq
         data_representation_number }
     ensures credential_use { ComparesNumbers ⟦<CredentialUse as PartialEq>⟧.eq
         credential_use_number }
+    // Of NTSTATUS codes.
     ensures status { ComparesNumbers ⟦<NStatusCode as PartialEq>⟧.eq (λ code. code.0) }
 {}
 
 /// So it does at an enum of connections or certificates.
 pub fn connection_equality_is_of_numbers()
+    // Of a connection.
     ensures connection_protocol { ComparesNumbers ⟦<ConnectionProtocol as PartialEq>⟧.eq
         connection_protocol_number }
     ensures connection_cipher { ComparesNumbers ⟦<ConnectionCipher as PartialEq>⟧.eq
@@ -100,6 +112,7 @@ pub fn connection_equality_is_of_numbers()
         connection_hash_number }
     ensures connection_key_exchange { ComparesNumbers ⟦<ConnectionKeyExchange as PartialEq>⟧.eq
         connection_key_exchange_number }
+    // Of a certificate.
     ensures cert_encoding_type { ComparesNumbers ⟦<CertEncodingType as PartialEq>⟧.eq
         cert_encoding_type_number }
 {}
@@ -118,12 +131,14 @@ pub fn context_flags_have_their_numbers()
 
 /// So have the named flags of packages, certificates, buffers and sealed messages.
 pub fn other_flags_have_their_numbers()
+    // Of packages and certificates.
     ensures capability { map (λ flags. flags.0) capability_constants
         ≡ numbers_of package_capabilities }
     ensures cert_trust_error { map (λ flags. flags.0) cert_trust_error_constants
         ≡ numbers_of cert_trust_error_flags }
     ensures cert_trust_info { map (λ flags. flags.0) cert_trust_info_constants
         ≡ numbers_of cert_trust_info_flags }
+    // Of buffers and sealed messages.
     ensures security_buffer { map (λ flags. flags.0) security_buffer_constants
         ≡ numbers_of security_buffer_flags }
     ensures encryption { map (λ flags. flags.0) encryption_constants
