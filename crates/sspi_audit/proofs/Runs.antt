@@ -24,7 +24,8 @@ use Rattle.sspi_credssp.specs.Held.{HoldsNego, HoldsReply, HoldsAnswer}
 use Rattle.sspi_credssp.specs.Noted.{noted_with}
 use Rattle.sspi_credssp.specs.Requests.{IsLong}
 use Rattle.sspi_credssp.specs.Server.{ServerView}
-use Rattle.sspi_credssp.specs.Shown.{ShownFrame, IsOwn, ShowsNego, ShowsOver, ShowsNegoBack, ShowsStateBack, ShowsReply, ShowsAnswer, client_shown}
+use Rattle.sspi_credssp.specs.Shown.{ShownFrame, IsOwn, ShowsNego, ShowsOver, ShowsNegoBack}
+use Rattle.sspi_credssp.specs.Shown.{ShowsStateBack, ShowsReply, ShowsAnswer, client_shown}
 use Rattle.sspi_credssp.specs.Shown.{server_shown}
 use Rattle.sspi_credssp.specs.Turn.{AtNoted, ClientFrame, ServerFrame}
 use Rattle.sspi_delegate.specs.declared.carried.Carried.{Carried}
@@ -176,7 +177,8 @@ module _ {C : Type 0} (c : Meaning ContextSetting C) (laws : IsContext c) where
   client_long f t outcome.Finished is holds = tt
   client_long f t (outcome.Refused kind reply) is holds = tt
 
-  server_long : (f : ServerFrame C) (t : Turn) (out : Outcome) → ShowsAnswer (server_shown f) t out → HoldsAnswer c f t out → HasLongBlobs t out
+  server_long : (f : ServerFrame C) (t : Turn) (out : Outcome) → ShowsAnswer (server_shown f) t out → HoldsAnswer c f t out →
+      HasLongBlobs t out
   server_long f t (outcome.Reply r) shows holds = λ proved. long_noted f.noted f.context f.made _ r.pub_key_auth (holds proved)
   server_long f t (outcome.Final r) shows holds = absurd shows
   server_long f t outcome.Finished shows holds = tt

@@ -1,5 +1,6 @@
 -- Reading a number byte by byte.
-use Rattle.std.proofs.Common.{◌≡◌, ℕ, ◌+◌, ◌*◌, ◌^◌, ◌<◌, ◌≤◌, List, [], ◌∷◌, length, get_or, take, drop, Option, None, Some, Ok, Err, refl, ap, ◌∙◌, subst, inl, inr, add-one, arith, lit<}
+use Rattle.std.proofs.Common.{◌≡◌, ℕ, ◌+◌, ◌*◌, ◌^◌, ◌<◌, ◌≤◌, List, [], ◌∷◌, length, get_or, take, drop, Option}
+use Rattle.std.proofs.Common.{None, Some, Ok, Err, refl, ap, ◌∙◌, subst, inl, inr, add-one, arith, lit<}
 use Rattle.std.proofs.Math.Nat.{pow-suc, pow-le-pow_right}
 use Rattle.std.proofs.lemmas.Bool.{cases_lt, lt-ltb, le-ltb}
 use Rattle.std.proofs.lemmas.List.{drop_more, drop_all, take_more}
@@ -51,14 +52,17 @@ short : (bytes : List ℕ) (size : ℕ) → length bytes < size → number_at si
 unfolding number_at bytes_at
 short bytes size lt = rw (lt-ltb (length bytes) size lt) refl
 
-pub so_far_done : (before now : Option (List ℕ)) (value size : ℕ) → ReadSoFar before now value size → Reads (λ (n : ℕ). n) before now (Ok value) (number_at size)
+pub so_far_done : (before now : Option (List ℕ)) (value size : ℕ) → ReadSoFar before now value size →
+    Reads (λ (n : ℕ). n) before now (Ok value) (number_at size)
 so_far_done None now value size s = tt
 so_far_done (Some bytes) now value size s = rw (whole bytes size s.0) (s.2, s.1)
 
 ended : (bytes : List ℕ) (i : ℕ) → byte_at (drop i bytes) ≡ Err Ended → length bytes ≤ i
 ended bytes i e =
     elim (cases_lt i (length bytes)) [
-      | inl lt ↦ absurd (let f : byte_at (get_or bytes i 0 ∷ drop (i + 1) bytes) ≡ Err Ended = subst (λ (l : List ℕ). byte_at l ≡ Err Ended) (drop_more bytes i 0 lt) e in cc)
+      | inl lt ↦ absurd
+          (let f : byte_at (get_or bytes i 0 ∷ drop (i + 1) bytes) ≡ Err Ended = subst (λ (l : List ℕ). byte_at l ≡ Err Ended)
+          (drop_more bytes i 0 lt) e in cc)
       | inr ge ↦ ge
     ]
 
@@ -67,7 +71,8 @@ never_invalid [] e = cc
 never_invalid (b ∷ bytes) e = cc
 
 stopped : (bytes : List ℕ) (after : Option (List ℕ)) (i size : ℕ) (kind : WireKind) → i < size
-    → Answers {X = ℕ} (λ (b : ℕ). b) after (Err kind) (byte_at (drop i bytes)) → Answers {X = ℕ} (λ (n : ℕ). n) after (Err kind) (number_at size bytes)
+    → Answers {X = ℕ} (λ (b : ℕ). b) after (Err kind) (byte_at (drop i bytes)) → Answers {X = ℕ} (λ (n : ℕ). n) after (Err kind)
+    (number_at size bytes)
 stopped bytes after i size UnexpectedEof lt h = short bytes size (let le : length bytes ≤ i = ended bytes i h in omega arith)
 stopped bytes after i size InvalidData lt h = absurd (never_invalid (drop i bytes) h)
 stopped bytes after i size ReadFault lt h = tt

@@ -1,13 +1,17 @@
 -- Each reader of a piece and the form of that piece say the same.
-use Rattle.std.proofs.Common.{◌≡◌, ℕ, ◌+◌, ◌*◌, ◌-◌, ◌<◌, ◌≤◌, Bool, true, false, ◌&&◌, cond, eqb, ltb, leb, List, [], ◌∷◌, ◌++◌, length, take, drop, Option, None, Some, Ok, Err, refl, sym, ap, ◌∙◌, subst, arith, ◌⊎◌, inl, inr}
+use Rattle.std.proofs.Common.{◌≡◌, ℕ, ◌-◌, ◌<◌, ◌≤◌, Bool, true, false, ◌&&◌, cond, eqb, ltb, leb, List, [], ◌∷◌, ◌++◌}
+use Rattle.std.proofs.Common.{length, take, drop, Option, None, Some, Ok, Err, refl, sym, ap, ◌∙◌, subst, arith, ◌⊎◌, inl, inr}
 use Rattle.std.proofs.lemmas.Bool.{ltb-true, ltb-false, lt-ltb, le-ltb, leb-true, le-leb, eqb-true, eq-eqb, eqb-false}
 use Rattle.std.proofs.lemmas.List.{take_at, drop_at, take-append-drop, length-take, length-append}
 use Rattle.sspi_ber.specs.Fault.{Ended, Invalid, Read, ◌>>=◌}
 use Rattle.sspi_ber.specs.Limit.{max_content, max_length_octets}
-use Rattle.sspi_ber.specs.Forms.{IsLength, IsLongLength, IsHeader, IsElement, IsInteger, big_endian, is_integer_size, IsNotNext, IsWrapped, IsField}
-use Rattle.sspi_ber.specs.Pieces.{byte_at, bytes_at, is_octet_count, limited_at, length_at, header_at, element_at, number_at, integer_at, tag_or_absent_at, present_at, field_at, tagged_at}
+use Rattle.sspi_ber.specs.Forms.{IsLength, IsLongLength, IsHeader, IsElement, IsInteger}
+use Rattle.sspi_ber.specs.Forms.{big_endian, is_integer_size, IsNotNext, IsWrapped, IsField}
+use Rattle.sspi_ber.specs.Pieces.{byte_at, bytes_at, is_octet_count, limited_at, length_at, header_at, element_at}
+use Rattle.sspi_ber.specs.Pieces.{number_at, integer_at, tag_or_absent_at, present_at, field_at, tagged_at}
 use Rattle.sspi_ber.proofs.Absent.{absent}
-use Rattle.sspi_ber.proofs.Match.{Matches, Matches-then, Matches-map, Matches-if, Matches-nothing, Matches-same, Then, Mapped, bind_ok, both_are, read_of, changed}
+use Rattle.sspi_ber.proofs.Match.{Matches, Matches-then, Matches-map, Matches-if, Matches-nothing}
+use Rattle.sspi_ber.proofs.Match.{Matches-same, Then, Mapped, bind_ok, both_are, read_of, changed}
 
 -- which way a test went
 pub chosen : {A : Type 0} (b : Bool) (x y z : A) → cond b x y ≡ z → ((b ≡ true) × (x ≡ z)) ⊎ ((b ≡ false) × (y ≡ z))
@@ -16,22 +20,29 @@ chosen false x y z e = inr (refl, e)
 
 -- ---- bytes
 
-byte_takes : (bytes : List ℕ) (x : ℕ) (rest : List ℕ) → byte_at bytes ≡ Ok (x, rest) → (text : List ℕ) × (text ≡ x ∷ []) × (bytes ≡ text ++ rest)
+byte_takes : (bytes : List ℕ) (x : ℕ) (rest : List ℕ) → byte_at bytes ≡ Ok (x, rest) → (text : List ℕ) × (text ≡ x ∷ [])
+    × (bytes ≡ text ++ rest)
 byte_takes [] x rest e = absurd cc
-byte_takes (b ∷ bytes) x rest e = let same = both_are b x bytes rest e in (x ∷ [], refl, ap (λ (c : ℕ). c ∷ bytes) same.0 ∙ ap (λ (l : List ℕ). x ∷ l) same.1)
+byte_takes (b ∷ bytes) x rest e = let same = both_are b x bytes rest e in
+    (x ∷ [], refl, ap (λ (c : ℕ). c ∷ bytes) same.0 ∙ ap (λ (l : List ℕ). x ∷ l) same.1)
 
 pub byte_match : Matches byte_at (λ text x rest. text ≡ x ∷ [])
 byte_match = record { takes = byte_takes; again = λ text x rest e. ap (λ (l : List ℕ). byte_at (l ++ rest)) e }
 
-bytes_takes : (n : ℕ) (bytes x rest : List ℕ) → bytes_at n bytes ≡ Ok (x, rest) → (text : List ℕ) × ((text ≡ x) × (length x ≡ n)) × (bytes ≡ text ++ rest)
+bytes_takes : (n : ℕ) (bytes x rest : List ℕ) → bytes_at n bytes ≡ Ok (x, rest) → (text : List ℕ) × ((text ≡ x) × (length x ≡ n))
+    × (bytes ≡ text ++ rest)
 unfolding bytes_at
 bytes_takes n bytes x rest e =
     elim (chosen (ltb (length bytes) n) (Err Ended) (Ok (take n bytes, drop n bytes)) (Ok (x, rest)) e) [
       | inl (b, f) ↦ absurd cc
       | inr (b, f) ↦
           let same = both_are (take n bytes) x (drop n bytes) rest f in
-          let long : n ≤ length bytes = ltb-false _ _ b in
-          (x, (refl, ap length (sym same.0) ∙ (omega (arith, length-take n bytes))), sym (take-append-drop n bytes) ∙ ap (λ (l : List ℕ). l ++ drop n bytes) same.0 ∙ ap (λ (l : List ℕ). x ++ l) same.1)
+          let long : n ≤ length bytes = ltb-false _ _ b in (
+            x,
+            (refl, ap length (sym same.0) ∙ (omega (arith, length-take n bytes))),
+            sym (take-append-drop n bytes)
+                ∙ ap (λ (l : List ℕ). l ++ drop n bytes) same.0 ∙ ap (λ (l : List ℕ). x ++ l) same.1,
+          )
     ]
 
 bytes_again : (n : ℕ) (text x rest : List ℕ) → (text ≡ x) × (length x ≡ n) → bytes_at n (text ++ rest) ≡ Ok (x, rest)
@@ -70,13 +81,18 @@ limited_takes count bytes n rest e =
           let t = (number_match count).takes bytes b.0.0 b.0.1 b.1 in
           let block = t.1.1 in (
             t.0,
-            (ap length block.0 ∙ block.1, sym same.0 ∙ t.1.2 ∙ ap big_endian (sym block.0), subst (λ (m : ℕ). m ≤ max_content) same.0 (leb-true _ _ fits)),
+            (
+              ap length block.0 ∙ block.1,
+              sym same.0 ∙ t.1.2 ∙ ap big_endian (sym block.0),
+              subst (λ (m : ℕ). m ≤ max_content) same.0 (leb-true _ _ fits),
+            ),
             t.2 ∙ ap (λ (l : List ℕ). t.0 ++ l) same.1,
           )
       | inr (over, f) ↦ absurd cc
     ]
 
-limited_again : (count : ℕ) (text : List ℕ) (n : ℕ) (rest : List ℕ) → IsLimited count text n → limited_at count (text ++ rest) ≡ Ok (n, rest)
+limited_again : (count : ℕ) (text : List ℕ) (n : ℕ) (rest : List ℕ) → IsLimited count text n →
+    limited_at count (text ++ rest) ≡ Ok (n, rest)
 unfolding limited_at
 limited_again count text n rest t =
     let read : number_at count (text ++ rest) ≡ Ok (n, rest) = (number_match count).again text n rest (text, (refl, t.0), t.1) in
@@ -95,10 +111,12 @@ few_again count some le = rw (le-leb 1 count some, le-leb count max_length_octet
 
 -- which form the first octet begins
 behind : (first : ℕ) (bytes : List ℕ) (n : ℕ) (rest : List ℕ) → length_at (first ∷ bytes) ≡ Ok (n, rest)
-    → (first < 0x80) × (first ≡ n) × (bytes ≡ rest) ⊎ ((0x80 ≤ first) × (is_octet_count (first - 0x80) ≡ true) × (limited_at (first - 0x80) bytes ≡ Ok (n, rest)))
+    → (first < 0x80) × (first ≡ n) × (bytes ≡ rest) ⊎ ((0x80 ≤ first) × (is_octet_count (first - 0x80) ≡ true)
+    × (limited_at (first - 0x80) bytes ≡ Ok (n, rest)))
 unfolding length_at
 behind first bytes n rest e =
-    elim (chosen (ltb first 0x80) (Ok (first, bytes)) (cond (is_octet_count (first - 0x80)) (limited_at (first - 0x80) bytes) (Err Invalid)) (Ok (n, rest)) e) [
+    elim (chosen (ltb first 0x80) (Ok (first, bytes)) (cond (is_octet_count (first - 0x80)) (limited_at (first - 0x80) bytes)
+    (Err Invalid)) (Ok (n, rest)) e) [
       | inl (b, f) ↦ inl (let same = both_are first n bytes rest f in (ltb-true _ _ b, same.0, same.1))
       | inr (b, f) ↦ elim (chosen (is_octet_count (first - 0x80)) (limited_at (first - 0x80) bytes) (Err Invalid) (Ok (n, rest)) f) [
         | inl (c, g) ↦ inr (ltb-false _ _ b, c, g)
@@ -110,7 +128,8 @@ long_form : (first : ℕ) (octets : List ℕ) (n : ℕ) → 1 ≤ length octets 
 long_form first [] n some t = absurd (let no : ⊥ = omega (arith, some) in no)
 long_form first (high ∷ more) n some t = t
 
-length_takes : (bytes : List ℕ) (n : ℕ) (rest : List ℕ) → length_at bytes ≡ Ok (n, rest) → (text : List ℕ) × IsLength text n × (bytes ≡ text ++ rest)
+length_takes : (bytes : List ℕ) (n : ℕ) (rest : List ℕ) → length_at bytes ≡ Ok (n, rest) → (text : List ℕ) × IsLength text n
+    × (bytes ≡ text ++ rest)
 unfolding length_at
 length_takes [] n rest e = absurd cc
 length_takes (first ∷ bytes) n rest e =
@@ -121,7 +140,8 @@ length_takes (first ∷ bytes) n rest e =
           let count : length t.0 ≡ first - 0x80 = t.1.0 in
           let c = few (first - 0x80) is in (
             first ∷ t.0,
-            long_form first t.0 n (rw count c.0) (record { counted = omega (arith, ge, count); few = rw count c.1; stands_for = t.1.1; limited = t.1.2 }),
+            long_form first t.0 n (rw count c.0)
+                (record { counted = omega (arith, ge, count); few = rw count c.1; stands_for = t.1.1; limited = t.1.2 }),
             ap (λ (l : List ℕ). first ∷ l) t.2,
           )
     ]
@@ -141,14 +161,19 @@ length_match = record { takes = length_takes; again = length_again }
 
 -- ---- headers and elements
 
-header_takes : (tag : ℕ) (bytes : List ℕ) (n : ℕ) (rest : List ℕ) → header_at tag bytes ≡ Ok (n, rest) → (text : List ℕ) × IsHeader tag text n × (bytes ≡ text ++ rest)
+header_takes : (tag : ℕ) (bytes : List ℕ) (n : ℕ) (rest : List ℕ) → header_at tag bytes ≡ Ok (n, rest) →
+    (text : List ℕ) × IsHeader tag text n × (bytes ≡ text ++ rest)
 unfolding header_at
 header_takes tag [] n rest e = absurd cc
 header_takes tag (a ∷ bytes) n rest e =
     elim (chosen (eqb a tag) (length_at bytes) (Err Invalid) (Ok (n, rest)) e) [
       | inl (b, f) ↦
-          let t = length_takes bytes n rest f in
-          (tag ∷ t.0, record { len = t.0; spelled = refl; measured = t.1 }, ap (λ (c : ℕ). c ∷ bytes) (eqb-true _ _ b) ∙ ap (λ (l : List ℕ). tag ∷ l) t.2)
+          let t = length_takes bytes n rest f in (
+            tag ∷ t.0,
+            record { len = t.0; spelled = refl; measured = t.1 },
+            ap (λ (c : ℕ). c ∷ bytes) (eqb-true _ _ b)
+                ∙ ap (λ (l : List ℕ). tag ∷ l) t.2,
+          )
       | inr (b, f) ↦ absurd cc
     ]
 
@@ -161,10 +186,12 @@ pub header_match : (tag : ℕ) → Matches (header_at tag) (λ text n rest. IsHe
 header_match tag = record { takes = header_takes tag; again = header_again tag }
 
 element_to : (tag : ℕ) (text content rest : List ℕ)
-    → Then (λ first n after. IsHeader tag first n) (λ n second x after. (second ≡ x) × (length x ≡ n)) text content rest → IsElement tag text content
+    → Then (λ first n after. IsHeader tag first n) (λ n second x after. (second ≡ x) × (length x ≡ n)) text content rest →
+    IsElement tag text content
 element_to tag text content rest t = record {
   len = t.first_is.len;
-  spelled = t.parts ∙ ap (λ (l : List ℕ). l ++ t.second) t.first_is.spelled ∙ ap (λ (l : List ℕ). tag ∷ (t.first_is.len ++ l)) t.second_is.0;
+  spelled = t.parts ∙ ap (λ (l : List ℕ). l ++ t.second) t.first_is.spelled ∙ ap (λ (l : List ℕ). tag ∷ (t.first_is.len ++ l))
+      t.second_is.0;
   measured = subst (λ (n : ℕ). IsLength t.first_is.len n) (sym t.second_is.1) t.first_is.measured;
 }
 
@@ -182,9 +209,11 @@ element_from tag text content rest t = record {
 pub element_match : (tag : ℕ) → Matches (element_at tag) (λ text content rest. IsElement tag text content)
 unfolding element_at
 element_match tag =
-    Matches-same (element_at tag) (Then (λ first n after. IsHeader tag first n) (λ n second x after. (second ≡ x) × (length x ≡ n))) (λ text content rest. IsElement tag text content)
+    Matches-same (element_at tag) (Then (λ first n after. IsHeader tag first n)
+    (λ n second x after. (second ≡ x) × (length x ≡ n))) (λ text content rest. IsElement tag text content)
     (element_to tag) (element_from tag)
-    (Matches-then (header_at tag) bytes_at (λ first n after. IsHeader tag first n) (λ n second x after. (second ≡ x) × (length x ≡ n)) (header_match tag) bytes_match)
+    (Matches-then (header_at tag) bytes_at (λ first n after. IsHeader tag first n)
+    (λ n second x after. (second ≡ x) × (length x ≡ n)) (header_match tag) bytes_match)
 
 -- ---- integers
 
@@ -239,8 +268,17 @@ Inside Inner n text x rest = Inner text x
 
 tagged_to : {A : Type 0} (tag : ℕ) (Inner : List ℕ → A → Type 0) (text : List ℕ) (x : A) (rest : List ℕ)
     → Then (IsHead tag) (Inside Inner) text x rest → IsWrapped tag Inner text x
-tagged_to tag Inner text x rest t =
-    (t.second, record { len = t.first_is.len; number = t.x; spelled = t.parts ∙ ap (λ (l : List ℕ). l ++ t.second) t.first_is.spelled; measured = t.first_is.measured }, t.second_is)
+tagged_to tag Inner text x rest t = (
+  t.second,
+  record {
+    len = t.first_is.len;
+    number = t.x;
+    spelled = t.parts
+        ∙ ap (λ (l : List ℕ). l ++ t.second) t.first_is.spelled;
+    measured = t.first_is.measured;
+  },
+  t.second_is,
+)
 
 tagged_from : {A : Type 0} (tag : ℕ) (Inner : List ℕ → A → Type 0) (text : List ℕ) (x : A) (rest : List ℕ)
     → IsWrapped tag Inner text x → Then (IsHead tag) (Inside Inner) text x rest
@@ -257,7 +295,8 @@ pub tagged_match : {A : Type 0} (tag : ℕ) (inner : List ℕ → Read A) (Inner
     → Matches inner (λ text x rest. Inner text x) → Matches (tagged_at tag inner) (λ text x rest. IsWrapped tag Inner text x)
 unfolding tagged_at
 tagged_match tag inner Inner m =
-    Matches-same (tagged_at tag inner) (Then (IsHead tag) (Inside Inner)) (λ text x rest. IsWrapped tag Inner text x) (tagged_to tag Inner) (tagged_from tag Inner)
+    Matches-same (tagged_at tag inner) (Then (IsHead tag) (Inside Inner)) (λ text x rest. IsWrapped tag Inner text x)
+    (tagged_to tag Inner) (tagged_from tag Inner)
     (Matches-then (header_at tag) (λ n. inner) (IsHead tag) (Inside Inner) (header_match tag) (λ n. m))
 
 -- ---- optional fields
@@ -270,7 +309,8 @@ abbrev some_of : ℕ → Option ℕ
 some_of n = Some n
 
 absent_or : (tag : ℕ) (byte : ℕ) (bytes : List ℕ) (o : Option ℕ) (rest : List ℕ) → tag_or_absent_at tag (byte ∷ bytes) ≡ Ok (o, rest)
-    → (byte ≡ tag) × ((length_at bytes >>= changed some_of) ≡ Ok (o, rest)) ⊎ ((byte ≡ tag → ⊥) × (read_of None (byte ∷ bytes) ≡ Ok (o, rest)))
+    → (byte ≡ tag) × ((length_at bytes >>= changed some_of) ≡ Ok (o, rest))
+    ⊎ ((byte ≡ tag → ⊥) × (read_of None (byte ∷ bytes) ≡ Ok (o, rest)))
 unfolding tag_or_absent_at
 absent_or tag byte bytes o rest e =
     elim (chosen (eqb byte tag) (length_at bytes >>= changed some_of) (Ok (None, byte ∷ bytes)) (Ok (o, rest)) e) [
@@ -301,7 +341,8 @@ tag_or_absent_takes tag (byte ∷ bytes) o rest e =
       | inr (other, f) ↦ none_at tag (byte ∷ bytes) o rest other f
     ]
 
-tag_or_absent_again : (tag : ℕ) (text : List ℕ) (o : Option ℕ) (rest : List ℕ) → IsTagOrAbsent tag text o rest → tag_or_absent_at tag (text ++ rest) ≡ Ok (o, rest)
+tag_or_absent_again : (tag : ℕ) (text : List ℕ) (o : Option ℕ) (rest : List ℕ) → IsTagOrAbsent tag text o rest →
+    tag_or_absent_at tag (text ++ rest) ≡ Ok (o, rest)
 unfolding tag_or_absent_at
 tag_or_absent_again tag text None rest t = ap (λ (l : List ℕ). tag_or_absent_at tag (l ++ rest)) t.0 ∙ absent tag rest t.1
 tag_or_absent_again tag text (Some n) rest t =
@@ -320,11 +361,13 @@ abbrev Present : {A : Type 0} → (List ℕ → A → Type 0) → Option ℕ →
 Present Inner None text y rest = (text ≡ []) × (y ≡ None)
 Present Inner (Some n) text y rest = Mapped one_of (Bare Inner) text y rest
 
-present_match : {A : Type 0} (inner : List ℕ → Read A) (Inner : List ℕ → A → Type 0) → Matches inner (Bare Inner) → (o : Option ℕ) → Matches (present_at inner o) (Present Inner o)
+present_match : {A : Type 0} (inner : List ℕ → Read A) (Inner : List ℕ → A → Type 0) → Matches inner (Bare Inner) →
+    (o : Option ℕ) → Matches (present_at inner o) (Present Inner o)
 present_match inner Inner m None = Matches-nothing None
 present_match inner Inner m (Some n) = Matches-map one_of inner (Bare Inner) m
 
-field_parts : {A : Type 0} (tag : ℕ) (Inner : List ℕ → A → Type 0) (text first second : List ℕ) (o : Option ℕ) (y : Option A) (rest : List ℕ)
+field_parts : {A : Type 0} (tag : ℕ) (Inner : List ℕ → A → Type 0) (text first second : List ℕ) (o : Option ℕ) (y : Option A)
+    (rest : List ℕ)
     → text ≡ first ++ second → IsTagOrAbsent tag first o (second ++ rest) → Present Inner o second y rest → IsField tag Inner text y rest
 field_parts {A} tag Inner text first second None y rest parts f s =
     let nothing : text ≡ [] = parts ∙ ap (λ (l : List ℕ). l ++ second) f.0 ∙ s.0 in
@@ -339,7 +382,14 @@ field_to tag Inner text y rest t = field_parts tag Inner text t.first t.second t
 
 field_from : {A : Type 0} (tag : ℕ) (Inner : List ℕ → A → Type 0) (text : List ℕ) (y : Option A) (rest : List ℕ)
     → IsField tag Inner text y rest → Then (IsTagOrAbsent tag) (Present Inner) text y rest
-field_from tag Inner text None rest t = record { x = None; first = []; second = []; parts = t.0; first_is = (refl, t.1); second_is = (refl, refl) }
+field_from tag Inner text None rest t = record {
+  x = None;
+  first = [];
+  second = [];
+  parts = t.0;
+  first_is = (refl, t.1);
+  second_is = (refl, refl);
+}
 field_from tag Inner text (Some x) rest t = record {
   x = Some t.1.number;
   first = tag ∷ t.1.len;
@@ -353,5 +403,7 @@ pub field_match : {A : Type 0} (tag : ℕ) (inner : List ℕ → Read A) (Inner 
     → Matches inner (λ text x rest. Inner text x) → Matches (field_at tag inner) (IsField tag Inner)
 unfolding field_at
 field_match tag inner Inner m =
-    Matches-same (field_at tag inner) (Then (IsTagOrAbsent tag) (Present Inner)) (IsField tag Inner) (field_to tag Inner) (field_from tag Inner)
-    (Matches-then (tag_or_absent_at tag) (present_at inner) (IsTagOrAbsent tag) (Present Inner) (tag_or_absent_match tag) (present_match inner Inner m))
+    Matches-same (field_at tag inner) (Then (IsTagOrAbsent tag) (Present Inner)) (IsField tag Inner) (field_to tag Inner)
+    (field_from tag Inner)
+    (Matches-then (tag_or_absent_at tag) (present_at inner) (IsTagOrAbsent tag) (Present Inner) (tag_or_absent_match tag)
+    (present_match inner Inner m))

@@ -31,14 +31,32 @@ long_octets first n counted le =
     elim (cases_lt n 0x100) [
       | inl one ↦
           let is = octets_one n one in
-          subst (λ (l : List ℕ). IsLength (first ∷ l) n) (sym is) (record { counted = counted ∙ ap (λ (l : List ℕ). 0x80 + length l) is; few = omega arith; stands_for = omega arith; limited = le })
+          subst (λ (l : List ℕ). IsLength (first ∷ l) n) (sym is)
+          (record {
+            counted = counted ∙ ap (λ (l : List ℕ). 0x80 + length l) is;
+            few = omega arith;
+            stands_for = omega arith;
+            limited = le;
+          })
       | inr ge ↦ elim (cases_lt n 0x10000) [
         | inl two ↦
             let is = octets_two n ge two in
-            subst (λ (l : List ℕ). IsLength (first ∷ l) n) (sym is) (record { counted = counted ∙ ap (λ (l : List ℕ). 0x80 + length l) is; few = omega arith; stands_for = omega arith; limited = le })
+            subst (λ (l : List ℕ). IsLength (first ∷ l) n) (sym is)
+            (record {
+              counted = counted ∙ ap (λ (l : List ℕ). 0x80 + length l) is;
+              few = omega arith;
+              stands_for = omega arith;
+              limited = le;
+            })
         | inr three ↦
             let is = octets_three n three in
-            subst (λ (l : List ℕ). IsLength (first ∷ l) n) (sym is) (record { counted = counted ∙ ap (λ (l : List ℕ). 0x80 + length l) is; few = omega arith; stands_for = omega arith; limited = le })
+            subst (λ (l : List ℕ). IsLength (first ∷ l) n) (sym is)
+            (record {
+              counted = counted ∙ ap (λ (l : List ℕ). 0x80 + length l) is;
+              few = omega arith;
+              stands_for = omega arith;
+              limited = le;
+            })
       ]
     ]
 
@@ -55,7 +73,12 @@ short_element tag content le = record { len = len_short (length content); spelle
 
 pub short_tagged : (tag : ℕ) (inner : List ℕ) → length inner ≤ max_content → IsTagged tag (element tag inner) inner
 unfolding element header
-short_tagged tag inner le = record { len = len_short (length inner); number = length inner; spelled = refl; measured = short_length (length inner) le }
+short_tagged tag inner le = record {
+  len = len_short (length inner);
+  number = length inner;
+  spelled = refl;
+  measured = short_length (length inner) le;
+}
 
 -- the content of an integer, whatever its size
 record IsContent (v : ℕ) (content : List ℕ) : Type 0 where
@@ -82,6 +105,27 @@ int_four v ge =
     let higher : 0x8000 ≤ v = omega arith in
     rw (le-ltb v 0x80 above, le-ltb v 0x8000 higher, le-ltb v 0x800000 ge) refl
 
+-- the whole INTEGER, by its size
+pub one_byte_integer : (v : ℕ) → v < 0x80 → int_short v ≡ 2 ∷ 1 ∷ v ∷ []
+unfolding int_short element header len_short
+one_byte_integer v lt = ap (λ (l : List ℕ). element 2 l) (int_one v lt)
+
+pub two_byte_integer : (v : ℕ) → 0x80 ≤ v → v < 0x8000 → int_short v ≡ 2 ∷ 2 ∷ v / 0x100 ∷ v % 0x100 ∷ []
+unfolding int_short element header len_short
+two_byte_integer v ge lt = ap (λ (l : List ℕ). element 2 l) (int_two v ge lt)
+
+pub three_byte_integer : (v : ℕ) → 0x8000 ≤ v → v < 0x800000 →
+    int_short v ≡ 2 ∷ 3 ∷ v / 0x10000 ∷ v / 0x100 % 0x100 ∷ v % 0x100 ∷ []
+unfolding int_short element header len_short
+three_byte_integer v ge lt = ap (λ (l : List ℕ). element 2 l) (int_three v ge lt)
+
+pub four_byte_integer : (v : ℕ) → 0x800000 ≤ v →
+    int_short v ≡ 2 ∷ 4 ∷ v / 0x1000000 ∷ v / 0x10000 % 0x100 ∷ v / 0x100 % 0x100 ∷ v % 0x100 ∷ []
+unfolding int_short element header len_short
+four_byte_integer v ge = ap (λ (l : List ℕ). element 2 l) (int_four v ge)
+
+pub ruleset short_integers = (one_byte_integer, two_byte_integer, three_byte_integer, four_byte_integer)
+
 short_content : (v : ℕ) → IsContent v (int_content v)
 short_content v =
     elim (cases_lt v 0x80) [
@@ -89,7 +133,8 @@ short_content v =
       | inr ge ↦ elim (cases_lt v 0x8000) [
         | inl lt ↦ subst (IsContent v) (sym (int_two v ge lt)) (record { small = omega arith; sized = refl; stands_for = omega arith })
         | inr more ↦ elim (cases_lt v 0x800000) [
-          | inl lt ↦ subst (IsContent v) (sym (int_three v more lt)) (record { small = omega arith; sized = refl; stands_for = omega arith })
+          | inl lt ↦ subst (IsContent v) (sym (int_three v more lt))
+              (record { small = omega arith; sized = refl; stands_for = omega arith })
           | inr most ↦ subst (IsContent v) (sym (int_four v most)) (record { small = omega arith; sized = refl; stands_for = omega arith })
         ]
       ]

@@ -1,5 +1,6 @@
 -- A length with how many bytes it took, and the length alone.
-use Rattle.std.proofs.Common.{◌≡◌, ℕ, ◌+◌, ◌-◌, ◌≤◌, true, List, [], ◌∷◌, length, subst, ◌∙◌, arith, eq-eqb, Option, None, Some, Ok, Err, refl, sym, ap}
+use Rattle.std.proofs.Common.{◌≡◌, ℕ, ◌+◌, ◌-◌, ◌≤◌, true, List, [], ◌∷◌, length, subst, ◌∙◌}
+use Rattle.std.proofs.Common.{arith, eq-eqb, Option, None, Some, Ok, Err, refl, sym, ap}
 use Rattle.sspi_ber.specs.declared.wire_kind.WireKind.{WireKind}
 use Rattle.sspi_ber.specs.declared.wire_kind.WireKind.TheVariants.{UnexpectedEof, InvalidData, ReadFault, WriteFault, InsufficientMemory}
 use Rattle.sspi_ber.specs.Fault.{Fault, Ended, Invalid, Read, ◌>>=◌}
@@ -18,11 +19,13 @@ same n = n
 abbrev with_size : List ℕ → ℕ × List ℕ → Read (ℕ × ℕ)
 with_size bytes n = Ok ((n.0, length bytes - length n.1), n.1)
 
-half : (bytes : List ℕ) (after : Option (List ℕ)) (sized : ℕ × ℕ) (read : Read ℕ) → Answers whole after (Ok sized) (read >>= with_size bytes) → Answers same after (Ok sized.0) read
+half : (bytes : List ℕ) (after : Option (List ℕ)) (sized : ℕ × ℕ) (read : Read ℕ) →
+    Answers whole after (Ok sized) (read >>= with_size bytes) → Answers same after (Ok sized.0) read
 half bytes after sized (Ok x) h = (ap (λ (p : ℕ × ℕ). p.0) h.0, h.1)
 half bytes after sized (Err fault) h = absurd h
 
-pub length_half : (before after : Option (List ℕ)) (sized : ℕ × ℕ) → Reads (λ (x : ℕ × ℕ). (x.0, x.1)) before after (Ok sized) sized_length_at → Reads (λ (n : ℕ). n) before after (Ok sized.0) length_at
+pub length_half : (before after : Option (List ℕ)) (sized : ℕ × ℕ) → Reads (λ (x : ℕ × ℕ). (x.0, x.1)) before after
+    (Ok sized) sized_length_at → Reads (λ (n : ℕ). n) before after (Ok sized.0) length_at
 unfolding sized_length_at
 length_half None after sized h = tt
 length_half (Some bytes) after sized h = half bytes after sized (length_at bytes) h
@@ -50,8 +53,10 @@ length_fault (Some bytes) after kind h = half_fault bytes after kind (length_at 
 pair : ℕ → ℕ → ℕ × ℕ
 pair a b = (a, b)
 
-grown : (b : ℕ) (rest : List ℕ) (after : Option (List ℕ)) (sized : ℕ × ℕ) (read : Read ℕ) → ((n : ℕ × List ℕ) → read ≡ Ok n → length n.1 ≤ length rest)
-    → Answers whole after (Ok sized) (read >>= with_size rest) → Answers whole after (Ok (sized.0, 1 + sized.1)) (read >>= with_size (b ∷ rest))
+grown : (b : ℕ) (rest : List ℕ) (after : Option (List ℕ)) (sized : ℕ × ℕ) (read : Read ℕ) →
+    ((n : ℕ × List ℕ) → read ≡ Ok n → length n.1 ≤ length rest)
+    → Answers whole after (Ok sized) (read >>= with_size rest) → Answers whole after (Ok (sized.0, 1 + sized.1))
+    (read >>= with_size (b ∷ rest))
 grown b rest after sized (Ok n) shorter h =
     let le : length n.1 ≤ length rest = shorter n refl in
     let first : sized.0 ≡ n.0 = ap (λ (p : ℕ × ℕ). p.0) h.0 in
@@ -67,23 +72,28 @@ shorter bytes n e =
     omega (arith, ap length t.2, length-append t.0 n.1)
 
 behind : (tag b : ℕ) (rest : List ℕ) (after : Option (List ℕ)) (sized : ℕ × ℕ) → b ≡ tag
-    → Answers whole after (Ok sized) (sized_length_at rest) → Answers whole after (Ok (sized.0, 1 + sized.1)) (sized_header_at tag (b ∷ rest))
+    → Answers whole after (Ok sized) (sized_length_at rest) → Answers whole after (Ok (sized.0, 1 + sized.1))
+    (sized_header_at tag (b ∷ rest))
 unfolding sized_length_at sized_header_at header_at
 behind tag b rest after sized is h = rw (eq-eqb b tag is) (grown b rest after sized (length_at rest) (shorter rest) h)
 
-pub header_sized : (tag : ℕ) (before mid after : Option (List ℕ)) (byte : ℕ) (sized : ℕ × ℕ) → Reads (λ (b : ℕ). b) before mid (Ok byte) byte_at → byte ≡ tag
+pub header_sized : (tag : ℕ) (before mid after : Option (List ℕ)) (byte : ℕ) (sized : ℕ × ℕ) →
+    Reads (λ (b : ℕ). b) before mid (Ok byte) byte_at → byte ≡ tag
     → Reads whole mid after (Ok sized) sized_length_at → Reads whole before after (Ok (sized.0, 1 + sized.1)) (sized_header_at tag)
 header_sized tag None mid after byte sized first is h = tt
 header_sized tag (Some []) mid after byte sized first is h = absurd first
 header_sized tag (Some (b ∷ rest)) mid after byte sized first is h =
-    behind tag b rest after sized (sym first.0 ∙ is) (subst (λ (m : Option (List ℕ)). Reads whole m after (Ok sized) sized_length_at) first.1 h)
+    behind tag b rest after sized (sym first.0 ∙ is)
+    (subst (λ (m : Option (List ℕ)). Reads whole m after (Ok sized) sized_length_at) first.1 h)
 
 -- ---- the long form
 
 long_size : (first : ℕ) (rest : List ℕ) (after : Option (List ℕ)) (len : ℕ) → 0x80 ≤ first → is_octet_count (first - 0x80) ≡ true
-    → Answers same after (Ok len) (limited_at (first - 0x80) rest) → Answers whole after (Ok (len, 1 + (first - 0x80))) (sized_length_at (first ∷ rest))
+    → Answers same after (Ok len) (limited_at (first - 0x80) rest) → Answers whole after (Ok (len, 1 + (first - 0x80)))
+    (sized_length_at (first ∷ rest))
 unfolding sized_length_at length_at
-long_size first rest after len ge is h = rw (le-ltb first 0x80 ge, is) (long_with_size first rest after len (limited_at (first - 0x80) rest) refl h)
+long_size first rest after len ge is h = rw (le-ltb first 0x80 ge, is)
+    (long_with_size first rest after len (limited_at (first - 0x80) rest) refl h)
   where
     long_with_size : (first : ℕ) (rest : List ℕ) (after : Option (List ℕ)) (len : ℕ) (read : Read ℕ) → limited_at (first - 0x80) rest ≡ read
         → Answers same after (Ok len) read → Answers whole after (Ok (len, 1 + (first - 0x80))) (read >>= with_size (first ∷ rest))
@@ -95,9 +105,11 @@ long_size first rest after len ge is h = rw (le-ltb first 0x80 ge, is) (long_wit
     long_with_size first rest after len (Err fault) e h = absurd h
 
 pub length_sized : (before mid after : Option (List ℕ)) (first len : ℕ) → Reads (λ (b : ℕ). b) before mid (Ok first) byte_at → 0x80 ≤ first
-    → is_octet_count (first - 0x80) ≡ true → Reads same mid after (Ok len) (limited_at (first - 0x80)) → Reads whole before after (Ok (len, 1 + (first - 0x80))) sized_length_at
+    → is_octet_count (first - 0x80) ≡ true → Reads same mid after (Ok len) (limited_at (first - 0x80)) →
+    Reads whole before after (Ok (len, 1 + (first - 0x80))) sized_length_at
 length_sized None mid after first len byte ge is h = tt
 length_sized (Some []) mid after first len byte ge is h = absurd byte
 length_sized (Some (b ∷ rest)) mid after first len byte ge is h =
     subst (λ (a : ℕ). Answers whole after (Ok (len, 1 + (first - 0x80))) (sized_length_at (a ∷ rest))) byte.0
-    (long_size first rest after len ge is (subst (λ (m : Option (List ℕ)). Reads same m after (Ok len) (limited_at (first - 0x80))) byte.1 h))
+    (long_size first rest after len ge is
+    (subst (λ (m : Option (List ℕ)). Reads same m after (Ok len) (limited_at (first - 0x80))) byte.1 h))

@@ -1,5 +1,6 @@
 -- What two writers did, one after the other.
-use Rattle.std.proofs.Common.{◌≡◌, ℕ, ◌+◌, List, [], ◌++◌, length, Option, None, Some, Result, Ok, Err, refl, sym, ap, ◌∙◌, append_assoc, take, drop, subst, ◌<◌, ◌≤◌, inl, inr, arith}
+use Rattle.std.proofs.Common.{◌≡◌, ℕ, ◌+◌, List, [], ◌++◌, length, Option, None, Some, Result, Ok, Err, refl}
+use Rattle.std.proofs.Common.{sym, ap, ◌∙◌, append_assoc, take, drop, subst, ◌<◌, ◌≤◌, inl, inr, arith}
 use Rattle.std.proofs.lemmas.Bool.{cases_lt, lt-ltb, le-ltb}
 use Rattle.std.specs.Io.KnownBytes.{Appends, Keeps}
 use Rattle.std.proofs.lemmas.List.{append-nil, length-append, take-append-drop}
@@ -8,7 +9,8 @@ use Rattle.sspi_ber.specs.declared.wire_kind.WireKind.TheVariants.{UnexpectedEof
 use Rattle.sspi_ber.specs.Outside.{Wrote, WroteFront, Writes}
 use Rattle.sspi_ber.specs.Short.{length_octets, len_short, header, element, element_size}
 
-appends_then : (before mid after : Option (List ℕ)) (a b : List ℕ) → Appends before mid a → Appends mid after b → Appends before after (a ++ b)
+appends_then : (before mid after : Option (List ℕ)) (a b : List ℕ) → Appends before mid a → Appends mid after b →
+    Appends before after (a ++ b)
 appends_then None mid after a b p q = tt
 appends_then (Some x) None after a b p q = absurd p
 appends_then (Some x) (Some y) None a b p q = absurd q
@@ -21,7 +23,8 @@ appends_nothing (Some x) = sym (append-nil x)
 pub wrote_then : {before mid after : Option (List ℕ)} {a b : List ℕ} → Wrote before mid a → Wrote mid after b → Wrote before after (a ++ b)
 wrote_then {before} {mid} {after} {a} {b} p q = record { appended = appends_then before mid after a b p.appended q.appended }
 
-pub front_then : {before mid after : Option (List ℕ)} {a b : List ℕ} → Wrote before mid a → WroteFront mid after b → WroteFront before after (a ++ b)
+pub front_then : {before mid after : Option (List ℕ)} {a b : List ℕ} → Wrote before mid a → WroteFront mid after b →
+    WroteFront before after (a ++ b)
 front_then {before} {mid} {after} {a} {b} p q = record {
   front = a ++ q.front;
   rest = q.rest;
@@ -41,7 +44,8 @@ pub wrote_nothing : {known : Option (List ℕ)} → Wrote known known []
 wrote_nothing {known} = record { appended = appends_nothing known }
 
 -- two texts that were written, and what a last writer did
-pub writes_then : {X : Type 0} (before mid after : Option (List ℕ)) (result : Result X WireKind) (a b : List ℕ) → Wrote before mid a → Writes mid after result b → Writes before after result (a ++ b)
+pub writes_then : {X : Type 0} (before mid after : Option (List ℕ)) (result : Result X WireKind) (a b : List ℕ) →
+    Wrote before mid a → Writes mid after result b → Writes before after result (a ++ b)
 writes_then before mid after (Ok x) a b p q = wrote_then p q
 writes_then before mid after (Err UnexpectedEof) a b p q = q
 writes_then before mid after (Err InvalidData) a b p q = q
@@ -63,7 +67,8 @@ pub left_step : {before mid after : Option (List ℕ)} {text rest : List ℕ} (c
 left_step {before} {mid} {after} {text} {rest} count p q = record {
   front = p.front ++ take count rest;
   appended = appends_then before mid after p.front (take count rest) p.appended q;
-  parts = p.parts ∙ ap (λ (l : List ℕ). p.front ++ l) (sym (take-append-drop count rest)) ∙ sym (append_assoc p.front (take count rest) (drop count rest));
+  parts = p.parts ∙ ap (λ (l : List ℕ). p.front ++ l) (sym (take-append-drop count rest))
+      ∙ sym (append_assoc p.front (take count rest) (drop count rest));
 }
 
 appends_kept : (before mid after : Option (List ℕ)) (a : List ℕ) → Appends before mid a → Keeps mid after → Appends before after a
@@ -72,11 +77,20 @@ appends_kept (Some x) None after a p q = absurd p
 appends_kept (Some x) (Some y) None a p q = absurd q
 appends_kept (Some x) (Some y) (Some z) a p q = q ∙ p
 
-pub left_stopped : {before mid after : Option (List ℕ)} {text rest : List ℕ} → Left before mid text rest → Keeps mid after → WroteFront before after text
-left_stopped {before} {mid} {after} {text} {rest} p q = record { front = p.front; rest = rest; appended = appends_kept before mid after p.front p.appended q; parts = p.parts }
+pub left_stopped : {before mid after : Option (List ℕ)} {text rest : List ℕ} → Left before mid text rest → Keeps mid after →
+    WroteFront before after text
+left_stopped {before} {mid} {after} {text} {rest} p q = record {
+  front = p.front;
+  rest = rest;
+  appended = appends_kept before mid after p.front p.appended q;
+  parts = p.parts;
+}
 
 pub left_done : {before now : Option (List ℕ)} {text rest : List ℕ} → Left before now text rest → rest ≡ [] → Wrote before now text
-left_done {before} {now} {text} {rest} p e = record { appended = subst (Appends before now) (sym (p.parts ∙ ap (λ (l : List ℕ). p.front ++ l) e ∙ append-nil p.front)) p.appended }
+left_done {before} {now} {text} {rest} p e = record {
+  appended = subst (Appends before now)
+      (sym (p.parts ∙ ap (λ (l : List ℕ). p.front ++ l) e ∙ append-nil p.front)) p.appended;
+}
 
 pub length-header : (tag n : ℕ) → length (header tag n) ≡ 1 + length (len_short n)
 unfolding header
@@ -84,20 +98,27 @@ length-header tag n = omega arith
 
 pub length-element : (tag : ℕ) (content : List ℕ) → length (element tag content) ≡ element_size (length content)
 unfolding element element_size
-length-element tag content = length-append (header tag (length content)) content ∙ ap (λ (n : ℕ). n + length content) (length-header tag (length content))
+length-element tag content = length-append (header tag (length content)) content ∙ ap (λ (n : ℕ). n + length content)
+    (length-header tag (length content))
 
 octets_above : (n : ℕ) → 1 ≤ length (length_octets n)
 unfolding length_octets
 octets_above n = elim (cases_lt n 0x100) [
   | inl lt ↦ rw (lt-ltb n 0x100 lt) (omega arith)
-  | inr ge ↦ elim (cases_lt n 0x10000) [ inl lt ↦ rw (le-ltb n 0x100 ge, lt-ltb n 0x10000 lt) (omega arith) | inr wide ↦ rw (le-ltb n 0x100 ge, le-ltb n 0x10000 wide) (omega arith) ]
+  | inr ge ↦ elim (cases_lt n 0x10000) [
+    | inl lt ↦ rw (le-ltb n 0x100 ge, lt-ltb n 0x10000 lt) (omega arith)
+    | inr wide ↦ rw (le-ltb n 0x100 ge, le-ltb n 0x10000 wide) (omega arith)
+  ]
 ]
 
 octets_below : (n : ℕ) → length (length_octets n) ≤ 3
 unfolding length_octets
 octets_below n = elim (cases_lt n 0x100) [
   | inl lt ↦ rw (lt-ltb n 0x100 lt) (omega arith)
-  | inr ge ↦ elim (cases_lt n 0x10000) [ inl lt ↦ rw (le-ltb n 0x100 ge, lt-ltb n 0x10000 lt) (omega arith) | inr wide ↦ rw (le-ltb n 0x100 ge, le-ltb n 0x10000 wide) (omega arith) ]
+  | inr ge ↦ elim (cases_lt n 0x10000) [
+    | inl lt ↦ rw (le-ltb n 0x100 ge, lt-ltb n 0x10000 lt) (omega arith)
+    | inr wide ↦ rw (le-ltb n 0x100 ge, le-ltb n 0x10000 wide) (omega arith)
+  ]
 ]
 
 len_above : (n : ℕ) → 1 ≤ length (len_short n)
@@ -106,7 +127,10 @@ len_above n = elim (cases_lt n 0x80) [ inl lt ↦ rw (lt-ltb n 0x80 lt) (omega a
 
 len_below : (n : ℕ) → length (len_short n) ≤ 4
 unfolding len_short
-len_below n = elim (cases_lt n 0x80) [ inl lt ↦ rw (lt-ltb n 0x80 lt) (omega arith) | inr ge ↦ (let three = octets_below n in rw (le-ltb n 0x80 ge) (omega arith)) ]
+len_below n = elim (cases_lt n 0x80) [
+  | inl lt ↦ rw (lt-ltb n 0x80 lt) (omega arith)
+  | inr ge ↦ (let three = octets_below n in rw (le-ltb n 0x80 ge) (omega arith))
+]
 
 -- an element is larger than its content by 2 to 5 bytes
 pub size_above : (n : ℕ) → n + 2 ≤ element_size n

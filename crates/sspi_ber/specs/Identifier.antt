@@ -3,7 +3,8 @@ use Rattle.std.specs.Prelude.{ℕ, ◌+◌, ◌%◌}
 use Rattle.sspi_ber.specs.declared.identifier.Pc.{Pc}
 use Rattle.sspi_ber.specs.declared.identifier.Pc.TheVariants.{Primitive, Construct}
 use Rattle.sspi_ber.specs.declared.identifier.Tag.{Tag}
-use Rattle.sspi_ber.specs.declared.identifier.Tag.TheVariants.{Boolean, Integer, BitString, OctetString, ObjectIdentifier, Enumerated, Sequence}
+use Rattle.sspi_ber.specs.declared.identifier.Tag.TheVariants.{Boolean, Integer, BitString, OctetString}
+use Rattle.sspi_ber.specs.declared.identifier.Tag.TheVariants.{ObjectIdentifier, Enumerated, Sequence}
 
 -- bit 6: the encoding is constructed
 abbrev pub encoding_bit : Pc → ℕ

@@ -1,6 +1,7 @@
 -- The pieces of BER read from left to right, with the first fault. What is wrong with a length's first byte, or with the
 -- length of an integer, comes before a want of the bytes behind it.
-use Rattle.std.specs.Prelude.{ℕ, ◌-◌, nat_lt, nat_le, Bool, ◌&&◌, ◌==◌, List, [], ◌∷◌, length, take, drop, Option, None, Some, Ok, Err, if◌then◌else◌}
+use Rattle.std.specs.Prelude.{ℕ, ◌-◌, nat_lt, nat_le, Bool, ◌&&◌, ◌==◌, List, [], ◌∷◌, length}
+use Rattle.std.specs.Prelude.{take, drop, Option, None, Some, Ok, Err, if◌then◌else◌}
 use Rattle.sspi_ber.specs.Limit.{max_content, max_length_octets}
 use Rattle.sspi_ber.specs.Fault.{Ended, Invalid, Read, ◌>>=◌}
 use Rattle.sspi_ber.specs.Forms.{big_endian, is_integer_size}

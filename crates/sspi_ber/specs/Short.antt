@@ -5,7 +5,10 @@ use Rattle.sspi_ber.specs.declared.wire_kind.WireKind.TheVariants.{InvalidData}
 
 -- a number up to the limit in as few octets as hold it, the first one the highest
 unfoldable pub length_octets : ℕ → List ℕ
-length_octets n = if nat_lt n 0x100 then n ∷ [] else if nat_lt n 0x10000 then n / 0x100 ∷ n % 0x100 ∷ [] else n / 0x10000 ∷ n / 0x100 % 0x100 ∷ n % 0x100 ∷ []
+length_octets n =
+    if nat_lt n 0x100 then n ∷ []
+    else if nat_lt n 0x10000 then n / 0x100 ∷ n % 0x100 ∷ []
+    else n / 0x10000 ∷ n / 0x100 % 0x100 ∷ n % 0x100 ∷ []
 
 unfoldable pub len_short : ℕ → List ℕ
 len_short n = if nat_lt n 0x80 then n ∷ [] else (0x80 + length (length_octets n)) ∷ length_octets n
@@ -24,7 +27,11 @@ element_size n = 1 + length (len_short n) + n
 
 -- the content bytes of an integer: as few as keep its highest bit clear, and never more than four
 unfoldable pub int_content : ℕ → List ℕ
-int_content v = if nat_lt v 0x80 then v ∷ [] else if nat_lt v 0x8000 then v / 0x100 ∷ v % 0x100 ∷ [] else if nat_lt v 0x800000 then v / 0x10000 ∷ v / 0x100 % 0x100 ∷ v % 0x100 ∷ [] else v / 0x1000000 ∷ v / 0x10000 % 0x100 ∷ v / 0x100 % 0x100 ∷ v % 0x100 ∷ []
+int_content v =
+    if nat_lt v 0x80 then v ∷ []
+    else if nat_lt v 0x8000 then v / 0x100 ∷ v % 0x100 ∷ []
+    else if nat_lt v 0x800000 then v / 0x10000 ∷ v / 0x100 % 0x100 ∷ v % 0x100 ∷ []
+    else v / 0x1000000 ∷ v / 0x10000 % 0x100 ∷ v / 0x100 % 0x100 ∷ v % 0x100 ∷ []
 
 unfoldable pub int_short : ℕ → List ℕ
 int_short v = element 0x02 (int_content v)

@@ -30,7 +30,8 @@ pub fn integers_agree()
 pub fn elements_agree()
     ensures takes { (tag : ℕ) (bytes content rest : List ℕ) → element_at tag bytes ≡ Ok (content, rest)
         → (text : List ℕ) × IsElement tag text content × (bytes ≡ text ++ rest) }
-    ensures again { (tag : ℕ) (text content rest : List ℕ) → IsElement tag text content → element_at tag (text ++ rest) ≡ Ok (content, rest) }
+    ensures again { (tag : ℕ) (text content rest : List ℕ) → IsElement tag text content →
+        element_at tag (text ++ rest) ≡ Ok (content, rest) }
 {}
 
 /// What is spelled shortest is read again, whatever follows it.
@@ -55,7 +56,8 @@ pub fn shortest_is_shortest()
     ensures four { (value : ℕ) → 2 ^ 31 ≤ value → length (int_content value) ≡ 4 }
 {}
 
-/// The named constants are the limit of all lengths, the octets that they may need, and the identifier octets of X.690 8.1.2 for these types.
+/// The named constants are the limit of all lengths, the octets that they may need, and the identifier octets of X.690 8.1.2
+/// for these types.
 pub fn constants_have_their_numbers()
     // The limits of a length.
     ensures limit { MAX_CONTENT ≡ 1048576 }

@@ -6,8 +6,9 @@
 //! length is not as it must be (`InvalidData`).
 //!
 //! `Source` and `Sink` are the world outside, with a count of their faults: a read or write fault is answered only where that
-//! count rose, or stands at `u64::MAX`, and after a fault of a sink a writer answers nothing else. `SliceSource` and `VecSink` stand over memory, `FaultySource` and `FaultySink` fail once for tests, and
-//! `StdSource` and `StdSink` stand over std's readers and writers.
+//! count rose, or stands at `u64::MAX`, and after a fault of a sink a writer answers nothing else. `SliceSource` and `VecSink`
+//! stand over memory, `FaultySource` and `FaultySink` fail once for tests, and `StdSource` and `StdSink` stand over std's
+//! readers and writers.
 #![tactic(auto)]
 
 pub mod faulty;

@@ -98,7 +98,7 @@ pub fn sizeof_sequence_octet_string(len: usize) -> Result<usize, WireKind>
 }
 
 /// How many bytes an INTEGER takes: 3 to 6.
-#[tactic(auto, unfolding(crate::specs::Short::int_short, crate::specs::Short::int_content, crate::specs::Short::element, crate::specs::Short::header, crate::specs::Short::len_short))]
+#[tactic(auto, using(crate::proofs::Short::short_integers))]
 pub fn sizeof_integer(value: u32) -> usize
     ensures size { result ≡ length (int_short value) }
     ensures small { result ≤ 6 }

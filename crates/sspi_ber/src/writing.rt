@@ -205,7 +205,7 @@ pub fn write_universal_tag<W: Sink>(sink: &mut W, tag: Tag, pc: Pc) -> Result<us
     Ok(1)
 }
 
-#[tactic(auto, unfolding(crate::specs::Short::int_short, crate::specs::Short::int_content, crate::specs::Short::element, crate::specs::Short::header, crate::specs::Short::len_short))]
+#[tactic(auto, using(crate::proofs::Short::short_integers))]
 fn write_short_integer<W: Sink>(sink: &mut W, value: u32) -> Result<(), WireKind>
     ensures wrote { Writes (W.written sink.old) (W.written sink.new) result (int_short value) }
     ensures cause { WriteCause (W.faults sink.old) (W.faults sink.new) result }

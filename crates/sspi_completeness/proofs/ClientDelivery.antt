@@ -127,7 +127,8 @@ module _ {C D : Type 0} (c : Meaning ContextSetting C) (k : KdcCalls D) where
 
     opened_never : (checked : Bool) (m : C) (kind : ErrorKind) (texts : Result (List ℕ) Error) → texts ≡ Ok text → cleared c m ≡ y →
         (c.counts m).sealed < 2 ^ 64 - 1 →
-        (checked ≡ false → (c.counts m).unsealed ≡ 0) → ProofCause c checked m (peers 0 proof_text) proof_text (SealsCause c m texts kind) kind → ⊥
+        (checked ≡ false → (c.counts m).unsealed ≡ 0) → ProofCause c checked m (peers 0 proof_text) proof_text
+        (SealsCause c m texts kind) kind → ⊥
     opened_never false m kind texts is same few next h = given.taker.never m 0 proof_text kind same (next refl) (omega arith) h
     opened_never true m kind texts is same few next h = checked_never m kind texts is same few h
 

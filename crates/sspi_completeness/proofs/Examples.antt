@@ -32,7 +32,8 @@ use Rattle.sspi_negotiate.specs.Rows.{is_guest_text}
 use Rattle.sspi_negotiate.specs.Target.{IsNamedByIp}
 use Rattle.sspi_completeness.specs.Examples.{example_target, example_ntlm, example_kerberos, example_ticket, example_kdc}
 use Rattle.sspi_negotiate.specs.Rule.{url_for}
-use Rattle.sspi_completeness.specs.Negotiating.{AreNegotiating, HasFirstKey, HasSessionKey, Needs, protocol_of, kdc_url, begins_with, messages_by}
+use Rattle.sspi_completeness.specs.Negotiating.{AreNegotiating, HasFirstKey, HasSessionKey, Needs}
+use Rattle.sspi_completeness.specs.Negotiating.{protocol_of, kdc_url, begins_with, messages_by}
 
 -- ---- the target
 
@@ -149,7 +150,8 @@ never_served (Some domain) =
     (sym (none_served domain))
 
 -- ends that have these in hand and begin with this, where the server picks this and what they need is there
-abbrev pub negotiating : {told : Option (ℕ → NetworkRequest → Reply)} {call : ℕ} {client server : NegotiateConfig} {identity : AuthIdentity} →
+abbrev pub negotiating : {told : Option (ℕ → NetworkRequest → Reply)} {call : ℕ} {client server : NegotiateConfig}
+    {identity : AuthIdentity} →
     (hand hand2 : Origin) (begins : Protocol) (picked : Picked) → first_in_hand Client client ≡ Ok hand →
     first_in_hand Server server ≡ Ok hand2 →
     begins ≡ begins_with false (packages_in client) (protocol_of hand) (url_for client.kdcs (domain_of identity.username)) →

@@ -397,7 +397,8 @@ module _ (config : NegotiateConfig) (entries : List AuthIdentity) (i : AuthIdent
 
     -- it picks NTLM of what a client offers that began with Kerberos, and drops the token
     pub server_changes :
-        pick (offer protocols.Kerberos true) (packages_in config) (hand_of (made_of o)) ≡ Some (record { choice = choices.Ntlm; index = 2 }) →
+        pick (offer protocols.Kerberos true) (packages_in config) (hand_of (made_of o)) ≡ Some
+        (record { choice = choices.Ntlm; index = 2 }) →
         runs (spnego_server (server_values config entries (hand_of (made_of o)) states.Initial [])
         (server_args None (Some (init_text protocols.Kerberos true)))) (made_of o) ≡
         Ends (server_values config entries protocols.Ntlm states.InProgress (offer protocols.Kerberos true))

@@ -95,7 +95,8 @@ module _ {C P : Type 0} (c : Meaning ContextSetting C) (laws : IsContext c) (p :
     answer_never m text kind same few (unsealed opens refuses) = proof_given.maker.never m text kind same few refuses
 
     proof_never : (checked : Bool) (m : C) (text : List ℕ) (kind : ErrorKind) → cleared c m ≡ z → (c.counts m).sealed < 2 ^ 64 - 1 →
-        (checked ≡ false → (c.counts m).unsealed ≡ 0) → ProofCause c checked m (peers 0 client_text) client_text (c.refuses m (ToSeal text) kind) kind → ⊥
+        (checked ≡ false → (c.counts m).unsealed ≡ 0) → ProofCause c checked m (peers 0 client_text) client_text
+        (c.refuses m (ToSeal text) kind) kind → ⊥
     proof_never false m text kind same few next h = proof_given.taker.never m 0 client_text kind same (next refl) (omega arith) h
     proof_never true m text kind same few next h = answer_never m text kind same few h
 

@@ -20,7 +20,8 @@ use Rattle.sspi_delegate.specs.declared.edit.Edit.{Edit}
 use Rattle.sspi_delegate.specs.Edits.{MemoryLinkView}
 use Rattle.sspi_delegate.specs.Headline.{IsFresh}
 use Rattle.sspi_completeness.specs.Examples.{example_target}
-use Rattle.sspi_completeness.specs.Matching.{AreMatching, HasEntry, MatchModes, messages_of, messages_in, delegated_as, ComesToOkIn, IsCutShort}
+use Rattle.sspi_completeness.specs.Matching.{AreMatching, HasEntry, MatchModes, messages_of}
+use Rattle.sspi_completeness.specs.Matching.{messages_in, delegated_as, ComesToOkIn, IsCutShort}
 use Rattle.sspi_completeness.specs.Matching.{NoneFailed, none_told, IsUndisturbed, unedited}
 use Rattle.sspi_completeness.specs.Worked.{Example, IsClientOf, IsServerOf, Matches, AnswersIn}
 
@@ -35,7 +36,8 @@ own_entry identity = record {
 
 -- a new link without edits disturbs nothing
 pub undisturbed : {new : List Carried} {before now : ℕ} (link : MemoryLinkView) (edits : List Edit) →
-    link ≡ record { log = []; edits = edits; faults = 0; most = None } → edits ≡ [] → IsUndisturbed (Some link.edits) link.log new before now
+    link ≡ record { log = []; edits = edits; faults = 0; most = None } → edits ≡ [] →
+    IsUndisturbed (Some link.edits) link.log new before now
 undisturbed link edits is none =
     unedited (ap (λ (l : MemoryLinkView). Some l.edits) is ∙ ap Some none) (ap (λ (l : MemoryLinkView). l.log) is)
 

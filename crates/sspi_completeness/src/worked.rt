@@ -48,7 +48,8 @@ const USUAL: Given<'static> = Given {
 /// Whom the client authenticates, and the server knows.
 fn who(alloc: Global, given: &Given<'_>) -> Result<AuthIdentity, AllocError>
     requires { IsSome (parse_name given.now.name.now) }
-    ensures { (identity : AuthIdentity) → parse_name given.now.name.now ≡ Some identity.username → given.now.password.now ≡ identity.password.value →
+    ensures { (identity : AuthIdentity) → parse_name given.now.name.now ≡ Some identity.username →
+        given.now.password.now ≡ identity.password.value →
         IfOk result (λ who. who ≡ identity) }
 {
     identity_of(alloc, given.name, given.password)
@@ -65,7 +66,8 @@ fn exchange<D: Kdc + Drop>(
 ) -> Result<Delegation, DelegateError>
     requires { IsSome (parse_name given.now.name.now) }
     ensures { (x : Example) → (messages : ℕ) → given.now.key.now ≡ x.key → parse_name given.now.name.now ≡ Some x.identity.username →
-        given.now.password.now ≡ x.identity.password.value → given.now.delegation ≡ x.delegation → given.now.client_version ≡ x.client_version →
+        given.now.password.now ≡ x.identity.password.value → given.now.delegation ≡ x.delegation →
+        given.now.client_version ≡ x.client_version →
         given.now.server_version ≡ x.server_version → given.now.least ≡ x.least → IfOk client (λ mode. mode ≡ x.client) →
         IfOk server (λ mode. mode ≡ x.server) → IfOk kdc (λ kdc. Matches (D.told kdc) (D.asked kdc) messages x) →
         AnswersIn messages turns (delegated_as x.delegation x.identity) result }

@@ -12,7 +12,8 @@ use Rattle.sspi_mech.specs.Meaning.{Meaning}
 use Rattle.sspi_credssp.specs.Begun.{Begun, BeginCause, IfContext, is_new, unacquired}
 use Rattle.sspi_credssp.specs.Refusal.{IsRefusedBy}
 
-module _ {S C : Type 0} (c : Meaning S C) (setting : S) (purpose : CredentialUse) (asked : Option Credentials) (m : C) (made : c.made setting m) where
+module _ {S C : Type 0} (c : Meaning S C) (setting : S) (purpose : CredentialUse) (asked : Option Credentials) (m : C)
+    (made : c.made setting m) where
   in_place : (context new : Option C) (had handle : Option CredentialsBuffers) → context ≡ None →
       IfContext new (c.acquires m purpose asked handle) → IfContext new (Begun c context had setting purpose asked handle)
   in_place context None had handle none acquired = acquired

@@ -183,7 +183,8 @@ module _ (base : List Carried) (start limit : ℕ) where
   only_ok (Err errors.InsufficientMemory) turns log now ends newest = newest_may_lack turns newest ends.cause.0
 
   refused_client_goes : (kind : ErrorKind) (turns : List Turn) → NewestIs Client (IsClientRefusal kind) turns → AllGoOn turns → ⊥
-  refused_client_goes kind turns newest going = newest_goes_apart Client (IsClientRefusal kind) (client_refusal_goes kind) turns newest going
+  refused_client_goes kind turns newest going = newest_goes_apart Client (IsClientRefusal kind) (client_refusal_goes kind) turns
+      newest going
 
   only_client : (kind : ErrorKind) (result : Result Delegation DelegateError) (turns : List Turn) (log : List Carried) (now : ℕ) →
       RunEnds base start limit result turns log now → NewestIs Client (IsClientRefusal kind) turns → IsOnly (IsClientError kind) result
@@ -200,7 +201,8 @@ module _ (base : List Carried) (start limit : ℕ) where
   only_client kind (Err errors.InsufficientMemory) turns log now ends newest = tt
 
   refused_server_goes : (kind : ErrorKind) (turns : List Turn) → NewestIs Server (IsServerRefusal kind) turns → AllGoOn turns → ⊥
-  refused_server_goes kind turns newest going = newest_goes_apart Server (IsServerRefusal kind) (server_refusal_goes kind) turns newest going
+  refused_server_goes kind turns newest going = newest_goes_apart Server (IsServerRefusal kind) (server_refusal_goes kind) turns
+      newest going
 
   only_server : (kind : ErrorKind) (result : Result Delegation DelegateError) (turns : List Turn) (log : List Carried) (now : ℕ) →
       RunEnds base start limit result turns log now → NewestIs Server (IsServerRefusal kind) turns → IsOnly (IsServerError kind) result

@@ -59,7 +59,8 @@ module _ {C D : Type 0} (c : Meaning ContextSetting C) (k : KdcCalls D) where
 
   -- the same of the newest turn alone
   pub client_alone : (old mid new : ClientView C) (kdc kdc2 : D) (d : TsRequest) (out : Outcome) (turns turns2 : List Turn) →
-      ClientMakes c k old kdc d out mid kdc2 → new ≡ record mid { output = [] } → turns2 ≡ recorded Client d mid.acts mid.output out ∷ turns →
+      ClientMakes c k old kdc d out mid kdc2 → new ≡ record mid { output = [] } →
+      turns2 ≡ recorded Client d mid.acts mid.output out ∷ turns →
       ClientHistory c k old kdc (client_turns (newest_alone turns2)) new kdc2
   client_alone old mid new kdc kdc2 d out turns turns2 makes rest is =
       client_made old old mid new kdc kdc kdc2 d out [] (newest_alone turns2) (refl, refl) makes rest (ap newest_alone is)

@@ -8,7 +8,8 @@ ghost use Rattle.sspi_delegate.specs.Turns.{AllGoOn, recorded};
 ghost use Rattle.sspi_delegate.specs.History.{ClientHistory, ServerHistory};
 ghost use Rattle.sspi_delegate.specs.Recorded.{ClientPushed, ServerPushed};
 ghost use Rattle.sspi_delegate.specs.Refusals.{KdcStays, ProxyStays};
-ghost use Rattle.sspi_delegate.specs.Rounds.{added_by_client, added_by_server, ClientConcludes, WaitsWhereLost, ClientRoundPast, ServerRoundPast};
+ghost use Rattle.sspi_delegate.specs.Rounds.{added_by_client, added_by_server, ClientConcludes};
+ghost use Rattle.sspi_delegate.specs.Rounds.{WaitsWhereLost, ClientRoundPast, ServerRoundPast};
 
 use crate::transcript::Transcript;
 use sspi_credssp::{

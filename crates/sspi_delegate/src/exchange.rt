@@ -239,7 +239,8 @@ fn give<L: Link>(alloc: Global, link: &mut L, transcript: &Transcript) -> Result
         Turned base start transcript.now.turns (L.log link.old) (L.faults link.old) →
         Stopped base start limit error transcript.now.turns (L.log link.new) (L.faults link.new)) }
     ensures given { (base : List Carried) (start : ℕ) → L.faults link.old ≡ start → HasMessage transcript.now.turns →
-        LoggedButLast base transcript.now.turns (L.log link.old) → Given base start transcript.now.turns (L.log link.new) (L.faults link.new) }
+        LoggedButLast base transcript.now.turns (L.log link.old) → Given base start transcript.now.turns (L.log link.new)
+        (L.faults link.new) }
     // What the answer says of the link.
     ensures link { IfErr result IsNoRefusal }
     ensures same { OnErr result (L.log link.new ≡ L.log link.old) }

@@ -1,5 +1,6 @@
 -- Calls on a desk go on from where the calls before left each session.
-use Rattle.std.proofs.Common.{◌≡◌, ◌≢◌, ℕ, ◌+◌, List, [], ◌∷◌, ◌++◌, length, Option, None, Some, Result, Err, refl, sym, ap, ◌∙◌, subst, arith, eqb}
+use Rattle.std.proofs.Common.{◌≡◌, ◌≢◌, ℕ, ◌+◌, List, [], ◌∷◌, ◌++◌, length, Option, None}
+use Rattle.std.proofs.Common.{Some, Result, Err, refl, sym, ap, ◌∙◌, subst, arith, eqb}
 use Rattle.std.proofs.Common.{length-append}
 use Rattle.std.specs.Prelude.{if◌then◌else◌, Bool, true, false}
 use Rattle.std.proofs.lemmas.Bool.{eqb-true, eqb-false}
@@ -32,7 +33,8 @@ answers_for-more s [] call [] answer same = refl
 answers_for-more s [] call (one ∷ answers) answer same = absurd (omega arith)
 answers_for-more s (first ∷ calls) call [] answer same = absurd (omega arith)
 answers_for-more s (first ∷ calls) call (one ∷ answers) answer same = elim (eqb first.session s) as (λ b.
-    (if b then one ∷ answers_for s (calls ++ call ∷ []) (answers ++ answer ∷ []) else answers_for s (calls ++ call ∷ []) (answers ++ answer ∷ []))
+    (if b then one ∷ answers_for s (calls ++ call ∷ []) (answers ++ answer ∷ []) else answers_for s (calls ++ call ∷ [])
+    (answers ++ answer ∷ []))
     ≡ (if b then one ∷ answers_for s calls answers else answers_for s calls answers) ++ answers_for s (call ∷ []) (answer ∷ [])) [
       | true ↦ ap (λ later. one ∷ later) (answers_for-more s calls call answers answer (omega arith))
       | false ↦ answers_for-more s calls call answers answer (omega arith)
@@ -48,7 +50,8 @@ module _ {C P : Type 0} (c : Meaning ContextSetting C) (p : ProxyMeaning P) wher
       (first.0, first.1, Alone-append first.0 b d calls calls2 answers answers2 first.2 later)
 
   -- a session after some calls, and after some more
-  ServesSession-append : (a b d : Option (ServerView C P)) (calls calls2 : List (List ℕ)) (answers answers2 : List (Result Served DeskError)) →
+  ServesSession-append : (a b d : Option (ServerView C P)) (calls calls2 : List (List ℕ))
+      (answers answers2 : List (Result Served DeskError)) →
       ServesSession c p a calls answers b → ServesSession c p b calls2 answers2 d →
       ServesSession c p a (calls ++ calls2) (answers ++ answers2) d
   ServesSession-append None None None calls calls2 answers answers2 first later =
@@ -66,10 +69,12 @@ module _ {C P : Type 0} (c : Meaning ContextSetting C) (p : ProxyMeaning P) wher
   ServesSession-none (Some a) = refl
 
   -- one call of a session
-  one_call : (at : Option (ServerView C P)) (s : ℕ) (bytes : List ℕ) (answer : Result Served DeskError) (old new : DeskView C P) → session s old ≡ at →
+  one_call : (at : Option (ServerView C P)) (s : ℕ) (bytes : List ℕ) (answer : Result Served DeskError) (old new : DeskView C P) →
+      session s old ≡ at →
       ServesAt c p at s bytes answer old new → ServesSession c p at (bytes ∷ []) (answer ∷ []) (session s new)
   one_call None s bytes answer old new found serves =
-      subst (ServesSession c p None (bytes ∷ []) (answer ∷ [])) (sym (ap (session s) serves.1 ∙ found)) (All-push (λ a. a ≡ Err NoSession) [] answer (All-nil (λ a. a ≡ Err NoSession)) serves.0)
+      subst (ServesSession c p None (bytes ∷ []) (answer ∷ [])) (sym (ap (session s) serves.1 ∙ found))
+      (All-push (λ a. a ≡ Err NoSession) [] answer (All-nil (λ a. a ≡ Err NoSession)) serves.0)
   one_call (Some server) s bytes answer old new found serves =
       subst (ServesSession c p (Some server) (bytes ∷ []) (answer ∷ [])) (sym serves.changes.here) (serves.after, serves.answers, refl)
 
@@ -81,8 +86,13 @@ module _ {C P : Type 0} (c : Meaning ContextSetting C) (p : ProxyMeaning P) wher
 
   counts_stay : (at : Option (ServerView C P)) (s : ℕ) (bytes : List ℕ) (answer : Result Served DeskError) (old new : DeskView C P) →
       ServesAt c p at s bytes answer old new → (new.limit ≡ old.limit) × Counts new old.admitted (length old.kept)
-  counts_stay None s bytes answer old new serves =
-      (ap (λ desk. desk.limit) serves.1, record { admitted_is = ap (λ desk. desk.admitted) serves.1; kept_is = ap (λ desk. length desk.kept) serves.1 })
+  counts_stay None s bytes answer old new serves = (
+    ap (λ desk. desk.limit) serves.1,
+    record {
+      admitted_is = ap (λ desk. desk.admitted) serves.1;
+      kept_is = ap (λ desk. length desk.kept) serves.1;
+    },
+  )
   counts_stay (Some server) s bytes answer old new serves = (serves.changes.limit, serves.counts)
 
   -- one call, for a session whether or not it is the call's
@@ -95,11 +105,13 @@ module _ {C P : Type 0} (c : Meaning ContextSetting C) (p : ProxyMeaning P) wher
       (subst (λ t. ServesAt c p (session t old) t call.bytes answer old new) same serves)
   each_session s call answer old new serves false own =
       subst (ServesSession c p (session s old) [] [])
-      (sym (others_stay (session call.session old) call.session call.bytes answer old new serves s (λ same. eqb-false call.session s own (sym same))))
+      (sym (others_stay (session call.session old) call.session call.bytes answer old new serves s
+      (λ same. eqb-false call.session s own (sym same))))
       (ServesSession-none (session s old))
 
   -- one call more
-  pub ServesAll-more : (calls : List Call) (answers : List (Result Served DeskError)) (call : Call) (answer : Result Served DeskError) (old mid new : DeskView C P) →
+  pub ServesAll-more : (calls : List Call) (answers : List (Result Served DeskError)) (call : Call)
+      (answer : Result Served DeskError) (old mid new : DeskView C P) →
       ServesAll c p calls answers old mid → Serves c p call.session call.bytes answer mid new →
       ServesAll c p (calls ++ call ∷ []) (answers ++ answer ∷ []) old new
   ServesAll-more calls answers call answer old mid new before serves =

@@ -91,7 +91,8 @@ honest_link p identity before after policy policy2 answer authorizes none follow
 
 -- ---- what a list decides
 
-carried_told : (told : EarlyUserAuthResult) (before after : List Carried) (authorized : Authorized) → Comes told before after (Ok authorized) →
+carried_told : (told : EarlyUserAuthResult) (before after : List Carried) (authorized : Authorized) →
+    Comes told before after (Ok authorized) →
     authorized.told ≡ told
 carried_told told before after authorized (carried entry) = entry.cause.0
 carried_told told before after authorized (uncarried same none) = absurd none

@@ -134,7 +134,8 @@ module _ {P : Type 0} (p : PolicyMeaning P) (edits : Option (List Edit)) (log : 
       (IsUndisturbed edits log (shows link).log faults (shows link).faults → ComesToOkIn messages identity delegated) →
       IsUndisturbed edits log (shows link2).log faults (shows link2).faults → IsCalm (p.faults policy) (p.faults policy2) →
       ComesToOkEarly messages identity result
-  early_comes shows (Ok delegation) link link2 policy policy2 result limit turns messages identity goes_on ends stays comes undisturbed calm =
+  early_comes shows (Ok delegation) link link2 policy policy2 result limit turns messages identity goes_on ends stays comes
+      undisturbed calm =
       answer_behind delegation (shows link) (shows link2) policy policy2 result messages identity goes_on ends.0.calm stays undisturbed calm
       (comes (before_behind delegation (shows link) (shows link2) policy policy2 result goes_on ends.0.calm undisturbed))
   early_comes {L = L} shows (Err error) link link2 policy policy2 result limit turns messages identity goes_on ends stays comes undisturbed

@@ -1,5 +1,6 @@
 -- The content of a request, piece by piece.
-use Rattle.std.proofs.Common.{◌≡◌, ℕ, ◌+◌, ◌<◌, ◌≤◌, List, [], ◌∷◌, ◌++◌, length, take, Option, None, Some, Ok, Err, refl, sym, ap, ◌∙◌, append_assoc, arith}
+use Rattle.std.proofs.Common.{◌≡◌, ℕ, ◌+◌, ◌<◌, ◌≤◌, List, [], ◌∷◌, ◌++◌, length, take, Option}
+use Rattle.std.proofs.Common.{None, Some, Ok, Err, refl, sym, ap, ◌∙◌, append_assoc, arith}
 use Rattle.std.proofs.lemmas.Bool.{lt-ltb}
 use Rattle.std.proofs.lemmas.List.{append-nil, length-append, length-take}
 use Rattle.std.proofs.KnownBytes.{Consumes-kept, Consumes-trans}
@@ -36,11 +37,13 @@ piece_on size missing count now_missing before mid after old new newer piece s c
   put = e ∙ ap (λ (t : List ℕ). t ++ piece) s.put ∙ append_assoc old s.body piece;
 }
 
-pub body_done : (size missing : ℕ) (before now : Option (List ℕ)) (old new : List ℕ) → BodySoFar size missing before now old new → missing ≡ 0 →
+pub body_done : (size missing : ℕ) (before now : Option (List ℕ)) (old new : List ℕ) → BodySoFar size missing before now old new →
+    missing ≡ 0 →
     TakesBytes size before now old new
 body_done size missing before now old new s e = record { body = s.body; sized = omega (arith, s.sized, e); taken = s.taken; put = s.put }
 
-pub body_rest : (size missing count : ℕ) (before mid after : Option (List ℕ)) (old new piece : List ℕ) → BodySoFar size missing before mid old new →
+pub body_rest : (size missing count : ℕ) (before mid after : Option (List ℕ)) (old new piece : List ℕ) →
+    BodySoFar size missing before mid old new →
     Consumes mid after (take count piece) → count ≤ missing → TakesPart size before after
 body_rest size missing count before mid after old new piece s c le = record {
   body = s.body ++ take count piece;
@@ -109,7 +112,8 @@ cut_content size before mid after header c h cut =
       record { taken = part_behind size before mid after header c h part; shows = λ u. cut.at_end },
     )
 
-pub refused_content : (Y : Type 0) (view : Y → List ℕ) (size : ℕ) (before mid after : Option (List ℕ)) (header new : List ℕ) (kind : WireKind) →
+pub refused_content : (Y : Type 0) (view : Y → List ℕ) (size : ℕ) (before mid after : Option (List ℕ)) (header new : List ℕ)
+    (kind : WireKind) →
     Consumes before mid header → IsHeaderOf size header → TakesBody size mid after header new (Err kind) →
     TakesRequest view before after (Err kind)
 refused_content Y view size before mid after header new UnexpectedEof c h t = cut_content size before mid after header c h t

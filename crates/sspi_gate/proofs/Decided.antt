@@ -1,5 +1,6 @@
 -- Two relays of the same streams, of which no stream fails and which have memory, come to the same answer.
-use Rattle.std.proofs.Common.{◌≡◌, inl, inr, ℕ, ◌+◌, ◌<◌, ◌≤◌, List, [], ◌∷◌, ◌++◌, length, drop, Option, None, Some, Result, Ok, Err, refl, sym, ap, ◌∙◌, subst, append_assoc, get_or, arith}
+use Rattle.std.proofs.Common.{◌≡◌, inl, inr, ℕ, ◌+◌, ◌<◌, ◌≤◌, List, [], ◌∷◌, ◌++◌, length, drop, Option, None}
+use Rattle.std.proofs.Common.{Some, Result, Ok, Err, refl, sym, ap, ◌∙◌, subst, append_assoc, get_or, arith}
 use Rattle.std.proofs.lemmas.Bool.{cases_lt}
 use Rattle.std.proofs.lemmas.List.{get_or_append_left, get_or_at, length-append, length_push, same_from_push}
 use Rattle.std.proofs.lemmas.List.Elements.{All-get_or}
@@ -77,7 +78,8 @@ record Stopped (turns : ℕ) (client server : List ℕ) (answer : Result Relayed
 some_same : (x y : List ℕ) → Some x ≡ Some y → x ≡ y
 some_same x y e = cc
 
-told_by : (left last : Option (List ℕ)) (front stream : List ℕ) (requests : List TsRequest) → left ≡ Some stream → Consumes left last front →
+told_by : (left last : Option (List ℕ)) (front stream : List ℕ) (requests : List TsRequest) → left ≡ Some stream →
+    Consumes left last front →
     AreRequests front requests → (rest : List ℕ) × (last ≡ Some rest) × GivesFirst stream requests rest
 told_by None last front stream requests e c are = absurd cc
 told_by (Some x) None front stream requests e c are = absurd c
@@ -101,7 +103,8 @@ bad_told left bytes kinds.ReadFault e b = absurd b
 bad_told left bytes kinds.WriteFault e b = absurd b
 bad_told left bytes kinds.InsufficientMemory e b = absurd b
 
-text_told : (left after : Option (List ℕ)) (text bytes : List ℕ) (r : TsRequest) → left ≡ Some bytes → Consumes left after text → IsText text r →
+text_told : (left after : Option (List ℕ)) (text bytes : List ℕ) (r : TsRequest) → left ≡ Some bytes → Consumes left after text →
+    IsText text r →
     IsRequest bytes r (length text)
 text_told None after text bytes r e c t = absurd cc
 text_told (Some x) None text bytes r e c t = absurd c
@@ -109,7 +112,8 @@ text_told (Some x) (Some more) text bytes r e c t =
     let parts : text ++ more ≡ bytes = sym c ∙ some_same x bytes e in
     subst (λ (l : List ℕ). IsRequest l r (length text)) parts (more_request text r (length text) more t)
 
-close_verdict : (turns : ℕ) (sent answered : List TsRequest) (up down : Way) (c s : List ℕ) (how : Close) → up.left ≡ Some c → down.left ≡ Some s →
+close_verdict : (turns : ℕ) (sent answered : List TsRequest) (up down : Way) (c s : List ℕ) (how : Close) → up.left ≡ Some c →
+    down.left ≡ Some s →
     Closes turns sent answered up down how →
     (v : Verdict) × IsVerdict turns sent answered c s v × ((passed : ℕ) → Ok (record { passed = passed; how = how }) ≡ answer_of passed v)
 unfolding answer_of
@@ -135,7 +139,8 @@ fault_verdict turns sent answered up down up_after down_after c s (Version end) 
         (
           t.request,
           length t.text,
-          text_told (of b.end up down).left (of b.end up_after down_after).left t.text (of b.end c s) t.request (of_left b.end up down c s e f) t.taken
+          text_told (of b.end up down).left (of b.end up_after down_after).left t.text (of b.end c s) t.request
+              (of_left b.end up down c s e f) t.taken
               t.is_request,
           t.differs,
         ),
@@ -147,7 +152,8 @@ fault_verdict turns sent answered up down up_after down_after c s (WriteFault en
 fault_verdict turns sent answered up down up_after down_after c s TurnsSpent e f b ok = (Spent, b.0, λ passed. refl)
 fault_verdict turns sent answered up down up_after down_after c s InsufficientMemory e f b ok = absurd ok
 
-judged : (turns : ℕ) (sent answered : List TsRequest) (up down up_after down_after : Way) (c s : List ℕ) (answer : Result Relayed GateError) →
+judged : (turns : ℕ) (sent answered : List TsRequest) (up down up_after down_after : Way) (c s : List ℕ)
+    (answer : Result Relayed GateError) →
     up.left ≡ Some c → down.left ≡ Some s →
     Stops turns sent answered up down up_after down_after answer → IsDecided answer →
     (v : Verdict) × IsVerdict turns sent answered c s v × (answer ≡ answer_of (length sent + length answered) v)
@@ -186,34 +192,52 @@ record Placed (turns : ℕ) (sent answered : List TsRequest) : Type 0 where
   next : length sent ≤ length answered + 1
   all : length sent ≤ turns
 
-placed : (turns : ℕ) (sent answered : List TsRequest) (c s : List ℕ) (v : Verdict) → IsVerdict turns sent answered c s v → Placed turns sent answered
+placed : (turns : ℕ) (sent answered : List TsRequest) (c s : List ℕ) (v : Verdict) → IsVerdict turns sent answered c s v →
+    Placed turns sent answered
 placed turns sent answered c s (Due Client next) (goes, is) =
-    let due = goes.due in let lt = goes.within in record { within = omega (arith, due); next = omega (arith, due); all = omega (arith, due, lt) }
+    let due = goes.due in let lt = goes.within in record {
+      within = omega (arith, due);
+      next = omega (arith, due);
+      all = omega (arith, due, lt);
+    }
 placed turns sent answered c s (Due Server next) (goes, is) =
-    let due = goes.due in let lt = goes.within in record { within = omega (arith, due); next = omega (arith, due); all = omega (arith, due, lt) }
+    let due = goes.due in let lt = goes.within in record {
+      within = omega (arith, due);
+      next = omega (arith, due);
+      all = omega (arith, due, lt);
+    }
 placed turns sent answered c s Spent is =
-    let a = is.all_sent in let b = is.all_answered in record { within = omega (arith, a, b); next = omega (arith, a, b); all = omega (arith, a) }
+    let a = is.all_sent in let b = is.all_answered in record {
+      within = omega (arith, a, b);
+      next = omega (arith, a, b);
+      all = omega (arith, a);
+    }
 placed turns sent answered c s (Refusing code) is =
     let a = is.all_answered in let b = is.within in record { within = omega (arith, a); next = omega (arith, a); all = omega (arith, a, b) }
 
 -- an answer that is not the last of all does not refuse
-calm_at : (answered before : List TsRequest) (r : TsRequest) (more : List TsRequest) → answered ≡ before ++ r ∷ more → AreCalm answered → refusal r ≡ None
+calm_at : (answered before : List TsRequest) (r : TsRequest) (more : List TsRequest) → answered ≡ before ++ r ∷ more →
+    AreCalm answered → refusal r ≡ None
 calm_at answered before r more e calm =
-    let at : get_or answered (length before) r ≡ r = ap (λ (l : List TsRequest). get_or l (length before) r) e ∙ get_or_at before r more r (length before) refl in
+    let at : get_or answered (length before) r ≡ r = ap (λ (l : List TsRequest). get_or l (length before) r) e
+    ∙ get_or_at before r more r (length before) refl in
     let lt : length before < length answered = omega (arith, ap length e, length-append before (r ∷ more)) in
     subst (λ (q : TsRequest). refusal q ≡ None) at (All-get_or (λ (q : TsRequest). refusal q ≡ None) answered (length before) r lt calm)
 
 calm_early : (answered earlier : List TsRequest) (last : TsRequest) (before : List TsRequest) (r : TsRequest) (more : List TsRequest) →
-    answered ≡ earlier ++ last ∷ [] → answered ≡ before ++ r ∷ more → length before + 1 < length answered → AreCalm earlier → refusal r ≡ None
+    answered ≡ earlier ++ last ∷ [] → answered ≡ before ++ r ∷ more → length before + 1 < length answered → AreCalm earlier →
+    refusal r ≡ None
 calm_early answered earlier last before r more e f lt calm =
     let short : length before < length earlier = omega (arith, ap length e, length_push earlier last, lt) in
-    let at : get_or answered (length before) r ≡ r = ap (λ (l : List TsRequest). get_or l (length before) r) f ∙ get_or_at before r more r (length before) refl in
+    let at : get_or answered (length before) r ≡ r = ap (λ (l : List TsRequest). get_or l (length before) r) f
+    ∙ get_or_at before r more r (length before) refl in
     let inside : get_or answered (length before) r ≡ get_or earlier (length before) r =
     ap (λ (l : List TsRequest). get_or l (length before) r) e ∙ get_or_append_left earlier (last ∷ []) r (length before) short in
     subst (λ (q : TsRequest). refusal q ≡ None) (sym inside ∙ at)
     (All-get_or (λ (q : TsRequest). refusal q ≡ None) earlier (length before) r short calm)
 
-calm_before : (turns : ℕ) (sent answered : List TsRequest) (c s : List ℕ) (v : Verdict) (before : List TsRequest) (r : TsRequest) (more : List TsRequest) →
+calm_before : (turns : ℕ) (sent answered : List TsRequest) (c s : List ℕ) (v : Verdict) (before : List TsRequest) (r : TsRequest)
+    (more : List TsRequest) →
     IsVerdict turns sent answered c s v → answered ≡ before ++ r ∷ more → length before + 1 < length sent → refusal r ≡ None
 calm_before turns sent answered c s (Due end next) before r more is e lt = calm_at answered before r more e is.0.calm
 calm_before turns sent answered c s Spent before r more is e lt = calm_at answered before r more e is.calm
@@ -233,7 +257,8 @@ unread bytes r count kinds.ReadFault t h = absurd h
 unread bytes r count kinds.WriteFault t h = absurd h
 unread bytes r count kinds.InsufficientMemory t h = absurd h
 
-not_next : (first : Option ℕ) (bytes : List ℕ) (next : Next) (r : TsRequest) (count : ℕ) → IsNext first bytes next → IsRequest bytes r count →
+not_next : (first : Option ℕ) (bytes : List ℕ) (next : Next) (r : TsRequest) (count : ℕ) → IsNext first bytes next →
+    IsRequest bytes r count →
     MaySend first r.version → ⊥
 not_next first bytes NoBytes r count is t may = no_request r count (subst (λ (l : List ℕ). IsRequest l r count) is t)
 not_next first bytes (Faulty kind) r count is t may = unread bytes r count kind t is.1
@@ -241,13 +266,15 @@ not_next first bytes Other r count (q, number, u, differs) t may =
     differs (subst (λ (z : TsRequest). MaySend first z.version) (one_request bytes r q count number t u).0 may)
 
 -- the version of a request behind others of one version
-may_follow : (before : List TsRequest) (r : TsRequest) (more : List TsRequest) → HaveOneVersion (before ++ r ∷ more) → MaySend (first_version before) r.version
+may_follow : (before : List TsRequest) (r : TsRequest) (more : List TsRequest) → HaveOneVersion (before ++ r ∷ more) →
+    MaySend (first_version before) r.version
 may_follow [] r more one = tt
 may_follow (first ∷ before) r more one =
     let all = before ++ r ∷ more in
     let at : get_or all (length before) r ≡ r = get_or_at before r more r (length before) refl in
     let lt : length before < length all = omega (arith, length-append before (r ∷ more)) in
-    subst (λ (q : TsRequest). q.version ≡ first.version) at (All-get_or (λ (q : TsRequest). q.version ≡ first.version) all (length before) r lt one)
+    subst (λ (q : TsRequest). q.version ≡ first.version) at (All-get_or (λ (q : TsRequest). q.version ≡ first.version) all
+    (length before) r lt one)
 
 -- what a stream gives beyond these requests
 beyond : (stream x y : List ℕ) (requests others : List TsRequest) → GivesFirst stream requests x → GivesFirst stream others y →
@@ -261,7 +288,8 @@ beyond stream x y (p ∷ requests) (q ∷ others) (count, is, gives) (number, al
     (tail.0, ap (λ (r : TsRequest). r ∷ others) (sym same.0) ∙ ap (λ (rs : List TsRequest). p ∷ rs) tail.1, tail.2)
 
 -- a request that is due and not handed on is not given beyond the others
-no_more : (stream x y : List ℕ) (requests others : List TsRequest) (next : Next) → GivesFirst stream requests x → GivesFirst stream others y →
+no_more : (stream x y : List ℕ) (requests others : List TsRequest) (next : Next) → GivesFirst stream requests x →
+    GivesFirst stream others y →
     HaveOneVersion others → IsNext (first_version requests) x next → length requests < length others → ⊥
 no_more stream x y requests others next e f one is lt = refuted (beyond stream x y requests others e f (omega (arith, lt)))
   where
@@ -273,7 +301,8 @@ no_more stream x y requests others next e f one is lt = refuted (beyond stream x
 not_both : (code : NStatusCode) (r : TsRequest) → refusal r ≡ None → refusal r ≡ Some code → ⊥
 not_both code r e f = let no : None ≡ Some code = sym e ∙ f in absurd cc
 
-no_later : (turns : ℕ) (client server : List ℕ) (a b : Result Relayed GateError) (x : Stopped turns client server a) (y : Stopped turns client server b)
+no_later : (turns : ℕ) (client server : List ℕ) (a b : Result Relayed GateError) (x : Stopped turns client server a)
+    (y : Stopped turns client server b)
     (v : Verdict) → x.verdict ≡ v → length x.sent + length x.answered < length y.sent + length y.answered → ⊥
 no_later turns client server a b x y v e lt = stuck v (subst (IsVerdict turns x.sent x.answered x.c x.s) e x.verdict_is)
   where
@@ -284,15 +313,18 @@ no_later turns client server a b x y v e lt = stuck v (subst (IsVerdict turns x.
     stuck (Due Client next) (goes, is) =
         no_more client x.c y.c x.sent y.sent next x.from_client y.from_client y.client_version is (omega (arith, goes.due, q.within, lt))
     stuck (Due Server next) (goes, is) =
-        no_more server x.s y.s x.answered y.answered next x.from_server y.from_server y.server_version is (omega (arith, goes.due, q.next, lt))
+        no_more server x.s y.s x.answered y.answered next x.from_server y.from_server y.server_version is
+        (omega (arith, goes.due, q.next, lt))
     stuck Spent is = omega (arith, is.all_sent, is.all_answered, q.within, q.all, lt)
     stuck (Refusing code) is =
-        let more = beyond server x.s y.s x.answered y.answered x.from_server y.from_server (omega (arith, is.all_answered, q.within, q.next, lt)) in
+        let more = beyond server x.s y.s x.answered y.answered x.from_server y.from_server
+        (omega (arith, is.all_answered, q.within, q.next, lt)) in
         let parts : y.answered ≡ is.earlier ++ is.last ∷ more.0 =
         more.1 ∙ ap (λ (l : List TsRequest). l ++ more.0) is.parts ∙ append_assoc is.earlier (is.last ∷ []) more.0 in
         let early : length is.earlier + 1 < length y.sent =
         omega (arith, ap length is.parts, length_push is.earlier is.last, is.all_answered, q.within, q.next, lt) in
-        not_both code is.last (calm_before turns y.sent y.answered y.c y.s y.verdict is.earlier is.last more.0 y.verdict_is parts early) is.refused
+        not_both code is.last (calm_before turns y.sent y.answered y.c y.s y.verdict is.earlier is.last more.0 y.verdict_is parts
+        early) is.refused
 
 -- ---- relays that came equally far
 
@@ -314,11 +346,13 @@ one_kind bytes kinds.InvalidData kinds.InsufficientMemory h i = absurd i
 next_one : (first : Option ℕ) (bytes : List ℕ) (n m : Next) → IsNext first bytes n → IsNext first bytes m → n ≡ m
 next_one first bytes NoBytes NoBytes is also = refl
 next_one first bytes NoBytes (Faulty kind) is also = absurd (also.0 is)
-next_one first bytes NoBytes Other is (r, count, t, differs) = absurd (no_request r count (subst (λ (l : List ℕ). IsRequest l r count) is t))
+next_one first bytes NoBytes Other is (r, count, t, differs) = absurd
+    (no_request r count (subst (λ (l : List ℕ). IsRequest l r count) is t))
 next_one first bytes (Faulty kind) NoBytes is also = absurd (is.0 also)
 next_one first bytes (Faulty kind) (Faulty other) is also = ap (λ (k : WireKind). Faulty k) (one_kind bytes kind other is.1 also.1)
 next_one first bytes (Faulty kind) Other is (r, count, t, differs) = absurd (unread bytes r count kind t is.1)
-next_one first bytes Other NoBytes (r, count, t, differs) also = absurd (no_request r count (subst (λ (l : List ℕ). IsRequest l r count) also t))
+next_one first bytes Other NoBytes (r, count, t, differs) also = absurd
+    (no_request r count (subst (λ (l : List ℕ). IsRequest l r count) also t))
 next_one first bytes Other (Faulty kind) (r, count, t, differs) also = absurd (unread bytes r count kind t also.1)
 next_one first bytes Other Other is also = refl
 
@@ -334,7 +368,8 @@ calm_refused turns code sent answered calm is = not_both code is.last (calm_at a
 same_code : (r : TsRequest) (a b : NStatusCode) → refusal r ≡ Some a → refusal r ≡ Some b → a ≡ b
 same_code r a b e f = let same : Some a ≡ Some b = sym e ∙ f in cc
 
-one_code : (turns : ℕ) (a b : NStatusCode) (sent answered : List TsRequest) → IsRefused turns a sent answered → IsRefused turns b sent answered → a ≡ b
+one_code : (turns : ℕ) (a b : NStatusCode) (sent answered : List TsRequest) → IsRefused turns a sent answered →
+    IsRefused turns b sent answered → a ≡ b
 one_code turns a b sent answered is also =
     let last = same_from_push is.earlier also.earlier is.last also.last (sym is.parts ∙ also.parts) in
     same_code is.last a b is.refused (subst (λ (r : TsRequest). refusal r ≡ Some b) (sym last.1) also.refused)
@@ -347,7 +382,8 @@ one_verdict turns sent answered c s (Due e n) (Due f m) is also = due (one_due t
     due same next =
         let moved : IsNext (first_version (of f sent answered)) (of f c s) n =
         subst (λ (z : End). IsNext (first_version (of z sent answered)) (of z c s) n) same next in
-        ap (λ (z : End). Due z n) same ∙ ap (λ (z : Next). Due f z) (next_one (first_version (of f sent answered)) (of f c s) n m moved also.1)
+        ap (λ (z : End). Due z n) same
+        ∙ ap (λ (z : Next). Due f z) (next_one (first_version (of f sent answered)) (of f c s) n m moved also.1)
 one_verdict turns sent answered c s (Due e n) Spent is also = let no : ⊥ = omega (arith, is.0.within, also.all_answered) in absurd no
 one_verdict turns sent answered c s (Due e n) (Refusing code) is also = absurd (calm_refused turns code sent answered is.0.calm also)
 one_verdict turns sent answered c s Spent (Due f m) is also = let no : ⊥ = omega (arith, also.0.within, is.all_answered) in absurd no
@@ -355,7 +391,8 @@ one_verdict turns sent answered c s Spent Spent is also = refl
 one_verdict turns sent answered c s Spent (Refusing code) is also = absurd (calm_refused turns code sent answered is.calm also)
 one_verdict turns sent answered c s (Refusing code) (Due f m) is also = absurd (calm_refused turns code sent answered also.0.calm is)
 one_verdict turns sent answered c s (Refusing code) Spent is also = absurd (calm_refused turns code sent answered also.calm is)
-one_verdict turns sent answered c s (Refusing a) (Refusing b) is also = ap (λ (z : NStatusCode). Refusing z) (one_code turns a b sent answered is also)
+one_verdict turns sent answered c s (Refusing a) (Refusing b) is also = ap (λ (z : NStatusCode). Refusing z)
+    (one_code turns a b sent answered is also)
 
 same_place : (turns : ℕ) (sent answered : List TsRequest) (c s : List ℕ) (v : Verdict) (others replies : List TsRequest) (x y : List ℕ) →
     others ≡ sent → replies ≡ answered → x ≡ c → y ≡ s → IsVerdict turns others replies x y v → IsVerdict turns sent answered c s v
@@ -363,20 +400,24 @@ same_place turns sent answered c s v others replies x y e f g h is =
     subst (λ (l : List TsRequest). IsVerdict turns l answered c s v) e (subst (λ (l : List TsRequest). IsVerdict turns others l c s v) f
     (subst (λ (l : List ℕ). IsVerdict turns others replies l s v) g (subst (λ (l : List ℕ). IsVerdict turns others replies x l v) h is)))
 
-equally_far : (turns : ℕ) (client server : List ℕ) (a b : Result Relayed GateError) (x : Stopped turns client server a) (y : Stopped turns client server b) →
+equally_far : (turns : ℕ) (client server : List ℕ) (a b : Result Relayed GateError) (x : Stopped turns client server a)
+    (y : Stopped turns client server b) →
     length x.sent + length x.answered ≡ length y.sent + length y.answered → a ≡ b
 equally_far turns client server a b x y e =
     let p = placed turns x.sent x.answered x.c x.s x.verdict x.verdict_is in
     let q = placed turns y.sent y.answered y.c y.s y.verdict y.verdict_is in
     let sent = one_front client x.c y.c x.sent y.sent x.from_client y.from_client (omega (arith, e, p.within, p.next, q.within, q.next)) in
-    let answered = one_front server x.s y.s x.answered y.answered x.from_server y.from_server (omega (arith, e, p.within, p.next, q.within, q.next)) in
-    let moved = same_place turns x.sent x.answered x.c x.s y.verdict y.sent y.answered y.c y.s (sym sent.0) (sym answered.0) (sym sent.1) (sym answered.1)
+    let answered = one_front server x.s y.s x.answered y.answered x.from_server y.from_server
+    (omega (arith, e, p.within, p.next, q.within, q.next)) in
+    let moved = same_place turns x.sent x.answered x.c x.s y.verdict y.sent y.answered y.c y.s (sym sent.0) (sym answered.0)
+    (sym sent.1) (sym answered.1)
     y.verdict_is in
     let same = one_verdict turns x.sent x.answered x.c x.s x.verdict y.verdict x.verdict_is moved in
     x.answer_is ∙ ap (λ (v : Verdict). answer_of (length x.sent + length x.answered) v) same
     ∙ ap (λ (n : ℕ). answer_of n y.verdict) e ∙ sym y.answer_is
 
-one_answer : (turns : ℕ) (client server : List ℕ) (a b : Result Relayed GateError) → Stopped turns client server a → Stopped turns client server b → a ≡ b
+one_answer : (turns : ℕ) (client server : List ℕ) (a b : Result Relayed GateError) → Stopped turns client server a →
+    Stopped turns client server b → a ≡ b
 one_answer turns client server a b x y =
     elim (cases_lt (length x.sent + length x.answered) (length y.sent + length y.answered)) [
       | inl lt ↦ absurd (no_later turns client server a b x y x.verdict refl lt)

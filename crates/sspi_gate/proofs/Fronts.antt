@@ -29,7 +29,8 @@ given_first front more (r ∷ later) (text, rest, parts, is, later_are) =
 
 taken_text : (stream : List ℕ) (r : TsRequest) (count : ℕ) → IsRequest stream r count → IsText (take count stream) r
 taken_text stream r count is =
-    subst (λ (k : ℕ). IsRequest (take count stream) r k) (sym (length-take-le count stream (within stream r count is))) (alone_request stream r count is)
+    subst (λ (k : ℕ). IsRequest (take count stream) r k) (sym (length-take-le count stream (within stream r count is)))
+    (alone_request stream r count is)
 
 pub front_of : (stream rest : List ℕ) (requests : List TsRequest) → GivesFirst stream requests rest →
     (front : List ℕ) × (stream ≡ front ++ rest) × AreRequests front requests
@@ -37,7 +38,8 @@ front_of stream rest [] e = ([], e, refl)
 front_of stream rest (r ∷ later) (count, is, gives) =
     let tail = front_of (drop count stream) rest later gives in (
       take count stream ++ tail.0,
-      sym (take-append-drop count stream) ∙ ap (λ (l : List ℕ). take count stream ++ l) tail.1 ∙ sym (append_assoc (take count stream) tail.0 rest),
+      sym (take-append-drop count stream) ∙ ap (λ (l : List ℕ). take count stream ++ l) tail.1
+          ∙ sym (append_assoc (take count stream) tail.0 rest),
       (take count stream, tail.0, refl, taken_text stream r count is, tail.2),
     )
 

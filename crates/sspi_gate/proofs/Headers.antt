@@ -1,5 +1,6 @@
 -- The header of a request, as the bytes of a stream come.
-use Rattle.std.proofs.Common.{◌≡◌, ℕ, ◌-◌, ◌≤◌, true, false, cond, eqb, ltb, leb, List, [], ◌∷◌, ◌++◌, length, take, drop, Option, None, Some, Ok, Err, refl, sym, ap, ◌∙◌, subst, inl, inr, arith}
+use Rattle.std.proofs.Common.{◌≡◌, ℕ, ◌-◌, ◌≤◌, true, false, cond, eqb, ltb, leb, List, [], ◌∷◌, ◌++◌, length, take}
+use Rattle.std.proofs.Common.{drop, Option, None, Some, Ok, Err, refl, sym, ap, ◌∙◌, subst, inl, inr, arith}
 use Rattle.std.proofs.lemmas.Bool.{le-ltb}
 use Rattle.std.proofs.lemmas.List.{append-nil, length-append, length_push, take-append-drop, take-append-le, take_at}
 use Rattle.std.proofs.KnownBytes.{Consumes-kept, Consumes-trans}
@@ -60,7 +61,10 @@ limited_decides count a b c le e =
   where
     -- a number that is within the limit or not
     never : (n : ℕ) (rest : List ℕ) → cond {A = Read ℕ} (leb n max_content) (Ok (n, rest)) (Err Invalid) ≡ Err Ended → ⊥
-    never n rest e = elim (chosen (leb n max_content) (Ok (n, rest)) (Err Invalid) (Err Ended) e) [ inl (t, f) ↦ absurd cc | inr (t, f) ↦ absurd cc ]
+    never n rest e = elim (chosen (leb n max_content) (Ok (n, rest)) (Err Invalid) (Err Ended) e) [
+      | inl (t, f) ↦ absurd cc
+      | inr (t, f) ↦ absurd cc
+    ]
 
 length_decides : (first a b c : ℕ) → length_at (first ∷ a ∷ b ∷ c ∷ []) ≡ Err Ended → ⊥
 unfolding length_at
@@ -104,7 +108,8 @@ pub not_empty : (p : List ℕ) (i : ℕ) → length p ≡ i → (i ≡ 0 → ⊥
 not_empty p i l n e = n (sym l ∙ ap length e)
 
 -- no byte more of the header came, as the source failed
-pub header_so_far : (before mid after : Option (List ℕ)) (p : List ℕ) → Consumes before mid p → Keeps mid after → header_at 0x30 p ≡ Err Ended →
+pub header_so_far : (before mid after : Option (List ℕ)) (p : List ℕ) → Consumes before mid p → Keeps mid after →
+    header_at 0x30 p ≡ Err Ended →
     TakesWanted before after
 header_so_far before mid after p c k h =
     record { text = p; taken = Consumes-kept before mid after p c k; wanted = wanted_all p (header_unfinished p h) }

@@ -1,5 +1,6 @@
 -- What is made of the bytes that a header bounds.
-use Rattle.std.proofs.Common.{◌≡◌, ◌≢◌, ◌≤◌, inl, ℕ, List, [], ◌∷◌, ◌++◌, length, Option, None, Some, Ok, Err, refl, sym, ap, ◌∙◌, subst, append_assoc, arith}
+use Rattle.std.proofs.Common.{◌≡◌, ◌≢◌, ◌≤◌, inl, ℕ, List, [], ◌∷◌, ◌++◌, length, Option, None}
+use Rattle.std.proofs.Common.{Some, Ok, Err, refl, sym, ap, ◌∙◌, subst, append_assoc, arith}
 use Rattle.std.proofs.lemmas.List.{append-nil, length-append}
 use Rattle.std.specs.Io.KnownBytes.{Consumes, Keeps}
 use Rattle.sspi_ber.specs.Pieces.{header_at}
@@ -33,7 +34,15 @@ is_text bytes r count w t =
     let same = both_are (length w.body) (length t.body) w.body (t.body ++ t.after) (sym first ∙ second) in
     let none : length t.after ≡ 0 = omega (arith, same.0, ap length same.1, length-append t.body t.after) in
     let all : length bytes ≡ count =
-    omega (arith, ap length t.parts, length-append (0x30 ∷ t.len) (t.body ++ t.after), length-append t.body t.after, none, t.taken, length-append (0x30 ∷ t.len) t.body) in
+    omega (
+      arith,
+      ap length t.parts,
+      length-append (0x30 ∷ t.len) (t.body ++ t.after),
+      length-append t.body t.after,
+      none,
+      t.taken,
+      length-append (0x30 ∷ t.len) t.body,
+    ) in
     subst (λ (k : ℕ). IsRequest bytes r k) (sym all) t
 
 -- ---- no request
@@ -51,7 +60,8 @@ whole_some : (bytes more : List ℕ) → IsWhole bytes → bytes ++ more ≡ [] 
 whole_some bytes more w e =
     let f : ((0x30 ∷ w.len) ++ w.body) ++ more ≡ [] = ap (λ (l : List ℕ). l ++ more) (sym w.parts) ∙ e in absurd cc
 
-is_bad : (left after : Option (List ℕ)) (bytes : List ℕ) (kind : WireKind) → Consumes left after bytes → IsWhole bytes → HasFault bytes kind →
+is_bad : (left after : Option (List ℕ)) (bytes : List ℕ) (kind : WireKind) → Consumes left after bytes → IsWhole bytes →
+    HasFault bytes kind →
     IsBad left kind
 is_bad None after bytes kinds.UnexpectedEof c w f = tt
 is_bad (Some all) None bytes kinds.UnexpectedEof c w f = absurd c
@@ -72,15 +82,22 @@ shows bytes after kinds.ReadFault w f = absurd f
 shows bytes after kinds.WriteFault w f = absurd f
 shows bytes after kinds.InsufficientMemory w f = absurd f
 
-to_fault : (before after : Option (List ℕ)) (bytes : List ℕ) (kind : WireKind) → Consumes before after bytes → IsWhole bytes → HasFault bytes kind →
+to_fault : (before after : Option (List ℕ)) (bytes : List ℕ) (kind : WireKind) → Consumes before after bytes → IsWhole bytes →
+    HasFault bytes kind →
     TakesToFault kind before after
 to_fault before after bytes kind c w f =
     record { taken = record { text = bytes; taken = c; wanted = whole_wanted bytes w }; shows = shows bytes after kind w f }
 
-taken_only : (before after : Way) (bytes : List ℕ) → Consumes before.left after.left bytes → IsWhole bytes → before.read_faults ≤ after.read_faults →
+taken_only : (before after : Way) (bytes : List ℕ) → Consumes before.left after.left bytes → IsWhole bytes →
+    before.read_faults ≤ after.read_faults →
     Keeps before.written after.written → after.write_faults ≡ before.write_faults → TakesOnly before after
 taken_only before after bytes c w reading keeps writing =
-    record { taken = record { text = bytes; taken = c; wanted = whole_wanted bytes w }; written = keeps; reading = reading; writing = writing }
+    record {
+      taken = record { text = bytes; taken = c; wanted = whole_wanted bytes w };
+      written = keeps;
+      reading = reading;
+      writing = writing;
+    }
 
 -- a request that was taken whole and is not handed on
 not_handed : (end : End) (first : Option ℕ) (before after : Way) (bytes : List ℕ) (why : GateFault) →
@@ -95,12 +112,22 @@ not_handed end first before after bytes (Bad who kind) c w reading keeps writing
 )
 not_handed end first before after bytes (Version who) c w reading keeps writing j = (
   j.0,
-  record { text = bytes; request = j.1.0; is_request = j.1.1; taken = c; differs = j.1.2; written = keeps; reading = reading; writing = writing },
+  record {
+    text = bytes;
+    request = j.1.0;
+    is_request = j.1.1;
+    taken = c;
+    differs = j.1.2;
+    written = keeps;
+    reading = reading;
+    writing = writing;
+  },
 )
 not_handed end first before after bytes (ReadFault who) c w reading keeps writing j = absurd j
 not_handed end first before after bytes (WriteFault who) c w reading keeps writing j = absurd j
 not_handed end first before after bytes TurnsSpent c w reading keeps writing j = absurd j
-not_handed end first before after bytes InsufficientMemory c w reading keeps writing j = inl (taken_only before after bytes c w reading keeps writing)
+not_handed end first before after bytes InsufficientMemory c w reading keeps writing
+    j = inl (taken_only before after bytes c w reading keeps writing)
 
 pub not_passed : (end : End) (first : Option ℕ) (before after : Way) (bytes seen : List ℕ) (why : GateFault) →
     Consumes before.left after.left bytes → IsWhole bytes → before.read_faults ≤ after.read_faults →

@@ -1,5 +1,6 @@
 -- A relay, step by step.
-use Rattle.std.proofs.Common.{◌≡◌, ℕ, ◌+◌, ◌<◌, List, [], ◌∷◌, ◌++◌, length, Option, None, Some, Ok, Err, refl, sym, ap, ◌∙◌, subst, append_assoc, arith}
+use Rattle.std.proofs.Common.{◌≡◌, ℕ, ◌+◌, ◌<◌, List, [], ◌∷◌, ◌++◌, length, Option, None}
+use Rattle.std.proofs.Common.{Some, Ok, Err, refl, sym, ap, ◌∙◌, subst, append_assoc, arith}
 use Rattle.std.proofs.lemmas.List.{append-nil, length_push}
 use Rattle.std.proofs.lemmas.List.Elements.{All-nil, All-push}
 use Rattle.std.proofs.KnownBytes.{Appends-nil, Appends-trans, Consumes-nil, Consumes-trans}
@@ -21,8 +22,13 @@ use Rattle.sspi_gate.specs.Way.{HandsOn, Way}
 pub joined : (front more : List ℕ) (requests others : List TsRequest) → AreRequests front requests → AreRequests more others →
     AreRequests (front ++ more) (requests ++ others)
 joined front more [] others e others_are = rw e others_are
-joined front more (r ∷ later) others (text, rest, parts, is, later_are) others_are =
-    (text, rest ++ more, ap (λ (l : List ℕ). l ++ more) parts ∙ append_assoc text rest more, is, joined rest more later others later_are others_are)
+joined front more (r ∷ later) others (text, rest, parts, is, later_are) others_are = (
+  text,
+  rest ++ more,
+  ap (λ (l : List ℕ). l ++ more) parts ∙ append_assoc text rest more,
+  is,
+  joined rest more later others later_are others_are,
+)
 
 pub nothing_handed : (way : Way) → HandsOn way way []
 nothing_handed way = record {
@@ -54,7 +60,8 @@ version_on : (requests : List TsRequest) (r : TsRequest) → HaveOneVersion requ
 version_on [] r one may = All-nil (λ (s : TsRequest). s.version ≡ r.version)
 version_on (first ∷ later) r one may = All-push (λ (s : TsRequest). s.version ≡ first.version) later r one may
 
-first_on : (requests : List TsRequest) (r : TsRequest) → MaySend (first_version requests) r.version → Some r.version ≡ first_version (requests ++ r ∷ [])
+first_on : (requests : List TsRequest) (r : TsRequest) → MaySend (first_version requests) r.version →
+    Some r.version ≡ first_version (requests ++ r ∷ [])
 first_on [] r may = refl
 first_on (first ∷ later) r may = ap (λ (v : ℕ). Some v) may
 
@@ -144,7 +151,8 @@ server_passed done up down up_now down_now down_next client_version server_versi
 
 -- ---- ends
 
-pub server_refused : (turns done count : ℕ) (up down up_now down_now down_next : Way) (client_version server_version : Option ℕ) (seen : Seen)
+pub server_refused : (turns done count : ℕ) (up down up_now down_now down_next : Way) (client_version server_version : Option ℕ)
+    (seen : Seen)
     (code : NStatusCode) →
     Half done up down up_now down_now client_version server_version → IsStep Server server_version down_now down_next (steps.Passed seen) →
     seen.refusal ≡ Some code → done < turns → count ≡ done + 1 + (done + 1) →
@@ -175,7 +183,8 @@ server_refused turns done count up down up_now down_now down_next client_version
     }
 
 pub client_ended : (turns done count : ℕ) (up down up_now down_now up_next : Way) (client_version server_version : Option ℕ) →
-    SoFar done up down up_now down_now client_version server_version → IsStep Client client_version up_now up_next steps.Ended → done < turns
+    SoFar done up down up_now down_now client_version server_version → IsStep Client client_version up_now up_next steps.Ended →
+    done < turns
     → count ≡ done + done → IsRelay turns up down up_next down_now (Ok (record { passed = count; how = Ended Client }))
 client_ended turns done count up down up_now down_now up_next client_version server_version s (end, none) lt e = record {
   sent = s.sent;
@@ -197,7 +206,8 @@ client_ended turns done count up down up_now down_now up_next client_version ser
 }
 
 pub server_ended : (turns done count : ℕ) (up down up_now down_now down_next : Way) (client_version server_version : Option ℕ) →
-    Half done up down up_now down_now client_version server_version → IsStep Server server_version down_now down_next steps.Ended → done < turns
+    Half done up down up_now down_now client_version server_version → IsStep Server server_version down_now down_next steps.Ended
+    → done < turns
     → count ≡ done + done + 1 → IsRelay turns up down up_now down_next (Ok (record { passed = count; how = Ended Server }))
 server_ended turns done count up down up_now down_now down_next client_version server_version s (end, none) lt e = record {
   sent = s.sent;
@@ -227,8 +237,10 @@ gives_up turns sent answered up down up_after down_after (WriteFault end) b = b
 gives_up turns sent answered up down up_after down_after TurnsSpent b = absurd b.fails
 gives_up turns sent answered up down up_after down_after InsufficientMemory b = b
 
-pub client_stopped : (turns done count : ℕ) (up down up_now down_now up_next : Way) (client_version server_version : Option ℕ) (why : GateFault) →
-    SoFar done up down up_now down_now client_version server_version → IsStep Client client_version up_now up_next (steps.Stopped why) → done < turns
+pub client_stopped : (turns done count : ℕ) (up down up_now down_now up_next : Way) (client_version server_version : Option ℕ)
+    (why : GateFault) →
+    SoFar done up down up_now down_now client_version server_version → IsStep Client client_version up_now up_next
+    (steps.Stopped why) → done < turns
     → count ≡ done + done → IsRelay turns up down up_next down_now (Err (record { passed = count; why = why }))
 client_stopped turns done count up down up_now down_now up_next client_version server_version why s f lt e = record {
   sent = s.sent;
@@ -247,7 +259,8 @@ client_stopped turns done count up down up_now down_now up_next client_version s
   );
 }
 
-pub server_stopped : (turns done count : ℕ) (up down up_now down_now down_next : Way) (client_version server_version : Option ℕ) (why : GateFault) →
+pub server_stopped : (turns done count : ℕ) (up down up_now down_now down_next : Way) (client_version server_version : Option ℕ)
+    (why : GateFault) →
     Half done up down up_now down_now client_version server_version → IsStep Server server_version down_now down_next (steps.Stopped why)
     → done < turns → count ≡ done + done + 1 → IsRelay turns up down up_now down_next (Err (record { passed = count; why = why }))
 server_stopped turns done count up down up_now down_now down_next client_version server_version why s f lt e = record {

@@ -1,5 +1,6 @@
 -- Which bytes of a request are taken: none behind its content, and none behind a fault of its header.
-use Rattle.std.proofs.Common.{◌≡◌, ℕ, ◌-◌, ◌≤◌, List, [], ◌∷◌, ◌++◌, length, take, drop, Ok, Err, refl, sym, ap, ◌∙◌, subst, append_assoc, arith}
+use Rattle.std.proofs.Common.{◌≡◌, ℕ, ◌-◌, ◌≤◌, List, [], ◌∷◌, ◌++◌, length, take, drop}
+use Rattle.std.proofs.Common.{Ok, Err, refl, sym, ap, ◌∙◌, subst, append_assoc, arith}
 use Rattle.std.proofs.lemmas.List.{append-nil, length-append, length-replicate, take-append-drop, take-append-le, take_at}
 use Rattle.sspi_ber.specs.Fault.{Ended, Invalid, Read, zeros}
 use Rattle.sspi_ber.specs.Forms.{IsLength}
@@ -27,7 +28,8 @@ wanted_last : (p : List ℕ) (byte : ℕ) → IsUnfinished p → AreWanted (p ++
 wanted_last p byte u front rest b e =
     let short : length front ≤ length p = omega (arith, ap length e, length-append p (byte ∷ []), length-append front (b ∷ rest)) in
     let same : front ≡ take (length front) p =
-    sym (take_at front (b ∷ rest) (length front) refl) ∙ ap (take (length front)) (sym e) ∙ take-append-le (length front) p (byte ∷ []) short in
+    sym (take_at front (b ∷ rest) (length front) refl) ∙ ap (take (length front)) (sym e) ∙ take-append-le (length front) p
+    (byte ∷ []) short in
     let parts : p ≡ front ++ drop (length front) p =
     sym (take-append-drop (length front) p) ∙ ap (λ (l : List ℕ). l ++ drop (length front) p) (sym same) in
     front_unfinished front (drop (length front) p) (element_at 0x30 front) refl (subst (λ (l : List ℕ). IsUnfinished l) parts u)

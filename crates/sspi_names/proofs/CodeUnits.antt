@@ -1,13 +1,17 @@
 -- UTF-16: characters, code units and bytes, forth and back.
-use Rattle.std.proofs.Common.{◌≡◌, ◌⊎◌, inl, inr, ℕ, suc, ◌+◌, ◌-◌, ◌*◌, ◌/◌, ◌%◌, ◌^◌, ◌<◌, ◌≤◌, List, [], ◌∷◌, ◌++◌, Bool, true, false, ◌&&◌, not, cond, Option, Some, Result, Ok, Err, length, get_or, take, drop, map, unwrap_or, refl, sym, ap, ◌∙◌, subst, arith}
+use Rattle.std.proofs.Common.{◌≡◌, ◌⊎◌, inl, inr, ℕ, suc, ◌+◌, ◌-◌, ◌*◌, ◌/◌, ◌%◌, ◌^◌, ◌<◌, ◌≤◌, List, []}
+use Rattle.std.proofs.Common.{◌∷◌, ◌++◌, Bool, true, false, ◌&&◌, not, cond, Option, Some, Result, Ok, Err}
+use Rattle.std.proofs.Common.{length, get_or, take, drop, map, unwrap_or, refl, sym, ap, ◌∙◌, subst, arith}
 use Rattle.std.specs.Prelude.{is_some}
 use Rattle.std.specs.List.{All, list_any, flat_map}
 use Rattle.std.specs.Str.{IsUtf8, chars, all_scalars, encode_utf8_all}
 use Rattle.std.specs.Char.Escape.{encode_utf16}
-use Rattle.std.specs.Char.Utf16.{utf16_chars, utf16_lossy_chars, has_unpaired_surrogate, is_high_surrogate, is_low_surrogate, lone_unit_char, surrogate_pair_char}
+use Rattle.std.specs.Char.Utf16.{utf16_chars, utf16_lossy_chars, has_unpaired_surrogate, is_high_surrogate}
+use Rattle.std.specs.Char.Utf16.{is_low_surrogate, lone_unit_char, surrogate_pair_char}
 use Rattle.std.proofs.Math.Utf8.{scalar, scalar_cases, low_scalar}
 use Rattle.std.proofs.str.Utf16.{IsPair, one_unit, two_units, pair_units, lone_unit_char_low, lone_unit_char_high, lone_unit_char_surrogate}
-use Rattle.std.proofs.lemmas.Bool.{and_parts, and_from, or_parts, true≢false, leb-true, ltb-true, le-leb, lt-ltb, le-ltb, ne_eqb, cases_lt, cases_eq}
+use Rattle.std.proofs.lemmas.Bool.{and_parts, and_from, or_parts, true≢false, leb-true, ltb-true}
+use Rattle.std.proofs.lemmas.Bool.{le-leb, lt-ltb, le-ltb, ne_eqb, cases_lt, cases_eq}
 use Rattle.std.proofs.lemmas.List.{take_all, take_more, append-nil, append_assoc}
 use Rattle.std.proofs.lemmas.List.Concat.{flat_map-append}
 use Rattle.std.proofs.lemmas.List.Elements.{All-head, All-tail, All-cons, All-append, All-nil}
@@ -50,7 +54,8 @@ spelled_char : (c : ℕ) (us : List ℕ) → scalar c ≡ true → utf16_chars (
 spelled_char c us s =
     elim (cases_lt c 0x1_0000) [
       | inl small ↦ rw (one_unit c small) (utf16_chars_lone c us (no_pair c (get_or us 0 0) s) ∙ ap (λ o. o ∷ utf16_chars us) (lone c s))
-      | inr large ↦ rw (two_units c large) (utf16_chars_pair _ _ us (pair c large (below c s)) ∙ ap (λ x. Some x ∷ utf16_chars us) (joined c large))
+      | inr large ↦ rw (two_units c large) (utf16_chars_pair _ _ us (pair c large (below c s)) ∙ ap (λ x. Some x ∷ utf16_chars us)
+          (joined c large))
     ]
 
 pub spelled_chars : (cs : List ℕ) → all_scalars cs ≡ true → utf16_chars (flat_map encode_utf16 cs) ≡ map Some cs
@@ -80,7 +85,8 @@ small_units c s =
       | inr large ↦
           let p = pair c large (below c s) in
           let low = 0xDC00 + (c - 0x1_0000) % 0x400 in
-          rw (two_units c large) (All-cons IsSmall (0xD800 + (c - 0x1_0000) / 0x400) (low ∷ []) (omega (arith, p.1)) (All-cons IsSmall low [] (omega (arith, p.3)) (All-nil IsSmall)))
+          rw (two_units c large) (All-cons IsSmall (0xD800 + (c - 0x1_0000) / 0x400) (low ∷ []) (omega (arith, p.1))
+          (All-cons IsSmall low [] (omega (arith, p.3)) (All-nil IsSmall)))
     ]
 
 pub spelled_small : (cs : List ℕ) → all_scalars cs ≡ true → All IsSmall (flat_map encode_utf16 cs)
@@ -95,13 +101,17 @@ spelled_small (c ∷ cs) s =
 abbrev Spells : List ℕ → List ℕ → Type 0
 Spells units cs = (all_scalars cs ≡ true) × (flat_map encode_utf16 cs ≡ units)
 
-lone_spells : (u : ℕ) (units cs : List ℕ) → IsSmall u → lacks (lone_unit_char u) ≡ false → Spells units cs → Spells (u ∷ units) (or_replacement (lone_unit_char u) ∷ cs)
+lone_spells : (u : ℕ) (units cs : List ℕ) → IsSmall u → lacks (lone_unit_char u) ≡ false → Spells units cs →
+    Spells (u ∷ units) (or_replacement (lone_unit_char u) ∷ cs)
 lone_spells u units cs small there h =
     elim (cases_lt u 0xD800) [
       | inl low ↦ rw (lone_unit_char_low u low) (and_from _ _ (low_scalar u low) h.0, rw (one_unit u small) (ap (λ us. u ∷ us) h.1))
       | inr high ↦ elim (cases_lt u 0xE000) [
         | inl surrogate ↦ absurd (true≢false (rw (lone_unit_char_surrogate u high surrogate) at there))
-        | inr above ↦ rw (lone_unit_char_high u above) (and_from _ _ (scalar_high u above (omega arith)) h.0, rw (one_unit u small) (ap (λ us. u ∷ us) h.1))
+        | inr above ↦ rw (lone_unit_char_high u above) (
+          and_from _ _ (scalar_high u above (omega arith)) h.0,
+          rw (one_unit u small) (ap (λ us. u ∷ us) h.1),
+        )
       ]
     ]
 
@@ -114,7 +124,8 @@ is_pair u v e =
 
 pair_encodes : (u v : ℕ) → IsPair u v → encode_utf16 (surrogate_pair_char u v) ≡ u ∷ v ∷ []
 pair_encodes u v p =
-    ap encode_utf16 {x = surrogate_pair_char u v} {y = 0x1_0000 + ((u - 0xD800) * 0x400 + (v - 0xDC00))} (omega arith) ∙ pair_units u v p.0 p.2 p.3
+    ap encode_utf16 {x = surrogate_pair_char u v} {y = 0x1_0000 + ((u - 0xD800) * 0x400 + (v - 0xDC00))} (omega arith)
+    ∙ pair_units u v p.0 p.2 p.3
 
 pair_spells : (u v : ℕ) (units cs : List ℕ) → IsPair u v → Spells units cs → Spells (u ∷ v ∷ units) (surrogate_pair_char u v ∷ cs)
 pair_spells u v units cs p h = (
@@ -169,7 +180,8 @@ pub units_of-text_of : (units : List ℕ) → IsUtf16 units → units_of (text_o
 unfolding text_of units_of
 units_of-text_of units h =
     let lossy : utf16_lossy_chars units ≡ h.characters = ap utf16_lossy_chars h.spelled ∙ spelled_lossy h.characters h.scalars in
-    ap (λ cs. flat_map encode_utf16 (chars (encode_utf8_all cs))) lossy ∙ ap (flat_map encode_utf16) (chars-encodes h.characters h.scalars) ∙ sym h.spelled
+    ap (λ cs. flat_map encode_utf16 (chars (encode_utf8_all cs))) lossy
+    ∙ ap (flat_map encode_utf16) (chars-encodes h.characters h.scalars) ∙ sym h.spelled
 
 pub text_of-IsUtf8 : (units : List ℕ) → IsUtf16 units → IsUtf8 (text_of units)
 unfolding text_of
@@ -204,15 +216,18 @@ decode_le-bytes_le units h = rw (bytes_le-even units, units_le-bytes_le units, I
 pub after_single : (u : ℕ) (us : List ℕ) → (u < 0xD800) ⊎ (0xE000 ≤ u) → has_unpaired_surrogate (u ∷ us) ≡ has_unpaired_surrogate us
 after_single u us range =
     elim range [
-      | inl low ↦ ap (list_any lacks) (utf16_chars_lone u us (λ p. omega (arith, p.0)) ∙ ap (λ o. o ∷ utf16_chars us) (lone_unit_char_low u low))
-      | inr high ↦ ap (list_any lacks) (utf16_chars_lone u us (λ p. omega (arith, p.1)) ∙ ap (λ o. o ∷ utf16_chars us) (lone_unit_char_high u high))
+      | inl low ↦ ap (list_any lacks) (utf16_chars_lone u us (λ p. omega (arith, p.0))
+          ∙ ap (λ o. o ∷ utf16_chars us) (lone_unit_char_low u low))
+      | inr high ↦ ap (list_any lacks) (utf16_chars_lone u us (λ p. omega (arith, p.1))
+          ∙ ap (λ o. o ∷ utf16_chars us) (lone_unit_char_high u high))
     ]
 
 pub after_pair : (u v : ℕ) (us : List ℕ) → IsPair u v → has_unpaired_surrogate (u ∷ v ∷ us) ≡ has_unpaired_surrogate us
 after_pair u v us p = ap (list_any lacks) (utf16_chars_pair u v us p)
 
 pub unpaired : (u : ℕ) (us : List ℕ) → 0xD800 ≤ u → u < 0xE000 → ¬ (IsPair u (get_or us 0 0)) → has_unpaired_surrogate (u ∷ us) ≡ true
-unpaired u us from until apart = ap (list_any lacks) (utf16_chars_lone u us apart ∙ ap (λ o. o ∷ utf16_chars us) (lone_unit_char_surrogate u from until))
+unpaired u us from until apart = ap (list_any lacks) (utf16_chars_lone u us apart
+    ∙ ap (λ o. o ∷ utf16_chars us) (lone_unit_char_surrogate u from until))
 
 pub after_low : (u : ℕ) (others : List ℕ) → 1 ≤ length others → IsPair u (get_or others 0 0)
     → has_unpaired_surrogate (u ∷ others) ≡ has_unpaired_surrogate (take (length others - 1) (drop 1 others))
@@ -225,7 +240,8 @@ pub units_le-front : (bytes : List ℕ) → 2 ≤ length bytes
 unfolding units_le
 units_le-front [] some = absurd (omega arith)
 units_le-front (b ∷ []) some = absurd (omega arith)
-units_le-front (low ∷ high ∷ bytes) some = ap (λ r. (low + 256 * high) ∷ units_le r) (sym (take_all (suc (suc (length bytes)) - 2) bytes (omega arith)))
+units_le-front (low ∷ high ∷ bytes) some = ap (λ r. (low + 256 * high) ∷ units_le r)
+    (sym (take_all (suc (suc (length bytes)) - 2) bytes (omega arith)))
 
 pub units_le-end : (bytes : List ℕ) → length bytes < 2 → units_le bytes ≡ []
 unfolding units_le
@@ -237,7 +253,8 @@ pub nothing_unpaired : has_unpaired_surrogate [] ≡ false
 nothing_unpaired = ap (list_any lacks) utf16_chars-nil
 
 -- one more code unit is read
-pub read_pair : (units rest all : List ℕ) (u : ℕ) → units ++ units_le rest ≡ all → 2 ≤ length rest → u ≡ get_or rest 0 0 + get_or rest 1 0 * 256
+pub read_pair : (units rest all : List ℕ) (u : ℕ) → units ++ units_le rest ≡ all → 2 ≤ length rest →
+    u ≡ get_or rest 0 0 + get_or rest 1 0 * 256
     → (units ++ u ∷ []) ++ units_le (take (length rest - 2) (drop 2 rest)) ≡ all
 read_pair units rest all u e some is =
     let more = units_le (take (length rest - 2) (drop 2 rest)) in
@@ -249,7 +266,8 @@ pub read_all : (units rest all : List ℕ) → units ++ units_le rest ≡ all �
 read_all units rest all e few = sym (append-nil units) ∙ ap (λ us. units ++ us) (sym (units_le-end rest few)) ∙ e
 
 -- one more code unit is written
-pub bytes_le-more : (units : List ℕ) (i : ℕ) (bytes two : List ℕ) → i < length units → get_or units i 0 < 2 ^ 16 → bytes ≡ bytes_le (take i units)
+pub bytes_le-more : (units : List ℕ) (i : ℕ) (bytes two : List ℕ) → i < length units → get_or units i 0 < 2 ^ 16 →
+    bytes ≡ bytes_le (take i units)
     → two ≡ (get_or units i 0 % 256) ∷ (get_or units i 0 / 256 % 256) ∷ [] → bytes ++ two ≡ bytes_le (take (i + 1) units)
 unfolding bytes_le
 bytes_le-more units i bytes two within small e is =
@@ -263,14 +281,17 @@ pub odd_refused : (bytes : List ℕ) → ¬ (length bytes % 2 ≡ 0) → decode_
 unfolding decode_le
 odd_refused bytes odd = rw (ne_eqb (length bytes % 2) 0 odd)
 
-decoded_even : (bytes : List ℕ) → length bytes % 2 ≡ 0 → decode_le bytes ≡ cond (has_unpaired_surrogate (units_le bytes)) (Err UnpairedSurrogate) (Ok (units_le bytes))
+decoded_even : (bytes : List ℕ) → length bytes % 2 ≡ 0 → decode_le bytes ≡ cond (has_unpaired_surrogate (units_le bytes))
+    (Err UnpairedSurrogate) (Ok (units_le bytes))
 unfolding decode_le
 decoded_even bytes even = rw even
 
-pub even_decoded : (bytes units : List ℕ) → length bytes % 2 ≡ 0 → units ≡ units_le bytes → has_unpaired_surrogate units ≡ false → decode_le bytes ≡ Ok units
+pub even_decoded : (bytes units : List ℕ) → length bytes % 2 ≡ 0 → units ≡ units_le bytes → has_unpaired_surrogate units ≡ false →
+    decode_le bytes ≡ Ok units
 even_decoded bytes units even e paired = decoded_even bytes even ∙ rw (← e, paired)
 
-pub even_refused : (bytes units : List ℕ) → length bytes % 2 ≡ 0 → units ≡ units_le bytes → has_unpaired_surrogate units ≡ true → decode_le bytes ≡ Err UnpairedSurrogate
+pub even_refused : (bytes units : List ℕ) → length bytes % 2 ≡ 0 → units ≡ units_le bytes → has_unpaired_surrogate units ≡ true →
+    decode_le bytes ≡ Err UnpairedSurrogate
 even_refused bytes units even e paired = decoded_even bytes even ∙ rw (← e, paired)
 
 abbrev refused : Utf16Error → Result (List ℕ) Utf16Error
@@ -303,14 +324,16 @@ bytes_le-units_le [] fits even = refl
 bytes_le-units_le (b ∷ []) fits even = absurd (omega arith)
 bytes_le-units_le (low ∷ high ∷ bytes) fits even =
     let rest = bytes_le-units_le bytes (λ i. fits (suc (suc i))) (even_less (length bytes) even) in
-    ap (λ x. x ∷ ((low + 256 * high) / 256) ∷ flat_map unit_bytes (units_le bytes)) {x = (low + 256 * high) % 256} {y = low} (omega (arith, fits 0))
+    ap (λ x. x ∷ ((low + 256 * high) / 256) ∷ flat_map unit_bytes (units_le bytes)) {x = (low + 256 * high) % 256} {y = low}
+    (omega (arith, fits 0))
     ∙ ap (λ x. low ∷ x ∷ flat_map unit_bytes (units_le bytes)) {x = (low + 256 * high) / 256} {y = high} (omega (arith, fits 0))
     ∙ ap (λ bs. low ∷ high ∷ bs) rest
 
 not_ok : (units : List ℕ) {e : Utf16Error} → ¬ (refused e ≡ Ok units)
 not_ok units p = cc
 
-by_pairs : (bytes units : List ℕ) → ((i : ℕ) → get_or bytes i 0 < 256) → length bytes % 2 ≡ 0 → (b : Bool) → has_unpaired_surrogate (units_le bytes) ≡ b
+by_pairs : (bytes units : List ℕ) → ((i : ℕ) → get_or bytes i 0 < 256) → length bytes % 2 ≡ 0 →
+    (b : Bool) → has_unpaired_surrogate (units_le bytes) ≡ b
     → refused_or b (units_le bytes) ≡ Ok units → IsUtf16 units × (bytes_le units ≡ bytes)
 by_pairs bytes units fits even true unpaired e = absurd (not_ok units e)
 by_pairs bytes units fits even false paired e =
@@ -319,7 +342,8 @@ by_pairs bytes units fits even false paired e =
     subst P is (IsUtf16-from_paired (units_le bytes) (units_le-small bytes fits) paired, bytes_le-units_le bytes fits even)
 
 -- what is read is well-formed, and its bytes are those that were read
-pub decoded : (bytes units : List ℕ) → ((i : ℕ) → get_or bytes i 0 < 256) → decode_le bytes ≡ Ok units → IsUtf16 units × (bytes_le units ≡ bytes)
+pub decoded : (bytes units : List ℕ) → ((i : ℕ) → get_or bytes i 0 < 256) → decode_le bytes ≡ Ok units → IsUtf16 units
+    × (bytes_le units ≡ bytes)
 decoded bytes units fits e =
     elim (cases_eq (length bytes % 2) 0) [
       | inl even ↦ by_pairs bytes units fits even (has_unpaired_surrogate (units_le bytes)) refl (sym (decoded_even bytes even) ∙ e)

@@ -36,7 +36,8 @@ pub names_same : (a b : Name) → IsSameName a b → equals_ignoring_case a b �
 unfolding equals_ignoring_case
 names_same a b h =
     and_from _ _ (true_format a.format b.format h.format)
-    (and_from _ _ ((bytes_eq-Decides (folded a.account) (folded b.account)).1 h.account) ((bytes_eq-Decides (folded a.domain) (folded b.domain)).1 h.domain))
+    (and_from _ _ ((bytes_eq-Decides (folded a.account) (folded b.account)).1 h.account)
+    ((bytes_eq-Decides (folded a.domain) (folded b.domain)).1 h.domain))
 
 forms_differ : (a b : UserNameFormat) → a ≡ UserPrincipalName → b ≡ DownLevelLogonName → same_format a b ≡ false
 forms_differ a b p q = ap (λ f. same_format f b) p ∙ ap (same_format UserPrincipalName) q

@@ -1,5 +1,6 @@
 -- What the searches of std say of a byte below 128.
-use Rattle.std.proofs.Common.{◌≡◌, ◌≢◌, ℕ, ◌<◌, ◌≤◌, List, Bool, true, false, Option, Some, None, MatchOption, MatchBool, length, get_or, refl, arith}
+use Rattle.std.proofs.Common.{◌≡◌, ◌≢◌, ℕ, ◌<◌, ◌≤◌, List, Bool, true, false, Option, Some}
+use Rattle.std.proofs.Common.{None, MatchOption, MatchBool, length, get_or, refl, arith}
 use Rattle.std.specs.List.{list_any}
 use Rattle.std.specs.Str.{IsCharBoundary}
 use Rattle.std.specs.Str.Pattern.{FindsChar, RFindsChar}
@@ -10,12 +11,14 @@ use Rattle.sspi_names.specs.Places.{IsNowhere, IsLast, IsFirst}
 use Rattle.sspi_names.specs.Name.{at_sign, backslash, is_at_sign, is_backslash}
 use Rattle.sspi_names.proofs.Places.{is, nowhere-any}
 
-last_by : (c : ℕ) (t : List ℕ) (r : Option ℕ) → MatchOption r (IsNowhere c t) (λ k. (k < length t) × (get_or t k 0 ≡ c) × ((i : ℕ) → k < i → i < length t → get_or t i 0 ≢ c))
+last_by : (c : ℕ) (t : List ℕ) (r : Option ℕ) → MatchOption r (IsNowhere c t)
+    (λ k. (k < length t) × (get_or t k 0 ≡ c) × ((i : ℕ) → k < i → i < length t → get_or t i 0 ≢ c))
     → MatchOption r (list_any (is c) t ≡ false) (IsLast c t)
 last_by c t None h = nowhere-any c t h
 last_by c t (Some k) h = h
 
-first_by : (c : ℕ) (t : List ℕ) (r : Option ℕ) → MatchOption r (IsNowhere c t) (λ k. (k < length t) × (get_or t k 0 ≡ c) × ((i : ℕ) → i < k → get_or t i 0 ≢ c))
+first_by : (c : ℕ) (t : List ℕ) (r : Option ℕ) → MatchOption r (IsNowhere c t)
+    (λ k. (k < length t) × (get_or t k 0 ≡ c) × ((i : ℕ) → i < k → get_or t i 0 ≢ c))
     → MatchOption r (list_any (is c) t ≡ false) (IsFirst c t)
 first_by c t None h = nowhere-any c t h
 first_by c t (Some k) h = h
@@ -43,7 +46,8 @@ pub contained : (c : ℕ) (t : List ℕ) (r : Bool) → c < 128
 contained c t r ascii h = told c t r (contains_char c t r h ascii)
 
 pub last_at_sign_found : (t : List ℕ) (r : Option ℕ)
-    → MatchOption r (RFindsChar 64 t None) (λ i. (j : ℕ) × RFindsChar 64 t (Some (i, j)) × (i ≤ j) × IsCharBoundary t i × IsCharBoundary t j)
+    → MatchOption r (RFindsChar 64 t None) (λ i. (j : ℕ) × RFindsChar 64 t (Some (i, j)) × (i ≤ j) × IsCharBoundary t i
+    × IsCharBoundary t j)
     → MatchOption r (list_any is_at_sign t ≡ false) (λ k. IsLast at_sign t k)
 last_at_sign_found t r h = found_last 64 t r (omega arith) h
 

@@ -34,15 +34,18 @@ domain_utf8 : (format : UserNameFormat) (n : Name) → IsName n → IsUtf8 (doma
 domain_utf8 UserPrincipalName n h = IsUtf8-nil
 domain_utf8 DownLevelLogonName n h = h.domain_text
 
-parts_of : (format : UserNameFormat) (n : Name) → n.format ≡ format → IsName n → new_name (user_text format n) (domain_text format n) ≡ Some n
+parts_of : (format : UserNameFormat) (n : Name) → n.format ≡ format → IsName n →
+    new_name (user_text format n) (domain_text format n) ≡ Some n
 unfolding new_name
 parts_of UserPrincipalName n is h = inner_back n h
 parts_of DownLevelLogonName n is h =
     let allowed : IsAllowed DownLevelLogonName n.account n.domain = subst (λ f. IsAllowed f n.account n.domain) is h.allowed in
-    parts_back n.account n.domain allowed.0 allowed.1 ∙ ap (λ f. Some (record { format = f; account = n.account; domain = n.domain })) (sym is)
+    parts_back n.account n.domain allowed.0 allowed.1
+    ∙ ap (λ f. Some (record { format = f; account = n.account; domain = n.domain })) (sym is)
 
 pub identity_by : (i : AuthIdentity) (user domain password : List ℕ) → IsIdentity i
-    → user ≡ units_of (user_text i.username.format i.username) → domain ≡ units_of (domain_text i.username.format i.username) → password ≡ units_of i.password.value
+    → user ≡ units_of (user_text i.username.format i.username) → domain ≡ units_of (domain_text i.username.format i.username) →
+    password ≡ units_of i.password.value
     → identity_of (record { user = user; domain = domain; password = record { value = password } }) ≡ Some i
 unfolding identity_of
 identity_by i user domain password h u d p =
@@ -58,7 +61,8 @@ unfolding buffers_of
 buffers_back i h = identity_by i _ _ _ h refl refl refl
 
 pub buffers_by : (i : AuthIdentity) (user domain password : List ℕ) → IsIdentity i
-    → user ≡ units_of (user_text i.username.format i.username) → domain ≡ units_of (domain_text i.username.format i.username) → password ≡ units_of i.password.value
+    → user ≡ units_of (user_text i.username.format i.username) → domain ≡ units_of (domain_text i.username.format i.username) →
+    password ≡ units_of i.password.value
     → AreBuffers (record { user = user; domain = domain; password = record { value = password } })
 buffers_by i user domain password h u d p = record {
   user_text = subst IsUtf16 (sym u) (units_of-IsUtf16 _ (user_utf8 i.username.format i.username h.name));

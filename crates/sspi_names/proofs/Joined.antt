@@ -1,11 +1,13 @@
 -- A name and the text that shows it: each gives the other.
-use Rattle.std.proofs.Common.{◌≡◌, ◌≢◌, ℕ, suc, ◌+◌, ◌-◌, ◌<◌, List, [], ◌∷◌, ◌++◌, false, Some, length, get_or, take, drop, refl, sym, ap, ◌∙◌, subst, arith}
+use Rattle.std.proofs.Common.{◌≡◌, ◌≢◌, ℕ, suc, ◌+◌, ◌-◌, ◌<◌, List, [], ◌∷◌, ◌++◌, false, Some}
+use Rattle.std.proofs.Common.{length, get_or, take, drop, refl, sym, ap, ◌∙◌, subst, arith}
 use Rattle.std.specs.List.{list_any}
 use Rattle.std.proofs.lemmas.Bool.{or_from, or_parts}
 use Rattle.std.proofs.lemmas.List.{take_at, drop_at, get_or_at, get_or_append_left, get_or-append-add, length-append, append_assoc}
 use Rattle.std.proofs.lemmas.List.Folds.{list_any-append}
 use Rattle.sspi_names.specs.Places.{IsLast, IsFirst}
-use Rattle.sspi_names.specs.Name.{Name, IsName, IsAllowed, principal, down_level, parse_name, new_name, inner_of, shown, has_backslash, has_separator, at_sign, backslash}
+use Rattle.sspi_names.specs.Name.{Name, IsName, IsAllowed, principal, down_level, parse_name, new_name}
+use Rattle.sspi_names.specs.Name.{inner_of, shown, has_backslash, has_separator, at_sign, backslash}
 use Rattle.sspi_names.specs.declared.format.UserNameFormat.{UserNameFormat}
 use Rattle.sspi_names.specs.declared.format.UserNameFormat.TheVariants.{UserPrincipalName, DownLevelLogonName}
 use Rattle.sspi_names.proofs.Places.{is, any-nowhere}
@@ -29,7 +31,8 @@ module _ (c : ℕ) (xs ys : List ℕ) where
     within,
     here,
     λ i above below.
-        subst (λ b. b ≢ c) (sym (behind i above)) (any-nowhere c ys none (i - length xs - 1) (omega (arith, below, length-append xs (c ∷ ys)))),
+        subst (λ b. b ≢ c) (sym (behind i above))
+        (any-nowhere c ys none (i - length xs - 1) (omega (arith, below, length-append xs (c ∷ ys)))),
   )
 
   pub first_joined : list_any (is c) xs ≡ false → IsFirst c (xs ++ c ∷ ys) (length xs)
@@ -48,7 +51,8 @@ module _ (c : ℕ) (xs ys : List ℕ) where
       ap (drop (length xs + 1)) (sym (append_assoc xs (c ∷ []) ys))
       ∙ drop_at (xs ++ c ∷ []) ys (length xs + 1) (length-append xs (c ∷ []))
 
-  pub none_joined : (d : ℕ) → list_any (is d) xs ≡ false → list_any (is d) (c ∷ []) ≡ false → list_any (is d) ys ≡ false → list_any (is d) (xs ++ c ∷ ys) ≡ false
+  pub none_joined : (d : ℕ) → list_any (is d) xs ≡ false → list_any (is d) (c ∷ []) ≡ false → list_any (is d) ys ≡ false →
+      list_any (is d) (xs ++ c ∷ ys) ≡ false
   none_joined d first one last =
       list_any-append (is d) xs (c ∷ ys) ∙ or_from _ _ first (list_any-append (is d) (c ∷ []) ys ∙ or_from _ _ one last)
 
@@ -56,7 +60,8 @@ pub principal_back : (account domain : List ℕ) → has_backslash account ≡ f
     → parse_name (account ++ at_sign ∷ domain) ≡ Some (principal account domain)
 principal_back account domain a d =
     let parts = or_parts _ _ d in
-    principal_parsed (account ++ at_sign ∷ domain) (length account) (last_joined at_sign account domain parts.0) (none_joined at_sign account domain backslash a refl parts.1)
+    principal_parsed (account ++ at_sign ∷ domain) (length account) (last_joined at_sign account domain parts.0)
+    (none_joined at_sign account domain backslash a refl parts.1)
     ∙ rw (take_joined at_sign account domain, drop_joined at_sign account domain)
 
 pub qualified_back : (account domain : List ℕ) → has_separator account ≡ false → has_separator domain ≡ false
@@ -81,7 +86,8 @@ unfolding inner_of
 inner_back n h = shown_back n.format n.account n.domain h.allowed
 
 -- a down-level name whose parts are given apart
-pub parts_back : (account domain : List ℕ) → has_separator account ≡ false → has_separator domain ≡ false → new_name account domain ≡ Some (down_level account domain)
+pub parts_back : (account domain : List ℕ) → has_separator account ≡ false → has_separator domain ≡ false →
+    new_name account domain ≡ Some (down_level account domain)
 unfolding new_name
 parts_back account [] a d = let none = or_parts _ _ a in bare_parsed account none.0 none.1
 parts_back account (b ∷ domain) a d = qualified_name account (b ∷ domain) (omega arith) a d

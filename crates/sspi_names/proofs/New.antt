@@ -9,7 +9,8 @@ unfolding new_name
 bare_name account [] e = refl
 bare_name account (b ∷ domain) e = absurd (omega arith)
 
-pub qualified_name : (account domain : List ℕ) → 0 < length domain → has_separator account ≡ false → has_separator domain ≡ false → new_name account domain ≡ Some (down_level account domain)
+pub qualified_name : (account domain : List ℕ) → 0 < length domain → has_separator account ≡ false →
+    has_separator domain ≡ false → new_name account domain ≡ Some (down_level account domain)
 unfolding new_name
 qualified_name account [] some a d = absurd (omega arith)
 qualified_name account (b ∷ domain) some a d = rw (a, d)
@@ -19,7 +20,8 @@ unfolding new_name
 mixed_account account [] some a = absurd (omega arith)
 mixed_account account (b ∷ domain) some a = rw a
 
-pub mixed_domain : (account domain : List ℕ) → 0 < length domain → has_separator account ≡ false → has_separator domain ≡ true → new_name account domain ≡ None
+pub mixed_domain : (account domain : List ℕ) → 0 < length domain → has_separator account ≡ false → has_separator domain ≡ true →
+    new_name account domain ≡ None
 unfolding new_name
 mixed_domain account [] some a d = absurd (omega arith)
 mixed_domain account (b ∷ domain) some a d = rw (a, d)

@@ -1,5 +1,6 @@
 -- What `parse_name` gives, from where the separators stand.
-use Rattle.std.proofs.Common.{◌≡◌, ◌≢◌, ℕ, ◌+◌, ◌<◌, List, [], true, false, Some, None, length, get_or, take, drop, refl, sym, ap, ◌∙◌, subst, arith}
+use Rattle.std.proofs.Common.{◌≡◌, ◌≢◌, ℕ, ◌+◌, ◌<◌, List, [], true, false, Some, None}
+use Rattle.std.proofs.Common.{length, get_or, take, drop, refl, sym, ap, ◌∙◌, subst, arith}
 use Rattle.std.specs.List.{list_any}
 use Rattle.std.specs.Str.{IsUtf8}
 use Rattle.std.proofs.lemmas.Bool.{or_from, eq-eqb}
@@ -27,7 +28,8 @@ module _ (t : List ℕ) where
   pub first_any : (c k : ℕ) → IsFirst c t k → list_any (is c) t ≡ true
   first_any c k p = list_any_at (is c) t k 0 p.0 (eq-eqb (get_or t k 0) c p.1)
 
-  pub principal_parsed : (k : ℕ) → IsLast at_sign t k → has_backslash t ≡ false → parse_name t ≡ Some (principal (take k t) (drop (k + 1) t))
+  pub principal_parsed : (k : ℕ) → IsLast at_sign t k → has_backslash t ≡ false →
+      parse_name t ≡ Some (principal (take k t) (drop (k + 1) t))
   unfolding parse_name
   principal_parsed k p bs =
       let parts = last_at at_sign k t p.0 p.1 p.2 in
@@ -85,21 +87,24 @@ module _ (t : List ℕ) where
       };
     }
 
-    pub qualified_name_at : (k : ℕ) → IsFirst backslash t k → has_at_sign t ≡ false → has_backslash (drop (k + 1) t) ≡ false → IsName (down_level (drop (k + 1) t) (take k t))
+    pub qualified_name_at : (k : ℕ) → IsFirst backslash t k → has_at_sign t ≡ false → has_backslash (drop (k + 1) t) ≡ false →
+        IsName (down_level (drop (k + 1) t) (take k t))
     qualified_name_at k p at bs = record {
       allowed = (or_from _ _ (none-drop at_sign (k + 1) at) bs, or_from _ _ (none-take at_sign k at) (none-before backslash k p));
       account_text = utf8-drop k backslash (omega arith) p.0 p.1;
       domain_text = utf8-take k backslash (omega arith) p.0 p.1;
     }
 
-    pub qualified_split : (k : ℕ) → 0 < k → IsFirst backslash t k → has_at_sign t ≡ false → has_backslash (drop (k + 1) t) ≡ false → IsSplit t t (Qualified k)
+    pub qualified_split : (k : ℕ) → 0 < k → IsFirst backslash t k → has_at_sign t ≡ false →
+        has_backslash (drop (k + 1) t) ≡ false → IsSplit t t (Qualified k)
     qualified_split k some p at bs = record {
       named = qualified_parsed k p at bs;
       held = record { placed = (some, p.0, p.1); name = qualified_name_at k p at bs };
     }
 
     -- a text that begins with the `\` has an empty domain
-    pub account_split : (k : ℕ) → k ≡ 0 → IsFirst backslash t k → has_at_sign t ≡ false → has_backslash (drop (k + 1) t) ≡ false → IsSplit t (drop (k + 1) t) Bare
+    pub account_split : (k : ℕ) → k ≡ 0 → IsFirst backslash t k → has_at_sign t ≡ false → has_backslash (drop (k + 1) t) ≡ false →
+        IsSplit t (drop (k + 1) t) Bare
     account_split k none p at bs = record {
       named = qualified_parsed k p at bs ∙ ap (λ n. Some (down_level (drop (k + 1) t) (take n t))) none;
       held = record {

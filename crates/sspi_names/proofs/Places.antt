@@ -1,5 +1,6 @@
 -- Where a byte stands in a list: the first place, the last, or none.
-use Rattle.std.proofs.Common.{◌≡◌, ◌≢◌, inl, inr, ℕ, zero, suc, ◌+◌, ◌-◌, ◌<◌, List, [], ◌∷◌, Bool, true, false, ◌||◌, not, eqb, length, get_or, take, drop, refl, sym, ap, ◌∙◌, subst, arith}
+use Rattle.std.proofs.Common.{◌≡◌, ◌≢◌, inl, inr, ℕ, zero, suc, ◌+◌, ◌-◌, ◌<◌, List, [], ◌∷◌, Bool, true, false}
+use Rattle.std.proofs.Common.{◌||◌, not, eqb, length, get_or, take, drop, refl, sym, ap, ◌∙◌, subst, arith}
 use Rattle.sspi_names.specs.Places.{IsNowhere, IsLast, IsFirst}
 use Rattle.std.specs.List.{list_any, before_first, after_first, before_last, after_last, position_or_len, suffix_len}
 use Rattle.std.proofs.lemmas.Bool.{false≢true, eqb-true, eqb-false, eq-eqb, ne_eqb, or_from, or_parts, cases_Bool, cases_eq}
@@ -76,5 +77,6 @@ first_place c [] any = absurd (false≢true any)
 first_place c (x ∷ t) any =
     elim (cases_eq x c) [
       | inl e ↦ (0, (omega arith, e, λ i h. absurd (omega arith)))
-      | inr apart ↦ let p = first_place c t (ap (λ b. b || list_any (is c) t) (sym (ne_eqb x c apart)) ∙ any) in (suc p.0, first-cons c x p.0 t apart p.1)
+      | inr apart ↦ let p = first_place c t (ap (λ b. b || list_any (is c) t) (sym (ne_eqb x c apart)) ∙ any) in
+          (suc p.0, first-cons c x p.0 t apart p.1)
     ]

@@ -45,7 +45,8 @@ identity_again i = refl
 identity_is : (a b : AuthIdentity) → same_identity a b ≡ true → a ≡ b
 identity_is a b e =
     let parts = and_parts _ _ e in
-    let same : identity_of a.username a.password.value ≡ identity_of b.username b.password.value = rw (equal_names a.username b.username parts.0, same_bytes a.password.value b.password.value parts.1) refl in
+    let same : identity_of a.username a.password.value ≡ identity_of b.username
+    b.password.value = rw (equal_names a.username b.username parts.0, same_bytes a.password.value b.password.value parts.1) refl in
     sym (identity_again a) ∙ same ∙ identity_again b
 
 pub identity_decided : ComparesValues same_identity
@@ -66,7 +67,10 @@ keytab_again i = refl
 keytab_is : (a b : KeytabIdentity) → same_keytab a b ≡ true → a ≡ b
 keytab_is a b e =
     let parts = and_parts _ _ e in
-    let same : keytab_of a.username a.keytab ≡ keytab_of b.username b.keytab = rw (equal_names a.username b.username parts.0, same_bytes a.keytab b.keytab parts.1) refl in
+    let same : keytab_of a.username a.keytab ≡ keytab_of b.username b.keytab = rw (
+      equal_names a.username b.username parts.0,
+      same_bytes a.keytab b.keytab parts.1,
+    ) refl in
     sym (keytab_again a) ∙ same ∙ keytab_again b
 
 pub keytab_decided : ComparesValues same_keytab
@@ -89,7 +93,11 @@ buffers_are a b e =
     let parts = and_parts _ _ e in
     let others = and_parts _ _ parts.1 in
     let same : buffers_of a.user a.domain a.password.value ≡ buffers_of b.user b.domain b.password.value =
-    rw (same_bytes a.user b.user parts.0, same_bytes a.domain b.domain others.0, same_bytes a.password.value b.password.value others.1) refl in
+    rw (
+      same_bytes a.user b.user parts.0,
+      same_bytes a.domain b.domain others.0,
+      same_bytes a.password.value b.password.value others.1,
+    ) refl in
     sym (buffers_again a) ∙ same ∙ buffers_again b
 
 buffers_themselves : (a : AuthIdentityBuffers) → same_buffers a a ≡ true
@@ -117,7 +125,8 @@ abbrev same_credentials_buffers : CredentialsBuffers → CredentialsBuffers → 
 same_credentials_buffers = (buffers_impl.ghosts).eq
 
 credentials_buffers_are : (a b : CredentialsBuffers) → same_credentials_buffers a b ≡ true → a ≡ b
-credentials_buffers_are (buffered.AuthIdentity x) (buffered.AuthIdentity y) e = ap (λ (b : AuthIdentityBuffers). buffered.AuthIdentity b) (buffers_are x y e)
+credentials_buffers_are (buffered.AuthIdentity x) (buffered.AuthIdentity y) e = ap (λ (b : AuthIdentityBuffers).
+    buffered.AuthIdentity b) (buffers_are x y e)
 credentials_buffers_are (buffered.AuthIdentity x) (buffered.Keytab y) e = absurd (false≢true e)
 credentials_buffers_are (buffered.Keytab x) (buffered.AuthIdentity y) e = absurd (false≢true e)
 credentials_buffers_are (buffered.Keytab x) (buffered.Keytab y) e = ap (λ (i : KeytabIdentity). buffered.Keytab i) (keytab_is x y e)

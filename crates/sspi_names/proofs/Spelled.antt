@@ -1,14 +1,17 @@
 -- `parse_name` reads exactly the grammar of names.
-use Rattle.std.proofs.Common.{◌≡◌, ◌⊎◌, inl, inr, ℕ, ◌+◌, List, [], ◌∷◌, Bool, true, false, ◌||◌, cond, Option, Some, None, take, drop, refl, sym, ap, ◌∙◌, subst}
+use Rattle.std.proofs.Common.{◌≡◌, ◌⊎◌, inl, inr, ℕ, ◌+◌, List, [], ◌∷◌, Bool, true, false, ◌||◌}
+use Rattle.std.proofs.Common.{cond, Option, Some, None, take, drop, refl, sym, ap, ◌∙◌, subst}
 use Rattle.std.specs.Str.{IsUtf8}
 use Rattle.std.proofs.lemmas.Bool.{cases_Bool, or_from, or_parts}
-use Rattle.sspi_names.specs.Name.{Name, IsName, IsAllowed, principal, down_level, parse_name, new_name, has_at_sign, has_backslash, has_separator, at_sign, backslash}
+use Rattle.sspi_names.specs.Name.{Name, IsName, IsAllowed, principal, down_level, parse_name, new_name}
+use Rattle.sspi_names.specs.Name.{has_at_sign, has_backslash, has_separator, at_sign, backslash}
 use Rattle.sspi_names.specs.Grammar.{IsForm, IsSpelled}
 use Rattle.sspi_names.specs.Places.{IsLast, IsFirst}
 use Rattle.sspi_names.specs.declared.format.UserNameFormat.{UserNameFormat}
 use Rattle.sspi_names.specs.declared.format.UserNameFormat.TheVariants.{UserPrincipalName, DownLevelLogonName}
 use Rattle.sspi_names.proofs.Places.{last_place, first_place}
-use Rattle.sspi_names.proofs.Parse.{mixed, bare_parsed, principal_parsed, qualified_parsed, twice_parsed, none-take, none-drop, none-before, none-after, principal_split, qualified_name_at, bare_split}
+use Rattle.sspi_names.proofs.Parse.{mixed, bare_parsed, principal_parsed, qualified_parsed, twice_parsed, none-take}
+use Rattle.sspi_names.proofs.Parse.{none-drop, none-before, none-after, principal_split, qualified_name_at, bare_split}
 use Rattle.sspi_names.proofs.Shown.{around}
 use Rattle.sspi_names.proofs.Joined.{principal_back, qualified_back}
 
@@ -23,7 +26,10 @@ with_at_sign t bs place =
     inr (
       principal (take k t) (drop (k + 1) t),
       principal_parsed t k p bs,
-      record { form = sym (around t k at_sign p.0 p.1); allowed = (none-take t backslash k bs, or_from _ _ (none-after t at_sign k p) (none-drop t backslash (k + 1) bs)) },
+      record {
+        form = sym (around t k at_sign p.0 p.1);
+        allowed = (none-take t backslash k bs, or_from _ _ (none-after t at_sign k p) (none-drop t backslash (k + 1) bs));
+      },
       λ utf8. (principal_split t utf8 k p bs).held.name,
     )
 
@@ -37,7 +43,14 @@ with_backslash t at place =
           inr (
             down_level (drop (k + 1) t) (take k t),
             qualified_parsed t k p at once,
-            record { form = inl (sym (around t k backslash p.0 p.1)); allowed = (or_from _ _ (none-drop t at_sign (k + 1) at) once, or_from _ _ (none-take t at_sign k at) (none-before t backslash k p)) },
+            record {
+              form = inl (sym (around t k backslash p.0 p.1));
+              allowed = (
+                or_from _ _ (none-drop t at_sign (k + 1) at) once,
+                or_from _ _ (none-take t at_sign k at)
+                    (none-before t backslash k p),
+              );
+            },
             λ utf8. qualified_name_at t utf8 k p at once,
           )
     ]
@@ -48,7 +61,12 @@ outcome t =
       | inl at ↦ elim (cases_Bool (has_backslash t)) [ inl bs ↦ inl (mixed t at bs) | inr bs ↦ with_at_sign t bs (last_place at_sign t at) ]
       | inr at ↦ elim (cases_Bool (has_backslash t)) [
         | inl bs ↦ with_backslash t at (first_place backslash t bs)
-        | inr bs ↦ inr (down_level t [], bare_parsed t at bs, record { form = inr (refl, refl); allowed = (or_from _ _ at bs, refl) }, λ utf8. (bare_split t utf8 at bs).held.name)
+        | inr bs ↦ inr (
+          down_level t [],
+          bare_parsed t at bs,
+          record { form = inr (refl, refl); allowed = (or_from _ _ at bs, refl) },
+          λ utf8. (bare_split t utf8 at bs).held.name,
+        )
       ]
     ]
 
@@ -77,14 +95,17 @@ made_apart : (account domain : List ℕ) (n : Name) (s t : Bool) → has_separat
 made_apart account domain n true t p q e a d = absurd (no_name n None refl e)
 made_apart account domain n false true p q e a d = absurd (no_name n None refl e)
 made_apart account domain n false false p q e a d =
-    subst IsName (same (down_level account domain) n (Some (down_level account domain)) refl e) (record { allowed = (p, q); account_text = a; domain_text = d })
+    subst IsName (same (down_level account domain) n (Some (down_level account domain)) refl e)
+    (record { allowed = (p, q); account_text = a; domain_text = d })
 
 pub made_name : (account domain : List ℕ) (n : Name) → new_name account domain ≡ Some n → IsUtf8 account → IsUtf8 domain → IsName n
 unfolding new_name
 made_name account [] n e a d = parsed_name account n e a
-made_name account (b ∷ domain) n e a d = made_apart account (b ∷ domain) n (has_separator account) (has_separator (b ∷ domain)) refl refl e a d
+made_name account (b ∷ domain) n e a d = made_apart account (b ∷ domain) n (has_separator account) (has_separator (b ∷ domain))
+    refl refl e a d
 
-by_form : (t : List ℕ) (format : UserNameFormat) (account domain : List ℕ) → IsForm format account domain t → IsAllowed format account domain
+by_form : (t : List ℕ) (format : UserNameFormat) (account domain : List ℕ) → IsForm format account domain t →
+    IsAllowed format account domain
     → parse_name t ≡ Some (record { format = format; account = account; domain = domain })
 by_form t UserPrincipalName account domain form allowed = ap parse_name form ∙ principal_back account domain allowed.0 allowed.1
 by_form t DownLevelLogonName account domain (inl form) allowed = ap parse_name form ∙ qualified_back account domain allowed.0 allowed.1

@@ -52,7 +52,9 @@ parse_name text =
     if has_at_sign text
     then (if has_backslash text then None else Some (principal (before_last is_at_sign text) (after_last is_at_sign text)))
     else if has_backslash text
-    then (if has_backslash (after_first is_backslash text) then None else Some (down_level (after_first is_backslash text) (before_first is_backslash text)))
+    then (if has_backslash (after_first is_backslash text)
+    then None
+    else Some (down_level (after_first is_backslash text) (before_first is_backslash text)))
     else Some (down_level text [])
 
 -- the name of an account and a domain that are given apart; an empty domain is none

@@ -25,7 +25,9 @@ same_parts a b realm url =
     sym (made_again a) ∙ same ∙ made_again b
 
 entry_is : (a b : KdcEntry) → same_entry a b ≡ true → a ≡ b
-entry_is a b e = let parts = and_parts _ _ e in same_parts a b ((bytes_decides a.realm b.realm).0 parts.0) ((bytes_decides a.url b.url).0 parts.1)
+entry_is a b e =
+    let parts = and_parts _ _ e in
+    same_parts a b ((bytes_decides a.realm b.realm).0 parts.0) ((bytes_decides a.url b.url).0 parts.1)
 
 entry_itself : (a : KdcEntry) → same_entry a a ≡ true
 entry_itself a = and_from _ _ ((bytes_decides a.realm a.realm).1 refl) ((bytes_decides a.url a.url).1 refl)

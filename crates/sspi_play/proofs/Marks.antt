@@ -1,5 +1,6 @@
 -- Before a negotiation has its list of mechanisms it makes and takes no MIC.
-use Rattle.std.proofs.Common.{◌≡◌, ◌≤◌, ◌||◌, ℕ, Bool, true, false, cond, List, Option, Result, Ok, Err, refl, sym, ◌∙◌, subst, ap, arith, nat_lt}
+use Rattle.std.proofs.Common.{◌≡◌, ◌≤◌, ◌||◌, ℕ, Bool, true, false, cond, List, Option}
+use Rattle.std.proofs.Common.{Result, Ok, Err, refl, sym, ◌∙◌, subst, ap, arith, nat_lt}
 use Rattle.std.proofs.lemmas.Bool.{false≢true, ltb-false}
 use Rattle.sspi_types.specs.declared.credential_use.CredentialUse.{CredentialUse}
 use Rattle.sspi_types.specs.declared.error.Error.{Error}

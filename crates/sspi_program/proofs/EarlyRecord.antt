@@ -24,7 +24,8 @@ same_answer : (a b : Result Delegation DelegateError) → outcomes.Delegated a �
 same_answer a b e = cc
 
 -- a list stays as it is
-list_stays : (shows : MemoryLinkView → LinkAt) (answer : Result Delegation DelegateError) (link link2 : MemoryLinkView) (names names2 : List Name)
+list_stays : (shows : MemoryLinkView → LinkAt) (answer : Result Delegation DelegateError) (link link2 : MemoryLinkView)
+    (names names2 : List Name)
     (result : Result Early EarlyError) → GoesOn shows list_meaning answer link link2 names names2 result → names2 ≡ names
 list_stays shows (Ok delegation) link link2 names names2 (Ok early) goes_on = goes_on.1.decided.answered.1
 list_stays shows (Ok delegation) link link2 names names2 (Err error) goes_on = goes_on.decided.answered.1

@@ -157,7 +157,8 @@ module _ (D : Record → ℕ → List ℕ → Type 0)
   plain_record text r own written has told (inl e) wrote = λ scenario is plain.
       let same : r.scenario ≡ scenario = same_scenario purposes.Exchange text r.scenario scenario told is in
       subst (λ (s : Scenario). (it : IsPlain s) → EndsPlainly (messages_in s it) s.turns status) same
-      (λ it. plain_exchange w w2 f f2 status r own has (due_status r own written e) (unless_write w w2 f f2 own written status wrote) it) plain
+      (λ it. plain_exchange w w2 f f2 status r own has (due_status r own written e)
+      (unless_write w w2 f f2 own written status wrote) it) plain
   plain_record text r own written has told (inr h) wrote = λ scenario is plain.
       let lost = subst (λ (n : ℕ). Written n written w w2 f f2 status) h.0 wrote in
       ((λ enough. unless_memory w w2 f f2 0 written status lost), (λ few. unless_memory w w2 f f2 1 written status lost))

@@ -34,7 +34,8 @@ use Rattle.sspi_program.specs.Generate.{TallyDue}
 use Rattle.sspi_program.specs.Kept.{nothing, with_status}
 use Rattle.sspi_program.specs.Promises.{Keeps, KeptDue, Due, Does}
 use Rattle.sspi_program.specs.Run.{Outside, IsToldFor, NoneTold, Comes, IsJudged, KeepsOnly, IsReported, WroteLine, WroteOwed}
-use Rattle.sspi_program.specs.Said.{heard_status, status_of, report_of, record_due, RecordDue, IsDue, said_status, said_text, conducted_as, words_text, read_text}
+use Rattle.sspi_program.specs.Said.{heard_status, status_of, report_of, record_due, RecordDue, IsDue}
+use Rattle.sspi_program.specs.Said.{said_status, said_text, conducted_as, words_text, read_text}
 use Rattle.sspi_program.specs.Said.{Written}
 use Rattle.sspi_program.specs.Seats.{PlainSeat}
 use Rattle.sspi_program.specs.Status.{IsUnlessWrite, IsUnlessFault}
@@ -101,14 +102,16 @@ small_status (Delegated (Err errors.TurnsSpent)) s e = let is : 1 ≡ s = cc in 
 small_status (Delegated (Err errors.InsufficientMemory)) s e = absurd cc
 small_status (Played (Ok played)) s e = let is : 0 ≡ s = cc in omega (arith, is)
 small_status (Played (Err error)) s e = absurd cc
-small_status (outcomes.Early (Ok early)) s e = let is : heard_status early.heard ≡ s = cc in subst (λ (n : ℕ). n ≤ 1) is (small_heard early.heard)
+small_status (outcomes.Early (Ok early)) s e = let is : heard_status early.heard ≡ s = cc in
+    subst (λ (n : ℕ). n ≤ 1) is (small_heard early.heard)
 small_status (outcomes.Early (Err (early_errors.Delegate error))) s e = let is : 1 ≡ s = cc in omega (arith, is)
 small_status (outcomes.Early (Err early_errors.Policy)) s e = let is : 1 ≡ s = cc in omega (arith, is)
 small_status (outcomes.Early (Err early_errors.LinkFault)) s e = let is : 1 ≡ s = cc in omega (arith, is)
 small_status (outcomes.Early (Err (early_errors.Read kind))) s e = let is : 1 ≡ s = cc in omega (arith, is)
 small_status (outcomes.Early (Err early_errors.InsufficientMemory)) s e = absurd cc
 
-mapped : (o : Option ℕ) (report : List ℕ) (own : ℕ) (text : List ℕ) → option_map {U = ℕ × List ℕ} (λ s. (s, report)) o ≡ Some (own, text) → o ≡ Some own
+mapped : (o : Option ℕ) (report : List ℕ) (own : ℕ) (text : List ℕ) → option_map {U = ℕ × List ℕ} (λ s. (s, report)) o ≡ Some
+    (own, text) → o ≡ Some own
 mapped None report own text e = absurd cc
 mapped (Some s) report own text e =
     let found : ℕ × List ℕ = (s, report) in

@@ -24,10 +24,35 @@ client_is scenario a fresh named =
     ∙ ap (λ x. record a { settings = made.settings; state = x }) fresh.state
     ∙ ap (λ x. record a { settings = made.settings; state = made.state; context = x }) fresh.context
     ∙ ap (λ x. record a { settings = made.settings; state = made.state; context = made.context; handle = x }) fresh.handle
-    ∙ ap (λ x. record a { settings = made.settings; state = made.state; context = made.context; handle = made.handle; noted = x }) fresh.noted
-    ∙ ap (λ x. record a { settings = made.settings; state = made.state; context = made.context; handle = made.handle; noted = made.noted; acts = x }) fresh.acts
-    ∙ ap (λ x. record a { settings = made.settings; state = made.state; context = made.context; handle = made.handle; noted = made.noted; acts = made.acts; output = x }) fresh.output
-    ∙ ap (λ x. record a { settings = made.settings; state = made.state; context = made.context; handle = made.handle; noted = made.noted; acts = made.acts; output = made.output; kept = x }) fresh.kept
+    ∙ ap (λ x. record a { settings = made.settings; state = made.state; context = made.context; handle = made.handle; noted = x })
+    fresh.noted
+    ∙ ap (λ x. record a {
+      settings = made.settings;
+      state = made.state;
+      context = made.context;
+      handle = made.handle;
+      noted = made.noted;
+      acts = x;
+    }) fresh.acts
+    ∙ ap (λ x. record a {
+      settings = made.settings;
+      state = made.state;
+      context = made.context;
+      handle = made.handle;
+      noted = made.noted;
+      acts = made.acts;
+      output = x;
+    }) fresh.output
+    ∙ ap (λ x. record a {
+      settings = made.settings;
+      state = made.state;
+      context = made.context;
+      handle = made.handle;
+      noted = made.noted;
+      acts = made.acts;
+      output = made.output;
+      kept = x;
+    }) fresh.kept
 
 server_is : (scenario : Scenario) (a : ServerView PlainContext TableView) → IsFreshServer a → IsServerOf scenario a → a ≡ server_in scenario
 server_is scenario a fresh named =
@@ -36,12 +61,38 @@ server_is scenario a fresh named =
     ∙ ap (λ x. record a { settings = made.settings; proxy = x }) named.proxy
     ∙ ap (λ x. record a { settings = made.settings; proxy = made.proxy; state = x }) fresh.state
     ∙ ap (λ x. record a { settings = made.settings; proxy = made.proxy; state = made.state; context = x }) fresh.context
-    ∙ ap (λ x. record a { settings = made.settings; proxy = made.proxy; state = made.state; context = made.context; handle = x }) fresh.handle
-    ∙ ap (λ x. record a { settings = made.settings; proxy = made.proxy; state = made.state; context = made.context; handle = made.handle; noted = x }) fresh.noted
-    ∙ ap (λ x. record a { settings = made.settings; proxy = made.proxy; state = made.state; context = made.context; handle = made.handle; noted = made.noted; acts = x }) fresh.acts
-    ∙ ap (λ x. record a { settings = made.settings; proxy = made.proxy; state = made.state; context = made.context; handle = made.handle; noted = made.noted; acts = made.acts; output = x }) fresh.output
+    ∙ ap (λ x. record a { settings = made.settings; proxy = made.proxy; state = made.state; context = made.context; handle = x })
+    fresh.handle
+    ∙ ap (λ x. record a {
+      settings = made.settings;
+      proxy = made.proxy;
+      state = made.state;
+      context = made.context;
+      handle = made.handle;
+      noted = x;
+    }) fresh.noted
+    ∙ ap (λ x. record a {
+      settings = made.settings;
+      proxy = made.proxy;
+      state = made.state;
+      context = made.context;
+      handle = made.handle;
+      noted = made.noted;
+      acts = x;
+    }) fresh.acts
+    ∙ ap (λ x. record a {
+      settings = made.settings;
+      proxy = made.proxy;
+      state = made.state;
+      context = made.context;
+      handle = made.handle;
+      noted = made.noted;
+      acts = made.acts;
+      output = x;
+    }) fresh.output
 
-pub place_is : (scenario : Scenario) (ends : Ends) → AreEndsOf scenario ends → place_in scenario ≡ place ends.client.value ends.kdc ends.server.value
+pub place_is : (scenario : Scenario) (ends : Ends) → AreEndsOf scenario ends →
+    place_in scenario ≡ place ends.client.value ends.kdc ends.server.value
 place_is scenario ends are = sym (rw (
   client_is scenario ends.client.value are.client_fresh are.client_named,
   are.kdc,

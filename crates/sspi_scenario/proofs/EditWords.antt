@@ -47,3 +47,7 @@ module _ (word argument : List ℕ) where
       kind_by_number word argument ≡ None
   unfolding kind_by_number
   none_by_number n m o = rw (differs word _ n, differs word _ m, differs word _ o) refl
+
+pub ruleset told = (is_add, is_give, is_by_number)
+
+pub ruleset by_number = (is_cut, is_set, is_again, none_by_number)

@@ -65,7 +65,8 @@ cons-map : (o : Option Line) (lines : List Line) → cons_option (option_map lat
 cons-map None lines = refl
 cons-map (Some line) lines = refl
 
-lines-later : (purpose : Purpose) (number : ℕ) (lines : List (List ℕ)) → lines_from purpose (number + 1) lines ≡ map later_line (lines_from purpose number lines)
+lines-later : (purpose : Purpose) (number : ℕ) (lines : List (List ℕ)) → lines_from purpose (number + 1) lines ≡ map later_line
+    (lines_from purpose number lines)
 unfolding lines_from
 lines-later purpose number [] = refl
 lines-later purpose number (line ∷ lines) =
@@ -110,7 +111,8 @@ decided-fault None None n e some = let same : 0 ≡ n = cc in absurd (omega (ari
 err-other : (n : ℕ) → 0 < n → ◌≡◌ {A = Result Scenario ℕ} (Err n) (Err 0) → ⊥
 err-other n some e = let same : n ≡ 0 = cc in omega (arith, same, some)
 
-readable-lines : (purpose : Purpose) (text : List ℕ) → is_readable text ≡ true → scenario_of purpose text ≡ scenario_of_lines (lines_from purpose 1 (lines_of text))
+readable-lines : (purpose : Purpose) (text : List ℕ) → is_readable text ≡ true → scenario_of purpose text ≡ scenario_of_lines
+    (lines_from purpose 1 (lines_of text))
 unfolding scenario_of
 readable-lines purpose text e = rw e refl
 
@@ -118,7 +120,8 @@ unread : (purpose : Purpose) (text : List ℕ) → is_readable text ≡ false �
 unfolding scenario_of
 unread purpose text e = rw e refl
 
-readable-by : (purpose : Purpose) (text : List ℕ) (r : Result Scenario ℕ) → (r ≡ Err 0 → ⊥) → scenario_of purpose text ≡ r → (b : Bool) → is_readable text ≡ b →
+readable-by : (purpose : Purpose) (text : List ℕ) (r : Result Scenario ℕ) → (r ≡ Err 0 → ⊥) → scenario_of purpose text ≡ r →
+    (b : Bool) → is_readable text ≡ b →
     is_readable text ≡ true
 readable-by purpose text r other e true h = h
 readable-by purpose text r other e false h = absurd (other (sym e ∙ unread purpose text h))
@@ -130,7 +133,8 @@ module _ (purpose : Purpose) (line text : List ℕ) (skip : is_skipped line ≡ 
   lines-skipped = rw skip refl
 
   skip-lines : lines_from purpose 1 (lines_of (line ++ 10 ∷ text)) ≡ map later_line (lines_from purpose 1 (lines_of text))
-  skip-lines = ap (lines_from purpose 1) (split-front is_line_feed line 10 text within refl) ∙ (lines-skipped ∙ lines-later purpose 1 (lines_of text))
+  skip-lines = ap (lines_from purpose 1) (split-front is_line_feed line 10 text within refl)
+      ∙ (lines-skipped ∙ lines-later purpose 1 (lines_of text))
 
   skip-scenario : scenario_of purpose (line ++ 10 ∷ text)
       ≡ decided (option_map (λ n. n + 1) (first_fault [] (lines_from purpose 1 (lines_of text))))
@@ -189,7 +193,8 @@ fault-kept earlier (telling number told ∷ lines) rest n e =
     (first_fault (earlier ++ told ∷ []) (lines ++ rest))
     (fault-kept (earlier ++ told ∷ []) lines rest n) e
 
-pub fault-stays : (purpose : Purpose) (text more : List ℕ) (n : ℕ) → 0 < n → scenario_of purpose text ≡ Err n → is_readable (text ++ 10 ∷ more) ≡ true →
+pub fault-stays : (purpose : Purpose) (text more : List ℕ) (n : ℕ) → 0 < n → scenario_of purpose text ≡ Err n →
+    is_readable (text ++ 10 ∷ more) ≡ true →
     scenario_of purpose (text ++ 10 ∷ more) ≡ Err n
 unfolding scenario_of_lines
 fault-stays purpose text more n some e readable =

@@ -35,3 +35,5 @@ is_byte n fits = rw (le-leb n 255 fits) refl
 pub no_byte : (n : ℕ) → 255 < n → None ≡ code_at n
 unfolding code_at
 no_byte n past = rw (lt-leb n 255 past) refl
+
+pub ruleset codes_in_bytes = (is_byte, no_byte)

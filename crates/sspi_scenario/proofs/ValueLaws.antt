@@ -244,11 +244,13 @@ unfolding completed
 finished-holds lines scenario h e =
     subst HoldsValues (completed-is (has_required (keys_of lines)) (finished (keys_of lines) (values_of lines)) scenario e) h
 
-values-held : (purpose : Purpose) (lines : List (List ℕ)) → AreUtf8 lines → HoldsValues (values_of (told_in (lines_from purpose 1 lines))).scenario
+values-held : (purpose : Purpose) (lines : List (List ℕ)) → AreUtf8 lines →
+    HoldsValues (values_of (told_in (lines_from purpose 1 lines))).scenario
 unfolding values_of
 values-held purpose lines utf8 = lines-keep purpose 1 lines defaults utf8 defaults-hold
 
-pub scenario_holds : (purpose : Purpose) (text : List ℕ) (scenario : Scenario) → scenario_of purpose text ≡ Ok scenario → HoldsValues scenario
+pub scenario_holds : (purpose : Purpose) (text : List ℕ) (scenario : Scenario) → scenario_of purpose text ≡ Ok scenario →
+    HoldsValues scenario
 scenario_holds purpose text scenario e =
     let parts = told-whole purpose text scenario e in
     finished-holds (told_in (lines_from purpose 1 (lines_of text))) scenario

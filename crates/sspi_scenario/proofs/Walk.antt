@@ -80,9 +80,11 @@ module _ (earlier : List Told) (number : ℕ) (rest : List Line) where
   step-line false told = step-told told
 
 pub step : (purpose : Purpose) (earlier : List Told) (number : ℕ) (line : List ℕ) (rest : List (List ℕ))
-    → Step earlier (with_line purpose (draft_of earlier) line) number (lines_from purpose number (line ∷ rest)) (lines_from purpose (number + 1) rest)
+    → Step earlier (with_line purpose (draft_of earlier) line) number (lines_from purpose number (line ∷ rest))
+    (lines_from purpose (number + 1) rest)
 unfolding with_line lines_from
-step purpose earlier number line rest = step-line earlier number (lines_from purpose (number + 1) rest) (is_skipped line) (line_told purpose line)
+step purpose earlier number line rest = step-line earlier number (lines_from purpose (number + 1) rest) (is_skipped line)
+    (line_told purpose line)
 
 -- the same of a line that is taken, and of one that is at fault
 pub step-taken : (purpose : Purpose) (earlier : List Told) (number : ℕ) (line : List ℕ) (rest : List (List ℕ)) (new : Draft)
@@ -90,17 +92,20 @@ pub step-taken : (purpose : Purpose) (earlier : List Told) (number : ℕ) (line 
     → (later : List Told) × (new ≡ draft_of later) × (outcome earlier (lines_from purpose number (line ∷ rest)) ≡ outcome later
     (lines_from purpose (number + 1) rest))
 step-taken purpose earlier number line rest new e =
-    subst (λ o. Step earlier o number (lines_from purpose number (line ∷ rest)) (lines_from purpose (number + 1) rest)) e (step purpose earlier number line rest)
+    subst (λ o. Step earlier o number (lines_from purpose number (line ∷ rest)) (lines_from purpose (number + 1) rest)) e
+    (step purpose earlier number line rest)
 
 pub step-refused : (purpose : Purpose) (earlier : List Told) (number : ℕ) (line : List ℕ) (rest : List (List ℕ))
     → with_line purpose (draft_of earlier) line ≡ None
     → outcome earlier (lines_from purpose number (line ∷ rest)) ≡ Err number
 step-refused purpose earlier number line rest e =
-    subst (λ o. Step earlier o number (lines_from purpose number (line ∷ rest)) (lines_from purpose (number + 1) rest)) e (step purpose earlier number line rest)
+    subst (λ o. Step earlier o number (lines_from purpose number (line ∷ rest)) (lines_from purpose (number + 1) rest)) e
+    (step purpose earlier number line rest)
 
 -- the values so far, and what the lines that are left decide: that is what all lines decide
 abbrev pub Sofar : (purpose : Purpose) → Draft → ℕ → List (List ℕ) → Result Scenario ℕ → Type 0
-Sofar purpose draft number lines all = (earlier : List Told) × (draft ≡ draft_of earlier) × (outcome earlier (lines_from purpose number lines) ≡ all)
+Sofar purpose draft number lines all = (earlier : List Told) × (draft ≡ draft_of earlier)
+    × (outcome earlier (lines_from purpose number lines) ≡ all)
 
 pub told-start : (purpose : Purpose) (draft : Draft) (lines : List (List ℕ)) → draft ≡ draft_of [] →
     Sofar purpose draft 1 lines (scenario_of_lines (lines_from purpose 1 lines))
@@ -111,9 +116,11 @@ pub told-end : (purpose : Purpose) (draft : Draft) (number : ℕ) (all : Result 
 told-end purpose draft number all told =
     sym told.2 ∙ (outcome-end purpose told.0 number ∙ ap (λ (d : Draft). decided None (draft_completed d)) (sym told.1))
 
-module _ (purpose : Purpose) (draft : Draft) (number : ℕ) (all : Result Scenario ℕ) (lines : List (List ℕ)) (line : List ℕ) (rest : List (List ℕ))
+module _ (purpose : Purpose) (draft : Draft) (number : ℕ) (all : Result Scenario ℕ) (lines : List (List ℕ)) (line : List ℕ)
+    (rest : List (List ℕ))
     (cut : lines ≡ line ∷ rest) where
-  pub told-more : (new : Draft) → with_line purpose draft line ≡ Some new → Sofar purpose draft number lines all → Sofar purpose new (number + 1) rest all
+  pub told-more : (new : Draft) → with_line purpose draft line ≡ Some new → Sofar purpose draft number lines all →
+      Sofar purpose new (number + 1) rest all
   told-more new h told =
       let next = step-taken purpose told.0 number line rest new (ap (λ (d : Draft). with_line purpose d line) (sym told.1) ∙ h) in
       (next.0, next.1, sym next.2 ∙ (ap (λ (ls : List (List ℕ)). outcome told.0 (lines_from purpose number ls)) (sym cut) ∙ told.2))

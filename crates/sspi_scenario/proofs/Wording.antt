@@ -74,3 +74,5 @@ module _ (word : List ℕ) where
   pub no_end : (word ≡ codes "client" → ⊥) → (word ≡ codes "server" → ⊥) → None ≡ end_of word
   unfolding end_of
   no_end n m = rw (differs word _ n, differs word _ m) refl
+
+pub ruleset packages_named = (is_ntlm_package, is_kerberos_package, no_package)

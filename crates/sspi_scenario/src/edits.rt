@@ -48,7 +48,7 @@ fn kind_alone(word: &str) -> Option<EditKind>
     }
 }
 
-#[tactic(auto, using(crate::proofs::EditWords::is_add, crate::proofs::EditWords::is_give, crate::proofs::EditWords::is_by_number), unfolding(crate::specs::Edits::add_of, crate::specs::Edits::give_of))]
+#[tactic(auto, using(crate::proofs::EditWords::told), unfolding(crate::specs::Edits::add_of, crate::specs::Edits::give_of))]
 fn kind_with(alloc: Global, word: &str, argument: &str) -> Result<EditKind, LineError>
     ensures { Reads result (Edits.kind_with word.now argument.now) }
 {
@@ -59,7 +59,7 @@ fn kind_with(alloc: Global, word: &str, argument: &str) -> Result<EditKind, Line
     }
 }
 
-#[tactic(auto, using(crate::proofs::EditWords::is_cut, crate::proofs::EditWords::is_set, crate::proofs::EditWords::is_again, crate::proofs::EditWords::none_by_number), unfolding(crate::specs::Edits::cut_of, crate::specs::Edits::again_of))]
+#[tactic(auto, using(crate::proofs::EditWords::by_number), unfolding(crate::specs::Edits::cut_of, crate::specs::Edits::again_of))]
 fn kind_by_number(word: &str, argument: &str) -> Option<EditKind>
     ensures { result ≡ Edits.kind_by_number word.now argument.now }
 {

@@ -37,7 +37,7 @@ fn code_behind(word: &str, digits: &str) -> Option<Scripted>
 }
 
 /// An error code is a byte.
-#[tactic(auto, using(crate::proofs::Scripting::is_byte, crate::proofs::Scripting::no_byte), unfolding(crate::specs::Scripts::numbered_code))]
+#[tactic(auto, using(crate::proofs::Scripting::codes_in_bytes), unfolding(crate::specs::Scripts::numbered_code))]
 fn numbered_code(digits: &str) -> Option<Scripted>
     ensures { result ≡ numbered_code digits.now }
 {

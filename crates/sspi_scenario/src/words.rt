@@ -24,7 +24,7 @@ pub fn mode_named(word: &str) -> Option<Mode>
     }
 }
 
-#[tactic(auto, using(crate::proofs::Wording::is_ntlm_package, crate::proofs::Wording::is_kerberos_package, crate::proofs::Wording::no_package))]
+#[tactic(auto, using(crate::proofs::Wording::packages_named))]
 pub fn package_named(word: &str) -> Option<Package>
     ensures { result ≡ package_of word.now }
 {

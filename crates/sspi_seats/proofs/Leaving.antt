@@ -1,5 +1,6 @@
 -- What a client and its server are as a seat.
-use Rattle.std.proofs.Common.{◌≡◌, ℕ, suc, ◌+◌, ◌⊎◌, inl, inr, ◌≤◌, List, [], ◌∷◌, ◌++◌, length, reverse, Option, None, Some, Err, refl, sym, ap, ◌∙◌, subst, arith}
+use Rattle.std.proofs.Common.{◌≡◌, ℕ, suc, ◌+◌, ◌⊎◌, inl, inr, ◌≤◌, List, [], ◌∷◌, ◌++◌, length}
+use Rattle.std.proofs.Common.{reverse, Option, None, Some, Err, refl, sym, ap, ◌∙◌, subst, arith}
 use Rattle.std.proofs.lemmas.List.{reverse-reverse, length-append, length-reverse}
 use Rattle.std.specs.List.{slice_get}
 use Rattle.sspi_mech.specs.Meaning.{Meaning}
@@ -34,7 +35,8 @@ use Rattle.sspi_seats.specs.declared.seat.SeatOutcome.TheVariants as seats
 use Rattle.sspi_seats.proofs.Lists.{last_or_before, get_at, has_element, no_element}
 
 -- as many calls as turns
-pub served_count : (turns : List Turn) (calls : List (List ℕ)) (answers : List _) → AreServed turns calls answers → length calls ≡ length turns
+pub served_count : (turns : List Turn) (calls : List (List ℕ)) (answers : List _) → AreServed turns calls answers →
+    length calls ≡ length turns
 served_count [] [] [] served = refl
 served_count [] [] (answer ∷ answers) served = absurd served
 served_count [] (bytes ∷ calls) answers served = absurd served
@@ -64,7 +66,8 @@ module _ {C D : Type 0} (c : Meaning ContextSetting C) (k : KdcCalls D) (first n
       record {
         client_ran = ran;
         client_heeds = client_past_heeds c law k first now kdc kdc2 turns (Err errors.TurnsSpent) fresh others history;
-        credentials_are_sealed_at_most_once = sealed_once c (client_end now) (server_end server) turns (rw own.all ran.each) (rw own.all others)
+        credentials_are_sealed_at_most_once = sealed_once c (client_end now) (server_end server) turns (rw own.all ran.each)
+            (rw own.all others)
             (rw own.none tt);
         the_client_seals_after_the_proof = seals_after_proof c (client_end now) turns ran.each;
       }
@@ -152,7 +155,8 @@ module _ {N K P D : Type 0} (c : Meaning ContextSetting (SspiContext N K)) (p : 
     pub next_kept : (rest guests : List (Guest N K D)) → gone ++ guest ∷ rest ≡ guests → AreKept c p k cames limit guests first →
         IsKept c p k came limit guest (session (length seats) desk)
     next_kept rest guests parts kept =
-        let found : slice_get guests (length gone) ≡ Some guest = ap (λ (l : List (Guest N K D)). slice_get l (length gone)) (sym parts) ∙ get_at gone guest rest in
+        let found : slice_get guests (length gone) ≡ Some guest = ap (λ (l : List (Guest N K D)). slice_get l (length gone))
+        (sym parts) ∙ get_at gone guest rest in
         rw (left.count, left.rest (length gone) (omega arith)) (kept.each (length gone) came guest place found)
 
     module _ (seats2 : List (Seat N K P D)) (one : HasLeft c p k came limit seats seats2) where
@@ -170,7 +174,13 @@ module _ {N K P D : Type 0} (c : Meaning ContextSetting (SspiContext N K)) (p : 
       more_left desk2 others =
           let more : length (gone ++ guest ∷ []) ≡ length gone + 1 = length-append gone (guest ∷ []) in
           record {
-            count = omega (arith, ap (λ (l : List (Seat N K P D)). length l) one.added, length-append seats (one.seat ∷ []), left.count, more);
+            count = omega (
+              arith,
+              ap (λ (l : List (Seat N K P D)). length l) one.added,
+              length-append seats (one.seat ∷ []),
+              left.count,
+              more,
+            );
             each = λ i at seat found there. seat_left i at seat found (last_or_before seats one.seat i seat (rw one.added at there));
             rest = λ i past. others.others i (λ same. absurd (omega (arith, same, left.count, more, past)))
                 ∙ left.rest i (omega (arith, more, past));

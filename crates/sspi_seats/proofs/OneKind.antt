@@ -79,13 +79,15 @@ next_kind (Ok (Answer text) ∷ past) request next = rw (read_none text request 
 next_kind (Ok (Finished identity) ∷ past) request next = absurd next
 next_kind (Err error ∷ past) request next = absurd next
 
-unreadable_kind : (kind : WireKind) (answers : List (Result Served DeskError)) → NewestAnswer (IsUnreadable kind) answers → 3 ≡ answer_kind answers
+unreadable_kind : (kind : WireKind) (answers : List (Result Served DeskError)) → NewestAnswer (IsUnreadable kind) answers →
+    3 ≡ answer_kind answers
 unreadable_kind kind [] is = absurd is
 unreadable_kind kind (Ok (Answer text) ∷ past) is = fault_kind kind text is
 unreadable_kind kind (Ok (Finished identity) ∷ past) is = absurd is
 unreadable_kind kind (Err error ∷ past) is = absurd is
 
-refused_with_kind : (error : Error) (answers : List (Result Served DeskError)) → NewestAnswer (IsRefusedWith error) answers → 2 ≡ answer_kind answers
+refused_with_kind : (error : Error) (answers : List (Result Served DeskError)) → NewestAnswer (IsRefusedWith error) answers →
+    2 ≡ answer_kind answers
 refused_with_kind error [] is = absurd is
 refused_with_kind error (answer ∷ past) is = rw is.1 refl
 
@@ -151,7 +153,8 @@ kind_shown limit (seats.Write Server) turns calls answers shows =
 kind_shown limit seats.TurnsSpent turns calls answers shows =
     next_kind answers shows.2 shows.3 ∙ served_kind turns calls answers shows.0
 
-pub one_kind : (limit : ℕ) (out other : SeatOutcome) (turns : List Turn) (calls : List (List ℕ)) (answers : List (Result Served DeskError)) →
+pub one_kind : (limit : ℕ) (out other : SeatOutcome) (turns : List Turn) (calls : List (List ℕ))
+    (answers : List (Result Served DeskError)) →
     Shows limit out turns calls answers → Shows limit other turns calls answers → kind_of out ≡ kind_of other
 one_kind limit out other turns calls answers shows shows2 =
     kind_shown limit out turns calls answers shows ∙ sym (kind_shown limit other turns calls answers shows2)

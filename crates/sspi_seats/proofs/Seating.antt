@@ -1,5 +1,6 @@
 -- All seats of a table over a round.
-use Rattle.std.proofs.Common.{◌≡◌, ◌≢◌, ℕ, suc, ◌+◌, ◌<◌, ◌≤◌, ◌⊎◌, inl, inr, List, [], ◌∷◌, ◌++◌, length, Option, None, Some, refl, sym, ap, ◌∙◌, subst}
+use Rattle.std.proofs.Common.{◌≡◌, ◌≢◌, ℕ, suc, ◌+◌, ◌<◌, ◌≤◌, ◌⊎◌, inl, inr, List, [], ◌∷◌}
+use Rattle.std.proofs.Common.{◌++◌, length, Option, None, Some, refl, sym, ap, ◌∙◌, subst}
 use Rattle.std.proofs.Common.{arith, eqb}
 use Rattle.std.specs.List.{slice_get, list_any}
 use Rattle.std.specs.Prelude.{zero, Bool, true, false, ◌||◌, is_some}
@@ -30,7 +31,8 @@ is_none None not = refl
 is_none (Some x) not = absurd cc
 
 -- no guest runs
-pub none_runs : {N K D : Type 0} (guests : List (Guest N K D)) → list_any (λ guest. is_some guest.next) guests ≡ false → (i : ℕ) (guest : Guest N K D) →
+pub none_runs : {N K D : Type 0} (guests : List (Guest N K D)) → list_any (λ guest. is_some guest.next) guests ≡ false →
+    (i : ℕ) (guest : Guest N K D) →
     slice_get guests i ≡ Some guest → guest.next ≡ None
 none_runs [] none i guest found = absurd cc
 none_runs (g ∷ guests) none zero guest found =

@@ -55,7 +55,8 @@ long_by outcome.Finished said goes is speaks = absurd goes
 long_by (outcome.Refused kind reply) said goes is speaks = absurd goes
 
 -- too long
-pub speaks_long : {E : Type 0} (turns : List Turn) (said : Result (Option (List ℕ)) E) → AllGoOn turns → said ≡ Ok None → Speaks turns said →
+pub speaks_long : {E : Type 0} (turns : List Turn) (said : Result (Option (List ℕ)) E) → AllGoOn turns → said ≡ Ok None →
+    Speaks turns said →
     (calls : List (List ℕ)) (answers : List (Result Served DeskError)) → AreServedButLast turns calls answers → NewestFits turns false
 speaks_long [] said go is speaks calls answers served = absurd served
 speaks_long (t ∷ past) said go is speaks calls answers served = long_by t.outcome said go.0 is speaks
@@ -91,7 +92,8 @@ others_of (t ∷ past) go = go.1
 
 -- ---- the answer
 
-module _ (turns : List Turn) (calls : List (List ℕ)) (answers : List (Result Served DeskError)) (messages : ℕ) (count : length turns ≡ messages)
+module _ (turns : List Turn) (calls : List (List ℕ)) (answers : List (Result Served DeskError)) (messages : ℕ)
+    (count : length turns ≡ messages)
   where
     -- an answer that is the end shows the outcome
     pub heard_shows : (answer : Result Served DeskError) (out : SeatOutcome) → IsHeard messages answer (Ends out) →
@@ -118,7 +120,8 @@ module _ (turns : List Turn) (calls : List (List ℕ)) (answers : List (Result S
         subst (λ (o : SeatOutcome). Shows limit o turns calls (Err TooLong ∷ answers)) (sym is) (served, refl)
     heard_shows (Err InsufficientMemory) out heard served limit = absurd heard
 
-module _ {C D : Type 0} (c : Meaning ContextSetting C) (k : KdcCalls D) (first : ClientView C) (kdc : D) (turns : List Turn) (now : ClientView C)
+module _ {C D : Type 0} (c : Meaning ContextSetting C) (k : KdcCalls D) (first : ClientView C) (kdc : D) (turns : List Turn)
+    (now : ClientView C)
     (kdc2 : D) (history : ClientHistory c k first kdc turns now kdc2) where
   -- the client itself refused nothing
   pub heard_came : (messages : ℕ) (answer : Result Served DeskError) (out : SeatOutcome) → IsHeard messages answer (Ends out) →
@@ -192,7 +195,8 @@ module _ {C P : Type 0} (c : Meaning ContextSetting C) (p : ProxyMeaning P) wher
 module _ {N K P D : Type 0} (c : Meaning ContextSetting (SspiContext N K)) (p : ProxyMeaning P) (k : KdcCalls D)
     (came : Place (SspiContext N K) P D) where
   -- a message that is too long ends it
-  pub long_ends : {E : Type 0} (turn : ℕ) (guest : Guest N K D) (said : Result (Option (List ℕ)) E) (server : ServerView (SspiContext N K) P)
+  pub long_ends : {E : Type 0} (turn : ℕ) (guest : Guest N K D) (said : Result (Option (List ℕ)) E)
+      (server : ServerView (SspiContext N K) P)
       (at : Option (ServerView (SspiContext N K) P)) → guest.next ≡ None → IsSpeaking c p k came turn guest →
       Alone c p came.server guest.calls guest.answers server → at ≡ Some server → said ≡ Ok None → Speaks guest.transcript.turns said →
       IsKept c p k came turn (record guest { outcome = seats.Write Client }) at
@@ -201,7 +205,8 @@ module _ {N K P D : Type 0} (c : Meaning ContextSetting (SspiContext N K)) (p : 
     stands = rw none (record {
       shown = λ limit. (
         speaking.served,
-        newest_goes guest.transcript.turns speaking.turned.go speaking.turned.own (reverse guest.calls) (reverse guest.answers) speaking.served,
+        newest_goes guest.transcript.turns speaking.turned.go speaking.turned.own (reverse guest.calls) (reverse guest.answers)
+            speaking.served,
         speaks_long guest.transcript.turns said speaking.turned.go is speaks (reverse guest.calls) (reverse guest.answers) speaking.served,
       );
       history = speaking.turned.history;
@@ -211,8 +216,10 @@ module _ {N K P D : Type 0} (c : Meaning ContextSetting (SspiContext N K)) (p : 
     });
   })
 
-  module _ (turn : ℕ) (guest : Guest N K D) (bytes : List ℕ) (answer : Result Served DeskError) (server after : ServerView (SspiContext N K) P)
-      (none : guest.next ≡ None) (speaking : IsSpeaking c p k came turn guest) (alone : Alone c p came.server guest.calls guest.answers server)
+  module _ (turn : ℕ) (guest : Guest N K D) (bytes : List ℕ) (answer : Result Served DeskError)
+      (server after : ServerView (SspiContext N K) P)
+      (none : guest.next ≡ None) (speaking : IsSpeaking c p k came turn guest)
+      (alone : Alone c p came.server guest.calls guest.answers server)
       (served : IsServed c p server bytes answer after)
       (sent : AreServed guest.transcript.turns (bytes ∷ reverse guest.calls) (answer ∷ reverse guest.answers)) where
     alone_more : Alone c p came.server (guest.calls ++ bytes ∷ []) (guest.answers ++ answer ∷ []) after
@@ -246,9 +253,11 @@ module _ {N K P D : Type 0} (c : Meaning ContextSetting (SspiContext N K)) (p : 
       stands = subst (λ (next : Option TsRequest). StandsBy c p k came next turn
           (record guest { outcome = out; calls = guest.calls ++ bytes ∷ []; answers = guest.answers ++ answer ∷ [] })) (sym none) (record {
             shown = λ limit. rw (reverse_push guest.calls bytes, reverse_push guest.answers answer)
-                (heard_shows guest.transcript.turns (bytes ∷ reverse guest.calls) (reverse guest.answers) turn speaking.turned.count answer out heard
+                (heard_shows guest.transcript.turns (bytes ∷ reverse guest.calls) (reverse guest.answers) turn
+                speaking.turned.count answer out heard
                 sent limit);
-            history = heard_came c k came.client came.kdc guest.transcript.turns guest.client guest.kdc speaking.turned.history turn answer out heard;
+            history = heard_came c k came.client came.kdc guest.transcript.turns guest.client guest.kdc speaking.turned.history
+                turn answer out heard;
             own = speaking.turned.own;
             others = others_of guest.transcript.turns speaking.turned.go;
             count = omega (arith, speaking.turned.count);
@@ -259,7 +268,8 @@ module _ {N K P D : Type 0} (c : Meaning ContextSetting (SspiContext N K)) (p : 
         KeepsCall bytes answer heard guest new → IsVisited c p k came turn new after
     kept_as (Ok (Next request)) new means keeps =
         subst (λ (x : Guest N K D). IsVisited c p k came turn x after) (sym keeps) (goes_on request means)
-    kept_as (Ok (Ends out)) new means keeps = subst (λ (x : Guest N K D). IsVisited c p k came turn x after) (sym keeps) (comes_to out means)
+    kept_as (Ok (Ends out)) new means keeps = subst (λ (x : Guest N K D). IsVisited c p k came turn x after) (sym keeps)
+        (comes_to out means)
     kept_as (Err error) new means keeps = absurd keeps
 
   -- the message was served, and the call kept
@@ -271,7 +281,8 @@ module _ {N K P D : Type 0} (c : Meaning ContextSetting (SspiContext N K)) (p : 
       KeepsCall bytes answer heard guest new → IsKept c p k came turn new (session number now)
   speaks_on turn number guest new said bytes answer heard server old now none speaking alone found is speaks serves means keeps =
       let at = served_at c p number bytes answer server (session number old) old now found serves in
-      let sent = speaks_sent guest.transcript.turns said bytes answer speaking.turned.go is speaks (reverse guest.calls) (reverse guest.answers)
+      let sent = speaks_sent guest.transcript.turns said bytes answer speaking.turned.go is speaks (reverse guest.calls)
+      (reverse guest.answers)
       speaking.served in
       subst (λ (o : Option (ServerView (SspiContext N K) P)). IsKept c p k came turn new o) (sym at.found)
       (kept_as turn guest bytes answer server at.after none speaking alone at.served sent heard new means keeps)

@@ -1,5 +1,6 @@
 -- A turn of a client at its seat.
-use Rattle.std.proofs.Common.{◌≡◌, ◌≢◌, ℕ, ◌+◌, ◌≤◌, List, [], ◌∷◌, length, reverse, Option, None, Some, Result, refl, sym, ap, subst, arith}
+use Rattle.std.proofs.Common.{◌≡◌, ◌≢◌, ℕ, ◌+◌, ◌≤◌, List, [], ◌∷◌, length, reverse}
+use Rattle.std.proofs.Common.{Option, None, Some, Result, refl, sym, ap, subst, arith}
 use Rattle.sspi_types.specs.declared.error.Error.{Error}
 use Rattle.sspi_types.specs.declared.error_kind.ErrorKind.TheVariants as kinds
 use Rattle.sspi_mech.specs.Meaning.{Meaning}
@@ -34,7 +35,8 @@ own_more : (end : End) (t : Turn) (past : List Turn) → end ≡ Client → AreC
 own_more end t past is own = rw is (ap (λ (l : List Turn). t ∷ l) own.all, own.none)
 
 -- of a turn that was added, of which P holds
-pub pushed_own : (d : TsRequest) (P : Outcome → Type 0) (old new : List Turn) → PushedSuch Client d P old new → AreClients old → AreClients new
+pub pushed_own : (d : TsRequest) (P : Outcome → Type 0) (old new : List Turn) → PushedSuch Client d P old new → AreClients old →
+    AreClients new
 pushed_own d P old [] pushed own = absurd pushed
 pushed_own d P old (t ∷ past) pushed own =
     let more = own_more t.end t past pushed.1 (rw pushed.0 own) in
@@ -53,7 +55,8 @@ pub pushed_newest : (d : TsRequest) (P : Outcome → Type 0) (old new : List Tur
 pushed_newest d P old [] pushed = absurd pushed
 pushed_newest d P old (t ∷ past) pushed = (pushed.1, pushed.3)
 
-pub pushed_others : (d : TsRequest) (P : Outcome → Type 0) (old new : List Turn) → PushedSuch Client d P old new → AllGoOn old → OthersGoOn new
+pub pushed_others : (d : TsRequest) (P : Outcome → Type 0) (old new : List Turn) → PushedSuch Client d P old new → AllGoOn old →
+    OthersGoOn new
 pushed_others d P old [] pushed go = absurd pushed
 pushed_others d P old (t ∷ past) pushed go = rw pushed.0 go
 
@@ -114,13 +117,15 @@ module _ {N K P D : Type 0} (c : Meaning ContextSetting (SspiContext N K)) (p : 
       (transcript : TranscriptView) (next : Option TsRequest) → Runs c p k came rounds request guest →
       PushedSuch Client request (IsClientRefusal error.error_type) guest.transcript.turns transcript.turns →
       (ClientHistory c k came.client came.kdc (client_turns guest.transcript.turns) guest.client guest.kdc →
-      ClientStopped c k came.client came.kdc error (client_turns transcript.turns) client kdc) → error.error_type ≢ kinds.InsufficientMemory →
+      ClientStopped c k came.client came.kdc error (client_turns transcript.turns) client
+      kdc) → error.error_type ≢ kinds.InsufficientMemory →
       HasEnded c p k came (rounds + 1)
       (record guest { client = client; kdc = kdc; transcript = transcript; next = next; outcome = seats.Client error })
   turn_ends rounds request error guest client kdc transcript next runs pushed stops other =
       let own : AreClients transcript.turns =
       pushed_own request (IsClientRefusal error.error_type) guest.transcript.turns transcript.turns pushed runs.turned.own in
-      let count = pushed_count request (IsClientRefusal error.error_type) guest.transcript.turns transcript.turns rounds pushed runs.turned.count in
+      let count = pushed_count request (IsClientRefusal error.error_type) guest.transcript.turns transcript.turns rounds pushed
+      runs.turned.count in
       record {
         shown = λ limit. (
           pushed_served (reverse guest.calls) (reverse guest.answers) request (IsClientRefusal error.error_type) guest.transcript.turns
@@ -138,7 +143,8 @@ module _ {N K P D : Type 0} (c : Meaning ContextSetting (SspiContext N K)) (p : 
 
   -- ---- a client that has ended
 
-  pub ended_later : (rounds later : ℕ) (guest : Guest N K D) → rounds ≤ later → HasEnded c p k came rounds guest → HasEnded c p k came later guest
+  pub ended_later : (rounds later : ℕ) (guest : Guest N K D) → rounds ≤ later → HasEnded c p k came rounds guest →
+      HasEnded c p k came later guest
   ended_later rounds later guest more ended = record {
     shown = ended.shown;
     history = ended.history;
@@ -193,7 +199,8 @@ module _ {N K P D : Type 0} (c : Meaning ContextSetting (SspiContext N K)) (p : 
   }
 
   -- a client that ended its turn by itself
-  pub kept_ended : (turn : ℕ) (guest : Guest N K D) (server : ServerView (SspiContext N K) P) (at : Option (ServerView (SspiContext N K) P)) →
+  pub kept_ended : (turn : ℕ) (guest : Guest N K D) (server : ServerView (SspiContext N K) P)
+      (at : Option (ServerView (SspiContext N K) P)) →
       at ≡ Some server → guest.next ≡ None → Alone c p came.server guest.calls guest.answers server → HasEnded c p k came turn guest →
       IsKept c p k came turn guest at
   kept_ended turn guest server at found none alone ended =

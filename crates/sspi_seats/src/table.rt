@@ -63,8 +63,9 @@ impl<N: Mechanism, K: Mechanism, C: CredentialsProxy, D: Kdc + Drop> Table<N, K,
         }
     }
 
-    /// At most so many rounds, until no client runs: in each round every client that still runs makes a turn, and its session is served, one
-    /// after the other. Then the sessions are closed, and the seats handed out in the order in which their clients came.
+    /// At most so many rounds, until no client runs: in each round every client that still runs makes a turn, and its session
+    /// is served, one after the other. Then the sessions are closed, and the seats handed out in the order in which their
+    /// clients came.
     ///
     /// Fails for want of memory, also where it came up in a turn, in a call on the desk or in a KDC.
     pub fn finish(self, turns: u32) -> Result<Rows<Seat<N, K, C, D>>, AllocError>
@@ -102,7 +103,8 @@ impl<N: Mechanism, K: Mechanism, C: CredentialsProxy, D: Kdc + Drop> Table<N, K,
     /// The round of this number, from 1.
     fn serve_round(&mut self, turn: u32) -> Result<(), AllocError>
         ensures { let c = either N.REQUESTS N.meaning K.meaning in let k = kdc_calls D.told D.asked D.faults in
-            (cames : List (Place (SspiContext N K) C D)) (rounds : ℕ) → turn ≡ rounds + 1 → AreVisited c C.meaning k cames rounds 0 self.old →
+            (cames : List (Place (SspiContext N K) C D)) (rounds : ℕ) → turn ≡ rounds + 1 →
+            AreVisited c C.meaning k cames rounds 0 self.old →
             OnOk result (AreVisited c C.meaning k cames turn 0 self.new) }
     {
         for at in 0..self.guests.len() {
@@ -114,7 +116,8 @@ impl<N: Mechanism, K: Mechanism, C: CredentialsProxy, D: Kdc + Drop> Table<N, K,
     /// The client of this seat has the round of this number.
     fn serve_guest(&mut self, at: usize, turn: u32) -> Result<(), AllocError>
         ensures { let c = either N.REQUESTS N.meaning K.meaning in let k = kdc_calls D.told D.asked D.faults in
-            (cames : List (Place (SspiContext N K) C D)) (rounds : ℕ) → turn ≡ rounds + 1 → AreVisited c C.meaning k cames rounds at self.old →
+            (cames : List (Place (SspiContext N K) C D)) (rounds : ℕ) → turn ≡ rounds + 1 →
+            AreVisited c C.meaning k cames rounds at self.old →
             OnOk result (AreVisited c C.meaning k cames rounds (at + 1) self.new) }
     {
         match self.guests.get_mut(at) {
@@ -169,7 +172,8 @@ fn leave_all<N: Mechanism, K: Mechanism, C: CredentialsProxy, D: Kdc + Drop>(
     seats: &mut Rows<Seat<N, K, C, D>>,
 ) -> Result<(), AllocError>
     ensures { let c = either N.REQUESTS N.meaning K.meaning in let k = kdc_calls D.told D.asked D.faults in
-        (cames : List (Place (SspiContext N K) C D)) (limit : ℕ) → seats.old ≡ [] → AreKept c C.meaning k cames limit guests.items desk.old →
+        (cames : List (Place (SspiContext N K) C D)) (limit : ℕ) → seats.old ≡ [] →
+        AreKept c C.meaning k cames limit guests.items desk.old →
         OnOk result (AreSeats c C.meaning k cames limit seats.new) }
 {
     for guest in guests {

@@ -21,7 +21,8 @@ is_token (Some x) token e = cc
 is_token None token e = absurd cc
 
 -- nothing was read, and no memory was wanted for that
-pub read_refused : {X T : Type 0} (view : X → T) (after : List ℕ) (kind : WireKind) (read : Read T) → Gives view after (Err kind) read → NeedsNoMemory {X = X} (Err kind) → ReadsAs (value_of read) (Err malformed)
+pub read_refused : {X T : Type 0} (view : X → T) (after : List ℕ) (kind : WireKind) (read : Read T) →
+    Gives view after (Err kind) read → NeedsNoMemory {X = X} (Err kind) → ReadsAs (value_of read) (Err malformed)
 read_refused view after UnexpectedEof read given none = is_malformed (value_of read) (ap value_of given)
 read_refused view after InvalidData read given none = is_malformed (value_of read) (ap value_of given)
 read_refused view after ReadFault read given none = absurd given
@@ -29,9 +30,11 @@ read_refused view after WriteFault read given none = absurd given
 read_refused view after InsufficientMemory read given none = absurd none
 
 -- the parts were read, and memory was wanting for the token
-pub read_unkept : {T : Type 0} (token : T) (after : List ℕ) (read : Read T) → read ≡ Ok (token, after) → ReadsAs (value_of read) (Err memory_error)
+pub read_unkept : {T : Type 0} (token : T) (after : List ℕ) (read : Read T) → read ≡ Ok (token, after) →
+    ReadsAs (value_of read) (Err memory_error)
 read_unkept token after read given = is_wanting (value_of read) token (ap value_of given)
 
 -- the parts were read, and the token is that of these parts
-pub read_kept : {T : Type 0} (token seen : T) (after : List ℕ) (read : Read T) → read ≡ Ok (seen, after) → token ≡ seen → ReadsAs (value_of read) (Ok token)
+pub read_kept : {T : Type 0} (token seen : T) (after : List ℕ) (read : Read T) → read ≡ Ok (seen, after) → token ≡ seen →
+    ReadsAs (value_of read) (Ok token)
 read_kept token seen after read given same = is_token (value_of read) token (ap value_of given ∙ ap Some (sym same))

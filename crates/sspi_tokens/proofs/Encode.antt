@@ -22,14 +22,17 @@ refused tag content lt = subst (λ text. WritesAs text (Err too_long)) (sym (who
 pub unwritten : (tag : ℕ) (content : List ℕ) → length content ≤ max_content → WritesAs (whole tag content) (Err memory_error)
 unwritten tag content le = subst (λ text. WritesAs text (Err memory_error)) (sym (whole_some tag content le)) refl
 
-pub written : (tag : ℕ) (content : List ℕ) (bytes : Vec ℕ) → length content ≤ max_content → bytes.items ≡ element tag content → WritesAs (whole tag content) (Ok bytes)
+pub written : (tag : ℕ) (content : List ℕ) (bytes : Vec ℕ) → length content ≤ max_content → bytes.items ≡ element tag content →
+    WritesAs (whole tag content) (Ok bytes)
 written tag content bytes le is = subst (λ text. WritesAs text (Ok bytes)) (sym (whole_some tag content le)) is
 
 -- a spelling that is there
-pub whole_is : (tag : ℕ) (content text : List ℕ) → whole tag content ≡ Some text → (length content ≤ max_content) × (text ≡ element tag content)
+pub whole_is : (tag : ℕ) (content text : List ℕ) → whole tag content ≡ Some text → (length content ≤ max_content)
+    × (text ≡ element tag content)
 unfolding whole
 whole_is tag content text e =
-    (elim (leb (length content) max_content) as (λ b. leb (length content) max_content ≡ b → cond b (Some (element tag content)) None ≡ Some text → (length content ≤ max_content) × (text ≡ element tag content)) [
+    (elim (leb (length content) max_content) as (λ b. leb (length content) max_content ≡ b →
+    cond b (Some (element tag content)) None ≡ Some text → (length content ≤ max_content) × (text ≡ element tag content)) [
       | true ↦ λ at is. (leb-true (length content) max_content at, cc)
       | false ↦ λ at is. absurd cc
     ]) refl e

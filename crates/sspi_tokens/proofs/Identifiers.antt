@@ -29,15 +29,27 @@ third_is false false false e = absurd cc
 
 pub ms_kerberos_is : (oid : List ℕ) → (kind_of oid ≡ MsKerberos → oid ≡ ms_krb5) × (oid ≡ ms_krb5 → kind_of oid ≡ MsKerberos)
 unfolding kind_of
-ms_kerberos_is oid = (λ e. (bytes_decides oid ms_krb5).0 (first_is (bytes_eq oid ms_krb5) (bytes_eq oid krb5) (bytes_eq oid ntlm_ssp) e), λ e. ap kind_of e)
+ms_kerberos_is
+    oid = (
+      λ e. (bytes_decides oid ms_krb5).0 (first_is (bytes_eq oid ms_krb5) (bytes_eq oid krb5) (bytes_eq oid ntlm_ssp) e),
+      λ e. ap kind_of e,
+    )
 
 pub kerberos_is : (oid : List ℕ) → (kind_of oid ≡ Kerberos → oid ≡ krb5) × (oid ≡ krb5 → kind_of oid ≡ Kerberos)
 unfolding kind_of
-kerberos_is oid = (λ e. (bytes_decides oid krb5).0 (second_is (bytes_eq oid ms_krb5) (bytes_eq oid krb5) (bytes_eq oid ntlm_ssp) e), λ e. ap kind_of e)
+kerberos_is oid = (
+  λ e. (bytes_decides oid krb5).0 (second_is (bytes_eq oid ms_krb5) (bytes_eq oid krb5) (bytes_eq oid ntlm_ssp)
+      e),
+  λ e. ap kind_of e,
+)
 
 pub ntlm_is : (oid : List ℕ) → (kind_of oid ≡ Ntlm → oid ≡ ntlm_ssp) × (oid ≡ ntlm_ssp → kind_of oid ≡ Ntlm)
 unfolding kind_of
-ntlm_is oid = (λ e. (bytes_decides oid ntlm_ssp).0 (third_is (bytes_eq oid ms_krb5) (bytes_eq oid krb5) (bytes_eq oid ntlm_ssp) e), λ e. ap kind_of e)
+ntlm_is oid = (
+  λ e. (bytes_decides oid ntlm_ssp).0 (third_is (bytes_eq oid ms_krb5) (bytes_eq oid krb5) (bytes_eq oid ntlm_ssp)
+      e),
+  λ e. ap kind_of e,
+)
 
 pub known_is : (kind : MechKind) (oid : List ℕ) → identifier_of kind ≡ Some oid → kind_of oid ≡ kind
 known_is MsKerberos oid e = let same : ms_krb5 ≡ oid = cc in (ms_kerberos_is oid).1 (sym same)

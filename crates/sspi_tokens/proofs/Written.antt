@@ -7,21 +7,27 @@ use Rattle.sspi_ber.proofs.Written.{length-element}
 use Rattle.sspi_tokens.specs.Spelling.{field, result_text, result_code}
 use Rattle.sspi_tokens.specs.Writing.{Put, Puts}
 use Rattle.sspi_tokens.specs.declared.neg_result.NegResult.{NegResult}
-use Rattle.sspi_tokens.proofs.Lengths.{element_size_more}
+use Rattle.sspi_tokens.proofs.Lengths.{element_size_more, sizing}
 
 -- a header, and then the content that it announces
-pub put_around : {before mid after : List ℕ} (tag n : ℕ) (content : List ℕ) → Put before mid (header tag n) → Put mid after content → n ≡ length content → Put before after (element tag content)
+pub put_around : {before mid after : List ℕ} (tag n : ℕ) (content : List ℕ) → Put before mid (header tag n) →
+    Put mid after content → n ≡ length content → Put before after (element tag content)
 unfolding element
 put_around {before} {mid} {after} tag n content first second size = record {
-  appended = second.appended ∙ ap (λ (l : List ℕ). l ++ content) (first.appended ∙ ap (λ (k : ℕ). before ++ header tag k) size) ∙ append_assoc before (header tag (length content)) content;
+  appended = second.appended ∙ ap (λ (l : List ℕ). l ++ content) (first.appended ∙ ap (λ (k : ℕ). before ++ header tag k) size)
+      ∙ append_assoc before (header tag (length content)) content;
 }
 
 -- one text after another
 pub put_then : {before mid after a b : List ℕ} → Put before mid a → Put mid after b → Put before after (a ++ b)
-put_then {before} {mid} {after} {a} {b} first second = record { appended = second.appended ∙ ap (λ (l : List ℕ). l ++ b) first.appended ∙ append_assoc before a b }
+put_then {before} {mid} {after} {a} {b} first second = record {
+  appended = second.appended
+      ∙ ap (λ (l : List ℕ). l ++ b) first.appended ∙ append_assoc before a b;
+}
 
 -- the same with what a writer of the content did
-pub puts_around : {before mid : List ℕ} (after : List ℕ) (tag n : ℕ) (content : List ℕ) (result : Result (Unit {0}) AllocError) → Put before mid (header tag n) → n ≡ length content → Puts mid after result content
+pub puts_around : {before mid : List ℕ} (after : List ℕ) (tag n : ℕ) (content : List ℕ) (result : Result (Unit {0}) AllocError) →
+    Put before mid (header tag n) → n ≡ length content → Puts mid after result content
     → Puts before after result (element tag content)
 puts_around after tag n content (Ok x) first size second = put_around tag n content first second size
 puts_around after tag n content (Err error) first size second = tt
@@ -42,3 +48,5 @@ unfolding result_text
 result_text-is result = refl
 
 pub ruleset putting = (put_then, put_nothing, field-none, field-some, result_text-is, length-element, element_size_more)
+
+pub ruleset sized = (putting, sizing)

@@ -26,7 +26,8 @@ IsOctets tag = IsAround tag (IsWhole 0x04)
 -- MS-SPNG 2.2.1). What stands behind them is not looked at.
 abbrev pub IsInitFields : List ℕ → NegTokenInit → List ℕ → Type 0
 IsInitFields text token following = (flags hints : Option (List ℕ))
-    × InOrder (IsOptional 0xA0 (IsAround 0xA0 IsMechTypes)) (IsOptional 0xA1 (IsWhole 0xA1)) (IsOptional 0xA2 (IsOctets 0xA2)) (IsOptional 0xA3 (IsWhole 0xA3))
+    × InOrder (IsOptional 0xA0 (IsAround 0xA0 IsMechTypes)) (IsOptional 0xA1 (IsWhole 0xA1))
+    (IsOptional 0xA2 (IsOctets 0xA2)) (IsOptional 0xA3 (IsWhole 0xA3))
     text token.mech_types flags token.mech_token hints following
 
 -- the OBJECT IDENTIFIER of SPNEGO, and behind it [0] around the SEQUENCE of the fields
@@ -51,7 +52,8 @@ IsResult text result following = (content : List ℕ) × IsElement 0x0A text con
 -- the fields of NegTokenResp: negState, supportedMech, responseToken, mechListMIC
 abbrev pub IsTargFields : List ℕ → NegTokenTarg → List ℕ → Type 0
 IsTargFields text token following =
-    InOrder (IsOptional 0xA0 (IsAround 0xA0 IsResult)) (IsOptional 0xA1 (IsAround 0xA1 (IsWhole 0x06))) (IsOptional 0xA2 (IsOctets 0xA2)) (IsOptional 0xA3 (IsOctets 0xA3))
+    InOrder (IsOptional 0xA0 (IsAround 0xA0 IsResult)) (IsOptional 0xA1 (IsAround 0xA1 (IsWhole 0x06)))
+    (IsOptional 0xA2 (IsOctets 0xA2)) (IsOptional 0xA3 (IsOctets 0xA3))
     text token.neg_result token.supported_mech token.response_token token.mech_list_mic following
 
 -- [1] around the SEQUENCE of the fields

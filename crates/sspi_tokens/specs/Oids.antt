@@ -22,7 +22,11 @@ ntlm_ssp = 0x2B ∷ 0x06 ∷ 0x01 ∷ 0x04 ∷ 0x01 ∷ 0x82 ∷ 0x37 ∷ 0x02 �
 
 -- the mechanism that these content bytes name
 unfoldable pub kind_of : List ℕ → MechKind
-kind_of oid = if bytes_eq oid ms_krb5 then MsKerberos else if bytes_eq oid krb5 then Kerberos else if bytes_eq oid ntlm_ssp then Ntlm else Other
+kind_of oid =
+    if bytes_eq oid ms_krb5 then MsKerberos
+    else if bytes_eq oid krb5 then Kerberos
+    else if bytes_eq oid ntlm_ssp then Ntlm
+    else Other
 
 -- the identifier of a mechanism
 abbrev pub identifier_of : MechKind → Option (List ℕ)

@@ -30,7 +30,9 @@ optional_at tag element bytes = if is_next tag bytes then (element bytes >>= λ 
 abbrev pub oids_up_to : ℕ → List ℕ → Read (List (List ℕ))
 oids_up_to zero bytes = Ok ([], bytes)
 oids_up_to (suc most) bytes =
-    if is_next 0x06 bytes then (element_at 0x06 bytes >>= λ oid. oids_up_to most oid.1 >>= λ oids. Ok (oid.0 ∷ oids.0, oids.1)) else Ok ([], bytes)
+    if is_next 0x06 bytes
+    then (element_at 0x06 bytes >>= λ oid. oids_up_to most oid.1 >>= λ oids. Ok (oid.0 ∷ oids.0, oids.1))
+    else Ok ([], bytes)
 
 -- each takes a byte at least
 unfoldable pub oids_at : List ℕ → Read (List (List ℕ))
@@ -69,7 +71,15 @@ targ_fields_at bytes = do
   supported_mech ← optional_at 0xA1 (around_at 0xA1 (element_at 0x06)) neg_result.1
   response_token ← octets_at 0xA2 supported_mech.1
   mech_list_mic ← octets_at 0xA3 response_token.1
-  Ok (record { neg_result = neg_result.0; supported_mech = supported_mech.0; response_token = response_token.0; mech_list_mic = mech_list_mic.0 }, mech_list_mic.1)
+  Ok (
+    record {
+      neg_result = neg_result.0;
+      supported_mech = supported_mech.0;
+      response_token = response_token.0;
+      mech_list_mic = mech_list_mic.0;
+    },
+    mech_list_mic.1,
+  )
 
 unfoldable pub targ_at : List ℕ → Read NegTokenTarg
 targ_at bytes = around_at 0xA1 (around_at 0x30 targ_fields_at) bytes

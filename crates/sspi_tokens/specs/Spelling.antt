@@ -48,7 +48,8 @@ unfoldable pub result_text : NegResult → List ℕ
 result_text result = element 0x0A (result_code result ∷ [])
 
 unfoldable pub octet_fields : NegTokenTarg → List ℕ
-octet_fields token = field 0xA2 (option_map (element 0x04) token.response_token) ++ field 0xA3 (option_map (element 0x04) token.mech_list_mic)
+octet_fields token =
+    field 0xA2 (option_map (element 0x04) token.response_token) ++ field 0xA3 (option_map (element 0x04) token.mech_list_mic)
 
 unfoldable pub last_fields : NegTokenTarg → List ℕ
 last_fields token = field 0xA1 (option_map (element 0x06) token.supported_mech) ++ octet_fields token

@@ -5,7 +5,8 @@ ghost use Rattle.std.specs.Option.{option_copied, option_map};
 ghost use Rattle.sspi_ber.specs.Outside.{Gives, NeedsNoMemory};
 ghost use Rattle.sspi_ber.specs.Pieces.{element_at};
 ghost use Rattle.sspi_tokens.specs.Parts.{oids_in, init_seen, targ_seen};
-ghost use Rattle.sspi_tokens.specs.Reading.{is_next, around_at, optional_at, oids_at, mech_types_at, octets_at, result_at, init_fields_at, init_content_at, init_at, targ_fields_at, targ_at};
+ghost use Rattle.sspi_tokens.specs.Reading.{is_next, around_at, optional_at, oids_at, mech_types_at, octets_at, result_at};
+ghost use Rattle.sspi_tokens.specs.Reading.{init_fields_at, init_content_at, init_at, targ_fields_at, targ_at};
 
 use crate::neg_result::NegResult;
 use crate::oid::SPNEGO;

@@ -2,7 +2,8 @@ ghost use Rattle.std.specs.Prelude.{◌≡◌, ◌+◌, ◌≤◌, ◌++◌, len
 ghost use Rattle.std.specs.Option.{option_map};
 ghost use Rattle.sspi_ber.specs.Limit.{max_content};
 ghost use Rattle.sspi_ber.specs.Short.{header, element, element_size};
-ghost use Rattle.sspi_tokens.specs.Spelling.{field, oids_text, mech_types_text, result_text, init_fields, init_content, octet_fields, last_fields, targ_fields, targ_content};
+ghost use Rattle.sspi_tokens.specs.Spelling.{field, oids_text, mech_types_text, result_text, init_fields};
+ghost use Rattle.sspi_tokens.specs.Spelling.{init_content, octet_fields, last_fields, targ_fields, targ_content};
 ghost use Rattle.sspi_tokens.specs.Writing.{list_length, IsInitLengths, Puts};
 
 use crate::mech_type_list::MechTypeList;
@@ -227,7 +228,7 @@ fn put_targ_fields(sink: &mut VecSink, token: &NegTokenTarg) -> Result<(), Alloc
 }
 
 /// The SEQUENCE of the fields, which have this length.
-#[tactic(auto, using(crate::proofs::Written::putting, crate::proofs::Lengths::sizing), unfolding(crate::specs::Spelling::targ_content, sspi_ber::specs::Short::element))]
+#[tactic(auto, using(crate::proofs::Written::sized), unfolding(crate::specs::Spelling::targ_content, sspi_ber::specs::Short::element))]
 fn put_targ_content(
     sink: &mut VecSink,
     token: &NegTokenTarg,

@@ -1,10 +1,10 @@
 -- The sizes of TSCredentials.
-use Rattle.std.proofs.Common.{◌≡◌, ℕ, ◌+◌, ◌<◌, ◌≤◌, List, [], ◌++◌, true, false, leb, Ok, Err, length, refl, sym, ap, ◌∙◌, arith}
+use Rattle.std.proofs.Common.{◌≡◌, ℕ, ◌+◌, ◌<◌, ◌≤◌, List, [], ◌∷◌, ◌++◌, true, false, leb, Ok, Err, length, refl, sym, ap, ◌∙◌, arith}
 use Rattle.std.proofs.lemmas.Bool.{le-leb, lt-leb}
 use Rattle.std.proofs.lemmas.List.{length-append}
 use Rattle.sspi_ber.specs.Limit.{max_content}
 use Rattle.sspi_ber.specs.Short.{element, element_size, header, len_short, int_short, int_content}
-use Rattle.sspi_ber.proofs.Written.{length-element, size_above}
+use Rattle.sspi_ber.proofs.Written.{length-header, length-element, size_above, wrote_then, front_then, front_more, wrote_nothing}
 use Rattle.sspi_tsreq.specs.Creds.{wrapped_octets, password_fields, password_type_field, creds_body, spelled_if_fits, too_long}
 use Rattle.sspi_tsreq.specs.CredsSizes.{password_fields_size, body_size, FitTexts}
 use Rattle.sspi_tsreq.specs.Size.{IsCapped}
@@ -27,9 +27,13 @@ length-password_fields domain user password =
       length-wrapped_octets 0xA2 password,
     )
 
-length-password_type_field : length password_type_field ≡ 5
+-- the bytes that say that the credentials are a password
+pub password_type_bytes : password_type_field ≡ 0xA0 ∷ 3 ∷ 2 ∷ 1 ∷ 1 ∷ []
 unfolding password_type_field element header len_short int_short int_content
-length-password_type_field = refl
+password_type_bytes = refl
+
+length-password_type_field : length password_type_field ≡ 5
+length-password_type_field = ap length password_type_bytes
 
 pub length-creds_body : (domain user password : List ℕ) → length (creds_body domain user password) ≡ body_size (length domain)
     (length user) (length password)
@@ -88,6 +92,11 @@ pub sequence_length : (domain user password : List ℕ) → element_size (length
 sequence_length domain user password = sym (length-element 0x30 (password_fields domain user password))
 
 pub ruleset sequence = (sequence_length, length-password_fields)
+
+-- what is written behind what was written
+pub ruleset writing = (wrote_then, front_then, front_more, wrote_nothing)
+
+pub ruleset sized_writing = (wrote_then, front_then, front_more, wrote_nothing, length-header, length-element)
 
 -- ---- what fits is spelled
 

@@ -98,3 +98,5 @@ pub header_begins : (before mid : Option (List ℕ)) (n : ℕ) → Reads {X = �
     IfSome before BeginsSequence
 header_begins None mid n h = tt
 header_begins (Some text) mid n h = header_read text mid n (header_at 0x30 text) refl h
+
+pub ruleset late = (spelled_unwanted, type_unwanted, texts_late)

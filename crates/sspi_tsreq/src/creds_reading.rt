@@ -78,7 +78,7 @@ struct Passwords<'a> {
 }
 
 /// The buffers inside TSCredentials.
-#[tactic(auto, using(crate::proofs::Unwanted::spelled_unwanted, crate::proofs::Unwanted::type_unwanted, crate::proofs::Unwanted::texts_late), unfolding(crate::specs::Creds::creds_in))]
+#[tactic(auto, using(crate::proofs::Unwanted::late), unfolding(crate::specs::Creds::creds_in))]
 fn read_creds(alloc: Global, body: &[u8]) -> Result<CredentialsBuffers, Error>
     ensures read { IsOrMemory (λ buffers. buffers) result (creds_in body.now) }
     ensures late { IfErr result (λ error. error ≡ memory_error → IsLate (creds_in body.now)) }

@@ -145,7 +145,7 @@ fn write_body<W: Sink>(sink: &mut W, texts: &Texts<'_>) -> Result<(), WireKind>
 }
 
 /// The field that says that the credentials are a password.
-#[tactic(auto, unfolding(crate::specs::Creds::password_type_field, sspi_ber::specs::Short::element, sspi_ber::specs::Short::header, sspi_ber::specs::Short::len_short, sspi_ber::specs::Short::int_short, sspi_ber::specs::Short::int_content))]
+#[tactic(auto, using(crate::proofs::Room::password_type_bytes))]
 fn write_password_type<W: Sink>(sink: &mut W) -> Result<(), WireKind>
     ensures wrote { Writes (W.written sink.old) (W.written sink.new) result password_type_field }
     ensures cause { WriteCause (W.faults sink.old) (W.faults sink.new) result }
@@ -190,7 +190,7 @@ fn write_password_creds<W: Sink>(sink: &mut W, texts: &Texts<'_>) -> Result<(), 
 }
 
 /// The three texts.
-#[tactic(auto, using(sspi_ber::proofs::Written::writing), unfolding(crate::specs::Creds::password_fields, crate::specs::Creds::wrapped_octets))]
+#[tactic(auto, using(crate::proofs::Room::writing), unfolding(crate::specs::Creds::password_fields, crate::specs::Creds::wrapped_octets))]
 fn write_password_fields<W: Sink>(sink: &mut W, texts: &Texts<'_>) -> Result<(), WireKind>
     requires { FitTexts (length texts.now.domain.now) (length texts.now.user.now) (length texts.now.password.now) }
     ensures wrote { Writes (W.written sink.old) (W.written sink.new) result

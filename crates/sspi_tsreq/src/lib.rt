@@ -14,7 +14,8 @@
 //! `ending.rt` says what a content is that ends. `specs/Feeding.antt` says which bytes a reader stands for.
 //!
 //! `request.rt` has the message with its calls, `reading.rt` and `writing.rt` what stands behind them, one function for each
-//! field and for what follows it. What is in one piece is read without memory; `parts.rt` copies what was found whole. `specs/Reading.antt` has the same chain on lists, and `specs/Spelling.antt` the spelling.
+//! field and for what follows it. What is in one piece is read without memory; `parts.rt` copies what was found whole.
+//! `specs/Reading.antt` has the same chain on lists, and `specs/Spelling.antt` the spelling.
 #![tactic(auto)]
 
 mod block;

@@ -38,7 +38,7 @@ fn write_octets_field<W: Sink>(sink: &mut W, tag: u8, field: &Option<Bytes>) -> 
 }
 
 /// A SEQUENCE with the token in [0].
-#[tactic(auto, using(sspi_ber::proofs::Written::writing, sspi_ber::proofs::Written::lengths), unfolding(crate::specs::Spelling::token_item, sspi_ber::specs::Short::element))]
+#[tactic(auto, using(crate::proofs::Room::sized_writing), unfolding(crate::specs::Spelling::token_item, sspi_ber::specs::Short::element))]
 fn write_token_item<W: Sink>(sink: &mut W, token: &[u8]) -> Result<(), WireKind>
     requires { IsTokenSize (length token.now) }
     ensures wrote { Writes (W.written sink.old) (W.written sink.new) result (token_item token.now) }

@@ -86,7 +86,8 @@ joined kind high small =
     (λ i. bit_or (left i) (right i)) ∙ or_block 28 0 high kind 0 small (omega arith) ∙ omega (arith, or_zero_l high, or_zero_r kind)
 
 -- a type up to 18 and named flags are read from the number that they make
-pub parts_of_joined : (kind flags : ℕ) → kind ≤ 18 → bit_and flags 0x90000000 ≡ flags → IsBufferTypeNumber (bit_or kind flags) × (type_bits (bit_or kind flags) ≡ kind) × (flag_bits (bit_or kind flags) ≡ flags)
+pub parts_of_joined : (kind flags : ℕ) → kind ≤ 18 → bit_and flags 0x90000000 ≡ flags → IsBufferTypeNumber (bit_or kind flags)
+    × (type_bits (bit_or kind flags) ≡ kind) × (flag_bits (bit_or kind flags) ≡ flags)
 parts_of_joined kind flags low only =
     let high = bit_and (flags / 2 ^ 28) 9 in
     let named : flags ≡ high * 2 ^ 28 = sym only ∙ high_bits flags 9 in

@@ -1,5 +1,6 @@
 -- The element at the place that a test first passes at is the one that a search finds.
-use Rattle.std.proofs.Common.{◌≡◌, ◌∙◌, ◌<◌, ◌≤◌, ℕ, Bool, true, false, cond, ltb, Some, None, List, length, get_or, position, sym, ap, refl, arith, tests}
+use Rattle.std.proofs.Common.{◌≡◌, ◌∙◌, ◌<◌, ◌≤◌, ℕ, Bool, true, false, cond, ltb, Some, None}
+use Rattle.std.proofs.Common.{List, length, get_or, position, sym, ap, refl, arith, tests}
 use Rattle.std.proofs.lemmas.List.Folds.{find_at}
 use Rattle.std.proofs.lemmas.Option.{slice_get_read, slice_get_past}
 use Rattle.std.specs.List.{find, position_or_len, slice_get}
@@ -12,7 +13,8 @@ passed_over : (test : Bool) (n : ℕ) → None ≡ cond test (Some n) None → t
 passed_over true n e = cc
 passed_over false n e = refl
 
-pub found_at : {X : Type 0} (p : X → Bool) (xs : List X) (place : ℕ) (x : X) → Some place ≡ position p xs → x ≡ get_or xs place x → find p xs ≡ Some x
+pub found_at : {X : Type 0} (p : X → Bool) (xs : List X) (place : ℕ) (x : X) → Some place ≡ position p xs →
+    x ≡ get_or xs place x → find p xs ≡ Some x
 found_at p xs place x at read =
     let h = chosen (ltb (position_or_len p xs) (length xs)) (position_or_len p xs) place at in
     let inside : place < length xs = search (tests, arith) in

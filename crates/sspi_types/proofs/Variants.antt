@@ -1,5 +1,6 @@
 -- An enum without fields whose variants have numbers: that no two numbers are equal is computed once, from the table.
-use Rattle.std.proofs.Common.{◌≡◌, ℕ, suc, Bool, true, false, ◌&&◌, cond, eqb, eq-eqb, T, List, [], ◌∷◌, inl, inr, refl, sym, ◌∙◌, ap, subst}
+use Rattle.std.proofs.Common.{◌≡◌, ℕ, suc, Bool, true, false, ◌&&◌, cond, eqb, eq-eqb}
+use Rattle.std.proofs.Common.{T, List, [], ◌∷◌, inl, inr, refl, sym, ◌∙◌, ap, subst}
 use lib.Dec.{eqb→eq}
 use denote.Struct.Field.{Field}
 use denote.Enum.Bare.{Bare, sameb, same_true, true_same}
@@ -73,7 +74,8 @@ agree false true f g = g refl
 agree false false f g = refl
 
 -- `==` at the enum compares the numbers
-pub same_test : (N : Record) → Bare N.parts → (number : N.D → ℕ) → are_apart N number ≡ true → (a b : N.D) → sameb (declared N) a b ≡ eqb (number a) (number b)
+pub same_test : (N : Record) → Bare N.parts → (number : N.D → ℕ) → are_apart N number ≡ true → (a b : N.D) →
+    sameb (declared N) a b ≡ eqb (number a) (number b)
 same_test N bare number apart a b =
     agree (sameb (declared N) a b) (eqb (number a) (number b))
     (λ h. eq-eqb _ _ (ap number (same_true (declared N) bare a b h)))

@@ -1,6 +1,29 @@
 use Rattle.std.specs.Prelude.{ℕ}
 use Rattle.sspi_types.specs.declared.buffer_type.BufferType.{BufferType}
-use Rattle.sspi_types.specs.declared.buffer_type.BufferType.TheVariants.{Empty, Data, Token, TransportToPackageParameters, Missing, Extra, StreamTrailer, StreamHeader, NegotiationInfo, Padding, Stream, ObjectIdsList, ObjectIdsListSignature, Target, ChannelBindings, ChangePasswordResponse, TargetHost, Alert, ApplicationProtocol, AttributeMark, ReadOnly, ReadOnlyWithChecksum}
+use Rattle.sspi_types.specs.declared.buffer_type.BufferType.TheVariants.{
+  Empty,
+  Data,
+  Token,
+  TransportToPackageParameters,
+  Missing,
+  Extra,
+  StreamTrailer,
+  StreamHeader,
+  NegotiationInfo,
+  Padding,
+  Stream,
+  ObjectIdsList,
+  ObjectIdsListSignature,
+  Target,
+  ChannelBindings,
+  ChangePasswordResponse,
+  TargetHost,
+  Alert,
+  ApplicationProtocol,
+  AttributeMark,
+  ReadOnly,
+  ReadOnlyWithChecksum,
+}
 
 -- the number of each type (sspi.h, SECBUFFER_*)
 abbrev pub buffer_type_number : BufferType → ℕ

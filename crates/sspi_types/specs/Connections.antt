@@ -1,8 +1,24 @@
 use Rattle.std.specs.Prelude.{ℕ}
 use Rattle.sspi_types.specs.declared.connection.ConnectionProtocol.{ConnectionProtocol}
-use Rattle.sspi_types.specs.declared.connection.ConnectionProtocol.TheVariants.{SpProtTls1Client, SpProtTls1Server, SpProtSsl3Client, SpProtSsl3Server, SpProtTls1_1Client, SpProtTls1_1Server, SpProtTls1_2Client, SpProtTls1_2Server, SpProtTls1_3Client, SpProtTls1_3Server, SpProtPct1Client, SpProtPct1Server, SpProtSsl2Client, SpProtSsl2Server}
+use Rattle.sspi_types.specs.declared.connection.ConnectionProtocol.TheVariants.{
+  SpProtTls1Client,
+  SpProtTls1Server,
+  SpProtSsl3Client,
+  SpProtSsl3Server,
+  SpProtTls1_1Client,
+  SpProtTls1_1Server,
+  SpProtTls1_2Client,
+  SpProtTls1_2Server,
+  SpProtTls1_3Client,
+  SpProtTls1_3Server,
+  SpProtPct1Client,
+  SpProtPct1Server,
+  SpProtSsl2Client,
+  SpProtSsl2Server,
+}
 use Rattle.sspi_types.specs.declared.connection.ConnectionCipher.{ConnectionCipher}
-use Rattle.sspi_types.specs.declared.connection.ConnectionCipher.TheVariants.{Calg3des, CalgAes128, CalgAes256, CalgDes, CalgRc2, CalgRc4, NoEncryption}
+use Rattle.sspi_types.specs.declared.connection.ConnectionCipher.TheVariants.{Calg3des, CalgAes128, CalgAes256, CalgDes}
+use Rattle.sspi_types.specs.declared.connection.ConnectionCipher.TheVariants.{CalgRc2, CalgRc4, NoEncryption}
 use Rattle.sspi_types.specs.declared.connection.ConnectionHash.{ConnectionHash}
 use Rattle.sspi_types.specs.declared.connection.ConnectionHash.TheVariants.{CalgMd5, CalgSha}
 use Rattle.sspi_types.specs.declared.connection.ConnectionKeyExchange.{ConnectionKeyExchange}

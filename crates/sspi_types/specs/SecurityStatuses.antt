@@ -1,6 +1,8 @@
 use Rattle.std.specs.Prelude.{ℕ}
 use Rattle.sspi_types.specs.declared.security_status.SecurityStatus.{SecurityStatus}
-use Rattle.sspi_types.specs.declared.security_status.SecurityStatus.TheVariants.{Ok, ContinueNeeded, CompleteNeeded, CompleteAndContinue, LocalLogon, ContextExpired, IncompleteCredentials, Renegotiate, NoLsaContext}
+use Rattle.sspi_types.specs.declared.security_status.SecurityStatus.TheVariants.{Ok, ContinueNeeded, CompleteNeeded}
+use Rattle.sspi_types.specs.declared.security_status.SecurityStatus.TheVariants.{CompleteAndContinue, LocalLogon, ContextExpired}
+use Rattle.sspi_types.specs.declared.security_status.SecurityStatus.TheVariants.{IncompleteCredentials, Renegotiate, NoLsaContext}
 
 -- the number of each status (winerror.h, SECURITY_STATUS codes that are no errors)
 abbrev pub security_status_number : SecurityStatus → ℕ

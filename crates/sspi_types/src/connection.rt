@@ -1,5 +1,6 @@
 ghost use Rattle.std.specs.Prelude.{◌≡◌};
-ghost use Rattle.sspi_types.specs.Connections.{connection_protocol_number, connection_cipher_number, connection_hash_number, connection_key_exchange_number};
+ghost use Rattle.sspi_types.specs.Connections.{connection_protocol_number, connection_cipher_number};
+ghost use Rattle.sspi_types.specs.Connections.{connection_hash_number, connection_key_exchange_number};
 ghost use Rattle.sspi_types.specs.Numbers.{ReadsNumber};
 
 /// The protocol of a connection (`dwProtocol` of SecPkgContext_ConnectionInfo).

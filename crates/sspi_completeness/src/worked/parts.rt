@@ -5,7 +5,8 @@ ghost use Rattle.sspi_names.specs.Name.{parse_name};
 ghost use Rattle.sspi_names.specs.declared.kdc_table.KdcEntry.{KdcEntry};
 ghost use Rattle.sspi_negotiate.specs.declared.protocol_config.ProtocolConfig.{ProtocolConfig};
 ghost use Rattle.sspi_completeness.specs.Worked.{ann, ann_of_realm, client_ntlm, server_ntlm, realm_table, negotiation};
-ghost use Rattle.sspi_completeness.specs.Worked.{with_ntlm, with_kerberos, with_ticket, with_ntlm_alone, computer, realm_kerberos, realm_kdc};
+ghost use Rattle.sspi_completeness.specs.Worked.{with_ntlm, with_kerberos, with_ticket, with_ntlm_alone};
+ghost use Rattle.sspi_completeness.specs.Worked.{computer, realm_kerberos, realm_kdc};
 
 use crate::worked::ends::{alone, pair};
 use sspi_credssp::{ClientMode, ServerMode};

@@ -93,16 +93,18 @@ impl<const TIMES: u32> Mechanism for Asks<TIMES> {
       made = λ _ m. (m.left ≡ TIMES) × (m.sealed ≡ 0) × (m.unsealed ≡ 0) × (m.signed ≡ 0) × (m.verified ≡ 0);
       unmade = λ _ _. ⊥;
       acquires = λ m _ _ _ m2. m2 ≡ m;
-      steps = λ m _ answer m2. (m2 ≡ record m { left = m2.left; waiting = m2.waiting }) × (m2.left ≤ m.left) × elim answer as (λ _. Type 0) [
-        | answers.Done _ ↦ m2.waiting ≡ false
-        | answers.Ask _ ↦ (m2.left < m.left) × (m2.waiting ≡ true)
-        | answers.Refused _ ↦ m2 ≡ m
-      ];
-      resumes = λ m _ answer m2. (m2 ≡ record m { left = m2.left; waiting = m2.waiting }) × (m2.left ≤ m.left) × elim answer as (λ _. Type 0) [
-        | answers.Done _ ↦ m2.waiting ≡ false
-        | answers.Ask _ ↦ (m2.left < m.left) × (m2.waiting ≡ true)
-        | answers.Refused _ ↦ m2 ≡ m
-      ];
+      steps = λ m _ answer m2. (m2 ≡ record m { left = m2.left; waiting = m2.waiting }) × (m2.left ≤ m.left)
+          × elim answer as (λ _. Type 0) [
+            | answers.Done _ ↦ m2.waiting ≡ false
+            | answers.Ask _ ↦ (m2.left < m.left) × (m2.waiting ≡ true)
+            | answers.Refused _ ↦ m2 ≡ m
+          ];
+      resumes = λ m _ answer m2. (m2 ≡ record m { left = m2.left; waiting = m2.waiting }) × (m2.left ≤ m.left)
+          × elim answer as (λ _. Type 0) [
+            | answers.Done _ ↦ m2.waiting ≡ false
+            | answers.Ask _ ↦ (m2.left < m.left) × (m2.waiting ≡ true)
+            | answers.Refused _ ↦ m2 ≡ m
+          ];
       accepts = λ m _ answer m2. (m2 ≡ record m { peer = m2.peer }) × OnOk answer (m2.waiting ≡ false) × OnErr answer (m2 ≡ m);
       identifies = λ m _ m2. m2 ≡ m;
       names = λ m. m.peer;

@@ -66,7 +66,8 @@ returns-else-are_counted-clause-judges c =
     let all = all_past c.args.turns.now c.loop-place.place c.loop-place-test.false in
     let whole = all_past c.args.turns.now (length c.args.turns.now) (omega arith) in (
       record {
-        before = subst (λ (l : List Turn). EachShown c.args.log.now l) (sym whole) (subst (λ (l : List Turn). EachShown c.args.log.now l) all
+        before = subst (λ (l : List Turn). EachShown c.args.log.now l) (sym whole)
+            (subst (λ (l : List Turn). EachShown c.args.log.now l) all
             at.each);
         at = subst (λ (t : Option Turn). IsFaulty c.args.turns.now c.args.log.now (length c.args.turns.now) t)
             (sym (slice_get_past c.args.turns.now (length c.args.turns.now) (omega arith))) (refl, not);

@@ -8,5 +8,6 @@ exchange-requires c = rw realm_parsed refl
 
 pub returns : goal.returns
 returns c =
-    c.exchange.ensures given_up_for_ntlm 5 refl realm_parsed refl refl refl refl refl c.client_with_kerberos-client.ensures c.server_with_ntlm_alone-server.ensures
+    c.exchange.ensures given_up_for_ntlm 5 refl realm_parsed refl refl refl refl refl c.client_with_kerberos-client.ensures
+    c.server_with_ntlm_alone-server.ensures
     (given_up_by c.realm_kdc.result c.realm_kdc.ensures)

@@ -8,5 +8,6 @@ exchange-requires c = rw ann_parsed refl
 
 pub returns : goal.returns
 returns c =
-    c.exchange.ensures negotiated_at_version_4 4 refl ann_parsed refl refl refl refl refl c.client_with_ntlm-client.ensures c.server_with_ntlm-server.ensures
+    c.exchange.ensures negotiated_at_version_4 4 refl ann_parsed refl refl refl refl refl c.client_with_ntlm-client.ensures
+    c.server_with_ntlm-server.ensures
     (version_4_matches _ _)

@@ -8,5 +8,6 @@ exchange-requires c = rw realm_parsed refl
 
 pub returns : goal.returns
 returns c =
-    c.exchange.ensures negotiated_with_a_long_key 4 refl realm_parsed refl refl refl refl refl c.client_with_ntlm-client.ensures c.server_with_ntlm-server.ensures
+    c.exchange.ensures negotiated_with_a_long_key 4 refl realm_parsed refl refl refl refl refl c.client_with_ntlm-client.ensures
+    c.server_with_ntlm-server.ensures
     (long_key_matches _ _)

@@ -8,5 +8,6 @@ exchange-requires c = rw realm_parsed refl
 
 pub returns : goal.returns
 returns c =
-    c.exchange.ensures user_to_user 4 refl realm_parsed refl refl refl refl refl c.client_with_kerberos-client.ensures c.server_with_ticket-server.ensures
+    c.exchange.ensures user_to_user 4 refl realm_parsed refl refl refl refl refl c.client_with_kerberos-client.ensures
+    c.server_with_ticket-server.ensures
     (user_to_user_by c.realm_kdc.result c.realm_kdc.ensures)

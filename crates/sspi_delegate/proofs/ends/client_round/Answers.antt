@@ -54,8 +54,10 @@ returns-in-Answered-FinalMessage-clause-made g c =
     client_alone (either g.N.Mechanism.REQUESTS g.N.Mechanism.meaning g.K.Mechanism.meaning)
     (kdc_calls g.D.Kdc.told g.D.Kdc.asked g.D.Kdc.faults)
     c.args.client.now c.finish_turn.new.client c.record_client-in-Answered-FinalMessage.new.client c.args.kdc.now c.finish_turn.new.kdc
-    c.args.request (outcome.Final c.in-Answered-FinalMessage.reply) c.args.transcript.now.turns c.record_client-in-Answered-FinalMessage.new.transcript.turns
-    (rw c.in-Answered-FinalMessage.field-0-is at c.in-Answered-FinalMessage.ensures.turn) c.record_client-in-Answered-FinalMessage.ensures.rest
+    c.args.request (outcome.Final c.in-Answered-FinalMessage.reply) c.args.transcript.now.turns
+    c.record_client-in-Answered-FinalMessage.new.transcript.turns
+    (rw c.in-Answered-FinalMessage.field-0-is at c.in-Answered-FinalMessage.ensures.turn)
+    c.record_client-in-Answered-FinalMessage.ensures.rest
     (rw (← c.in-Ok.ensures.turns, ← c.in-Ok-clone.ensures) c.record_client-in-Answered-FinalMessage.ensures.turn)
 
 pub returns-in-Refused-clause-made : goal.returns-in-Refused-clause-made

@@ -1,7 +1,8 @@
 use Rattle.sspi_credssp.specs.Context.{either}
 use Rattle.sspi_delegate.proofs.Recording.{refusal_pushed}
 use Rattle.sspi_credssp.specs.declared.turn.Outcome.TheVariants as outcome
-use Rattle.sspi_delegate.proofs.Histories.{server_made, server_gave, server_stopped, server_refuses, server_alone, server_gave_alone, server_stopped_alone}
+use Rattle.sspi_delegate.proofs.Histories.{server_made, server_gave, server_stopped, server_refuses}
+use Rattle.sspi_delegate.proofs.Histories.{server_alone, server_gave_alone, server_stopped_alone}
 use Rattle.sspi_delegate.proofs.ends.server_round.Goals as goal
 
 pub returns-in-Err-clause-turn : goal.returns-in-Err-clause-turn
@@ -9,17 +10,28 @@ returns-in-Err-clause-turn g c =
     refusal_pushed (either g.N.Mechanism.REQUESTS g.N.Mechanism.meaning g.K.Mechanism.meaning) c.args.server.now c.process-answered.new.self
     c.args.request
     c.in-Err.field-0.error.error_type c.in-Err.field-0.ts_request c.args.transcript.now.turns c.record-in-Err.new.self.turns
-    c.in-Err.ensures.turn (rw (← c.in-Ok.ensures.turns, ← c.in-Ok-clone.ensures, ← c.last_acts-acts.ensures, ← c.take_output-output.ensures.output)
+    c.in-Err.ensures.turn (rw (
+      ← c.in-Ok.ensures.turns,
+      ← c.in-Ok-clone.ensures,
+      ← c.last_acts-acts.ensures,
+      ← c.take_output-output.ensures.output,
+    )
     c.record-in-Err.ensures)
 
 pub returns-in-Ok-ReplyNeeded-clause-server_history : goal.returns-in-Ok-ReplyNeeded-clause-server_history
 returns-in-Ok-ReplyNeeded-clause-server_history g c first history =
     server_made (either g.N.Mechanism.REQUESTS g.N.Mechanism.meaning g.K.Mechanism.meaning) g.C.CredentialsProxy.meaning
-    first c.args.server.now c.process-answered.new.self c.take_output-output.new.self c.args.request (outcome.Reply c.in-Ok-ReplyNeeded.reply)
+    first c.args.server.now c.process-answered.new.self c.take_output-output.new.self c.args.request
+    (outcome.Reply c.in-Ok-ReplyNeeded.reply)
     c.args.transcript.now.turns c.record.new.self.turns history
     (rw c.in-Ok-ReplyNeeded.field-0-is at c.in-Ok-ReplyNeeded.ensures.turn, c.in-Ok-ReplyNeeded.ensures.step)
     c.in-Ok-ReplyNeeded.ensures.kept.made c.in-Ok-ReplyNeeded.ensures.proxy.at_most c.in-Ok-ReplyNeeded.ensures.proxy.exactly
-    c.take_output-output.ensures.rest (rw (← c.in-Ok.ensures.turns, ← c.in-Ok-clone.ensures, ← c.last_acts-acts.ensures, ← c.take_output-output.ensures.output)
+    c.take_output-output.ensures.rest (rw (
+      ← c.in-Ok.ensures.turns,
+      ← c.in-Ok-clone.ensures,
+      ← c.last_acts-acts.ensures,
+      ← c.take_output-output.ensures.output,
+    )
     c.record.ensures)
 
 pub returns-in-Ok-Finished-clause-server_history : goal.returns-in-Ok-Finished-clause-server_history
@@ -29,7 +41,12 @@ returns-in-Ok-Finished-clause-server_history g c first history =
     c.args.transcript.now.turns c.record-in-Ok-Finished.new.self.turns history
     (rw c.in-Ok-Finished.field-0-is at c.in-Ok-Finished.ensures.turn) c.in-Ok-Finished.ensures.step
     c.in-Ok-Finished.ensures.kept.made c.in-Ok-Finished.ensures.proxy.at_most c.in-Ok-Finished.ensures.proxy.exactly
-    c.take_output-output.ensures.rest (rw (← c.in-Ok.ensures.turns, ← c.in-Ok-clone.ensures, ← c.last_acts-acts.ensures, ← c.take_output-output.ensures.output)
+    c.take_output-output.ensures.rest (rw (
+      ← c.in-Ok.ensures.turns,
+      ← c.in-Ok-clone.ensures,
+      ← c.last_acts-acts.ensures,
+      ← c.take_output-output.ensures.output,
+    )
     c.record-in-Ok-Finished.ensures)
 
 pub returns-in-Err-clause-server_history : goal.returns-in-Err-clause-server_history
@@ -37,10 +54,16 @@ returns-in-Err-clause-server_history g c first history =
     server_stopped (either g.N.Mechanism.REQUESTS g.N.Mechanism.meaning g.K.Mechanism.meaning) g.C.CredentialsProxy.meaning
     first c.args.server.now c.process-answered.new.self c.take_output-output.new.self c.args.request
     c.in-Err.field-0.error c.in-Err.field-0.ts_request c.args.transcript.now.turns c.record-in-Err.new.self.turns history
-    c.in-Err.ensures.turn (server_refuses (either g.N.Mechanism.REQUESTS g.N.Mechanism.meaning g.K.Mechanism.meaning) g.C.CredentialsProxy.meaning
+    c.in-Err.ensures.turn (server_refuses (either g.N.Mechanism.REQUESTS g.N.Mechanism.meaning g.K.Mechanism.meaning)
+    g.C.CredentialsProxy.meaning
     _ _ c.in-Err.field-0 _ c.in-Err.ensures)
     c.in-Err.ensures.kept.made c.in-Err.ensures.proxy.at_most
-    c.take_output-output.ensures.rest (rw (← c.in-Ok.ensures.turns, ← c.in-Ok-clone.ensures, ← c.last_acts-acts.ensures, ← c.take_output-output.ensures.output)
+    c.take_output-output.ensures.rest (rw (
+      ← c.in-Ok.ensures.turns,
+      ← c.in-Ok-clone.ensures,
+      ← c.last_acts-acts.ensures,
+      ← c.take_output-output.ensures.output,
+    )
     c.record-in-Err.ensures)
 
 pub returns-in-Ok-ReplyNeeded-clause-made : goal.returns-in-Ok-ReplyNeeded-clause-made
@@ -50,7 +73,12 @@ returns-in-Ok-ReplyNeeded-clause-made g c =
     c.args.transcript.now.turns c.record.new.self.turns
     (rw c.in-Ok-ReplyNeeded.field-0-is at c.in-Ok-ReplyNeeded.ensures.turn, c.in-Ok-ReplyNeeded.ensures.step)
     c.in-Ok-ReplyNeeded.ensures.kept.made c.in-Ok-ReplyNeeded.ensures.proxy.at_most c.in-Ok-ReplyNeeded.ensures.proxy.exactly
-    c.take_output-output.ensures.rest (rw (← c.in-Ok.ensures.turns, ← c.in-Ok-clone.ensures, ← c.last_acts-acts.ensures, ← c.take_output-output.ensures.output)
+    c.take_output-output.ensures.rest (rw (
+      ← c.in-Ok.ensures.turns,
+      ← c.in-Ok-clone.ensures,
+      ← c.last_acts-acts.ensures,
+      ← c.take_output-output.ensures.output,
+    )
     c.record.ensures)
 
 pub returns-in-Ok-Finished-clause-made : goal.returns-in-Ok-Finished-clause-made
@@ -60,7 +88,12 @@ returns-in-Ok-Finished-clause-made g c =
     c.args.transcript.now.turns c.record-in-Ok-Finished.new.self.turns
     (rw c.in-Ok-Finished.field-0-is at c.in-Ok-Finished.ensures.turn) c.in-Ok-Finished.ensures.step
     c.in-Ok-Finished.ensures.kept.made c.in-Ok-Finished.ensures.proxy.at_most c.in-Ok-Finished.ensures.proxy.exactly
-    c.take_output-output.ensures.rest (rw (← c.in-Ok.ensures.turns, ← c.in-Ok-clone.ensures, ← c.last_acts-acts.ensures, ← c.take_output-output.ensures.output)
+    c.take_output-output.ensures.rest (rw (
+      ← c.in-Ok.ensures.turns,
+      ← c.in-Ok-clone.ensures,
+      ← c.last_acts-acts.ensures,
+      ← c.take_output-output.ensures.output,
+    )
     c.record-in-Ok-Finished.ensures)
 
 pub returns-in-Err-clause-made : goal.returns-in-Err-clause-made
@@ -68,8 +101,14 @@ returns-in-Err-clause-made g c =
     server_stopped_alone (either g.N.Mechanism.REQUESTS g.N.Mechanism.meaning g.K.Mechanism.meaning) g.C.CredentialsProxy.meaning
     c.args.server.now c.process-answered.new.self c.take_output-output.new.self c.args.request
     c.in-Err.field-0.error c.in-Err.field-0.ts_request c.args.transcript.now.turns c.record-in-Err.new.self.turns
-    c.in-Err.ensures.turn (server_refuses (either g.N.Mechanism.REQUESTS g.N.Mechanism.meaning g.K.Mechanism.meaning) g.C.CredentialsProxy.meaning
+    c.in-Err.ensures.turn (server_refuses (either g.N.Mechanism.REQUESTS g.N.Mechanism.meaning g.K.Mechanism.meaning)
+    g.C.CredentialsProxy.meaning
     _ _ c.in-Err.field-0 _ c.in-Err.ensures)
     c.in-Err.ensures.kept.made c.in-Err.ensures.proxy.at_most
-    c.take_output-output.ensures.rest (rw (← c.in-Ok.ensures.turns, ← c.in-Ok-clone.ensures, ← c.last_acts-acts.ensures, ← c.take_output-output.ensures.output)
+    c.take_output-output.ensures.rest (rw (
+      ← c.in-Ok.ensures.turns,
+      ← c.in-Ok-clone.ensures,
+      ← c.last_acts-acts.ensures,
+      ← c.take_output-output.ensures.output,
+    )
     c.record-in-Err.ensures)

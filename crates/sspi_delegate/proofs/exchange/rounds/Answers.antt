@@ -66,13 +66,16 @@ loop-turn-preserved g c = record {
       };
   client_history = λ empty.
       rw c.in_ok-credentials.ensures.client
-      (c.in_ok-client_half.ensures.client_history _ _ (c.loop-turn.invariant.at_turn empty).between.going (c.loop-turn.invariant.client_history empty));
+      (c.in_ok-client_half.ensures.client_history _ _ (c.loop-turn.invariant.at_turn empty).between.going
+      (c.loop-turn.invariant.client_history empty));
   server_history = λ empty.
       rw c.in_default.is at
-      (c.in_ok-credentials.ensures.server_history c.args.server.now (rw c.in_ok-client_half.ensures.server (c.loop-turn.invariant.server_history empty)));
+      (c.in_ok-credentials.ensures.server_history c.args.server.now
+      (rw c.in_ok-client_half.ensures.server (c.loop-turn.invariant.server_history empty)));
   proxy = proxy_on _ _ _ _ c.loop-turn.invariant.proxy c.in_ok-credentials.ensures.proxy;
   kdc = kdc_on _ _ _ _ _ c.loop-turn.invariant.kdc c.in_ok-client_half.ensures.kdc;
-  told = stays_on _ _ _ _ _ _ c.loop-turn.invariant.told (stays_on _ _ _ _ _ _ c.in_ok-client_half.ensures.told c.in_ok-credentials.ensures.told);
+  told = stays_on _ _ _ _ _ _ c.loop-turn.invariant.told
+      (stays_on _ _ _ _ _ _ c.in_ok-client_half.ensures.told c.in_ok-credentials.ensures.told);
   still = still_on _ _ _ _ _ _ _ _ (stays_on _ _ _ _ _ _ c.loop-turn.invariant.told c.in_ok-client_half.ensures.told).same
       (still_on _ _ _ _ _ _ _ _ c.loop-turn.invariant.told.same c.loop-turn.invariant.still c.in_ok-client_half.ensures.still)
       c.in_ok-credentials.ensures.still;
@@ -90,7 +93,8 @@ returns-in_err-client_half-clause-client_history g c empty =
     rw (p.1, p.2)
     (client_half_past (either g.N.Mechanism.REQUESTS g.N.Mechanism.meaning g.K.Mechanism.meaning)
     (kdc_calls g.D.Kdc.told g.D.Kdc.asked g.D.Kdc.faults) _ _ _ _ _ c.in_err-client_half.field-0.0
-    (c.in_err-client_half.ensures.client_history _ _ (c.loop-turn.invariant.at_turn empty).between.going (c.loop-turn.invariant.client_history empty)))
+    (c.in_err-client_half.ensures.client_history _ _ (c.loop-turn.invariant.at_turn empty).between.going
+    (c.loop-turn.invariant.client_history empty)))
 
 pub returns-in_err-client_half-clause-server_history : goal.returns-in_err-client_half-clause-server_history
 returns-in_err-client_half-clause-server_history g c empty =
@@ -99,18 +103,21 @@ returns-in_err-client_half-clause-server_history g c empty =
     (server_beside (either g.N.Mechanism.REQUESTS g.N.Mechanism.meaning g.K.Mechanism.meaning)
     (kdc_calls g.D.Kdc.told g.D.Kdc.asked g.D.Kdc.faults) g.C.CredentialsProxy.meaning
     _ _ _ _ _ c.in_err-client_half.field-0.0 _ _ _
-    (c.in_err-client_half.ensures.client_history _ _ (c.loop-turn.invariant.at_turn empty).between.going (c.loop-turn.invariant.client_history empty))
+    (c.in_err-client_half.ensures.client_history _ _ (c.loop-turn.invariant.at_turn empty).between.going
+    (c.loop-turn.invariant.client_history empty))
     (rw c.in_err-client_half.ensures.server (c.loop-turn.invariant.server_history empty)))
 
 pub returns-in-Some-clause-client_history : goal.returns-in-Some-clause-client_history
 returns-in-Some-clause-client_history g c empty =
     rw c.in_ok-credentials.ensures.client
-    (c.in_ok-client_half.ensures.client_history _ _ (c.loop-turn.invariant.at_turn empty).between.going (c.loop-turn.invariant.client_history empty))
+    (c.in_ok-client_half.ensures.client_history _ _ (c.loop-turn.invariant.at_turn empty).between.going
+    (c.loop-turn.invariant.client_history empty))
 
 pub returns-in-Some-clause-server_history : goal.returns-in-Some-clause-server_history
 returns-in-Some-clause-server_history g c empty =
     rw c.in-Some.is at
-    (c.in_ok-credentials.ensures.server_history c.args.server.now (rw c.in_ok-client_half.ensures.server (c.loop-turn.invariant.server_history empty)))
+    (c.in_ok-credentials.ensures.server_history c.args.server.now
+    (rw c.in_ok-client_half.ensures.server (c.loop-turn.invariant.server_history empty)))
 
 pub returns-in_err-credentials-clause-client_history : goal.returns-in_err-credentials-clause-client_history
 returns-in_err-credentials-clause-client_history g c empty =
@@ -119,9 +126,11 @@ returns-in_err-credentials-clause-client_history g c empty =
     (client_beside (either g.N.Mechanism.REQUESTS g.N.Mechanism.meaning g.K.Mechanism.meaning)
     (kdc_calls g.D.Kdc.told g.D.Kdc.asked g.D.Kdc.faults) g.C.CredentialsProxy.meaning
     _ _ _ _ _ c.in_err-credentials.field-0.0 _ _ _
-    (c.in_err-credentials.ensures.server_history c.args.server.now (rw c.in_ok-client_half.ensures.server (c.loop-turn.invariant.server_history empty)))
+    (c.in_err-credentials.ensures.server_history c.args.server.now
+    (rw c.in_ok-client_half.ensures.server (c.loop-turn.invariant.server_history empty)))
     (rw c.in_err-credentials.ensures.client
-    (c.in_ok-client_half.ensures.client_history _ _ (c.loop-turn.invariant.at_turn empty).between.going (c.loop-turn.invariant.client_history empty))))
+    (c.in_ok-client_half.ensures.client_history _ _ (c.loop-turn.invariant.at_turn empty).between.going
+    (c.loop-turn.invariant.client_history empty))))
 
 pub returns-in_err-credentials-clause-server_history : goal.returns-in_err-credentials-clause-server_history
 returns-in_err-credentials-clause-server_history g c empty =
@@ -129,7 +138,8 @@ returns-in_err-credentials-clause-server_history g c empty =
     rw (p.1, p.2)
     (server_half_past (either g.N.Mechanism.REQUESTS g.N.Mechanism.meaning g.K.Mechanism.meaning) g.C.CredentialsProxy.meaning _ _ _
     c.in_err-credentials.field-0.0
-    (c.in_err-credentials.ensures.server_history c.args.server.now (rw c.in_ok-client_half.ensures.server (c.loop-turn.invariant.server_history empty))))
+    (c.in_err-credentials.ensures.server_history c.args.server.now
+    (rw c.in_ok-client_half.ensures.server (c.loop-turn.invariant.server_history empty))))
 
 pub returns-clause-client_history : goal.returns-clause-client_history
 returns-clause-client_history g c empty = c.loop-turn.invariant.client_history empty
@@ -141,7 +151,8 @@ pub returns-in_err-client_half-clause-still : goal.returns-in_err-client_half-cl
 returns-in_err-client_half-clause-still g c =
     let p = err_from_is_err_and c.from_residual.result c.from_residual.ensures.1 in
     rw (p.1, p.2)
-    (still_stopped (Unit {0}) Delegation _ _ _ _ _ c.in_err-client_half.field-0.0 _ _ c.loop-turn.invariant.told.same c.loop-turn.invariant.still
+    (still_stopped (Unit {0}) Delegation _ _ _ _ _ c.in_err-client_half.field-0.0 _ _ c.loop-turn.invariant.told.same
+    c.loop-turn.invariant.still
     c.in_err-client_half.ensures.still)
 
 pub returns-in_err-credentials-clause-still : goal.returns-in_err-credentials-clause-still

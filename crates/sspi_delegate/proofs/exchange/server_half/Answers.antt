@@ -52,7 +52,8 @@ returns-in_err-give-in-Replied-clause-server_history g c first history =
     let p = err_from_is_err_and c.from_residual-in_err-give-in-Replied.result c.from_residual-in_err-give-in-Replied.ensures.1 in
     rw (p.1, p.2)
     (server_half_stopped (either g.N.Mechanism.REQUESTS g.N.Mechanism.meaning g.K.Mechanism.meaning) g.C.CredentialsProxy.meaning first
-    c.server_round.new.server _ c.in_err-give-in-Replied.field-0.0 c.in_err-give-in-Replied.ensures.link (c.in-Replied.ensures.server_history first history))
+    c.server_round.new.server _ c.in_err-give-in-Replied.field-0.0 c.in_err-give-in-Replied.ensures.link
+    (c.in-Replied.ensures.server_history first history))
 
 pub returns-in-Finished-clause-server_history : goal.returns-in-Finished-clause-server_history
 returns-in-Finished-clause-server_history g c first history = c.in-Finished.ensures.server_history first history
@@ -76,5 +77,6 @@ returns-in_err-request-clause-server_history g c first history =
 pub returns-in-Refused-clause-still : goal.returns-in-Refused-clause-still
 returns-in-Refused-clause-still g c =
     refused_still (Option AuthIdentity) _ _ _ _ _ c.give-given.result c.in-Refused.error c.server_error.result _ _ _
-    c.in_ok-request.ensures.told.same (read_still _ _ _ c.in_ok-request.request c.in_ok-request.ensures.still) c.give-given.ensures.still c.give-given.ensures.same
+    c.in_ok-request.ensures.told.same (read_still _ _ _ c.in_ok-request.request c.in_ok-request.ensures.still)
+    c.give-given.ensures.still c.give-given.ensures.same
     c.server_error.ensures

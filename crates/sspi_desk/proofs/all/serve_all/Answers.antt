@@ -12,10 +12,13 @@ loop-call-preserved g c =
     let at = c.loop-call.call-index in
     let one_more : take (at + 1) calls ≡ take at calls ++ call ∷ [] =
     take_more calls at call c.loop-call-test.true ∙ ap (λ x. take at calls ++ x ∷ []) (sym c.call-item.is) in
-    let serves = subst (λ bytes. Serves (either g.N.Mechanism.REQUESTS g.N.Mechanism.meaning g.K.Mechanism.meaning) g.C.CredentialsProxy.meaning call.session bytes c.serve-answer.result c.loop-call.desk c.serve-answer.new.self)
+    let serves = subst (λ bytes. Serves (either g.N.Mechanism.REQUESTS g.N.Mechanism.meaning g.K.Mechanism.meaning)
+    g.C.CredentialsProxy.meaning call.session bytes c.serve-answer.result c.loop-call.desk c.serve-answer.new.self)
     c.as_slice.ensures c.serve-answer.ensures in
     record {
       room = rw c.push_reserved.ensures.capacity c.loop-call.invariant.room;
-      served = rw (one_more, c.push_reserved.ensures.items) (ServesAll-more (either g.N.Mechanism.REQUESTS g.N.Mechanism.meaning g.K.Mechanism.meaning) g.C.CredentialsProxy.meaning (take at calls) c.loop-call.answers.items call
+      served = rw (one_more, c.push_reserved.ensures.items)
+          (ServesAll-more (either g.N.Mechanism.REQUESTS g.N.Mechanism.meaning g.K.Mechanism.meaning) g.C.CredentialsProxy.meaning
+          (take at calls) c.loop-call.answers.items call
           c.serve-answer.result c.args.desk.now c.loop-call.desk c.serve-answer.new.self c.loop-call.invariant.served serves);
     }

@@ -7,5 +7,6 @@ use Rattle.sspi_desk.proofs.all.serve_all.Given as goal
 abbrev pub invariant-loop-call : goal.invariant-loop-call
 invariant-loop-call g l = record {
   room : length l.calls ≤ vec_capacity l.answers;
-  served : ServesAll (either g.N.Mechanism.REQUESTS g.N.Mechanism.meaning g.K.Mechanism.meaning) g.C.CredentialsProxy.meaning (take l.call-index l.calls) l.answers.items l.fn.desk l.desk;
+  served : ServesAll (either g.N.Mechanism.REQUESTS g.N.Mechanism.meaning g.K.Mechanism.meaning) g.C.CredentialsProxy.meaning
+      (take l.call-index l.calls) l.answers.items l.fn.desk l.desk;
 }

@@ -4,7 +4,8 @@ use Rattle.sspi_ber.specs.Outside.{Answers}
 use Rattle.sspi_ber.specs.Pieces.{header_at}
 use Rattle.sspi_gate.proofs.header.announced.Goals as goal
 
-rest_of : (size : ℕ) (after : Option (List ℕ)) (read : Read ℕ) → Answers {X = ℕ} {A = ℕ} (λ n. n) after (Ok size) read → (x : List ℕ) × (read ≡ Ok (size, x))
+rest_of : (size : ℕ) (after : Option (List ℕ)) (read : Read ℕ) → Answers {X = ℕ} {A = ℕ} (λ n. n) after (Ok size) read →
+    (x : List ℕ) × (read ≡ Ok (size, x))
 rest_of size after (Ok (n, x)) (same, left) = (x, rw same refl)
 rest_of size after (Err fault) a = absurd a
 

@@ -1,6 +1,7 @@
 use Rattle.std.proofs.Common.{ap, arith, length}
 use Rattle.std.proofs.lemmas.Result.{err_from_is_err_and}
-use Rattle.sspi_gate.proofs.Headers.{byte_rest, byte_taken, cut_header, five_decide, found_header, header_so_far, no_bytes, none_taken, not_empty, pushed_some, refused_header}
+use Rattle.sspi_gate.proofs.Headers.{byte_rest, byte_taken, cut_header, five_decide, found_header, header_so_far}
+use Rattle.sspi_gate.proofs.Headers.{no_bytes, none_taken, not_empty, pushed_some, refused_header}
 use Rattle.sspi_gate.proofs.Wanted.{pushed_wanted}
 use Rattle.sspi_gate.proofs.header.take_header.Goals as goal
 
@@ -16,7 +17,8 @@ pub returns-else-size-eq0-clause-takes : goal.returns-else-size-eq0-clause-takes
 returns-else-size-eq0-clause-takes g c =
     let next = rw c.in-None.is at c.in_ok-byte.ensures.bytes in
     let so_far = c.loop-size.invariant in
-    cut_header _ _ _ _ so_far.taken next.0 next.1 so_far.partial (not_empty c.loop-size.header.items c.loop-size.size so_far.counted c.if-size-eq0.false)
+    cut_header _ _ _ _ so_far.taken next.0 next.1 so_far.partial
+    (not_empty c.loop-size.header.items c.loop-size.size so_far.counted c.if-size-eq0.false)
 
 pub returns-in_err-push-clause-takes : goal.returns-in_err-push-clause-takes
 returns-in_err-push-clause-takes g c =
@@ -28,7 +30,8 @@ pub returns-in_err-size-clause-takes : goal.returns-in_err-size-clause-takes
 returns-in_err-size-clause-takes g c =
     let p = err_from_is_err_and c.from_residual-in_err-size.result c.from_residual-in_err-size.ensures.1 in
     rw (p.1, p.2) (refused_header _ _ _ _ _ c.deref.ensures.value c.in_err-size.ensures
-    (byte_taken _ _ _ c.loop-size.header.items _ c.in-Some.byte c.loop-size.invariant.taken (rw c.in-Some.is at c.in_ok-byte.ensures.bytes) c.in_ok-push.ensures.items)
+    (byte_taken _ _ _ c.loop-size.header.items _ c.in-Some.byte c.loop-size.invariant.taken
+    (rw c.in-Some.is at c.in_ok-byte.ensures.bytes) c.in_ok-push.ensures.items)
     (pushed_some c.loop-size.header.items _ c.in-Some.byte c.in_ok-push.ensures.items)
     (pushed_wanted c.loop-size.header.items _ c.in-Some.byte c.in_ok-push.ensures.items c.loop-size.invariant.partial))
 

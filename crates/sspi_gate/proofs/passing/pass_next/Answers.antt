@@ -11,5 +11,6 @@ returns g c =
 
 pub returns-in-Err : goal.returns-in-Err
 returns-in-Err g c =
-    not_whole (λ (bytes : Vec ℕ Global). bytes.items) c.args.end c.args.first _ _ c.in-Err.kind c.in-Err.ensures.takes c.in-Err.ensures.cause
+    not_whole (λ (bytes : Vec ℕ Global). bytes.items) c.args.end c.args.first _ _ c.in-Err.kind c.in-Err.ensures.takes
+    c.in-Err.ensures.cause
     (Keeps-refl (g.W.Sink.written c.args.sink.now)) refl (search rules) (search rules)

@@ -1,5 +1,6 @@
 use Rattle.std.proofs.Common.{arith, refl}
-use Rattle.sspi_gate.proofs.Turns.{client_ended, client_passed, client_stopped, no_turn, server_ended, server_passed, server_refused, server_stopped, spent}
+use Rattle.sspi_gate.proofs.Turns.{client_ended, client_passed, client_stopped, no_turn, server_ended}
+use Rattle.sspi_gate.proofs.Turns.{server_passed, server_refused, server_stopped, spent}
 use Rattle.sspi_gate.proofs.relaying.relay.Goals as goal
 
 pub loop-init : goal.loop-init

@@ -2,8 +2,10 @@ use Rattle.std.proofs.Common.{inl, inr, arith}
 use Rattle.std.proofs.lemmas.List.{get_or_past}
 use Rattle.sspi_names.proofs.CodeUnits.{after_single, after_low, unpaired}
 use Rattle.sspi_names.proofs.utf16.after_char.Goals as goal
-use Rattle.sspi_names.proofs.utf16.after_char.Goals.{then-unit-lt55296-via-then-unit-lt55296, then-unit-lt55296-via-else-unit-lt55296+then-unit-ge57344}
-use Rattle.sspi_names.proofs.utf16.after_char.Goals.{then-low-lt56320-via-then-low-lt56320, then-low-lt56320-via-else-low-lt56320+then-low-ge57344}
+use Rattle.sspi_names.proofs.utf16.after_char.Goals.{then-unit-lt55296-via-then-unit-lt55296}
+use Rattle.sspi_names.proofs.utf16.after_char.Goals.{then-unit-lt55296-via-else-unit-lt55296+then-unit-ge57344}
+use Rattle.sspi_names.proofs.utf16.after_char.Goals.{then-low-lt56320-via-then-low-lt56320}
+use Rattle.sspi_names.proofs.utf16.after_char.Goals.{then-low-lt56320-via-else-low-lt56320+then-low-ge57344}
 
 pub returns-then-unit-lt55296-clause-paired : goal.returns-then-unit-lt55296-clause-paired
 returns-then-unit-lt55296-clause-paired c =
@@ -29,4 +31,9 @@ returns-then-low-lt56320-clause-paired c =
     ])
 
 pub returns-clause-paired : goal.returns-clause-paired
-returns-clause-paired c = after_low c.args.unit c.args.others.now c.in-len1-up.len_at_least (omega arith, omega arith, c.if-low-lt56320.false, c.if-low-ge57344.false)
+returns-clause-paired c = after_low c.args.unit c.args.others.now c.in-len1-up.len_at_least (
+  omega arith,
+  omega arith,
+  c.if-low-lt56320.false,
+  c.if-low-ge57344.false,
+)

@@ -25,7 +25,8 @@ returns-in_ok-ending-in-Running-clause-client_history g c first kdc_first past s
 pub returns-in_err-ending-in-Running-clause-stops : goal.returns-in_err-ending-in-Running-clause-stops
 returns-in_err-ending-in-Running-clause-stops g c =
     let p = err_from_is_err_and c.from_residual.result c.from_residual.ensures.1 in
-    rw p.1 (λ past stands. client_stops c.args.delivery.now past _ c.in_err-ending-in-Running.field-0.0 _ _ c.args.standing.now c.in-Client.is refl c.in-Running.is
+    rw p.1 (λ past stands. client_stops c.args.delivery.now past _ c.in_err-ending-in-Running.field-0.0 _ _ c.args.standing.now
+    c.in-Client.is refl c.in-Running.is
     c.in_err-ending-in-Running.ensures.hands stands)
 
 pub returns-in_err-ending-in-Running-clause-client_history : goal.returns-in_err-ending-in-Running-clause-client_history
@@ -78,8 +79,10 @@ returns-in-Finished-clause-identity g c first history gave =
 
 pub returns-in_err-ending-in-Running-server-clause-stops : goal.returns-in_err-ending-in-Running-server-clause-stops
 returns-in_err-ending-in-Running-server-clause-stops g c =
-    let p = err_from_is_err_and c.from_residual-in_err-ending-in-Running-server.result c.from_residual-in_err-ending-in-Running-server.ensures.1 in
-    rw p.1 (λ past stands. server_stops c.args.delivery.now past c.in_err-ending-in-Running-server.field-0.0 _ _ c.args.standing.now c.in-Server.is c.in-Running-server.is
+    let p = err_from_is_err_and c.from_residual-in_err-ending-in-Running-server.result
+    c.from_residual-in_err-ending-in-Running-server.ensures.1 in
+    rw p.1 (λ past stands. server_stops c.args.delivery.now past c.in_err-ending-in-Running-server.field-0.0 _ _
+    c.args.standing.now c.in-Server.is c.in-Running-server.is
     c.in_err-ending-in-Running-server.ensures.hands stands)
 
 pub returns-in-Refused-server-clause-stands : goal.returns-in-Refused-server-clause-stands

@@ -34,8 +34,10 @@ returns-clause-exchange c ends link_is held =
     let server = c.deref_mut-2.result.now in
     let client_fresh = subst (λ (a : ClientView PlainContext). IsFreshClient a) (sym c.deref_mut.ensures.value) ends.client_fresh in
     let client_named = subst (λ (a : ClientView PlainContext). IsClientOf s a) (sym c.deref_mut.ensures.value) ends.client_named in
-    let server_fresh = subst (λ (a : ServerView PlainContext TableView). IsFreshServer a) (sym c.deref_mut-2.ensures.value) ends.server_fresh in
-    let server_named = subst (λ (a : ServerView PlainContext TableView). IsServerOf s a) (sym c.deref_mut-2.ensures.value) ends.server_named in
+    let server_fresh = subst (λ (a : ServerView PlainContext TableView). IsFreshServer a) (sym c.deref_mut-2.ensures.value)
+    ends.server_fresh in
+    let server_named = subst (λ (a : ServerView PlainContext TableView). IsServerOf s a) (sym c.deref_mut-2.ensures.value)
+    ends.server_named in
     let made = c.delegate-answer.new in
     let edits = s.edit in
     let answer = c.delegate-answer.result in

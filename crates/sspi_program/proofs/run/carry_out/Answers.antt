@@ -7,6 +7,7 @@ use Rattle.sspi_program.proofs.run.carry_out.Goals as goal
 
 pub returns-in-Ok : goal.returns-in-Ok
 returns-in-Ok c =
-    let parsed = subst (λ (purpose : Purpose). scenario_of purpose c.args.text.now ≡ Ok c.in-Ok.scenario) c.purpose.ensures c.in-Ok.ensures in
+    let parsed = subst (λ (purpose : Purpose). scenario_of purpose c.args.text.now ≡ Ok c.in-Ok.scenario) c.purpose.ensures
+    c.in-Ok.ensures in
     carries_out c.args.task c.args.text.now c.in-Ok.scenario c.conduct.result parsed
     (c.conduct.ensures (scenario_holds _ c.args.text.now c.in-Ok.scenario parsed))

@@ -33,10 +33,12 @@ loop-guest-preserved g c =
           omega arith,
       λ cames limit none kept.
           let left = at.invariant.2 cames limit none kept in
-          let next = next_place m p k cames limit c.args.desk.now at.yielded (into_iter_items c.next.new.self) c.args.guests.items guest parts kept in
+          let next = next_place m p k cames limit c.args.desk.now at.yielded (into_iter_items c.next.new.self) c.args.guests.items
+          guest parts kept in
           more_left m p k cames limit next.0 c.args.desk.now at.yielded guest at.seats at.desk next.1 left c.leave_one.new.seats
           (c.in_ok-leave_one.ensures.left next.0 limit
-          (next_kept m p k cames limit next.0 c.args.desk.now at.yielded guest at.seats at.desk next.1 left (into_iter_items c.next.new.self)
+          (next_kept m p k cames limit next.0 c.args.desk.now at.yielded guest at.seats at.desk next.1 left
+          (into_iter_items c.next.new.self)
           c.args.guests.items parts kept))
           c.leave_one.new.desk c.in_ok-leave_one.ensures.others,
     )

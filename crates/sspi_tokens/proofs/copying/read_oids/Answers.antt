@@ -9,7 +9,8 @@ pub returns-in_err-content : goal.returns-in_err-content
 returns-in_err-content c =
     let next = sym c.is_next.ensures ∙ c.oids-test.true in
     let p = err_from_is_err_and c.from_residual.result c.from_residual.ensures.1 in
-    rw (p.1, p.2) (fault_given c.in_err-content.field-0.0 (element_at 0x06 c.oids.source) (oids_at c.args.source.now) (λ fault e. reading_fault fault c.oids.invariant next e) c.in_err-content.ensures.read)
+    rw (p.1, p.2) (fault_given c.in_err-content.field-0.0 (element_at 0x06 c.oids.source) (oids_at c.args.source.now)
+    (λ fault e. reading_fault fault c.oids.invariant next e) c.in_err-content.ensures.read)
 
 pub oids-smaller : goal.oids-smaller
 oids-smaller c = shorter c.oids.source c.in_ok-content.content.now c.read_element.new.source c.in_ok-content.ensures.read

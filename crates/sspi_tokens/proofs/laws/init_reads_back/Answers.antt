@@ -11,4 +11,10 @@ pub returns : goal.returns
 returns c = λ token text more spelled.
     let is = whole_is 0x60 (init_content token) text spelled in
     of_begins init_at IsInit init_match (text ++ more) token
-    (record { text = text; rest = more; parts = refl; form = subst (λ (l : List ℕ). IsInit l token more) (sym is.1) (init_short token more is.0) })
+    (record {
+      text = text;
+      rest = more;
+      parts = refl;
+      form = subst (λ (l : List ℕ). IsInit l token more) (sym is.1)
+          (init_short token more is.0);
+    })

@@ -11,4 +11,10 @@ pub returns : goal.returns
 returns c = λ token text more spelled.
     let is = whole_is 0xA1 (targ_content token) text spelled in
     of_begins targ_at IsTarg targ_match (text ++ more) token
-    (record { text = text; rest = more; parts = refl; form = subst (λ (l : List ℕ). IsTarg l token more) (sym is.1) (targ_short token more is.0) })
+    (record {
+      text = text;
+      rest = more;
+      parts = refl;
+      form = subst (λ (l : List ℕ). IsTarg l token more) (sym is.1)
+          (targ_short token more is.0);
+    })

@@ -20,7 +20,8 @@ pub returns-in_err-read_element-clause-read : goal.returns-in_err-read_element-c
 returns-in_err-read_element-clause-read c =
     let next = sym c.is_next.ensures ∙ c.oids-test.true in
     let p = err_from_is_err_and c.from_residual.result c.from_residual.ensures.1 in
-    rw (p.1, p.2) (fault_given c.in_err-read_element.field-0.0 (element_at 0x06 c.oids.source) (oids_at c.args.source.now) (λ fault e. reading_fault fault c.oids.invariant.reading next e) c.in_err-read_element.ensures.read)
+    rw (p.1, p.2) (fault_given c.in_err-read_element.field-0.0 (element_at 0x06 c.oids.source) (oids_at c.args.source.now)
+    (λ fault e. reading_fault fault c.oids.invariant.reading next e) c.in_err-read_element.ensures.read)
 
 pub returns-clause-read : goal.returns-clause-read
 returns-clause-read c = passed_end c.oids.invariant (sym c.is_next.ensures ∙ c.oids-test.false)

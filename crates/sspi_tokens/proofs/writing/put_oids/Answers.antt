@@ -9,7 +9,14 @@ loop-oid-init c = rw oids_text-nil (put_nothing c.args.sink.now)
 pub put_element-requires : goal.put_element-requires
 put_element-requires c =
     let more = oids_more c.args.oids.now c.loop-oid.oid-index c.oid-item.result c.loop-oid-test.true c.oid-item.is in
-    omega (arith, more, oids_front c.args.oids.now (c.loop-oid.oid-index + 1), ap length c.content.ensures, element_size_more (length c.oid-item.result), c.requires)
+    omega (
+      arith,
+      more,
+      oids_front c.args.oids.now (c.loop-oid.oid-index + 1),
+      ap length c.content.ensures,
+      element_size_more (length c.oid-item.result),
+      c.requires,
+    )
 
 pub loop-oid-preserved : goal.loop-oid-preserved
 loop-oid-preserved c =

@@ -8,7 +8,9 @@ use Rattle.sspi_types.proofs.BufferTypeBits.{parts_of_joined, joined_parts}
 use Rattle.sspi_types.proofs.Numbers.{same_buffer_type}
 use Rattle.sspi_types.proofs.laws.buffer_types_are_read_back.Goals as goal
 
-there_and_back : (t : SecurityBufferType) → buffer_type_number t.buffer_type ≤ 18 → bit_and t.buffer_flags.0 0x90000000 ≡ t.buffer_flags.0 → (read : Result SecurityBufferType Error) → ReadsBufferType (packed_buffer_type t) read → read ≡ Ok t
+there_and_back : (t : SecurityBufferType) → buffer_type_number t.buffer_type ≤ 18 →
+    bit_and t.buffer_flags.0 0x90000000 ≡ t.buffer_flags.0 → (read : Result SecurityBufferType Error) →
+    ReadsBufferType (packed_buffer_type t) read → read ≡ Ok t
 there_and_back t low named (Ok other) reads =
     let parts = parts_of_joined (buffer_type_number t.buffer_type) t.buffer_flags.0 low named in
     let kind = same_buffer_type other.buffer_type t.buffer_type (reads.1 ∙ parts.1) in

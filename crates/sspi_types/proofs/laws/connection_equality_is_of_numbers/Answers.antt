@@ -1,4 +1,5 @@
-use Rattle.sspi_types.proofs.Numbers.{connection_protocol_test, connection_cipher_test, connection_hash_test, connection_key_exchange_test, cert_encoding_type_test}
+use Rattle.sspi_types.proofs.Numbers.{connection_protocol_test, connection_cipher_test, connection_hash_test}
+use Rattle.sspi_types.proofs.Numbers.{connection_key_exchange_test, cert_encoding_type_test}
 use Rattle.sspi_types.proofs.laws.connection_equality_is_of_numbers.Goals as goal
 
 pub returns-clause-connection_protocol : goal.returns-clause-connection_protocol

@@ -1,4 +1,5 @@
-use Rattle.sspi_types.proofs.Numbers.{same_connection_protocol, same_connection_cipher, same_connection_hash, same_connection_key_exchange, same_cert_encoding_type}
+use Rattle.sspi_types.proofs.Numbers.{same_connection_protocol, same_connection_cipher, same_connection_hash}
+use Rattle.sspi_types.proofs.Numbers.{same_connection_key_exchange, same_cert_encoding_type}
 use Rattle.sspi_types.proofs.laws.connection_numbers_are_distinct.Goals as goal
 
 pub returns-clause-connection_protocol : goal.returns-clause-connection_protocol

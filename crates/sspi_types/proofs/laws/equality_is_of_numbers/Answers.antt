@@ -1,4 +1,5 @@
-use Rattle.sspi_types.proofs.Numbers.{error_kind_test, security_status_test, buffer_type_test, data_representation_test, credential_use_test}
+use Rattle.sspi_types.proofs.Numbers.{error_kind_test, security_status_test, buffer_type_test}
+use Rattle.sspi_types.proofs.Numbers.{data_representation_test, credential_use_test}
 use Rattle.sspi_types.proofs.laws.equality_is_of_numbers.Goals as goal
 
 pub returns-clause-error_kind : goal.returns-clause-error_kind

@@ -1,4 +1,5 @@
-use Rattle.sspi_types.proofs.Numbers.{same_error_kind, same_security_status, same_buffer_type, same_data_representation, same_credential_use}
+use Rattle.sspi_types.proofs.Numbers.{same_error_kind, same_security_status, same_buffer_type}
+use Rattle.sspi_types.proofs.Numbers.{same_data_representation, same_credential_use}
 use Rattle.sspi_types.proofs.laws.numbers_are_distinct.Goals as goal
 
 pub returns-clause-error_kind : goal.returns-clause-error_kind

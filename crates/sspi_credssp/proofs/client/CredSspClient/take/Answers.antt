@@ -12,5 +12,6 @@ returns-in_err-conclude-in-AuthInfo-clause-cause g c =
     let state : c.args.self.now.state ≡ AuthInfo = search rules in
     let p = err_from_is_err_and c.from_residual.result c.from_residual.ensures.1 in
     rw (p.1, p.2)
-    (λ memory. subst (λ (s : CredSspState). StateCause it s c.args.request c.conclude.new.self c.in_err-conclude-in-AuthInfo.field-0.0.error_type)
+    (λ memory.
+    subst (λ (s : CredSspState). StateCause it s c.args.request c.conclude.new.self c.in_err-conclude-in-AuthInfo.field-0.0.error_type)
     (sym state) (c.in_err-conclude-in-AuthInfo.ensures.cause memory))

@@ -53,7 +53,8 @@ returns-in_err-step-clause-step g c = λ start d token at.
     (refused_step s c.self.inside.output c.in_err-step.field-0.0) c.accept.new.context)
     (sym none)
     (accepted c.in-Some.context _ _ (context_here _ _ _ here begun_inside)
-    (subst (λ t. it.accepts c.in-Some.context (server_args c.self.inside.credentials_handle t) (Err c.in_err-step.field-0.0) c.accept.new.context)
+    (subst (λ t. it.accepts c.in-Some.context (server_args c.self.inside.credentials_handle t) (Err c.in_err-step.field-0.0)
+    c.accept.new.context)
     (sym token) c.in_err-step.ensures.step)))
 
 pub returns-clause-cause : goal.returns-clause-cause

@@ -13,7 +13,10 @@ returns-in_err-make_context-in-None-clause-cause g c =
     let gone : c.make_context.new.self.context ≡ None = search rules in
     let p = err_from_is_err_and c.from_residual.result c.from_residual.ensures.1 in
     rw (p.1, p.2)
-    (record { kind = λ memory. rw (none, gone) (c.in_err-make_context-in-None.ensures.cause.kind memory); plain = c.in_err-make_context-in-None.ensures.cause.plain })
+    (record {
+      kind = λ memory. rw (none, gone) (c.in_err-make_context-in-None.ensures.cause.kind memory);
+      plain = c.in_err-make_context-in-None.ensures.cause.plain;
+    })
 
 pub returns-in_ok-make_context-in-None-clause-made : goal.returns-in_ok-make_context-in-None-clause-made
 returns-in_ok-make_context-in-None-clause-made g c =
@@ -24,7 +27,8 @@ returns-in_ok-make_context-in-None-clause-made g c =
     record {
       fresh = search rules;
       made = subst (λ v. OnContext v.context (Begun it now.context now.handle setting Inbound None v.handle)) (sym c.self-in-None.view_is)
-          (there_or_not made.context (Begun it now.context now.handle setting Inbound None made.handle) c.in_ok-make_context-in-None.ensures.begun);
+          (there_or_not made.context (Begun it now.context now.handle setting Inbound None made.handle)
+          c.in_ok-make_context-in-None.ensures.begun);
       unmade = search rules;
     }
 
@@ -33,9 +37,11 @@ returns-in_ok-make_context-in-None-clause-refused g c =
     let it = either g.N.Mechanism.REQUESTS g.N.Mechanism.meaning g.K.Mechanism.meaning in
     let now = c.args.self.now in
     refused_both c.note_version-in-None.result _ _
-    (new_refused it _ c.note_version-in-None.result now _ c.args.version (search rules) c.in_ok-make_context-in-None.ensures.fresh.0 c.in_ok-make_context-in-None.ensures.fresh.1
+    (new_refused it _ c.note_version-in-None.result now _ c.args.version (search rules)
+    c.in_ok-make_context-in-None.ensures.fresh.0 c.in_ok-make_context-in-None.ensures.fresh.1
     (search rules)
     (subst (λ v. IfContext v.context (Begun it now.context now.handle
-    (server_setting g.C.CredentialsProxy.meaning now) Inbound None v.handle)) (sym c.self-in-None.view_is) c.in_ok-make_context-in-None.ensures.begun)
+    (server_setting g.C.CredentialsProxy.meaning now) Inbound None
+    v.handle)) (sym c.self-in-None.view_is) c.in_ok-make_context-in-None.ensures.begun)
     (search rules) (search rules))
     (search rules)

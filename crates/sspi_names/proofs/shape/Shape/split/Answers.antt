@@ -4,7 +4,8 @@ use Rattle.sspi_names.proofs.shape.Shape.split.Goals as goal
 
 pub returns-in-Some-Some : goal.returns-in-Some-Some
 returns-in-Some-Some c =
-    mixed c.args.value.now (last_any c.args.value.now at_sign _ c.in-Some-Some.ensures) (first_any c.args.value.now backslash _ c.in-Some-Some.ensures')
+    mixed c.args.value.now (last_any c.args.value.now at_sign _ c.in-Some-Some.ensures)
+    (first_any c.args.value.now backslash _ c.in-Some-Some.ensures')
 
 pub returns-in-Some-None : goal.returns-in-Some-None
 returns-in-Some-None c = principal_split c.args.value.now c.utf8.value c.in-Some-None.at c.in-Some-None.ensures c.in-Some-None.ensures'

@@ -2,7 +2,8 @@ use Rattle.std.proofs.Common.{sym, ap, ◌∙◌, subst, arith}
 use Rattle.std.specs.List.{All}
 use Rattle.std.specs.Char.Utf16.{has_unpaired_surrogate}
 use Rattle.std.proofs.lemmas.Result.{err_from_is_err_and}
-use Rattle.sspi_names.proofs.CodeUnits.{IsSmall, odd_refused, even_decoded, even_refused, even_is_not_odd, units_le-small, IsUtf16-from_paired}
+use Rattle.sspi_names.proofs.CodeUnits.{IsSmall, odd_refused, even_decoded, even_refused}
+use Rattle.sspi_names.proofs.CodeUnits.{even_is_not_odd, units_le-small, IsUtf16-from_paired}
 use Rattle.sspi_names.proofs.utf16.Utf16Text.from_bytes_le.Goals as goal
 
 pub returns-then-bytes-ne0 : goal.returns-then-bytes-ne0
@@ -21,8 +22,10 @@ invariant_of-result c =
 
 pub returns-then-is_well_formed : goal.returns-then-is_well_formed
 returns-then-is_well_formed c =
-    even_decoded c.args.bytes.now _ (omega arith) c.in_ok-units.ensures (ap has_unpaired_surrogate (sym c.deref.ensures.value) ∙ c.if-is_well_formed.ensures)
+    even_decoded c.args.bytes.now _ (omega arith) c.in_ok-units.ensures (ap has_unpaired_surrogate (sym c.deref.ensures.value)
+    ∙ c.if-is_well_formed.ensures)
 
 pub returns-else-is_well_formed : goal.returns-else-is_well_formed
 returns-else-is_well_formed c =
-    even_refused c.args.bytes.now _ (omega arith) c.in_ok-units.ensures (ap has_unpaired_surrogate (sym c.deref.ensures.value) ∙ c.if-is_well_formed.ensures)
+    even_refused c.args.bytes.now _ (omega arith) c.in_ok-units.ensures (ap has_unpaired_surrogate (sym c.deref.ensures.value)
+    ∙ c.if-is_well_formed.ensures)

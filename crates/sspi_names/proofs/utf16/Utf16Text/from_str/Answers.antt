@@ -15,11 +15,13 @@ spelled units yielded cs e all = e ∙ ap (flat_map encode_utf16) (sym (map-id y
 pub returns : goal.returns
 unfolding units_of
 returns c =
-    let t = YieldsList-end (YieldsList-from_chars c.args.s.now c.utf8.s cc) c.loop-c.yielded _ c.loop-c.yielded_by _ _ c.in-None.is c.next.ensures.steps in
+    let t = YieldsList-end (YieldsList-from_chars c.args.s.now c.utf8.s cc) c.loop-c.yielded _ c.loop-c.yielded_by _ _
+    c.in-None.is c.next.ensures.steps in
     spelled _ c.loop-c.yielded (chars c.args.s.now) c.loop-c.invariant t.0
 
 pub invariant_of-result : goal.invariant_of-result
 unfolding units_of
 invariant_of-result c =
-    let t = YieldsList-end (YieldsList-from_chars c.args.s.now c.utf8.s cc) c.loop-c.yielded _ c.loop-c.yielded_by _ _ c.in-None.is c.next.ensures.steps in
+    let t = YieldsList-end (YieldsList-from_chars c.args.s.now c.utf8.s cc) c.loop-c.yielded _ c.loop-c.yielded_by _ _
+    c.in-None.is c.next.ensures.steps in
     subst IsUtf16 (sym (spelled _ c.loop-c.yielded (chars c.args.s.now) c.loop-c.invariant t.0)) (units_of-IsUtf16 c.args.s.now c.utf8.s)

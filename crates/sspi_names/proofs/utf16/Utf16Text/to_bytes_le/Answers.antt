@@ -10,4 +10,5 @@ loop-unit-init c = search rules
 pub loop-unit-preserved : goal.loop-unit-preserved
 loop-unit-preserved c =
     c.in_ok-extend_from_slice.ensures.items
-    ∙ bytes_le-more c.deref-unit-items.result.now c.loop-unit.unit-index _ _ c.loop-unit-test.true (omega (arith, c.type_inv.unit-items c.loop-unit.unit-index)) c.loop-unit.invariant c.to_le_bytes.ensures
+    ∙ bytes_le-more c.deref-unit-items.result.now c.loop-unit.unit-index _ _ c.loop-unit-test.true
+    (omega (arith, c.type_inv.unit-items c.loop-unit.unit-index)) c.loop-unit.invariant c.to_le_bytes.ensures

@@ -13,8 +13,10 @@ returns-clause-play c ends =
     let server = c.deref_mut-2.result.now in
     let client_fresh = subst (λ (a : ClientView PlainContext). IsFreshClient a) (sym c.deref_mut.ensures.value) ends.client_fresh in
     let client_named = subst (λ (a : ClientView PlainContext). IsClientOf s a) (sym c.deref_mut.ensures.value) ends.client_named in
-    let server_fresh = subst (λ (a : ServerView PlainContext TableView). IsFreshServer a) (sym c.deref_mut-2.ensures.value) ends.server_fresh in
-    let server_named = subst (λ (a : ServerView PlainContext TableView). IsServerOf s a) (sym c.deref_mut-2.ensures.value) ends.server_named in
+    let server_fresh = subst (λ (a : ServerView PlainContext TableView). IsFreshServer a) (sym c.deref_mut-2.ensures.value)
+    ends.server_fresh in
+    let server_named = subst (λ (a : ServerView PlainContext TableView). IsServerOf s a) (sym c.deref_mut-2.ensures.value)
+    ends.server_named in
     let ensures = c.play-answer.ensures in
     let empty = c.new-transcript.ensures in
     let fresh : IsFresh client server c.new-transcript.result.turns =

@@ -16,7 +16,13 @@ returns-in-Replied-clause-visited g c came rounds is kept =
     let speaking = turn_speaks m p k came rounds c.in-Some.request guest c.client_round.new.client c.client_round.new.kdc
     c.client_round.new.transcript c.take.new.self at.runs c.in-Replied.ensures.turn
     (λ history. c.in-Replied.ensures.client_history came.client came.kdc (clients_go _ at.runs.turned.go) history) in
-    c.speak.ensures.visited came at.server c.in-Some.ensures.after (subst (λ (n : ℕ). IsSpeaking m p k came n (record guest { client = c.client_round.new.client; kdc = c.client_round.new.kdc; transcript = c.client_round.new.transcript; next = c.take.new.self })) (sym is) speaking) at.alone
+    c.speak.ensures.visited came at.server c.in-Some.ensures.after
+    (subst (λ (n : ℕ). IsSpeaking m p k came n (record guest {
+      client = c.client_round.new.client;
+      kdc = c.client_round.new.kdc;
+      transcript = c.client_round.new.transcript;
+      next = c.take.new.self;
+    })) (sym is) speaking) at.alone
     at.found
 
 pub returns-in_ok-outcome-in-Refused-clause-visited : goal.returns-in_ok-outcome-in-Refused-clause-visited
@@ -28,6 +34,7 @@ returns-in_ok-outcome-in-Refused-clause-visited g c came rounds is kept =
     let at = kept_runs m p k came rounds guest c.in-Some.request _ (sym c.in-Some.ensures.value) kept in
     let ended = turn_ends m p k came rounds c.in-Some.request c.in-Refused.error guest c.client_round.new.client c.client_round.new.kdc
     c.client_round.new.transcript c.take.new.self at.runs c.in-Refused.ensures.turn
-    (λ history. c.in-Refused.ensures.client_history came.client came.kdc (clients_go _ at.runs.turned.go) history) c.in_ok-outcome-in-Refused.ensures.1 in
+    (λ history. c.in-Refused.ensures.client_history came.client came.kdc (clients_go _ at.runs.turned.go) history)
+    c.in_ok-outcome-in-Refused.ensures.1 in
     kept_ended m p k came c.args.turn _ at.server _ at.found c.in-Some.ensures.after at.alone
     (rw (is, c.put.ensures, c.in_ok-outcome-in-Refused.ensures.0) ended)

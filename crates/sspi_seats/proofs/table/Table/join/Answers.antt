@@ -11,5 +11,6 @@ returns-in-Ok-clause-seated g c cames seated =
     let p = g.C.CredentialsProxy.meaning in
     let k = kdc_calls g.D.Kdc.told g.D.Kdc.asked g.D.Kdc.faults in
     kept_done c.push_one.result (λ added. joined m p k cames (place c.args.client c.args.kdc c.args.server) c.in-Ok.field-0 c.new.result
-    c.args.self.now (record c.args.self.now { desk = c.admit.new.self; guests = c.push_one.new.all }) seated c.new.ensures c.in-Ok.ensures added)
+    c.args.self.now (record c.args.self.now { desk = c.admit.new.self; guests = c.push_one.new.all }) seated c.new.ensures
+    c.in-Ok.ensures added)
     c.push_one.ensures

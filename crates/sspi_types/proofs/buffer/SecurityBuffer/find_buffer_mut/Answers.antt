@@ -9,5 +9,7 @@ returns-in-Some c =
     let at : Some c.in-Some.place ≡ position (has_type c.args.buffer_type) c.args.buffers.now.items =
     c.in-Some.ensures ∙ ap (position (has_type c.args.buffer_type)) c.deref.ensures.value in
     let first = place_of_first (has_type c.args.buffer_type) c.args.buffers.now.items c.in-Some.place at in
-    let found = found_at (has_type c.args.buffer_type) c.args.buffers.now.items c.in-Some.place c.index_mut.result.now at in
-    (ap (λ n. inl (c.index_mut.result.ghost_name, with_item c.args.buffers.now n)) first, record { writes_back = tt; found = found c.index_mut.ensures.value; missing = tt })
+    let found = found_at (has_type c.args.buffer_type) c.args.buffers.now.items c.in-Some.place c.index_mut.result.now at in (
+      ap (λ n. inl (c.index_mut.result.ghost_name, with_item c.args.buffers.now n)) first,
+      record { writes_back = tt; found = found c.index_mut.ensures.value; missing = tt },
+    )

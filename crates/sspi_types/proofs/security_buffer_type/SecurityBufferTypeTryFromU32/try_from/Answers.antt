@@ -27,5 +27,8 @@ unfolding bitflags_on_literals
 returns c =
     let split = flag_bits_split c.args.number (omega arith) in
     let named = named_bits c.args.number in
-    let known = (c.in-Some-from_bits.ensures.known tt).0 refl in
-    ((low_number c.in-Some.buffer_type c.args.number c.in-Some.ensures.found, omega arith), c.in-Some.ensures.found, c.in-Some-from_bits.ensures.value tt)
+    let known = (c.in-Some-from_bits.ensures.known tt).0 refl in (
+      (low_number c.in-Some.buffer_type c.args.number c.in-Some.ensures.found, omega arith),
+      c.in-Some.ensures.found,
+      c.in-Some-from_bits.ensures.value tt,
+    )
