@@ -1,9 +1,9 @@
-ghost use Rattle.std.specs.Prelude.{◌≡◌, None, IfErr, option_copied};
+ghost use Rattle.std.specs.Prelude.{◌≡◌, IfErr, option_copied};
 ghost use Rattle.sspi_mech.specs.declared.step.Progressing.TheVariants as progress;
 ghost use Rattle.sspi_mech.specs.Answers.{answer_of};
 ghost use Rattle.sspi_mech.specs.KerberosMessages.{read_ap_reply};
 ghost use Rattle.sspi_mech.specs.KerberosSteps.{proof_by, wants_pairing};
-ghost use Rattle.sspi_mech.specs.Refusals.{Gives};
+ghost use Rattle.sspi_mech.specs.Refusals.{Gives, answered};
 
 mod arrival;
 pub mod laws;
@@ -26,6 +26,7 @@ use crate::kerberos::replies::{first_key_in, session_key_in};
 use crate::kerberos::stage::{Peer, Stage};
 use crate::mechanism::Mechanism;
 use crate::protection::Protection;
+use crate::refusal::Refusal;
 use crate::step::{Answer, Progressing, Reply, Step};
 use bitflags::Flags;
 use sspi_names::{Credentials, CredentialsBuffers, KdcTable, Username};
@@ -85,6 +86,7 @@ impl Kerberos {
     ghost use Rattle.sspi_mech.specs.KerberosMessages.{read_ticket};
     ghost use Rattle.sspi_mech.specs.KerberosReplies.{first_key_in};
     ghost use Rattle.sspi_mech.specs.KerberosSteps.{Moves, Steps, client_step, resumed_step, server_step};
+    ghost use Rattle.sspi_mech.specs.Refusals.{answered};
     ghost use Rattle.sspi_mech.specs.KerberosSteps.{begins, takes_ticket, pairs, admits, sends_ticket, arrival_of};
 
     /// An object of this configuration that has made no step.
@@ -115,9 +117,9 @@ impl Kerberos {
         handle: Option<&CredentialsBuffers>,
         flags: ClientRequestFlags,
         input: &[u8],
-    ) -> Result<Progressing, Error>
-        ensures step { Moves (client_step self.old.stage self.old (option_copied handle.entry) flags input.now) self.old result self.new }
-        ensures plain { IfErr result (λ error. error.nstatus ≡ None) }
+    ) -> Result<Progressing, Refusal>
+        ensures { Moves (client_step self.old.stage self.old (option_copied handle.entry) flags input.now)
+            self.old (answered result) self.new }
     {
         match &self.stage {
             Stage::Unused => self.begin(handle, wants_pairing(flags)),
@@ -147,9 +149,9 @@ impl Kerberos {
         &mut self,
         handle: Option<&CredentialsBuffers>,
         pairing: bool,
-    ) -> Result<Progressing, Error>
-        ensures step { Moves (begins self.old pairing (logon_of self.old.realms (option_copied handle.entry))) self.old result self.new }
-        ensures plain { IfErr result (λ error. error.nstatus ≡ None) }
+    ) -> Result<Progressing, Refusal>
+        ensures { Moves (begins self.old pairing (logon_of self.old.realms (option_copied handle.entry)))
+            self.old (answered result) self.new }
     {
         let logon = logon_of(self.alloc, &self.realms, handle)?;
         let payload = as_request(self.alloc, logon.name.username().inner())?;
@@ -168,9 +170,9 @@ impl Kerberos {
         key: &[u8; 32],
         handle: Option<&CredentialsBuffers>,
         input: &[u8],
-    ) -> Result<Progressing, Error>
-        ensures step { Moves (takes_ticket self.old key.now (read_ticket input.now) (option_copied handle.entry)) self.old result self.new }
-        ensures plain { IfErr result (λ error. error.nstatus ≡ None) }
+    ) -> Result<Progressing, Refusal>
+        ensures { Moves (takes_ticket self.old key.now (read_ticket input.now) (option_copied handle.entry))
+            self.old (answered result) self.new }
     {
         let Some(ticket) = read_ticket(input) else {
             return Err(malformed());
@@ -182,9 +184,8 @@ impl Kerberos {
         Ok(Progressing::Suspended(request))
     }
 
-    fn resumed_step(&mut self, reply: &Reply) -> Result<Progressing, Error>
-        ensures step { Moves (resumed_step self.old.stage self.old reply.now) self.old result self.new }
-        ensures plain { IfErr result (λ error. error.nstatus ≡ None) }
+    fn resumed_step(&mut self, reply: &Reply) -> Result<Progressing, Refusal>
+        ensures { Moves (resumed_step self.old.stage self.old reply.now) self.old (answered result) self.new }
     {
         match &self.stage {
             Stage::PairingAsked => self.pair(reply),
@@ -212,9 +213,8 @@ impl Kerberos {
     }
 
     /// Asks the server for its ticket.
-    fn pair(&mut self, reply: &Reply) -> Result<Progressing, Error>
-        ensures step { Moves (pairs self.old (first_key_in reply.now)) self.old result self.new }
-        ensures plain { IfErr result (λ error. error.nstatus ≡ None) }
+    fn pair(&mut self, reply: &Reply) -> Result<Progressing, Refusal>
+        ensures { Moves (pairs self.old (first_key_in reply.now)) self.old (answered result) self.new }
     {
         let key = first_key_in(reply)?;
         let output = Vec::from_slice(self.alloc, TICKET_REQUEST)?;
@@ -222,9 +222,8 @@ impl Kerberos {
         Ok(going(output))
     }
 
-    fn server_step(&mut self, input: &[u8]) -> Result<Step, Error>
-        ensures step { Steps (server_step self.old.stage self.old input.now) self.old result self.new }
-        ensures plain { IfErr result (λ error. error.nstatus ≡ None) }
+    fn server_step(&mut self, input: &[u8]) -> Result<Step, Refusal>
+        ensures { Steps (server_step self.old.stage self.old input.now) self.old (answered result) self.new }
     {
         match &self.stage {
             Stage::Unused => {
@@ -245,9 +244,8 @@ impl Kerberos {
         }
     }
 
-    fn send_ticket(&mut self) -> Result<Step, Error>
-        ensures step { Steps (sends_ticket self.old self.old.ticket) self.old result self.new }
-        ensures plain { IfErr result (λ error. error.nstatus ≡ None) }
+    fn send_ticket(&mut self) -> Result<Step, Refusal>
+        ensures { Steps (sends_ticket self.old self.old.ticket) self.old (answered result) self.new }
     {
         let Some(ticket) = &self.ticket else {
             return Err(malformed());
@@ -261,9 +259,8 @@ impl Kerberos {
     }
 
     /// Takes the session key, and shows that it is there.
-    fn admit(&mut self, user_to_user: bool, input: &[u8]) -> Result<Step, Error>
-        ensures step { Steps (admits self.old user_to_user (arrival_of input.now)) self.old result self.new }
-        ensures plain { IfErr result (λ error. error.nstatus ≡ None) }
+    fn admit(&mut self, user_to_user: bool, input: &[u8]) -> Result<Step, Refusal>
+        ensures { Steps (admits self.old user_to_user (arrival_of input.now)) self.old (answered result) self.new }
     {
         let arrival = arrival_of(self.alloc, input)?;
         let output = ap_reply(self.alloc, &arrival.key)?;
@@ -287,15 +284,14 @@ fn wants_pairing(flags: ClientRequestFlags) -> bool
 }
 
 /// Checks that a server showed the session key in its message.
-fn check_shown(key: &[u8; 32], input: &[u8]) -> Result<(), Error>
+fn check_shown(key: &[u8; 32], input: &[u8]) -> Result<(), Refusal>
     ensures answer { Gives result (proof_by key.now (read_ap_reply input.now)) }
-    ensures plain { IfErr result (λ error. error.nstatus ≡ None) }
 {
     let Some(proof) = read_ap_reply(input) else {
         return Err(malformed());
     };
     if proof.as_slice() != reply_proof(key).as_slice() {
-        return Err(Error::new(ErrorKind::MutualAuthFailed, Reason::Tag));
+        return Err(Refusal::new(ErrorKind::MutualAuthFailed, Reason::Tag));
     }
     Ok(())
 }
@@ -311,26 +307,26 @@ fn going(output: Vec<u8>) -> Progressing
 }
 
 /// The answer of a step.
-fn answer(moved: Result<Progressing, Error>) -> Answer
-    ensures { result ≡ answer_of moved }
+fn answer(moved: Result<Progressing, Refusal>) -> Answer
+    ensures { result ≡ answer_of (answered moved) }
 {
     match moved {
         Ok(Progressing::Done(step)) => Answer::Done(step),
         Ok(Progressing::Suspended(request)) => Answer::Ask(request),
-        Err(error) => Answer::Refused(error),
+        Err(refusal) => Answer::Refused(refusal.into()),
     }
 }
 
-fn out_of_sequence() -> Error
-    ensures { result ≡ record { error_type = ErrorKind.OutOfSequence; description = Reason.Sequence; nstatus = None } }
+fn out_of_sequence() -> Refusal
+    ensures { result ≡ record { error_type = ErrorKind.OutOfSequence; description = Reason.Sequence } }
 {
-    Error::new(ErrorKind::OutOfSequence, Reason::Sequence)
+    Refusal::new(ErrorKind::OutOfSequence, Reason::Sequence)
 }
 
-fn malformed() -> Error
-    ensures { result ≡ record { error_type = ErrorKind.InvalidToken; description = Reason.TokenForm; nstatus = None } }
+fn malformed() -> Refusal
+    ensures { result ≡ record { error_type = ErrorKind.InvalidToken; description = Reason.TokenForm } }
 {
-    Error::new(ErrorKind::InvalidToken, Reason::TokenForm)
+    Refusal::new(ErrorKind::InvalidToken, Reason::TokenForm)
 }
 
 impl Mechanism for Kerberos {
@@ -371,7 +367,7 @@ impl Mechanism for Kerberos {
         credential_use: CredentialUse,
         auth_data: Option<&Credentials>,
     ) -> Result<Option<CredentialsBuffers>, Error> {
-        buffers_of(self.alloc, credential_use, auth_data)
+        Ok(buffers_of(self.alloc, credential_use, auth_data)?)
     }
 
     fn initialize(&mut self, args: &InitializeSecurityContext<'_>) -> Answer {
@@ -387,7 +383,7 @@ impl Mechanism for Kerberos {
     }
 
     fn accept(&mut self, args: &AcceptSecurityContext<'_>) -> Result<Step, Error> {
-        self.server_step(args.input)
+        Ok(self.server_step(args.input)?)
     }
 
     fn waiting(&self) -> bool {
@@ -406,7 +402,7 @@ impl Mechanism for Kerberos {
     fn names(&self) -> Result<Username, Error> {
         match self.stage.name() {
             Some(name) => Ok(name.clone(self.alloc)?),
-            None => Err(out_of_sequence()),
+            None => Err(out_of_sequence().into()),
         }
     }
 
@@ -425,28 +421,28 @@ impl Mechanism for Kerberos {
             | Stage::SessionAsked(_)
             | Stage::SessionSent(_)
             | Stage::Ended(_)
-            | Stage::TicketSent => Err(out_of_sequence()),
+            | Stage::TicketSent => Err(out_of_sequence().into()),
         }
     }
 
     fn seal(&mut self, text: &[u8]) -> Result<Vec<u8>, Error> {
         let direction = self.stage.own_direction();
-        self.protection.seal(self.alloc, direction, text)
+        Ok(self.protection.seal(self.alloc, direction, text)?)
     }
 
     fn unseal(&mut self, blob: &[u8]) -> Result<Vec<u8>, Error> {
         let direction = self.stage.peer_direction();
-        self.protection.unseal(self.alloc, direction, blob)
+        Ok(self.protection.unseal(self.alloc, direction, blob)?)
     }
 
     fn sign(&mut self, text: &[u8]) -> Result<Vec<u8>, Error> {
         let direction = self.stage.own_direction();
-        self.protection.sign(self.alloc, direction, text)
+        Ok(self.protection.sign(self.alloc, direction, text)?)
     }
 
     fn verify(&mut self, mic: &[u8], text: &[u8]) -> Result<(), Error> {
         let direction = self.stage.peer_direction();
-        self.protection.verify(direction, mic, text)
+        Ok(self.protection.verify(direction, mic, text)?)
     }
 
     fn user_to_user(&self) -> bool {

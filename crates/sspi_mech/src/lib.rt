@@ -24,6 +24,7 @@ mod named;
 pub mod ntlm;
 pub mod plain_kdc;
 mod protection;
+pub mod refusal;
 pub mod step;
 
 pub use args::{AcceptSecurityContext, InitializeSecurityContext};
@@ -33,4 +34,5 @@ pub use kerberos::Kerberos;
 pub use mechanism::{Mechanism, mechanism_is_context};
 pub use ntlm::Ntlm;
 pub use plain_kdc::{PlainKdc, Scripted};
+pub use refusal::Refusal;
 pub use step::{Answer, Progressing, Reply, Step};

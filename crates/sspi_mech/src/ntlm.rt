@@ -1,4 +1,4 @@
-ghost use Rattle.std.specs.Prelude.{◌≡◌, None, IfErr, option_copied};
+ghost use Rattle.std.specs.Prelude.{◌≡◌, option_copied};
 
 mod acquire;
 mod claim;
@@ -19,6 +19,7 @@ use crate::ntlm::messages::{
 };
 use crate::ntlm::stage::Stage;
 use crate::protection::Protection;
+use crate::refusal::Refusal;
 use crate::step::{Answer, Reply, Step};
 use sspi_names::{Credentials, CredentialsBuffers, Username};
 use sspi_types::{
@@ -63,14 +64,15 @@ impl Ntlm {
     ghost use Rattle.sspi_mech.specs.NtlmSteps.{Steps, client_step, server_step, negotiates, authenticates, challenges, claims};
     ghost use Rattle.sspi_mech.specs.NtlmMessages.{is_negotiate, read_challenge};
     ghost use Rattle.sspi_mech.specs.NtlmClaims.{claim_of};
+    ghost use Rattle.sspi_mech.specs.Refusals.{answered};
 
     fn client_step(
         &mut self,
         handle: Option<&CredentialsBuffers>,
         input: &[u8],
-    ) -> Result<Step, Error>
-        ensures step { Steps (client_step self.old.stage self.old (option_copied handle.entry) input.now) self.old result self.new }
-        ensures plain { IfErr result (λ error. error.nstatus ≡ None) }
+    ) -> Result<Step, Refusal>
+        ensures { Steps (client_step self.old.stage self.old (option_copied handle.entry) input.now) self.old (answered result)
+            self.new }
     {
         match &self.stage {
             Stage::Unused => self.negotiate(),
@@ -81,9 +83,8 @@ impl Ntlm {
         }
     }
 
-    fn negotiate(&mut self) -> Result<Step, Error>
-        ensures step { Steps (negotiates self.old) self.old result self.new }
-        ensures plain { IfErr result (λ error. error.nstatus ≡ None) }
+    fn negotiate(&mut self) -> Result<Step, Refusal>
+        ensures { Steps (negotiates self.old) self.old (answered result) self.new }
     {
         let output = Bytes::from_slice(self.alloc, NEGOTIATE)?;
         self.stage = Stage::NegotiateSent;
@@ -97,9 +98,9 @@ impl Ntlm {
         &mut self,
         handle: Option<&CredentialsBuffers>,
         input: &[u8],
-    ) -> Result<Step, Error>
-        ensures step { Steps (authenticates self.old (read_challenge input.now) (option_copied handle.entry)) self.old result self.new }
-        ensures plain { IfErr result (λ error. error.nstatus ≡ None) }
+    ) -> Result<Step, Refusal>
+        ensures { Steps (authenticates self.old (read_challenge input.now) (option_copied handle.entry)) self.old (answered result)
+            self.new }
     {
         let Some(challenge) = read_challenge(input) else {
             return Err(malformed());
@@ -118,9 +119,8 @@ impl Ntlm {
         })
     }
 
-    fn server_step(&mut self, input: &[u8]) -> Result<Step, Error>
-        ensures step { Steps (server_step self.old.stage self.old input.now) self.old result self.new }
-        ensures plain { IfErr result (λ error. error.nstatus ≡ None) }
+    fn server_step(&mut self, input: &[u8]) -> Result<Step, Refusal>
+        ensures { Steps (server_step self.old.stage self.old input.now) self.old (answered result) self.new }
     {
         match &self.stage {
             Stage::Unused => self.challenge(input),
@@ -131,9 +131,8 @@ impl Ntlm {
         }
     }
 
-    fn challenge(&mut self, input: &[u8]) -> Result<Step, Error>
-        ensures step { Steps (challenges self.old (is_negotiate input.now)) self.old result self.new }
-        ensures plain { IfErr result (λ error. error.nstatus ≡ None) }
+    fn challenge(&mut self, input: &[u8]) -> Result<Step, Refusal>
+        ensures { Steps (challenges self.old (is_negotiate input.now)) self.old (answered result) self.new }
     {
         if !is_negotiate(input) {
             return Err(malformed());
@@ -146,9 +145,8 @@ impl Ntlm {
         })
     }
 
-    fn take_claim(&mut self, input: &[u8]) -> Result<Step, Error>
-        ensures step { Steps (claims self.old (claim_of input.now)) self.old result self.new }
-        ensures plain { IfErr result (λ error. error.nstatus ≡ None) }
+    fn take_claim(&mut self, input: &[u8]) -> Result<Step, Refusal>
+        ensures { Steps (claims self.old (claim_of input.now)) self.old (answered result) self.new }
     {
         let claim = claim_of(self.alloc, input)?;
         self.stage = Stage::Claimed(claim);
@@ -159,16 +157,16 @@ impl Ntlm {
     }
 }
 
-fn out_of_sequence() -> Error
-    ensures { result ≡ record { error_type = ErrorKind.OutOfSequence; description = Reason.Sequence; nstatus = None } }
+fn out_of_sequence() -> Refusal
+    ensures { result ≡ record { error_type = ErrorKind.OutOfSequence; description = Reason.Sequence } }
 {
-    Error::new(ErrorKind::OutOfSequence, Reason::Sequence)
+    Refusal::new(ErrorKind::OutOfSequence, Reason::Sequence)
 }
 
-fn malformed() -> Error
-    ensures { result ≡ record { error_type = ErrorKind.InvalidToken; description = Reason.TokenForm; nstatus = None } }
+fn malformed() -> Refusal
+    ensures { result ≡ record { error_type = ErrorKind.InvalidToken; description = Reason.TokenForm } }
 {
-    Error::new(ErrorKind::InvalidToken, Reason::TokenForm)
+    Refusal::new(ErrorKind::InvalidToken, Reason::TokenForm)
 }
 
 impl Mechanism for Ntlm {
@@ -201,22 +199,22 @@ impl Mechanism for Ntlm {
         credential_use: CredentialUse,
         auth_data: Option<&Credentials>,
     ) -> Result<Option<CredentialsBuffers>, Error> {
-        buffers_of(self.alloc, credential_use, auth_data)
+        Ok(buffers_of(self.alloc, credential_use, auth_data)?)
     }
 
     fn initialize(&mut self, args: &InitializeSecurityContext<'_>) -> Answer {
         match self.client_step(args.credentials_handle, args.input) {
             Ok(step) => Answer::Done(step),
-            Err(error) => Answer::Refused(error),
+            Err(refusal) => Answer::Refused(refusal.into()),
         }
     }
 
     fn resume(&mut self, _reply: &Reply) -> Answer {
-        Answer::Refused(out_of_sequence())
+        Answer::Refused(out_of_sequence().into())
     }
 
     fn accept(&mut self, args: &AcceptSecurityContext<'_>) -> Result<Step, Error> {
-        self.server_step(args.input)
+        Ok(self.server_step(args.input)?)
     }
 
     fn waiting(&self) -> bool {
@@ -236,7 +234,9 @@ impl Mechanism for Ntlm {
         match &self.stage {
             Stage::AuthenticateSent(name) => Ok(name.clone(self.alloc)?),
             Stage::Claimed(claim) => Ok(claim.name.clone(self.alloc)?),
-            Stage::Unused | Stage::NegotiateSent | Stage::ChallengeSent => Err(out_of_sequence()),
+            Stage::Unused | Stage::NegotiateSent | Stage::ChallengeSent => Err(
+                out_of_sequence().into(),
+            ),
         }
     }
 
@@ -248,22 +248,22 @@ impl Mechanism for Ntlm {
 
     fn seal(&mut self, text: &[u8]) -> Result<Vec<u8>, Error> {
         let direction = self.stage.own_direction();
-        self.protection.seal(self.alloc, direction, text)
+        Ok(self.protection.seal(self.alloc, direction, text)?)
     }
 
     fn unseal(&mut self, blob: &[u8]) -> Result<Vec<u8>, Error> {
         let direction = self.stage.peer_direction();
-        self.protection.unseal(self.alloc, direction, blob)
+        Ok(self.protection.unseal(self.alloc, direction, blob)?)
     }
 
     fn sign(&mut self, text: &[u8]) -> Result<Vec<u8>, Error> {
         let direction = self.stage.own_direction();
-        self.protection.sign(self.alloc, direction, text)
+        Ok(self.protection.sign(self.alloc, direction, text)?)
     }
 
     fn verify(&mut self, mic: &[u8], text: &[u8]) -> Result<(), Error> {
         let direction = self.stage.peer_direction();
-        self.protection.verify(direction, mic, text)
+        Ok(self.protection.verify(direction, mic, text)?)
     }
 
     fn user_to_user(&self) -> bool {

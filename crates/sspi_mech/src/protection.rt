@@ -3,8 +3,9 @@ ghost use Rattle.sspi_mech.specs.Protection.{direction_byte, tag_of, seal_tag, m
 ghost use Rattle.sspi_mech.specs.Protection.{making_refusal, unseal_refusal, verify_refusal, no_protection};
 ghost use Rattle.sspi_mech.specs.Refusals.{IsCause};
 
+use crate::refusal::Refusal;
 use sha2::{Digest, Sha256};
-use sspi_types::{Error, ErrorKind, Reason};
+use sspi_types::{ErrorKind, Reason};
 use std::alloc::Global;
 
 const TAG_LENGTH: usize = 16;
@@ -60,14 +61,13 @@ impl Protection {
     }
 
     /// The key; OutOfSequence before there is one.
-    pub fn key(&self) -> Result<&[u8; 32], Error>
+    pub fn key(&self) -> Result<&[u8; 32], Refusal>
         ensures ok { IfOk result (λ key. self.now.key ≡ Some key.now) }
-        ensures err { IfErr result (λ error. (self.now.key ≡ None) × (error.error_type ≡ ErrorKind.OutOfSequence) ×
-            (error.nstatus ≡ None)) }
+        ensures err { IfErr result (λ error. (self.now.key ≡ None) × (error.error_type ≡ ErrorKind.OutOfSequence)) }
     {
         match &self.key {
             Some(key) => Ok(key),
-            None => Err(Error::new(ErrorKind::OutOfSequence, Reason::Sequence)),
+            None => Err(Refusal::new(ErrorKind::OutOfSequence, Reason::Sequence)),
         }
     }
 
@@ -77,14 +77,13 @@ impl Protection {
         alloc: Global,
         direction: Direction,
         text: &[u8],
-    ) -> Result<Vec<u8>, Error>
+    ) -> Result<Vec<u8>, Refusal>
         // What `Ok` holds.
         ensures blob { IfOk result (λ blob. SealsBy self.new.key direction self.old.sealed text.now blob.items) }
         ensures ok { OnOk result (self.new ≡ record self.old { sealed = self.old.sealed + 1 }) }
         ensures permitted { OnOk result (making_refusal self.old.key self.old.sealed ≡ None) }
         // What a refusal says, and what it leaves.
         ensures err { OnErr result (self.new ≡ self.old) }
-        ensures plain { IfErr result (λ error. error.nstatus ≡ None) }
         ensures cause { IfErr result (λ error. IsCause (making_refusal self.old.key self.old.sealed) error.error_type) }
     {
         let key = self.key()?;
@@ -103,25 +102,24 @@ impl Protection {
         alloc: Global,
         direction: Direction,
         blob: &[u8],
-    ) -> Result<Vec<u8>, Error>
+    ) -> Result<Vec<u8>, Refusal>
         // What `Ok` holds.
         ensures text { IfOk result (λ text. OpensBy self.new.key direction self.old.unsealed blob.now text.items) }
         ensures ok { OnOk result (self.new ≡ record self.old { unsealed = self.old.unsealed + 1 }) }
         ensures permitted { OnOk result (unseal_refusal self.old.key direction self.old.unsealed blob.now ≡ None) }
         // What a refusal says, and what it leaves.
         ensures err { OnErr result (self.new ≡ self.old) }
-        ensures plain { IfErr result (λ error. error.nstatus ≡ None) }
         ensures cause { IfErr result (λ error. IsCause (unseal_refusal self.old.key direction self.old.unsealed blob.now)
             error.error_type) }
     {
         let key = self.key()?;
         let count = next(self.unsealed)?;
         if blob.len() < TAG_LENGTH {
-            return Err(Error::new(ErrorKind::InvalidToken, Reason::ShortBlob));
+            return Err(Refusal::new(ErrorKind::InvalidToken, Reason::ShortBlob));
         }
         let (tag, text) = blob.split_at(TAG_LENGTH);
         if tag != seal_tag(key, direction, self.unsealed, text).as_slice() {
-            return Err(Error::new(ErrorKind::MessageAltered, Reason::Tag));
+            return Err(Refusal::new(ErrorKind::MessageAltered, Reason::Tag));
         }
         let text = Vec::from_slice(alloc, text)?;
         self.unsealed = count;
@@ -134,14 +132,13 @@ impl Protection {
         alloc: Global,
         direction: Direction,
         text: &[u8],
-    ) -> Result<Vec<u8>, Error>
+    ) -> Result<Vec<u8>, Refusal>
         // What `Ok` holds.
         ensures mic { IfOk result (λ mic. SignsBy self.new.key direction self.old.signed text.now mic.items) }
         ensures ok { OnOk result (self.new ≡ record self.old { signed = self.old.signed + 1 }) }
         ensures permitted { OnOk result (making_refusal self.old.key self.old.signed ≡ None) }
         // What a refusal says, and what it leaves.
         ensures err { OnErr result (self.new ≡ self.old) }
-        ensures plain { IfErr result (λ error. error.nstatus ≡ None) }
         ensures cause { IfErr result (λ error. IsCause (making_refusal self.old.key self.old.signed) error.error_type) }
     {
         let key = self.key()?;
@@ -153,21 +150,20 @@ impl Protection {
     }
 
     /// Whether the MIC is that of the text; MessageAltered where it is not.
-    pub fn verify(&mut self, direction: Direction, mic: &[u8], text: &[u8]) -> Result<(), Error>
+    pub fn verify(&mut self, direction: Direction, mic: &[u8], text: &[u8]) -> Result<(), Refusal>
         // What `Ok` holds.
         ensures mic { OnOk result (VerifiesBy self.new.key direction self.old.verified mic.now text.now) }
         ensures ok { OnOk result (self.new ≡ record self.old { verified = self.old.verified + 1 }) }
         ensures permitted { OnOk result (verify_refusal self.old.key direction self.old.verified mic.now text.now ≡ None) }
         // What a refusal says, and what it leaves.
         ensures err { OnErr result (self.new ≡ self.old) }
-        ensures plain { IfErr result (λ error. error.nstatus ≡ None) }
         ensures cause { IfErr result (λ error. verify_refusal self.old.key direction self.old.verified mic.now text.now ≡ Some
             error.error_type) }
     {
         let key = self.key()?;
         let count = next(self.verified)?;
         if mic != mic_of(key, direction, self.verified, text).as_slice() {
-            return Err(Error::new(ErrorKind::MessageAltered, Reason::Tag));
+            return Err(Refusal::new(ErrorKind::MessageAltered, Reason::Tag));
         }
         self.verified = count;
         Ok(())
@@ -175,14 +171,13 @@ impl Protection {
 }
 
 /// The count after this one; ContextExpired where there is none.
-fn next(count: u64) -> Result<u64, Error>
+fn next(count: u64) -> Result<u64, Refusal>
     ensures ok { IfOk result (λ next. ((count == 2 ^ 64 - 1) ≡ false) × (next ≡ count + 1)) }
-    ensures err { IfErr result (λ error. ((count == 2 ^ 64 - 1) ≡ true) × (error.error_type ≡ ErrorKind.ContextExpired) ×
-        (error.nstatus ≡ None)) }
+    ensures err { IfErr result (λ error. ((count == 2 ^ 64 - 1) ≡ true) × (error.error_type ≡ ErrorKind.ContextExpired)) }
 {
     match count.checked_add(1) {
         Some(next) => Ok(next),
-        None => Err(Error::new(ErrorKind::ContextExpired, Reason::Spent)),
+        None => Err(Refusal::new(ErrorKind::ContextExpired, Reason::Spent)),
     }
 }
 

@@ -1,11 +1,12 @@
-ghost use Rattle.std.specs.Prelude.{◌≡◌, None, IfErr};
+ghost use Rattle.std.specs.Prelude.{◌≡◌};
 ghost use Rattle.sspi_mech.specs.KerberosSteps.{arrival_of};
 ghost use Rattle.sspi_mech.specs.Refusals.{Gives};
 
 use crate::kerberos::messages::read_ap_request;
 use crate::named::text_in;
+use crate::refusal::Refusal;
 use sspi_names::Username;
-use sspi_types::{Error, ErrorKind, Reason};
+use sspi_types::{ErrorKind, Reason};
 use std::alloc::Global;
 
 /// Who a client says it is, and the session key that it sent.
@@ -18,15 +19,14 @@ pub struct Arrival {
 }
 
 /// What a client says in its last message but one.
-pub fn arrival_of(alloc: Global, message: &[u8]) -> Result<Arrival, Error>
-    ensures answer { Gives result (arrival_of message.now) }
-    ensures plain { IfErr result (λ error. error.nstatus ≡ None) }
+pub fn arrival_of(alloc: Global, message: &[u8]) -> Result<Arrival, Refusal>
+    ensures { Gives result (arrival_of message.now) }
 {
     let Some((name, key)) = read_ap_request(message) else {
-        return Err(Error::new(ErrorKind::InvalidToken, Reason::TokenForm));
+        return Err(Refusal::new(ErrorKind::InvalidToken, Reason::TokenForm));
     };
     let Some(text) = text_in(name) else {
-        return Err(Error::new(ErrorKind::InvalidToken, Reason::Utf));
+        return Err(Refusal::new(ErrorKind::InvalidToken, Reason::Utf));
     };
     let name = Username::parse(alloc, text)?;
     Ok(Arrival { name, key: *key })

@@ -1,11 +1,12 @@
-ghost use Rattle.std.specs.Prelude.{◌≡◌, ◌≤◌, None, IfErr, IfOk, length, option_copied};
+ghost use Rattle.std.specs.Prelude.{◌≡◌, ◌≤◌, IfOk, length, option_copied};
 ghost use Rattle.sspi_names.specs.Name.{inner_of};
 ghost use Rattle.sspi_mech.specs.KerberosLogon.{acquired, name_in, short_name, logon_of, protocol_of, request_at};
 ghost use Rattle.sspi_mech.specs.Refusals.{Gives};
 
 use crate::kerberos::realms::Realms;
+use crate::refusal::Refusal;
 use sspi_names::{Credentials, CredentialsBuffers, NetworkProtocol, NetworkRequest, Username};
-use sspi_types::{Bytes, CredentialUse, Error, ErrorKind, Reason, Text};
+use sspi_types::{Bytes, CredentialUse, ErrorKind, Reason, Text};
 use std::alloc::Global;
 use std::marker::Model;
 
@@ -62,14 +63,13 @@ pub fn buffers_of(
     alloc: Global,
     credential_use: CredentialUse,
     auth_data: Option<&Credentials>,
-) -> Result<Option<CredentialsBuffers>, Error>
+) -> Result<Option<CredentialsBuffers>, Refusal>
     ensures answer { Gives result (acquired credential_use (option_copied auth_data.entry)) }
-    ensures plain { IfErr result (λ error. error.nstatus ≡ None) }
 {
     match auth_data {
         Some(credentials) => Ok(Some(credentials.to_buffers(alloc)?)),
         None => match credential_use {
-            CredentialUse::Outbound => Err(Error::new(
+            CredentialUse::Outbound => Err(Refusal::new(
                 ErrorKind::NoCredentials,
                 Reason::NoAuthData,
             )),
@@ -79,12 +79,11 @@ pub fn buffers_of(
 }
 
 /// The name in a client's credentials.
-fn name_in(alloc: Global, handle: Option<&CredentialsBuffers>) -> Result<Username, Error>
+fn name_in(alloc: Global, handle: Option<&CredentialsBuffers>) -> Result<Username, Refusal>
     ensures answer { Gives result (name_in (option_copied handle.entry)) }
-    ensures plain { IfErr result (λ error. error.nstatus ≡ None) }
 {
     let buffers = match handle {
-        None => return Err(Error::new(ErrorKind::NoCredentials, Reason::NoAuthData)),
+        None => return Err(Refusal::new(ErrorKind::NoCredentials, Reason::NoAuthData)),
         Some(CredentialsBuffers::Keytab(identity)) => return Ok(identity.username.clone(alloc)?),
         Some(CredentialsBuffers::AuthIdentity(buffers)) => buffers,
     };
@@ -98,15 +97,14 @@ pub fn logon_of(
     alloc: Global,
     realms: &Realms,
     handle: Option<&CredentialsBuffers>,
-) -> Result<Logon, Error>
+) -> Result<Logon, Refusal>
     ensures answer { Gives result (logon_of realms.now (option_copied handle.entry)) }
-    ensures plain { IfErr result (λ error. error.nstatus ≡ None) }
 {
     let name = name_in(alloc, handle)?;
     let url = realms.kdc_of(alloc, &name)?;
     match ClientName::new(name) {
         Some(name) => Ok(Logon { name, url }),
-        None => Err(Error::new(ErrorKind::InternalError, Reason::TooLong)),
+        None => Err(Refusal::new(ErrorKind::InternalError, Reason::TooLong)),
     }
 }
 

@@ -1,9 +1,10 @@
-ghost use Rattle.std.specs.Prelude.{◌≡◌, None, IfErr, option_copied};
+ghost use Rattle.std.specs.Prelude.{◌≡◌, option_copied};
 ghost use Rattle.sspi_mech.specs.KerberosLogon.{url_by, kdc_of};
 ghost use Rattle.sspi_mech.specs.Refusals.{Gives};
 
+use crate::refusal::Refusal;
 use sspi_names::{KdcTable, Username};
-use sspi_types::{Error, ErrorKind, Reason, Text};
+use sspi_types::{ErrorKind, Reason, Text};
 use std::alloc::Global;
 
 /// Which KDC a client asks.
@@ -26,13 +27,12 @@ impl Realms {
     }
 
     /// The URL of the KDC of this name; NoAuthenticatingAuthority where there is none.
-    pub fn kdc_of(&self, alloc: Global, name: &Username) -> Result<Text, Error>
-        ensures answer { Gives result (kdc_of self.now name.now) }
-        ensures plain { IfErr result (λ error. error.nstatus ≡ None) }
+    pub fn kdc_of(&self, alloc: Global, name: &Username) -> Result<Text, Refusal>
+        ensures { Gives result (kdc_of self.now name.now) }
     {
         match self.url(name) {
             Some(url) => Ok(Text::from_text(alloc, url)?),
-            None => Err(Error::new(ErrorKind::NoAuthenticatingAuthority, Reason::Kdc)),
+            None => Err(Refusal::new(ErrorKind::NoAuthenticatingAuthority, Reason::Kdc)),
         }
     }
 }

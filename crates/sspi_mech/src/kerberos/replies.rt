@@ -1,52 +1,49 @@
-ghost use Rattle.std.specs.Prelude.{◌≡◌, codes, None, IfErr};
+ghost use Rattle.std.specs.Prelude.{◌≡◌, codes};
 ghost use Rattle.sspi_mech.specs.KerberosReplies.{kind_of_code, kind_in, granted, first_key_in, session_key_in};
 ghost use Rattle.sspi_mech.specs.Named.{after_letters};
 ghost use Rattle.sspi_mech.specs.Refusals.{Gives};
 
 use crate::kerberos::messages::{AS_REPLY_LETTERS, ERROR_LETTERS, TGS_REPLY_LETTERS};
 use crate::named::{after_letters, read_block};
+use crate::refusal::Refusal;
 use crate::step::Reply;
-use sspi_types::{Error, ErrorKind, Reason};
+use sspi_types::{ErrorKind, Reason};
 
 /// The key that a KDC gave a name.
-pub fn first_key_in(reply: &Reply) -> Result<[u8; 32], Error>
-    ensures answer { Gives result (first_key_in reply.now) }
-    ensures plain { IfErr result (λ error. error.nstatus ≡ None) }
+pub fn first_key_in(reply: &Reply) -> Result<[u8; 32], Refusal>
+    ensures { Gives result (first_key_in reply.now) }
 {
     granted(AS_REPLY_LETTERS, reply)
 }
 
 /// The session key that a KDC gave.
-pub fn session_key_in(reply: &Reply) -> Result<[u8; 32], Error>
-    ensures answer { Gives result (session_key_in reply.now) }
-    ensures plain { IfErr result (λ error. error.nstatus ≡ None) }
+pub fn session_key_in(reply: &Reply) -> Result<[u8; 32], Refusal>
+    ensures { Gives result (session_key_in reply.now) }
 {
     granted(TGS_REPLY_LETTERS, reply)
 }
 
 /// The key of a reply that begins with these letters.
-fn granted(letters: &[u8; 2], reply: &Reply) -> Result<[u8; 32], Error>
-    ensures answer { Gives result (granted letters.now reply.now) }
-    ensures plain { IfErr result (λ error. error.nstatus ≡ None) }
+fn granted(letters: &[u8; 2], reply: &Reply) -> Result<[u8; 32], Refusal>
+    ensures { Gives result (granted letters.now reply.now) }
 {
     match reply {
         Reply::Answered(reply) => match read_block(letters, reply.as_slice()) {
             Some(key) => Ok(*key),
             None => Err(refusal_of(kind_in(reply.as_slice()))),
         },
-        Reply::Failed => Err(Error::new(ErrorKind::NoAuthenticatingAuthority, Reason::Kdc)),
+        Reply::Failed => Err(Refusal::new(ErrorKind::NoAuthenticatingAuthority, Reason::Kdc)),
     }
 }
 
-fn refusal_of(kind: ErrorKind) -> Error
-    ensures kind { result.error_type ≡ kind }
-    ensures plain { result.nstatus ≡ None }
+fn refusal_of(kind: ErrorKind) -> Refusal
+    ensures { result.error_type ≡ kind }
 {
     let reason = match kind {
         ErrorKind::InvalidToken => Reason::TokenForm,
         _ => Reason::Kdc,
     };
-    Error::new(kind, reason)
+    Refusal::new(kind, reason)
 }
 
 /// Why a KDC gave no key: by the code of its error, else its reply is malformed.

@@ -1,4 +1,4 @@
-ghost use Rattle.std.specs.Prelude.{◌≡◌, None, IfErr, find, option_copied};
+ghost use Rattle.std.specs.Prelude.{◌≡◌, find, option_copied};
 ghost use Rattle.std.specs.List.{list_any};
 ghost use Rattle.sspi_mech.specs.NtlmClaims.{claim_of};
 ghost use Rattle.sspi_mech.specs.NtlmIdentities.{has_password, proves, claimed_key, key_at};
@@ -7,20 +7,20 @@ ghost use Rattle.sspi_mech.specs.Refusals.{Gives};
 use crate::named::text_in;
 use crate::ntlm::messages::{key_of, proof_of, read_authenticate};
 use crate::ntlm::stage::{Claim, Stage};
+use crate::refusal::Refusal;
 use sspi_names::{Credentials, Username};
-use sspi_types::{Bytes, Error, ErrorKind, Reason};
+use sspi_types::{Bytes, ErrorKind, Reason};
 use std::alloc::Global;
 
 /// Who a client says it is in its last message.
-pub fn claim_of(alloc: Global, message: &[u8]) -> Result<Claim, Error>
-    ensures answer { Gives result (claim_of message.now) }
-    ensures plain { IfErr result (λ error. error.nstatus ≡ None) }
+pub fn claim_of(alloc: Global, message: &[u8]) -> Result<Claim, Refusal>
+    ensures { Gives result (claim_of message.now) }
 {
     let Some((name, proof)) = read_authenticate(message) else {
-        return Err(Error::new(ErrorKind::InvalidToken, Reason::TokenForm));
+        return Err(Refusal::new(ErrorKind::InvalidToken, Reason::TokenForm));
     };
     let Some(text) = text_in(name) else {
-        return Err(Error::new(ErrorKind::InvalidToken, Reason::Utf));
+        return Err(Refusal::new(ErrorKind::InvalidToken, Reason::Utf));
     };
     let name = Username::parse(alloc, text)?;
     let text = Bytes::from_slice(alloc, text.as_bytes())?;
@@ -33,35 +33,33 @@ pub fn claim_of(alloc: Global, message: &[u8]) -> Result<Claim, Error>
 
 impl Stage {
     /// The key that the identities give; OutOfSequence but on a server that has a claim.
-    pub fn key(&self, challenge: &[u8; 8], identities: &[Credentials]) -> Result<[u8; 32], Error>
-        ensures answer { Gives result (key_at self.now challenge.now identities.now) }
-        ensures plain { IfErr result (λ error. error.nstatus ≡ None) }
+    pub fn key(&self, challenge: &[u8; 8], identities: &[Credentials]) -> Result<[u8; 32], Refusal>
+        ensures { Gives result (key_at self.now challenge.now identities.now) }
     {
         match self {
             Stage::Claimed(claim) => claim.key(challenge, identities),
             Stage::Unused
             | Stage::NegotiateSent
             | Stage::AuthenticateSent(_)
-            | Stage::ChallengeSent => Err(Error::new(ErrorKind::OutOfSequence, Reason::Sequence)),
+            | Stage::ChallengeSent => Err(Refusal::new(ErrorKind::OutOfSequence, Reason::Sequence)),
         }
     }
 }
 
 impl Claim {
     /// The key of the first identity whose password gives the proof.
-    pub fn key(&self, challenge: &[u8; 8], identities: &[Credentials]) -> Result<[u8; 32], Error>
-        ensures answer { Gives result (claimed_key challenge.now self.now identities.now) }
-        ensures plain { IfErr result (λ error. error.nstatus ≡ None) }
+    pub fn key(&self, challenge: &[u8; 8], identities: &[Credentials]) -> Result<[u8; 32], Refusal>
+        ensures { Gives result (claimed_key challenge.now self.now identities.now) }
     {
         if !have_password(identities) {
-            return Err(Error::new(ErrorKind::NoCredentials, no_password(identities)));
+            return Err(Refusal::new(ErrorKind::NoCredentials, no_password(identities)));
         }
         match self.find_proof(challenge, identities) {
             Some(Credentials::AuthIdentity(identity)) => {
                 let password = identity.password.value.as_str().as_bytes();
                 Ok(key_of(challenge, self.text.as_slice(), password))
             }
-            Some(Credentials::Keytab(_)) | None => Err(Error::new(
+            Some(Credentials::Keytab(_)) | None => Err(Refusal::new(
                 ErrorKind::LogonDenied,
                 Reason::Proof,
             )),

@@ -1,10 +1,11 @@
-ghost use Rattle.std.specs.Prelude.{◌≡◌, ◌≤◌, length, IfOk, IfErr, option_copied};
+ghost use Rattle.std.specs.Prelude.{◌≡◌, ◌≤◌, length, IfOk, option_copied};
 ghost use Rattle.sspi_names.specs.Name.{inner_of};
 ghost use Rattle.sspi_mech.specs.NtlmSteps.{login_of};
 ghost use Rattle.sspi_mech.specs.Refusals.{Gives};
 
+use crate::refusal::Refusal;
 use sspi_names::{CredentialsBuffers, Username};
-use sspi_types::{Error, ErrorKind, Reason, Text};
+use sspi_types::{ErrorKind, Reason, Text};
 use std::alloc::Global;
 
 /// The most bytes that the name in a message has.
@@ -20,14 +21,13 @@ pub struct Login {
 }
 
 /// The name and the password of a client's credentials.
-pub fn login_of(alloc: Global, handle: Option<&CredentialsBuffers>) -> Result<Login, Error>
+pub fn login_of(alloc: Global, handle: Option<&CredentialsBuffers>) -> Result<Login, Refusal>
     ensures answer { Gives result (login_of (option_copied handle.entry)) }
     ensures short { IfOk result (λ login. length (inner_of login.name) ≤ 65535) }
-    ensures plain { IfErr result (λ error. error.nstatus ≡ None) }
 {
     let buffers = match handle {
-        None => return Err(Error::new(ErrorKind::NoCredentials, Reason::NoAuthData)),
-        Some(CredentialsBuffers::Keytab(_)) => return Err(Error::new(
+        None => return Err(Refusal::new(ErrorKind::NoCredentials, Reason::NoAuthData)),
+        Some(CredentialsBuffers::Keytab(_)) => return Err(Refusal::new(
             ErrorKind::UnknownCredentials,
             Reason::Keytab,
         )),
@@ -37,7 +37,7 @@ pub fn login_of(alloc: Global, handle: Option<&CredentialsBuffers>) -> Result<Lo
     let domain = buffers.domain.to_string(alloc)?;
     let name = Username::new(alloc, user.as_str(), Some(domain.as_str()))?;
     if name.inner().len() > LONGEST_NAME {
-        return Err(Error::new(ErrorKind::InternalError, Reason::TooLong));
+        return Err(Refusal::new(ErrorKind::InternalError, Reason::TooLong));
     }
     let password = buffers.password.value.to_string(alloc)?;
     Ok(Login {
