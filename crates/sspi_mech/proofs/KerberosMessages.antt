@@ -1,11 +1,11 @@
 -- What an end of plain Kerberos or its KDC writes is read.
-use Rattle.std.proofs.Common.{◌≡◌, ℕ, ◌<◌, ◌^◌, List, ◌++◌, length, true, false, Some, Ok, Err, eq-eqb, refl}
+use Rattle.std.proofs.Common.{◌≡◌, ℕ, ◌<◌, ◌^◌, List, length, Some, Ok, refl}
 use Rattle.std.proofs.lemmas.Str.{is_utf8-from_IsUtf8}
 use Rattle.sspi_names.specs.Name.{Name, IsName, inner_of}
 use Rattle.sspi_names.proofs.Identities.{inner_of-IsUtf8}
 use Rattle.sspi_names.proofs.Joined.{inner_back}
 use Rattle.sspi_mech.specs.KerberosMessages.{reply_proof, ap_request, ap_reply}
-use Rattle.sspi_mech.specs.KerberosSteps.{arrival_of, shown_to, proof_by}
+use Rattle.sspi_mech.specs.KerberosSteps.{arrival_of, shown_to}
 use Rattle.sspi_mech.specs.Named.{block_in}
 use Rattle.sspi_mech.proofs.Messages.{named_is_read}
 use Rattle.sspi_mech.proofs.Opened.{same_bytes}

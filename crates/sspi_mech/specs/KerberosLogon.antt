@@ -1,5 +1,5 @@
 -- Who a client of plain Kerberos is, and which KDC it asks.
-use Rattle.std.specs.Prelude.{ℕ, ◌==◌, List, length, take, codes, nat_lt, Option, None, Some, Result, Ok, Err, if◌then◌else◌}
+use Rattle.std.specs.Prelude.{ℕ, List, length, take, codes, nat_lt, Option, None, Some, Result, Ok, Err, if◌then◌else◌}
 use Rattle.std.specs.Str.{bytes_eq}
 use Rattle.sspi_types.specs.declared.credential_use.CredentialUse.{CredentialUse}
 use Rattle.sspi_types.specs.declared.credential_use.CredentialUse.TheVariants.{Inbound, Outbound, Both, Default}

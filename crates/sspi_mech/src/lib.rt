@@ -7,6 +7,8 @@
 //!   `specs/Ntlm.antt` says exactly what each of its calls answers, and `ntlm::laws` what follows for two ends.
 //! - `Kerberos`: plain Kerberos, made for this port, with the roles of RFC 4120 and of user-to-user authentication, and SHA-256.
 //!   `specs/Kerberos.antt` says exactly what each of its calls answers, and `kerberos::laws` what follows for two ends.
+//! - `Refusal`: what the calls behind a mechanism or a negotiation refuse with. It has no NTSTATUS code, and is an `Error` to
+//!   their callers.
 //! - `Kdc`: where a client's requests go. `PlainKdc` gives keys to its users, as `specs/PlainKdc.antt` says; `FailingKdc`
 //!   answers none.
 //!

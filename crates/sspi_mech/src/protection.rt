@@ -1,4 +1,4 @@
-ghost use Rattle.std.specs.Prelude.{◌≡◌, ◌+◌, ◌-◌, ◌^◌, ◌==◌, false, true, None, Some, IfOk, OnOk, OnErr, IfErr, option_copied};
+ghost use Rattle.std.specs.Prelude.{◌≡◌, ◌+◌, ◌-◌, ◌^◌, ◌==◌, false, true, None, Some, IfOk, OnOk, OnErr, IfErr};
 ghost use Rattle.sspi_mech.specs.Protection.{direction_byte, tag_of, seal_tag, mic_of, SealsBy, OpensBy, SignsBy, VerifiesBy};
 ghost use Rattle.sspi_mech.specs.Protection.{making_refusal, unseal_refusal, verify_refusal, no_protection};
 ghost use Rattle.sspi_mech.specs.Refusals.{IsCause};

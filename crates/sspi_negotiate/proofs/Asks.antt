@@ -1,12 +1,11 @@
 -- A question of a resumed step to a KDC is one fewer to come, also where NTLM took the place of Kerberos.
-use Rattle.std.proofs.Common.{◌≡◌, ◌&&◌, ◌+◌, ◌<◌, ◌≤◌, ℕ, List, Bool, true, false, cond, refl, sym, ap, ◌∙◌, subst, arith}
+use Rattle.std.proofs.Common.{◌≡◌, ◌&&◌, ◌<◌, ℕ, List, Bool, true, false, cond, refl, sym, ap, ◌∙◌, subst, arith}
 use Rattle.std.proofs.lemmas.Bool.{false≢true}
 use Rattle.sspi_types.specs.declared.error_kind.ErrorKind.{ErrorKind}
 use Rattle.sspi_names.specs.declared.network.NetworkRequest.{NetworkRequest}
 use Rattle.sspi_mech.specs.declared.step.Answer.{Answer}
 use Rattle.sspi_mech.specs.declared.step.Answer.TheVariants.{Done, Ask, Refused}
 use Rattle.sspi_mech.specs.declared.step.Reply.{Reply}
-use Rattle.sspi_mech.specs.declared.step.Step.{Step}
 use Rattle.sspi_mech.specs.Calls.{StepArgs}
 use Rattle.sspi_mech.specs.Laws.{IsMechanism}
 use Rattle.sspi_mech.specs.Meaning.{Meaning}
@@ -22,7 +21,7 @@ use Rattle.sspi_negotiate.specs.Client.{resumes_opening, resumes_answering, resu
 use Rattle.sspi_negotiate.specs.Fallback.{is_fallback}
 use Rattle.sspi_negotiate.specs.Follows.{Follows, Went}
 use Rattle.sspi_negotiate.specs.Hand.{hand, hand_of, asks_left, in_place_of_kerberos, is_kerberos_hand}
-use Rattle.sspi_negotiate.specs.Plan.{Plan, Stops}
+use Rattle.sspi_negotiate.specs.Plan.{Stops}
 use Rattle.sspi_negotiate.specs.Values.{Values}
 use Rattle.sspi_negotiate.proofs.Ends.{ends}
 use Rattle.sspi_negotiate.proofs.HandLaws.{left_falls, left_again}

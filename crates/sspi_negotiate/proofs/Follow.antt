@@ -1,5 +1,5 @@
 -- A plan is met one question at a time.
-use Rattle.std.proofs.Common.{◌≡◌, ◌≢◌, ℕ, Bool, List, Some, Ok, Err, refl}
+use Rattle.std.proofs.Common.{◌≡◌, ◌≢◌, ℕ, Bool, List, Some, Ok, Err, refl, subst}
 use Rattle.sspi_types.specs.declared.error.Error.{Error}
 use Rattle.sspi_types.specs.declared.error_kind.ErrorKind.{ErrorKind}
 use Rattle.sspi_types.specs.declared.error_kind.ErrorKind.TheVariants.{InsufficientMemory}
@@ -78,6 +78,14 @@ module _ {M : Type 0} {c : Meaning Origin M} {m m2 : M} {v2 : Values} where
   not_stepped {r = r} m1 error h other p =
       record { as_planned = unless_map r (λ q. (m1, Refused error, h, q)) (unless_both _ _ r other p.as_planned) }
 
+  -- the same of the kind under which the refusal goes on
+  pub not_stepped_as : {r : Answer} {v : Values} {args : StepArgs} {go : Step → Plan} {fall : ErrorKind → Plan} (m1 : M) (error : Error)
+      (kind : ErrorKind) → kind ≡ error.error_type → c.steps m args (Refused error) m1 → UnlessMemory r (kind ≢ InsufficientMemory) →
+      Meets c (fall kind) m1 r v2 m2 → Meets c (Steps args v go fall) m r v2 m2
+  not_stepped_as {r = r} {fall = fall} m1 error kind same h other p = not_stepped m1 error h
+      (subst (λ (k : ErrorKind). UnlessMemory r (k ≢ InsufficientMemory)) same other)
+      (subst (λ (k : ErrorKind). Meets c (fall k) m1 r v2 m2) same p)
+
   pub resumed : {r : Answer} {v : Values} {reply : Reply} {go : Step → Plan} {fall : ErrorKind → Plan} (m1 : M) (step : Step) →
       c.resumes m reply (Done step) m1 → Meets c (go step) m1 r v2 m2 → Meets c (Resumes reply v go fall) m r v2 m2
   resumed {r = r} m1 step h p = record { as_planned = unless_map r (λ q. (m1, Done step, h, q)) p.as_planned }
@@ -91,3 +99,11 @@ module _ {M : Type 0} {c : Meaning Origin M} {m m2 : M} {v2 : Values} where
       Meets c (fall error.error_type) m1 r v2 m2 → Meets c (Resumes reply v go fall) m r v2 m2
   not_resumed {r = r} m1 error h other p =
       record { as_planned = unless_map r (λ q. (m1, Refused error, h, q)) (unless_both _ _ r other p.as_planned) }
+
+  pub not_resumed_as : {r : Answer} {v : Values} {reply : Reply} {go : Step → Plan} {fall : ErrorKind → Plan} (m1 : M) (error : Error)
+      (kind : ErrorKind) → kind ≡ error.error_type → c.resumes m reply (Refused error) m1 →
+      UnlessMemory r (kind ≢ InsufficientMemory) →
+      Meets c (fall kind) m1 r v2 m2 → Meets c (Resumes reply v go fall) m r v2 m2
+  not_resumed_as {r = r} {fall = fall} m1 error kind same h other p = not_resumed m1 error h
+      (subst (λ (k : ErrorKind). UnlessMemory r (k ≢ InsufficientMemory)) same other)
+      (subst (λ (k : ErrorKind). Meets c (fall k) m1 r v2 m2) same p)

@@ -1,8 +1,8 @@
 -- The mechanism in hand is a context, and asks a KDC less often with each question.
-use Rattle.std.proofs.Common.{◌≡◌, ◌⊎◌, ◌+◌, ◌<◌, ◌≤◌, ℕ, List, take, filter, refl, ap, arith, inl, inr}
+use Rattle.std.proofs.Common.{◌≡◌, ◌⊎◌, ◌<◌, ℕ, List, refl, ap, arith, inl, inr}
 use Rattle.sspi_types.specs.declared.error.Error.{Error}
 use Rattle.sspi_names.specs.declared.network.NetworkRequest.{NetworkRequest}
-use Rattle.sspi_mech.specs.declared.step.Answer.TheVariants.{Done, Ask, Refused}
+use Rattle.sspi_mech.specs.declared.step.Answer.TheVariants.{Ask, Refused}
 use Rattle.sspi_mech.specs.declared.step.Reply.{Reply}
 use Rattle.sspi_mech.specs.Calls.{StepArgs}
 use Rattle.sspi_mech.specs.Context.{IsContext}
@@ -13,7 +13,7 @@ use Rattle.sspi_mech.proofs.ContextLaws.{contextual}
 use Rattle.sspi_mech.proofs.SumLaws.{sum_lawful, taking_lawful, seen_lawful}
 use Rattle.sspi_negotiate.specs.declared.protocol.NegotiatedProtocol.{NegotiatedProtocol}
 use Rattle.sspi_negotiate.specs.declared.protocol.NegotiatedProtocol.TheVariants as hands
-use Rattle.sspi_negotiate.specs.Hand.{Origin, as_sum, of_sum, configured, hand, has_password, asks_left, in_place_of_kerberos}
+use Rattle.sspi_negotiate.specs.Hand.{as_sum, of_sum, configured, hand, asks_left, in_place_of_kerberos}
 
 pub there : {N K : Type 0} (x : N ⊎ K) → as_sum (of_sum x) ≡ x
 there (inl m) = refl

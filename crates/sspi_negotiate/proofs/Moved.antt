@@ -1,8 +1,6 @@
 -- The steps of a negotiation, with what holds of want of memory too.
 use Rattle.std.proofs.Common.{◌≡◌, ◌≢◌, ◌<◌, ◌↔◌, ℕ, Bool, false, IsTrue, Result, Ok, Err, OnErr, refl}
 use Rattle.sspi_types.specs.declared.error.Error.{Error}
-use Rattle.sspi_mech.specs.declared.step.Answer.{Answer}
-use Rattle.sspi_mech.specs.declared.step.Answer.TheVariants.{Done, Ask, Refused}
 use Rattle.sspi_mech.specs.declared.step.Progressing.{Progressing}
 use Rattle.sspi_mech.specs.declared.step.Progressing.TheVariants as progress
 use Rattle.sspi_mech.specs.declared.step.Reply.{Reply}

@@ -1,12 +1,12 @@
 -- What comes after the step of a mechanism asks no KDC.
-use Rattle.std.proofs.Common.{◌≡◌, ℕ, Bool, true, false, List, Option, None, Some}
+use Rattle.std.proofs.Common.{ℕ, Bool, true, false, List, Option, None, Some}
 use Rattle.sspi_mech.specs.declared.step.Answer.{Answer}
 use Rattle.sspi_mech.specs.declared.step.Answer.TheVariants.{Done, Ask, Refused}
 use Rattle.sspi_mech.specs.declared.step.Step.{Step}
 use Rattle.sspi_tokens.specs.declared.neg_token_targ.NegTokenTarg.{NegTokenTarg}
 use Rattle.sspi_tokens.specs.Spelling.{spelled_list}
 use Rattle.sspi_negotiate.specs.declared.state.NegotiateState.TheVariants as states
-use Rattle.sspi_negotiate.specs.Client.{begun, has_begun, offers, verified, unprotected, settles, is_ok, stepped}
+use Rattle.sspi_negotiate.specs.Client.{begun, has_begun, offers, verified, settles, is_ok, stepped}
 use Rattle.sspi_negotiate.specs.Rows.{is_complete}
 use Rattle.sspi_negotiate.specs.Values.{Values}
 use Rattle.sspi_negotiate.proofs.Ends.{AllEnds, either_ends}

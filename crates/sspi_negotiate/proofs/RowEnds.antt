@@ -1,11 +1,9 @@
 -- The ends of the rows that both sides have in common, of a fact that does not depend on how far the negotiation came.
-use Rattle.std.proofs.Common.{◌≡◌, ◌==◌, ℕ, Bool, true, false, length, map, List, Option, None, Some}
-use Rattle.sspi_types.specs.declared.error.Error.{Error}
+use Rattle.std.proofs.Common.{◌==◌, ℕ, length, map, List, Option, None, Some}
 use Rattle.sspi_types.specs.declared.security_status.SecurityStatus.{SecurityStatus}
-use Rattle.sspi_names.specs.Name.{Name}
 use Rattle.sspi_names.specs.declared.credentials.Credentials.TheVariants.{AuthIdentity as Credential}
 use Rattle.sspi_mech.specs.declared.step.Answer.{Answer}
-use Rattle.sspi_mech.specs.declared.step.Answer.TheVariants.{Done, Ask, Refused}
+use Rattle.sspi_mech.specs.declared.step.Answer.TheVariants.{Done}
 use Rattle.sspi_mech.specs.declared.step.Step.{Step}
 use Rattle.sspi_tokens.specs.declared.neg_result.NegResult.{NegResult}
 use Rattle.sspi_tokens.specs.declared.neg_token_targ.NegTokenTarg.{NegTokenTarg}
@@ -14,9 +12,9 @@ use Rattle.sspi_negotiate.specs.declared.protocol.Protocol.{Protocol}
 use Rattle.sspi_negotiate.specs.declared.protocol.Protocol.TheVariants as protocols
 use Rattle.sspi_negotiate.specs.declared.state.NegotiateState.{NegotiateState}
 use Rattle.sspi_negotiate.specs.Known.{named}
-use Rattle.sspi_negotiate.specs.Plan.{Plan, Goes, Stops, Takes, Names, Identifies, Signs, Verifies}
-use Rattle.sspi_negotiate.specs.Rows.{written, writes, in_ntlm, signs_text, signs, verifies_text, verifies}
-use Rattle.sspi_negotiate.specs.Rows.{identifies_among, identifies, checks, completes, answers_signed, carries_on}
+use Rattle.sspi_negotiate.specs.Plan.{Plan}
+use Rattle.sspi_negotiate.specs.Rows.{written, writes, in_ntlm, signs_text, verifies_text}
+use Rattle.sspi_negotiate.specs.Rows.{checks, completes, answers_signed, carries_on}
 use Rattle.sspi_negotiate.specs.Values.{Values}
 use Rattle.sspi_negotiate.proofs.Ends.{AtRefusal, AllEnds, either_ends}
 

@@ -1,9 +1,8 @@
 -- The ends of the server's rows.
-use Rattle.std.proofs.Common.{◌≡◌, ◌&&◌, ◌==◌, ℕ, Bool, true, false, position, List, Option, None, Some, refl}
-use Rattle.sspi_types.specs.declared.error.Error.{Error}
-use Rattle.sspi_names.specs.Name.{Name, inner_of}
+use Rattle.std.proofs.Common.{◌≡◌, ◌&&◌, ◌==◌, ℕ, Bool, true, false, List, Option, None, Some, refl}
+use Rattle.sspi_names.specs.Name.{inner_of}
 use Rattle.sspi_mech.specs.declared.step.Answer.{Answer}
-use Rattle.sspi_mech.specs.declared.step.Answer.TheVariants.{Done, Ask, Refused}
+use Rattle.sspi_mech.specs.declared.step.Answer.TheVariants.{Done}
 use Rattle.sspi_mech.specs.declared.step.Step.{Step}
 use Rattle.sspi_mech.specs.Calls.{AcceptArgs}
 use Rattle.sspi_tokens.specs.declared.neg_token_init.NegTokenInit.{NegTokenInit}
@@ -23,7 +22,7 @@ use Rattle.sspi_negotiate.specs.Pick.{place_of, found_or, picked_or, pick}
 use Rattle.sspi_negotiate.specs.Rows.{is_over, is_complete, is_guest_text, completes}
 use Rattle.sspi_negotiate.specs.Server.{drops, waits_for_token, goes_on, awaits_mic, ends_at_once, opens, needs_mic}
 use Rattle.sspi_negotiate.specs.Server.{first_token, placed, takes_pick, picks, reads_list, at_initial, without_mic}
-use Rattle.sspi_negotiate.specs.Server.{settles, accepted, at_progress, last_mic, at_verify_mic, server_at, spnego_server}
+use Rattle.sspi_negotiate.specs.Server.{settles, at_progress, last_mic, at_verify_mic, server_at, spnego_server}
 use Rattle.sspi_negotiate.specs.Values.{Values}
 use Rattle.sspi_negotiate.proofs.Ends.{AtRefusal, AllEnds, either_ends}
 use Rattle.sspi_negotiate.proofs.Kept.{IsKept}

@@ -1,15 +1,9 @@
 -- The client's rows come to the end only past a MIC.
-use Rattle.std.proofs.Common.{◌≡◌, ◌≢◌, ◌&&◌, not, ℕ, Bool, true, false, List, Option, None, Some, cond, refl, sym, ap, ◌∙◌, subst}
-use Rattle.sspi_types.specs.declared.error.Error.{Error}
+use Rattle.std.proofs.Common.{◌≡◌, ◌≢◌, ◌&&◌, ℕ, Bool, true, false, List, Option, None, Some, refl, sym, ap, ◌∙◌}
 use Rattle.sspi_types.specs.declared.error_kind.ErrorKind.{ErrorKind}
-use Rattle.sspi_names.specs.Identity.{buffers_of, identity_of}
-use Rattle.sspi_names.specs.Name.{domain_of}
-use Rattle.sspi_names.specs.declared.credentials.CredentialsBuffers.TheVariants.{AuthIdentity}
+use Rattle.sspi_names.specs.Identity.{identity_of}
 use Rattle.sspi_names.specs.declared.identity.AuthIdentity.{AuthIdentity as Identity}
 use Rattle.sspi_names.specs.declared.identity.AuthIdentityBuffers.{AuthIdentityBuffers}
-use Rattle.sspi_names.specs.declared.kdc_table.KdcEntry.{KdcEntry}
-use Rattle.sspi_mech.specs.declared.step.Answer.{Answer}
-use Rattle.sspi_mech.specs.declared.step.Answer.TheVariants.{Done, Ask, Refused}
 use Rattle.sspi_mech.specs.declared.step.Reply.{Reply}
 use Rattle.sspi_mech.specs.declared.step.Step.{Step}
 use Rattle.sspi_mech.specs.Calls.{StepArgs}
@@ -27,20 +21,19 @@ use Rattle.sspi_negotiate.specs.declared.protocol.Protocol.{Protocol}
 use Rattle.sspi_negotiate.specs.declared.protocol.Protocol.TheVariants as protocols
 use Rattle.sspi_negotiate.specs.declared.state.NegotiateState.{NegotiateState}
 use Rattle.sspi_negotiate.specs.declared.state.NegotiateState.TheVariants as states
-use Rattle.sspi_negotiate.specs.Client.{begun, has_begun, offers, steps_again, falls_back, falls, first_step, first_step_of, at_initial}
+use Rattle.sspi_negotiate.specs.Client.{begun, has_begun, offers, steps_again, falls_back, falls, first_step, at_initial}
 use Rattle.sspi_negotiate.specs.Client.{verified, unprotected, settles, is_ok, stepped, answers, in_kerberos, chooses_kerberos}
-use Rattle.sspi_negotiate.specs.Client.{chooses_ntlm, chooses, chosen, at_progress, last_mic, confirmed, at_verify_mic, client_at}
-use Rattle.sspi_negotiate.specs.Client.{ruled, keeps, passwords_of, converts, with_handle, by_target, is_closed, spnego_client}
-use Rattle.sspi_negotiate.specs.Client.{resumes_opening, resumes_answering, resumed_at, spnego_resumed, is_guest}
+use Rattle.sspi_negotiate.specs.Client.{chooses_ntlm, chosen, at_progress, last_mic, at_verify_mic, client_at}
+use Rattle.sspi_negotiate.specs.Client.{ruled, keeps, passwords_of, converts, with_handle, is_closed, spnego_client}
+use Rattle.sspi_negotiate.specs.Client.{resumes_opening, resumes_answering, resumed_at, spnego_resumed}
 use Rattle.sspi_negotiate.specs.Fallback.{is_fallback}
-use Rattle.sspi_negotiate.specs.Hand.{is_kerberos_hand, is_ntlm_hand}
-use Rattle.sspi_negotiate.specs.Pick.{offered}
-use Rattle.sspi_negotiate.specs.Rows.{client_wants_mic, is_complete, completes, answers_signed}
-use Rattle.sspi_negotiate.specs.Rule.{url_for, rule_url, by_rule, ruled_values}
+use Rattle.sspi_negotiate.specs.Hand.{is_kerberos_hand}
+use Rattle.sspi_negotiate.specs.Rows.{is_complete}
+use Rattle.sspi_negotiate.specs.Rule.{rule_url}
 use Rattle.sspi_negotiate.specs.Values.{Values}
 use Rattle.std.proofs.lemmas.Bool.{false≢true}
-use Rattle.sspi_negotiate.proofs.Shown.{AtOver, Closes, Shown}
-use Rattle.sspi_negotiate.proofs.ShownRows.{initial_is_before, progress_is_before, verify_is_before, either_shown}
+use Rattle.sspi_negotiate.proofs.Shown.{Closes, Shown}
+use Rattle.sspi_negotiate.proofs.ShownRows.{progress_is_before, verify_is_before, either_shown}
 use Rattle.sspi_negotiate.proofs.ShownRows.{written_shown, in_ntlm_shown, verifies_shown, completes_shown}
 use Rattle.sspi_negotiate.proofs.ShownRows.{answers_signed_shown, carries_on_shown, answers_signed_closes}
 

@@ -1,21 +1,12 @@
 -- The same of the rows.
-use Rattle.std.proofs.Common.{◌≡◌, ◌≢◌, ◌==◌, ◌&&◌, not, ℕ, Bool, true, false, cond, length}
-use Rattle.std.proofs.Common.{map, List, Option, None, Some, option_map, refl, sym, ap, ◌∙◌}
+use Rattle.std.proofs.Common.{◌≡◌, ◌≢◌, ◌==◌, ℕ, Bool, true, false, cond, length}
+use Rattle.std.proofs.Common.{map, List, Option, None, Some, sym, ap}
 use Rattle.std.proofs.lemmas.Bool.{false≢true}
-use Rattle.sspi_types.specs.declared.error_kind.ErrorKind.{ErrorKind}
 use Rattle.sspi_types.specs.declared.security_status.SecurityStatus.{SecurityStatus}
-use Rattle.sspi_names.specs.Identity.{buffers_of, identity_of}
-use Rattle.sspi_names.specs.Name.{Name, inner_of, domain_of}
 use Rattle.sspi_names.specs.declared.credentials.Credentials.TheVariants.{AuthIdentity as Credential}
-use Rattle.sspi_names.specs.declared.identity.AuthIdentity.{AuthIdentity as Identity}
-use Rattle.sspi_names.specs.declared.identity.AuthIdentityBuffers.{AuthIdentityBuffers}
-use Rattle.sspi_mech.specs.declared.step.Reply.{Reply}
-use Rattle.sspi_mech.specs.declared.step.Step.{Step}
-use Rattle.sspi_mech.specs.Calls.{StepArgs, AcceptArgs}
 use Rattle.sspi_tokens.specs.declared.neg_result.NegResult.{NegResult}
-use Rattle.sspi_tokens.specs.declared.neg_token_init.NegTokenInit.{NegTokenInit}
 use Rattle.sspi_tokens.specs.declared.neg_token_targ.NegTokenTarg.{NegTokenTarg}
-use Rattle.sspi_tokens.specs.Spelling.{spelled_init, spelled_list, spelled_targ}
+use Rattle.sspi_tokens.specs.Spelling.{spelled_list, spelled_targ}
 use Rattle.sspi_negotiate.specs.declared.protocol.Protocol.{Protocol}
 use Rattle.sspi_negotiate.specs.declared.protocol.Protocol.TheVariants as protocols
 use Rattle.sspi_negotiate.specs.declared.state.NegotiateState.{NegotiateState}

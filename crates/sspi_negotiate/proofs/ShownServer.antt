@@ -1,9 +1,6 @@
 -- The server's rows come to the end only past a MIC.
 use Rattle.std.proofs.Common.{◌≡◌, ◌≢◌, ◌==◌, ℕ, Bool, true, false, List, Option, None, Some, refl, sym, ◌∙◌}
-use Rattle.sspi_types.specs.declared.error.Error.{Error}
-use Rattle.sspi_names.specs.Name.{Name, inner_of}
-use Rattle.sspi_mech.specs.declared.step.Answer.{Answer}
-use Rattle.sspi_mech.specs.declared.step.Answer.TheVariants.{Done, Ask, Refused}
+use Rattle.sspi_names.specs.Name.{inner_of}
 use Rattle.sspi_mech.specs.declared.step.Step.{Step}
 use Rattle.sspi_mech.specs.Calls.{AcceptArgs}
 use Rattle.sspi_tokens.specs.declared.neg_token_init.NegTokenInit.{NegTokenInit}
@@ -12,19 +9,18 @@ use Rattle.sspi_tokens.specs.Reading.{init_of, targ_of}
 use Rattle.sspi_negotiate.specs.declared.pick.Choice.{Choice}
 use Rattle.sspi_negotiate.specs.declared.pick.Choice.TheVariants as choices
 use Rattle.sspi_negotiate.specs.declared.pick.Picked.{Picked}
-use Rattle.sspi_negotiate.specs.declared.protocol.Protocol.{Protocol}
 use Rattle.sspi_negotiate.specs.declared.state.NegotiateState.{NegotiateState}
 use Rattle.sspi_negotiate.specs.declared.state.NegotiateState.TheVariants as states
 use Rattle.sspi_negotiate.specs.declared.state.Role.{Role}
 use Rattle.sspi_negotiate.specs.declared.state.Role.TheVariants.{Client, Server}
 use Rattle.sspi_negotiate.specs.Pick.{pick}
-use Rattle.sspi_negotiate.specs.Rows.{is_over, is_complete, is_guest_text, completes}
+use Rattle.sspi_negotiate.specs.Rows.{is_over, is_complete, is_guest_text}
 use Rattle.sspi_negotiate.specs.Server.{drops, waits_for_token, goes_on, awaits_mic, ends_at_once, opens, needs_mic}
 use Rattle.sspi_negotiate.specs.Server.{first_token, placed, takes_pick, picks, reads_list, at_initial, without_mic}
-use Rattle.sspi_negotiate.specs.Server.{settles, accepted, at_progress, last_mic, at_verify_mic, server_at, spnego_server}
+use Rattle.sspi_negotiate.specs.Server.{settles, at_progress, last_mic, at_verify_mic, server_at, spnego_server}
 use Rattle.sspi_negotiate.specs.Values.{Values}
 use Rattle.std.proofs.lemmas.Bool.{false≢true}
-use Rattle.sspi_negotiate.proofs.Shown.{AtOver, Shown}
+use Rattle.sspi_negotiate.proofs.Shown.{Shown}
 use Rattle.sspi_negotiate.proofs.ShownRows.{progress_is_before, verify_is_before, either_shown, writes_shown, in_ntlm_shown}
 use Rattle.sspi_negotiate.proofs.ShownRows.{checks_shown, completes_shown, answers_signed_shown, carries_on_shown, answers_signed_closes}
 

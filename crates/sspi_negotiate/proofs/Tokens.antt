@@ -7,6 +7,7 @@ use Rattle.sspi_types.specs.declared.error_kind.ErrorKind.{ErrorKind}
 use Rattle.sspi_mech.specs.declared.step.Answer.{Answer}
 use Rattle.sspi_mech.specs.declared.step.Answer.TheVariants.{Refused}
 use Rattle.sspi_mech.specs.Meaning.{Meaning}
+use Rattle.sspi_mech.specs.Refusals.{error_of, refusal_of}
 use Rattle.sspi_mech.specs.Settings.{Setting}
 use Rattle.sspi_tokens.specs.Answers.{ReadsAs}
 use Rattle.sspi_negotiate.specs.declared.protocol.NegotiatedProtocol.{NegotiatedProtocol}
@@ -18,11 +19,11 @@ use Rattle.sspi_negotiate.specs.Spelled.{IsSpelled}
 use Rattle.sspi_negotiate.specs.Values.{Values, Negotiation}
 
 module _ {M : Type 0} {c : Meaning Origin M} {m : M} where
+  -- refused with the kind and the reason of the token's error
   pub unread : {v : Values} {T : Type 0} (o : Option T) (plan : Option T → Plan) (error : Error) → plan None ≡ Stops v InvalidToken →
-      ReadsAs o (Err error) →
-      Meets c (plan o) m (Refused error) v m
-  unread {v = v} None plan error stops h =
-      subst (λ p. Meets c p m (Refused error) v m) (sym stops) (record { as_planned = λ other. (ap (λ e. e.error_type) h, refl, refl) })
+      ReadsAs o (Err error) → Meets c (plan o) m (Refused (error_of (refusal_of error))) v m
+  unread {v = v} None plan error stops h = subst (λ p. Meets c p m (Refused (error_of (refusal_of error))) v m) (sym stops)
+      (record { as_planned = λ other. (ap (λ e. e.error_type) h, refl, refl) })
   unread (Some x) plan error stops h = record { as_planned = λ other. absurd (other (ap (λ e. e.error_type) h)) }
 
   pub read : {T : Type 0} {r : Answer} {v2 : Values} {m2 : M} (o : Option T) (plan : Option T → Plan) (x : T) → ReadsAs o (Ok x) →

@@ -1,7 +1,7 @@
 ghost use Rattle.std.specs.Prelude.{◌≡◌, ◌≢◌, ◌&&◌, Option, None, Some, true, false, IfOk, IfErr, OnOk, OnErr, option_map, option_copied};
 ghost use Rattle.sspi_names.specs.Credentials.{credentials_buffers_of};
 ghost use Rattle.sspi_mech.specs.Calls.{ToAcquire};
-ghost use Rattle.sspi_negotiate.specs.Acquire.{is_outbound, lacks, acquired_url, Acquires, RefusedBy, RefusesToAcquire};
+ghost use Rattle.sspi_negotiate.specs.Acquire.{is_outbound, lacks, acquired_url, Acquires, RefusesToAcquire};
 ghost use Rattle.sspi_negotiate.specs.Does.{Stays, StaysUnused};
 ghost use Rattle.sspi_negotiate.specs.Hand.{hand, hand_of};
 ghost use Rattle.sspi_negotiate.specs.Rule.{TakenBy};
@@ -10,7 +10,7 @@ ghost use Rattle.sspi_negotiate.specs.Values.{values_of};
 use crate::negotiate::Negotiate;
 use crate::protocol::Protocol;
 use crate::state::Role;
-use sspi_mech::Mechanism;
+use sspi_mech::{Mechanism, Refusal};
 use sspi_names::{Credentials, CredentialsBuffers};
 use sspi_types::{CredentialUse, Error, ErrorKind, Reason};
 use std::alloc::{AllocError, Global};
@@ -80,11 +80,11 @@ impl<N: Mechanism, K: Mechanism> Negotiate<N, K> {
         }
         let kept = buffers_of(self.alloc, auth_data)?;
         self.rule_for(auth_data)?;
-        self.acquire_in_hand(credential_use, auth_data, kept)
+        Ok(self.acquire_in_hand(credential_use, auth_data, kept)?)
     }
 
     /// Takes Kerberos in the place of NTLM on a client, where a KDC serves the domain of a name with a password.
-    fn rule_for(&mut self, auth_data: Option<&Credentials>) -> Result<(), Error>
+    fn rule_for(&mut self, auth_data: Option<&Credentials>) -> Result<(), Refusal>
         // What `Ok` holds.
         ensures taken { OnOk result (TakenBy (hand N.meaning K.meaning)
             (acquired_url self.old.role (values_of self.old) (option_copied auth_data.entry))
@@ -93,7 +93,6 @@ impl<N: Mechanism, K: Mechanism> Negotiate<N, K> {
         ensures rest { self.new ≡ record self.old { mech = self.new.mech } }
         ensures unused { StaysUnused N.meaning K.meaning self.old self.new }
         // What a refusal says.
-        ensures plain { IfErr result (λ error. error.nstatus ≡ None) }
         ensures err { IfErr result (λ error. error.error_type ≡ ErrorKind.InsufficientMemory) }
     {
         match self.role {
@@ -111,7 +110,7 @@ impl<N: Mechanism, K: Mechanism> Negotiate<N, K> {
         credential_use: CredentialUse,
         auth_data: Option<&Credentials>,
         kept: Option<CredentialsBuffers>,
-    ) -> Result<Option<CredentialsBuffers>, Error>
+    ) -> Result<Option<CredentialsBuffers>, Refusal>
         // What was acquired, and what a refusal leaves.
         ensures acquired { IfOk result (λ buffers.
             (hand N.meaning K.meaning).acquires self.old.mech credential_use (option_copied auth_data.entry) buffers self.new.mech) }
@@ -120,7 +119,6 @@ impl<N: Mechanism, K: Mechanism> Negotiate<N, K> {
         // What holds of every answer.
         ensures unused { StaysUnused N.meaning K.meaning self.old self.new }
         // What a refusal says.
-        ensures plain { IfErr result (λ error. error.nstatus ≡ None) }
         ensures cause { IfErr result (λ error. error.error_type ≢ ErrorKind.InsufficientMemory →
             (hand N.meaning K.meaning).refuses self.old.mech (ToAcquire credential_use (option_copied auth_data.entry)) error.error_type) }
     {

@@ -1,21 +1,22 @@
 // A client's later steps (states InProgress and VerifyMic), and `resume`.
-ghost use Rattle.std.specs.Prelude.{◌≡◌, ◌≢◌, ◌<◌, [], false, true, not, None, Some, IfOk, IfErr, OnOk, OnErr, option_map, option_copied};
+ghost use Rattle.std.specs.Prelude.{◌≡◌, ◌≢◌, ◌<◌, [], false, true, not, None, Some, IfErr, OnErr, option_map, option_copied};
 ghost use Rattle.sspi_mech.specs.Answers.{answer_of, IfRefused, OnAsk};
 ghost use Rattle.sspi_mech.specs.Calls.{step_args};
 ghost use Rattle.sspi_mech.specs.Context.{IsUnused};
+ghost use Rattle.sspi_mech.specs.Refusals.{answered};
 ghost use Rattle.sspi_tokens.specs.Oids.{kind_of};
 ghost use Rattle.sspi_tokens.specs.Reading.{targ_of};
 ghost use Rattle.sspi_negotiate.specs.declared.protocol.Protocol.TheVariants as protocols;
 ghost use Rattle.sspi_negotiate.specs.declared.state.NegotiateState.TheVariants as states;
 ghost use Rattle.sspi_types.specs.declared.security_status.SecurityStatus.TheVariants as statuses;
 ghost use Rattle.sspi_negotiate.specs.Client.{at_progress, chosen, chooses_kerberos, chooses_ntlm, in_kerberos, answers};
-ghost use Rattle.sspi_negotiate.specs.Client.{stepped, settles, unprotected, verified, at_verify_mic, confirmed};
-ghost use Rattle.sspi_negotiate.specs.Client.{last_mic, is_guest, handle_for, step_of, resumes_answering, spnego_resumed};
-ghost use Rattle.sspi_negotiate.specs.Does.{Does, Passes, Stays, StaysUnmarked, StaysUnused, told};
-ghost use Rattle.sspi_negotiate.specs.Hand.{InPlaceOfNtlm, hand, hand_of};
+ghost use Rattle.sspi_negotiate.specs.Client.{stepped, settles, verified, at_verify_mic, confirmed};
+ghost use Rattle.sspi_negotiate.specs.Client.{last_mic, is_guest, handle_for, resumes_answering, spnego_resumed};
+ghost use Rattle.sspi_negotiate.specs.Does.{Does, Stays, StaysUnmarked, StaysUnused, told};
+ghost use Rattle.sspi_negotiate.specs.Hand.{hand, hand_of};
 ghost use Rattle.sspi_negotiate.specs.Keeps.{is_answering};
 ghost use Rattle.sspi_negotiate.specs.Negotiate.{negotiate};
-ghost use Rattle.sspi_negotiate.specs.Plan.{Goes, Takes};
+ghost use Rattle.sspi_negotiate.specs.Plan.{Goes};
 ghost use Rattle.sspi_negotiate.specs.Rows.{or_empty, in_ntlm, verifies};
 ghost use Rattle.sspi_negotiate.specs.Values.{values_of};
 
@@ -25,7 +26,7 @@ use crate::opening::{done, step_with};
 use crate::protocol::{NegotiatedProtocol, Protocol};
 use crate::refusal::{invalid_token, out_of_sequence};
 use crate::rows::{is_complete, is_guest, is_ok};
-use sspi_mech::{Answer, InitializeSecurityContext, Mechanism, Progressing, Reply, Step};
+use sspi_mech::{Answer, InitializeSecurityContext, Mechanism, Progressing, Refusal, Reply, Step};
 use sspi_names::CredentialsBuffers;
 use sspi_tokens::{MechKind, NegTokenTarg};
 use sspi_types::{Bytes, Error, Reason, SecurityStatus};
@@ -77,12 +78,11 @@ impl<N: Mechanism, K: Mechanism> Negotiate<N, K> {
     pub(crate) fn read_answer(
         &mut self,
         args: &InitializeSecurityContext<'_>,
-    ) -> Result<Progressing, Error>
+    ) -> Result<Progressing, Refusal>
         ensures step { Does N.meaning K.meaning (at_progress (targ_of args.now.input.now) (values_of self.old) (step_args args.now))
-            self.old (answer_of result) self.new }
+            self.old (answer_of (answered result)) self.new }
         ensures stays { OnErr result (Stays (values_of self.old) (values_of self.new)) }
         ensures unused { StaysUnused N.meaning K.meaning self.old self.new }
-        ensures plain { IfErr result (λ error. error.nstatus ≡ None) }
     {
         let token = NegTokenTarg::decode(self.alloc, args.input)?;
         self.choose(token, args)
@@ -92,13 +92,12 @@ impl<N: Mechanism, K: Mechanism> Negotiate<N, K> {
         &mut self,
         token: NegTokenTarg,
         args: &InitializeSecurityContext<'_>,
-    ) -> Result<Progressing, Error>
+    ) -> Result<Progressing, Refusal>
         ensures step { Does N.meaning K.meaning
             (chosen (option_map kind_of token.supported_mech) token (values_of self.old) (step_args args.now))
-            self.old (answer_of result) self.new }
+            self.old (answer_of (answered result)) self.new }
         ensures stays { OnErr result (Stays (values_of self.old) (values_of self.new)) }
         ensures unused { StaysUnused N.meaning K.meaning self.old self.new }
-        ensures plain { IfErr result (λ error. error.nstatus ≡ None) }
     {
         match choice_of(&token) {
             None => self.answer(token, args),
@@ -114,12 +113,11 @@ impl<N: Mechanism, K: Mechanism> Negotiate<N, K> {
         &mut self,
         token: NegTokenTarg,
         args: &InitializeSecurityContext<'_>,
-    ) -> Result<Progressing, Error>
+    ) -> Result<Progressing, Refusal>
         ensures step { Does N.meaning K.meaning (chooses_kerberos token (values_of self.old) (step_args args.now))
-            self.old (answer_of result) self.new }
+            self.old (answer_of (answered result)) self.new }
         ensures stays { OnErr result (Stays (values_of self.old) (values_of self.new)) }
         ensures unused { StaysUnused N.meaning K.meaning self.old self.new }
-        ensures plain { IfErr result (λ error. error.nstatus ≡ None) }
     {
         if self.packages.kerberos {
             self.packages.ntlm = false;
@@ -133,12 +131,11 @@ impl<N: Mechanism, K: Mechanism> Negotiate<N, K> {
         &mut self,
         token: NegTokenTarg,
         args: &InitializeSecurityContext<'_>,
-    ) -> Result<Progressing, Error>
+    ) -> Result<Progressing, Refusal>
         ensures step { Does N.meaning K.meaning (in_kerberos (hand_of self.old.mech) token (values_of self.old) (step_args args.now))
-            self.old (answer_of result) self.new }
+            self.old (answer_of (answered result)) self.new }
         ensures stays { OnErr result (Stays (values_of self.old) (values_of self.new)) }
         ensures unused { StaysUnused N.meaning K.meaning self.old self.new }
-        ensures plain { IfErr result (λ error. error.nstatus ≡ None) }
     {
         match self.protocol.protocol() {
             Protocol::Kerberos => self.answer(token, args),
@@ -150,12 +147,11 @@ impl<N: Mechanism, K: Mechanism> Negotiate<N, K> {
         &mut self,
         token: NegTokenTarg,
         args: &InitializeSecurityContext<'_>,
-    ) -> Result<Progressing, Error>
+    ) -> Result<Progressing, Refusal>
         ensures step { Does N.meaning K.meaning (in_kerberos protocols.Ntlm token (values_of self.old) (step_args args.now))
-            self.old (answer_of result) self.new }
+            self.old (answer_of (answered result)) self.new }
         ensures stays { OnErr result (Stays (values_of self.old) (values_of self.new)) }
         ensures unused { StaysUnused N.meaning K.meaning self.old self.new }
-        ensures plain { IfErr result (λ error. error.nstatus ≡ None) }
     {
         self.protocol = NegotiatedProtocol::new_kerberos(
             self.alloc,
@@ -172,12 +168,11 @@ impl<N: Mechanism, K: Mechanism> Negotiate<N, K> {
         &mut self,
         token: NegTokenTarg,
         args: &InitializeSecurityContext<'_>,
-    ) -> Result<Progressing, Error>
+    ) -> Result<Progressing, Refusal>
         ensures step { Does N.meaning K.meaning (chooses_ntlm token (values_of self.old) (step_args args.now))
-            self.old (answer_of result) self.new }
+            self.old (answer_of (answered result)) self.new }
         ensures stays { OnErr result (Stays (values_of self.old) (values_of self.new)) }
         ensures unused { StaysUnused N.meaning K.meaning self.old self.new }
-        ensures plain { IfErr result (λ error. error.nstatus ≡ None) }
     {
         if self.packages.ntlm {
             let guest = is_guest(self.alloc, args.credentials_handle)?;
@@ -192,17 +187,16 @@ impl<N: Mechanism, K: Mechanism> Negotiate<N, K> {
         token: NegTokenTarg,
         args: &InitializeSecurityContext<'_>,
         guest: bool,
-    ) -> Result<Progressing, Error>
+    ) -> Result<Progressing, Refusal>
         ensures step { Does N.meaning K.meaning
             (in_ntlm (hand_of self.old.mech) self.old.computer (answers token (record (values_of self.old) {
               hand = protocols.Ntlm;
               packages = record self.old.packages { kerberos = false };
               need = not guest;
             }) (step_args args.now)))
-            self.old (answer_of result) self.new }
+            self.old (answer_of (answered result)) self.new }
         ensures stays { OnErr result (Stays (values_of self.old) (values_of self.new)) }
         ensures unused { StaysUnused N.meaning K.meaning self.old self.new }
-        ensures plain { IfErr result (λ error. error.nstatus ≡ None) }
     {
         self.take_ntlm()?;
         self.answer_in_ntlm(token, args, guest)
@@ -213,16 +207,15 @@ impl<N: Mechanism, K: Mechanism> Negotiate<N, K> {
         token: NegTokenTarg,
         args: &InitializeSecurityContext<'_>,
         guest: bool,
-    ) -> Result<Progressing, Error>
+    ) -> Result<Progressing, Refusal>
         ensures step { Does N.meaning K.meaning
             (answers token (record (values_of self.old) {
               packages = record self.old.packages { kerberos = false };
               need = not guest;
             }) (step_args args.now))
-            self.old (answer_of result) self.new }
+            self.old (answer_of (answered result)) self.new }
         ensures stays { OnErr result (Stays (values_of self.old) (values_of self.new)) }
         ensures unused { StaysUnused N.meaning K.meaning self.old self.new }
-        ensures plain { IfErr result (λ error. error.nstatus ≡ None) }
     {
         self.packages.kerberos = false;
         self.mic_needed = !guest;
@@ -234,12 +227,11 @@ impl<N: Mechanism, K: Mechanism> Negotiate<N, K> {
         &mut self,
         token: NegTokenTarg,
         args: &InitializeSecurityContext<'_>,
-    ) -> Result<Progressing, Error>
+    ) -> Result<Progressing, Refusal>
         ensures step { Does N.meaning K.meaning (answers token (values_of self.old) (step_args args.now))
-            self.old (answer_of result) self.new }
+            self.old (answer_of (answered result)) self.new }
         ensures stays { OnErr result (Stays (values_of self.old) (values_of self.new)) }
         ensures unused { StaysUnused N.meaning K.meaning self.old self.new }
-        ensures plain { IfErr result (λ error. error.nstatus ≡ None) }
     {
         let response = &token.response_token;
         match answer_with(&mut self.protocol, &self.auth_identity, args, response) {
@@ -248,15 +240,14 @@ impl<N: Mechanism, K: Mechanism> Negotiate<N, K> {
                 self.branch = Branch::Answering(token);
                 Ok(Progressing::Suspended(request))
             }
-            Answer::Refused(error) => Err(error),
+            Answer::Refused(error) => Err(error.into()),
         }
     }
 
-    fn conclude(&mut self, token: NegTokenTarg, step: Step) -> Result<Step, Error>
-        ensures step { Does N.meaning K.meaning (stepped token (values_of self.old) step) self.old (told result) self.new }
+    fn conclude(&mut self, token: NegTokenTarg, step: Step) -> Result<Step, Refusal>
+        ensures step { Does N.meaning K.meaning (stepped token (values_of self.old) step) self.old (told (answered result)) self.new }
         ensures stays { OnErr result (Stays (values_of self.old) (values_of self.new)) }
         ensures unused { StaysUnused N.meaning K.meaning self.old self.new }
-        ensures plain { IfErr result (λ error. error.nstatus ≡ None) }
     {
         if is_ok(step.status) {
             let complete = is_complete(token.neg_result);
@@ -272,11 +263,11 @@ impl<N: Mechanism, K: Mechanism> Negotiate<N, K> {
         mic: Option<Bytes>,
         complete: bool,
         token: Bytes,
-    ) -> Result<Step, Error>
-        ensures step { Does N.meaning K.meaning (settles need mic complete (values_of self.old) token) self.old (told result) self.new }
+    ) -> Result<Step, Refusal>
+        ensures step { Does N.meaning K.meaning (settles need mic complete (values_of self.old) token) self.old
+            (told (answered result)) self.new }
         ensures stays { OnErr result (Stays (values_of self.old) (values_of self.new)) }
         ensures unused { StaysUnused N.meaning K.meaning self.old self.new }
-        ensures plain { IfErr result (λ error. error.nstatus ≡ None) }
     {
         if need {
             match mic {
@@ -290,22 +281,20 @@ impl<N: Mechanism, K: Mechanism> Negotiate<N, K> {
         }
     }
 
-    fn verify_and_end(&mut self, mic: &Bytes, complete: bool, token: Bytes) -> Result<Step, Error>
+    fn verify_and_end(&mut self, mic: &Bytes, complete: bool, token: Bytes) -> Result<Step, Refusal>
         ensures step { Does N.meaning K.meaning (verifies mic.now (values_of self.old) (verified complete (values_of self.old) token))
-            self.old (told result) self.new }
+            self.old (told (answered result)) self.new }
         ensures stays { OnErr result (Stays (values_of self.old) (values_of self.new)) }
         ensures unused { StaysUnused N.meaning K.meaning self.old self.new }
-        ensures plain { IfErr result (λ error. error.nstatus ≡ None) }
     {
         self.verify(mic)?;
         self.end_verified(complete, token)
     }
 
-    fn end_verified(&mut self, complete: bool, token: Bytes) -> Result<Step, Error>
-        ensures step { Does N.meaning K.meaning (verified complete (values_of self.old) token) self.old (told result) self.new }
+    fn end_verified(&mut self, complete: bool, token: Bytes) -> Result<Step, Refusal>
+        ensures step { Does N.meaning K.meaning (verified complete (values_of self.old) token) self.old (told (answered result)) self.new }
         ensures stays { OnErr result (Stays (values_of self.old) (values_of self.new)) }
         ensures unused { StaysUnused N.meaning K.meaning self.old self.new }
-        ensures plain { IfErr result (λ error. error.nstatus ≡ None) }
     {
         if complete {
             self.end()
@@ -317,22 +306,20 @@ impl<N: Mechanism, K: Mechanism> Negotiate<N, K> {
     pub(crate) fn confirm(
         &mut self,
         args: &InitializeSecurityContext<'_>,
-    ) -> Result<Progressing, Error>
+    ) -> Result<Progressing, Refusal>
         ensures step { Does N.meaning K.meaning (at_verify_mic (targ_of args.now.input.now) (values_of self.old))
-            self.old (answer_of result) self.new }
+            self.old (answer_of (answered result)) self.new }
         ensures stays { OnErr result (Stays (values_of self.old) (values_of self.new)) }
         ensures unused { StaysUnused N.meaning K.meaning self.old self.new }
-        ensures plain { IfErr result (λ error. error.nstatus ≡ None) }
     {
         let token = NegTokenTarg::decode(self.alloc, args.input)?;
         done(self.confirm_by(token))
     }
 
-    fn confirm_by(&mut self, token: NegTokenTarg) -> Result<Step, Error>
-        ensures step { Does N.meaning K.meaning (confirmed token (values_of self.old)) self.old (told result) self.new }
+    fn confirm_by(&mut self, token: NegTokenTarg) -> Result<Step, Refusal>
+        ensures step { Does N.meaning K.meaning (confirmed token (values_of self.old)) self.old (told (answered result)) self.new }
         ensures stays { OnErr result (Stays (values_of self.old) (values_of self.new)) }
         ensures unused { StaysUnused N.meaning K.meaning self.old self.new }
-        ensures plain { IfErr result (λ error. error.nstatus ≡ None) }
     {
         if is_complete(token.neg_result) {
             self.confirm_mic(token.mech_list_mic)
@@ -341,11 +328,10 @@ impl<N: Mechanism, K: Mechanism> Negotiate<N, K> {
         }
     }
 
-    fn confirm_mic(&mut self, mic: Option<Bytes>) -> Result<Step, Error>
-        ensures step { Does N.meaning K.meaning (last_mic mic (values_of self.old)) self.old (told result) self.new }
+    fn confirm_mic(&mut self, mic: Option<Bytes>) -> Result<Step, Refusal>
+        ensures step { Does N.meaning K.meaning (last_mic mic (values_of self.old)) self.old (told (answered result)) self.new }
         ensures stays { OnErr result (Stays (values_of self.old) (values_of self.new)) }
         ensures unused { StaysUnused N.meaning K.meaning self.old self.new }
-        ensures plain { IfErr result (λ error. error.nstatus ≡ None) }
     {
         match mic {
             None => Ok(Step {
@@ -356,14 +342,13 @@ impl<N: Mechanism, K: Mechanism> Negotiate<N, K> {
         }
     }
 
-    fn verify_last(&mut self, mic: &Bytes) -> Result<Step, Error>
+    fn verify_last(&mut self, mic: &Bytes) -> Result<Step, Refusal>
         ensures step { Does N.meaning K.meaning
             (verifies mic.now (values_of self.old)
             (Goes (record (values_of self.old) { state = states.Ok }) (record { status = statuses.Ok; output = [] })))
-            self.old (told result) self.new }
+            self.old (told (answered result)) self.new }
         ensures stays { OnErr result (Stays (values_of self.old) (values_of self.new)) }
         ensures unused { StaysUnused N.meaning K.meaning self.old self.new }
-        ensures plain { IfErr result (λ error. error.nstatus ≡ None) }
     {
         self.verify(mic)?;
         self.end()
@@ -378,17 +363,17 @@ impl<N: Mechanism, K: Mechanism> Negotiate<N, K> {
         ensures falls { let c = negotiate N.REQUESTS N.meaning K.meaning in OnAsk (answer_of result) (c.left self.new < c.left self.old) }
         ensures plain { IfErr result (λ error. error.nstatus ≡ None) }
     {
-        self.resume_at(reply)
+        Ok(self.resume_at(reply)?)
     }
 
-    fn resume_at(&mut self, reply: &Reply) -> Result<Progressing, Error>
+    fn resume_at(&mut self, reply: &Reply) -> Result<Progressing, Refusal>
         // The step, and what a refused one leaves.
-        ensures step { Does N.meaning K.meaning (spnego_resumed (values_of self.old) reply.now) self.old (answer_of result) self.new }
+        ensures step { Does N.meaning K.meaning (spnego_resumed (values_of self.old) reply.now) self.old
+            (answer_of (answered result)) self.new }
         ensures stays { OnErr result (Stays (values_of self.old) (values_of self.new)) }
-        // What every answer keeps, and that a refusal is plain.
+        // What every answer keeps.
         ensures unused { StaysUnused N.meaning K.meaning self.old self.new }
         ensures first { is_answering self.old.branch ≡ false → StaysUnmarked N.meaning K.meaning self.old self.new }
-        ensures plain { IfErr result (λ error. error.nstatus ≡ None) }
     {
         match mem::replace(&mut self.branch, Branch::Idle) {
             Branch::Idle => Err(out_of_sequence()),
@@ -398,12 +383,15 @@ impl<N: Mechanism, K: Mechanism> Negotiate<N, K> {
     }
 
     #[tactic(auto, unfolding(crate::specs::Client::resumes_answering))]
-    fn resume_answering(&mut self, token: NegTokenTarg, reply: &Reply) -> Result<Progressing, Error>
+    fn resume_answering(
+        &mut self,
+        token: NegTokenTarg,
+        reply: &Reply,
+    ) -> Result<Progressing, Refusal>
         ensures step { Does N.meaning K.meaning (resumes_answering token (values_of self.old) reply.now)
-            self.old (answer_of result) self.new }
+            self.old (answer_of (answered result)) self.new }
         ensures stays { OnErr result (Stays (values_of self.old) (values_of self.new)) }
         ensures unused { StaysUnused N.meaning K.meaning self.old self.new }
-        ensures plain { IfErr result (λ error. error.nstatus ≡ None) }
     {
         match self.protocol.resume(reply) {
             Answer::Done(step) => done(self.conclude(token, step)),
@@ -413,7 +401,7 @@ impl<N: Mechanism, K: Mechanism> Negotiate<N, K> {
             }
             Answer::Refused(error) => {
                 self.branch = Branch::Answering(token);
-                Err(error)
+                Err(error.into())
             }
         }
     }

@@ -1,17 +1,17 @@
 // What comes before each step of a client, and the states.
-ghost use Rattle.std.specs.Prelude.{◌≡◌, ◌≢◌, ◌↔◌, Bool, false, true, None, Some, IsTrue, IfOk, IfErr, OnOk, OnErr, option_copied};
+ghost use Rattle.std.specs.Prelude.{◌≡◌, ◌≢◌, ◌↔◌, false, true, None, Some, IfErr, OnErr};
 ghost use Rattle.sspi_names.specs.Identity.{identity_of, buffers_of};
 ghost use Rattle.sspi_names.specs.declared.credentials.CredentialsBuffers.TheVariants as buffered;
 ghost use Rattle.sspi_mech.specs.Answers.{answer_of};
 ghost use Rattle.sspi_mech.specs.Calls.{step_args};
+ghost use Rattle.sspi_mech.specs.Refusals.{answered};
 ghost use Rattle.sspi_negotiate.specs.declared.protocol.Protocol.TheVariants as protocols;
-ghost use Rattle.sspi_negotiate.specs.Client.{is_closed, spnego_client, by_target, with_handle, converts, keeps, ruled, client_at};
-ghost use Rattle.sspi_negotiate.specs.Does.{Does, Passes, Stays, StaysUnmarked, StaysUnused, told};
+ghost use Rattle.sspi_negotiate.specs.Client.{is_closed, spnego_client, by_target, with_handle, keeps, ruled, client_at};
+ghost use Rattle.sspi_negotiate.specs.Does.{Does, Stays, StaysUnmarked, StaysUnused};
 ghost use Rattle.sspi_negotiate.specs.Hand.{hand_of};
 ghost use Rattle.sspi_negotiate.specs.Negotiate.{negotiate};
 ghost use Rattle.sspi_negotiate.specs.Rows.{in_ntlm};
-ghost use Rattle.sspi_negotiate.specs.Rule.{rule_url, by_rule, ruled_values};
-ghost use Rattle.sspi_negotiate.specs.Target.{IsNamedByIp};
+ghost use Rattle.sspi_negotiate.specs.Rule.{rule_url};
 ghost use Rattle.sspi_negotiate.specs.Values.{values_of};
 ghost use Rattle.sspi_negotiate.specs.declared.state.NegotiateState.TheVariants as states;
 
@@ -19,7 +19,7 @@ use crate::negotiate::Negotiate;
 use crate::refusal::out_of_sequence;
 use crate::state::{NegotiateState, Role};
 use crate::target::is_named_by_ip;
-use sspi_mech::{InitializeSecurityContext, Mechanism, Progressing};
+use sspi_mech::{InitializeSecurityContext, Mechanism, Progressing, Refusal};
 use sspi_names::{AuthIdentity, AuthIdentityBuffers, CredentialsBuffers, Username};
 use sspi_types::Error;
 
@@ -55,18 +55,21 @@ impl<N: Mechanism, K: Mechanism> Negotiate<N, K> {
         ensures plain { IfErr result (λ error. error.nstatus ≡ None) }
     {
         let ip = is_named_by_ip(args.target_name);
-        self.step(ip, args)
+        Ok(self.step(ip, args)?)
     }
 
-    fn step(&mut self, ip: bool, args: &InitializeSecurityContext<'_>) -> Result<Progressing, Error>
+    fn step(
+        &mut self,
+        ip: bool,
+        args: &InitializeSecurityContext<'_>,
+    ) -> Result<Progressing, Refusal>
         // The step, and what a refused one leaves.
         ensures step { Does N.meaning K.meaning (spnego_client ip (values_of self.old) (step_args args.now))
-            self.old (answer_of result) self.new }
+            self.old (answer_of (answered result)) self.new }
         ensures stays { OnErr result (Stays (values_of self.old) (values_of self.new)) }
-        // What every answer keeps, and that a refusal is plain.
+        // What every answer keeps.
         ensures unused { StaysUnused N.meaning K.meaning self.old self.new }
         ensures first { self.old.state ≡ states.Initial → StaysUnmarked N.meaning K.meaning self.old self.new }
-        ensures plain { IfErr result (λ error. error.nstatus ≡ None) }
     {
         if self.is_closed() {
             Err(out_of_sequence())
@@ -80,15 +83,14 @@ impl<N: Mechanism, K: Mechanism> Negotiate<N, K> {
         &mut self,
         ip: bool,
         args: &InitializeSecurityContext<'_>,
-    ) -> Result<Progressing, Error>
+    ) -> Result<Progressing, Refusal>
         // The step, and what a refused one leaves.
         ensures step { Does N.meaning K.meaning (by_target ip (values_of self.old) (step_args args.now))
-            self.old (answer_of result) self.new }
+            self.old (answer_of (answered result)) self.new }
         ensures stays { OnErr result (Stays (values_of self.old) (values_of self.new)) }
-        // What every answer keeps, and that a refusal is plain.
+        // What every answer keeps.
         ensures unused { StaysUnused N.meaning K.meaning self.old self.new }
         ensures first { self.old.state ≡ states.Initial → StaysUnmarked N.meaning K.meaning self.old self.new }
-        ensures plain { IfErr result (λ error. error.nstatus ≡ None) }
     {
         if ip && self.packages.ntlm {
             self.leave_kerberos(args)
@@ -97,19 +99,21 @@ impl<N: Mechanism, K: Mechanism> Negotiate<N, K> {
         }
     }
 
-    fn leave_kerberos(&mut self, args: &InitializeSecurityContext<'_>) -> Result<Progressing, Error>
+    fn leave_kerberos(
+        &mut self,
+        args: &InitializeSecurityContext<'_>,
+    ) -> Result<Progressing, Refusal>
         // The step, and what a refused one leaves.
         ensures step { Does N.meaning K.meaning
             (in_ntlm (hand_of self.old.mech) self.old.computer (with_handle (record (values_of self.old) {
               hand = protocols.Ntlm;
               packages = record self.old.packages { kerberos = false };
             }) (step_args args.now)))
-            self.old (answer_of result) self.new }
+            self.old (answer_of (answered result)) self.new }
         ensures stays { OnErr result (Stays (values_of self.old) (values_of self.new)) }
-        // What every answer keeps, and that a refusal is plain.
+        // What every answer keeps.
         ensures unused { StaysUnused N.meaning K.meaning self.old self.new }
         ensures first { self.old.state ≡ states.Initial → StaysUnmarked N.meaning K.meaning self.old self.new }
-        ensures plain { IfErr result (λ error. error.nstatus ≡ None) }
     {
         self.take_ntlm()?;
         self.disable_kerberos(args)
@@ -118,31 +122,29 @@ impl<N: Mechanism, K: Mechanism> Negotiate<N, K> {
     fn disable_kerberos(
         &mut self,
         args: &InitializeSecurityContext<'_>,
-    ) -> Result<Progressing, Error>
+    ) -> Result<Progressing, Refusal>
         // The step, and what a refused one leaves.
         ensures step { Does N.meaning K.meaning
             (with_handle (record (values_of self.old) { packages = record self.old.packages { kerberos = false } }) (step_args args.now))
-            self.old (answer_of result) self.new }
+            self.old (answer_of (answered result)) self.new }
         ensures stays { OnErr result (Stays (values_of self.old) (values_of self.new)) }
-        // What every answer keeps, and that a refusal is plain.
+        // What every answer keeps.
         ensures unused { StaysUnused N.meaning K.meaning self.old self.new }
         ensures first { self.old.state ≡ states.Initial → StaysUnmarked N.meaning K.meaning self.old self.new }
-        ensures plain { IfErr result (λ error. error.nstatus ≡ None) }
     {
         self.packages.kerberos = false;
         self.with_handle(args)
     }
 
     #[tactic(auto, unfolding(crate::specs::Client::with_handle))]
-    fn with_handle(&mut self, args: &InitializeSecurityContext<'_>) -> Result<Progressing, Error>
+    fn with_handle(&mut self, args: &InitializeSecurityContext<'_>) -> Result<Progressing, Refusal>
         // The step, and what a refused one leaves.
         ensures step { Does N.meaning K.meaning (with_handle (values_of self.old) (step_args args.now))
-            self.old (answer_of result) self.new }
+            self.old (answer_of (answered result)) self.new }
         ensures stays { OnErr result (Stays (values_of self.old) (values_of self.new)) }
-        // What every answer keeps, and that a refusal is plain.
+        // What every answer keeps.
         ensures unused { StaysUnused N.meaning K.meaning self.old self.new }
         ensures first { self.old.state ≡ states.Initial → StaysUnmarked N.meaning K.meaning self.old self.new }
-        ensures plain { IfErr result (λ error. error.nstatus ≡ None) }
     {
         match args.credentials_handle {
             None => self.step_at(args),
@@ -156,15 +158,14 @@ impl<N: Mechanism, K: Mechanism> Negotiate<N, K> {
         &mut self,
         buffers: &AuthIdentityBuffers,
         args: &InitializeSecurityContext<'_>,
-    ) -> Result<Progressing, Error>
+    ) -> Result<Progressing, Refusal>
         // The step, and what a refused one leaves.
         ensures step { Does N.meaning K.meaning (keeps (identity_of buffers.now) (values_of self.old) (step_args args.now))
-            self.old (answer_of result) self.new }
+            self.old (answer_of (answered result)) self.new }
         ensures stays { OnErr result (Stays (values_of self.old) (values_of self.new)) }
-        // What every answer keeps, and that a refusal is plain.
+        // What every answer keeps.
         ensures unused { StaysUnused N.meaning K.meaning self.old self.new }
         ensures first { self.old.state ≡ states.Initial → StaysUnmarked N.meaning K.meaning self.old self.new }
-        ensures plain { IfErr result (λ error. error.nstatus ≡ None) }
     {
         let identity = AuthIdentity::from_buffers(self.alloc, buffers)?;
         self.keep(&identity, args)
@@ -174,17 +175,16 @@ impl<N: Mechanism, K: Mechanism> Negotiate<N, K> {
         &mut self,
         identity: &AuthIdentity,
         args: &InitializeSecurityContext<'_>,
-    ) -> Result<Progressing, Error>
+    ) -> Result<Progressing, Refusal>
         // The step, and what a refused one leaves.
         ensures step { Does N.meaning K.meaning
             (ruled (rule_url (values_of self.old) identity.now.username)
             (record (values_of self.old) { kept = Some (buffered.AuthIdentity (buffers_of identity.now)) }) (step_args args.now))
-            self.old (answer_of result) self.new }
+            self.old (answer_of (answered result)) self.new }
         ensures stays { OnErr result (Stays (values_of self.old) (values_of self.new)) }
-        // What every answer keeps, and that a refusal is plain.
+        // What every answer keeps.
         ensures unused { StaysUnused N.meaning K.meaning self.old self.new }
         ensures first { self.old.state ≡ states.Initial → StaysUnmarked N.meaning K.meaning self.old self.new }
-        ensures plain { IfErr result (λ error. error.nstatus ≡ None) }
     {
         let kept = identity.to_buffers(self.alloc)?;
         self.auth_identity = Some(CredentialsBuffers::AuthIdentity(kept));
@@ -195,30 +195,28 @@ impl<N: Mechanism, K: Mechanism> Negotiate<N, K> {
         &mut self,
         name: &Username,
         args: &InitializeSecurityContext<'_>,
-    ) -> Result<Progressing, Error>
+    ) -> Result<Progressing, Refusal>
         // The step, and what a refused one leaves.
         ensures step { Does N.meaning K.meaning (ruled (rule_url (values_of self.old) name.now) (values_of self.old) (step_args args.now))
-            self.old (answer_of result) self.new }
+            self.old (answer_of (answered result)) self.new }
         ensures stays { OnErr result (Stays (values_of self.old) (values_of self.new)) }
-        // What every answer keeps, and that a refusal is plain.
+        // What every answer keeps.
         ensures unused { StaysUnused N.meaning K.meaning self.old self.new }
         ensures first { self.old.state ≡ states.Initial → StaysUnmarked N.meaning K.meaning self.old self.new }
-        ensures plain { IfErr result (λ error. error.nstatus ≡ None) }
     {
         self.take_by_rule(name)?;
         self.step_at(args)
     }
 
     #[tactic(auto, unfolding(crate::specs::Client::client_at))]
-    fn step_at(&mut self, args: &InitializeSecurityContext<'_>) -> Result<Progressing, Error>
+    fn step_at(&mut self, args: &InitializeSecurityContext<'_>) -> Result<Progressing, Refusal>
         // The step, and what a refused one leaves.
         ensures step { Does N.meaning K.meaning (client_at self.old.state (values_of self.old) (step_args args.now))
-            self.old (answer_of result) self.new }
+            self.old (answer_of (answered result)) self.new }
         ensures stays { OnErr result (Stays (values_of self.old) (values_of self.new)) }
-        // What every answer keeps, and that a refusal is plain.
+        // What every answer keeps.
         ensures unused { StaysUnused N.meaning K.meaning self.old self.new }
         ensures first { self.old.state ≡ states.Initial → StaysUnmarked N.meaning K.meaning self.old self.new }
-        ensures plain { IfErr result (λ error. error.nstatus ≡ None) }
     {
         match self.state {
             NegotiateState::Initial => self.first_step(args),

@@ -72,7 +72,7 @@ impl<N: Mechanism, K: Mechanism> Negotiate<N, K> {
         ensures cause { IfErr result (λ error. error.error_type ≢ ErrorKind.InsufficientMemory →
             (negotiate N.REQUESTS N.meaning K.meaning).refuses self.old (ToIdentify identities.items) error.error_type) }
     {
-        self.protocol.set_identities(identities)
+        Ok(self.protocol.set_identities(identities)?)
     }
 
     /// Completes the authentication (CompleteAuthToken). `OutOfSequence` before there is a key.
@@ -86,7 +86,7 @@ impl<N: Mechanism, K: Mechanism> Negotiate<N, K> {
         ensures cause { IfErr result (λ error. error.error_type ≢ ErrorKind.InsufficientMemory →
             (negotiate N.REQUESTS N.meaning K.meaning).refuses self.old ToComplete error.error_type) }
     {
-        self.protocol.complete()
+        Ok(self.protocol.complete()?)
     }
 
     /// Seals a text for the peer, as the next of its messages: a blob of at least 16 bytes.
@@ -109,7 +109,7 @@ impl<N: Mechanism, K: Mechanism> Negotiate<N, K> {
         ensures cause { IfErr result (λ error. error.error_type ≢ ErrorKind.InsufficientMemory →
             (negotiate N.REQUESTS N.meaning K.meaning).refuses self.new (ToSeal text.now) error.error_type) }
     {
-        self.protocol.seal(text)
+        Ok(self.protocol.seal(text)?)
     }
 
     /// Opens what the peer sealed, as the next of its messages.
@@ -133,6 +133,6 @@ impl<N: Mechanism, K: Mechanism> Negotiate<N, K> {
         ensures cause { IfErr result (λ error. error.error_type ≢ ErrorKind.InsufficientMemory →
             (negotiate N.REQUESTS N.meaning K.meaning).refuses self.new (ToUnseal blob.now) error.error_type) }
     {
-        self.protocol.unseal(blob)
+        Ok(self.protocol.unseal(blob)?)
     }
 }

@@ -2,11 +2,12 @@
 ghost use Rattle.std.specs.Prelude.{◌≡◌, ◌≢◌, ◌<◌, IsTrue, IfOk, IfErr};
 ghost use Rattle.std.specs.Prelude.{OnOk, OnErr, Some, None, option_copied, filter, take};
 ghost use Rattle.sspi_types.specs.Memory.{memory_error};
-ghost use Rattle.sspi_mech.specs.Answers.{IfRefused, OnRefused, OnAsk};
+ghost use Rattle.sspi_mech.specs.Answers.{IfRefused};
 ghost use Rattle.sspi_mech.specs.Calls.{step_args, accept_args, no_counts, one_sealed, one_unsealed, one_signed, one_verified};
 ghost use Rattle.sspi_mech.specs.Calls.{ToAcquire, ToName, ToIdentify, ToComplete, ToSeal};
-ghost use Rattle.sspi_mech.specs.Calls.{ToUnseal, ToSign, ToVerify, ToDescribe, ToShowKey};
+ghost use Rattle.sspi_mech.specs.Calls.{ToUnseal, ToSign, ToVerify};
 ghost use Rattle.sspi_mech.specs.Context.{IsUnused};
+ghost use Rattle.sspi_mech.specs.Refusals.{answered, refusal_of};
 ghost use Rattle.sspi_negotiate.specs.declared.protocol.Protocol.TheVariants as protocols;
 ghost use Rattle.sspi_negotiate.specs.Hand.{InPlaceOfNtlm, in_place_of_kerberos, hand, hand_of, has_password, asks_left};
 ghost use Rattle.sspi_negotiate.specs.Verified.{HasNoMic};
@@ -14,7 +15,7 @@ ghost use Rattle.sspi_negotiate.specs.Verified.{HasNoMic};
 use crate::protocol::NegotiatedProtocol;
 use sspi_mech::{
     AcceptSecurityContext, Answer, InitializeSecurityContext, KerberosConfig, MechConfig,
-    Mechanism, NtlmConfig, Reply, Step,
+    Mechanism, NtlmConfig, Refusal, Reply, Step,
 };
 use sspi_names::{Credentials, CredentialsBuffers, KdcTable, Username};
 use sspi_types::{
@@ -63,11 +64,11 @@ fn kerberos_config(
 
 impl<N: Mechanism, K: Mechanism> NegotiatedProtocol<N, K> {
     /// An NTLM that takes the place of a Kerberos.
-    pub(crate) fn new_ntlm(alloc: Global, client_computer_name: &Text) -> Result<Self, Error>
+    pub(crate) fn new_ntlm(alloc: Global, client_computer_name: &Text) -> Result<Self, Refusal>
         ensures made { IfOk result (λ it. (hand N.meaning K.meaning).made (in_place_of_kerberos client_computer_name.now) it) }
         ensures fresh { IfOk result (λ it. (hand N.meaning K.meaning).counts it ≡ no_counts) }
         ensures named { IfOk result (λ it. hand_of it ≡ protocols.Ntlm) }
-        ensures err { IfErr result (λ error. error ≡ memory_error) }
+        ensures err { IfErr result (λ error. error ≡ refusal_of memory_error) }
     {
         let config = NtlmConfig::new(client_computer_name.clone(alloc)?);
         let ntlm = N::make(alloc, &MechConfig::Ntlm(&config))?;
@@ -80,12 +81,12 @@ impl<N: Mechanism, K: Mechanism> NegotiatedProtocol<N, K> {
         kdc_url: Option<&str>,
         kdcs: &KdcTable,
         client_computer_name: &Text,
-    ) -> Result<Self, Error>
+    ) -> Result<Self, Refusal>
         ensures made { IfOk result (λ it. (hand N.meaning K.meaning).made
             (InPlaceOfNtlm (option_copied kdc_url.entry) kdcs.now client_computer_name.now) it) }
         ensures fresh { IfOk result (λ it. (hand N.meaning K.meaning).counts it ≡ no_counts) }
         ensures named { IfOk result (λ it. hand_of it ≡ protocols.Kerberos) }
-        ensures err { IfErr result (λ error. error ≡ memory_error) }
+        ensures err { IfErr result (λ error. error ≡ refusal_of memory_error) }
     {
         let config = kerberos_config(alloc, kdc_url, kdcs, client_computer_name)?;
         let kerberos = K::make(alloc, &MechConfig::Kerberos(&config))?;
@@ -96,7 +97,7 @@ impl<N: Mechanism, K: Mechanism> NegotiatedProtocol<N, K> {
         &mut self,
         credential_use: CredentialUse,
         auth_data: Option<&Credentials>,
-    ) -> Result<Option<CredentialsBuffers>, Error>
+    ) -> Result<Option<CredentialsBuffers>, Refusal>
         // What `Ok` holds.
         ensures acquired { IfOk result (λ buffers.
             (hand N.meaning K.meaning).acquires self.old credential_use (option_copied auth_data.entry) buffers self.new) }
@@ -105,13 +106,18 @@ impl<N: Mechanism, K: Mechanism> NegotiatedProtocol<N, K> {
         ensures named { hand_of self.new ≡ hand_of self.old }
         // What a refusal says, and what it leaves.
         ensures err { OnErr result (self.new ≡ self.old) }
-        ensures plain { IfErr result (λ error. error.nstatus ≡ None) }
         ensures cause { IfErr result (λ error. error.error_type ≢ ErrorKind.InsufficientMemory →
             (hand N.meaning K.meaning).refuses self.old (ToAcquire credential_use (option_copied auth_data.entry)) error.error_type) }
     {
         match self {
-            NegotiatedProtocol::Ntlm(mechanism) => mechanism.acquire(credential_use, auth_data),
-            NegotiatedProtocol::Kerberos(mechanism) => mechanism.acquire(credential_use, auth_data),
+            NegotiatedProtocol::Ntlm(mechanism) => Ok(mechanism.acquire(
+                credential_use,
+                auth_data,
+            )?),
+            NegotiatedProtocol::Kerberos(mechanism) => Ok(mechanism.acquire(
+                credential_use,
+                auth_data,
+            )?),
         }
     }
 
@@ -145,18 +151,17 @@ impl<N: Mechanism, K: Mechanism> NegotiatedProtocol<N, K> {
         }
     }
 
-    pub(crate) fn accept(&mut self, args: &AcceptSecurityContext<'_>) -> Result<Step, Error>
+    pub(crate) fn accept(&mut self, args: &AcceptSecurityContext<'_>) -> Result<Step, Refusal>
         // The step.
-        ensures step { (hand N.meaning K.meaning).accepts self.old (accept_args args.now) result self.new }
-        // What every answer keeps, and that a refusal is plain.
+        ensures step { (hand N.meaning K.meaning).accepts self.old (accept_args args.now) (answered result) self.new }
+        // What every answer keeps.
         ensures unused { IsUnused ((hand N.meaning K.meaning).counts self.old) → IsUnused ((hand N.meaning K.meaning).counts self.new) }
         ensures unmarked { HasNoMic ((hand N.meaning K.meaning).counts self.old) → HasNoMic ((hand N.meaning K.meaning).counts self.new) }
         ensures named { hand_of self.new ≡ hand_of self.old }
-        ensures plain { IfErr result (λ error. error.nstatus ≡ None) }
     {
         match self {
-            NegotiatedProtocol::Ntlm(mechanism) => mechanism.accept(args),
-            NegotiatedProtocol::Kerberos(mechanism) => mechanism.accept(args),
+            NegotiatedProtocol::Ntlm(mechanism) => Ok(mechanism.accept(args)?),
+            NegotiatedProtocol::Kerberos(mechanism) => Ok(mechanism.accept(args)?),
         }
     }
 
@@ -171,35 +176,33 @@ impl<N: Mechanism, K: Mechanism> NegotiatedProtocol<N, K> {
         }
     }
 
-    pub(crate) fn complete(&mut self) -> Result<SecurityStatus, Error>
+    pub(crate) fn complete(&mut self) -> Result<SecurityStatus, Refusal>
         // What stays, and what `Ok` holds.
         ensures same { self.new ≡ self.old }
         ensures keyed { IsTrue ((hand N.meaning K.meaning).keyed self.old) → result ≡ Ok SecurityStatus.Ok }
         ensures permitted { OnOk result ((hand N.meaning K.meaning).permits self.old ToComplete) }
         // What a refusal says.
-        ensures plain { IfErr result (λ error. error.nstatus ≡ None) }
         ensures cause { IfErr result (λ error. error.error_type ≢ ErrorKind.InsufficientMemory →
             (hand N.meaning K.meaning).refuses self.old ToComplete error.error_type) }
     {
         match self {
-            NegotiatedProtocol::Ntlm(mechanism) => mechanism.complete(),
-            NegotiatedProtocol::Kerberos(mechanism) => mechanism.complete(),
+            NegotiatedProtocol::Ntlm(mechanism) => Ok(mechanism.complete()?),
+            NegotiatedProtocol::Kerberos(mechanism) => Ok(mechanism.complete()?),
         }
     }
 
-    pub(crate) fn names(&self) -> Result<Username, Error>
+    pub(crate) fn names(&self) -> Result<Username, Refusal>
         ensures named { IfOk result (λ name. (hand N.meaning K.meaning).names self.now ≡ Some name) }
-        ensures plain { IfErr result (λ error. error.nstatus ≡ None) }
         ensures cause { IfErr result (λ error. error.error_type ≢ ErrorKind.InsufficientMemory →
             (hand N.meaning K.meaning).refuses self.now ToName error.error_type) }
     {
         match self {
-            NegotiatedProtocol::Ntlm(mechanism) => mechanism.names(),
-            NegotiatedProtocol::Kerberos(mechanism) => mechanism.names(),
+            NegotiatedProtocol::Ntlm(mechanism) => Ok(mechanism.names()?),
+            NegotiatedProtocol::Kerberos(mechanism) => Ok(mechanism.names()?),
         }
     }
 
-    pub(crate) fn set_identities(&mut self, identities: Vec<Credentials>) -> Result<(), Error>
+    pub(crate) fn set_identities(&mut self, identities: Vec<Credentials>) -> Result<(), Refusal>
         // What `Ok` holds.
         ensures identified { OnOk result ((hand N.meaning K.meaning).identifies self.old identities.items self.new) }
         // What holds of every answer.
@@ -207,21 +210,20 @@ impl<N: Mechanism, K: Mechanism> NegotiatedProtocol<N, K> {
         ensures named { hand_of self.new ≡ hand_of self.old }
         // What a refusal says, and what it leaves.
         ensures err { OnErr result (self.new ≡ self.old) }
-        ensures plain { IfErr result (λ error. error.nstatus ≡ None) }
         ensures cause { IfErr result (λ error. error.error_type ≢ ErrorKind.InsufficientMemory →
             (hand N.meaning K.meaning).refuses self.old (ToIdentify identities.items) error.error_type) }
     {
         match self {
             NegotiatedProtocol::Ntlm(mechanism) => {
-                mechanism.set_identities(&with_passwords(identities))
+                Ok(mechanism.set_identities(&with_passwords(identities))?)
             }
             NegotiatedProtocol::Kerberos(mechanism) => {
-                mechanism.set_identities(&first_of(identities))
+                Ok(mechanism.set_identities(&first_of(identities))?)
             }
         }
     }
 
-    pub(crate) fn seal(&mut self, text: &[u8]) -> Result<Vec<u8>, Error>
+    pub(crate) fn seal(&mut self, text: &[u8]) -> Result<Vec<u8>, Refusal>
         // What `Ok` holds.
         ensures blob { let c = hand N.meaning K.meaning in
             IfOk result (λ blob. c.seals self.new (c.counts self.old).sealed text.now blob.items) }
@@ -230,17 +232,16 @@ impl<N: Mechanism, K: Mechanism> NegotiatedProtocol<N, K> {
         ensures permitted { OnOk result ((hand N.meaning K.meaning).permits self.old (ToSeal text.now)) }
         // What a refusal says, and what it leaves.
         ensures err { OnErr result (self.new ≡ self.old) }
-        ensures plain { IfErr result (λ error. error.nstatus ≡ None) }
         ensures cause { IfErr result (λ error. error.error_type ≢ ErrorKind.InsufficientMemory →
             (hand N.meaning K.meaning).refuses self.old (ToSeal text.now) error.error_type) }
     {
         match self {
-            NegotiatedProtocol::Ntlm(mechanism) => mechanism.seal(text),
-            NegotiatedProtocol::Kerberos(mechanism) => mechanism.seal(text),
+            NegotiatedProtocol::Ntlm(mechanism) => Ok(mechanism.seal(text)?),
+            NegotiatedProtocol::Kerberos(mechanism) => Ok(mechanism.seal(text)?),
         }
     }
 
-    pub(crate) fn unseal(&mut self, blob: &[u8]) -> Result<Vec<u8>, Error>
+    pub(crate) fn unseal(&mut self, blob: &[u8]) -> Result<Vec<u8>, Refusal>
         // What `Ok` holds.
         ensures text { let c = hand N.meaning K.meaning in
             IfOk result (λ text. c.opens self.new (c.counts self.old).unsealed blob.now text.items) }
@@ -249,13 +250,12 @@ impl<N: Mechanism, K: Mechanism> NegotiatedProtocol<N, K> {
         ensures permitted { OnOk result ((hand N.meaning K.meaning).permits self.old (ToUnseal blob.now)) }
         // What a refusal says, and what it leaves.
         ensures err { OnErr result (self.new ≡ self.old) }
-        ensures plain { IfErr result (λ error. error.nstatus ≡ None) }
         ensures cause { IfErr result (λ error. error.error_type ≢ ErrorKind.InsufficientMemory →
             (hand N.meaning K.meaning).refuses self.old (ToUnseal blob.now) error.error_type) }
     {
         match self {
-            NegotiatedProtocol::Ntlm(mechanism) => mechanism.unseal(blob),
-            NegotiatedProtocol::Kerberos(mechanism) => mechanism.unseal(blob),
+            NegotiatedProtocol::Ntlm(mechanism) => Ok(mechanism.unseal(blob)?),
+            NegotiatedProtocol::Kerberos(mechanism) => Ok(mechanism.unseal(blob)?),
         }
     }
 

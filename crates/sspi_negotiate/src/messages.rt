@@ -17,11 +17,11 @@ impl<N: Mechanism, K: Mechanism> Protects for Negotiate<N, K> {
     ghost protecting = { protecting (negotiate N.REQUESTS N.meaning K.meaning) };
 
     fn seal(&mut self, text: &[u8]) -> Result<Vec<u8>, Error> {
-        self.protocol.seal(text)
+        Ok(self.protocol.seal(text)?)
     }
 
     fn unseal(&mut self, blob: &[u8]) -> Result<Vec<u8>, Error> {
-        self.protocol.unseal(blob)
+        Ok(self.protocol.unseal(blob)?)
     }
 
     fn sign(&mut self, text: &[u8]) -> Result<Vec<u8>, Error> {

@@ -1,13 +1,14 @@
 // The MICs over the mechanism list (RFC 4178, section 5).
-ghost use Rattle.std.specs.Prelude.{◌≡◌, ◌≢◌, None, Some, IfOk, IfErr, OnOk, OnErr, map, option_map, length, ◌==◌};
+ghost use Rattle.std.specs.Prelude.{◌≡◌, ◌≢◌, None, Some, IfOk, IfErr, OnOk, OnErr, map, ◌==◌};
 ghost use Rattle.sspi_mech.specs.Calls.{one_signed, one_verified, ToSign, ToVerify};
+ghost use Rattle.sspi_mech.specs.Refusals.{answered};
 ghost use Rattle.sspi_negotiate.specs.Hand.{hand, hand_of};
 ghost use Rattle.sspi_names.specs.declared.credentials.Credentials.TheVariants as credentials;
 ghost use Rattle.sspi_negotiate.specs.Does.{Does, Passes, Stays, StaysPicked, StaysUnused, told};
-ghost use Rattle.sspi_negotiate.specs.Rows.{identifies_among, identifies, verifies, verifies_text, checks, signs_text};
+ghost use Rattle.sspi_negotiate.specs.Rows.{identifies_among, identifies, verifies, checks};
 ghost use Rattle.sspi_negotiate.specs.Rows.{writes, targ, if_some, answers_signed, completes_signed, hands_mic};
 ghost use Rattle.sspi_negotiate.specs.Known.{named};
-ghost use Rattle.sspi_negotiate.specs.Plan.{Names, Identifies, Verifies, Signs};
+ghost use Rattle.sspi_negotiate.specs.Plan.{Identifies, Verifies, Signs};
 ghost use Rattle.sspi_negotiate.specs.Values.{values_of};
 
 use crate::known::named;
@@ -16,16 +17,16 @@ use crate::protocol::NegotiatedProtocol;
 use crate::rows::if_some;
 use crate::spelled::spelled_list;
 use crate::state::NegotiateState;
-use sspi_mech::{Mechanism, Step};
+use sspi_mech::{Mechanism, Refusal, Step};
 use sspi_names::{Credentials, Username};
 use sspi_tokens::{NegResult, NegTokenTarg};
-use sspi_types::{Bytes, Error, ErrorKind, Reason, SecurityStatus};
+use sspi_types::{Bytes, ErrorKind, Reason, SecurityStatus};
 
 fn verify_with<N: Mechanism, K: Mechanism>(
     protocol: &mut NegotiatedProtocol<N, K>,
     mic: &Bytes,
     text: &Bytes,
-) -> Result<(), Error>
+) -> Result<(), Refusal>
     // What `Ok` holds, and that the mechanism is the same.
     ensures mic { let c = hand N.meaning K.meaning in
         OnOk result (c.verifies protocol.new (c.counts protocol.old).verified mic.now text.now) }
@@ -36,17 +37,16 @@ fn verify_with<N: Mechanism, K: Mechanism>(
     ensures permitted { OnOk result ((hand N.meaning K.meaning).permits protocol.old (ToVerify mic.now text.now)) }
     // What a refusal says, and what it leaves.
     ensures err { OnErr result (protocol.new ≡ protocol.old) }
-    ensures plain { IfErr result (λ error. error.nstatus ≡ None) }
     ensures cause { IfErr result (λ error.
         (hand N.meaning K.meaning).refuses protocol.old (ToVerify mic.now text.now) error.error_type) }
 {
-    protocol.verify_mic_token(mic.as_slice(), text.as_slice())
+    Ok(protocol.verify_mic_token(mic.as_slice(), text.as_slice())?)
 }
 
 fn sign_with<N: Mechanism, K: Mechanism>(
     protocol: &mut NegotiatedProtocol<N, K>,
     text: &Bytes,
-) -> Result<Bytes, Error>
+) -> Result<Bytes, Refusal>
     // What `Ok` holds, and that the mechanism is the same.
     ensures mic { let c = hand N.meaning K.meaning in
         IfOk result (λ mic. c.signs protocol.new (c.counts protocol.old).signed text.now mic) }
@@ -57,7 +57,6 @@ fn sign_with<N: Mechanism, K: Mechanism>(
     ensures permitted { OnOk result ((hand N.meaning K.meaning).permits protocol.old (ToSign text.now)) }
     // What a refusal says, and what it leaves.
     ensures err { OnErr result (protocol.new ≡ protocol.old) }
-    ensures plain { IfErr result (λ error. error.nstatus ≡ None) }
     ensures cause { IfErr result (λ error. error.error_type ≢ ErrorKind.InsufficientMemory →
         (hand N.meaning K.meaning).refuses protocol.old (ToSign text.now) error.error_type) }
 {
@@ -67,90 +66,89 @@ fn sign_with<N: Mechanism, K: Mechanism>(
 
 impl<N: Mechanism, K: Mechanism> Negotiate<N, K> {
     /// Takes the MIC of the client, of whom a server must know the identity first.
-    pub(crate) fn check(&mut self, mic: &Bytes) -> Result<(), Error>
+    pub(crate) fn check(&mut self, mic: &Bytes) -> Result<(), Refusal>
         // The step.
-        ensures step { Passes N.meaning K.meaning (checks mic.now (values_of self.old)) (values_of self.old) self.old result self.new }
-        // What every answer keeps, and that a refusal is plain.
+        ensures step { Passes N.meaning K.meaning (checks mic.now (values_of self.old)) (values_of self.old) self.old
+            (answered result) self.new }
+        // What every answer keeps.
         ensures stays { Stays (values_of self.old) (values_of self.new) }
         ensures unused { StaysUnused N.meaning K.meaning self.old self.new }
         ensures picked { StaysPicked (values_of self.old) (values_of self.new) }
-        ensures plain { IfErr result (λ error. error.nstatus ≡ None) }
     {
         self.identify()?;
         self.verify(mic)
     }
 
-    fn identify(&mut self) -> Result<(), Error>
+    fn identify(&mut self) -> Result<(), Refusal>
         // The step.
-        ensures step { Passes N.meaning K.meaning (identifies (values_of self.old)) (values_of self.old) self.old result self.new }
-        // What every answer keeps, and that a refusal is plain.
+        ensures step { Passes N.meaning K.meaning (identifies (values_of self.old)) (values_of self.old) self.old
+            (answered result) self.new }
+        // What every answer keeps.
         ensures stays { Stays (values_of self.old) (values_of self.new) }
         ensures unused { StaysUnused N.meaning K.meaning self.old self.new }
         ensures picked { StaysPicked (values_of self.old) (values_of self.new) }
-        ensures plain { IfErr result (λ error. error.nstatus ≡ None) }
     {
         let name = self.protocol.names()?;
         self.identify_as(&name)
     }
 
-    fn identify_as(&mut self, name: &Username) -> Result<(), Error>
+    fn identify_as(&mut self, name: &Username) -> Result<(), Refusal>
         // The step.
         ensures step { Passes N.meaning K.meaning
             (λ rest. identifies_among (map credentials.AuthIdentity (named name.now self.old.known)) (values_of self.old) rest)
-            (values_of self.old) self.old result self.new }
-        // What every answer keeps, and that a refusal is plain.
+            (values_of self.old) self.old (answered result) self.new }
+        // What every answer keeps.
         ensures stays { Stays (values_of self.old) (values_of self.new) }
         ensures unused { StaysUnused N.meaning K.meaning self.old self.new }
         ensures picked { StaysPicked (values_of self.old) (values_of self.new) }
-        ensures plain { IfErr result (λ error. error.nstatus ≡ None) }
     {
         let found = named(self.alloc, name, &self.known)?;
         if found.is_empty() {
-            Err(Error::new(ErrorKind::NoCredentials, Reason::NoIdentity))
+            Err(Refusal::new(ErrorKind::NoCredentials, Reason::NoIdentity))
         } else {
             self.identify_by(found)
         }
     }
 
-    fn identify_by(&mut self, found: Vec<Credentials>) -> Result<(), Error>
+    fn identify_by(&mut self, found: Vec<Credentials>) -> Result<(), Refusal>
         // The step.
         ensures step { Passes N.meaning K.meaning (Identifies found.items (values_of self.old))
-            (values_of self.old) self.old result self.new }
-        // What every answer keeps, and that a refusal is plain.
+            (values_of self.old) self.old (answered result) self.new }
+        // What every answer keeps.
         ensures stays { Stays (values_of self.old) (values_of self.new) }
         ensures unused { StaysUnused N.meaning K.meaning self.old self.new }
         ensures picked { StaysPicked (values_of self.old) (values_of self.new) }
-        ensures plain { IfErr result (λ error. error.nstatus ≡ None) }
     {
         self.protocol.set_identities(found)
     }
 
     /// Takes the peer's MIC, which must be over the list as it is kept.
-    pub(crate) fn verify(&mut self, mic: &Bytes) -> Result<(), Error>
+    pub(crate) fn verify(&mut self, mic: &Bytes) -> Result<(), Refusal>
         // The step.
-        ensures step { Passes N.meaning K.meaning (verifies mic.now (values_of self.old)) (values_of self.old) self.old result self.new }
-        // What every answer keeps, and that a refusal is plain.
+        ensures step { Passes N.meaning K.meaning (verifies mic.now (values_of self.old)) (values_of self.old) self.old
+            (answered result) self.new }
+        // What every answer keeps.
         ensures stays { Stays (values_of self.old) (values_of self.new) }
         ensures unused { StaysUnused N.meaning K.meaning self.old self.new }
         ensures picked { StaysPicked (values_of self.old) (values_of self.new) }
-        ensures plain { IfErr result (λ error. error.nstatus ≡ None) }
     {
         let text = spelled_list(self.alloc, &self.mech_types)?;
         self.verify_over(mic, &text)
     }
 
-    fn verify_over(&mut self, mic: &Bytes, text: &Bytes) -> Result<(), Error>
+    fn verify_over(&mut self, mic: &Bytes, text: &Bytes) -> Result<(), Refusal>
         // The step.
         ensures step { Passes N.meaning K.meaning (Verifies mic.now text.now (values_of self.old))
-            (values_of self.old) self.old result self.new }
-        // What every answer keeps, and that a refusal is plain.
+            (values_of self.old) self.old (answered result) self.new }
+        // What every answer keeps.
         ensures stays { Stays (values_of self.old) (values_of self.new) }
         ensures unused { StaysUnused N.meaning K.meaning self.old self.new }
         ensures picked { StaysPicked (values_of self.old) (values_of self.new) }
-        ensures plain { IfErr result (λ error. error.nstatus ≡ None) }
     {
-        self.protocol
-            .verify_mic_token(mic.as_slice(), text.as_slice())
+        Ok(
+            self.protocol
+                .verify_mic_token(mic.as_slice(), text.as_slice())?,
+        )
     }
 
     /// Ends a step with a token that has the own MIC over the list.
@@ -161,15 +159,14 @@ impl<N: Mechanism, K: Mechanism> Negotiate<N, K> {
         state: NegotiateState,
         status: SecurityStatus,
         token: Bytes,
-    ) -> Result<Step, Error>
+    ) -> Result<Step, Refusal>
         // The step, and what a refused one leaves.
         ensures step { Does N.meaning K.meaning
-            (answers_signed result_field state status (values_of self.old) token) self.old (told result) self.new }
+            (answers_signed result_field state status (values_of self.old) token) self.old (told (answered result)) self.new }
         ensures stays { OnErr result (Stays (values_of self.old) (values_of self.new)) }
-        // What every answer keeps, and that a refusal is plain.
+        // What every answer keeps.
         ensures unused { StaysUnused N.meaning K.meaning self.old self.new }
         ensures picked { StaysPicked (values_of self.old) (values_of self.new) }
-        ensures plain { IfErr result (λ error. error.nstatus ≡ None) }
     {
         let text = spelled_list(self.alloc, &self.mech_types)?;
         self.answer_over(result_field, state, status, token, &text)
@@ -182,16 +179,15 @@ impl<N: Mechanism, K: Mechanism> Negotiate<N, K> {
         status: SecurityStatus,
         token: Bytes,
         text: &Bytes,
-    ) -> Result<Step, Error>
+    ) -> Result<Step, Refusal>
         // The step, and what a refused one leaves.
         ensures step { let v = values_of self.old in Does N.meaning K.meaning
             (Signs text.now v (λ mic. writes (targ result_field None (if_some token) (Some mic)) v (record v { state = state }) status))
-            self.old (told result) self.new }
+            self.old (told (answered result)) self.new }
         ensures stays { OnErr result (Stays (values_of self.old) (values_of self.new)) }
-        // What every answer keeps, and that a refusal is plain.
+        // What every answer keeps.
         ensures unused { StaysUnused N.meaning K.meaning self.old self.new }
         ensures picked { StaysPicked (values_of self.old) (values_of self.new) }
-        ensures plain { IfErr result (λ error. error.nstatus ≡ None) }
     {
         let mic = sign_with(&mut self.protocol, text)?;
         let token = NegTokenTarg {
@@ -204,14 +200,13 @@ impl<N: Mechanism, K: Mechanism> Negotiate<N, K> {
     }
 
     /// Both MICs are made.
-    pub(crate) fn complete_signed(&mut self, token: Bytes) -> Result<Step, Error>
+    pub(crate) fn complete_signed(&mut self, token: Bytes) -> Result<Step, Refusal>
         // The step, and what a refused one leaves.
-        ensures step { Does N.meaning K.meaning (completes_signed (values_of self.old) token) self.old (told result) self.new }
+        ensures step { Does N.meaning K.meaning (completes_signed (values_of self.old) token) self.old (told (answered result)) self.new }
         ensures stays { OnErr result (Stays (values_of self.old) (values_of self.new)) }
-        // What every answer keeps, and that a refusal is plain.
+        // What every answer keeps.
         ensures unused { StaysUnused N.meaning K.meaning self.old self.new }
         ensures picked { StaysPicked (values_of self.old) (values_of self.new) }
-        ensures plain { IfErr result (λ error. error.nstatus ≡ None) }
     {
         self.answer_signed(
             NegResult::AcceptComplete,
@@ -222,14 +217,13 @@ impl<N: Mechanism, K: Mechanism> Negotiate<N, K> {
     }
 
     /// The own MIC goes first, and the peer's is to come.
-    pub(crate) fn hand_mic(&mut self, token: Bytes) -> Result<Step, Error>
+    pub(crate) fn hand_mic(&mut self, token: Bytes) -> Result<Step, Refusal>
         // The step, and what a refused one leaves.
-        ensures step { Does N.meaning K.meaning (hands_mic (values_of self.old) token) self.old (told result) self.new }
+        ensures step { Does N.meaning K.meaning (hands_mic (values_of self.old) token) self.old (told (answered result)) self.new }
         ensures stays { OnErr result (Stays (values_of self.old) (values_of self.new)) }
-        // What every answer keeps, and that a refusal is plain.
+        // What every answer keeps.
         ensures unused { StaysUnused N.meaning K.meaning self.old self.new }
         ensures picked { StaysPicked (values_of self.old) (values_of self.new) }
-        ensures plain { IfErr result (λ error. error.nstatus ≡ None) }
     {
         self.answer_signed(
             NegResult::AcceptIncomplete,

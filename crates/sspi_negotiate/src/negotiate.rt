@@ -1,9 +1,9 @@
-ghost use Rattle.std.specs.Prelude.{◌≡◌, ◌≢◌, [], None, IfErr, OnOk, OnErr};
-ghost use Rattle.sspi_mech.specs.Calls.{AcceptArgs, accept_args};
+ghost use Rattle.std.specs.Prelude.{◌≡◌, ◌≢◌, [], None, OnErr};
+ghost use Rattle.sspi_mech.specs.Refusals.{answered};
 ghost use Rattle.sspi_negotiate.specs.Does.{Does, Passes, Stays, StaysPicked, StaysUnmarked, StaysUnused, told};
 ghost use Rattle.sspi_negotiate.specs.declared.protocol.Protocol.TheVariants as protocols;
 ghost use Rattle.sspi_negotiate.specs.Hand.{hand_of, asks_left};
-ghost use Rattle.sspi_negotiate.specs.Rows.{in_ntlm, written, writes, targ, if_some, completes, carries_on};
+ghost use Rattle.sspi_negotiate.specs.Rows.{in_ntlm, writes, if_some, completes, carries_on};
 ghost use Rattle.sspi_negotiate.specs.Plan.{Goes};
 ghost use Rattle.sspi_negotiate.specs.Values.{values_of, is_waiting};
 ghost use Rattle.sspi_tokens.specs.Spelling.{spelled_targ};
@@ -16,10 +16,10 @@ use crate::protocol::{NegotiatedProtocol, Protocol};
 use crate::rows::if_some;
 use crate::spelled::spelled_targ;
 use crate::state::{NegotiateState, Role};
-use sspi_mech::{Mechanism, Step};
+use sspi_mech::{Mechanism, Refusal, Step};
 use sspi_names::{AuthIdentity, CredentialsBuffers, KdcTable};
 use sspi_tokens::{MechTypeList, NegResult, NegTokenTarg};
-use sspi_types::{Bytes, DataRepresentation, Error, SecurityStatus, Text};
+use sspi_types::{Bytes, DataRepresentation, SecurityStatus, Text};
 use std::alloc::Global;
 use std::marker::Model;
 
@@ -98,15 +98,14 @@ impl<N: Mechanism, K: Mechanism> Negotiate<N, K> {
     }
 
     /// Takes a new NTLM in hand, where Kerberos was.
-    pub(crate) fn take_ntlm(&mut self) -> Result<(), Error>
+    pub(crate) fn take_ntlm(&mut self) -> Result<(), Refusal>
         // The step.
         ensures step { Passes N.meaning K.meaning (in_ntlm (hand_of self.old.mech) self.old.computer)
-            (record (values_of self.old) { hand = protocols.Ntlm }) self.old result self.new }
-        // What every answer keeps, and that a refusal is plain.
+            (record (values_of self.old) { hand = protocols.Ntlm }) self.old (answered result) self.new }
+        // What every answer keeps.
         ensures stays { Stays (values_of self.old) (values_of self.new) }
         ensures unused { StaysUnused N.meaning K.meaning self.old self.new }
         ensures unmarked { StaysUnmarked N.meaning K.meaning self.old self.new }
-        ensures plain { IfErr result (λ error. error.nstatus ≡ None) }
     {
         match self.protocol.protocol() {
             Protocol::Ntlm => Ok(()),
@@ -114,15 +113,14 @@ impl<N: Mechanism, K: Mechanism> Negotiate<N, K> {
         }
     }
 
-    fn replace_kerberos(&mut self) -> Result<(), Error>
+    fn replace_kerberos(&mut self) -> Result<(), Refusal>
         // The step.
         ensures step { Passes N.meaning K.meaning (in_ntlm protocols.Kerberos self.old.computer)
-            (record (values_of self.old) { hand = protocols.Ntlm }) self.old result self.new }
-        // What every answer keeps, and that a refusal is plain.
+            (record (values_of self.old) { hand = protocols.Ntlm }) self.old (answered result) self.new }
+        // What every answer keeps.
         ensures stays { Stays (values_of self.old) (values_of self.new) }
         ensures unused { StaysUnused N.meaning K.meaning self.old self.new }
         ensures unmarked { StaysUnmarked N.meaning K.meaning self.old self.new }
-        ensures plain { IfErr result (λ error. error.nstatus ≡ None) }
     {
         self.protocol = NegotiatedProtocol::new_ntlm(self.alloc, &self.client_computer_name)?;
         Ok(())
@@ -135,17 +133,16 @@ impl<N: Mechanism, K: Mechanism> Negotiate<N, K> {
         need: bool,
         state: NegotiateState,
         status: SecurityStatus,
-    ) -> Result<Step, Error>
+    ) -> Result<Step, Refusal>
         // The step, and what a refused one leaves.
         ensures step { Does N.meaning K.meaning
             (writes token.now (values_of self.old) (record (values_of self.old) { need = need; state = state }) status)
-            self.old (told result) self.new }
+            self.old (told (answered result)) self.new }
         ensures stays { OnErr result (Stays (values_of self.old) (values_of self.new)) }
-        // What every answer keeps, and that a refusal is plain.
+        // What every answer keeps.
         ensures unused { StaysUnused N.meaning K.meaning self.old self.new }
         ensures unmarked { StaysUnmarked N.meaning K.meaning self.old self.new }
         ensures picked { StaysPicked (values_of self.old) (values_of self.new) }
-        ensures plain { IfErr result (λ error. error.nstatus ≡ None) }
     {
         let output = spelled_targ(self.alloc, token)?;
         self.mic_needed = need;
@@ -155,14 +152,13 @@ impl<N: Mechanism, K: Mechanism> Negotiate<N, K> {
 
     /// The negotiation is over.
     #[tactic(auto, unfolding(crate::specs::Rows::completes))]
-    pub(crate) fn complete(&mut self, token: Bytes, mic: Option<Bytes>) -> Result<Step, Error>
+    pub(crate) fn complete(&mut self, token: Bytes, mic: Option<Bytes>) -> Result<Step, Refusal>
         // The step, and what a refused one leaves.
-        ensures step { Does N.meaning K.meaning (completes (values_of self.old) token mic) self.old (told result) self.new }
+        ensures step { Does N.meaning K.meaning (completes (values_of self.old) token mic) self.old (told (answered result)) self.new }
         ensures stays { OnErr result (Stays (values_of self.old) (values_of self.new)) }
-        // What every answer keeps, and that a refusal is plain.
+        // What every answer keeps.
         ensures unused { StaysUnused N.meaning K.meaning self.old self.new }
         ensures picked { StaysPicked (values_of self.old) (values_of self.new) }
-        ensures plain { IfErr result (λ error. error.nstatus ≡ None) }
     {
         let token = NegTokenTarg {
             neg_result: Some(NegResult::AcceptComplete),
@@ -179,16 +175,15 @@ impl<N: Mechanism, K: Mechanism> Negotiate<N, K> {
     }
 
     /// The negotiation is over, and nothing is left to be sent.
-    pub(crate) fn end(&mut self) -> Result<Step, Error>
+    pub(crate) fn end(&mut self) -> Result<Step, Refusal>
         // The step, and what a refused one leaves.
         ensures step { Does N.meaning K.meaning
             (Goes (record (values_of self.old) { state = states.Ok }) (record { status = statuses.Ok; output = [] }))
-            self.old (told result) self.new }
+            self.old (told (answered result)) self.new }
         ensures stays { OnErr result (Stays (values_of self.old) (values_of self.new)) }
-        // What every answer keeps, and that a refusal is plain.
+        // What every answer keeps.
         ensures unused { StaysUnused N.meaning K.meaning self.old self.new }
         ensures picked { StaysPicked (values_of self.old) (values_of self.new) }
-        ensures plain { IfErr result (λ error. error.nstatus ≡ None) }
     {
         self.state = NegotiateState::Ok;
         Ok(Step {
@@ -199,14 +194,13 @@ impl<N: Mechanism, K: Mechanism> Negotiate<N, K> {
 
     /// The authentication goes on with this status.
     #[tactic(auto, unfolding(crate::specs::Rows::carries_on))]
-    pub(crate) fn carry_on(&mut self, token: Bytes, status: SecurityStatus) -> Result<Step, Error>
+    pub(crate) fn carry_on(&mut self, token: Bytes, status: SecurityStatus) -> Result<Step, Refusal>
         // The step, and what a refused one leaves.
-        ensures step { Does N.meaning K.meaning (carries_on (values_of self.old) token status) self.old (told result) self.new }
+        ensures step { Does N.meaning K.meaning (carries_on (values_of self.old) token status) self.old (told (answered result)) self.new }
         ensures stays { OnErr result (Stays (values_of self.old) (values_of self.new)) }
-        // What every answer keeps, and that a refusal is plain.
+        // What every answer keeps.
         ensures unused { StaysUnused N.meaning K.meaning self.old self.new }
         ensures picked { StaysPicked (values_of self.old) (values_of self.new) }
-        ensures plain { IfErr result (λ error. error.nstatus ≡ None) }
     {
         let token = NegTokenTarg {
             neg_result: Some(NegResult::AcceptIncomplete),

@@ -1,5 +1,5 @@
 // How the ends of a negotiation begin.
-ghost use Rattle.std.specs.Prelude.{◌≡◌, ◌≢◌, None, IfOk, IfErr, OnErr};
+ghost use Rattle.std.specs.Prelude.{◌≡◌, ◌≢◌, None, IfOk, IfErr};
 ghost use Rattle.sspi_mech.specs.Calls.{no_counts};
 ghost use Rattle.sspi_negotiate.specs.declared.state.Role.TheVariants as roles;
 ghost use Rattle.sspi_negotiate.specs.Hand.{hand};
@@ -13,7 +13,7 @@ use crate::package_list::PackageListConfig;
 use crate::protocol::NegotiatedProtocol;
 use crate::protocol_config::ProtocolConfig;
 use crate::state::{NegotiateState, Role};
-use sspi_mech::Mechanism;
+use sspi_mech::{Mechanism, Refusal};
 use sspi_names::AuthIdentity;
 use sspi_tokens::MechTypeList;
 use sspi_types::{DataRepresentation, Error, ErrorKind, Reason, Text};
@@ -35,15 +35,14 @@ fn make_without_ntlm<N: Mechanism, K: Mechanism>(
     role: Role,
     config: &NegotiateConfig,
     kerberos: bool,
-) -> Result<NegotiatedProtocol<N, K>, Error>
+) -> Result<NegotiatedProtocol<N, K>, Refusal>
     ensures made { IfOk result (λ it. IsFirst (hand N.meaning K.meaning) (without_ntlm role config.now kerberos) it) }
     ensures fresh { IfOk result (λ it. (hand N.meaning K.meaning).counts it ≡ no_counts) }
-    ensures plain { IfErr result (λ error. error.nstatus ≡ None) }
     ensures cause { IfErr result (λ error. error.error_type ≢ ErrorKind.InsufficientMemory →
         IsUnmade (without_ntlm role config.now kerberos) error.error_type) }
 {
     if !kerberos {
-        return Err(Error::new(ErrorKind::NoCredentials, Reason::NoPackage));
+        return Err(Refusal::new(ErrorKind::NoCredentials, Reason::NoPackage));
     }
     match role {
         Role::Client => {
@@ -54,7 +53,7 @@ fn make_without_ntlm<N: Mechanism, K: Mechanism>(
                 &config.client_computer_name,
             )
         }
-        Role::Server => Err(Error::new(ErrorKind::InternalError, Reason::Disabled)),
+        Role::Server => Err(Refusal::new(ErrorKind::InternalError, Reason::Disabled)),
     }
 }
 
@@ -63,17 +62,16 @@ fn make_without_kerberos<N: Mechanism, K: Mechanism>(
     alloc: Global,
     config: &NegotiateConfig,
     ntlm: bool,
-) -> Result<NegotiatedProtocol<N, K>, Error>
+) -> Result<NegotiatedProtocol<N, K>, Refusal>
     ensures made { IfOk result (λ it. IsFirst (hand N.meaning K.meaning) (without_kerberos config.now ntlm) it) }
     ensures fresh { IfOk result (λ it. (hand N.meaning K.meaning).counts it ≡ no_counts) }
-    ensures plain { IfErr result (λ error. error.nstatus ≡ None) }
     ensures cause { IfErr result (λ error. error.error_type ≢ ErrorKind.InsufficientMemory →
         IsUnmade (without_kerberos config.now ntlm) error.error_type) }
 {
     if ntlm {
         NegotiatedProtocol::new_ntlm(alloc, &config.client_computer_name)
     } else {
-        Err(Error::new(ErrorKind::NoCredentials, Reason::NoPackage))
+        Err(Refusal::new(ErrorKind::NoCredentials, Reason::NoPackage))
     }
 }
 
@@ -83,32 +81,31 @@ fn make_first<N: Mechanism, K: Mechanism>(
     role: Role,
     config: &NegotiateConfig,
     packages: PackageListConfig,
-) -> Result<NegotiatedProtocol<N, K>, Error>
+) -> Result<NegotiatedProtocol<N, K>, Refusal>
     ensures made { IfOk result (λ it.
         IsFirst (hand N.meaning K.meaning) (first_by role config.now config.now.protocol_config packages) it) }
     ensures fresh { IfOk result (λ it. (hand N.meaning K.meaning).counts it ≡ no_counts) }
-    ensures plain { IfErr result (λ error. error.nstatus ≡ None) }
     ensures cause { IfErr result (λ error. error.error_type ≢ ErrorKind.InsufficientMemory →
         IsUnmade (first_by role config.now config.now.protocol_config packages) error.error_type) }
 {
     match &config.protocol_config {
         ProtocolConfig::Ntlm(_) => {
             if packages.ntlm {
-                config.protocol_config.new_instance(alloc)
+                Ok(config.protocol_config.new_instance(alloc)?)
             } else {
                 make_without_ntlm(alloc, role, config, packages.kerberos)
             }
         }
         ProtocolConfig::Kerberos(_) => {
             if packages.kerberos {
-                config.protocol_config.new_instance(alloc)
+                Ok(config.protocol_config.new_instance(alloc)?)
             } else {
                 make_without_kerberos(alloc, config, packages.ntlm)
             }
         }
         ProtocolConfig::KerberosServer(_, _) => {
             if packages.kerberos {
-                config.protocol_config.new_instance(alloc)
+                Ok(config.protocol_config.new_instance(alloc)?)
             } else {
                 make_without_kerberos(alloc, config, packages.ntlm)
             }
@@ -121,10 +118,9 @@ fn begin<N: Mechanism, K: Mechanism>(
     role: Role,
     config: &NegotiateConfig,
     known: Vec<AuthIdentity>,
-) -> Result<Negotiate<N, K>, Error>
+) -> Result<Negotiate<N, K>, Refusal>
     ensures made { IfOk result (λ it. Begins N.meaning K.meaning role config.now known.items it) }
     ensures fresh { IfOk result (λ it. (hand N.meaning K.meaning).counts it.mech ≡ no_counts) }
-    ensures plain { IfErr result (λ error. error.nstatus ≡ None) }
     ensures cause { IfErr result (λ error. error.error_type ≢ ErrorKind.InsufficientMemory →
         IsUnmade (first_in_hand role config.now) error.error_type) }
 {
@@ -162,7 +158,7 @@ impl<N: Mechanism, K: Mechanism> Negotiate<N, K> {
         ensures cause { IfErr result (λ error. error.error_type ≢ ErrorKind.InsufficientMemory →
             UnmadeOf (ForClient config.now) error.error_type) }
     {
-        begin(alloc, Role::Client, config, Vec::new(alloc))
+        Ok(begin(alloc, Role::Client, config, Vec::new(alloc))?)
     }
 
     /// The server of a negotiation, which knows these identities of its peers.
@@ -180,6 +176,6 @@ impl<N: Mechanism, K: Mechanism> Negotiate<N, K> {
         ensures cause { IfErr result (λ error. error.error_type ≢ ErrorKind.InsufficientMemory →
             UnmadeOf (ForServer config.now auth_data.items) error.error_type) }
     {
-        begin(alloc, Role::Server, config, auth_data)
+        Ok(begin(alloc, Role::Server, config, auth_data)?)
     }
 }

@@ -1,8 +1,9 @@
 // A client's first step, and what comes of it where it is refused (state Initial).
-ghost use Rattle.std.specs.Prelude.{◌≡◌, ◌≢◌, ◌&&◌, None, Some, IfOk, IfErr, OnOk, OnErr, option_copied};
+ghost use Rattle.std.specs.Prelude.{◌≡◌, ◌≢◌, ◌&&◌, None, Some, OnErr, option_copied};
 ghost use Rattle.sspi_mech.specs.Answers.{answer_of, IfRefused};
 ghost use Rattle.sspi_mech.specs.Calls.{step_args};
 ghost use Rattle.sspi_mech.specs.Context.{IsUnused};
+ghost use Rattle.sspi_mech.specs.Refusals.{answered};
 ghost use Rattle.sspi_negotiate.specs.Client.{at_initial, first_step, begun, offers, falls, falls_back};
 ghost use Rattle.sspi_negotiate.specs.Client.{steps_again, handle_for, passwords, resumes_opening};
 ghost use Rattle.sspi_negotiate.specs.Does.{Does, Stays, StaysUnmarked, StaysUnused, UnlessMemory, told};
@@ -20,14 +21,14 @@ use crate::protocol::NegotiatedProtocol;
 use crate::rows::{client_wants_mic, handle_for, has_begun, passwords};
 use crate::spelled::spelled_init;
 use crate::state::NegotiateState;
-use sspi_mech::{Answer, InitializeSecurityContext, Mechanism, Progressing, Reply, Step};
+use sspi_mech::{Answer, InitializeSecurityContext, Mechanism, Progressing, Refusal, Reply, Step};
 use sspi_names::CredentialsBuffers;
 use sspi_tokens::NegTokenInit;
 use sspi_types::{Bytes, DataRepresentation, Error, ErrorKind, Reason, SecurityStatus};
 
 /// A step that asks nothing more.
-pub(crate) fn done(ended: Result<Step, Error>) -> Result<Progressing, Error>
-    ensures { answer_of result ≡ told ended }
+pub(crate) fn done(ended: Result<Step, Refusal>) -> Result<Progressing, Refusal>
+    ensures { answer_of (answered result) ≡ told (answered ended) }
 {
     Ok(Progressing::Done(ended?))
 }
@@ -98,15 +99,14 @@ impl<N: Mechanism, K: Mechanism> Negotiate<N, K> {
     pub(crate) fn first_step(
         &mut self,
         args: &InitializeSecurityContext<'_>,
-    ) -> Result<Progressing, Error>
+    ) -> Result<Progressing, Refusal>
         // The step, and what a refused one leaves.
         ensures step { Does N.meaning K.meaning (at_initial (values_of self.old) (step_args args.now))
-            self.old (answer_of result) self.new }
+            self.old (answer_of (answered result)) self.new }
         ensures stays { OnErr result (Stays (values_of self.old) (values_of self.new)) }
-        // What every answer keeps, and that a refusal is plain.
+        // What every answer keeps.
         ensures unused { StaysUnused N.meaning K.meaning self.old self.new }
         ensures unmarked { StaysUnmarked N.meaning K.meaning self.old self.new }
-        ensures plain { IfErr result (λ error. error.nstatus ≡ None) }
     {
         let first = Opening::of(self.alloc, args)?;
         self.mic_needed = client_wants_mic(args.context_requirements);
@@ -118,15 +118,14 @@ impl<N: Mechanism, K: Mechanism> Negotiate<N, K> {
         &mut self,
         first: Opening,
         args: &InitializeSecurityContext<'_>,
-    ) -> Result<Progressing, Error>
+    ) -> Result<Progressing, Refusal>
         // The step, and what a refused one leaves.
         ensures step { Does N.meaning K.meaning (first_step first (values_of self.old) (step_args args.now))
-            self.old (answer_of result) self.new }
+            self.old (answer_of (answered result)) self.new }
         ensures stays { OnErr result (Stays (values_of self.old) (values_of self.new)) }
-        // What every answer keeps, and that a refusal is plain.
+        // What every answer keeps.
         ensures unused { StaysUnused N.meaning K.meaning self.old self.new }
         ensures unmarked { StaysUnmarked N.meaning K.meaning self.old self.new }
-        ensures plain { IfErr result (λ error. error.nstatus ≡ None) }
     {
         match step_with(&mut self.protocol, &self.auth_identity, args) {
             Answer::Done(step) => done(self.begin(step)),
@@ -134,35 +133,33 @@ impl<N: Mechanism, K: Mechanism> Negotiate<N, K> {
                 self.branch = Branch::Opening(first);
                 Ok(Progressing::Suspended(request))
             }
-            Answer::Refused(error) => self.fall(error, first),
+            Answer::Refused(error) => self.fall(error.into(), first),
         }
     }
 
-    fn begin(&mut self, step: Step) -> Result<Step, Error>
+    fn begin(&mut self, step: Step) -> Result<Step, Refusal>
         // The step, and what a refused one leaves.
-        ensures step { Does N.meaning K.meaning (begun (values_of self.old) step) self.old (told result) self.new }
+        ensures step { Does N.meaning K.meaning (begun (values_of self.old) step) self.old (told (answered result)) self.new }
         ensures stays { OnErr result (Stays (values_of self.old) (values_of self.new)) }
-        // What every answer keeps, and that a refusal is plain.
+        // What every answer keeps.
         ensures unused { StaysUnused N.meaning K.meaning self.old self.new }
         ensures unmarked { StaysUnmarked N.meaning K.meaning self.old self.new }
-        ensures plain { IfErr result (λ error. error.nstatus ≡ None) }
     {
         if has_begun(step.status) {
             self.offer(step.output)
         } else {
-            Err(Error::new(ErrorKind::InternalError, Reason::Status))
+            Err(Refusal::new(ErrorKind::InternalError, Reason::Status))
         }
     }
 
     #[tactic(auto, unfolding(crate::specs::Client::offers))]
-    fn offer(&mut self, token: Bytes) -> Result<Step, Error>
+    fn offer(&mut self, token: Bytes) -> Result<Step, Refusal>
         // The step, and what a refused one leaves.
-        ensures step { Does N.meaning K.meaning (offers (values_of self.old) token) self.old (told result) self.new }
+        ensures step { Does N.meaning K.meaning (offers (values_of self.old) token) self.old (told (answered result)) self.new }
         ensures stays { OnErr result (Stays (values_of self.old) (values_of self.new)) }
-        // What every answer keeps, and that a refusal is plain.
+        // What every answer keeps.
         ensures unused { StaysUnused N.meaning K.meaning self.old self.new }
         ensures unmarked { StaysUnmarked N.meaning K.meaning self.old self.new }
-        ensures plain { IfErr result (λ error. error.nstatus ≡ None) }
     {
         let list = offered(self.alloc, self.protocol.protocol(), self.packages)?;
         let token = NegTokenInit {
@@ -179,69 +176,66 @@ impl<N: Mechanism, K: Mechanism> Negotiate<N, K> {
     }
 
     /// Whether NTLM takes the place of Kerberos after this refusal.
-    fn falls_back(&self, error: &Error) -> bool
-        ensures { result ≡ (is_fallback error.now.error_type && is_kerberos_hand (hand_of self.now.mech) && self.now.packages.ntlm) }
+    fn falls_back(&self, refusal: &Refusal) -> bool
+        ensures { result ≡ (is_fallback refusal.now.error_type && is_kerberos_hand (hand_of self.now.mech) && self.now.packages.ntlm) }
     {
-        is_fallback(error.error_type) && self.protocol.is_kerberos() && self.packages.ntlm
+        is_fallback(refusal.error_type) && self.protocol.is_kerberos() && self.packages.ntlm
     }
 
     #[tactic(auto, using(crate::proofs::Tokens::fallback_is_other))]
-    fn fall(&mut self, error: Error, first: Opening) -> Result<Progressing, Error>
+    fn fall(&mut self, refusal: Refusal, first: Opening) -> Result<Progressing, Refusal>
         // The step, and what a refused one leaves.
-        ensures step { Does N.meaning K.meaning (falls (values_of self.old) (values_of self.old) first error.error_type)
-            self.old (answer_of result) self.new }
+        ensures step { Does N.meaning K.meaning (falls (values_of self.old) (values_of self.old) first refusal.error_type)
+            self.old (answer_of (answered result)) self.new }
         ensures stays { OnErr result (Stays (values_of self.old) (values_of self.new)) }
-        // What every answer keeps, and that a refusal is plain.
+        // What every answer keeps.
         ensures unused { StaysUnused N.meaning K.meaning self.old self.new }
         ensures unmarked { StaysUnmarked N.meaning K.meaning self.old self.new }
-        ensures other { UnlessMemory (answer_of result) (error.error_type ≢ ErrorKind.InsufficientMemory) }
-        ensures plain { error.nstatus ≡ None → IfErr result (λ answer. answer.nstatus ≡ None) }
+        ensures other { UnlessMemory (answer_of (answered result)) (refusal.error_type ≢ ErrorKind.InsufficientMemory) }
     {
-        if self.falls_back(&error) {
+        if self.falls_back(&refusal) {
             self.fall_back(first, false)
         } else {
-            Err(error)
+            Err(refusal)
         }
     }
 
     #[tactic(auto, using(crate::proofs::Tokens::fallback_is_other))]
-    fn fall_waiting(&mut self, error: Error, first: Opening) -> Result<Progressing, Error>
+    fn fall_waiting(&mut self, refusal: Refusal, first: Opening) -> Result<Progressing, Refusal>
         // The step, and what a refused one leaves.
         ensures step { Does N.meaning K.meaning
-            (falls (record (values_of self.old) { branch = branches.Opening first }) (values_of self.old) first error.error_type)
-            self.old (answer_of result) self.new }
+            (falls (record (values_of self.old) { branch = branches.Opening first }) (values_of self.old) first refusal.error_type)
+            self.old (answer_of (answered result)) self.new }
         ensures stays { OnErr result (Stays (values_of self.old) (values_of self.new)) }
-        // What every answer keeps, and that a refusal is plain.
+        // What every answer keeps.
         ensures unused { StaysUnused N.meaning K.meaning self.old self.new }
         ensures unmarked { StaysUnmarked N.meaning K.meaning self.old self.new }
-        ensures other { UnlessMemory (answer_of result) (error.error_type ≢ ErrorKind.InsufficientMemory) }
-        ensures plain { error.nstatus ≡ None → IfErr result (λ answer. answer.nstatus ≡ None) }
+        ensures other { UnlessMemory (answer_of (answered result)) (refusal.error_type ≢ ErrorKind.InsufficientMemory) }
     {
-        if self.falls_back(&error) {
+        if self.falls_back(&refusal) {
             self.fall_back(first, true)
         } else {
             self.branch = Branch::Opening(first);
-            Err(error)
+            Err(refusal)
         }
     }
 
     /// NTLM makes the step. Where there is no memory for it, a step that waited for a KDC waits still.
     #[tactic(auto, unfolding(crate::specs::Client::falls_back))]
-    fn fall_back(&mut self, first: Opening, waited: bool) -> Result<Progressing, Error>
+    fn fall_back(&mut self, first: Opening, waited: bool) -> Result<Progressing, Refusal>
         // The step, and what a refused one leaves.
-        ensures step { Does N.meaning K.meaning (falls_back (values_of self.old) first) self.old (answer_of result) self.new }
+        ensures step { Does N.meaning K.meaning (falls_back (values_of self.old) first) self.old (answer_of (answered result)) self.new }
         ensures stays { OnErr result (Stays (values_of self.old) (values_of self.new)) }
-        // What every answer keeps, and that a refusal is plain.
+        // What every answer keeps.
         ensures unused { StaysUnused N.meaning K.meaning self.old self.new }
         ensures unmarked { StaysUnmarked N.meaning K.meaning self.old self.new }
-        ensures plain { IfErr result (λ error. error.nstatus ≡ None) }
     {
         match NegotiatedProtocol::new_ntlm(self.alloc, &self.client_computer_name) {
-            Err(error) => {
+            Err(refusal) => {
                 if waited {
                     self.branch = Branch::Opening(first);
                 }
-                Err(error)
+                Err(refusal)
             }
             Ok(protocol) => {
                 self.protocol = protocol;
@@ -252,14 +246,13 @@ impl<N: Mechanism, K: Mechanism> Negotiate<N, K> {
     }
 
     #[tactic(auto, unfolding(crate::specs::Client::steps_again))]
-    fn open_again(&mut self, first: Opening) -> Result<Progressing, Error>
+    fn open_again(&mut self, first: Opening) -> Result<Progressing, Refusal>
         // The step, and what a refused one leaves.
-        ensures step { Does N.meaning K.meaning (steps_again (values_of self.old) first) self.old (answer_of result) self.new }
+        ensures step { Does N.meaning K.meaning (steps_again (values_of self.old) first) self.old (answer_of (answered result)) self.new }
         ensures stays { OnErr result (Stays (values_of self.old) (values_of self.new)) }
-        // What every answer keeps, and that a refusal is plain.
+        // What every answer keeps.
         ensures unused { StaysUnused N.meaning K.meaning self.old self.new }
         ensures unmarked { StaysUnmarked N.meaning K.meaning self.old self.new }
-        ensures plain { IfErr result (λ error. error.nstatus ≡ None) }
     {
         let representation = self.data_representation;
         match step_again(
@@ -273,7 +266,7 @@ impl<N: Mechanism, K: Mechanism> Negotiate<N, K> {
                 self.branch = Branch::Opening(first);
                 Ok(Progressing::Suspended(request))
             }
-            Answer::Refused(error) => Err(error),
+            Answer::Refused(error) => Err(error.into()),
         }
     }
 
@@ -282,15 +275,14 @@ impl<N: Mechanism, K: Mechanism> Negotiate<N, K> {
         &mut self,
         first: Opening,
         reply: &Reply,
-    ) -> Result<Progressing, Error>
+    ) -> Result<Progressing, Refusal>
         // The step, and what a refused one leaves.
         ensures step { Does N.meaning K.meaning (resumes_opening first (values_of self.old) reply.now)
-            self.old (answer_of result) self.new }
+            self.old (answer_of (answered result)) self.new }
         ensures stays { OnErr result (Stays (values_of self.old) (values_of self.new)) }
-        // What every answer keeps, and that a refusal is plain.
+        // What every answer keeps.
         ensures unused { StaysUnused N.meaning K.meaning self.old self.new }
         ensures unmarked { StaysUnmarked N.meaning K.meaning self.old self.new }
-        ensures plain { IfErr result (λ error. error.nstatus ≡ None) }
     {
         match self.protocol.resume(reply) {
             Answer::Done(step) => done(self.begin(step)),
@@ -298,7 +290,7 @@ impl<N: Mechanism, K: Mechanism> Negotiate<N, K> {
                 self.branch = Branch::Opening(first);
                 Ok(Progressing::Suspended(request))
             }
-            Answer::Refused(error) => self.fall_waiting(error, first),
+            Answer::Refused(error) => self.fall_waiting(error.into(), first),
         }
     }
 }

@@ -1,5 +1,4 @@
 ghost use Rattle.std.specs.Prelude.{◌≡◌, IfOk};
-ghost use Rattle.sspi_tokens.specs.Oids.{kind_of};
 ghost use Rattle.sspi_negotiate.specs.Pick.{oid_of, is_kind, place_of, found_or, picked_or, pick, offered};
 
 use crate::package_list::PackageListConfig;

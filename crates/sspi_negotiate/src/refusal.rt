@@ -1,17 +1,18 @@
-ghost use Rattle.std.specs.Prelude.{◌≡◌, None};
+ghost use Rattle.std.specs.Prelude.{◌≡◌};
 
-use sspi_types::{Error, ErrorKind, Reason};
+use sspi_mech::Refusal;
+use sspi_types::{ErrorKind, Reason};
 
 /// A call that does not come in this state.
-pub(crate) fn out_of_sequence() -> Error
-    ensures { (result.error_type ≡ ErrorKind.OutOfSequence) × (result.nstatus ≡ None) }
+pub(crate) fn out_of_sequence() -> Refusal
+    ensures { result.error_type ≡ ErrorKind.OutOfSequence }
 {
-    Error::new(ErrorKind::OutOfSequence, Reason::Sequence)
+    Refusal::new(ErrorKind::OutOfSequence, Reason::Sequence)
 }
 
 /// A token that may not come here.
-pub(crate) fn invalid_token(reason: Reason) -> Error
-    ensures { (result.error_type ≡ ErrorKind.InvalidToken) × (result.nstatus ≡ None) }
+pub(crate) fn invalid_token(reason: Reason) -> Refusal
+    ensures { result.error_type ≡ ErrorKind.InvalidToken }
 {
-    Error::new(ErrorKind::InvalidToken, reason)
+    Refusal::new(ErrorKind::InvalidToken, reason)
 }

@@ -1,8 +1,7 @@
 // What the steps of both ends look at.
 ghost use Rattle.std.specs.Prelude.{◌≡◌, IfOk, option_copied};
 ghost use Rattle.sspi_negotiate.specs.Client.{is_guest, is_ok, has_begun, passwords, handle_for};
-ghost use Rattle.sspi_negotiate.specs.Hand.{hand_of};
-ghost use Rattle.sspi_negotiate.specs.Rows.{client_wants_mic, server_wants_mic, is_over, is_complete, is_guest_text, if_some, or_empty};
+ghost use Rattle.sspi_negotiate.specs.Rows.{client_wants_mic, server_wants_mic, is_over, is_complete, is_guest_text, if_some};
 
 use crate::protocol::{NegotiatedProtocol, Protocol};
 use bitflags::Flags;

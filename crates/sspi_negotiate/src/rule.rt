@@ -8,9 +8,8 @@ ghost use Rattle.sspi_negotiate.specs.Values.{values_of};
 
 use crate::negotiate::Negotiate;
 use crate::protocol::NegotiatedProtocol;
-use sspi_mech::Mechanism;
+use sspi_mech::{Mechanism, Refusal};
 use sspi_names::{KdcTable, Username};
-use sspi_types::Error;
 
 /// The URL of the KDC that serves the domain of a name.
 fn url_for<'a>(kdcs: &'a KdcTable, name: &Username) -> Option<&'a str>
@@ -34,7 +33,7 @@ impl<N: Mechanism, K: Mechanism> Negotiate<N, K> {
     }
 
     /// Takes Kerberos in the place of NTLM, where a KDC serves the name's domain.
-    pub(crate) fn take_by_rule(&mut self, name: &Username) -> Result<(), Error>
+    pub(crate) fn take_by_rule(&mut self, name: &Username) -> Result<(), Refusal>
         // What `Ok` holds.
         ensures taken { OnOk result (TakenBy (hand N.meaning K.meaning)
             (rule_url (values_of self.old) name.now) self.old.kdcs self.old.computer self.old.mech self.new.mech) }
@@ -44,7 +43,6 @@ impl<N: Mechanism, K: Mechanism> Negotiate<N, K> {
         ensures unused { StaysUnused N.meaning K.meaning self.old self.new }
         ensures unmarked { StaysUnmarked N.meaning K.meaning self.old self.new }
         // What a refusal says.
-        ensures plain { IfErr result (λ error. error.nstatus ≡ None) }
         ensures err { IfErr result (λ error. error.error_type ≡ kinds.InsufficientMemory) }
     {
         match self.rule_url(name) {

@@ -2,6 +2,7 @@
 ghost use Rattle.std.specs.Prelude.{◌≡◌, ◌≢◌, [], None, Some, IfOk, IfErr, OnErr, if◌then◌else◌};
 ghost use Rattle.sspi_mech.specs.Calls.{accept_args};
 ghost use Rattle.sspi_mech.specs.Context.{IsUnused};
+ghost use Rattle.sspi_mech.specs.Refusals.{answered};
 ghost use Rattle.sspi_tokens.specs.Reading.{init_of};
 ghost use Rattle.sspi_negotiate.specs.Does.{Does, Stays, StaysPicked, StaysUnmarked, StaysUnused, told};
 ghost use Rattle.sspi_negotiate.specs.declared.protocol.Protocol.TheVariants as protocols;
@@ -23,7 +24,7 @@ use crate::protocol::NegotiatedProtocol;
 use crate::refusal::{invalid_token, out_of_sequence};
 use crate::rows::{is_over, server_wants_mic};
 use crate::state::{NegotiateState, Role};
-use sspi_mech::{AcceptSecurityContext, Mechanism, Step};
+use sspi_mech::{AcceptSecurityContext, Mechanism, Refusal, Step};
 use sspi_tokens::{MechTypeList, NegResult, NegTokenInit, NegTokenTarg};
 use sspi_types::{Bytes, Error, Reason, SecurityStatus};
 use std::alloc::{AllocError, Global};
@@ -33,16 +34,15 @@ pub(crate) fn accept_with<N: Mechanism, K: Mechanism>(
     protocol: &mut NegotiatedProtocol<N, K>,
     args: &AcceptSecurityContext<'_>,
     token: &Option<Bytes>,
-) -> Result<Step, Error>
+) -> Result<Step, Refusal>
     // The step.
     ensures step { (hand N.meaning K.meaning).accepts protocol.old
-        (record (accept_args args.now) { input = or_empty token.now }) result protocol.new }
-    // What every answer keeps, and that a refusal is plain.
+        (record (accept_args args.now) { input = or_empty token.now }) (answered result) protocol.new }
+    // What every answer keeps.
     ensures unused { IsUnused ((hand N.meaning K.meaning).counts protocol.old) → IsUnused ((hand N.meaning K.meaning).counts protocol.new) }
     ensures unmarked { HasNoMic ((hand N.meaning K.meaning).counts protocol.old)
         → HasNoMic ((hand N.meaning K.meaning).counts protocol.new) }
     ensures named { hand_of protocol.new ≡ hand_of protocol.old }
-    ensures plain { IfErr result (λ error. error.nstatus ≡ None) }
 {
     let input = match token {
         None => &[],
@@ -87,19 +87,18 @@ impl<N: Mechanism, K: Mechanism> Negotiate<N, K> {
         ensures step { (negotiate N.REQUESTS N.meaning K.meaning).accepts self.old (accept_args args.now) result self.new }
         ensures plain { IfErr result (λ error. error.nstatus ≡ None) }
     {
-        self.accept_at(args)
+        Ok(self.accept_at(args)?)
     }
 
-    fn accept_at(&mut self, args: &AcceptSecurityContext<'_>) -> Result<Step, Error>
+    fn accept_at(&mut self, args: &AcceptSecurityContext<'_>) -> Result<Step, Refusal>
         // The step, and what a refused one leaves.
         ensures step { Does N.meaning K.meaning (spnego_server (values_of self.old) (accept_args args.now))
-            self.old (told result) self.new }
+            self.old (told (answered result)) self.new }
         ensures stays { OnErr result (Stays (values_of self.old) (values_of self.new)) }
-        // What every answer keeps, and that a refusal is plain.
+        // What every answer keeps.
         ensures unused { StaysUnused N.meaning K.meaning self.old self.new }
         ensures first { self.old.state ≡ states.Initial → StaysUnmarked N.meaning K.meaning self.old self.new }
         ensures picked { self.old.state ≢ states.Initial → StaysPicked (values_of self.old) (values_of self.new) }
-        ensures plain { IfErr result (λ error. error.nstatus ≡ None) }
     {
         match self.role {
             Role::Client => Err(out_of_sequence()),
@@ -112,17 +111,16 @@ impl<N: Mechanism, K: Mechanism> Negotiate<N, K> {
         }
     }
 
-    fn read_init(&mut self, args: &AcceptSecurityContext<'_>) -> Result<Step, Error>
+    fn read_init(&mut self, args: &AcceptSecurityContext<'_>) -> Result<Step, Refusal>
         // What must hold before.
         requires server { self.now.role ≡ roles.Server }
         // The step, and what a refused one leaves.
         ensures step { Does N.meaning K.meaning (at_initial (init_of args.now.input.now) (values_of self.old) (accept_args args.now))
-            self.old (told result) self.new }
+            self.old (told (answered result)) self.new }
         ensures stays { OnErr result (Stays (values_of self.old) (values_of self.new)) }
-        // What every answer keeps, and that a refusal is plain.
+        // What every answer keeps.
         ensures unused { StaysUnused N.meaning K.meaning self.old self.new }
         ensures unmarked { StaysUnmarked N.meaning K.meaning self.old self.new }
-        ensures plain { IfErr result (λ error. error.nstatus ≡ None) }
     {
         let token = NegTokenInit::decode(self.alloc, args.input)?;
         self.read_list(token.mech_types, token.mech_token, args)
@@ -134,17 +132,16 @@ impl<N: Mechanism, K: Mechanism> Negotiate<N, K> {
         list: Option<MechTypeList>,
         token: Option<Bytes>,
         args: &AcceptSecurityContext<'_>,
-    ) -> Result<Step, Error>
+    ) -> Result<Step, Refusal>
         // What must hold before.
         requires server { self.now.role ≡ roles.Server }
         // The step, and what a refused one leaves.
         ensures step { Does N.meaning K.meaning (reads_list list token (values_of self.old) (accept_args args.now))
-            self.old (told result) self.new }
+            self.old (told (answered result)) self.new }
         ensures stays { OnErr result (Stays (values_of self.old) (values_of self.new)) }
-        // What every answer keeps, and that a refusal is plain.
+        // What every answer keeps.
         ensures unused { StaysUnused N.meaning K.meaning self.old self.new }
         ensures unmarked { StaysUnmarked N.meaning K.meaning self.old self.new }
-        ensures plain { IfErr result (λ error. error.nstatus ≡ None) }
     {
         match list {
             None => Err(invalid_token(Reason::NoMechTypes)),
@@ -162,17 +159,16 @@ impl<N: Mechanism, K: Mechanism> Negotiate<N, K> {
         list: MechTypeList,
         token: Option<Bytes>,
         args: &AcceptSecurityContext<'_>,
-    ) -> Result<Step, Error>
+    ) -> Result<Step, Refusal>
         // What must hold before.
         requires server { self.now.role ≡ roles.Server }
         // The step, and what a refused one leaves.
         ensures step { Does N.meaning K.meaning (picks picked list token (values_of self.old) (accept_args args.now))
-            self.old (told result) self.new }
+            self.old (told (answered result)) self.new }
         ensures stays { OnErr result (Stays (values_of self.old) (values_of self.new)) }
-        // What every answer keeps, and that a refusal is plain.
+        // What every answer keeps.
         ensures unused { StaysUnused N.meaning K.meaning self.old self.new }
         ensures unmarked { StaysUnmarked N.meaning K.meaning self.old self.new }
-        ensures plain { IfErr result (λ error. error.nstatus ≡ None) }
     {
         match picked {
             None => Err(invalid_token(Reason::NoSharedMech)),
@@ -188,15 +184,14 @@ impl<N: Mechanism, K: Mechanism> Negotiate<N, K> {
         picked: Picked,
         token: Option<Bytes>,
         args: &AcceptSecurityContext<'_>,
-    ) -> Result<Step, Error>
+    ) -> Result<Step, Refusal>
         // The step, and what a refused one leaves.
         ensures step { Does N.meaning K.meaning (takes_pick picked.choice token picked (values_of self.old) (accept_args args.now))
-            self.old (told result) self.new }
+            self.old (told (answered result)) self.new }
         ensures stays { OnErr result (Stays (values_of self.old) (values_of self.new)) }
-        // What every answer keeps, and that a refusal is plain.
+        // What every answer keeps.
         ensures unused { StaysUnused N.meaning K.meaning self.old self.new }
         ensures unmarked { StaysUnmarked N.meaning K.meaning self.old self.new }
-        ensures plain { IfErr result (λ error. error.nstatus ≡ None) }
     {
         match picked.choice {
             Choice::MsKerberos => self.place(picked, token, args),
@@ -210,16 +205,15 @@ impl<N: Mechanism, K: Mechanism> Negotiate<N, K> {
         picked: Picked,
         token: Option<Bytes>,
         args: &AcceptSecurityContext<'_>,
-    ) -> Result<Step, Error>
+    ) -> Result<Step, Refusal>
         // The step, and what a refused one leaves.
         ensures step { Does N.meaning K.meaning (in_ntlm (hand_of self.old.mech) self.old.computer
             (placed token picked (record (values_of self.old) { hand = protocols.Ntlm }) (accept_args args.now)))
-            self.old (told result) self.new }
+            self.old (told (answered result)) self.new }
         ensures stays { OnErr result (Stays (values_of self.old) (values_of self.new)) }
-        // What every answer keeps, and that a refusal is plain.
+        // What every answer keeps.
         ensures unused { StaysUnused N.meaning K.meaning self.old self.new }
         ensures unmarked { StaysUnmarked N.meaning K.meaning self.old self.new }
-        ensures plain { IfErr result (λ error. error.nstatus ≡ None) }
     {
         self.take_ntlm()?;
         self.place(picked, token, args)
@@ -231,15 +225,14 @@ impl<N: Mechanism, K: Mechanism> Negotiate<N, K> {
         picked: Picked,
         token: Option<Bytes>,
         args: &AcceptSecurityContext<'_>,
-    ) -> Result<Step, Error>
+    ) -> Result<Step, Refusal>
         // The step, and what a refused one leaves.
         ensures step { Does N.meaning K.meaning (placed token picked (values_of self.old) (accept_args args.now))
-            self.old (told result) self.new }
+            self.old (told (answered result)) self.new }
         ensures stays { OnErr result (Stays (values_of self.old) (values_of self.new)) }
-        // What every answer keeps, and that a refusal is plain.
+        // What every answer keeps.
         ensures unused { StaysUnused N.meaning K.meaning self.old self.new }
         ensures unmarked { StaysUnmarked N.meaning K.meaning self.old self.new }
-        ensures plain { IfErr result (λ error. error.nstatus ≡ None) }
     {
         if picked.index == 0 {
             self.take_first(picked, token, args)
@@ -255,15 +248,14 @@ impl<N: Mechanism, K: Mechanism> Negotiate<N, K> {
         token: Option<Bytes>,
         need: bool,
         state: NegotiateState,
-    ) -> Result<Step, Error>
+    ) -> Result<Step, Refusal>
         // The step, and what a refused one leaves.
         ensures step { Does N.meaning K.meaning (goes_on_with picked token need state (values_of self.old))
-            self.old (told result) self.new }
+            self.old (told (answered result)) self.new }
         ensures stays { OnErr result (Stays (values_of self.old) (values_of self.new)) }
-        // What every answer keeps, and that a refusal is plain.
+        // What every answer keeps.
         ensures unused { StaysUnused N.meaning K.meaning self.old self.new }
         ensures unmarked { StaysUnmarked N.meaning K.meaning self.old self.new }
-        ensures plain { IfErr result (λ error. error.nstatus ≡ None) }
     {
         let incomplete = NegResult::AcceptIncomplete;
         let token = picked_targ(self.alloc, incomplete, picked.choice, token)?;
@@ -271,14 +263,13 @@ impl<N: Mechanism, K: Mechanism> Negotiate<N, K> {
     }
 
     #[tactic(auto, unfolding(crate::specs::Server::drops))]
-    fn drop_token(&mut self, picked: Picked) -> Result<Step, Error>
+    fn drop_token(&mut self, picked: Picked) -> Result<Step, Refusal>
         // The step, and what a refused one leaves.
-        ensures step { Does N.meaning K.meaning (drops picked (values_of self.old)) self.old (told result) self.new }
+        ensures step { Does N.meaning K.meaning (drops picked (values_of self.old)) self.old (told (answered result)) self.new }
         ensures stays { OnErr result (Stays (values_of self.old) (values_of self.new)) }
-        // What every answer keeps, and that a refusal is plain.
+        // What every answer keeps.
         ensures unused { StaysUnused N.meaning K.meaning self.old self.new }
         ensures unmarked { StaysUnmarked N.meaning K.meaning self.old self.new }
-        ensures plain { IfErr result (λ error. error.nstatus ≡ None) }
     {
         self.go_on_with(picked, None, true, NegotiateState::InProgress)
     }
@@ -289,15 +280,14 @@ impl<N: Mechanism, K: Mechanism> Negotiate<N, K> {
         picked: Picked,
         token: Option<Bytes>,
         args: &AcceptSecurityContext<'_>,
-    ) -> Result<Step, Error>
+    ) -> Result<Step, Refusal>
         // The step, and what a refused one leaves.
         ensures step { Does N.meaning K.meaning (first_token token picked (values_of self.old) (accept_args args.now))
-            self.old (told result) self.new }
+            self.old (told (answered result)) self.new }
         ensures stays { OnErr result (Stays (values_of self.old) (values_of self.new)) }
-        // What every answer keeps, and that a refusal is plain.
+        // What every answer keeps.
         ensures unused { StaysUnused N.meaning K.meaning self.old self.new }
         ensures unmarked { StaysUnmarked N.meaning K.meaning self.old self.new }
-        ensures plain { IfErr result (λ error. error.nstatus ≡ None) }
     {
         match token {
             None => self.await_token(picked, args),
@@ -318,15 +308,15 @@ impl<N: Mechanism, K: Mechanism> Negotiate<N, K> {
         &mut self,
         picked: Picked,
         args: &AcceptSecurityContext<'_>,
-    ) -> Result<Step, Error>
+    ) -> Result<Step, Refusal>
         // The step, and what a refused one leaves.
         ensures step { let v = values_of self.old in Does N.meaning K.meaning
-            (Pairs (λ pairs. waits_for_token picked v (needs_mic v (accept_args args.now) pairs))) self.old (told result) self.new }
+            (Pairs (λ pairs. waits_for_token picked v (needs_mic v (accept_args args.now) pairs))) self.old
+            (told (answered result)) self.new }
         ensures stays { OnErr result (Stays (values_of self.old) (values_of self.new)) }
-        // What every answer keeps, and that a refusal is plain.
+        // What every answer keeps.
         ensures unused { StaysUnused N.meaning K.meaning self.old self.new }
         ensures unmarked { StaysUnmarked N.meaning K.meaning self.old self.new }
-        ensures plain { IfErr result (λ error. error.nstatus ≡ None) }
     {
         let need = self.needs_mic(args);
         self.go_on_with(picked, None, need, NegotiateState::InProgress)
@@ -337,17 +327,16 @@ impl<N: Mechanism, K: Mechanism> Negotiate<N, K> {
         picked: Picked,
         token: Option<Bytes>,
         args: &AcceptSecurityContext<'_>,
-    ) -> Result<Step, Error>
+    ) -> Result<Step, Refusal>
         // The step, and what a refused one leaves.
         ensures step { let v = values_of self.old in Does N.meaning K.meaning
             (Accepts (record (accept_args args.now) { input = or_empty token }) v
             (λ step. Pairs (λ pairs. opens picked v step (needs_mic v (accept_args args.now) pairs))))
-            self.old (told result) self.new }
+            self.old (told (answered result)) self.new }
         ensures stays { OnErr result (Stays (values_of self.old) (values_of self.new)) }
-        // What every answer keeps, and that a refusal is plain.
+        // What every answer keeps.
         ensures unused { StaysUnused N.meaning K.meaning self.old self.new }
         ensures unmarked { StaysUnmarked N.meaning K.meaning self.old self.new }
-        ensures plain { IfErr result (λ error. error.nstatus ≡ None) }
     {
         let step = accept_with(&mut self.protocol, args, &token)?;
         self.decide_need(picked, step, args)
@@ -358,28 +347,26 @@ impl<N: Mechanism, K: Mechanism> Negotiate<N, K> {
         picked: Picked,
         step: Step,
         args: &AcceptSecurityContext<'_>,
-    ) -> Result<Step, Error>
+    ) -> Result<Step, Refusal>
         // The step, and what a refused one leaves.
         ensures step { let v = values_of self.old in Does N.meaning K.meaning
-            (Pairs (λ pairs. opens picked v step (needs_mic v (accept_args args.now) pairs))) self.old (told result) self.new }
+            (Pairs (λ pairs. opens picked v step (needs_mic v (accept_args args.now) pairs))) self.old (told (answered result)) self.new }
         ensures stays { OnErr result (Stays (values_of self.old) (values_of self.new)) }
-        // What every answer keeps, and that a refusal is plain.
+        // What every answer keeps.
         ensures unused { StaysUnused N.meaning K.meaning self.old self.new }
         ensures unmarked { StaysUnmarked N.meaning K.meaning self.old self.new }
-        ensures plain { IfErr result (λ error. error.nstatus ≡ None) }
     {
         let need = self.needs_mic(args);
         self.open_by_need(picked, step, need)
     }
 
-    fn open_by_need(&mut self, picked: Picked, step: Step, need: bool) -> Result<Step, Error>
+    fn open_by_need(&mut self, picked: Picked, step: Step, need: bool) -> Result<Step, Refusal>
         // The step, and what a refused one leaves.
-        ensures step { Does N.meaning K.meaning (opens picked (values_of self.old) step need) self.old (told result) self.new }
+        ensures step { Does N.meaning K.meaning (opens picked (values_of self.old) step need) self.old (told (answered result)) self.new }
         ensures stays { OnErr result (Stays (values_of self.old) (values_of self.new)) }
-        // What every answer keeps, and that a refusal is plain.
+        // What every answer keeps.
         ensures unused { StaysUnused N.meaning K.meaning self.old self.new }
         ensures unmarked { StaysUnmarked N.meaning K.meaning self.old self.new }
-        ensures plain { IfErr result (λ error. error.nstatus ≡ None) }
     {
         if is_over(step.status) {
             if need {
@@ -393,40 +380,37 @@ impl<N: Mechanism, K: Mechanism> Negotiate<N, K> {
     }
 
     #[tactic(auto, unfolding(crate::specs::Server::goes_on))]
-    fn go_on(&mut self, picked: Picked, step: Step, need: bool) -> Result<Step, Error>
+    fn go_on(&mut self, picked: Picked, step: Step, need: bool) -> Result<Step, Refusal>
         // The step, and what a refused one leaves.
-        ensures step { Does N.meaning K.meaning (goes_on picked (values_of self.old) need step) self.old (told result) self.new }
+        ensures step { Does N.meaning K.meaning (goes_on picked (values_of self.old) need step) self.old (told (answered result)) self.new }
         ensures stays { OnErr result (Stays (values_of self.old) (values_of self.new)) }
-        // What every answer keeps, and that a refusal is plain.
+        // What every answer keeps.
         ensures unused { StaysUnused N.meaning K.meaning self.old self.new }
         ensures unmarked { StaysUnmarked N.meaning K.meaning self.old self.new }
-        ensures plain { IfErr result (λ error. error.nstatus ≡ None) }
     {
         self.go_on_with(picked, Some(step.output), need, NegotiateState::InProgress)
     }
 
     #[tactic(auto, unfolding(crate::specs::Server::awaits_mic))]
-    fn await_mic(&mut self, picked: Picked, step: Step) -> Result<Step, Error>
+    fn await_mic(&mut self, picked: Picked, step: Step) -> Result<Step, Refusal>
         // The step, and what a refused one leaves.
-        ensures step { Does N.meaning K.meaning (awaits_mic picked (values_of self.old) step) self.old (told result) self.new }
+        ensures step { Does N.meaning K.meaning (awaits_mic picked (values_of self.old) step) self.old (told (answered result)) self.new }
         ensures stays { OnErr result (Stays (values_of self.old) (values_of self.new)) }
-        // What every answer keeps, and that a refusal is plain.
+        // What every answer keeps.
         ensures unused { StaysUnused N.meaning K.meaning self.old self.new }
         ensures unmarked { StaysUnmarked N.meaning K.meaning self.old self.new }
-        ensures plain { IfErr result (λ error. error.nstatus ≡ None) }
     {
         self.go_on_with(picked, Some(step.output), true, NegotiateState::VerifyMic)
     }
 
     #[tactic(auto, unfolding(crate::specs::Server::ends_at_once))]
-    fn end_at_once(&mut self, picked: Picked, step: Step) -> Result<Step, Error>
+    fn end_at_once(&mut self, picked: Picked, step: Step) -> Result<Step, Refusal>
         // The step, and what a refused one leaves.
-        ensures step { Does N.meaning K.meaning (ends_at_once picked (values_of self.old) step) self.old (told result) self.new }
+        ensures step { Does N.meaning K.meaning (ends_at_once picked (values_of self.old) step) self.old (told (answered result)) self.new }
         ensures stays { OnErr result (Stays (values_of self.old) (values_of self.new)) }
-        // What every answer keeps, and that a refusal is plain.
+        // What every answer keeps.
         ensures unused { StaysUnused N.meaning K.meaning self.old self.new }
         ensures unmarked { StaysUnmarked N.meaning K.meaning self.old self.new }
-        ensures plain { IfErr result (λ error. error.nstatus ≡ None) }
     {
         let output = Some(step.output);
         let token = picked_targ(self.alloc, NegResult::AcceptComplete, picked.choice, output)?;

@@ -1,6 +1,7 @@
 // The later steps of a server: the mechanism authenticates, and the MICs protect the list.
-ghost use Rattle.std.specs.Prelude.{◌≡◌, [], None, Some, IfErr, OnErr};
+ghost use Rattle.std.specs.Prelude.{◌≡◌, [], None, Some, OnErr};
 ghost use Rattle.sspi_mech.specs.Calls.{accept_args};
+ghost use Rattle.sspi_mech.specs.Refusals.{answered};
 ghost use Rattle.sspi_tokens.specs.Reading.{targ_of};
 ghost use Rattle.sspi_negotiate.specs.Does.{Does, Stays, StaysPicked, StaysUnused, told};
 ghost use Rattle.sspi_negotiate.specs.Plan.{Accepts, Names, Goes};
@@ -14,21 +15,23 @@ use crate::negotiate::Negotiate;
 use crate::refusal::invalid_token;
 use crate::rows::{is_complete, is_guest_text, is_over};
 use crate::server::accept_with;
-use sspi_mech::{AcceptSecurityContext, Mechanism, Step};
+use sspi_mech::{AcceptSecurityContext, Mechanism, Refusal, Step};
 use sspi_names::Username;
 use sspi_tokens::NegTokenTarg;
-use sspi_types::{Bytes, Error, Reason};
+use sspi_types::{Bytes, Reason};
 
 impl<N: Mechanism, K: Mechanism> Negotiate<N, K> {
-    pub(crate) fn read_response(&mut self, args: &AcceptSecurityContext<'_>) -> Result<Step, Error>
+    pub(crate) fn read_response(
+        &mut self,
+        args: &AcceptSecurityContext<'_>,
+    ) -> Result<Step, Refusal>
         // The step, and what a refused one leaves.
         ensures step { Does N.meaning K.meaning (at_progress (targ_of args.now.input.now) (values_of self.old) (accept_args args.now))
-            self.old (told result) self.new }
+            self.old (told (answered result)) self.new }
         ensures stays { OnErr result (Stays (values_of self.old) (values_of self.new)) }
-        // What every answer keeps, and that a refusal is plain.
+        // What every answer keeps.
         ensures unused { StaysUnused N.meaning K.meaning self.old self.new }
         ensures picked { StaysPicked (values_of self.old) (values_of self.new) }
-        ensures plain { IfErr result (λ error. error.nstatus ≡ None) }
     {
         let token = NegTokenTarg::decode(self.alloc, args.input)?;
         self.take_response(token, args)
@@ -38,30 +41,28 @@ impl<N: Mechanism, K: Mechanism> Negotiate<N, K> {
         &mut self,
         token: NegTokenTarg,
         args: &AcceptSecurityContext<'_>,
-    ) -> Result<Step, Error>
+    ) -> Result<Step, Refusal>
         // The step, and what a refused one leaves.
         ensures step { Does N.meaning K.meaning
             (Accepts (record (accept_args args.now) { input = or_empty token.response_token }) (values_of self.old)
             (λ step. accepted token (values_of self.old) step))
-            self.old (told result) self.new }
+            self.old (told (answered result)) self.new }
         ensures stays { OnErr result (Stays (values_of self.old) (values_of self.new)) }
-        // What every answer keeps, and that a refusal is plain.
+        // What every answer keeps.
         ensures unused { StaysUnused N.meaning K.meaning self.old self.new }
         ensures picked { StaysPicked (values_of self.old) (values_of self.new) }
-        ensures plain { IfErr result (λ error. error.nstatus ≡ None) }
     {
         let step = accept_with(&mut self.protocol, args, &token.response_token)?;
         self.respond(token, step)
     }
 
-    fn respond(&mut self, token: NegTokenTarg, step: Step) -> Result<Step, Error>
+    fn respond(&mut self, token: NegTokenTarg, step: Step) -> Result<Step, Refusal>
         // The step, and what a refused one leaves.
-        ensures step { Does N.meaning K.meaning (accepted token (values_of self.old) step) self.old (told result) self.new }
+        ensures step { Does N.meaning K.meaning (accepted token (values_of self.old) step) self.old (told (answered result)) self.new }
         ensures stays { OnErr result (Stays (values_of self.old) (values_of self.new)) }
-        // What every answer keeps, and that a refusal is plain.
+        // What every answer keeps.
         ensures unused { StaysUnused N.meaning K.meaning self.old self.new }
         ensures picked { StaysPicked (values_of self.old) (values_of self.new) }
-        ensures plain { IfErr result (λ error. error.nstatus ≡ None) }
     {
         if is_over(step.status) {
             let complete = is_complete(token.neg_result);
@@ -77,14 +78,14 @@ impl<N: Mechanism, K: Mechanism> Negotiate<N, K> {
         mic: Option<Bytes>,
         complete: bool,
         token: Bytes,
-    ) -> Result<Step, Error>
+    ) -> Result<Step, Refusal>
         // The step, and what a refused one leaves.
-        ensures step { Does N.meaning K.meaning (settles need mic complete (values_of self.old) token) self.old (told result) self.new }
+        ensures step { Does N.meaning K.meaning (settles need mic complete (values_of self.old) token) self.old
+            (told (answered result)) self.new }
         ensures stays { OnErr result (Stays (values_of self.old) (values_of self.new)) }
-        // What every answer keeps, and that a refusal is plain.
+        // What every answer keeps.
         ensures unused { StaysUnused N.meaning K.meaning self.old self.new }
         ensures picked { StaysPicked (values_of self.old) (values_of self.new) }
-        ensures plain { IfErr result (λ error. error.nstatus ≡ None) }
     {
         if need {
             match mic {
@@ -96,29 +97,28 @@ impl<N: Mechanism, K: Mechanism> Negotiate<N, K> {
         }
     }
 
-    fn check_and_sign(&mut self, mic: &Bytes, token: Bytes) -> Result<Step, Error>
+    fn check_and_sign(&mut self, mic: &Bytes, token: Bytes) -> Result<Step, Refusal>
         // The step, and what a refused one leaves.
         ensures step { Does N.meaning K.meaning (checks mic.now (values_of self.old) (completes_signed (values_of self.old) token))
-            self.old (told result) self.new }
+            self.old (told (answered result)) self.new }
         ensures stays { OnErr result (Stays (values_of self.old) (values_of self.new)) }
-        // What every answer keeps, and that a refusal is plain.
+        // What every answer keeps.
         ensures unused { StaysUnused N.meaning K.meaning self.old self.new }
         ensures picked { StaysPicked (values_of self.old) (values_of self.new) }
-        ensures plain { IfErr result (λ error. error.nstatus ≡ None) }
     {
         self.check(mic)?;
         self.complete_signed(token)
     }
 
     #[tactic(auto, unfolding(crate::specs::Server::without_mic))]
-    fn go_without_mic(&mut self, complete: bool, token: Bytes) -> Result<Step, Error>
+    fn go_without_mic(&mut self, complete: bool, token: Bytes) -> Result<Step, Refusal>
         // The step, and what a refused one leaves.
-        ensures step { Does N.meaning K.meaning (without_mic complete (values_of self.old) token) self.old (told result) self.new }
+        ensures step { Does N.meaning K.meaning (without_mic complete (values_of self.old) token) self.old
+            (told (answered result)) self.new }
         ensures stays { OnErr result (Stays (values_of self.old) (values_of self.new)) }
-        // What every answer keeps, and that a refusal is plain.
+        // What every answer keeps.
         ensures unused { StaysUnused N.meaning K.meaning self.old self.new }
         ensures picked { StaysPicked (values_of self.old) (values_of self.new) }
-        ensures plain { IfErr result (λ error. error.nstatus ≡ None) }
     {
         if complete {
             self.excuse(token)
@@ -127,28 +127,26 @@ impl<N: Mechanism, K: Mechanism> Negotiate<N, K> {
         }
     }
 
-    fn excuse(&mut self, token: Bytes) -> Result<Step, Error>
+    fn excuse(&mut self, token: Bytes) -> Result<Step, Refusal>
         // The step, and what a refused one leaves.
         ensures step { Does N.meaning K.meaning (Names (values_of self.old) (λ name. excuses (values_of self.old) token name))
-            self.old (told result) self.new }
+            self.old (told (answered result)) self.new }
         ensures stays { OnErr result (Stays (values_of self.old) (values_of self.new)) }
-        // What every answer keeps, and that a refusal is plain.
+        // What every answer keeps.
         ensures unused { StaysUnused N.meaning K.meaning self.old self.new }
         ensures picked { StaysPicked (values_of self.old) (values_of self.new) }
-        ensures plain { IfErr result (λ error. error.nstatus ≡ None) }
     {
         let name = self.protocol.names()?;
         self.excuse_name(token, &name)
     }
 
-    fn excuse_name(&mut self, token: Bytes, name: &Username) -> Result<Step, Error>
+    fn excuse_name(&mut self, token: Bytes, name: &Username) -> Result<Step, Refusal>
         // The step, and what a refused one leaves.
-        ensures step { Does N.meaning K.meaning (excuses (values_of self.old) token name.now) self.old (told result) self.new }
+        ensures step { Does N.meaning K.meaning (excuses (values_of self.old) token name.now) self.old (told (answered result)) self.new }
         ensures stays { OnErr result (Stays (values_of self.old) (values_of self.new)) }
-        // What every answer keeps, and that a refusal is plain.
+        // What every answer keeps.
         ensures unused { StaysUnused N.meaning K.meaning self.old self.new }
         ensures picked { StaysPicked (values_of self.old) (values_of self.new) }
-        ensures plain { IfErr result (λ error. error.nstatus ≡ None) }
     {
         if is_guest_text(name.inner()) {
             self.mic_needed = false;
@@ -158,28 +156,26 @@ impl<N: Mechanism, K: Mechanism> Negotiate<N, K> {
         }
     }
 
-    pub(crate) fn read_last(&mut self, args: &AcceptSecurityContext<'_>) -> Result<Step, Error>
+    pub(crate) fn read_last(&mut self, args: &AcceptSecurityContext<'_>) -> Result<Step, Refusal>
         // The step, and what a refused one leaves.
         ensures step { Does N.meaning K.meaning (at_verify_mic (targ_of args.now.input.now) (values_of self.old))
-            self.old (told result) self.new }
+            self.old (told (answered result)) self.new }
         ensures stays { OnErr result (Stays (values_of self.old) (values_of self.new)) }
-        // What every answer keeps, and that a refusal is plain.
+        // What every answer keeps.
         ensures unused { StaysUnused N.meaning K.meaning self.old self.new }
         ensures picked { StaysPicked (values_of self.old) (values_of self.new) }
-        ensures plain { IfErr result (λ error. error.nstatus ≡ None) }
     {
         let token = NegTokenTarg::decode(self.alloc, args.input)?;
         self.take_last(token.mech_list_mic)
     }
 
-    fn take_last(&mut self, mic: Option<Bytes>) -> Result<Step, Error>
+    fn take_last(&mut self, mic: Option<Bytes>) -> Result<Step, Refusal>
         // The step, and what a refused one leaves.
-        ensures step { Does N.meaning K.meaning (last_mic mic (values_of self.old)) self.old (told result) self.new }
+        ensures step { Does N.meaning K.meaning (last_mic mic (values_of self.old)) self.old (told (answered result)) self.new }
         ensures stays { OnErr result (Stays (values_of self.old) (values_of self.new)) }
-        // What every answer keeps, and that a refusal is plain.
+        // What every answer keeps.
         ensures unused { StaysUnused N.meaning K.meaning self.old self.new }
         ensures picked { StaysPicked (values_of self.old) (values_of self.new) }
-        ensures plain { IfErr result (λ error. error.nstatus ≡ None) }
     {
         match mic {
             None => Err(invalid_token(Reason::NoMic)),
@@ -187,17 +183,16 @@ impl<N: Mechanism, K: Mechanism> Negotiate<N, K> {
         }
     }
 
-    fn check_last(&mut self, mic: &Bytes) -> Result<Step, Error>
+    fn check_last(&mut self, mic: &Bytes) -> Result<Step, Refusal>
         // The step, and what a refused one leaves.
         ensures step { Does N.meaning K.meaning
             (checks mic.now (values_of self.old)
             (Goes (record (values_of self.old) { state = states.Ok }) (record { status = statuses.Ok; output = [] })))
-            self.old (told result) self.new }
+            self.old (told (answered result)) self.new }
         ensures stays { OnErr result (Stays (values_of self.old) (values_of self.new)) }
-        // What every answer keeps, and that a refusal is plain.
+        // What every answer keeps.
         ensures unused { StaysUnused N.meaning K.meaning self.old self.new }
         ensures picked { StaysPicked (values_of self.old) (values_of self.new) }
-        ensures plain { IfErr result (λ error. error.nstatus ≡ None) }
     {
         self.check(mic)?;
         self.end()

@@ -1,4 +1,4 @@
-ghost use Rattle.std.specs.Prelude.{◌≡◌, ◌≤◌, IfOk, length, option_copied};
+ghost use Rattle.std.specs.Prelude.{◌≡◌, ◌≤◌, length, option_copied};
 ghost use Rattle.sspi_names.specs.Name.{inner_of};
 ghost use Rattle.sspi_mech.specs.KerberosLogon.{acquired, name_in, short_name, logon_of, protocol_of, request_at};
 ghost use Rattle.sspi_mech.specs.Refusals.{Gives};

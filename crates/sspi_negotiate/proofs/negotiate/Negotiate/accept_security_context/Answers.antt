@@ -1,7 +1,13 @@
-use Rattle.std.proofs.Common.{rules}
+use Rattle.std.proofs.Common.{Err}
+use Rattle.std.proofs.lemmas.Result.{err_from_is_err_and}
 use Rattle.sspi_negotiate.proofs.Moved.{accept_moves}
 use Rattle.sspi_negotiate.proofs.negotiate.Negotiate.accept_security_context.Goals as goal
 
+pub returns-in_err-accept_at-clause-step : goal.returns-in_err-accept_at-clause-step
+returns-in_err-accept_at-clause-step g c = let p = err_from_is_err_and c.from_residual.result c.from_residual.ensures.1 in rw (p.1, p.2)
+    (accept_moves _ _ _ _ (Err _) _ c.in_err-accept_at.ensures.step c.in_err-accept_at.ensures.stays c.accept_at.ensures.unused
+    c.accept_at.ensures.first c.accept_at.ensures.picked)
+
 pub returns-clause-step : goal.returns-clause-step
-returns-clause-step g c = accept_moves _ _ _ _ _ _ c.accept_at.ensures.step c.accept_at.ensures.stays c.accept_at.ensures.unused
-    c.accept_at.ensures.first c.accept_at.ensures.picked
+returns-clause-step g c = accept_moves _ _ _ _ _ _ c.in_ok-accept_at.ensures.step c.in_ok-accept_at.ensures.stays
+    c.accept_at.ensures.unused c.accept_at.ensures.first c.accept_at.ensures.picked

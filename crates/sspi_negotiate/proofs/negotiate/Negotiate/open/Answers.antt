@@ -1,5 +1,5 @@
 use Rattle.std.proofs.Common.{rules}
-use Rattle.sspi_negotiate.proofs.Follow.{stepped, asks, not_stepped}
+use Rattle.sspi_negotiate.proofs.Follow.{stepped, asks, not_stepped_as}
 use Rattle.sspi_negotiate.specs.Client.{first_step}
 use Rattle.sspi_negotiate.proofs.negotiate.Negotiate.open.Goals as goal
 
@@ -13,4 +13,6 @@ returns-in-Ask-clause-step g c = asks c.in-Ask.request (search rules) (search ru
 
 pub returns-in-Refused-clause-step : goal.returns-in-Refused-clause-step
 unfolding first_step
-returns-in-Refused-clause-step g c = not_stepped c.step_with.new.protocol c.in-Refused.error (search rules) (search rules) (search rules)
+returns-in-Refused-clause-step g c = not_stepped_as c.step_with.new.protocol c.in-Refused.error c.into.result.error_type
+    (search rules) (search rules)
+    c.fall.ensures.other (search rules)

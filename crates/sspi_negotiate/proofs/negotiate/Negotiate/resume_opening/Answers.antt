@@ -1,5 +1,5 @@
 use Rattle.std.proofs.Common.{rules}
-use Rattle.sspi_negotiate.proofs.Follow.{resumed, asks_again, not_resumed}
+use Rattle.sspi_negotiate.proofs.Follow.{resumed, asks_again, not_resumed_as}
 use Rattle.sspi_negotiate.specs.Client.{resumes_opening}
 use Rattle.sspi_negotiate.proofs.negotiate.Negotiate.resume_opening.Goals as goal
 
@@ -13,4 +13,6 @@ returns-in-Ask-clause-step g c = asks_again c.in-Ask.request (search rules) (sea
 
 pub returns-in-Refused-clause-step : goal.returns-in-Refused-clause-step
 unfolding resumes_opening
-returns-in-Refused-clause-step g c = not_resumed c.resume.new.self c.in-Refused.error (search rules) (search rules) (search rules)
+returns-in-Refused-clause-step g c = not_resumed_as c.resume.new.self c.in-Refused.error c.into.result.error_type (search rules)
+    (search rules)
+    c.fall_waiting.ensures.other (search rules)
