@@ -1,5 +1,5 @@
 -- What credentials and their texts are to the two ends; no refusal of them has an NTSTATUS code.
-use Rattle.std.proofs.Common.{◌≡◌, ◌≢◌, ◌⊎◌, inl, inr, ◌∙◌, ℕ, List, None, Result, Ok, Err, IfOk, IfErr, refl, sym, ap}
+use Rattle.std.proofs.Common.{◌≡◌, ◌≢◌, ◌⊎◌, inl, inr, ◌∙◌, ℕ, List, Option, None, Result, Ok, Err, IfOk, IfErr, refl, sym, ap}
 use Rattle.sspi_types.specs.declared.error.Error.{Error}
 use Rattle.sspi_types.specs.declared.error_kind.ErrorKind.TheVariants.{InsufficientMemory}
 use Rattle.sspi_types.specs.Memory.{memory_error}
@@ -49,6 +49,10 @@ unfolding delegated_identity
 identity_refused text buffers (Ok identity) e f = tt
 identity_refused text buffers (Err error) e (inl w) = λ memory. ap identity_in e ∙ ap named_or_refused w.1 ∙ ap Err (sym w.0)
 identity_refused text buffers (Err error) e (inr w) = λ memory. absurd (memory (ap (λ (x : Error). x.error_type) w))
+
+pub identity_plain : (error : Error) (found : Option AuthIdentity) → IsIdentified (Err error) found → error.nstatus ≡ None
+identity_plain error found (inl w) = ap (λ (x : Error). x.nstatus) w.0
+identity_plain error found (inr w) = ap (λ (x : Error). x.nstatus) w
 
 pub keytab_read : (text : List ℕ) (keytab : KeytabIdentity) (error : Error) →
     creds_of text ≡ Ok (buffered.Keytab keytab) → error ≡ malformed → delegated_identity text ≡ Err error

@@ -1,7 +1,6 @@
 -- What a context opened stays opened, and what it sealed stays sealed, whatever its counts become.
 use Rattle.std.proofs.Common.{◌≡◌, ℕ, List, Bool, Result, Ok, Err, OnOk, OnErr, true, false, refl, sym, ◌∙◌, ap, subst, add-zero}
 use Rattle.std.proofs.lemmas.Bool.{true≢false}
-use Rattle.sspi_types.specs.declared.error.Error.{Error}
 use Rattle.sspi_mech.specs.Calls.{Counts, one_sealed}
 use Rattle.sspi_mech.specs.Context.{IsContext}
 use Rattle.sspi_mech.specs.Meaning.{Meaning}
@@ -43,7 +42,7 @@ module _ {S C : Type 0} (c : Meaning S C) (laws : IsContext c) where
 
   -- after the right proof the end seals what it owes and notes it, or that is refused
   pub exchanged : (flag : Acts → Bool) (set : Acts → Acts) → IsNoted flag set →
-      (m m1 m2 : C) (acts acts1 acts2 : Acts) (blob proof : List ℕ) (same : Bool) (r : Result (List ℕ) Error) →
+      {E : Type 0} (m m1 m2 : C) (acts acts1 acts2 : Acts) (blob proof : List ℕ) (same : Bool) (r : Result (List ℕ) E) →
       flag acts ≡ false → HasOpened c m m1 acts acts1 blob proof same → same ≡ true →
       OnOk r (acts2 ≡ set acts1) → OnOk r (m2 ≡ c.counted m1 (one_sealed (c.counts m1))) →
       OnOk r (c.counts m2 ≡ one_sealed (c.counts m1)) → OnErr r (m2 ≡ m1) → OnErr r (acts2 ≡ acts1) →

@@ -23,7 +23,7 @@ use Rattle.sspi_credssp.specs.ServerStep.{OnStep}
 use Rattle.sspi_credssp.specs.ServerTurn.{BeginRefused, ServerTurn, UnlessMade, IsNew, is_made, IsUnstepped}
 use Rattle.sspi_credssp.proofs.ClientReady.{not_yet}
 
-pub refused_both : {T : Type 0} (r : Result T Error) (Q R : Type 0) → OnErr r Q → OnErr r R → OnErr r (Q × R)
+pub refused_both : {T E : Type 0} (r : Result T E) (Q R : Type 0) → OnErr r Q → OnErr r R → OnErr r (Q × R)
 refused_both (Ok x) Q R q r = tt
 refused_both (Err e) Q R q r = (q, r)
 
@@ -65,7 +65,7 @@ module _ {C : Type 0} (c : Meaning ContextSetting C) where
     as_new told old new (Some m) h = is_made told h
 
     -- the version was refused that a new context met first
-    pub new_refused : {T : Type 0} (told : Option (List AuthIdentity)) (r : Result T Error) (old new : ServerView C P) (version : ℕ) →
+    pub new_refused : {T E : Type 0} (told : Option (List AuthIdentity)) (r : Result T E) (old new : ServerView C P) (version : ℕ) →
         old.context ≡ None → old.noted ≡ None → old.state ≡ NegoToken → IsUnusedIn c new.context →
         IfContext new.context (λ m. Begun c old.context old.handle (ForServer old.settings.mode told) Inbound None new.handle m) →
         new.noted ≡ noted_with old.settings.least old.noted version → OnErr r (new.noted ≡ old.noted) →

@@ -1,6 +1,6 @@
 -- The causes of a server's refusals, put together from those of the calls inside.
 use Rattle.std.proofs.Common.{◌≡◌, ◌≢◌, ℕ, Some, IsSome, Result, Ok, Err, IfErr, false, [], subst, arith}
-use Rattle.sspi_types.specs.declared.error.Error.{Error}
+use Rattle.sspi_mech.specs.declared.refusal.Refusal.{Refusal}
 use Rattle.sspi_types.specs.declared.error_kind.ErrorKind.{ErrorKind}
 use Rattle.sspi_types.specs.declared.error_kind.ErrorKind.TheVariants.{InsufficientMemory, MessageAltered, DowngradeDetected}
 use Rattle.sspi_types.specs.declared.security_status.SecurityStatus.{SecurityStatus}
@@ -57,7 +57,8 @@ module _ {C : Type 0} (c : Meaning ContextSetting C) where
     over_cause statuses.NoLsaContext old d new kind over h = absurd over
 
     -- past the end of the authentication
-    pub over_causes : {T : Type 0} (s : SecurityStatus) (old : ServerView C P) (d : TsRequest) (new : ServerView C P) (r : Result T Error) →
+    pub over_causes : {T : Type 0} (s : SecurityStatus) (old : ServerView C P) (d : TsRequest) (new : ServerView C P)
+        (r : Result T Refusal) →
         IsOver (Some s) → IfErr r (λ e. e.error_type ≢ InsufficientMemory → OverCause c p s old d new e.error_type) →
         IfErr r (λ e. e.error_type ≢ InsufficientMemory → NegoCause c p (Some s) old d new e.error_type)
     over_causes s old d new (Ok x) over h = h
@@ -65,7 +66,7 @@ module _ {C : Type 0} (c : Meaning ContextSetting C) where
 
     -- once the context has come to its end
     pub known_causes : {T : Type 0} (s : SecurityStatus) (old : ServerView C P) (d request : TsRequest) (v : ℕ) (new : ServerView C P)
-        (r : Result T Error) →
+        (r : Result T Refusal) →
         request ≡ record d { version = v } → HasCome c p Completed s old d new →
         IfErr r (λ e. e.error_type ≢ InsufficientMemory → AfterCause c request.pub_key_auth request.client_nonce new e.error_type) →
         IfErr r (λ e. e.error_type ≢ InsufficientMemory → OverCause c p s old d new e.error_type)

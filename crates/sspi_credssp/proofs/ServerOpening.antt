@@ -1,10 +1,11 @@
 -- What opening the credentials did to the server, of what it did to its context.
 use Rattle.std.proofs.Common.{◌≡◌, ◌≢◌, ℕ, List, Option, None, Some, Result, Ok, Err, IfOk, IfErr, OnOk, Bool, true, refl, sym, ◌∙◌}
 use Rattle.std.proofs.Common.{ap, subst, ◌+◌}
-use Rattle.sspi_types.specs.declared.error.Error.{Error}
 use Rattle.sspi_types.specs.declared.error_kind.ErrorKind.TheVariants.{InsufficientMemory}
 use Rattle.sspi_names.specs.declared.identity.AuthIdentity.{AuthIdentity}
 use Rattle.sspi_mech.specs.Meaning.{Meaning}
+use Rattle.sspi_mech.specs.declared.refusal.Refusal.{Refusal}
+use Rattle.sspi_mech.specs.Refusals.{answered, error_of}
 use Rattle.sspi_credssp.specs.declared.acts.Acts.{Acts}
 use Rattle.sspi_credssp.specs.Acts.{no_acts, count_of}
 use Rattle.sspi_credssp.specs.Context.{ContextSetting}
@@ -25,7 +26,7 @@ module _ {C : Type 0} (c : Meaning ContextSetting C) where
   holds None blob m identity long h = absurd long
   holds (Some held) blob m identity long h = rw long.same h
 
-  pub opened_cause : (field : Option (List ℕ)) (blob : List ℕ) (m : C) (opened : Bool) (r : Result AuthIdentity Error) →
+  pub opened_cause : (field : Option (List ℕ)) (blob : List ℕ) (m : C) (opened : Bool) (r : Result AuthIdentity Refusal) →
       IsSealedBlob field blob →
       IfErr r (λ e. e.error_type ≢ InsufficientMemory → OpenedCause c opened (Some m) blob e.error_type) →
       IfErr r (λ e. e.error_type ≢ InsufficientMemory → BlobStops field e.error_type (λ b. OpenedCause c opened (Some m) b e.error_type))
@@ -47,12 +48,12 @@ module _ {C P : Type 0} (c : Meaning ContextSetting C) where
   }
 
   pub opened : (old new : ServerView C P) (field : Option (List ℕ)) (blob : List ℕ) (m m2 : C) (acts : Acts)
-      (r : Result AuthIdentity Error) →
+      (r : Result AuthIdentity Refusal) →
       IsSealedBlob field blob → old.context ≡ Some m → old.acts ≡ no_acts → new ≡ record old { context = Some m2; acts = acts } →
       Opens c m m2 no_acts acts → OnOk r (acts.opened ≡ true) → IfOk r (λ identity. OpensIdentity c m2 blob identity) →
-      ServerOpens c old field r new
+      ServerOpens c old field (answered r) new
   opened old new field blob m m2 acts (Ok identity) long here idle made h is_opened gives =
       subst (λ v. ServerOpens c old field (Ok identity) v) (sym made)
       (opened_blob old field blob m m2 acts long here idle h, is_opened, holds c field blob m2 identity long gives)
   opened old new field blob m m2 acts (Err error) long here idle made h is_opened gives =
-      subst (λ v. ServerOpens c old field (Err error) v) (sym made) (opened_blob old field blob m m2 acts long here idle h)
+      subst (λ v. ServerOpens c old field (Err (error_of error)) v) (sym made) (opened_blob old field blob m m2 acts long here idle h)

@@ -17,6 +17,8 @@ use Rattle.sspi_credssp.specs.Client.{ClientView}
 use Rattle.sspi_credssp.specs.ClientCall.{Awaits}
 use Rattle.sspi_credssp.specs.ClientStage.{KeepsRequest}
 use Rattle.sspi_credssp.specs.ClientStep.{Asked, StepsTo, Walked, still_asked}
+use Rattle.sspi_mech.specs.declared.refusal.Refusal.{Refusal}
+use Rattle.sspi_mech.specs.Refusals.{answered, error_of}
 use Rattle.sspi_credssp.specs.ClientTurn.{IsReady, IsUnderway}
 use Rattle.sspi_credssp.specs.Context.{ContextSetting}
 use Rattle.sspi_credssp.specs.Counts.{is_waiting_in}
@@ -26,11 +28,12 @@ module _ {C : Type 0} (c : Meaning ContextSetting C) (laws : IsContext c) where
   -- `v` is the client before the call, `stepped` it once its context took the reply, and `new` it as the call leaves it
   pub still_waits : (start : ClientView C) (d : TsRequest) (tries : ℕ) (log : List Asked) (q : NetworkRequest)
       (v stepped new : ClientView C)
-      (m m2 : C) (reply : Reply) (request : TsRequest) (progress : Result Progressing Error) (result : Result Progress Error) →
+      (m m2 : C) (reply : Reply) (request : TsRequest) (progress : Result Progressing Refusal) (result : Result Progress Refusal) →
       request ≡ record d { version = v.settings.version } → v.state ≡ NegoToken → v.output ≡ [] → v.context ≡ Some m →
       v.acts ≡ no_acts → stepped ≡ record v { context = Some m2; acts = record v.acts { negotiated = true } } →
-      IsReady c start d v → Walked c start v.handle d.nego_tokens tries log (Ask q) m → c.resumes m reply (answer_of progress) m2 →
-      OnErr result (new.acts.status ≡ None → KeepsRequest c stepped progress request new) →
+      IsReady c start d v → Walked c start v.handle d.nego_tokens tries log (Ask q) m →
+      c.resumes m reply (answer_of (answered progress)) m2 →
+      OnErr result (new.acts.status ≡ None → KeepsRequest c stepped (answered progress) request new) →
       OnErr result (new.acts.status ≡ None → is_waiting_in c new.context ≡ true →
       Awaits c start d (tries + 1) (record { question = q; reply = reply } ∷ log) q new)
   still_waits start d tries log q v stepped new m m2 reply request progress (Ok x) _ _ _ _ _ _ _ _ _ _ = tt
@@ -58,7 +61,7 @@ module _ {C : Type 0} (c : Meaning ContextSetting C) (laws : IsContext c) where
       } in
       let steps : StepsTo c start d (tries + 1) (record { question = q; reply = reply } ∷ log) (Ask q)
       (record v { context = Some m2; acts = record no_acts { negotiated = true }; kept = new.kept }) =
-      still_asked m m2 tries log q reply e walked resumed again in
+      still_asked m m2 tries log q reply (error_of e) walked resumed again in
       record {
         underway = subst (λ x. IsUnderway c start d x) (sym moved) under;
         walked = subst (λ x. StepsTo c start d (tries + 1) (record { question = q; reply = reply } ∷ log) (Ask q) x) (sym moved) steps;

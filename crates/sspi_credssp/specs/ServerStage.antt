@@ -33,7 +33,7 @@ pub record HasReached {C P : Type 0} (came : Option SecurityStatus) (now : Serve
   pub status : now.acts.status ≡ came
 
 -- what follows the answer of a step keeps that answer, and advances only where it is not refused
-pub record KeepsStep {C P T : Type 0} (old : ServerView C P) (result : Result T Error) (new : ServerView C P) : Type 0 where
+pub record KeepsStep {C P T E : Type 0} (old : ServerView C P) (result : Result T E) (new : ServerView C P) : Type 0 where
   pub version : new.settings.version ≡ old.settings.version
   pub handle : new.handle ≡ old.handle
   pub output : new.output ≡ old.output

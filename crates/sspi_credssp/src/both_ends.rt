@@ -1,5 +1,5 @@
 // What both ends do in one way, whatever they do it for.
-ghost use Rattle.std.specs.Prelude.{◌≡◌, ◌≢◌, [], None, OnOk, OnErr, IfErr};
+ghost use Rattle.std.specs.Prelude.{◌≡◌, ◌≢◌, [], OnOk, OnErr, IfErr};
 ghost use Rattle.std.specs.Option.{option_copied};
 ghost use Rattle.sspi_mech.specs.Calls.{ToAcquire};
 ghost use Rattle.sspi_mech.specs.Context.{IsUnused};
@@ -10,9 +10,9 @@ ghost use Rattle.sspi_credssp.specs.Counts.{IsUnusedIn};
 
 use crate::acts::Acts;
 use crate::context::SspiContext;
-use sspi_mech::Mechanism;
+use sspi_mech::{Mechanism, Refusal};
 use sspi_names::{Credentials, CredentialsBuffers};
-use sspi_types::{Bytes, CredentialUse, Error, ErrorKind};
+use sspi_types::{Bytes, CredentialUse, ErrorKind};
 use std::alloc::Global;
 
 // Has a new context acquire credentials, and keeps both, or neither.
@@ -22,7 +22,7 @@ pub fn adopt<N: Mechanism, K: Mechanism>(
     credentials: Option<&Credentials>,
     place: &mut Option<SspiContext<N, K>>,
     handle: &mut Option<CredentialsBuffers>,
-) -> Result<(), Error>
+) -> Result<(), Refusal>
     // What `Ok` holds, and that nothing was used.
     ensures acquired { let c = either N.REQUESTS N.meaning K.meaning in OnOk result (IfContext place.new
         (c.acquires context purpose (option_copied credentials.entry) handle.new)) }
@@ -30,7 +30,6 @@ pub fn adopt<N: Mechanism, K: Mechanism>(
         OnOk result (IsUnusedIn c place.new) }
     // What a refusal says, and what it leaves.
     ensures err { OnErr result ((place.new ≡ place.old) × (handle.new ≡ handle.old)) }
-    ensures plain { IfErr result (λ error. error.nstatus ≡ None) }
     ensures cause { IfErr result (λ error. error.error_type ≢ ErrorKind.InsufficientMemory →
         (either N.REQUESTS N.meaning K.meaning).refuses context (ToAcquire purpose (option_copied credentials.entry)) error.error_type) }
 {

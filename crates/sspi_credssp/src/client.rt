@@ -6,11 +6,13 @@ ghost use Rattle.sspi_credssp.specs.Client.{ClientView};
 ghost use Rattle.sspi_credssp.specs.Context.{either, ForClient};
 ghost use Rattle.sspi_credssp.specs.Counts.{IsUnusedIn, is_waiting_in, left_in};
 ghost use Rattle.sspi_credssp.specs.Noted.{is_altered_in, is_old_in, noted_in};
-ghost use Rattle.sspi_credssp.specs.Refusal.{IsRefusedBy};
+ghost use Rattle.sspi_credssp.specs.Refusal.{IsRefusedFor};
 ghost use Rattle.sspi_credssp.specs.Requests.{is_code};
 ghost use Rattle.sspi_credssp.specs.Stops.{StopsIf};
+ghost use Rattle.sspi_mech.specs.Refusals.{answered};
 
 use crate::acts::Acts;
+use crate::answered::answered;
 use crate::both_ends::{adopt, forget};
 use crate::client_state::Progress;
 use crate::context::SspiContext;
@@ -18,7 +20,7 @@ use crate::mode::ClientMode;
 use crate::peer_version::{DEFAULT_LEAST_VERSION, note_version};
 use crate::request::at_version;
 use crate::state::CredSspState;
-use sspi_mech::{Mechanism, Reply};
+use sspi_mech::{Mechanism, Refusal, Reply};
 use sspi_names::{Credentials, CredentialsBuffers};
 use sspi_tsreq::{CredSspMode, TsRequest};
 use sspi_types::{Bytes, CredentialUse, Error, ErrorKind, NStatusCode, Reason, Text};
@@ -224,7 +226,7 @@ impl<N: Mechanism, K: Mechanism> CredSspClient<N, K> {
         }
         check_code(ts_request.error_code)?;
         self.begin(ts_request.version)?;
-        self.take(at_version(ts_request, self.ts_request_version))
+        answered(self.take(at_version(ts_request, self.ts_request_version)))
     }
 
     /// Goes on with the suspended turn, once it is known what came of its request.
@@ -241,7 +243,7 @@ impl<N: Mechanism, K: Mechanism> CredSspClient<N, K> {
             return Err(Error::new(ErrorKind::OutOfSequence, Reason::Sequence));
         }
         match self.suspended.take() {
-            Some(request) => self.resume_with(reply, request),
+            Some(request) => answered(self.resume_with(reply, request)),
             None => Err(Error::new(ErrorKind::OutOfSequence, Reason::Sequence)),
         }
     }
@@ -253,23 +255,22 @@ impl<N: Mechanism, K: Mechanism> CredSspClient<N, K> {
     }
 
     // The turn, once the request's code and version were looked at.
-    fn take(&mut self, request: TsRequest) -> Result<Progress, Error>
+    fn take(&mut self, request: TsRequest) -> Result<Progress, Refusal>
         // What must hold before.
         requires acts { self.old.acts ≡ no_acts }
         requires begun { IsSome self.old.context }
         // The turn, and the step in it.
         ensures turn { let c = either N.REQUESTS N.meaning K.meaning in (start : ClientView (SspiContext N K)) (d : TsRequest) →
             request ≡ record d { version = self.old.settings.version } → IsReady c start d self.old → self.old.output ≡ [] →
-            ClientGoes c start d result self.new }
+            ClientGoes c start d (answered result) self.new }
         ensures step { let c = either N.REQUESTS N.meaning K.meaning in (start : ClientView (SspiContext N K)) (d : TsRequest) →
             d.nego_tokens ≡ request.nego_tokens → start.settings.target ≡ self.old.settings.target →
             IfContext self.old.context (Begun c start.context start.handle (ForClient start.settings.mode) purposes.Outbound
             (Some start.settings.credentials) self.old.handle) →
-            HasStepped c start d 0 [] result self.new }
+            HasStepped c start d 0 [] (answered result) self.new }
         // What a refusal says.
         ensures cause { IfErr result (λ error. error.error_type ≢ ErrorKind.InsufficientMemory →
             StateCause (either N.REQUESTS N.meaning K.meaning) self.old.state request self.new error.error_type) }
-        ensures plain { IfErr result (λ error. error.nstatus ≡ None) }
         // What is so afterwards.
         ensures begun { IsSome self.new.context }
     {
@@ -277,12 +278,12 @@ impl<N: Mechanism, K: Mechanism> CredSspClient<N, K> {
             CredSspState::NegoToken => self.negotiate(request),
             CredSspState::AuthInfo => Ok(Progress::Completed(self.conclude(request)?)),
             CredSspState::PubKeyInfo | CredSspState::Final => {
-                Err(Error::new(ErrorKind::OutOfSequence, Reason::Sequence))
+                Err(Refusal::new(ErrorKind::OutOfSequence, Reason::Sequence))
             }
         }
     }
 
-    fn begin(&mut self, version: u32) -> Result<(), Error>
+    fn begin(&mut self, version: u32) -> Result<(), Refusal>
         // What `Ok` holds, and what alone may change.
         ensures frame { self.new ≡ record self.old { context = self.new.context; handle = self.new.handle; noted = self.new.noted } }
         ensures ready { let c = either N.REQUESTS N.meaning K.meaning in
@@ -299,7 +300,7 @@ impl<N: Mechanism, K: Mechanism> CredSspClient<N, K> {
         ensures passed { OnOk result (IsSome self.new.context × (is_altered_in self.old.context self.old.noted version ≡ false)
             × (is_old_in self.old.context self.old.settings.least self.old.noted version ≡ false)) }
         ensures cause { let c = either N.REQUESTS N.meaning K.meaning in
-            IsRefusedBy result (λ kind.
+            IsRefusedFor result (λ kind.
             StopsIf (is_old_in self.old.context self.old.settings.least self.old.noted version) ErrorKind.DowngradeDetected kind
             (StopsIf (is_altered_in self.old.context self.old.noted version) ErrorKind.MessageAltered kind
             (MadeOr self.old.context self.new.context (BeginCause c (ForClient self.old.settings.mode) purposes.Outbound
@@ -317,7 +318,7 @@ impl<N: Mechanism, K: Mechanism> CredSspClient<N, K> {
     }
 
     // The context and the credentials that it acquires are kept only together.
-    fn make_context(&mut self) -> Result<(), Error>
+    fn make_context(&mut self) -> Result<(), Refusal>
         // What must hold before.
         requires { self.old.context ≡ None }
         // What `Ok` holds, and what alone may change.
@@ -331,7 +332,7 @@ impl<N: Mechanism, K: Mechanism> CredSspClient<N, K> {
         ensures err { OnErr result (self.new ≡ self.old) }
         ensures fresh { (self.old.noted ≡ None) × (self.old.state ≡ CredSspState.NegoToken) }
         ensures cause { let c = either N.REQUESTS N.meaning K.meaning in
-            IsRefusedBy result (BeginCause c (ForClient self.old.settings.mode) purposes.Outbound (Some self.old.settings.credentials)) }
+            IsRefusedFor result (BeginCause c (ForClient self.old.settings.mode) purposes.Outbound (Some self.old.settings.credentials)) }
     {
         let context = SspiContext::new_client(self.alloc, &self.client_mode)?;
         adopt(

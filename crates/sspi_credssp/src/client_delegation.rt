@@ -7,6 +7,7 @@ ghost use Rattle.sspi_credssp.specs.Context.{either};
 ghost use Rattle.sspi_credssp.specs.Credentials.{delegated_text, IfText};
 ghost use Rattle.sspi_credssp.specs.Exchange.{Exchanges, ProofCause};
 ghost use Rattle.sspi_credssp.specs.PublicKey.{prescribed};
+ghost use Rattle.sspi_mech.specs.Refusals.{answered};
 
 use crate::acts::Acts;
 use crate::client::CredSspClient;
@@ -17,10 +18,10 @@ use crate::proof::{altered, opens_to, sealed_blob};
 use crate::public_key::{EndpointType, prescribed_proof};
 use crate::request::with_credentials;
 use crate::state::CredSspState;
-use sspi_mech::Mechanism;
+use sspi_mech::{Mechanism, Refusal};
 use sspi_names::Credentials;
 use sspi_tsreq::{CredSspMode, TsRequest};
-use sspi_types::{Bytes, Error, ErrorKind, Reason};
+use sspi_types::{Bytes, ErrorKind, Reason};
 use std::alloc::{AllocError, Global};
 
 fn seal_credentials<N: Mechanism, K: Mechanism>(
@@ -29,7 +30,7 @@ fn seal_credentials<N: Mechanism, K: Mechanism>(
     acts: &mut Acts,
     credentials: &Credentials,
     mode: CredSspMode,
-) -> Result<Bytes, Error>
+) -> Result<Bytes, Refusal>
     // What `Ok` holds.
     ensures blob { let c = either N.REQUESTS N.meaning K.meaning in IfOk result (λ blob. IfText (delegated_text credentials.now mode)
         (λ text. c.seals context.new ((c.counts context.new).sealed - 1) text blob)) }
@@ -41,7 +42,6 @@ fn seal_credentials<N: Mechanism, K: Mechanism>(
     // What a refusal says, and what it leaves.
     ensures err { OnErr result (context.new ≡ context.old) }
     ensures err_acts { OnErr result (acts.new ≡ acts.old) }
-    ensures plain { IfErr result (λ error. error.nstatus ≡ None) }
     ensures cause { IfErr result (λ error. error.error_type ≢ ErrorKind.InsufficientMemory →
         SealsCause (either N.REQUESTS N.meaning K.meaning) context.new (delegated_text credentials.now mode) error.error_type) }
 {
@@ -61,7 +61,7 @@ fn deliver<N: Mechanism, K: Mechanism>(
     version: u32,
     credentials: &Credentials,
     mode: CredSspMode,
-) -> Result<Bytes, Error>
+) -> Result<Bytes, Refusal>
     // What must hold before.
     requires checked { acts.old.checked ≡ false }
     requires sealed { acts.old.sealed ≡ false }
@@ -74,7 +74,6 @@ fn deliver<N: Mechanism, K: Mechanism>(
     ensures blob { let c = either N.REQUESTS N.meaning K.meaning in IfOk result (λ blob. IfText (delegated_text credentials.now mode)
         (λ text. c.seals context.new ((c.counts context.new).sealed - 1) text blob)) }
     // What a refusal says.
-    ensures plain { IfErr result (λ error. error.nstatus ≡ None) }
     ensures cause { IfErr result (λ error. error.error_type ≢ ErrorKind.InsufficientMemory →
         ProofCause (either N.REQUESTS N.meaning K.meaning) acts.new.checked context.new blob.now proof.now
         (SealsCause (either N.REQUESTS N.meaning K.meaning) context.new (delegated_text credentials.now mode) error.error_type)
@@ -91,7 +90,7 @@ impl<N: Mechanism, K: Mechanism> CredSspClient<N, K> {
     ghost use Rattle.sspi_credssp.specs.Client.{ClientView};
     ghost use Rattle.sspi_credssp.specs.ClientTurn.{ClientAnswers, IsReady, ClientDelivers};
 
-    pub(crate) fn conclude(&mut self, request: TsRequest) -> Result<ClientState, Error>
+    pub(crate) fn conclude(&mut self, request: TsRequest) -> Result<ClientState, Refusal>
         // What must hold before.
         requires acts { self.old.acts ≡ no_acts }
         requires begun { IsSome self.old.context }
@@ -100,12 +99,11 @@ impl<N: Mechanism, K: Mechanism> CredSspClient<N, K> {
         ensures turn { let c = either N.REQUESTS N.meaning K.meaning in (start : ClientView (SspiContext N K)) (d : TsRequest) →
             request ≡ record d { version = self.old.settings.version } → IsReady c start d self.old →
             self.old.state ≡ CredSspState.AuthInfo →
-            self.old.output ≡ [] → ClientAnswers c start d result self.new }
+            self.old.output ≡ [] → ClientAnswers c start d (answered result) self.new }
         ensures begun { IsSome self.new.context }
         // What a refusal says.
         ensures cause { IfErr result (λ error. error.error_type ≢ ErrorKind.InsufficientMemory →
             DeliverCause (either N.REQUESTS N.meaning K.meaning) request.pub_key_auth self.new error.error_type) }
-        ensures plain { IfErr result (λ error. error.nstatus ≡ None) }
         // What is so afterwards.
         ensures acts { (self.new.acts.status ≡ None) × (self.new.acts.negotiated ≡ false) }
     {
@@ -127,26 +125,25 @@ impl<N: Mechanism, K: Mechanism> CredSspClient<N, K> {
         )
     }
 
-    fn exchange(&mut self, pub_key_auth: &Option<Bytes>) -> Result<Bytes, Error>
+    fn exchange(&mut self, pub_key_auth: &Option<Bytes>) -> Result<Bytes, Refusal>
         // What must hold before.
         requires acts { self.old.acts ≡ no_acts }
         requires begun { IsSome self.old.context }
         requires noted { IsSome self.old.noted }
         // What holds of every answer.
-        ensures delivers { ClientDelivers (either N.REQUESTS N.meaning K.meaning) self.old pub_key_auth.now result self.new }
+        ensures delivers { ClientDelivers (either N.REQUESTS N.meaning K.meaning) self.old pub_key_auth.now (answered result) self.new }
         ensures begun { IsSome self.new.context }
         // What a refusal says.
         ensures cause { IfErr result (λ error. error.error_type ≢ ErrorKind.InsufficientMemory →
             DeliverCause (either N.REQUESTS N.meaning K.meaning) pub_key_auth.now self.new error.error_type) }
-        ensures plain { IfErr result (λ error. error.nstatus ≡ None) }
     {
         let blob = sealed_blob(pub_key_auth, Reason::NoPubKey)?;
         let Some(version) = self.peer_version else {
-            return Err(Error::new(ErrorKind::InternalError, Reason::NoVersion));
+            return Err(Refusal::new(ErrorKind::InternalError, Reason::NoVersion));
         };
         let proof = self.proof_of(EndpointType::Server, version)?;
         let Some(context) = &mut self.context else {
-            return Err(Error::new(ErrorKind::InternalError, Reason::NoVersion));
+            return Err(Refusal::new(ErrorKind::InternalError, Reason::NoVersion));
         };
         deliver(
             self.alloc,

@@ -9,7 +9,8 @@ ghost use Rattle.sspi_credssp.specs.ClientCause.{NegoCause, ProveCause};
 ghost use Rattle.sspi_credssp.specs.ClientStep.{Asked, StepsTo, HasStepped, OnSuspended, client_requirements, client_args};
 ghost use Rattle.sspi_credssp.specs.Context.{either, ForClient};
 ghost use Rattle.sspi_credssp.specs.Counts.{SameBut, is_waiting_in, left_in};
-ghost use Rattle.sspi_credssp.specs.Refusal.{IsRefusedBy};
+ghost use Rattle.sspi_credssp.specs.Refusal.{IsRefusedFor};
+ghost use Rattle.sspi_mech.specs.Refusals.{answered};
 ghost use Rattle.sspi_types.specs.declared.credential_use.CredentialUse.TheVariants as purposes;
 
 use crate::client::CredSspClient;
@@ -21,7 +22,7 @@ use crate::request::{with_proof, with_tokens};
 use crate::state::CredSspState;
 use crate::token::{copy_token, token_of};
 use bitflags::Flags;
-use sspi_mech::{InitializeSecurityContext, Mechanism, Progressing, Reply};
+use sspi_mech::{InitializeSecurityContext, Mechanism, Progressing, Refusal, Reply};
 use sspi_names::CredentialsBuffers;
 use sspi_tsreq::TsRequest;
 use sspi_types::{
@@ -42,18 +43,26 @@ fn initialize<N: Mechanism, K: Mechanism>(
     credentials_handle: &Option<CredentialsBuffers>,
     service_principal_name: &Text,
     token: &Option<Bytes>,
-) -> Result<Progressing, Error>
+) -> Result<Progressing, Refusal>
     ensures step { (either N.REQUESTS N.meaning K.meaning).steps context.old
-        (client_args credentials_handle.now service_principal_name.now token.now) (answer_of result) context.new }
-    ensures plain { IfErr result (λ error. error.nstatus ≡ None) }
+        (client_args credentials_handle.now service_principal_name.now token.now) (answer_of (answered result)) context.new }
 {
-    context.initialize_security_context(&InitializeSecurityContext {
+    Ok(context.initialize_security_context(&InitializeSecurityContext {
         credentials_handle: credentials_handle.as_ref(),
         context_requirements: client_requirements(),
         target_data_representation: DataRepresentation::Native,
         target_name: Some(service_principal_name.as_str()),
         input: token_of(token),
-    })
+    })?)
+}
+
+fn resume<N: Mechanism, K: Mechanism>(
+    context: &mut SspiContext<N, K>,
+    reply: &Reply,
+) -> Result<Progressing, Refusal>
+    ensures { (either N.REQUESTS N.meaning K.meaning).resumes context.old reply.now (answer_of (answered result)) context.new }
+{
+    Ok(context.resume(reply)?)
 }
 
 impl<N: Mechanism, K: Mechanism> CredSspClient<N, K> {
@@ -62,7 +71,7 @@ impl<N: Mechanism, K: Mechanism> CredSspClient<N, K> {
     ghost use Rattle.sspi_credssp.specs.ClientStage.{HasDone, HasGoneOn, KeepsStep, KeepsRequest};
     ghost use Rattle.sspi_credssp.specs.ClientTurn.{ClientGoes, ClientAnswers, IsReady, ClientProves};
 
-    pub(crate) fn negotiate(&mut self, request: TsRequest) -> Result<Progress, Error>
+    pub(crate) fn negotiate(&mut self, request: TsRequest) -> Result<Progress, Refusal>
         // What must hold before.
         requires acts { self.old.acts ≡ no_acts }
         requires begun { IsSome self.old.context }
@@ -70,22 +79,21 @@ impl<N: Mechanism, K: Mechanism> CredSspClient<N, K> {
         ensures turn { let c = either N.REQUESTS N.meaning K.meaning in (start : ClientView (SspiContext N K)) (d : TsRequest) →
             request ≡ record d { version = self.old.settings.version } → IsReady c start d self.old →
             self.old.state ≡ CredSspState.NegoToken →
-            self.old.output ≡ [] → ClientGoes c start d result self.new }
+            self.old.output ≡ [] → ClientGoes c start d (answered result) self.new }
         ensures step { let c = either N.REQUESTS N.meaning K.meaning in (start : ClientView (SspiContext N K)) (d : TsRequest) →
             d.nego_tokens ≡ request.nego_tokens → start.settings.target ≡ self.old.settings.target →
             IfContext self.old.context (Begun c start.context start.handle (ForClient start.settings.mode) purposes.Outbound
             (Some start.settings.credentials) self.old.handle) →
-            HasStepped c start d 0 [] result self.new }
+            HasStepped c start d 0 [] (answered result) self.new }
         // What a refusal says.
         ensures cause { IfErr result (λ error. error.error_type ≢ ErrorKind.InsufficientMemory →
             NegoCause (either N.REQUESTS N.meaning K.meaning) self.new.acts.status self.new error.error_type) }
-        ensures plain { IfErr result (λ error. error.nstatus ≡ None) }
         // What is so afterwards.
         ensures begun { IsSome self.new.context }
     {
         self.acts.negotiated = true;
         let Some(context) = &mut self.context else {
-            return Err(Error::new(ErrorKind::InternalError, Reason::NoVersion));
+            return Err(Refusal::new(ErrorKind::InternalError, Reason::NoVersion));
         };
         let progress = initialize(
             context,
@@ -100,7 +108,7 @@ impl<N: Mechanism, K: Mechanism> CredSspClient<N, K> {
         &mut self,
         reply: &Reply,
         request: TsRequest,
-    ) -> Result<Progress, Error>
+    ) -> Result<Progress, Refusal>
         // What must hold before.
         requires acts { self.old.acts ≡ no_acts }
         requires begun { IsSome self.old.context }
@@ -109,11 +117,11 @@ impl<N: Mechanism, K: Mechanism> CredSspClient<N, K> {
         ensures turn { let c = either N.REQUESTS N.meaning K.meaning in (start : ClientView (SspiContext N K)) (d : TsRequest) →
             request ≡ record d { version = self.old.settings.version } → IsReady c start d self.old →
             self.old.state ≡ CredSspState.NegoToken →
-            self.old.output ≡ [] → ClientGoes c start d result self.new }
+            self.old.output ≡ [] → ClientGoes c start d (answered result) self.new }
         ensures step { let c = either N.REQUESTS N.meaning K.meaning in (start : ClientView (SspiContext N K)) (d : TsRequest)
             (tries : ℕ) (log : List Asked) (q : NetworkRequest) →
             StepsTo c start d tries log (answers.Ask q) self.old →
-            HasStepped c start d tries (record { question = q; reply = reply.now } ∷ log) result self.new }
+            HasStepped c start d tries (record { question = q; reply = reply.now } ∷ log) (answered result) self.new }
         // What a step that did not end leaves.
         ensures still { let c = either N.REQUESTS N.meaning K.meaning in (start : ClientView (SspiContext N K)) (d : TsRequest)
             (tries : ℕ) (log : List Asked) (q : NetworkRequest) →
@@ -123,15 +131,15 @@ impl<N: Mechanism, K: Mechanism> CredSspClient<N, K> {
             OnErr result (self.new.acts.status ≡ None → is_waiting_in c self.new.context ≡ true →
             Awaits c start d (tries + 1) (record { question = q; reply = reply.now } ∷ log) q self.new) }
         ensures falls { let c = either N.REQUESTS N.meaning K.meaning in
-            OnSuspended result (left_in c self.new.context < left_in c self.old.context) }
+            OnSuspended (answered result) (left_in c self.new.context < left_in c self.old.context) }
         // What a refusal says.
-        ensures cause { IsRefusedBy result (NegoCause (either N.REQUESTS N.meaning K.meaning) self.new.acts.status self.new) }
+        ensures cause { IsRefusedFor result (NegoCause (either N.REQUESTS N.meaning K.meaning) self.new.acts.status self.new) }
     {
         self.acts.negotiated = true;
         let Some(context) = &mut self.context else {
-            return Err(Error::new(ErrorKind::InternalError, Reason::NoVersion));
+            return Err(Refusal::new(ErrorKind::InternalError, Reason::NoVersion));
         };
-        let progress = context.resume(reply);
+        let progress = resume(context, reply);
         self.go_on(progress, request)
     }
 
@@ -139,30 +147,30 @@ impl<N: Mechanism, K: Mechanism> CredSspClient<N, K> {
     // waits again.
     fn go_on(
         &mut self,
-        progress: Result<Progressing, Error>,
+        progress: Result<Progressing, Refusal>,
         request: TsRequest,
-    ) -> Result<Progress, Error>
+    ) -> Result<Progress, Refusal>
         // What must hold before.
         requires done { HasDone (record no_acts { negotiated = true }) self.old }
-        requires plain { IfErr progress (λ error. error.nstatus ≡ None) }
         // The turn, and the step in it.
         ensures on { HasGoneOn (either N.REQUESTS N.meaning K.meaning) self.old self.new }
         ensures turn { let c = either N.REQUESTS N.meaning K.meaning in (start : ClientView (SspiContext N K)) (d : TsRequest) →
             request ≡ record d { version = self.old.settings.version } → IsReady c start d self.old →
             self.old.state ≡ CredSspState.NegoToken →
-            self.old.output ≡ [] → OnAsk (answer_of progress) (is_waiting_in c self.old.context ≡ true) →
-            ClientGoes c start d result self.new }
+            self.old.output ≡ [] → OnAsk (answer_of (answered progress)) (is_waiting_in c self.old.context ≡ true) →
+            ClientGoes c start d (answered result) self.new }
         ensures step { let c = either N.REQUESTS N.meaning K.meaning in
             (start : ClientView (SspiContext N K)) (d : TsRequest) (tries : ℕ) (log : List Asked) →
-            StepsTo c start d tries log (answer_of progress) self.old → HasStepped c start d tries log result self.new }
+            StepsTo c start d tries log (answer_of (answered progress)) self.old →
+            HasStepped c start d tries log (answered result) self.new }
         // What a step that did not end leaves.
         ensures still { OnErr result (self.new.acts.status ≡ None →
-            KeepsRequest (either N.REQUESTS N.meaning K.meaning) self.old progress request self.new) }
+            KeepsRequest (either N.REQUESTS N.meaning K.meaning) self.old (answered progress) request self.new) }
         ensures falls { let c = either N.REQUESTS N.meaning K.meaning in (n : ℕ) →
-            OnAsk (answer_of progress) (left_in c self.old.context < n) →
-            OnSuspended result (left_in c self.new.context < n) }
+            OnAsk (answer_of (answered progress)) (left_in c self.old.context < n) →
+            OnSuspended (answered result) (left_in c self.new.context < n) }
         // What a refusal says.
-        ensures cause { IsRefusedBy result (NegoCause (either N.REQUESTS N.meaning K.meaning) self.new.acts.status self.new) }
+        ensures cause { IsRefusedFor result (NegoCause (either N.REQUESTS N.meaning K.meaning) self.new.acts.status self.new) }
     {
         match progress {
             Ok(Progressing::Done(step)) => {
@@ -187,7 +195,7 @@ impl<N: Mechanism, K: Mechanism> CredSspClient<N, K> {
         status: SecurityStatus,
         output: Bytes,
         request: TsRequest,
-    ) -> Result<ClientState, Error>
+    ) -> Result<ClientState, Refusal>
         // What must hold before.
         requires acts { self.old.acts ≡ record no_acts { negotiated = true } }
         requires begun { IsSome self.old.context }
@@ -195,10 +203,10 @@ impl<N: Mechanism, K: Mechanism> CredSspClient<N, K> {
         ensures turn { let c = either N.REQUESTS N.meaning K.meaning in (start : ClientView (SspiContext N K)) (d : TsRequest) →
             request ≡ record d { version = self.old.settings.version } → IsReady c start d self.old →
             self.old.state ≡ CredSspState.NegoToken →
-            ClientAnswers c start d result self.new }
+            ClientAnswers c start d (answered result) self.new }
         ensures step { KeepsStep (either N.REQUESTS N.meaning K.meaning) self.old status output self.new }
         // What a refusal says.
-        ensures cause { IsRefusedBy result (NegoCause (either N.REQUESTS N.meaning K.meaning) self.new.acts.status self.new) }
+        ensures cause { IsRefusedFor result (NegoCause (either N.REQUESTS N.meaning K.meaning) self.new.acts.status self.new) }
     {
         self.acts.status = Some(status);
         self.output = output;
@@ -210,7 +218,7 @@ impl<N: Mechanism, K: Mechanism> CredSspClient<N, K> {
     }
 
     // The authentication has ended: the client's proof goes with the last token, if there is one.
-    fn prove(&mut self, request: TsRequest) -> Result<ClientState, Error>
+    fn prove(&mut self, request: TsRequest) -> Result<ClientState, Refusal>
         // What must hold before.
         requires acts { self.old.acts ≡ record no_acts { negotiated = true; status = Some SecurityStatus.Ok } }
         requires begun { IsSome self.old.context }
@@ -218,10 +226,10 @@ impl<N: Mechanism, K: Mechanism> CredSspClient<N, K> {
         ensures turn { let c = either N.REQUESTS N.meaning K.meaning in (start : ClientView (SspiContext N K)) (d : TsRequest) →
             request ≡ record d { version = self.old.settings.version } → IsReady c start d self.old →
             self.old.state ≡ CredSspState.NegoToken →
-            ClientAnswers c start d result self.new }
+            ClientAnswers c start d (answered result) self.new }
         ensures step { KeepsStep (either N.REQUESTS N.meaning K.meaning) self.old SecurityStatus.Ok self.old.output self.new }
         // What a refusal says.
-        ensures cause { IsRefusedBy result (ProveCause (either N.REQUESTS N.meaning K.meaning) self.new.noted self.new.context self.new) }
+        ensures cause { IsRefusedFor result (ProveCause (either N.REQUESTS N.meaning K.meaning) self.new.noted self.new.context self.new) }
     {
         let tokens = copy_token(self.alloc, &self.output)?;
         let proof = self.seal_proof()?;
@@ -229,24 +237,23 @@ impl<N: Mechanism, K: Mechanism> CredSspClient<N, K> {
         Ok(ClientState::ReplyNeeded(with_proof(request, tokens, self.client_nonce, proof)))
     }
 
-    fn seal_proof(&mut self) -> Result<Bytes, Error>
+    fn seal_proof(&mut self) -> Result<Bytes, Refusal>
         // What must hold before.
         requires proved { self.old.acts.proved ≡ false }
         requires begun { IsSome self.old.context }
         // What holds of every answer.
-        ensures proves { ClientProves (either N.REQUESTS N.meaning K.meaning) self.old result self.new }
+        ensures proves { ClientProves (either N.REQUESTS N.meaning K.meaning) self.old (answered result) self.new }
         ensures moved { SameBut (either N.REQUESTS N.meaning K.meaning) self.old.context self.new.context }
         // What a refusal says.
         ensures cause { IfErr result (λ error. error.error_type ≢ ErrorKind.InsufficientMemory →
             ProveCause (either N.REQUESTS N.meaning K.meaning) self.new.noted self.new.context self.new error.error_type) }
-        ensures plain { IfErr result (λ error. error.nstatus ≡ None) }
     {
         let Some(version) = self.peer_version else {
-            return Err(Error::new(ErrorKind::InternalError, Reason::NoVersion));
+            return Err(Refusal::new(ErrorKind::InternalError, Reason::NoVersion));
         };
         let proof = self.proof_of(EndpointType::Client, version)?;
         let Some(context) = &mut self.context else {
-            return Err(Error::new(ErrorKind::InternalError, Reason::NoVersion));
+            return Err(Refusal::new(ErrorKind::InternalError, Reason::NoVersion));
         };
         seal_proof(context, &mut self.acts, proof.as_slice())
     }

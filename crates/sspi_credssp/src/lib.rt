@@ -15,6 +15,7 @@
 #![tactic(auto)]
 
 pub mod acts;
+mod answered;
 mod both_ends;
 pub mod client;
 mod client_delegation;

@@ -2,13 +2,14 @@
 ghost use Rattle.std.specs.Prelude.{◌≡◌, None, Some, false, OnOk, OnErr, IfErr};
 ghost use Rattle.sspi_credssp.specs.Noted.{differs, is_old, noted_with, VersionStops};
 
-use sspi_types::{Error, ErrorKind, Reason};
+use sspi_mech::Refusal;
+use sspi_types::{ErrorKind, Reason};
 
 // The least version of a peer that is taken unless the end is told another.
 pub const DEFAULT_LEAST_VERSION: u32 = 5;
 
 // Notes the version of the peer's first request, and wants each later request to have it.
-pub fn note_version(peer_version: &mut Option<u32>, least: u32, version: u32) -> Result<(), Error>
+pub fn note_version(peer_version: &mut Option<u32>, least: u32, version: u32) -> Result<(), Refusal>
     // What is noted.
     ensures noted { peer_version.new ≡ noted_with least peer_version.old version }
     ensures ok { OnOk result (peer_version.new ≡ Some version) }
@@ -18,15 +19,14 @@ pub fn note_version(peer_version: &mut Option<u32>, least: u32, version: u32) ->
     ensures passed { OnOk result (differs peer_version.old version ≡ false) }
     // What a refusal says.
     ensures cause { IfErr result (λ error. VersionStops least peer_version.old version error.error_type ⊥) }
-    ensures plain { IfErr result (λ error. error.nstatus ≡ None) }
 {
     match *peer_version {
-        None if version < least => Err(Error::new(ErrorKind::DowngradeDetected, Reason::OldPeer)),
+        None if version < least => Err(Refusal::new(ErrorKind::DowngradeDetected, Reason::OldPeer)),
         None => {
             *peer_version = Some(version);
             Ok(())
         }
         Some(noted) if noted == version => Ok(()),
-        Some(_) => Err(Error::new(ErrorKind::MessageAltered, Reason::PeerVersion)),
+        Some(_) => Err(Refusal::new(ErrorKind::MessageAltered, Reason::PeerVersion)),
     }
 }

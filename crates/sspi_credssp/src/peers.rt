@@ -1,13 +1,14 @@
 // The identities that a negotiating server is made with.
-ghost use Rattle.std.specs.Prelude.{◌≡◌, ◌≢◌, ◌≤◌, None, IfOk, IfErr, OnOk};
+ghost use Rattle.std.specs.Prelude.{◌≡◌, ◌≢◌, ◌≤◌, IfOk, IfErr, OnOk};
 ghost use Rattle.sspi_credssp.specs.Peers.{IsListed, list_calls};
 ghost use Rattle.sspi_credssp.specs.Proxy.{IsTold, IsAsked, HasAsked, counted_on};
 ghost use Rattle.sspi_credssp.specs.ServerCause.{ListRefused};
 
 use crate::mode::ServerMode;
 use crate::proxy::{CredentialsProxy, ProxyError};
+use sspi_mech::Refusal;
 use sspi_names::AuthIdentity;
-use sspi_types::{Error, ErrorKind, Reason};
+use sspi_types::{ErrorKind, Reason};
 use std::alloc::Global;
 
 /// All identities of the proxy where a negotiation is made with them, and none elsewhere, where it is not asked.
@@ -15,13 +16,12 @@ pub(crate) fn list_peers<C: CredentialsProxy>(
     alloc: Global,
     mode: &ServerMode,
     proxy: &mut C,
-) -> Result<Vec<AuthIdentity>, Error>
+) -> Result<Vec<AuthIdentity>, Refusal>
     // What `Ok` holds, and what the proxy was asked.
     ensures listed { IfOk result (λ known. IsListed mode.now (C.meaning.told proxy.old).entries known.items) }
     ensures proxy { IsAsked C.meaning (list_calls mode.now) proxy.old proxy.new }
     ensures asked { OnOk result (HasAsked C.meaning (list_calls mode.now) proxy.old proxy.new) }
     // What a refusal says.
-    ensures plain { IfErr result (λ error. error.nstatus ≡ None) }
     ensures cause { IfErr result (λ error. error.error_type ≢ ErrorKind.InsufficientMemory →
         ListRefused mode.now (C.meaning.faults proxy.old) (C.meaning.faults proxy.new) error.error_type) }
 {
@@ -31,13 +31,12 @@ pub(crate) fn list_peers<C: CredentialsProxy>(
     }
 }
 
-fn list_all<C: CredentialsProxy>(proxy: &mut C) -> Result<Vec<AuthIdentity>, Error>
+fn list_all<C: CredentialsProxy>(proxy: &mut C) -> Result<Vec<AuthIdentity>, Refusal>
     // What `Ok` holds, and what the proxy was asked.
     ensures listed { IfOk result (λ known. IsTold (C.meaning.told proxy.old).entries known.items) }
     ensures proxy { IsAsked C.meaning 1 proxy.old proxy.new }
     ensures asked { OnOk result (HasAsked C.meaning 1 proxy.old proxy.new) }
     // What a refusal says.
-    ensures plain { IfErr result (λ error. error.nstatus ≡ None) }
     ensures risen { IfErr result (λ error. error.error_type ≢ ErrorKind.InsufficientMemory →
         counted_on (C.meaning.faults proxy.old) ≤ C.meaning.faults proxy.new) }
     ensures kind { IfErr result (λ error. error.error_type ≢ ErrorKind.InsufficientMemory → error.error_type ≡ ErrorKind.InternalError) }
@@ -45,10 +44,10 @@ fn list_all<C: CredentialsProxy>(proxy: &mut C) -> Result<Vec<AuthIdentity>, Err
     match proxy.auth_data() {
         Ok(known) => Ok(known),
         Err(ProxyError::InsufficientMemory) => {
-            Err(Error::new(ErrorKind::InsufficientMemory, Reason::Memory))
+            Err(Refusal::new(ErrorKind::InsufficientMemory, Reason::Memory))
         }
         Err(ProxyError::NotFound | ProxyError::Failed) => {
-            Err(Error::new(ErrorKind::InternalError, Reason::Proxy))
+            Err(Refusal::new(ErrorKind::InternalError, Reason::Proxy))
         }
     }
 }

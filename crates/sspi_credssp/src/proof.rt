@@ -7,40 +7,37 @@ ghost use Rattle.sspi_credssp.specs.Opened.{HasOpened};
 
 use crate::acts::Acts;
 use crate::context::SspiContext;
-use sspi_mech::Mechanism;
-use sspi_types::{Bytes, Error, ErrorKind, Reason};
+use sspi_mech::{Mechanism, Refusal};
+use sspi_types::{Bytes, ErrorKind, Reason};
 
 // The field that holds a blob, which must be there.
-pub fn present(field: &Option<Bytes>, absent: Reason) -> Result<&Bytes, Error>
+pub fn present(field: &Option<Bytes>, absent: Reason) -> Result<&Bytes, Refusal>
     ensures there { IfOk result (λ blob. field.now ≡ Some blob.now) }
     ensures absent { OnErr result (field.now ≡ None) }
     ensures kind { IfErr result (λ error. error.error_type ≡ ErrorKind.InvalidToken) }
-    ensures plain { IfErr result (λ error. error.nstatus ≡ None) }
 {
     match field {
         Some(blob) => Ok(blob),
-        None => Err(Error::new(ErrorKind::InvalidToken, absent)),
+        None => Err(Refusal::new(ErrorKind::InvalidToken, absent)),
     }
 }
 
 // Its bytes, which must be enough to hold a seal.
-pub fn long_enough(blob: &Bytes) -> Result<&[u8], Error>
+pub fn long_enough(blob: &Bytes) -> Result<&[u8], Refusal>
     ensures long { IfOk result (λ bytes. IsLongBlob blob.now bytes.now) }
     ensures short { OnErr result (nat_lt (length blob.now) 16 ≡ true) }
     ensures kind { IfErr result (λ error. error.error_type ≡ ErrorKind.InvalidToken) }
-    ensures plain { IfErr result (λ error. error.nstatus ≡ None) }
 {
     if blob.len() < 16 {
-        return Err(Error::new(ErrorKind::InvalidToken, Reason::ShortBlob));
+        return Err(Refusal::new(ErrorKind::InvalidToken, Reason::ShortBlob));
     }
     Ok(blob.as_slice())
 }
 
 // The blob to be opened.
-pub fn sealed_blob(field: &Option<Bytes>, absent: Reason) -> Result<&[u8], Error>
+pub fn sealed_blob(field: &Option<Bytes>, absent: Reason) -> Result<&[u8], Refusal>
     ensures blob { IfOk result (λ blob. IsSealedBlob field.now blob.now) }
     ensures cause { IfErr result (λ error. BlobStops field.now error.error_type (λ _. ⊥)) }
-    ensures plain { IfErr result (λ error. error.nstatus ≡ None) }
 {
     long_enough(present(field, absent)?)
 }
@@ -51,14 +48,13 @@ pub fn opens_to<N: Mechanism, K: Mechanism>(
     acts: &mut Acts,
     blob: &[u8],
     proof: &[u8],
-) -> Result<bool, Error>
+) -> Result<bool, Refusal>
     // What `Ok` holds.
     ensures opened { IfOk result (HasOpened (either N.REQUESTS N.meaning K.meaning)
         context.old context.new acts.old acts.new blob.now proof.now) }
     // What a refusal says, and what it leaves.
     ensures err { OnErr result (context.new ≡ context.old) }
     ensures err_acts { OnErr result (acts.new ≡ acts.old) }
-    ensures plain { IfErr result (λ error. error.nstatus ≡ None) }
     ensures cause { IfErr result (λ error. error.error_type ≢ ErrorKind.InsufficientMemory →
         (either N.REQUESTS N.meaning K.meaning).refuses context.new (ToUnseal blob.now) error.error_type) }
 {
@@ -72,7 +68,7 @@ pub fn seal_proof<N: Mechanism, K: Mechanism>(
     context: &mut SspiContext<N, K>,
     acts: &mut Acts,
     proof: &[u8],
-) -> Result<Bytes, Error>
+) -> Result<Bytes, Refusal>
     // What `Ok` holds.
     ensures blob { let c = either N.REQUESTS N.meaning K.meaning in IfOk result (λ blob.
         c.seals context.new ((c.counts context.new).sealed - 1) proof.now blob) }
@@ -84,7 +80,6 @@ pub fn seal_proof<N: Mechanism, K: Mechanism>(
     // What a refusal says, and what it leaves.
     ensures err { OnErr result (context.new ≡ context.old) }
     ensures err_acts { OnErr result (acts.new ≡ acts.old) }
-    ensures plain { IfErr result (λ error. error.nstatus ≡ None) }
     ensures cause { IfErr result (λ error. error.error_type ≢ ErrorKind.InsufficientMemory →
         (either N.REQUESTS N.meaning K.meaning).refuses context.new (ToSeal proof.now) error.error_type) }
 {
@@ -100,13 +95,12 @@ fn same_bytes(a: &[u8], b: &[u8]) -> bool
     a == b
 }
 
-pub fn altered(version: u32) -> Error
+pub fn altered(version: u32) -> Refusal
     ensures kind { result.error_type ≡ ErrorKind.MessageAltered }
-    ensures plain { result.nstatus ≡ None }
 {
     if version < 5 {
-        Error::new(ErrorKind::MessageAltered, Reason::EchoDiffers)
+        Refusal::new(ErrorKind::MessageAltered, Reason::EchoDiffers)
     } else {
-        Error::new(ErrorKind::MessageAltered, Reason::HashDiffers)
+        Refusal::new(ErrorKind::MessageAltered, Reason::HashDiffers)
     }
 }

@@ -7,7 +7,8 @@ ghost use Rattle.sspi_credssp.specs.Context.{either};
 ghost use Rattle.sspi_credssp.specs.Counts.{IsUnusedIn};
 ghost use Rattle.sspi_credssp.specs.Noted.{differs, is_old, VersionStops};
 ghost use Rattle.sspi_credssp.specs.Peers.{list_calls, lists_in};
-ghost use Rattle.sspi_credssp.specs.Refusal.{IsRefusedBy};
+ghost use Rattle.sspi_credssp.specs.Refusal.{IsRefusedFor};
+ghost use Rattle.sspi_mech.specs.Refusals.{answered};
 
 use crate::acts::Acts;
 use crate::both_ends::{adopt, forget};
@@ -20,7 +21,7 @@ use crate::request::at_version;
 use crate::server_refusal::refusal;
 use crate::server_state::{ServerError, ServerState};
 use crate::state::CredSspState;
-use sspi_mech::Mechanism;
+use sspi_mech::{Mechanism, Refusal};
 use sspi_names::CredentialsBuffers;
 use sspi_tsreq::TsRequest;
 use sspi_types::{Bytes, CredentialUse, Error, ErrorKind, Reason};
@@ -185,7 +186,7 @@ impl<N: Mechanism, K: Mechanism, C: CredentialsProxy> CredSspServer<N, K, C> {
         forget(self.alloc, &mut self.acts, &mut self.output);
     }
 
-    fn begin(&mut self, version: u32) -> Result<(), Error>
+    fn begin(&mut self, version: u32) -> Result<(), Refusal>
         // What `Ok` holds, and what alone may change.
         ensures frame { self.new ≡ record self.old {
           proxy = self.new.proxy;
@@ -202,8 +203,8 @@ impl<N: Mechanism, K: Mechanism, C: CredentialsProxy> CredSspServer<N, K, C> {
         // What a refusal says, and what it leaves.
         ensures refused { OnErr result (BeginRefused (either N.REQUESTS N.meaning K.meaning) self.old version self.new
             × (self.new ≡ record self.old { proxy = self.new.proxy; context = self.new.context; handle = self.new.handle })) }
-        ensures looked { LooksAt version self.old result self.new }
-        ensures cause { let c = either N.REQUESTS N.meaning K.meaning in IsRefusedBy result (λ kind.
+        ensures looked { LooksAt version self.old (answered result) self.new }
+        ensures cause { let c = either N.REQUESTS N.meaning K.meaning in IsRefusedFor result (λ kind.
             MadeOr self.old.context self.new.context (MakeCause c C.meaning self.old.settings.mode self.old.proxy self.new.proxy kind)
             (VersionStops self.old.settings.least self.old.noted version kind ⊥)) }
         // What the proxy was asked.
@@ -219,7 +220,7 @@ impl<N: Mechanism, K: Mechanism, C: CredentialsProxy> CredSspServer<N, K, C> {
     }
 
     // The context and the credentials that it acquires are kept only together. A negotiation is made with the proxy's list.
-    fn make_context(&mut self) -> Result<(), Error>
+    fn make_context(&mut self) -> Result<(), Refusal>
         // What must hold before.
         requires { self.old.context ≡ None }
         // What `Ok` holds, and what alone may change.
@@ -231,7 +232,7 @@ impl<N: Mechanism, K: Mechanism, C: CredentialsProxy> CredSspServer<N, K, C> {
         ensures err { OnErr result (self.new ≡ record self.old { proxy = self.new.proxy }) }
         ensures fresh { (self.old.noted ≡ None) × (self.old.state ≡ CredSspState.NegoToken) }
         ensures cause { let c = either N.REQUESTS N.meaning K.meaning in
-            IsRefusedBy result (MakeCause c C.meaning self.old.settings.mode self.old.proxy self.new.proxy) }
+            IsRefusedFor result (MakeCause c C.meaning self.old.settings.mode self.old.proxy self.new.proxy) }
         // What the proxy was asked.
         ensures proxy { Asks C.meaning (list_calls self.old.settings.mode) result self.old.proxy self.new.proxy }
     {
@@ -275,7 +276,7 @@ impl<N: Mechanism, K: Mechanism, C: CredentialsProxy> CredSspServer<N, K, C> {
             CredSspState::Final => Err(refusal(
                 self.state,
                 request,
-                Error::new(ErrorKind::UnsupportedFunction, Reason::Sequence),
+                Refusal::new(ErrorKind::UnsupportedFunction, Reason::Sequence),
             )),
         }
     }

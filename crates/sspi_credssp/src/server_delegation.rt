@@ -7,6 +7,7 @@ ghost use Rattle.sspi_credssp.specs.Exchange.{BlobStops, Exchanges, Opens, Opens
 ghost use Rattle.sspi_credssp.specs.Requests.{nonce_of};
 ghost use Rattle.sspi_credssp.specs.ServerCause.{OpenedCause, lacks_nonce};
 ghost use Rattle.sspi_credssp.specs.Shown.{HasNonce};
+ghost use Rattle.sspi_mech.specs.Refusals.{answered};
 
 use crate::acts::Acts;
 use crate::context::SspiContext;
@@ -19,14 +20,14 @@ use crate::server::CredSspServer;
 use crate::server_refusal::refusal;
 use crate::server_state::{ServerError, ServerState};
 use crate::state::CredSspState;
-use sspi_mech::Mechanism;
+use sspi_mech::{Mechanism, Refusal};
 use sspi_names::AuthIdentity;
 use sspi_tsreq::TsRequest;
-use sspi_types::{Bytes, Error, ErrorKind, Reason};
+use sspi_types::{Bytes, ErrorKind, Reason};
 use std::alloc::Global;
 
 // The nonce that the proofs are made with, which must be there from version 5 on.
-fn nonce_for(version: u32, nonce: &Option<[u8; 32]>) -> Result<&[u8], Error>
+fn nonce_for(version: u32, nonce: &Option<[u8; 32]>) -> Result<&[u8], Refusal>
     // What `Ok` holds.
     ensures ok { IfOk result (λ bytes. bytes.now ≡ nonce_of nonce.now) }
     ensures there { OnOk result (HasNonce (nat_lt version 5) nonce.now) }
@@ -34,12 +35,11 @@ fn nonce_for(version: u32, nonce: &Option<[u8; 32]>) -> Result<&[u8], Error>
     // What a refusal says.
     ensures lacking { OnErr result (lacks_nonce (nat_lt version 5) nonce.now ≡ true) }
     ensures kind { IfErr result (λ error. error.error_type ≡ ErrorKind.InvalidToken) }
-    ensures plain { IfErr result (λ error. error.nstatus ≡ None) }
 {
     match nonce {
         Some(nonce) => Ok(nonce),
         None if version < 5 => Ok(&[]),
-        None => Err(Error::new(ErrorKind::InvalidToken, Reason::NoNonce)),
+        None => Err(Refusal::new(ErrorKind::InvalidToken, Reason::NoNonce)),
     }
 }
 
@@ -51,7 +51,7 @@ fn answer_proof<N: Mechanism, K: Mechanism>(
     expected: &[u8],
     proof: &[u8],
     version: u32,
-) -> Result<Bytes, Error>
+) -> Result<Bytes, Refusal>
     // What must hold before.
     requires checked { acts.old.checked ≡ false }
     requires proved { acts.old.proved ≡ false }
@@ -64,7 +64,6 @@ fn answer_proof<N: Mechanism, K: Mechanism>(
     ensures blob { let c = either N.REQUESTS N.meaning K.meaning in IfOk result (λ answer.
         c.seals context.new ((c.counts context.new).sealed - 1) proof.now answer) }
     // What a refusal says.
-    ensures plain { IfErr result (λ error. error.nstatus ≡ None) }
     ensures cause { IfErr result (λ error. error.error_type ≢ ErrorKind.InsufficientMemory →
         ProofCause (either N.REQUESTS N.meaning K.meaning) acts.new.checked context.new blob.now expected.now
         ((either N.REQUESTS N.meaning K.meaning).refuses context.new (ToSeal proof.now) error.error_type) error.error_type) }
@@ -81,7 +80,7 @@ fn open_credentials<N: Mechanism, K: Mechanism>(
     context: &mut SspiContext<N, K>,
     acts: &mut Acts,
     blob: &[u8],
-) -> Result<AuthIdentity, Error>
+) -> Result<AuthIdentity, Refusal>
     // What must hold before.
     requires { acts.old.opened ≡ false }
     // What holds of every answer.
@@ -90,7 +89,6 @@ fn open_credentials<N: Mechanism, K: Mechanism>(
     ensures ok { OnOk result (acts.new.opened ≡ true) }
     ensures gives { IfOk result (λ identity. OpensIdentity (either N.REQUESTS N.meaning K.meaning) context.new blob.now identity) }
     // What a refusal says.
-    ensures plain { IfErr result (λ error. error.nstatus ≡ None) }
     ensures cause { IfErr result (λ error. error.error_type ≢ ErrorKind.InsufficientMemory →
         OpenedCause (either N.REQUESTS N.meaning K.meaning) acts.new.opened (Some context.new) blob.now error.error_type) }
 {
@@ -161,49 +159,47 @@ impl<N: Mechanism, K: Mechanism, C: CredentialsProxy> CredSspServer<N, K, C> {
         }
     }
 
-    fn open(&mut self, auth_info: &Option<Bytes>) -> Result<AuthIdentity, Error>
+    fn open(&mut self, auth_info: &Option<Bytes>) -> Result<AuthIdentity, Refusal>
         // What must hold before.
         requires acts { self.old.acts ≡ no_acts }
         requires begun { IsSome self.old.context }
         // What holds of every answer.
-        ensures opens { ServerOpens (either N.REQUESTS N.meaning K.meaning) self.old auth_info.now result self.new }
+        ensures opens { ServerOpens (either N.REQUESTS N.meaning K.meaning) self.old auth_info.now (answered result) self.new }
         // What a refusal says.
         ensures cause { let c = either N.REQUESTS N.meaning K.meaning in
             IfErr result (λ error. error.error_type ≢ ErrorKind.InsufficientMemory →
             BlobStops auth_info.now error.error_type (λ blob. OpenedCause c self.new.acts.opened self.new.context blob error.error_type)) }
-        ensures plain { IfErr result (λ error. error.nstatus ≡ None) }
         // What is so afterwards.
         ensures begun { IsSome self.new.context }
     {
         let blob = sealed_blob(auth_info, Reason::NoAuthInfo)?;
         let Some(context) = &mut self.context else {
-            return Err(Error::new(ErrorKind::InternalError, Reason::NoVersion));
+            return Err(Refusal::new(ErrorKind::InternalError, Reason::NoVersion));
         };
         open_credentials(self.alloc, context, &mut self.acts, blob)
     }
 
     // Checks the client's proof and seals the server's.
-    pub(crate) fn exchange(&mut self, request: &TsRequest) -> Result<Bytes, Error>
+    pub(crate) fn exchange(&mut self, request: &TsRequest) -> Result<Bytes, Refusal>
         // What must hold before.
         requires checked { self.old.acts.checked ≡ false }
         requires proved { self.old.acts.proved ≡ false }
         requires begun { IsSome self.old.context }
         requires noted { IsSome self.old.noted }
         // What holds of every answer.
-        ensures exchanges { ServerExchanges (either N.REQUESTS N.meaning K.meaning) self.old request.now result self.new }
+        ensures exchanges { ServerExchanges (either N.REQUESTS N.meaning K.meaning) self.old request.now (answered result) self.new }
         // What a refusal says.
         ensures cause { IfErr result (λ error. error.error_type ≢ ErrorKind.InsufficientMemory →
             ExchangeCause (either N.REQUESTS N.meaning K.meaning) request.now.pub_key_auth self.new.noted
             request.now.client_nonce self.new error.error_type) }
-        ensures plain { IfErr result (λ error. error.nstatus ≡ None) }
         // What is so afterwards.
         ensures begun { IsSome self.new.context }
     {
         let Some(version) = self.peer_version else {
-            return Err(Error::new(ErrorKind::InternalError, Reason::NoVersion));
+            return Err(Refusal::new(ErrorKind::InternalError, Reason::NoVersion));
         };
         let Some(context) = &mut self.context else {
-            return Err(Error::new(ErrorKind::InternalError, Reason::NoVersion));
+            return Err(Refusal::new(ErrorKind::InternalError, Reason::NoVersion));
         };
         let blob = present(&request.pub_key_auth, Reason::NoPubKey)?;
         let nonce = nonce_for(version, &request.client_nonce)?;

@@ -11,6 +11,7 @@ ghost use Rattle.sspi_credssp.specs.ServerCause.{IdentifyCause, LookUpRefused};
 ghost use Rattle.sspi_credssp.specs.ServerTurn.{answered_by};
 ghost use Rattle.sspi_credssp.specs.Shown.{IsOver};
 ghost use Rattle.sspi_credssp.specs.ServerStep.{IsIdentified, server_requirements, server_args};
+ghost use Rattle.sspi_mech.specs.Refusals.{answered};
 
 use crate::context::SspiContext;
 use crate::proxy::{CredentialsProxy, ProxyError};
@@ -21,7 +22,7 @@ use crate::server_state::{ServerError, ServerState};
 use crate::state::CredSspState;
 use crate::token::token_of;
 use bitflags::Flags;
-use sspi_mech::{AcceptSecurityContext, Mechanism, Step};
+use sspi_mech::{AcceptSecurityContext, Mechanism, Refusal, Step};
 use sspi_names::{AuthIdentity, Credentials, CredentialsBuffers, Username};
 use sspi_tsreq::TsRequest;
 use sspi_types::{
@@ -55,17 +56,16 @@ fn accept<N: Mechanism, K: Mechanism>(
     context: &mut SspiContext<N, K>,
     credentials_handle: &Option<CredentialsBuffers>,
     token: &Option<Bytes>,
-) -> Result<Step, Error>
+) -> Result<Step, Refusal>
     ensures step { (either N.REQUESTS N.meaning K.meaning).accepts context.old
-        (server_args credentials_handle.now token.now) result context.new }
-    ensures plain { IfErr result (λ error. error.nstatus ≡ None) }
+        (server_args credentials_handle.now token.now) (answered result) context.new }
 {
-    context.accept_security_context(&AcceptSecurityContext {
+    Ok(context.accept_security_context(&AcceptSecurityContext {
         credentials_handle: credentials_handle.as_ref(),
         context_requirements: server_requirements(),
         target_data_representation: DataRepresentation::Native,
         input: token_of(token),
-    })
+    })?)
 }
 
 fn has_ended(status: SecurityStatus) -> bool
@@ -81,46 +81,43 @@ fn has_ended(status: SecurityStatus) -> bool
 fn look_up<C: CredentialsProxy>(
     proxy: &mut C,
     username: &Username,
-) -> Result<Vec<AuthIdentity>, Error>
+) -> Result<Vec<AuthIdentity>, Refusal>
     // What `Ok` holds, and what the proxy was asked.
     ensures found { IfOk result (λ identities. AreFound (C.meaning.told proxy.old) username.now identities.items) }
     ensures some { IfOk result (λ identities. identities.items ≢ []) }
     ensures proxy { IsAsked C.meaning 1 proxy.old proxy.new }
     ensures asked { OnOk result (HasAsked C.meaning 1 proxy.old proxy.new) }
     // What a refusal says.
-    ensures plain { IfErr result (λ error. error.nstatus ≡ None) }
     ensures cause { IfErr result (λ error. error.error_type ≢ ErrorKind.InsufficientMemory →
         LookUpRefused (C.meaning.told proxy.old) username.now (C.meaning.faults proxy.old) (C.meaning.faults proxy.new) error.error_type) }
 {
     match proxy.auth_data_candidates_by_user(username) {
         Ok(candidates) => some_of(candidates),
         Err(ProxyError::InsufficientMemory) => {
-            Err(Error::new(ErrorKind::InsufficientMemory, Reason::Memory))
+            Err(Refusal::new(ErrorKind::InsufficientMemory, Reason::Memory))
         }
-        Err(ProxyError::NotFound) => Err(Error::new(ErrorKind::LogonDenied, Reason::Proxy)),
-        Err(ProxyError::Failed) => Err(Error::new(ErrorKind::LogonDenied, Reason::Proxy)),
+        Err(ProxyError::NotFound) => Err(Refusal::new(ErrorKind::LogonDenied, Reason::Proxy)),
+        Err(ProxyError::Failed) => Err(Refusal::new(ErrorKind::LogonDenied, Reason::Proxy)),
     }
 }
 
-fn some_of(candidates: Vec<AuthIdentity>) -> Result<Vec<AuthIdentity>, Error>
+fn some_of(candidates: Vec<AuthIdentity>) -> Result<Vec<AuthIdentity>, Refusal>
     // What `Ok` holds.
     ensures ok { IfOk result (λ identities. identities.items ≡ candidates.items) }
     ensures some { IfOk result (λ identities. identities.items ≢ []) }
     // What a refusal says.
     ensures err { OnErr result (candidates.items ≡ []) }
     ensures kind { IfErr result (λ error. error.error_type ≡ ErrorKind.NoCredentials) }
-    ensures plain { IfErr result (λ error. error.nstatus ≡ None) }
 {
     if candidates.is_empty() {
-        return Err(Error::new(ErrorKind::NoCredentials, Reason::NoIdentity));
+        return Err(Refusal::new(ErrorKind::NoCredentials, Reason::NoIdentity));
     }
     Ok(candidates)
 }
 
-fn credentials_of(alloc: Global, identities: Vec<AuthIdentity>) -> Result<Vec<Credentials>, Error>
+fn credentials_of(alloc: Global, identities: Vec<AuthIdentity>) -> Result<Vec<Credentials>, Refusal>
     ensures ok { IfOk result (λ all. all.items ≡ map credentials.AuthIdentity identities.items) }
     ensures err { IfErr result (λ error. error.error_type ≡ ErrorKind.InsufficientMemory) }
-    ensures plain { IfErr result (λ error. error.nstatus ≡ None) }
 {
     let all = identities
         .into_iter()
@@ -134,7 +131,7 @@ fn identify<N: Mechanism, K: Mechanism, C: CredentialsProxy>(
     alloc: Global,
     context: &mut SspiContext<N, K>,
     proxy: &mut C,
-) -> Result<(), Error>
+) -> Result<(), Refusal>
     // What was identified, and what a refusal leaves.
     ensures identified { OnOk result (IsIdentified (either N.REQUESTS N.meaning K.meaning)
         (C.meaning.told proxy.old) context.old context.new) }
@@ -144,7 +141,6 @@ fn identify<N: Mechanism, K: Mechanism, C: CredentialsProxy>(
     ensures proxy { IsAsked C.meaning 1 proxy.old proxy.new }
     ensures asked { OnOk result (HasAsked C.meaning 1 proxy.old proxy.new) }
     // What a refusal says.
-    ensures plain { IfErr result (λ error. error.nstatus ≡ None) }
     ensures cause { IfErr result (λ error. error.error_type ≢ ErrorKind.InsufficientMemory →
         IdentifyCause (either N.REQUESTS N.meaning K.meaning)
         context.old (C.meaning.told proxy.old) (C.meaning.faults proxy.old) (C.meaning.faults proxy.new) error.error_type) }
@@ -152,7 +148,7 @@ fn identify<N: Mechanism, K: Mechanism, C: CredentialsProxy>(
     let names = context.query_context_names()?;
     let candidates = look_up(proxy, &names.username)?;
     let identities = credentials_of(alloc, candidates)?;
-    context.custom_set_auth_identities(identities)
+    Ok(context.custom_set_auth_identities(identities)?)
 }
 
 impl<N: Mechanism, K: Mechanism, C: CredentialsProxy> CredSspServer<N, K, C> {
@@ -191,31 +187,30 @@ impl<N: Mechanism, K: Mechanism, C: CredentialsProxy> CredSspServer<N, K, C> {
         }
     }
 
-    fn answer(&mut self, request: &TsRequest) -> Result<Answer, Error>
+    fn answer(&mut self, request: &TsRequest) -> Result<Answer, Refusal>
         // What must hold before.
         requires { HasDone no_acts self.old }
         // The turn, and the step in it.
         ensures turn { let c = either N.REQUESTS N.meaning K.meaning in (start : ServerView (SspiContext N K) C) (d : TsRequest) →
             request.now ≡ record d { version = self.old.settings.version } → IsReady c start d self.old →
             self.old.state ≡ CredSspState.NegoToken →
-            self.old.output ≡ [] → Answered c start d result self.new }
+            self.old.output ≡ [] → Answered c start d (answered result) self.new }
         ensures step { let c = either N.REQUESTS N.meaning K.meaning in (start : ServerView (SspiContext N K) C) (d : TsRequest) →
             d.nego_tokens ≡ request.now.nego_tokens → IsAtStep c C.meaning start self.old →
-            HasAccepted c C.meaning start d result self.new }
+            HasAccepted c C.meaning start d (answered result) self.new }
         ensures kept { (self.new.settings.version ≡ self.old.settings.version) × OnErr result (self.new.state ≡ self.old.state) }
         // What a refusal says.
         ensures cause { let c = either N.REQUESTS N.meaning K.meaning in (start : ServerView (SspiContext N K) C) (d : TsRequest) →
             request.now ≡ record d { version = self.old.settings.version } → IsAtStep c C.meaning start self.old →
             IfErr result (λ error. error.error_type ≢ ErrorKind.InsufficientMemory →
             NegoCause c C.meaning self.new.acts.status start d self.new error.error_type) }
-        ensures plain { IfErr result (λ error. error.nstatus ≡ None) }
         // What is so afterwards, and what the proxy was asked.
         ensures reached { HasReached self.new.acts.status self.new }
         ensures proxy { Asks C.meaning (look_ups_at self.new.acts.status) result self.old.proxy self.new.proxy }
     {
         self.acts.negotiated = true;
         let Some(context) = &mut self.context else {
-            return Err(Error::new(ErrorKind::InternalError, Reason::Status));
+            return Err(Refusal::new(ErrorKind::InternalError, Reason::Status));
         };
         let step = accept(context, &self.credentials_handle, &request.nego_tokens)?;
         self.acts.status = Some(step.status);
@@ -223,19 +218,23 @@ impl<N: Mechanism, K: Mechanism, C: CredentialsProxy> CredSspServer<N, K, C> {
         self.answer_step(step.status, request)
     }
 
-    fn answer_step(&mut self, status: SecurityStatus, request: &TsRequest) -> Result<Answer, Error>
+    fn answer_step(
+        &mut self,
+        status: SecurityStatus,
+        request: &TsRequest,
+    ) -> Result<Answer, Refusal>
         // What must hold before.
         requires { HasDone (record no_acts { negotiated = true; status = Some status }) self.old }
         // The turn, and the step in it.
         ensures turn { let c = either N.REQUESTS N.meaning K.meaning in (start : ServerView (SspiContext N K) C) (d : TsRequest) →
             request.now ≡ record d { version = self.old.settings.version } → IsReady c start d self.old →
             self.old.state ≡ CredSspState.NegoToken →
-            Answered c start d result self.new }
+            Answered c start d (answered result) self.new }
         ensures step { let c = either N.REQUESTS N.meaning K.meaning in (start : ServerView (SspiContext N K) C) (d : TsRequest) →
             IsLater C.meaning start.proxy self.old.proxy →
             IfContext self.old.context (Accepted c C.meaning start self.old.handle d.nego_tokens Unknown
             (Ok (record { status = status; output = self.old.output }))) →
-            HasAccepted c C.meaning start d result self.new }
+            HasAccepted c C.meaning start d (answered result) self.new }
         ensures kept { KeepsStep self.old result self.new }
         // What a refusal says.
         ensures cause { let c = either N.REQUESTS N.meaning K.meaning in (start : ServerView (SspiContext N K) C) (d : TsRequest) →
@@ -243,7 +242,6 @@ impl<N: Mechanism, K: Mechanism, C: CredentialsProxy> CredSspServer<N, K, C> {
             HasCome c C.meaning Unknown status start d self.old →
             IfErr result (λ error. error.error_type ≢ ErrorKind.InsufficientMemory →
             NegoCause c C.meaning (Some status) start d self.new error.error_type) }
-        ensures plain { IfErr result (λ error. error.nstatus ≡ None) }
         // What is so afterwards, and what the proxy was asked.
         ensures reached { HasReached (Some status) self.new }
         ensures proxy { Asks C.meaning (look_ups_at self.new.acts.status) result self.old.proxy self.new.proxy }
@@ -254,31 +252,30 @@ impl<N: Mechanism, K: Mechanism, C: CredentialsProxy> CredSspServer<N, K, C> {
         if has_ended(status) {
             return self.complete(request);
         }
-        Err(Error::new(ErrorKind::InternalError, Reason::Status))
+        Err(Refusal::new(ErrorKind::InternalError, Reason::Status))
     }
 
-    fn copy_output(&self) -> Result<Bytes, Error>
+    fn copy_output(&self) -> Result<Bytes, Refusal>
         ensures ok { IfOk result (λ token. token ≡ self.now.output) }
         ensures err { IfErr result (λ error. error.error_type ≡ ErrorKind.InsufficientMemory) }
-        ensures plain { IfErr result (λ error. error.nstatus ≡ None) }
     {
         Ok(self.output.clone(self.alloc)?)
     }
 
     // The authentication has ended: the peer is looked up and the context completed, and then the client is answered.
-    fn complete(&mut self, request: &TsRequest) -> Result<Answer, Error>
+    fn complete(&mut self, request: &TsRequest) -> Result<Answer, Refusal>
         // What must hold before.
         requires { HasDone (record no_acts { negotiated = true; status = self.old.acts.status }) self.old }
         // The turn, and the step in it.
         ensures turn { let c = either N.REQUESTS N.meaning K.meaning in (start : ServerView (SspiContext N K) C) (d : TsRequest) →
             request.now ≡ record d { version = self.old.settings.version } → IsReady c start d self.old →
             self.old.state ≡ CredSspState.NegoToken →
-            IsOver self.old.acts.status → Answered c start d result self.new }
+            IsOver self.old.acts.status → Answered c start d (answered result) self.new }
         ensures step { let c = either N.REQUESTS N.meaning K.meaning in
             (start : ServerView (SspiContext N K) C) (token : Option (List ℕ)) (answer : Result Step Error) →
             IsLater C.meaning start.proxy self.old.proxy →
             IfContext self.old.context (Accepted c C.meaning start self.old.handle token Unknown answer) →
-            CompletedStep c C.meaning start self.old.handle token answer result self.new.context }
+            CompletedStep c C.meaning start self.old.handle token answer (answered result) self.new.context }
         // What is so afterwards.
         ensures kept { KeepsStep self.old result self.new }
         ensures reached { HasReached self.old.acts.status self.new }
@@ -289,12 +286,11 @@ impl<N: Mechanism, K: Mechanism, C: CredentialsProxy> CredSspServer<N, K, C> {
             HasCome c C.meaning Unknown status start d self.old →
             IfErr result (λ error. error.error_type ≢ ErrorKind.InsufficientMemory →
             OverCause c C.meaning status start d self.new error.error_type) }
-        ensures plain { IfErr result (λ error. error.nstatus ≡ None) }
         // What the proxy was asked.
         ensures proxy { Asks C.meaning 1 result self.old.proxy self.new.proxy }
     {
         let Some(context) = &mut self.context else {
-            return Err(Error::new(ErrorKind::InternalError, Reason::Status));
+            return Err(Refusal::new(ErrorKind::InternalError, Reason::Status));
         };
         identify(self.alloc, context, &mut self.credentials)?;
         context.complete_auth_token()?;
@@ -302,14 +298,14 @@ impl<N: Mechanism, K: Mechanism, C: CredentialsProxy> CredSspServer<N, K, C> {
     }
 
     // Answers the proof that came already, or asks for it by the last token.
-    fn answer_peer(&mut self, request: &TsRequest) -> Result<Answer, Error>
+    fn answer_peer(&mut self, request: &TsRequest) -> Result<Answer, Refusal>
         // What must hold before.
         requires { HasDone (record no_acts { negotiated = true; status = self.old.acts.status }) self.old }
         // The turn.
         ensures turn { let c = either N.REQUESTS N.meaning K.meaning in (start : ServerView (SspiContext N K) C) (d : TsRequest) →
             request.now ≡ record d { version = self.old.settings.version } → IsReady c start d self.old →
             self.old.state ≡ CredSspState.NegoToken →
-            IsOver self.old.acts.status → Answered c start d result self.new }
+            IsOver self.old.acts.status → Answered c start d (answered result) self.new }
         // What alone may change, and where the end then stands.
         ensures frame { self.new ≡ record self.old { state = self.new.state; context = self.new.context; acts = self.new.acts } }
         ensures moved { SameBut (either N.REQUESTS N.meaning K.meaning) self.old.context self.new.context }
@@ -319,7 +315,6 @@ impl<N: Mechanism, K: Mechanism, C: CredentialsProxy> CredSspServer<N, K, C> {
         ensures cause { IfErr result (λ error. error.error_type ≢ ErrorKind.InsufficientMemory →
             AfterCause (either N.REQUESTS N.meaning K.meaning) request.now.pub_key_auth request.now.client_nonce self.new
             error.error_type) }
-        ensures plain { IfErr result (λ error. error.nstatus ≡ None) }
     {
         match &request.pub_key_auth {
             Some(_) => {
@@ -329,7 +324,7 @@ impl<N: Mechanism, K: Mechanism, C: CredentialsProxy> CredSspServer<N, K, C> {
             }
             None => {
                 if self.output.is_empty() {
-                    return Err(Error::new(ErrorKind::InvalidToken, Reason::EmptyToken));
+                    return Err(Refusal::new(ErrorKind::InvalidToken, Reason::EmptyToken));
                 }
                 let token = self.copy_output()?;
                 self.state = CredSspState::PubKeyInfo;

@@ -1,16 +1,21 @@
 // What a server's refusal hands back.
 ghost use Rattle.std.specs.Prelude.{◌≡◌, Some};
+ghost use Rattle.sspi_mech.specs.Refusals.{error_of};
 ghost use Rattle.sspi_credssp.specs.ErrorRequest.{error_request};
 
 use crate::error_code::construct_error;
 use crate::server_state::ServerError;
 use crate::state::CredSspState;
+use sspi_mech::Refusal;
 use sspi_tsreq::TsRequest;
 use sspi_types::Error;
 
 // The request with the error code, without the fields that the state consumes.
-pub fn refusal(state: CredSspState, request: TsRequest, error: Error) -> ServerError
-    ensures { result ≡ record { ts_request = Some (error_request state request.version error.error_type request); error = error } }
+pub fn refusal(state: CredSspState, request: TsRequest, refusal: Refusal) -> ServerError
+    ensures { result ≡ record {
+      ts_request = Some (error_request state request.version refusal.error_type request);
+      error = error_of refusal;
+    } }
 {
     let mut request = request;
     match state {
@@ -22,6 +27,7 @@ pub fn refusal(state: CredSspState, request: TsRequest, error: Error) -> ServerE
         CredSspState::AuthInfo => request.auth_info = None,
         CredSspState::Final => {}
     }
+    let error = Error::from(refusal);
     request.error_code = Some(construct_error(&error));
     ServerError {
         ts_request: Some(request),

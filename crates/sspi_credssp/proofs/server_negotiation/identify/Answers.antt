@@ -1,5 +1,5 @@
 use Rattle.std.proofs.Common.{rules, subst}
-use Rattle.std.proofs.lemmas.Result.{err_from_is_err_and, IfOk-weaker, IfErr-weaker}
+use Rattle.std.proofs.lemmas.Result.{err_from_is_err_and}
 use Rattle.sspi_mech.specs.Calls.{ToIdentify}
 use Rattle.sspi_credssp.specs.Context.{either}
 use Rattle.sspi_credssp.specs.ServerCause.{looked, unset}
@@ -14,17 +14,18 @@ returns-in_err-candidates-clause-cause g c =
 pub returns-clause-identified : goal.returns-clause-identified
 returns-clause-identified g c =
     let it = either g.N.Mechanism.REQUESTS g.N.Mechanism.meaning g.K.Mechanism.meaning in
-    IfOk-weaker c.custom_set_auth_identities.result _ _
-    (λ _ identifies. is_identified c.in_ok-names.names.username c.in_ok-candidates.candidates.items (search rules) (search rules)
+    is_identified c.in_ok-names.names.username c.in_ok-candidates.candidates.items (search rules) (search rules)
     c.in_ok-candidates.ensures.some
-    (subst (λ all. it.identifies c.args.context.now all c.custom_set_auth_identities.new.self) c.in_ok-identities.ensures.ok identifies))
-    c.custom_set_auth_identities.ensures.identified
+    (subst (λ all. it.identifies c.args.context.now all c.custom_set_auth_identities.new.self) c.in_ok-identities.ensures.ok
+    c.in_ok-custom_set_auth_identities.ensures.identified)
 
-pub returns-clause-cause : goal.returns-clause-cause
-returns-clause-cause g c =
+pub returns-in_err-custom_set_auth_identities-clause-cause : goal.returns-in_err-custom_set_auth_identities-clause-cause
+returns-in_err-custom_set_auth_identities-clause-cause g c =
     let it = either g.N.Mechanism.REQUESTS g.N.Mechanism.meaning g.K.Mechanism.meaning in
-    IfErr-weaker c.custom_set_auth_identities.result _ _
-    (λ error cause memory. unset c.in_ok-names.names.username c.in_ok-candidates.candidates.items (search rules) (search rules)
+    let kind = c.in_err-custom_set_auth_identities.field-0.0.error_type in
+    let p = err_from_is_err_and c.from_residual-in_err-custom_set_auth_identities.result
+    c.from_residual-in_err-custom_set_auth_identities.ensures.1 in
+    rw (p.1, p.2) (λ memory. unset c.in_ok-names.names.username c.in_ok-candidates.candidates.items (search rules) (search rules)
     c.in_ok-candidates.ensures.some
-    (subst (λ all. it.refuses c.args.context.now (ToIdentify all) error.error_type) c.in_ok-identities.ensures.ok (cause memory)))
-    c.custom_set_auth_identities.ensures.cause.kind
+    (subst (λ all. it.refuses c.args.context.now (ToIdentify all) kind) c.in_ok-identities.ensures.ok
+    (c.in_err-custom_set_auth_identities.ensures.cause.kind memory)))

@@ -23,7 +23,7 @@ returns-clause-cause g c =
     let it = either g.N.Mechanism.REQUESTS g.N.Mechanism.meaning g.K.Mechanism.meaning in
     unadopted it _ _ _ c.in_ok-context.context (subst (λ v. it.made (ForClient v.settings.mode) c.in_ok-context.context)
     c.self.view_is c.in_ok-context.ensures.made)
-    _ c.adopt.result (λ kind cause. cause) c.adopt.ensures.plain
+    _ c.adopt.result (λ kind cause. cause)
     (subst (λ v. IfErr c.adopt.result (λ error. error.error_type ≢ InsufficientMemory →
     it.refuses c.in_ok-context.context (ToAcquire Outbound (Some v.settings.credentials))
     error.error_type)) c.self.view_is c.adopt.ensures.cause)

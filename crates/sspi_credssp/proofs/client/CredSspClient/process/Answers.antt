@@ -3,12 +3,15 @@ use Rattle.std.proofs.lemmas.Result.{err_from_is_err_and}
 use Rattle.sspi_types.specs.declared.credential_use.CredentialUse.TheVariants.{Outbound}
 use Rattle.sspi_types.specs.declared.error_kind.ErrorKind.TheVariants.{DowngradeDetected, MessageAltered, InsufficientMemory}
 use Rattle.sspi_credssp.specs.Begun.{Begun, BeginCause, IfContext, MadeOr}
-use Rattle.sspi_credssp.specs.ClientCause.{ClientCause}
+use Rattle.sspi_mech.specs.Refusals.{answered, error_of}
+use Rattle.sspi_credssp.specs.ClientCause.{ClientCause, StateCause}
 use Rattle.sspi_credssp.specs.ClientStep.{HasStepped}
 use Rattle.sspi_credssp.specs.Context.{either, ForClient}
 use Rattle.sspi_credssp.specs.Counts.{is_waiting_in}
 use Rattle.sspi_credssp.specs.Noted.{is_altered_in, is_old_in}
+use Rattle.sspi_credssp.specs.Refusal.{IsRefusedBy}
 use Rattle.sspi_credssp.specs.Stops.{StopsIf}
+use Rattle.sspi_credssp.proofs.PlainErrors.{caused}
 use Rattle.sspi_credssp.proofs.ClientHeeding.{client_only, no_step}
 use Rattle.sspi_credssp.proofs.Causes.{client_cause_past, client_cause_begun}
 use Rattle.sspi_credssp.proofs.client.CredSspClient.process.Goals as goal
@@ -27,13 +30,16 @@ returns g c =
     (Begun it v.context v.handle (ForClient v.settings.mode) Outbound (Some v.settings.credentials) c.begin.new.self.handle))
     c.forget_last_call.ensures
     c.in_ok-begin.ensures.begun in
-    let step : HasStepped it now d 0 [] c.take-2.result new =
+    let step : HasStepped it now d 0 [] (answered c.take-2.result) new =
     c.take-2.ensures.step now d (search rules) (search rules) begun in
-    let cause : IfErr c.take-2.result (λ error. error.error_type ≢ InsufficientMemory →
+    let caused : IsRefusedBy (answered c.take-2.result) (λ kind. StateCause it c.begin.new.self.state c.at_version.result new kind) =
+    caused _ c.take-2.result c.take-2.ensures.cause in
+    let cause : IfErr (answered c.take-2.result) (λ error. error.error_type ≢ InsufficientMemory →
     ClientCause it now d new error.error_type) =
     client_cause_past it now _ d _ _ _ _ idle c.in_ok-check_code.ensures.passed young same c.take-2.ensures.begun
-    (search rules) c.at_version.ensures c.take-2.ensures.cause in
-    record {
+    (search rules) c.at_version.ensures caused.kind in
+    rw c.answered.ensures
+    (record {
       turn = c.take-2.ensures.turn now d (search rules) ready (search rules);
       steps = record {
         step = step;
@@ -50,7 +56,7 @@ returns g c =
         altered = search rules;
         unmade = search rules;
       };
-    }
+    })
 
 pub returns-in_err-begin : goal.returns-in_err-begin
 returns-in_err-begin g c =
@@ -61,13 +67,13 @@ returns-in_err-begin g c =
     let idle : is_waiting_in it now.context ≡ false = search rules in
     let kind = c.in_err-begin.field-0.0.error_type in
     let unstepped : new.acts.negotiated ≡ false = search rules in
-    let step : HasStepped it now d 0 [] (Err c.in_err-begin.field-0.0) new = no_step it _ _ unstepped in
+    let step : HasStepped it now d 0 [] (Err (error_of c.in_err-begin.field-0.0)) new = no_step it _ _ unstepped in
     let cause : kind ≢ InsufficientMemory → ClientCause it now d new kind = λ memory.
     client_cause_begun it now _ d kind idle c.in_ok-check_code.ensures.passed
     (subst (λ v. StopsIf (is_old_in v.context v.settings.least v.noted d.version) DowngradeDetected kind
     (StopsIf (is_altered_in v.context v.noted d.version) MessageAltered kind
     (MadeOr v.context new.context (BeginCause it (ForClient v.settings.mode) Outbound (Some v.settings.credentials) kind) ⊥)))
-    c.forget_last_call.ensures (c.in_err-begin.ensures.cause.kind memory)) in
+    c.forget_last_call.ensures (c.in_err-begin.ensures.cause memory)) in
     let p = err_from_is_err_and c.from_residual-in_err-begin.result c.from_residual-in_err-begin.ensures.1 in
     rw (p.1, p.2)
     (record {
@@ -80,7 +86,7 @@ returns-in_err-begin g c =
               c.forget_last_call.new.self.noted d.version ≡ true =
               rw c.forget_last_call.ensures met.old in
               (c.in_err-begin.ensures.exact old, search rules);
-          only = λ never. client_only it never now d 0 [] (Err c.in_err-begin.field-0.0) new cause step;
+          only = λ never. client_only it never now d 0 [] (Err (error_of c.in_err-begin.field-0.0)) new cause step;
         };
       };
       cause = record { kind = cause; status = search rules };

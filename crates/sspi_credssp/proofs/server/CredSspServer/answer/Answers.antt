@@ -4,6 +4,7 @@ use Rattle.sspi_types.specs.declared.credential_use.CredentialUse.TheVariants.{I
 use Rattle.sspi_types.specs.declared.error_kind.ErrorKind.TheVariants.{InsufficientMemory}
 use Rattle.sspi_credssp.specs.declared.state.CredSspState.TheVariants.{NegoToken}
 use Rattle.sspi_tsreq.specs.declared.request.TsRequest.{TsRequest}
+use Rattle.sspi_mech.specs.Refusals.{error_of}
 use Rattle.sspi_credssp.specs.Begun.{Begun, IfContext}
 use Rattle.sspi_credssp.specs.Context.{either}
 use Rattle.sspi_credssp.specs.ServerCause.{NegoCause}
@@ -50,10 +51,10 @@ returns-in_err-step-clause-step g c = λ start d token at.
     let p = err_from_is_err_and c.from_residual.result c.from_residual.ensures.1 in
     rw (p.1, p.2)
     (subst (λ s. RefusedAt it tells s start c.self.inside.credentials_handle d.nego_tokens
-    (refused_step s c.self.inside.output c.in_err-step.field-0.0) c.accept.new.context)
+    (refused_step s c.self.inside.output (error_of c.in_err-step.field-0.0)) c.accept.new.context)
     (sym none)
     (accepted c.in-Some.context _ _ (context_here _ _ _ here begun_inside)
-    (subst (λ t. it.accepts c.in-Some.context (server_args c.self.inside.credentials_handle t) (Err c.in_err-step.field-0.0)
+    (subst (λ t. it.accepts c.in-Some.context (server_args c.self.inside.credentials_handle t) (Err (error_of c.in_err-step.field-0.0))
     c.accept.new.context)
     (sym token) c.in_err-step.ensures.step)))
 

@@ -13,10 +13,7 @@ returns-in_err-make_context-in-None-clause-cause g c =
     let gone : c.make_context.new.self.context ≡ None = search rules in
     let p = err_from_is_err_and c.from_residual.result c.from_residual.ensures.1 in
     rw (p.1, p.2)
-    (record {
-      kind = λ memory. rw (none, gone) (c.in_err-make_context-in-None.ensures.cause.kind memory);
-      plain = c.in_err-make_context-in-None.ensures.cause.plain;
-    })
+    (λ memory. rw (none, gone) (c.in_err-make_context-in-None.ensures.cause memory))
 
 pub returns-in_ok-make_context-in-None-clause-made : goal.returns-in_ok-make_context-in-None-clause-made
 returns-in_ok-make_context-in-None-clause-made g c =

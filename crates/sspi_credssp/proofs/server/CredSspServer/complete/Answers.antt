@@ -3,6 +3,7 @@ use Rattle.std.proofs.lemmas.Result.{err_from_is_err_and}
 use Rattle.sspi_types.specs.declared.error.Error.{Error}
 use Rattle.sspi_mech.specs.declared.step.Step.{Step}
 use Rattle.sspi_mech.specs.Calls.{ToComplete}
+use Rattle.sspi_mech.specs.Refusals.{answered}
 use Rattle.sspi_credssp.specs.declared.server_negotiation.Answer.{Answer}
 use Rattle.sspi_credssp.specs.Context.{either}
 use Rattle.sspi_credssp.specs.Proxy.{IsLater}
@@ -24,7 +25,7 @@ returns-in_err-identify-clause-step g c = λ start token answer later accepted.
     so_far Unknown (subst (λ m. Accepted it g.C.CredentialsProxy.meaning start c.args.self.now.handle token Unknown answer m)
     (sym c.in_err-identify.ensures.err)
     (context_here _ _ _ here accepted)) in
-    subst (λ r. CompletedStep it g.C.CredentialsProxy.meaning {T = Answer} start c.args.self.now.handle token answer r
+    subst (λ r. CompletedStep it g.C.CredentialsProxy.meaning {T = Answer} start c.args.self.now.handle token answer (answered r)
     (Some c.identify.new.context)) (sym p.1) done
 
 pub returns-in_err-identify-clause-cause : goal.returns-in_err-identify-clause-cause
@@ -58,7 +59,8 @@ returns-clause-step g c = λ start token answer later accepted.
     let known = subst (λ t. IsIdentified it t c.in-Some.context c.identify.new.context) same c.in_ok-identify.ensures.identified in
     let named = identified c.in-Some.context c.identify.new.context answer (context_here _ _ _ here accepted) known in
     let done = completed c.identify.new.context answer named c.in_ok-complete_auth_token.ensures.permitted in
-    completed_on it laws tells start c.args.self.now.handle token answer c.answer_peer.result (Some c.complete_auth_token.new.self) _
+    completed_on it laws tells start c.args.self.now.handle token answer (answered c.answer_peer.result)
+    (Some c.complete_auth_token.new.self) _
     c.answer_peer.ensures.moved
     (subst (λ m. Accepted it tells start c.args.self.now.handle token Completed answer m) (sym c.complete_auth_token.ensures.same) done)
 
@@ -75,7 +77,7 @@ returns-in_err-complete_auth_token-clause-step g c = λ start token answer later
     let done : AcceptedSoFar it tells start c.args.self.now.handle token answer c.complete_auth_token.new.self =
     so_far Identified (subst (λ m. Accepted it tells start c.args.self.now.handle token Identified answer m)
     (sym c.complete_auth_token.ensures.same) named) in
-    subst (λ r. CompletedStep it tells {T = Answer} start c.args.self.now.handle token answer r
+    subst (λ r. CompletedStep it tells {T = Answer} start c.args.self.now.handle token answer (answered r)
     (Some c.complete_auth_token.new.self)) (sym p.1) done
 
 pub returns-clause-cause : goal.returns-clause-cause

@@ -21,4 +21,4 @@ returns-clause-cause g c =
     unadopted it _ _ _ c.in_ok-context.context
     (subst (λ v. it.made (server_setting p v) c.in_ok-context.context) c.self.view_is
     (c.in_ok-context.ensures.made _ c.in_ok-known.ensures.listed))
-    _ c.adopt.result (λ kind cause. unbegun cause) c.adopt.ensures.plain c.adopt.ensures.cause
+    _ c.adopt.result (λ kind cause. unbegun cause) c.adopt.ensures.cause

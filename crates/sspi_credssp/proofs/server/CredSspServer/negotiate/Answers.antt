@@ -1,6 +1,7 @@
 use Rattle.std.proofs.Common.{◌≡◌, ◌≢◌, IfErr, OnOk, sym, ◌∙◌, ap, subst, rules}
 use Rattle.sspi_types.specs.declared.error.Error.{Error}
 use Rattle.sspi_types.specs.declared.error_kind.ErrorKind.TheVariants.{InsufficientMemory}
+use Rattle.sspi_mech.specs.Refusals.{error_of}
 use Rattle.sspi_credssp.specs.Context.{either}
 use Rattle.sspi_credssp.specs.Proxy.{HasAsked}
 use Rattle.sspi_credssp.specs.ServerAsks.{look_ups_at}
@@ -22,7 +23,7 @@ returns-clause-turn g c = λ start d same ready nego output.
           w.with_answer.ensures (w.in-Ok.ensures.turn start d same ready nego output)
       | in-Err w ↦
           let kept = w.in-Err.ensures.kept.1 in
-          halted_as it start c.answer.new.self d c.args.request c.self.inside.state _ w.in-Err.error w.refusal.result
+          halted_as it start c.answer.new.self d c.args.request c.self.inside.state _ (error_of w.in-Err.error) w.refusal.result
           c.match-answer.result w.result-is
           same own (search rules) w.refusal.ensures (w.in-Err.ensures.turn start d same ready nego output)
     ]
@@ -36,7 +37,7 @@ returns-clause-step g c = λ start d token at.
       | in-Ok w ↦ subst (λ r. HasAcceptedTurn it tells start d r c.answer.new.self) (sym w.result-is)
           (w.in-Ok.ensures.step start d token at)
       | in-Err w ↦ subst (λ r. HasAcceptedTurn it tells start d r c.answer.new.self) (sym w.result-is)
-          (refused_as it laws tells start c.answer.new.self d w.in-Err.error w.refusal.result.error (search rules)
+          (refused_as it laws tells start c.answer.new.self d (error_of w.in-Err.error) w.refusal.result.error (search rules)
           (w.in-Err.ensures.step start d token at))
     ]
 
@@ -50,7 +51,7 @@ returns-clause-cause g c = λ start d same at.
           NegoCause it tells new.acts.status start d new refusal.error.error_type)) (sym w.result-is) tt
       | in-Err w ↦ subst (λ r. IfErr r (λ refusal. refusal.error.error_type ≢ InsufficientMemory →
           NegoCause it tells new.acts.status start d new refusal.error.error_type)) (sym w.result-is)
-          (λ memory. let e : w.refusal.result.error ≡ w.in-Err.error = search rules in
+          (λ memory. let e : w.refusal.result.error ≡ error_of w.in-Err.error = search rules in
           subst (λ (x : Error). NegoCause it tells new.acts.status start d new x.error_type) (sym e)
           (w.in-Err.ensures.cause start d same at (λ lacking. memory (ap (λ (x : Error). x.error_type) e ∙ lacking))))
     ]

@@ -1,8 +1,10 @@
 use Rattle.std.proofs.Common.{◌≡◌, ◌≢◌, None, Err, IfErr, true, false, refl, sym, ap, ◌∙◌, subst, rules}
 use Rattle.std.proofs.lemmas.Bool.{true≢false}
 use Rattle.sspi_types.specs.declared.credential_use.CredentialUse.TheVariants.{Inbound}
+use Rattle.sspi_types.specs.declared.error.Error.{Error}
 use Rattle.sspi_types.specs.declared.error_kind.ErrorKind.TheVariants.{InsufficientMemory}
 use Rattle.sspi_credssp.specs.declared.state.CredSspState.TheVariants.{NegoToken}
+use Rattle.sspi_mech.specs.Refusals.{error_of}
 use Rattle.sspi_credssp.specs.Begun.{Begun, OnContext, MadeOr}
 use Rattle.sspi_credssp.specs.Context.{either}
 use Rattle.sspi_credssp.specs.Noted.{VersionStops, is_old}
@@ -73,7 +75,7 @@ returns-in-Err g c =
     let d = c.args.ts_request in
     let new = c.begin.new.self in
     let kind = c.in-Err.error.error_type in
-    let same : c.refusal.result.error ≡ c.in-Err.error = search rules in
+    let same : c.refusal.result.error ≡ error_of c.in-Err.error = search rules in
     let idle : new.acts.negotiated ≡ false = search rules in
     let step : HasAcceptedTurn it p now d (Err c.refusal.result) new = no_step it p _ _ idle in
     let cause : c.refusal.result.error.error_type ≢ InsufficientMemory → ServerCause it p now d new c.refusal.result.error.error_type =
@@ -81,9 +83,9 @@ returns-in-Err g c =
     (server_cause_begun it p now new d kind
     (subst (λ v. MadeOr v.context new.context (MakeCause it p v.settings.mode v.proxy new.proxy kind)
     (VersionStops v.settings.least v.noted d.version kind ⊥))
-    c.forget_last_call.ensures (c.in-Err.ensures.cause.kind (rw (sym same) memory)))) in
+    c.forget_last_call.ensures (c.in-Err.ensures.cause (subst (λ (e : Error). e.error_type ≢ InsufficientMemory) same memory)))) in
     record {
-      turn = begin_halted it now new d c.in-Err.error c.refusal.result _
+      turn = begin_halted it now new d (error_of c.in-Err.error) c.refusal.result _
           (subst (λ v. BeginRefused it v d.version new) c.forget_last_call.ensures c.in-Err.ensures.refused.0)
           (search rules) (search rules) c.refusal.ensures;
       step = step;

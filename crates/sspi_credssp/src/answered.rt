@@ -1,0 +1,12 @@
+// A refusal becomes an error where a caller is answered, and nowhere else.
+ghost use Rattle.std.specs.Prelude.{◌≡◌};
+ghost use Rattle.sspi_mech.specs.Refusals.{answered};
+
+use sspi_mech::Refusal;
+use sspi_types::Error;
+
+pub fn answered<T: Drop>(answer: Result<T, Refusal>) -> Result<T, Error>
+    ensures { result ≡ answered answer }
+{
+    Ok(answer?)
+}
