@@ -62,7 +62,7 @@ comes_to_ok messages limit identity (Err errors.TurnsSpent) enough settled = ome
 comes_to_ok messages limit identity (Err errors.InsufficientMemory) enough settled = tt
 
 pub cut_short : (messages limit : ℕ) (identity : AuthIdentity) (result : Result Delegation DelegateError) → limit < messages →
-    IfOk result (λ delegation. delegation.turns ≤ limit) → Settled messages limit identity result → IsCutShort result
+    IfOk result (λ delegation. delegation.rounds ≤ limit) → Settled messages limit identity result → IsCutShort result
 cut_short messages limit identity (Ok delegation) few within settled = omega (arith, few, within, settled.0)
 cut_short messages limit identity (Err (errors.Client error)) few within settled = settled
 cut_short messages limit identity (Err (errors.Server error)) few within settled = settled

@@ -46,7 +46,7 @@ use Rattle.sspi_credssp.specs.Turn.{message_of}
 -- what an undisturbed exchange is settled by: Ok after this many messages of the client, or it may not make as many, or
 -- there was no memory
 abbrev pub Settled : ℕ → ℕ → AuthIdentity → Result Delegation DelegateError → Type 0
-Settled count limit identity (Ok delegation) = (delegation.turns ≡ count) × (delegation.credentials ≡ identity)
+Settled count limit identity (Ok delegation) = (delegation.rounds ≡ count) × (delegation.credentials ≡ identity)
 Settled count limit identity (Err errors.TurnsSpent) = limit < count
 Settled count limit identity (Err errors.InsufficientMemory) = Unit {0}
 Settled count limit identity (Err error) = ⊥
@@ -180,8 +180,8 @@ module _ {C D P : Type 0} (c : Meaning ContextSetting C) (k : KdcCalls D) (p : P
     held_by Server t past identity2 is gives = gives
 
     ok_by : (t : Turn) (past : List Turn) (delegation : Delegation) → TurnSo t past → t.end ≡ Server → IsFinished t.outcome →
-        HoldsIdentity c y.context t.delivered.auth_info delegation.credentials → delegation.turns ≡ turns_of Client (t ∷ past) →
-        (delegation.turns ≡ suc last) × (delegation.credentials ≡ identity)
+        HoldsIdentity c y.context t.delivered.auth_info delegation.credentials → delegation.rounds ≡ turns_of Client (t ∷ past) →
+        (delegation.rounds ≡ suc last) × (delegation.credentials ≡ identity)
     ok_by t past delegation (client_turn i e count server comes) here finished holds turns =
         absurd (finished_never t.outcome _ finished comes)
     ok_by t past delegation (server_turn i is e count client comes) here finished holds turns =
@@ -195,7 +195,7 @@ module _ {C D P : Type 0} (c : Meaning ContextSetting C) (k : KdcCalls D) (p : P
     settle_ok : (delegation : Delegation) (turns : List Turn) (log : List Carried) →
         RunEnds base start limit (Ok delegation) turns log now → FollowsEdits [] log →
         ClientHistory c k a kdc_first (client_turns turns) x kdc → ServerHistory c p b (server_turns turns) y →
-        GivesNewest c (server_end y) (server_turns turns) delegation.credentials → (delegation.turns ≡ suc last) ×
+        GivesNewest c (server_end y) (server_turns turns) delegation.credentials → (delegation.rounds ≡ suc last) ×
         (delegation.credentials ≡ identity)
     settle_ok delegation [] log ends follows clients servers gives = absurd ends.0.newest
     settle_ok delegation (t ∷ past) log ends follows clients servers gives =

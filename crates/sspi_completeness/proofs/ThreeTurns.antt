@@ -186,15 +186,15 @@ module _ {K P : Type 0} (k : Meaning Setting K) (p : ProxyMeaning P) where
       IsPlainServer first.settings.mode →
       IsFreshServer first →
       OthersGoOn (server_turns turns) → OnOk result (HasExchanged (server_turns turns)) →
-      ServerHistory (either 0 ntlm_meaning k) p first (server_turns turns) server → IfOk result (λ delegation. 3 ≤ delegation.turns)
+      ServerHistory (either 0 ntlm_meaning k) p first (server_turns turns) server → IfOk result (λ delegation. 3 ≤ delegation.rounds)
   ok_three base log start now limit (Ok delegation) turns first server ends plain fresh others has history =
       let three = three_turns turns ends.0.order ends.0.newest
       (three_of_server k p first server (server_turns turns) plain fresh others has history) in
       omega (arith, ends.1, three)
   ok_three base log start now limit (Err error) turns first server ends plain fresh others has history = tt
 
-pub too_few : (result : Result Delegation DelegateError) (limit : ℕ) → IfOk result (λ delegation. 3 ≤ delegation.turns) →
-    IfOk result (λ delegation. delegation.turns ≤ limit) →
+pub too_few : (result : Result Delegation DelegateError) (limit : ℕ) → IfOk result (λ delegation. 3 ≤ delegation.rounds) →
+    IfOk result (λ delegation. delegation.rounds ≤ limit) →
     limit < 3 → IsErr result
 too_few (Ok delegation) limit three within few = absurd (omega (arith, three, within, few))
 too_few (Err error) limit three within few = refl

@@ -126,7 +126,7 @@ delegated_as CredentialLess identity = record { username = down_level [] []; pas
 
 -- so many messages of the client, and this identity; or there was no memory
 abbrev pub ComesToOkIn : ℕ → AuthIdentity → Result Delegation DelegateError → Type 0
-ComesToOkIn messages identity (Ok delegation) = (delegation.turns ≡ messages) × (delegation.credentials ≡ identity)
+ComesToOkIn messages identity (Ok delegation) = (delegation.rounds ≡ messages) × (delegation.credentials ≡ identity)
 ComesToOkIn messages identity (Err errors.InsufficientMemory) = Unit {0}
 ComesToOkIn messages identity (Err error) = ⊥
 

@@ -26,37 +26,37 @@ pub fn delegate_plainly<C: CredentialsProxy, L: Link, D: Kdc>(
     server: &mut CredSspServer<Ntlm, Kerberos, C>,
     link: &mut L,
     kdc: &mut D,
-    turns: u32,
+    limit: u32,
     transcript: &mut Transcript,
 ) -> Result<Delegation, DelegateError>
     // What `delegate` promises.
     ensures delegates { IsFresh client.old server.old transcript.old.turns → Delegates (either 0 ntlm_meaning kerberos_meaning)
         (around_by C.meaning L.log L.edits L.faults D.told D.asked D.faults)
-        (parties client.old server.old link.old kdc.old transcript.old.turns) turns result
+        (parties client.old server.old link.old kdc.old transcript.old.turns) limit result
         (parties client.new server.new link.new kdc.new transcript.new.turns) }
     ensures accounts { transcript.old.turns ≡ [] → Accounts (either 0 ntlm_meaning kerberos_meaning)
         (around_by C.meaning L.log L.edits L.faults D.told D.asked D.faults)
-        (parties client.old server.old link.old kdc.old transcript.old.turns) turns result
+        (parties client.old server.old link.old kdc.old transcript.old.turns) limit result
         (parties client.new server.new link.new kdc.new transcript.new.turns) }
     ensures stays { Stays (around_by C.meaning L.log L.edits L.faults D.told D.asked D.faults)
-        (parties client.old server.old link.old kdc.old transcript.old.turns) turns result
+        (parties client.old server.old link.old kdc.old transcript.old.turns) limit result
         (parties client.new server.new link.new kdc.new transcript.new.turns) }
     // How many messages are too few.
     ensures three { IsPlainServer server.old.settings.mode → IsFresh client.old server.old transcript.old.turns →
-        IfOk result (λ delegation. 3 ≤ delegation.turns) }
-    ensures few { IsPlainServer server.old.settings.mode → IsFresh client.old server.old transcript.old.turns → turns < 3 → IsErr result }
+        IfOk result (λ delegation. 3 ≤ delegation.rounds) }
+    ensures few { IsPlainServer server.old.settings.mode → IsFresh client.old server.old transcript.old.turns → limit < 3 → IsErr result }
     // To what ends that match come.
     ensures comes { (matching : AreMatching C.meaning (D.told kdc.old) (D.asked kdc.old) client.old server.old) →
         IsFresh client.old server.old transcript.old.turns →
         IsUndisturbed (L.edits link.old) (L.log link.old) (L.log link.new) (L.faults link.old) (L.faults link.new) →
         NoneFailed (C.meaning.told server.old.proxy).failing (C.meaning.faults server.old.proxy) (C.meaning.faults server.new.proxy) →
-        messages_in matching ≤ turns →
+        messages_in matching ≤ limit →
         ComesToOkIn (messages_in matching) (delegated_as client.old.settings.delegation matching.identity) result }
     ensures short { (matching : AreMatching C.meaning (D.told kdc.old) (D.asked kdc.old) client.old server.old) →
         IsFresh client.old server.old transcript.old.turns →
         IsUndisturbed (L.edits link.old) (L.log link.old) (L.log link.new) (L.faults link.old) (L.faults link.new) →
         NoneFailed (C.meaning.told server.old.proxy).failing (C.meaning.faults server.old.proxy) (C.meaning.faults server.new.proxy) →
-        turns < messages_in matching → IsCutShort result }
+        limit < messages_in matching → IsCutShort result }
 {
-    delegate(alloc, client, server, link, kdc, turns, transcript)
+    delegate(alloc, client, server, link, kdc, limit, transcript)
 }

@@ -1,5 +1,5 @@
 //! Exchanges worked by hand, one for each way to `Ok`. Each makes its two ends and the KDC that the client may ask, and carries
-//! their messages in memory, of which the client may make `turns`. It is `Ok` after so many as its contract says, with the identity
+//! their messages in memory, of which the client may make `limit`. It is `Ok` after so many as its contract says, with the identity
 //! that is delegated, or the turns are spent where they are fewer; or there was no memory.
 
 ghost use Rattle.std.specs.Prelude.{◌≡◌, ◌≤◌, ℕ, Some, IfOk, IsSome, codes, nat_lt};
@@ -62,7 +62,7 @@ fn exchange<D: Kdc + Drop>(
     client: Result<ClientMode, AllocError>,
     server: Result<ServerMode, AllocError>,
     kdc: Result<D, AllocError>,
-    turns: u32,
+    limit: u32,
 ) -> Result<Delegation, DelegateError>
     requires { IsSome (parse_name given.now.name.now) }
     ensures { (x : Example) → (messages : ℕ) → given.now.key.now ≡ x.key → parse_name given.now.name.now ≡ Some x.identity.username →
@@ -70,7 +70,7 @@ fn exchange<D: Kdc + Drop>(
         given.now.client_version ≡ x.client_version →
         given.now.server_version ≡ x.server_version → given.now.least ≡ x.least → IfOk client (λ mode. mode ≡ x.client) →
         IfOk server (λ mode. mode ≡ x.server) → IfOk kdc (λ kdc. Matches (D.told kdc) (D.asked kdc) messages x) →
-        AnswersIn messages turns (delegated_as x.delegation x.identity) result }
+        AnswersIn messages limit (delegated_as x.delegation x.identity) result }
 {
     let client = client_of(
         alloc,
@@ -89,28 +89,28 @@ fn exchange<D: Kdc + Drop>(
         given.least,
         server,
     );
-    run(alloc, client, server, kdc, turns)
+    run(alloc, client, server, kdc, limit)
 }
 
 /// Three messages: NTLM without a negotiation, for `DOM\ann` with the password `pw`, at version 6.
-pub fn by_ntlm(alloc: Global, turns: u32) -> Result<Delegation, DelegateError>
-    ensures { AnswersIn 3 turns ann result }
+pub fn by_ntlm(alloc: Global, limit: u32) -> Result<Delegation, DelegateError>
+    ensures { AnswersIn 3 limit ann result }
 {
-    by_ntlm_at(alloc, CredSspMode::WithCredentials, 6, 6, 5, turns)
+    by_ntlm_at(alloc, CredSspMode::WithCredentials, 6, 6, 5, limit)
 }
 
 /// Three messages: the same at versions 2 and 4, whose proofs are the key and one more than it.
-pub fn by_ntlm_of_old(alloc: Global, turns: u32) -> Result<Delegation, DelegateError>
-    ensures { AnswersIn 3 turns ann result }
+pub fn by_ntlm_of_old(alloc: Global, limit: u32) -> Result<Delegation, DelegateError>
+    ensures { AnswersIn 3 limit ann result }
 {
-    by_ntlm_at(alloc, CredSspMode::WithCredentials, 2, 4, 0, turns)
+    by_ntlm_at(alloc, CredSspMode::WithCredentials, 2, 4, 0, limit)
 }
 
 /// Three messages: the same at versions 5 and 6 of a client that keeps its credentials.
-pub fn without_credentials(alloc: Global, turns: u32) -> Result<Delegation, DelegateError>
-    ensures { AnswersIn 3 turns nobody result }
+pub fn without_credentials(alloc: Global, limit: u32) -> Result<Delegation, DelegateError>
+    ensures { AnswersIn 3 limit nobody result }
 {
-    by_ntlm_at(alloc, CredSspMode::CredentialLess, 5, 6, 5, turns)
+    by_ntlm_at(alloc, CredSspMode::CredentialLess, 5, 6, 5, limit)
 }
 
 fn by_ntlm_at(
@@ -119,10 +119,10 @@ fn by_ntlm_at(
     client_version: u32,
     server_version: u32,
     least: u32,
-    turns: u32,
+    limit: u32,
 ) -> Result<Delegation, DelegateError>
     ensures { nat_lt client_version 5 ≡ nat_lt server_version 5 → least ≤ client_version → least ≤ server_version →
-        AnswersIn 3 turns (delegated_as delegation ann) result }
+        AnswersIn 3 limit (delegated_as delegation ann) result }
 {
     let given = Given {
         name: "DOM\\ann",
@@ -134,12 +134,12 @@ fn by_ntlm_at(
     };
     let client = plain_client(alloc);
     let server = plain_server();
-    exchange(alloc, &given, client, server, Ok(FailingKdc::new()), turns)
+    exchange(alloc, &given, client, server, Ok(FailingKdc::new()), limit)
 }
 
 /// Four messages: a negotiation of NTLM at version 4, where the server's proof is one more than the key.
-pub fn negotiated_at_version_4(alloc: Global, turns: u32) -> Result<Delegation, DelegateError>
-    ensures { AnswersIn 4 turns ann result }
+pub fn negotiated_at_version_4(alloc: Global, limit: u32) -> Result<Delegation, DelegateError>
+    ensures { AnswersIn 4 limit ann result }
 {
     let given = Given {
         name: "DOM\\ann",
@@ -150,12 +150,12 @@ pub fn negotiated_at_version_4(alloc: Global, turns: u32) -> Result<Delegation, 
     };
     let client = client_with_ntlm(alloc);
     let server = server_with_ntlm(alloc);
-    exchange(alloc, &given, client, server, Ok(FailingKdc::new()), turns)
+    exchange(alloc, &given, client, server, Ok(FailingKdc::new()), limit)
 }
 
 /// Four messages: a negotiation of NTLM for `ann@example.com`, with a key and a password of usual lengths.
-pub fn negotiated_with_a_long_key(alloc: Global, turns: u32) -> Result<Delegation, DelegateError>
-    ensures { AnswersIn 4 turns (ann_of_realm (codes "fourteenletter")) result }
+pub fn negotiated_with_a_long_key(alloc: Global, limit: u32) -> Result<Delegation, DelegateError>
+    ensures { AnswersIn 4 limit (ann_of_realm (codes "fourteenletter")) result }
 {
     let given = Given {
         key: &[0x3b; 270],
@@ -164,23 +164,23 @@ pub fn negotiated_with_a_long_key(alloc: Global, turns: u32) -> Result<Delegatio
     };
     let client = client_with_ntlm(alloc);
     let server = server_with_ntlm(alloc);
-    exchange(alloc, &given, client, server, Ok(FailingKdc::new()), turns)
+    exchange(alloc, &given, client, server, Ok(FailingKdc::new()), limit)
 }
 
 /// Four messages: a negotiation of Kerberos, user to user, whose KDC the client finds by its realm.
-pub fn user_to_user(alloc: Global, turns: u32) -> Result<Delegation, DelegateError>
-    ensures { AnswersIn 4 turns (ann_of_realm (codes "pw")) result }
+pub fn user_to_user(alloc: Global, limit: u32) -> Result<Delegation, DelegateError>
+    ensures { AnswersIn 4 limit (ann_of_realm (codes "pw")) result }
 {
     let client = client_with_kerberos(alloc);
     let server = server_with_ticket(alloc);
-    exchange(alloc, &USUAL, client, server, realm_kdc(alloc), turns)
+    exchange(alloc, &USUAL, client, server, realm_kdc(alloc), limit)
 }
 
 /// Five messages: a negotiation that the client begins with Kerberos, to a server that may use NTLM alone.
-pub fn given_up_for_ntlm(alloc: Global, turns: u32) -> Result<Delegation, DelegateError>
-    ensures { AnswersIn 5 turns (ann_of_realm (codes "pw")) result }
+pub fn given_up_for_ntlm(alloc: Global, limit: u32) -> Result<Delegation, DelegateError>
+    ensures { AnswersIn 5 limit (ann_of_realm (codes "pw")) result }
 {
     let client = client_with_kerberos(alloc);
     let server = server_with_ntlm_alone(alloc);
-    exchange(alloc, &USUAL, client, server, realm_kdc(alloc), turns)
+    exchange(alloc, &USUAL, client, server, realm_kdc(alloc), limit)
 }

@@ -15,7 +15,7 @@ fn comes_to(
 ) {
     match answer {
         Ok(delegation) => {
-            assert_eq!(rt; delegation.turns, messages);
+            assert_eq!(rt; delegation.rounds, messages);
             assert!(rt; delegation.credentials.username.inner() == name);
             assert!(rt; delegation.credentials.password.value.as_str() == password);
         }

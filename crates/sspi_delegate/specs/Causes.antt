@@ -166,7 +166,7 @@ module _ (base : List Carried) (start : ℕ) where
 
   -- what the exchange comes to
   abbrev pub RunEnds : ℕ → Result Delegation DelegateError → List Turn → List Carried → ℕ → Type 0
-  RunEnds limit (Ok delegation) turns log now = Finishes turns log now × (delegation.turns ≡ turns_of Client turns)
+  RunEnds limit (Ok delegation) turns log now = Finishes turns log now × (delegation.rounds ≡ turns_of Client turns)
   RunEnds limit (Err error) turns log now = Stopped limit error turns log now
 
 -- an end's refusal as an answer: want of memory is no refusal

@@ -77,7 +77,7 @@ module _ {P L D : Type 0} (around : Around P L D) where
         (around.link_faults new.link)
         result (around.log new.link) (newest_message new.turns)
     pub no_turns_are_spent_at_once : limit ≡ 0 → result ≡ Err TurnsSpent
-    pub ok_comes_within_the_limit : IfOk result (λ delegation. delegation.turns ≤ limit)
+    pub ok_comes_within_the_limit : IfOk result (λ delegation. delegation.rounds ≤ limit)
 
 -- c: what the context of either end means
 module _ {C P L D : Type 0} (c : Meaning ContextSetting C) (around : Around P L D) where

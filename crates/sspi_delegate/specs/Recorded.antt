@@ -1,12 +1,11 @@
 -- The turn that a round adds to the transcript.
-use Rattle.std.specs.Prelude.{◌≡◌, List, [], ◌∷◌}
+use Rattle.std.specs.Prelude.{◌≡◌, List, [], ◌∷◌, Option, None, Some}
+use Rattle.sspi_names.specs.declared.identity.AuthIdentity.{AuthIdentity}
 use Rattle.sspi_tsreq.specs.declared.request.TsRequest.{TsRequest}
 use Rattle.sspi_credssp.specs.declared.turn.End.{End}
 use Rattle.sspi_credssp.specs.declared.turn.End.TheVariants.{Client, Server}
-use Rattle.sspi_delegate.specs.declared.ends.ClientRound.{ClientRound}
-use Rattle.sspi_delegate.specs.declared.ends.ClientRound.TheVariants as client
-use Rattle.sspi_delegate.specs.declared.ends.ServerRound.{ServerRound}
-use Rattle.sspi_delegate.specs.declared.ends.ServerRound.TheVariants as server
+use Rattle.sspi_delegate.specs.declared.ends.Round.{Round}
+use Rattle.sspi_delegate.specs.declared.ends.Round.TheVariants as round
 use Rattle.sspi_credssp.specs.declared.turn.Outcome.{Outcome}
 use Rattle.sspi_credssp.specs.declared.turn.Turn.{Turn}
 use Rattle.sspi_delegate.specs.Causes.{IsClientRefusal, IsServerRefusal, IsFinished}
@@ -18,13 +17,13 @@ PushedSuch end request P old [] = ⊥
 PushedSuch end request P old (t ∷ past) =
     (past ≡ old) × (t.end ≡ end) × (t.delivered ≡ request) × P t.outcome
 
-abbrev pub ClientPushed : TsRequest → ClientRound → List Turn → List Turn → Type 0
-ClientPushed request client.Replied old new = PushedSuch Client request GoesOn old new
-ClientPushed request (client.Refused error) old new = PushedSuch Client request (IsClientRefusal error.error_type) old new
-ClientPushed request client.Lost old new = new ≡ old
+abbrev pub ClientPushed : TsRequest → Round (Unit {0}) → List Turn → List Turn → Type 0
+ClientPushed request (round.Answered done) old new = PushedSuch Client request GoesOn old new
+ClientPushed request (round.Refused error) old new = PushedSuch Client request (IsClientRefusal error.error_type) old new
+ClientPushed request round.Lost old new = new ≡ old
 
-abbrev pub ServerPushed : TsRequest → ServerRound → List Turn → List Turn → Type 0
-ServerPushed request server.Replied old new = PushedSuch Server request GoesOn old new
-ServerPushed request (server.Finished identity) old new = PushedSuch Server request IsFinished old new
-ServerPushed request (server.Refused error) old new = PushedSuch Server request (IsServerRefusal error.error_type) old new
-ServerPushed request server.Lost old new = new ≡ old
+abbrev pub ServerPushed : TsRequest → Round (Option AuthIdentity) → List Turn → List Turn → Type 0
+ServerPushed request (round.Answered None) old new = PushedSuch Server request GoesOn old new
+ServerPushed request (round.Answered (Some identity)) old new = PushedSuch Server request IsFinished old new
+ServerPushed request (round.Refused error) old new = PushedSuch Server request (IsServerRefusal error.error_type) old new
+ServerPushed request round.Lost old new = new ≡ old

@@ -9,7 +9,7 @@ pub struct Delegation {
     /// The identity that the server opened.
     pub credentials: AuthIdentity,
     /// The number of the client's turns.
-    pub turns: u32,
+    pub rounds: u32,
 }
 
 /// Why an exchange came to no end.

@@ -22,34 +22,12 @@ use sspi_tsreq::TsRequest;
 use sspi_types::{Bytes, Error};
 use std::alloc::Global;
 
-/// What came of a client's call and of all that its KDC was asked.
+/// What came of a turn of an end.
 #[derive(Drop)]
-enum Concluded {
-    Answered(ClientState),
-    Refused(Error),
-    /// The KDC had no memory, and the client waits.
-    Lost,
-}
-
-/// What came of a client's turn.
-#[derive(Drop)]
-pub enum ClientRound {
-    /// It has a message for the server.
-    Replied,
-    /// It refused, with this error.
-    Refused(Error),
-    /// There was no memory, and no turn was made.
-    Lost,
-}
-
-/// What came of a server's turn.
-#[derive(Drop)]
-pub enum ServerRound {
-    /// It has a message for the client.
-    Replied,
-    /// It has opened the client's credentials, which hold this identity.
-    Finished(AuthIdentity),
-    /// It refused, with this error.
+pub enum Round<T> {
+    /// It was answered.
+    Answered(T),
+    /// It was refused, with this error.
     Refused(Error),
     /// There was no memory, and no turn was made.
     Lost,
@@ -72,7 +50,7 @@ fn finish_turn<N: Mechanism, K: Mechanism, D: Kdc>(
     client: &mut CredSspClient<N, K>,
     request: TsRequest,
     kdc: &mut D,
-) -> Concluded
+) -> Round<ClientState>
     ensures turn { ClientConcludes (either N.REQUESTS N.meaning K.meaning)
         (kdc_calls D.told D.asked D.faults) client.old kdc.old request result client.new kdc.new }
     ensures lost { WaitsWhereLost (either N.REQUESTS N.meaning K.meaning)
@@ -81,18 +59,18 @@ fn finish_turn<N: Mechanism, K: Mechanism, D: Kdc>(
 {
     let mut progress = match client.process(request) {
         Ok(progress) => progress,
-        Err(error) => return Concluded::Refused(error),
+        Err(error) => return Round::Refused(error),
     };
     loop {
         match progress {
-            Progress::Completed(state) => return Concluded::Answered(state),
+            Progress::Completed(state) => return Round::Answered(state),
             Progress::Suspended(question) => {
                 let Some(reply) = ask(kdc, &question) else {
-                    return Concluded::Lost;
+                    return Round::Lost;
                 };
                 progress = match client.resume(&reply) {
                     Ok(progress) => progress,
-                    Err(error) => return Concluded::Refused(error),
+                    Err(error) => return Round::Refused(error),
                 };
             }
         }
@@ -110,7 +88,7 @@ pub fn client_round<N: Mechanism, K: Mechanism, D: Kdc>(
     kdc: &mut D,
     transcript: &mut Transcript,
     request: TsRequest,
-) -> ClientRound
+) -> Round<()>
     // The turn that was made and recorded.
     ensures turn { ClientPushed request result transcript.old.turns transcript.new.turns }
     ensures made { ClientRoundPast (either N.REQUESTS N.meaning K.meaning) (kdc_calls D.told D.asked D.faults) client.old kdc.old result
@@ -124,30 +102,30 @@ pub fn client_round<N: Mechanism, K: Mechanism, D: Kdc>(
     ensures kdc { KdcStays D.told D.faults kdc.old kdc.new }
 {
     let Ok(()) = transcript.reserve() else {
-        return ClientRound::Lost;
+        return Round::Lost;
     };
     let Ok(delivered) = request.clone(alloc) else {
-        return ClientRound::Lost;
+        return Round::Lost;
     };
     match finish_turn(client, request, kdc) {
-        Concluded::Answered(ClientState::ReplyNeeded(reply)) => {
+        Round::Answered(ClientState::ReplyNeeded(reply)) => {
             record_client(client, transcript, delivered, Outcome::Reply(reply));
-            ClientRound::Replied
+            Round::Answered(())
         }
-        Concluded::Answered(ClientState::FinalMessage(reply)) => {
+        Round::Answered(ClientState::FinalMessage(reply)) => {
             record_client(client, transcript, delivered, Outcome::Final(reply));
-            ClientRound::Replied
+            Round::Answered(())
         }
-        Concluded::Refused(error) => {
+        Round::Refused(refusal) => {
             record_client(
                 client,
                 transcript,
                 delivered,
-                Outcome::Refused(error.error_type, None),
+                Outcome::Refused(refusal.error_type, None),
             );
-            ClientRound::Refused(error)
+            Round::Refused(refusal)
         }
-        Concluded::Lost => ClientRound::Lost,
+        Round::Lost => Round::Lost,
     }
 }
 
@@ -174,7 +152,7 @@ pub fn server_round<N: Mechanism, K: Mechanism, C: CredentialsProxy>(
     server: &mut CredSspServer<N, K, C>,
     transcript: &mut Transcript,
     request: TsRequest,
-) -> ServerRound
+) -> Round<Option<AuthIdentity>>
     // The turn that was made and recorded.
     ensures turn { ServerPushed request result transcript.old.turns transcript.new.turns }
     ensures made { ServerRoundPast (either N.REQUESTS N.meaning K.meaning) C.meaning server.old result
@@ -187,10 +165,10 @@ pub fn server_round<N: Mechanism, K: Mechanism, C: CredentialsProxy>(
     ensures client { client_turns transcript.new.turns ≡ client_turns transcript.old.turns }
 {
     let Ok(()) = transcript.reserve() else {
-        return ServerRound::Lost;
+        return Round::Lost;
     };
     let Ok(delivered) = request.clone(alloc) else {
-        return ServerRound::Lost;
+        return Round::Lost;
     };
     let answered = server.process(request);
     let acts = server.last_acts();
@@ -198,16 +176,16 @@ pub fn server_round<N: Mechanism, K: Mechanism, C: CredentialsProxy>(
     match answered {
         Ok(ServerState::ReplyNeeded(reply)) => {
             transcript.record(End::Server, delivered, acts, output, Outcome::Reply(reply));
-            ServerRound::Replied
+            Round::Answered(None)
         }
         Ok(ServerState::Finished(identity)) => {
             transcript.record(End::Server, delivered, acts, output, Outcome::Finished);
-            ServerRound::Finished(identity)
+            Round::Answered(Some(identity))
         }
         Err(ServerError { ts_request, error }) => {
             let outcome = Outcome::Refused(error.error_type, ts_request);
             transcript.record(End::Server, delivered, acts, output, outcome);
-            ServerRound::Refused(error)
+            Round::Refused(error)
         }
     }
 }

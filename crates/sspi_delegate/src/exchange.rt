@@ -18,7 +18,7 @@ ghost use Rattle.sspi_delegate.specs.Run.{LoggedButLast};
 ghost use Rattle.sspi_delegate.specs.Turns.{next_end, AllGoOn};
 
 use crate::answer::{DelegateError, Delegation};
-use crate::ends::{ClientRound, ServerRound, client_round, server_round};
+use crate::ends::{Round, client_round, server_round};
 use crate::link::{Link, LinkError};
 use crate::messages::{send, take_delivery};
 use crate::transcript::Transcript;
@@ -31,7 +31,7 @@ use std::alloc::Global;
 
 /// Carries the messages of a client and a server until the server has the client's credentials (MS-CSSP 3.1.5).
 ///
-/// In each of at most `turns` rounds the client makes a turn and then the server. The client's first turn takes a default
+/// In each of at most `limit` rounds the client makes a turn and then the server. The client's first turn takes a default
 /// request; each other turn takes the request with which the newest delivery begins, which is read to its end or to
 /// `DELIVERY_LIMIT` bytes, whichever comes first. Where the client's context asks a KDC, `kdc` is asked and the turn goes on
 /// with its reply; a call that fails goes on as `Reply::Failed`.
@@ -44,8 +44,8 @@ use std::alloc::Global;
 ///   is at fault, and else `InvalidData`.
 /// - `Write`: the message of this end has a content past the limit of all lengths.
 /// - `LinkFault`: a call on the link failed.
-/// - `TurnsSpent`: the client made `turns` turns, each was answered, and none of them ended the exchange; at once where
-///   `turns` is 0.
+/// - `TurnsSpent`: the client made `limit` turns, each was answered, and none of them ended the exchange; at once where
+///   `limit` is 0.
 /// - `InsufficientMemory`, that of an end or of the KDC among it.
 ///
 /// Whatever the answer, the transcript has got each turn that was made, a refused one too, and the log of the link each
@@ -61,22 +61,22 @@ pub fn delegate<N: Mechanism, K: Mechanism, C: CredentialsProxy, L: Link, D: Kdc
     server: &mut CredSspServer<N, K, C>,
     link: &mut L,
     kdc: &mut D,
-    turns: u32,
+    limit: u32,
     transcript: &mut Transcript,
 ) -> Result<Delegation, DelegateError>
     ensures delegates { IsFresh client.old server.old transcript.old.turns → Delegates (either N.REQUESTS N.meaning K.meaning)
         (around_by C.meaning L.log L.edits L.faults D.told D.asked D.faults)
-        (parties client.old server.old link.old kdc.old transcript.old.turns) turns result
+        (parties client.old server.old link.old kdc.old transcript.old.turns) limit result
         (parties client.new server.new link.new kdc.new transcript.new.turns) }
     ensures accounts { transcript.old.turns ≡ [] → Accounts (either N.REQUESTS N.meaning K.meaning)
         (around_by C.meaning L.log L.edits L.faults D.told D.asked D.faults)
-        (parties client.old server.old link.old kdc.old transcript.old.turns) turns result
+        (parties client.old server.old link.old kdc.old transcript.old.turns) limit result
         (parties client.new server.new link.new kdc.new transcript.new.turns) }
     ensures stays { Stays (around_by C.meaning L.log L.edits L.faults D.told D.asked D.faults)
-        (parties client.old server.old link.old kdc.old transcript.old.turns) turns result
+        (parties client.old server.old link.old kdc.old transcript.old.turns) limit result
         (parties client.new server.new link.new kdc.new transcript.new.turns) }
 {
-    rounds(alloc, client, server, link, kdc, turns, transcript)
+    rounds(alloc, client, server, link, kdc, limit, transcript)
 }
 
 /// At most so many rounds: the client's turn, and the server's.
@@ -86,16 +86,16 @@ fn rounds<N: Mechanism, K: Mechanism, C: CredentialsProxy, L: Link, D: Kdc>(
     server: &mut CredSspServer<N, K, C>,
     link: &mut L,
     kdc: &mut D,
-    turns: u32,
+    limit: u32,
     transcript: &mut Transcript,
 ) -> Result<Delegation, DelegateError>
     // What the answer says of the link and the turns.
-    ensures cause { transcript.old.turns ≡ [] → RunEnds (L.log link.old) (L.faults link.old) turns result transcript.new.turns
+    ensures cause { transcript.old.turns ≡ [] → RunEnds (L.log link.old) (L.faults link.old) limit result transcript.new.turns
         (L.log link.new) (L.faults link.new) }
     ensures told { StaysTold (L.edits link.old) (L.edits link.new) (L.log link.old) (L.log link.new) }
-    ensures still { AnswerTold (L.edits link.old) (L.faults link.old) (L.faults link.new) result (L.log link.new)
+    ensures failing { AnswerTold (L.edits link.old) (L.faults link.old) (L.faults link.new) result (L.log link.new)
         (newest_message transcript.new.turns) }
-    ensures limit { (turns ≡ 0 → result ≡ Err DelegateError.TurnsSpent) × IfOk result (λ delegation. delegation.turns ≤ turns) }
+    ensures within { (limit ≡ 0 → result ≡ Err DelegateError.TurnsSpent) × IfOk result (λ delegation. delegation.rounds ≤ limit) }
     // What both ends did.
     ensures client_history { transcript.old.turns ≡ [] →
         ClientPast (either N.REQUESTS N.meaning K.meaning) (kdc_calls D.told D.asked D.faults) client.old kdc.old result
@@ -105,12 +105,12 @@ fn rounds<N: Mechanism, K: Mechanism, C: CredentialsProxy, L: Link, D: Kdc>(
     ensures proxy { ProxyStays C.meaning server.old.proxy server.new.proxy }
     ensures kdc { KdcStays D.told D.faults kdc.old kdc.new }
 {
-    for turn in 0..turns {
+    for turn in 0..limit {
         client_half(alloc, client, link, kdc, transcript)?;
         if let Some(credentials) = server_half(alloc, server, link, transcript)? {
             return Ok(Delegation {
                 credentials,
-                turns: turn + 1,
+                rounds: turn + 1,
             });
         }
     }
@@ -134,7 +134,7 @@ fn client_half<N: Mechanism, K: Mechanism, L: Link, D: Kdc>(
     ensures count { OnOk result (turns_of End.Client transcript.new.turns ≡ turns_of End.Client transcript.old.turns + 1) }
     // What the answer says of the link.
     ensures told { StaysTold (L.edits link.old) (L.edits link.new) (L.log link.old) (L.log link.new) }
-    ensures still { AnswerTold (L.edits link.old) (L.faults link.old) (L.faults link.new) result (L.log link.new)
+    ensures failing { AnswerTold (L.edits link.old) (L.faults link.old) (L.faults link.new) result (L.log link.new)
         (newest_message transcript.new.turns) }
     // What the ends did.
     ensures client_history { let c = either N.REQUESTS N.meaning K.meaning in let k = kdc_calls D.told D.asked D.faults in
@@ -146,12 +146,12 @@ fn client_half<N: Mechanism, K: Mechanism, L: Link, D: Kdc>(
 {
     let request = next_request(alloc, link, transcript, End::Client)?;
     match client_round(alloc, client, kdc, transcript, request) {
-        ClientRound::Replied => {
+        Round::Answered(()) => {
             give(alloc, link, transcript)?;
             Ok(())
         }
-        ClientRound::Refused(error) => Err(client_error(error)),
-        ClientRound::Lost => Err(DelegateError::InsufficientMemory),
+        Round::Refused(error) => Err(client_error(error)),
+        Round::Lost => Err(DelegateError::InsufficientMemory),
     }
 }
 
@@ -170,7 +170,7 @@ fn server_half<N: Mechanism, K: Mechanism, C: CredentialsProxy, L: Link>(
     ensures count { OnOk result (turns_of End.Client transcript.new.turns ≡ turns_of End.Client transcript.old.turns) }
     // What the answer says of the link.
     ensures told { StaysTold (L.edits link.old) (L.edits link.new) (L.log link.old) (L.log link.new) }
-    ensures still { AnswerTold (L.edits link.old) (L.faults link.old) (L.faults link.new) result (L.log link.new)
+    ensures failing { AnswerTold (L.edits link.old) (L.faults link.old) (L.faults link.new) result (L.log link.new)
         (newest_message transcript.new.turns) }
     // What the ends did.
     ensures server_history { let c = either N.REQUESTS N.meaning K.meaning in (first : ServerView (SspiContext N K) C) →
@@ -181,17 +181,17 @@ fn server_half<N: Mechanism, K: Mechanism, C: CredentialsProxy, L: Link>(
 {
     let request = next_request(alloc, link, transcript, End::Server)?;
     match server_round(alloc, server, transcript, request) {
-        ServerRound::Replied => {
+        Round::Answered(None) => {
             give(alloc, link, transcript)?;
             Ok(None)
         }
-        ServerRound::Finished(identity) => Ok(Some(identity)),
-        ServerRound::Refused(error) => {
+        Round::Answered(Some(identity)) => Ok(Some(identity)),
+        Round::Refused(error) => {
             // What comes of the message that tells the client changes nothing.
             let _given = give(alloc, link, transcript);
             Err(server_error(error))
         }
-        ServerRound::Lost => Err(DelegateError::InsufficientMemory),
+        Round::Lost => Err(DelegateError::InsufficientMemory),
     }
 }
 
@@ -213,7 +213,7 @@ fn next_request<L: Link>(
     // What the answer says of the link.
     ensures told { StaysTold (L.edits link.old) (L.edits link.new) (L.log link.old) (L.log link.new) }
     ensures link { IfErr result IsNoRefusal }
-    ensures still { RequestTold (L.edits link.old) (L.faults link.old) (L.faults link.new) result }
+    ensures failing { RequestTold (L.edits link.old) (L.faults link.old) (L.faults link.new) result }
 {
     if let None = transcript.newest() {
         return Ok(TsRequest::default());
@@ -245,7 +245,7 @@ fn give<L: Link>(alloc: Global, link: &mut L, transcript: &Transcript) -> Result
     ensures link { IfErr result IsNoRefusal }
     ensures same { OnErr result (L.log link.new ≡ L.log link.old) }
     ensures told { StaysTold (L.edits link.old) (L.edits link.new) (L.log link.old) (L.log link.new) }
-    ensures still { GiveTold (L.edits link.old) (L.log link.old) (newest_message transcript.now.turns) (L.faults link.old)
+    ensures failing { GiveTold (L.edits link.old) (L.log link.old) (newest_message transcript.now.turns) (L.faults link.old)
         (L.faults link.new) result }
 {
     match transcript.newest() {

@@ -27,7 +27,7 @@ pub mod transcript;
 pub use answer::{DelegateError, Delegation};
 pub use carried::Carried;
 pub use edit::{Edit, EditKind};
-pub use ends::{ClientRound, ServerRound, client_round, server_round};
+pub use ends::{Round, client_round, server_round};
 pub use exchange::delegate;
 pub use kept_link::{Carrier, KeptLink};
 pub use link::{Link, LinkError};

@@ -22,7 +22,7 @@ pub(crate) fn take_delivery<L: Link>(alloc: Global, link: &mut L) -> Result<TsRe
     ensures takes { IsUnread (L.log link.old) → TakesIn (L.log link.old) (L.log link.new) result }
     ensures cause { LinkCause (L.faults link.old) (L.faults link.new) result }
     ensures told { StaysTold (L.edits link.old) (L.edits link.new) (L.log link.old) (L.log link.new) }
-    ensures still { NeverFails (L.edits link.old) (L.faults link.old) (L.faults link.new) result }
+    ensures failing { NeverFails (L.edits link.old) (L.faults link.old) (L.faults link.new) result }
 {
     let mut reader = TsReader::new(alloc);
     let mut room = [0u8; PIECE_LENGTH];
@@ -60,7 +60,7 @@ pub(crate) fn send<L: Link>(
 ) -> Result<(), DelegateError>
     ensures sends { Sends from message.now (L.log link.old) (L.log link.new) (L.faults link.old) (L.faults link.new) result }
     ensures told { StaysTold (L.edits link.old) (L.edits link.new) (L.log link.old) (L.log link.new) }
-    ensures still { SendTold (L.edits link.old) (L.log link.old) message.now (L.faults link.old) (L.faults link.new) result }
+    ensures failing { SendTold (L.edits link.old) (L.log link.old) message.now (L.faults link.old) (L.faults link.new) result }
 {
     let text = match encode(alloc, message) {
         Ok(text) => text,

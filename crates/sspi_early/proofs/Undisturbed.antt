@@ -102,7 +102,7 @@ module _ {P : Type 0} (p : PolicyMeaning P) (edits : Option (List Edit)) (log : 
       IsUndisturbed edits log after.log faults after.faults → IsCalm (p.faults policy) (p.faults policy2) →
       ComesToOkIn messages identity (Ok delegation) → ComesToOkEarly messages identity result
   answer_behind delegation before after policy policy2 (Ok early) messages identity comes same stays undisturbed calm ok = (
-    ap (λ (d : Delegation). d.turns) comes.0 ∙ ok.0,
+    ap (λ (d : Delegation). d.rounds) comes.0 ∙ ok.0,
     ap (λ (d : Delegation). d.credentials) comes.0 ∙ ok.1,
     undisturbed_link delegation.credentials before after policy policy2 _ comes.1 same stays undisturbed calm,
   )

@@ -9,7 +9,7 @@ use Rattle.sspi_early.specs.declared.answer.EarlyError.TheVariants.{Delegate, In
 
 -- So many messages of the client delegated this identity, and the client heard what the server told; or there was no memory.
 abbrev pub ComesToOkEarly : ℕ → AuthIdentity → Result Early EarlyError → Type 0
-ComesToOkEarly messages identity (Ok early) = (early.delegation.turns ≡ messages) × (early.delegation.credentials ≡ identity)
+ComesToOkEarly messages identity (Ok early) = (early.delegation.rounds ≡ messages) × (early.delegation.credentials ≡ identity)
     × (early.heard ≡ early.told)
 ComesToOkEarly messages identity (Err InsufficientMemory) = Unit {0}
 ComesToOkEarly messages identity (Err error) = ⊥

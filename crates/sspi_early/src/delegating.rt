@@ -39,26 +39,26 @@ pub fn delegate_early<C: CredentialsProxy, L: Link, D: Kdc, P: Policy>(
     link: &mut L,
     kdc: &mut D,
     policy: &mut P,
-    turns: u32,
+    limit: u32,
     transcript: &mut Transcript,
 ) -> Result<Early, EarlyError>
     ensures early { IsEarly (either 0 ntlm_meaning kerberos_meaning)
         (around_by C.meaning L.log L.edits L.faults D.told D.asked D.faults) P.meaning
-        (parties client.old server.old link.old kdc.old transcript.old.turns) turns policy.old result
+        (parties client.old server.old link.old kdc.old transcript.old.turns) limit policy.old result
         (parties client.new server.new link.new kdc.new transcript.new.turns) policy.new }
     ensures comes { (matching : AreMatching C.meaning (D.told kdc.old) (D.asked kdc.old) client.old server.old) →
         IsFresh client.old server.old transcript.old.turns →
         IsUndisturbed (L.edits link.old) (L.log link.old) (L.log link.new) (L.faults link.old) (L.faults link.new) →
         NoneFailed (C.meaning.told server.old.proxy).failing (C.meaning.faults server.old.proxy) (C.meaning.faults server.new.proxy) →
-        IsCalm (P.meaning.faults policy.old) (P.meaning.faults policy.new) → messages_in matching ≤ turns →
+        IsCalm (P.meaning.faults policy.old) (P.meaning.faults policy.new) → messages_in matching ≤ limit →
         ComesToOkEarly (messages_in matching) (delegated_as client.old.settings.delegation matching.identity) result }
     ensures short { (matching : AreMatching C.meaning (D.told kdc.old) (D.asked kdc.old) client.old server.old) →
         IsFresh client.old server.old transcript.old.turns →
         IsUndisturbed (L.edits link.old) (L.log link.old) (L.log link.new) (L.faults link.old) (L.faults link.new) →
         NoneFailed (C.meaning.told server.old.proxy).failing (C.meaning.faults server.old.proxy) (C.meaning.faults server.new.proxy) →
-        turns < messages_in matching → IsCutShortEarly result }
+        limit < messages_in matching → IsCutShortEarly result }
 {
-    let delegated = delegate_plainly(alloc, client, server, link, kdc, turns, transcript);
+    let delegated = delegate_plainly(alloc, client, server, link, kdc, limit, transcript);
     tell_early(link, policy, delegated)
 }
 

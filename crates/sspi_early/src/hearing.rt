@@ -12,7 +12,7 @@ pub(crate) fn take_result<L: Link>(
     ensures takes { IsUnread (L.log link.old) → Takes (L.log link.old) (L.log link.new) result }
     ensures cause { LinkCause (L.faults link.old) (L.faults link.new) result }
     ensures told { StaysTold (L.edits link.old) (L.edits link.new) (L.log link.old) (L.log link.new) }
-    ensures still { NeverFails (L.edits link.old) (L.faults link.old) (L.faults link.new) result }
+    ensures failing { NeverFails (L.edits link.old) (L.faults link.old) (L.faults link.new) result }
 {
     let mut bytes = [0; EARLY_USER_AUTH_RESULT_PDU_SIZE];
     let mut taken = 0;

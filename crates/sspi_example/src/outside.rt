@@ -180,7 +180,7 @@ fn told(
     match answer {
         Ok(delegation) => {
             let name = delegation.credentials.username.inner();
-            let turns = delegation.turns;
+            let turns = delegation.rounds;
             Ok(format!(in alloc; "{name} in {turns} messages, the KDC asked {asked} times")?)
         }
         Err(DelegateError::Client(error) | DelegateError::Server(error)) => Err(error),

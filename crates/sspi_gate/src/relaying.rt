@@ -8,7 +8,7 @@ use sspi_credssp::End;
 use std::alloc::Global;
 
 /// Hands the requests of a client on to a server and the server's on to the client, in turn, the client's first, at most
-/// `turns` of the client.
+/// `limit` of the client.
 ///
 /// Each request is read before it is handed on, and is then written as its bytes came. A header is read byte by byte and then
 /// exactly its content, so no byte behind a request is taken, whatever the answer, and memory is taken only for bytes that
@@ -22,8 +22,8 @@ use std::alloc::Global;
 ///   `InvalidData`. Header and content were taken; or the header up to the byte at fault; or all there was, if it ended sooner.
 /// - `Version`: the request has another version than this end's first.
 /// - `ReadFault`, `WriteFault`: the stream from this end, or to it, failed. At `WriteFault` a front of the request was written.
-/// - `TurnsSpent`: `turns` requests of the client were handed on, each was answered, and no answer refused; at once where
-///   `turns` is 0. Nothing more is then read.
+/// - `TurnsSpent`: `limit` requests of the client were handed on, each was answered, and no answer refused; at once where
+///   `limit` is 0. Nothing more is then read.
 /// - `InsufficientMemory`; a front of the next request may have been written, if it was read.
 pub fn relay<A: Source, B: Sink, C: Source, D: Sink>(
     alloc: Global,
@@ -31,9 +31,9 @@ pub fn relay<A: Source, B: Sink, C: Source, D: Sink>(
     server_out: &mut B,
     server_in: &mut C,
     client_out: &mut D,
-    turns: u32,
+    limit: u32,
 ) -> Result<Relayed, GateError>
-    ensures { IsRelay turns (way A.left A.faults B.written B.faults client_in.old server_out.old)
+    ensures { IsRelay limit (way A.left A.faults B.written B.faults client_in.old server_out.old)
         (way C.left C.faults D.written D.faults server_in.old client_out.old)
         (way A.left A.faults B.written B.faults client_in.new server_out.new)
         (way C.left C.faults D.written D.faults server_in.new client_out.new) result }
@@ -41,7 +41,7 @@ pub fn relay<A: Source, B: Sink, C: Source, D: Sink>(
     let mut passed = 0u64;
     let mut client_version = None;
     let mut server_version = None;
-    for _ in 0..turns {
+    for _ in 0..limit {
         let seen = match pass_next(alloc, End::Client, client_version, client_in, server_out) {
             Step::Passed(seen) => seen,
             Step::Ended => return Ok(Relayed {

@@ -14,9 +14,7 @@ ghost use Rattle.sspi_play.specs.History.{ClientPlayed, ServerHandPast, Gave};
 use crate::played::{Delivery, Ending, Played};
 use sspi_ber::WireKind;
 use sspi_credssp::{CredSspClient, CredSspServer, CredentialsProxy, SspiContext};
-use sspi_delegate::{
-    ClientRound, DelegateError, End, ServerRound, Transcript, client_round, server_round,
-};
+use sspi_delegate::{DelegateError, End, Round, Transcript, client_round, server_round};
 use sspi_mech::{Kdc, Mechanism};
 use sspi_names::AuthIdentity;
 use sspi_tsreq::TsRequest;
@@ -85,9 +83,9 @@ fn hand_client<N: Mechanism, K: Mechanism, D: Kdc>(
         Err(kind) => return Ok(Ending::Unread(kind)),
     };
     match client_round(alloc, client, kdc, transcript, request) {
-        ClientRound::Replied => Ok(Ending::Running),
-        ClientRound::Refused(error) => ending_by(error),
-        ClientRound::Lost => Err(DelegateError::InsufficientMemory),
+        Round::Answered(()) => Ok(Ending::Running),
+        Round::Refused(error) => ending_by(error),
+        Round::Lost => Err(DelegateError::InsufficientMemory),
     }
 }
 
@@ -111,13 +109,13 @@ fn hand_server<N: Mechanism, K: Mechanism, C: CredentialsProxy>(
         Err(kind) => return Ok(Handed::Stands(Ending::Unread(kind))),
     };
     match server_round(alloc, server, transcript, request) {
-        ServerRound::Replied => Ok(Handed::Stands(Ending::Running)),
-        ServerRound::Finished(identity) => Ok(Handed::Finished(identity)),
-        ServerRound::Refused(error) => {
+        Round::Answered(None) => Ok(Handed::Stands(Ending::Running)),
+        Round::Answered(Some(identity)) => Ok(Handed::Finished(identity)),
+        Round::Refused(error) => {
             let ending = ending_by(error)?;
             Ok(Handed::Stands(ending))
         }
-        ServerRound::Lost => Err(DelegateError::InsufficientMemory),
+        Round::Lost => Err(DelegateError::InsufficientMemory),
     }
 }
 

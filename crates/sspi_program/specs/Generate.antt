@@ -27,7 +27,7 @@ messages_at i = if i % 2 == 0 then 3 else 4
 
 -- the server has these credentials, after so many messages of the client
 abbrev pub HasDelegated : ℕ → AuthIdentity → RunOutcome → Type 0
-HasDelegated messages identity (Delegated (Ok delegation)) = (delegation.turns ≡ messages) × (delegation.credentials ≡ identity)
+HasDelegated messages identity (Delegated (Ok delegation)) = (delegation.rounds ≡ messages) × (delegation.credentials ≡ identity)
 HasDelegated messages identity (Delegated (Err error)) = ⊥
 HasDelegated messages identity (Played answer) = ⊥
 HasDelegated messages identity (Early answer) = ⊥

@@ -44,7 +44,7 @@ messages_in scenario plain =
 -- Ok of plain NTLM alone takes three messages of the client. A plain scenario comes to Ok where the client may make as many
 -- messages as it takes, and else is cut short; but for want of memory.
 pub record IsOutcome (scenario : Scenario) (answer : Result Delegation DelegateError) : Type 0 where
-  pub three : scenario.mode ≡ Ntlm → IfOk answer (λ delegation. 3 ≤ delegation.turns)
+  pub three : scenario.mode ≡ Ntlm → IfOk answer (λ delegation. 3 ≤ delegation.rounds)
   pub comes : (plain : IsPlain scenario) → messages_in scenario plain ≤ scenario.turns →
       ComesToOkIn (messages_in scenario plain) (delegated_as scenario.delegation (user_identity scenario)) answer
   pub short : (plain : IsPlain scenario) → scenario.turns < messages_in scenario plain → IsCutShort answer

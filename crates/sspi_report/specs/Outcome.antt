@@ -49,5 +49,5 @@ error_line errors.TurnsSpent = Some (line (codes "turns"))
 error_line errors.InsufficientMemory = None
 
 abbrev pub outcome_line : Result Delegation DelegateError → Option (List ℕ)
-outcome_line (Ok delegation) = Some (line (delegated_text delegation.turns delegation.credentials))
+outcome_line (Ok delegation) = Some (line (delegated_text delegation.rounds delegation.credentials))
 outcome_line (Err error) = error_line error

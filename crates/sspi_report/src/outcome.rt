@@ -19,7 +19,7 @@ pub(crate) fn outcome_line(
 {
     match outcome {
         Ok(delegation) => {
-            let line = delegated_line(alloc, delegation.turns, &delegation.credentials)?;
+            let line = delegated_line(alloc, delegation.rounds, &delegation.credentials)?;
             Ok(Some(line))
         }
         Err(error) => error_line(alloc, *error),
@@ -29,14 +29,14 @@ pub(crate) fn outcome_line(
 /// The line of credentials that were delegated in so many turns of the client.
 pub(crate) fn delegated_line(
     alloc: Global,
-    turns: u32,
+    rounds: u32,
     credentials: &AuthIdentity,
 ) -> Result<String, AllocError>
-    ensures { IfOk result (λ text. string_bytes text ≡ line (delegated_text turns credentials.now)) }
+    ensures { IfOk result (λ text. string_bytes text ≡ line (delegated_text rounds credentials.now)) }
 {
     let user = credentials.username.inner();
     let password = credentials.password.value.as_str();
-    let text = format!(in alloc; "ok {turns} user={user} password={password}\n")?;
+    let text = format!(in alloc; "ok {rounds} user={user} password={password}\n")?;
     Ok(text)
 }
 

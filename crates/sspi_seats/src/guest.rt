@@ -12,7 +12,7 @@ ghost use Rattle.sspi_seats.specs.Table.{IsKept};
 use crate::hearing::{Heard, hear, message, refusal};
 use crate::seat::{Seat, SeatOutcome};
 use sspi_credssp::{CredSspClient, CredSspServer, CredentialsProxy, End};
-use sspi_delegate::{ClientRound, Transcript, client_round};
+use sspi_delegate::{Round, Transcript, client_round};
 use sspi_desk::{Desk, DeskError, Served};
 use sspi_mech::{Kdc, Mechanism};
 use sspi_scenario::Rows;
@@ -107,13 +107,13 @@ impl<N: Mechanism, K: Mechanism, D: Kdc> Guest<N, K, D> {
             &mut self.transcript,
             request,
         ) {
-            ClientRound::Replied => self.speak(alloc, desk, number, turn),
-            ClientRound::Refused(error) => {
+            Round::Answered(()) => self.speak(alloc, desk, number, turn),
+            Round::Refused(error) => {
                 let outcome = refusal(error)?;
                 put(&mut self.outcome, outcome);
                 Ok(())
             }
-            ClientRound::Lost => Err(AllocError),
+            Round::Lost => Err(AllocError),
         }
     }
 

@@ -35,14 +35,14 @@ pub(crate) fn message(alloc: Global, transcript: &Transcript) -> Result<Option<B
 /// What an answer means for a client that has made so many turns. Fails where there was no memory, also for the answer.
 pub(crate) fn hear(
     alloc: Global,
-    turns: u32,
+    rounds: u32,
     answer: &Result<Served, DeskError>,
 ) -> Result<Heard, AllocError>
-    ensures { IfOk result (λ heard. IsHeard turns answer.now heard) }
+    ensures { IfOk result (λ heard. IsHeard rounds answer.now heard) }
 {
     let outcome = match answer {
         Ok(Served::Answer(text)) => return read(alloc, text.as_slice()),
-        Ok(Served::Finished(identity)) => SeatOutcome::Ok(turns, identity.clone(alloc)?),
+        Ok(Served::Finished(identity)) => SeatOutcome::Ok(rounds, identity.clone(alloc)?),
         Err(DeskError::Refused(error, _)) => SeatOutcome::Server(*error),
         Err(DeskError::Unread(kind)) => SeatOutcome::Read(End::Server, *kind),
         Err(DeskError::TooLong) => SeatOutcome::Write(End::Server),

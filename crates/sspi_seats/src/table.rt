@@ -68,23 +68,23 @@ impl<N: Mechanism, K: Mechanism, C: CredentialsProxy, D: Kdc + Drop> Table<N, K,
     /// clients came.
     ///
     /// Fails for want of memory, also where it came up in a turn, in a call on the desk or in a KDC.
-    pub fn finish(self, turns: u32) -> Result<Rows<Seat<N, K, C, D>>, AllocError>
+    pub fn finish(self, limit: u32) -> Result<Rows<Seat<N, K, C, D>>, AllocError>
         ensures { let c = either N.REQUESTS N.meaning K.meaning in let k = kdc_calls D.told D.asked D.faults in
             (cames : List (Place (SspiContext N K) C D)) → AreSeated c C.meaning k cames self →
-            IfOk result (AreSeats c C.meaning k cames turns) }
+            IfOk result (AreSeats c C.meaning k cames limit) }
     {
         let mut table = self;
-        table.serve(turns)?;
+        table.serve(limit)?;
         table.leave()
     }
 
     /// At most so many rounds.
-    fn serve(&mut self, turns: u32) -> Result<(), AllocError>
+    fn serve(&mut self, limit: u32) -> Result<(), AllocError>
         ensures { let c = either N.REQUESTS N.meaning K.meaning in let k = kdc_calls D.told D.asked D.faults in
             (cames : List (Place (SspiContext N K) C D)) → AreSeated c C.meaning k cames self.old →
-            OnOk result (AreVisited c C.meaning k cames turns 0 self.new) }
+            OnOk result (AreVisited c C.meaning k cames limit 0 self.new) }
     {
-        for turn in 0..turns {
+        for turn in 0..limit {
             if !self.runs() {
                 return Ok(());
             }

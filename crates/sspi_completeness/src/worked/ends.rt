@@ -116,8 +116,8 @@ trait Runs: Drop {
     // what it answers, where the client may make so many messages
     ghost Answers: { Self → ℕ → Result Delegation DelegateError → Type 0 };
 
-    fn run(&mut self, alloc: Global, turns: u32) -> Result<Delegation, DelegateError>
-        ensures { Answers self.old turns result };
+    fn run(&mut self, alloc: Global, limit: u32) -> Result<Delegation, DelegateError>
+        ensures { Answers self.old limit result };
 }
 
 impl<D: Kdc + Drop> Runs for Ends<Client, Server, D> {
@@ -125,10 +125,10 @@ impl<D: Kdc + Drop> Runs for Ends<Client, Server, D> {
     ghost use Rattle.sspi_completeness.specs.Matching.{delegated_as};
     ghost use Rattle.sspi_completeness.specs.Worked.{Example, IsClientOf, IsServerOf, Matches, AnswersIn};
 
-    ghost Answers = { λ ends turns answer. (x : Example) → (messages : ℕ) → IsClientOf x ends.client → IsServerOf x ends.server →
-        Matches (D.told ends.kdc) (D.asked ends.kdc) messages x → AnswersIn messages turns (delegated_as x.delegation x.identity) answer };
+    ghost Answers = { λ ends limit answer. (x : Example) → (messages : ℕ) → IsClientOf x ends.client → IsServerOf x ends.server →
+        Matches (D.told ends.kdc) (D.asked ends.kdc) messages x → AnswersIn messages limit (delegated_as x.delegation x.identity) answer };
 
-    fn run(&mut self, alloc: Global, turns: u32) -> Result<Delegation, DelegateError> {
+    fn run(&mut self, alloc: Global, limit: u32) -> Result<Delegation, DelegateError> {
         let mut link = MemoryLink::new(alloc, Vec::new(alloc));
         let mut transcript = Transcript::new(alloc);
         delegate_plainly(
@@ -137,7 +137,7 @@ impl<D: Kdc + Drop> Runs for Ends<Client, Server, D> {
             &mut self.server,
             &mut link,
             &mut self.kdc,
-            turns,
+            limit,
             &mut transcript,
         )
     }
@@ -163,13 +163,13 @@ fn make_ends<C: Drop, S: Drop, D: Drop>(
 fn answer_of<R: Runs>(
     alloc: Global,
     made: Result<R, AllocError>,
-    turns: u32,
+    limit: u32,
 ) -> Result<Delegation, DelegateError>
-    ensures made { IfOk made (λ made. R.Answers made turns result) }
+    ensures made { IfOk made (λ made. R.Answers made limit result) }
     ensures unmade { IfErr made (λ error. result ≡ Err DelegateError.InsufficientMemory) }
 {
     match made {
-        Ok(mut made) => made.run(alloc, turns),
+        Ok(mut made) => made.run(alloc, limit),
         Err(_) => Err(DelegateError::InsufficientMemory),
     }
 }
@@ -180,11 +180,11 @@ pub(crate) fn run<D: Kdc + Drop>(
     client: Result<Client, AllocError>,
     server: Result<Server, AllocError>,
     kdc: Result<D, AllocError>,
-    turns: u32,
+    limit: u32,
 ) -> Result<Delegation, DelegateError>
     ensures { (x : Example) → (messages : ℕ) → IfOk client (IsClientOf x) → IfOk server (IsServerOf x) →
         IfOk kdc (λ kdc. Matches (D.told kdc) (D.asked kdc) messages x) →
-        AnswersIn messages turns (delegated_as x.delegation x.identity) result }
+        AnswersIn messages limit (delegated_as x.delegation x.identity) result }
 {
-    answer_of(alloc, make_ends(client, server, kdc), turns)
+    answer_of(alloc, make_ends(client, server, kdc), limit)
 }

@@ -65,7 +65,7 @@ fn kdc(rt: &impl Test, word: &str) -> TestKdc {
 fn delegated(rt: &impl Test, delegation: &Delegation, recorded: usize) -> String {
     let name = delegation.credentials.username.inner();
     let password = delegation.credentials.password.value.as_str();
-    let turns = delegation.turns;
+    let turns = delegation.rounds;
     given(
         rt,
         format!(in rt.alloc(); "{name}:{password}:{turns} {recorded}"),

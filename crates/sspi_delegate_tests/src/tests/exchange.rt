@@ -215,7 +215,7 @@ fn is_wanted(answer: &Result<Delegation, DelegateError>, wanted: Wanted) -> bool
 fn is_delegated(delegation: &Delegation, wanted: Wanted) -> bool {
     match wanted {
         Wanted::Credentials(turns) => {
-            delegation.turns == turns
+            delegation.rounds == turns
                 && delegation.credentials.username.inner() == "DOM\\ann"
                 && delegation.credentials.password.value.as_str() == "pw"
         }

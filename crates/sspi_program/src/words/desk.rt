@@ -59,11 +59,11 @@ fn seat_one(alloc: Global, scenario: &Scenario, table: &mut PlainTable) -> Resul
 }
 
 /// What is said of the clients at a table, once they were served.
-fn serve(alloc: Global, turns: u32, table: PlainTable) -> Said
-    ensures { (count : ℕ) (scenario : Scenario) → AreSeatedFor scenario count table → turns ≡ scenario.turns →
+fn serve(alloc: Global, limit: u32, table: PlainTable) -> Said
+    ensures { (count : ℕ) (scenario : Scenario) → AreSeatedFor scenario count table → limit ≡ scenario.turns →
         Conducts (Task.Desk count) scenario result }
 {
-    match table.finish(turns) {
+    match table.finish(limit) {
         Ok(seats) => said_of_seats(alloc, seats),
         Err(_) => Said::NoMemory,
     }

@@ -70,9 +70,9 @@ fn relay_streams(
     alloc: Global,
     client: &[u8],
     server: &[u8],
-    turns: u32,
+    limit: u32,
 ) -> Result<Relayed, GateError>
-    ensures { Relays turns client.now server.now result }
+    ensures { Relays limit client.now server.now result }
 {
     let mut client_in = SliceSource::new(client);
     let mut server_in = SliceSource::new(server);
@@ -84,7 +84,7 @@ fn relay_streams(
         &mut server_out,
         &mut server_in,
         &mut client_out,
-        turns,
+        limit,
     )
 }
 

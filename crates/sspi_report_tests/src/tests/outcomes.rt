@@ -12,7 +12,7 @@ fn delegation(alloc: Global, name: &str, password: &str) -> Result<Delegation, F
     let password = Secret::from(Text::from_text(alloc, password)?);
     Ok(Delegation {
         credentials: AuthIdentity { username, password },
-        turns: 3,
+        rounds: 3,
     })
 }
 

@@ -31,7 +31,7 @@ returns-clause-comes g c matching fresh undisturbed none enough =
     let stays = c.delegate.ensures.stays in
     comes_to_ok _ _ _ _ enough
     (settled_plainly g.D.Kdc.told g.D.Kdc.asked g.D.Kdc.faults laws g.C.CredentialsProxy.meaning
-    c.args.client.now c.args.server.now c.args.kdc.now fresh.client_is fresh.server_is matching _ _ _ _ c.args.turns c.delegate.new.client
+    c.args.client.now c.args.server.now c.args.kdc.now fresh.client_is fresh.server_is matching _ _ _ _ c.args.limit c.delegate.new.client
     c.delegate.new.server _ _ _ _ _ undisturbed made.accounts.turns_and_log_show_the_answer stays.the_link_tells_what_it_told
     stays.the_link_fails_where_its_edits_say_so
     made.accounts.client_turns_are_its_calls (server_past_history
@@ -46,7 +46,7 @@ returns-clause-short g c matching fresh undisturbed none few =
     let stays = c.delegate.ensures.stays in
     cut_short _ _ _ _ few stays.ok_comes_within_the_limit
     (settled_plainly g.D.Kdc.told g.D.Kdc.asked g.D.Kdc.faults laws g.C.CredentialsProxy.meaning
-    c.args.client.now c.args.server.now c.args.kdc.now fresh.client_is fresh.server_is matching _ _ _ _ c.args.turns c.delegate.new.client
+    c.args.client.now c.args.server.now c.args.kdc.now fresh.client_is fresh.server_is matching _ _ _ _ c.args.limit c.delegate.new.client
     c.delegate.new.server _ _ _ _ _ undisturbed made.accounts.turns_and_log_show_the_answer stays.the_link_tells_what_it_told
     stays.the_link_fails_where_its_edits_say_so
     made.accounts.client_turns_are_its_calls (server_past_history

@@ -32,7 +32,7 @@ returns-in-Refused-clause-client_history g c first kdc_first went history =
     client_stopped (either g.N.Mechanism.REQUESTS g.N.Mechanism.meaning g.K.Mechanism.meaning)
     (kdc_calls g.D.Kdc.told g.D.Kdc.asked g.D.Kdc.faults)
     first c.args.client.now c.finish_turn.new.client c.record_client-in-Refused.new.client
-    kdc_first c.args.kdc.now c.finish_turn.new.kdc c.args.request c.in-Refused.error c.args.transcript.now.turns
+    kdc_first c.args.kdc.now c.finish_turn.new.kdc c.args.request c.in-Refused.refusal c.args.transcript.now.turns
     c.record_client-in-Refused.new.transcript.turns history c.in-Refused.ensures.turn c.record_client-in-Refused.ensures.rest
     (rw (← c.in-Ok.ensures.turns, ← c.in-Ok-clone.ensures) c.record_client-in-Refused.ensures.turn)
 
@@ -65,7 +65,7 @@ returns-in-Refused-clause-made g c =
     client_stopped_alone (either g.N.Mechanism.REQUESTS g.N.Mechanism.meaning g.K.Mechanism.meaning)
     (kdc_calls g.D.Kdc.told g.D.Kdc.asked g.D.Kdc.faults)
     c.args.client.now c.finish_turn.new.client c.record_client-in-Refused.new.client
-    c.args.kdc.now c.finish_turn.new.kdc c.args.request c.in-Refused.error c.args.transcript.now.turns
+    c.args.kdc.now c.finish_turn.new.kdc c.args.request c.in-Refused.refusal c.args.transcript.now.turns
     c.record_client-in-Refused.new.transcript.turns c.in-Refused.ensures.turn c.record_client-in-Refused.ensures.rest
     (rw (← c.in-Ok.ensures.turns, ← c.in-Ok-clone.ensures) c.record_client-in-Refused.ensures.turn)
 

@@ -7,17 +7,17 @@ use Rattle.sspi_delegate.proofs.LogSteps.{turned, lost, client_refused}
 use Rattle.sspi_delegate.specs.Asking.{kdc_calls}
 use Rattle.sspi_delegate.proofs.exchange.client_half.Goals as goal
 
-pub returns-in_ok-give-in-Replied-clause-half : goal.returns-in_ok-give-in-Replied-clause-half
-returns-in_ok-give-in-Replied-clause-half g c base start limit next left w =
-    c.in_ok-give-in-Replied.ensures.ok base start
-    (turned base start Client c.in_ok-request.request _ _ _ _ next (c.in_ok-request.ensures.ok base start w) c.in-Replied.ensures.turn)
+pub returns-in_ok-give-in-Answered-clause-half : goal.returns-in_ok-give-in-Answered-clause-half
+returns-in_ok-give-in-Answered-clause-half g c base start limit next left w =
+    c.in_ok-give-in-Answered.ensures.ok base start
+    (turned base start Client c.in_ok-request.request _ _ _ _ next (c.in_ok-request.ensures.ok base start w) c.in-Answered.ensures.turn)
 
-pub returns-in_err-give-in-Replied-clause-half : goal.returns-in_err-give-in-Replied-clause-half
-returns-in_err-give-in-Replied-clause-half g c base start limit next left w =
-    let p = err_from_is_err_and c.from_residual-in_err-give-in-Replied.result c.from_residual-in_err-give-in-Replied.ensures.1 in
+pub returns-in_err-give-in-Answered-clause-half : goal.returns-in_err-give-in-Answered-clause-half
+returns-in_err-give-in-Answered-clause-half g c base start limit next left w =
+    let p = err_from_is_err_and c.from_residual-in_err-give-in-Answered.result c.from_residual-in_err-give-in-Answered.ensures.1 in
     rw (p.1, p.2)
-    (c.in_err-give-in-Replied.ensures.err base start limit
-    (turned base start Client c.in_ok-request.request _ _ _ _ next (c.in_ok-request.ensures.ok base start w) c.in-Replied.ensures.turn))
+    (c.in_err-give-in-Answered.ensures.err base start limit
+    (turned base start Client c.in_ok-request.request _ _ _ _ next (c.in_ok-request.ensures.ok base start w) c.in-Answered.ensures.turn))
 
 pub returns-in-Refused-clause-half : goal.returns-in-Refused-clause-half
 returns-in-Refused-clause-half g c base start limit next left w =
@@ -28,18 +28,18 @@ pub returns-in-Lost-clause-half : goal.returns-in-Lost-clause-half
 returns-in-Lost-clause-half g c base start limit next left w =
     lost base start limit c.in_ok-request.request _ _ _ _ (c.in_ok-request.ensures.ok base start w) c.in-Lost.ensures.turn
 
-pub returns-in_ok-give-in-Replied-clause-client_history : goal.returns-in_ok-give-in-Replied-clause-client_history
-returns-in_ok-give-in-Replied-clause-client_history g c first kdc_first going history =
-    c.in-Replied.ensures.client_history first kdc_first (clients_go _ going) history
+pub returns-in_ok-give-in-Answered-clause-client_history : goal.returns-in_ok-give-in-Answered-clause-client_history
+returns-in_ok-give-in-Answered-clause-client_history g c first kdc_first going history =
+    c.in-Answered.ensures.client_history first kdc_first (clients_go _ going) history
 
-pub returns-in_err-give-in-Replied-clause-client_history : goal.returns-in_err-give-in-Replied-clause-client_history
-returns-in_err-give-in-Replied-clause-client_history g c first kdc_first going history =
-    let p = err_from_is_err_and c.from_residual-in_err-give-in-Replied.result c.from_residual-in_err-give-in-Replied.ensures.1 in
+pub returns-in_err-give-in-Answered-clause-client_history : goal.returns-in_err-give-in-Answered-clause-client_history
+returns-in_err-give-in-Answered-clause-client_history g c first kdc_first going history =
+    let p = err_from_is_err_and c.from_residual-in_err-give-in-Answered.result c.from_residual-in_err-give-in-Answered.ensures.1 in
     rw (p.1, p.2)
     (client_half_stopped (either g.N.Mechanism.REQUESTS g.N.Mechanism.meaning g.K.Mechanism.meaning)
     (kdc_calls g.D.Kdc.told g.D.Kdc.asked g.D.Kdc.faults) first c.client_round.new.client kdc_first
-    c.client_round.new.kdc _ c.in_err-give-in-Replied.field-0.0 c.in_err-give-in-Replied.ensures.link
-    (c.in-Replied.ensures.client_history first kdc_first (clients_go _ going) history))
+    c.client_round.new.kdc _ c.in_err-give-in-Answered.field-0.0 c.in_err-give-in-Answered.ensures.link
+    (c.in-Answered.ensures.client_history first kdc_first (clients_go _ going) history))
 
 pub returns-in-Refused-clause-client_history : goal.returns-in-Refused-clause-client_history
 returns-in-Refused-clause-client_history g c first kdc_first going history =

@@ -16,9 +16,9 @@ returns-clause-stays g c = record {
   the_proxy_tells_what_it_told = c.rounds.ensures.proxy;
   the_kdc_tells_what_it_told = c.rounds.ensures.kdc;
   the_link_tells_what_it_told = c.rounds.ensures.told;
-  the_link_fails_where_its_edits_say_so = c.rounds.ensures.still;
-  no_turns_are_spent_at_once = c.rounds.ensures.limit.0;
-  ok_comes_within_the_limit = c.rounds.ensures.limit.1;
+  the_link_fails_where_its_edits_say_so = c.rounds.ensures.failing;
+  no_turns_are_spent_at_once = c.rounds.ensures.within.0;
+  ok_comes_within_the_limit = c.rounds.ensures.within.1;
 }
 
 pub returns-clause-accounts : goal.returns-clause-accounts

@@ -17,16 +17,16 @@ returns-in_err-client_half-clause-cause g c empty =
     let p = err_from_is_err_and c.from_residual.result c.from_residual.ensures.1 in
     rw (p.1, p.2)
     (let at = c.loop-turn.invariant.at_turn empty in
-    c.in_err-client_half.ensures.half _ _ c.args.turns at.next (left_at _ _ _ _ _ _ _ at c.loop-turn-test.true) at.between)
+    c.in_err-client_half.ensures.half _ _ c.args.limit at.next (left_at _ _ _ _ _ _ _ at c.loop-turn-test.true) at.between)
 
 pub returns-in-Some-clause-cause : goal.returns-in-Some-clause-cause
 returns-in-Some-clause-cause g c empty =
     let at = c.loop-turn.invariant.at_turn empty in
     let between : Between (g.L.Link.log c.args.link.now) (g.L.Link.faults c.args.link.now) c.client_half.new.transcript.turns
     (g.L.Link.log c.client_half.new.link) (g.L.Link.faults c.client_half.new.link) =
-    c.in_ok-client_half.ensures.half _ _ c.args.turns at.next (left_at _ _ _ _ _ _ _ at c.loop-turn-test.true) at.between in (
+    c.in_ok-client_half.ensures.half _ _ c.args.limit at.next (left_at _ _ _ _ _ _ _ at c.loop-turn-test.true) at.between in (
       rw c.in-Some.is at (c.in_ok-credentials.ensures.half (g.L.Link.log c.args.link.now)
-          (g.L.Link.faults c.args.link.now) c.args.turns c.in_ok-client_half.ensures.next between),
+          (g.L.Link.faults c.args.link.now) c.args.limit c.in_ok-client_half.ensures.next between),
       sym (c.in_ok-credentials.ensures.count ∙ c.in_ok-client_half.ensures.count ∙ ap (λ n. n + 1) at.made),
     )
 
@@ -37,8 +37,8 @@ returns-in_err-credentials-clause-cause g c empty =
     (let at = c.loop-turn.invariant.at_turn empty in
     let between : Between (g.L.Link.log c.args.link.now) (g.L.Link.faults c.args.link.now) c.client_half.new.transcript.turns
     (g.L.Link.log c.client_half.new.link) (g.L.Link.faults c.client_half.new.link) =
-    c.in_ok-client_half.ensures.half _ _ c.args.turns at.next (left_at _ _ _ _ _ _ _ at c.loop-turn-test.true) at.between in
-    c.in_err-credentials.ensures.half _ _ c.args.turns c.in_ok-client_half.ensures.next between)
+    c.in_ok-client_half.ensures.half _ _ c.args.limit at.next (left_at _ _ _ _ _ _ _ at c.loop-turn-test.true) at.between in
+    c.in_err-credentials.ensures.half _ _ c.args.limit c.in_ok-client_half.ensures.next between)
 
 pub loop-turn-init : goal.loop-turn-init
 loop-turn-init g c = record {
@@ -57,10 +57,10 @@ loop-turn-preserved g c = record {
       let at = c.loop-turn.invariant.at_turn empty in
       let between : Between (g.L.Link.log c.args.link.now) (g.L.Link.faults c.args.link.now) c.client_half.new.transcript.turns
       (g.L.Link.log c.client_half.new.link) (g.L.Link.faults c.client_half.new.link) =
-      c.in_ok-client_half.ensures.half _ _ c.args.turns at.next (left_at _ _ _ _ _ _ _ at c.loop-turn-test.true) at.between in
+      c.in_ok-client_half.ensures.half _ _ c.args.limit at.next (left_at _ _ _ _ _ _ _ at c.loop-turn-test.true) at.between in
       record {
         between = rw c.in_default.is at (c.in_ok-credentials.ensures.half (g.L.Link.log c.args.link.now)
-            (g.L.Link.faults c.args.link.now) c.args.turns c.in_ok-client_half.ensures.next between);
+            (g.L.Link.faults c.args.link.now) c.args.limit c.in_ok-client_half.ensures.next between);
         next = c.in_ok-credentials.ensures.next;
         made = c.in_ok-credentials.ensures.count ∙ c.in_ok-client_half.ensures.count ∙ ap (λ n. n + 1) at.made;
       };
@@ -77,15 +77,15 @@ loop-turn-preserved g c = record {
   told = stays_on _ _ _ _ _ _ c.loop-turn.invariant.told
       (stays_on _ _ _ _ _ _ c.in_ok-client_half.ensures.told c.in_ok-credentials.ensures.told);
   still = still_on _ _ _ _ _ _ _ _ (stays_on _ _ _ _ _ _ c.loop-turn.invariant.told c.in_ok-client_half.ensures.told).same
-      (still_on _ _ _ _ _ _ _ _ c.loop-turn.invariant.told.same c.loop-turn.invariant.still c.in_ok-client_half.ensures.still)
-      c.in_ok-credentials.ensures.still;
+      (still_on _ _ _ _ _ _ _ _ c.loop-turn.invariant.told.same c.loop-turn.invariant.still c.in_ok-client_half.ensures.failing)
+      c.in_ok-credentials.ensures.failing;
 }
 
 pub returns-clause-cause : goal.returns-clause-cause
 returns-clause-cause g c empty = spent _ _ _ _ _ _ _ (c.loop-turn.invariant.at_turn empty) (omega arith)
 
-pub returns-clause-still : goal.returns-clause-still
-returns-clause-still g c = still_spent _ _ _ _ _ _ c.loop-turn.invariant.still
+pub returns-clause-failing : goal.returns-clause-failing
+returns-clause-failing g c = still_spent _ _ _ _ _ _ c.loop-turn.invariant.still
 
 pub returns-in_err-client_half-clause-client_history : goal.returns-in_err-client_half-clause-client_history
 returns-in_err-client_half-clause-client_history g c empty =
@@ -147,19 +147,19 @@ returns-clause-client_history g c empty = c.loop-turn.invariant.client_history e
 pub returns-clause-server_history : goal.returns-clause-server_history
 returns-clause-server_history g c empty = c.loop-turn.invariant.server_history empty
 
-pub returns-in_err-client_half-clause-still : goal.returns-in_err-client_half-clause-still
-returns-in_err-client_half-clause-still g c =
+pub returns-in_err-client_half-clause-failing : goal.returns-in_err-client_half-clause-failing
+returns-in_err-client_half-clause-failing g c =
     let p = err_from_is_err_and c.from_residual.result c.from_residual.ensures.1 in
     rw (p.1, p.2)
     (still_stopped (Unit {0}) Delegation _ _ _ _ _ c.in_err-client_half.field-0.0 _ _ c.loop-turn.invariant.told.same
     c.loop-turn.invariant.still
-    c.in_err-client_half.ensures.still)
+    c.in_err-client_half.ensures.failing)
 
-pub returns-in_err-credentials-clause-still : goal.returns-in_err-credentials-clause-still
-returns-in_err-credentials-clause-still g c =
+pub returns-in_err-credentials-clause-failing : goal.returns-in_err-credentials-clause-failing
+returns-in_err-credentials-clause-failing g c =
     let p = err_from_is_err_and c.from_residual-in_err-credentials.result c.from_residual-in_err-credentials.ensures.1 in
     rw (p.1, p.2)
     (still_stopped (Option AuthIdentity) Delegation _ _ _ _ _ c.in_err-credentials.field-0.0 _ _
     (stays_on _ _ _ _ _ _ c.loop-turn.invariant.told c.in_ok-client_half.ensures.told).same
-    (still_on _ _ _ _ _ _ _ _ c.loop-turn.invariant.told.same c.loop-turn.invariant.still c.in_ok-client_half.ensures.still)
-    c.in_err-credentials.ensures.still)
+    (still_on _ _ _ _ _ _ _ _ c.loop-turn.invariant.told.same c.loop-turn.invariant.still c.in_ok-client_half.ensures.failing)
+    c.in_err-credentials.ensures.failing)

@@ -15,21 +15,25 @@ returns-in_err-request-clause-half g c base start limit next w =
     rw (p.1, p.2)
     (c.in_err-request.ensures.err base start limit next (server_left limit _ next) w)
 
-pub returns-in_ok-give-in-Replied-clause-half : goal.returns-in_ok-give-in-Replied-clause-half
-returns-in_ok-give-in-Replied-clause-half g c base start limit next w =
-    c.in_ok-give-in-Replied.ensures.ok base start
-    (turned base start Server c.in_ok-request.request _ _ _ _ next (c.in_ok-request.ensures.ok base start w) c.in-Replied.ensures.turn)
+pub returns-in_ok-give-in-Answered-None-clause-half : goal.returns-in_ok-give-in-Answered-None-clause-half
+returns-in_ok-give-in-Answered-None-clause-half g c base start limit next w =
+    c.in_ok-give-in-Answered-None.ensures.ok base start
+    (turned base start Server c.in_ok-request.request _ _ _ _ next (c.in_ok-request.ensures.ok base start w)
+    (rw c.in-Answered-None.field-0-is at c.in-Answered-None.ensures.turn))
 
-pub returns-in_err-give-in-Replied-clause-half : goal.returns-in_err-give-in-Replied-clause-half
-returns-in_err-give-in-Replied-clause-half g c base start limit next w =
-    let p = err_from_is_err_and c.from_residual-in_err-give-in-Replied.result c.from_residual-in_err-give-in-Replied.ensures.1 in
+pub returns-in_err-give-in-Answered-None-clause-half : goal.returns-in_err-give-in-Answered-None-clause-half
+returns-in_err-give-in-Answered-None-clause-half g c base start limit next w =
+    let p = err_from_is_err_and c.from_residual-in_err-give-in-Answered-None.result
+    c.from_residual-in_err-give-in-Answered-None.ensures.1 in
     rw (p.1, p.2)
-    (c.in_err-give-in-Replied.ensures.err base start limit
-    (turned base start Server c.in_ok-request.request _ _ _ _ next (c.in_ok-request.ensures.ok base start w) c.in-Replied.ensures.turn))
+    (c.in_err-give-in-Answered-None.ensures.err base start limit
+    (turned base start Server c.in_ok-request.request _ _ _ _ next (c.in_ok-request.ensures.ok base start w)
+    (rw c.in-Answered-None.field-0-is at c.in-Answered-None.ensures.turn)))
 
-pub returns-in-Finished-clause-half : goal.returns-in-Finished-clause-half
-returns-in-Finished-clause-half g c base start limit next w =
-    finishes base start c.in_ok-request.request _ _ _ _ next (c.in_ok-request.ensures.ok base start w) c.in-Finished.ensures.turn
+pub returns-in-Answered-Some-clause-half : goal.returns-in-Answered-Some-clause-half
+returns-in-Answered-Some-clause-half g c base start limit next w =
+    finishes base start c.in_ok-request.request _ _ _ _ next (c.in_ok-request.ensures.ok base start w)
+    (rw c.in-Answered-Some.field-0-is at c.in-Answered-Some.ensures.turn)
 
 pub returns-in-Refused-clause-half : goal.returns-in-Refused-clause-half
 returns-in-Refused-clause-half g c base start limit next w =
@@ -44,19 +48,22 @@ pub returns-in-Lost-clause-half : goal.returns-in-Lost-clause-half
 returns-in-Lost-clause-half g c base start limit next w =
     lost base start limit c.in_ok-request.request _ _ _ _ (c.in_ok-request.ensures.ok base start w) c.in-Lost.ensures.turn
 
-pub returns-in_ok-give-in-Replied-clause-server_history : goal.returns-in_ok-give-in-Replied-clause-server_history
-returns-in_ok-give-in-Replied-clause-server_history g c first history = c.in-Replied.ensures.server_history first history
+pub returns-in_ok-give-in-Answered-None-clause-server_history : goal.returns-in_ok-give-in-Answered-None-clause-server_history
+returns-in_ok-give-in-Answered-None-clause-server_history g c first history =
+    rw c.in-Answered-None.field-0-is at c.in-Answered-None.ensures.server_history first history
 
-pub returns-in_err-give-in-Replied-clause-server_history : goal.returns-in_err-give-in-Replied-clause-server_history
-returns-in_err-give-in-Replied-clause-server_history g c first history =
-    let p = err_from_is_err_and c.from_residual-in_err-give-in-Replied.result c.from_residual-in_err-give-in-Replied.ensures.1 in
+pub returns-in_err-give-in-Answered-None-clause-server_history : goal.returns-in_err-give-in-Answered-None-clause-server_history
+returns-in_err-give-in-Answered-None-clause-server_history g c first history =
+    let p = err_from_is_err_and c.from_residual-in_err-give-in-Answered-None.result
+    c.from_residual-in_err-give-in-Answered-None.ensures.1 in
     rw (p.1, p.2)
     (server_half_stopped (either g.N.Mechanism.REQUESTS g.N.Mechanism.meaning g.K.Mechanism.meaning) g.C.CredentialsProxy.meaning first
-    c.server_round.new.server _ c.in_err-give-in-Replied.field-0.0 c.in_err-give-in-Replied.ensures.link
-    (c.in-Replied.ensures.server_history first history))
+    c.server_round.new.server _ c.in_err-give-in-Answered-None.field-0.0 c.in_err-give-in-Answered-None.ensures.link
+    (rw c.in-Answered-None.field-0-is at c.in-Answered-None.ensures.server_history first history))
 
-pub returns-in-Finished-clause-server_history : goal.returns-in-Finished-clause-server_history
-returns-in-Finished-clause-server_history g c first history = c.in-Finished.ensures.server_history first history
+pub returns-in-Answered-Some-clause-server_history : goal.returns-in-Answered-Some-clause-server_history
+returns-in-Answered-Some-clause-server_history g c first history =
+    rw c.in-Answered-Some.field-0-is at c.in-Answered-Some.ensures.server_history first history
 
 pub returns-in-Refused-clause-server_history : goal.returns-in-Refused-clause-server_history
 returns-in-Refused-clause-server_history g c first history =
@@ -74,9 +81,9 @@ returns-in_err-request-clause-server_history g c first history =
     (server_half_stopped (either g.N.Mechanism.REQUESTS g.N.Mechanism.meaning g.K.Mechanism.meaning) g.C.CredentialsProxy.meaning first
     c.args.server.now _ c.in_err-request.field-0.0 c.in_err-request.ensures.link history)
 
-pub returns-in-Refused-clause-still : goal.returns-in-Refused-clause-still
-returns-in-Refused-clause-still g c =
+pub returns-in-Refused-clause-failing : goal.returns-in-Refused-clause-failing
+returns-in-Refused-clause-failing g c =
     refused_still (Option AuthIdentity) _ _ _ _ _ c.give-given.result c.in-Refused.error c.server_error.result _ _ _
-    c.in_ok-request.ensures.told.same (read_still _ _ _ c.in_ok-request.request c.in_ok-request.ensures.still)
-    c.give-given.ensures.still c.give-given.ensures.same
+    c.in_ok-request.ensures.told.same (read_still _ _ _ c.in_ok-request.request c.in_ok-request.ensures.failing)
+    c.give-given.ensures.failing c.give-given.ensures.same
     c.server_error.ensures

@@ -11,6 +11,6 @@ returns-clause-comes g c matching fresh undisturbed none calm enough =
     early_comes g.P.Policy.meaning (g.L.Link.edits link) (g.L.Link.log link) (g.L.Link.faults link)
     (λ l. link_at (g.L.Link.log l) (g.L.Link.edits l) (g.L.Link.faults l))
     c.delegate_plainly-delegated.result made.link c.tell_early.new.link c.args.policy.now c.tell_early.new.policy c.tell_early.result
-    c.args.turns made.transcript.turns (messages_in matching) (delegated_as c.args.client.now.settings.delegation matching.identity)
+    c.args.limit made.transcript.turns (messages_in matching) (delegated_as c.args.client.now.settings.delegation matching.identity)
     c.tell_early.ensures (ensures.delegates fresh).accounts.turns_and_log_show_the_answer ensures.stays.the_link_tells_what_it_told
     (λ still. ensures.comes matching fresh still none enough) undisturbed calm

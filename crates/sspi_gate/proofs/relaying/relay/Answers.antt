@@ -8,29 +8,29 @@ loop-init g c = record { passed = refl; so_far = no_turn _ _ }
 
 pub returns-in-Ended : goal.returns-in-Ended
 returns-in-Ended g c =
-    client_ended c.args.turns c.loop.counter c.loop.passed _ _ _ _ _ _ _ c.loop.invariant.so_far c.in-Ended.ensures c.loop-test.true
+    client_ended c.args.limit c.loop.counter c.loop.passed _ _ _ _ _ _ _ c.loop.invariant.so_far c.in-Ended.ensures c.loop-test.true
     c.loop.invariant.passed
 
 pub returns-in-Stopped : goal.returns-in-Stopped
 returns-in-Stopped g c =
-    client_stopped c.args.turns c.loop.counter c.loop.passed _ _ _ _ _ _ _ c.in-Stopped.why c.loop.invariant.so_far c.in-Stopped.ensures
+    client_stopped c.args.limit c.loop.counter c.loop.passed _ _ _ _ _ _ _ c.in-Stopped.why c.loop.invariant.so_far c.in-Stopped.ensures
     c.loop-test.true c.loop.invariant.passed
 
 pub returns-in-Ended-pass_next : goal.returns-in-Ended-pass_next
 returns-in-Ended-pass_next g c =
-    server_ended c.args.turns c.loop.counter _ _ _ _ _ _ _ _
+    server_ended c.args.limit c.loop.counter _ _ _ _ _ _ _ _
     (client_passed c.loop.counter _ _ _ _ _ _ _ c.in-Passed.seen c.loop.invariant.so_far c.in-Passed.ensures)
     c.in-Ended-pass_next.ensures c.loop-test.true (omega (arith, c.loop.invariant.passed))
 
 pub returns-in-Stopped-pass_next : goal.returns-in-Stopped-pass_next
 returns-in-Stopped-pass_next g c =
-    server_stopped c.args.turns c.loop.counter _ _ _ _ _ _ _ _ c.in-Stopped-pass_next.why
+    server_stopped c.args.limit c.loop.counter _ _ _ _ _ _ _ _ c.in-Stopped-pass_next.why
     (client_passed c.loop.counter _ _ _ _ _ _ _ c.in-Passed.seen c.loop.invariant.so_far c.in-Passed.ensures)
     c.in-Stopped-pass_next.ensures c.loop-test.true (omega (arith, c.loop.invariant.passed))
 
 pub returns-in-Some : goal.returns-in-Some
 returns-in-Some g c =
-    server_refused c.args.turns c.loop.counter _ _ _ _ _ _ _ _ c.in-Passed-pass_next.seen c.in-Some.code
+    server_refused c.args.limit c.loop.counter _ _ _ _ _ _ _ _ c.in-Passed-pass_next.seen c.in-Some.code
     (client_passed c.loop.counter _ _ _ _ _ _ _ c.in-Passed.seen c.loop.invariant.so_far c.in-Passed.ensures)
     c.in-Passed-pass_next.ensures c.in-Some.is c.loop-test.true (omega (arith, c.loop.invariant.passed))
 
@@ -44,4 +44,4 @@ loop-preserved g c = record {
 
 pub returns : goal.returns
 returns g c =
-    spent c.args.turns c.loop.counter c.loop.passed _ _ _ _ _ _ c.loop.invariant.so_far (omega arith) c.loop.invariant.passed
+    spent c.args.limit c.loop.counter c.loop.passed _ _ _ _ _ _ c.loop.invariant.so_far (omega arith) c.loop.invariant.passed

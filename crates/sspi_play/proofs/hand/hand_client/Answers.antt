@@ -11,9 +11,9 @@ use Rattle.sspi_play.proofs.hand.hand_client.Goals as goal
 pub returns-in-Err-clause-hands : goal.returns-in-Err-clause-hands
 returns-in-Err-clause-hands g c = (unread_is c.args.start c.args.bytes.now c.in-Err.kind (search rules) c.in-Err.ensures, refl)
 
-pub returns-in-Replied-clause-hands : goal.returns-in-Replied-clause-hands
-returns-in-Replied-clause-hands g c =
-    pushed_turn Client c.args.start c.args.bytes.now c.in-Ok.request GoesOn _ _ c.in-Ok.ensures c.in-Replied.ensures.turn
+pub returns-in-Answered-clause-hands : goal.returns-in-Answered-clause-hands
+returns-in-Answered-clause-hands g c =
+    pushed_turn Client c.args.start c.args.bytes.now c.in-Ok.request GoesOn _ _ c.in-Ok.ensures c.in-Answered.ensures.turn
 
 pub returns-in-Refused-clause-hands : goal.returns-in-Refused-clause-hands
 returns-in-Refused-clause-hands g c =

@@ -11,13 +11,23 @@ use Rattle.sspi_play.proofs.hand.hand_server.Goals as goal
 pub returns-in-Err-clause-hands : goal.returns-in-Err-clause-hands
 returns-in-Err-clause-hands g c = (unread_is false c.args.bytes.now c.in-Err.kind (search rules) c.in-Err.ensures, refl)
 
-pub returns-in-Replied-clause-hands : goal.returns-in-Replied-clause-hands
-returns-in-Replied-clause-hands g c =
-    pushed_turn Server false c.args.bytes.now c.in-Ok.request GoesOn _ _ c.in-Ok.ensures c.in-Replied.ensures.turn
+pub returns-in-Answered-None-clause-hands : goal.returns-in-Answered-None-clause-hands
+returns-in-Answered-None-clause-hands g c =
+    pushed_turn Server false c.args.bytes.now c.in-Ok.request GoesOn _ _ c.in-Ok.ensures
+    (rw c.in-Answered-None.field-0-is at c.in-Answered-None.ensures.turn)
 
-pub returns-in-Finished-clause-hands : goal.returns-in-Finished-clause-hands
-returns-in-Finished-clause-hands g c =
-    pushed_turn Server false c.args.bytes.now c.in-Ok.request IsFinished _ _ c.in-Ok.ensures c.in-Finished.ensures.turn
+pub returns-in-Answered-Some-clause-hands : goal.returns-in-Answered-Some-clause-hands
+returns-in-Answered-Some-clause-hands g c =
+    pushed_turn Server false c.args.bytes.now c.in-Ok.request IsFinished _ _ c.in-Ok.ensures
+    (rw c.in-Answered-Some.field-0-is at c.in-Answered-Some.ensures.turn)
+
+pub returns-in-Answered-None-clause-history : goal.returns-in-Answered-None-clause-history
+returns-in-Answered-None-clause-history g c first history =
+    rw c.in-Answered-None.field-0-is at c.in-Answered-None.ensures.server_history first history
+
+pub returns-in-Answered-Some-clause-history : goal.returns-in-Answered-Some-clause-history
+returns-in-Answered-Some-clause-history g c first history =
+    rw c.in-Answered-Some.field-0-is at c.in-Answered-Some.ensures.server_history first history
 
 pub returns-in_ok-ending-in-Refused-clause-history : goal.returns-in_ok-ending-in-Refused-clause-history
 returns-in_ok-ending-in-Refused-clause-history g c first history =

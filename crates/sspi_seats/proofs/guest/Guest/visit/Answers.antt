@@ -6,16 +6,16 @@ use Rattle.sspi_seats.specs.Guest.{IsSpeaking}
 use Rattle.sspi_seats.proofs.Turning.{kept_runs, kept_ended, turn_speaks, turn_ends}
 use Rattle.sspi_seats.proofs.guest.Guest.visit.Goals as goal
 
-pub returns-in-Replied-clause-visited : goal.returns-in-Replied-clause-visited
-returns-in-Replied-clause-visited g c came rounds is kept =
+pub returns-in-Answered-clause-visited : goal.returns-in-Answered-clause-visited
+returns-in-Answered-clause-visited g c came rounds is kept =
     let m = either g.N.Mechanism.REQUESTS g.N.Mechanism.meaning g.K.Mechanism.meaning in
     let p = g.C.CredentialsProxy.meaning in
     let k = kdc_calls g.D.Kdc.told g.D.Kdc.asked g.D.Kdc.faults in
     let guest = c.args.self.now in
     let at = kept_runs m p k came rounds guest c.in-Some.request _ (sym c.in-Some.ensures.value) kept in
     let speaking = turn_speaks m p k came rounds c.in-Some.request guest c.client_round.new.client c.client_round.new.kdc
-    c.client_round.new.transcript c.take.new.self at.runs c.in-Replied.ensures.turn
-    (λ history. c.in-Replied.ensures.client_history came.client came.kdc (clients_go _ at.runs.turned.go) history) in
+    c.client_round.new.transcript c.take.new.self at.runs c.in-Answered.ensures.turn
+    (λ history. c.in-Answered.ensures.client_history came.client came.kdc (clients_go _ at.runs.turned.go) history) in
     c.speak.ensures.visited came at.server c.in-Some.ensures.after
     (subst (λ (n : ℕ). IsSpeaking m p k came n (record guest {
       client = c.client_round.new.client;

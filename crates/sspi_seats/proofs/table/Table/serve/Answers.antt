@@ -20,7 +20,7 @@ returns-then-not-runs g c cames seated =
     let p = g.C.CredentialsProxy.meaning in
     let k = kdc_calls g.D.Kdc.told g.D.Kdc.asked g.D.Kdc.faults in
     let none : list_any (λ guest. is_some guest.next) c.loop-turn.self.guests.items ≡ false = search rules in
-    rest_over m p k cames c.loop-turn.turn c.args.turns c.loop-turn.self (c.loop-turn.invariant cames seated)
+    rest_over m p k cames c.loop-turn.turn c.args.limit c.loop-turn.self (c.loop-turn.invariant cames seated)
     (omega (arith, c.loop-turn-test.true)) none
 
 pub returns : goal.returns
@@ -28,5 +28,5 @@ returns g c cames seated =
     let m = either g.N.Mechanism.REQUESTS g.N.Mechanism.meaning g.K.Mechanism.meaning in
     let p = g.C.CredentialsProxy.meaning in
     let k = kdc_calls g.D.Kdc.told g.D.Kdc.asked g.D.Kdc.faults in
-    let spent : c.loop-turn.turn ≡ c.args.turns = search rules in
+    let spent : c.loop-turn.turn ≡ c.args.limit = search rules in
     subst (λ (n : ℕ). AreVisited m p k cames n 0 c.loop-turn.self) spent (c.loop-turn.invariant cames seated)
