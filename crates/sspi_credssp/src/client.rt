@@ -277,9 +277,7 @@ impl<N: Mechanism, K: Mechanism> CredSspClient<N, K> {
         match self.state {
             CredSspState::NegoToken => self.negotiate(request),
             CredSspState::AuthInfo => Ok(Progress::Completed(self.conclude(request)?)),
-            CredSspState::PubKeyInfo | CredSspState::Final => {
-                Err(Refusal::new(ErrorKind::OutOfSequence, Reason::Sequence))
-            }
+            CredSspState::PubKeyInfo | CredSspState::Final => Err(Refusal::out_of_sequence()),
         }
     }
 

@@ -6,7 +6,7 @@ ghost use Rattle.sspi_mech.specs.Refusals.{error_of};
 use sspi_mech::Refusal;
 use sspi_names::{AuthIdentity, Credentials, CredentialsBuffers};
 use sspi_tsreq::{CredSspMode, read_ts_credentials_from_slice, write_ts_credentials};
-use sspi_types::{ErrorKind, Reason};
+use sspi_types::ErrorKind;
 use std::alloc::Global;
 
 pub fn write_credentials(
@@ -31,8 +31,6 @@ pub fn read_identity(alloc: Global, text: &[u8]) -> Result<AuthIdentity, Refusal
         CredentialsBuffers::AuthIdentity(buffers) => Ok(AuthIdentity::from_buffers(
             alloc, &buffers,
         )?),
-        CredentialsBuffers::Keytab(_) => {
-            Err(Refusal::new(ErrorKind::InvalidToken, Reason::TokenForm))
-        }
+        CredentialsBuffers::Keytab(_) => Err(Refusal::malformed()),
     }
 }

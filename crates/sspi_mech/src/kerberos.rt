@@ -140,7 +140,7 @@ impl Kerberos {
             | Stage::SessionAsked(_)
             | Stage::Ended(_)
             | Stage::TicketSent
-            | Stage::Accepted(_) => Err(out_of_sequence()),
+            | Stage::Accepted(_) => Err(Refusal::out_of_sequence()),
         }
     }
 
@@ -175,7 +175,7 @@ impl Kerberos {
             self.old (answered result) self.new }
     {
         let Some(ticket) = read_ticket(input) else {
-            return Err(malformed());
+            return Err(Refusal::malformed());
         };
         let logon = logon_of(self.alloc, &self.realms, handle)?;
         let payload = tgs_request(self.alloc, key, ticket)?;
@@ -208,7 +208,7 @@ impl Kerberos {
             | Stage::SessionSent(_)
             | Stage::Ended(_)
             | Stage::TicketSent
-            | Stage::Accepted(_) => Err(out_of_sequence()),
+            | Stage::Accepted(_) => Err(Refusal::out_of_sequence()),
         }
     }
 
@@ -240,7 +240,7 @@ impl Kerberos {
             | Stage::SessionAsked(_)
             | Stage::SessionSent(_)
             | Stage::Ended(_)
-            | Stage::Accepted(_) => Err(out_of_sequence()),
+            | Stage::Accepted(_) => Err(Refusal::out_of_sequence()),
         }
     }
 
@@ -248,7 +248,7 @@ impl Kerberos {
         ensures { Steps (sends_ticket self.old self.old.ticket) self.old (answered result) self.new }
     {
         let Some(ticket) = &self.ticket else {
-            return Err(malformed());
+            return Err(Refusal::malformed());
         };
         let output = ticket_reply(self.alloc, ticket)?;
         self.stage = Stage::TicketSent;
@@ -288,7 +288,7 @@ fn check_shown(key: &[u8; 32], input: &[u8]) -> Result<(), Refusal>
     ensures answer { Gives result (proof_by key.now (read_ap_reply input.now)) }
 {
     let Some(proof) = read_ap_reply(input) else {
-        return Err(malformed());
+        return Err(Refusal::malformed());
     };
     if proof.as_slice() != reply_proof(key).as_slice() {
         return Err(Refusal::new(ErrorKind::MutualAuthFailed, Reason::Tag));
@@ -315,18 +315,6 @@ fn answer(moved: Result<Progressing, Refusal>) -> Answer
         Ok(Progressing::Suspended(request)) => Answer::Ask(request),
         Err(refusal) => Answer::Refused(refusal.into()),
     }
-}
-
-fn out_of_sequence() -> Refusal
-    ensures { result ≡ record { error_type = ErrorKind.OutOfSequence; description = Reason.Sequence } }
-{
-    Refusal::new(ErrorKind::OutOfSequence, Reason::Sequence)
-}
-
-fn malformed() -> Refusal
-    ensures { result ≡ record { error_type = ErrorKind.InvalidToken; description = Reason.TokenForm } }
-{
-    Refusal::new(ErrorKind::InvalidToken, Reason::TokenForm)
 }
 
 impl Mechanism for Kerberos {
@@ -402,7 +390,7 @@ impl Mechanism for Kerberos {
     fn names(&self) -> Result<Username, Error> {
         match self.stage.name() {
             Some(name) => Ok(name.clone(self.alloc)?),
-            None => Err(out_of_sequence().into()),
+            None => Err(Refusal::out_of_sequence().into()),
         }
     }
 
@@ -421,7 +409,7 @@ impl Mechanism for Kerberos {
             | Stage::SessionAsked(_)
             | Stage::SessionSent(_)
             | Stage::Ended(_)
-            | Stage::TicketSent => Err(out_of_sequence().into()),
+            | Stage::TicketSent => Err(Refusal::out_of_sequence().into()),
         }
     }
 

@@ -23,8 +23,8 @@ use crate::refusal::Refusal;
 use crate::step::{Answer, Reply, Step};
 use sspi_names::{Credentials, CredentialsBuffers, Username};
 use sspi_types::{
-    Bytes, ContextSizes, CredentialUse, Error, ErrorKind, PackageInfo, Reason, SecurityPackageType,
-    SecurityStatus, SessionKeys, query_security_package_info,
+    Bytes, ContextSizes, CredentialUse, Error, PackageInfo, SecurityPackageType, SecurityStatus,
+    SessionKeys, query_security_package_info,
 };
 use std::alloc::Global;
 use std::marker::Model;
@@ -78,7 +78,7 @@ impl Ntlm {
             Stage::Unused => self.negotiate(),
             Stage::NegotiateSent => self.authenticate(handle, input),
             Stage::AuthenticateSent(_) | Stage::ChallengeSent | Stage::Claimed(_) => Err(
-                out_of_sequence(),
+                Refusal::out_of_sequence(),
             ),
         }
     }
@@ -103,7 +103,7 @@ impl Ntlm {
             self.new }
     {
         let Some(challenge) = read_challenge(input) else {
-            return Err(malformed());
+            return Err(Refusal::malformed());
         };
         let login = login_of(self.alloc, handle)?;
         let name = login.name.inner();
@@ -126,7 +126,7 @@ impl Ntlm {
             Stage::Unused => self.challenge(input),
             Stage::ChallengeSent => self.take_claim(input),
             Stage::NegotiateSent | Stage::AuthenticateSent(_) | Stage::Claimed(_) => Err(
-                out_of_sequence(),
+                Refusal::out_of_sequence(),
             ),
         }
     }
@@ -135,7 +135,7 @@ impl Ntlm {
         ensures { Steps (challenges self.old (is_negotiate input.now)) self.old (answered result) self.new }
     {
         if !is_negotiate(input) {
-            return Err(malformed());
+            return Err(Refusal::malformed());
         }
         let output = challenge_message(self.alloc, &self.challenge)?;
         self.stage = Stage::ChallengeSent;
@@ -155,18 +155,6 @@ impl Ntlm {
             output: Bytes::new(self.alloc),
         })
     }
-}
-
-fn out_of_sequence() -> Refusal
-    ensures { result ≡ record { error_type = ErrorKind.OutOfSequence; description = Reason.Sequence } }
-{
-    Refusal::new(ErrorKind::OutOfSequence, Reason::Sequence)
-}
-
-fn malformed() -> Refusal
-    ensures { result ≡ record { error_type = ErrorKind.InvalidToken; description = Reason.TokenForm } }
-{
-    Refusal::new(ErrorKind::InvalidToken, Reason::TokenForm)
 }
 
 impl Mechanism for Ntlm {
@@ -210,7 +198,7 @@ impl Mechanism for Ntlm {
     }
 
     fn resume(&mut self, _reply: &Reply) -> Answer {
-        Answer::Refused(out_of_sequence().into())
+        Answer::Refused(Refusal::out_of_sequence().into())
     }
 
     fn accept(&mut self, args: &AcceptSecurityContext<'_>) -> Result<Step, Error> {
@@ -235,7 +223,7 @@ impl Mechanism for Ntlm {
             Stage::AuthenticateSent(name) => Ok(name.clone(self.alloc)?),
             Stage::Claimed(claim) => Ok(claim.name.clone(self.alloc)?),
             Stage::Unused | Stage::NegotiateSent | Stage::ChallengeSent => Err(
-                out_of_sequence().into(),
+                Refusal::out_of_sequence().into(),
             ),
         }
     }

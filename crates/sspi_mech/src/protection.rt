@@ -67,7 +67,7 @@ impl Protection {
     {
         match &self.key {
             Some(key) => Ok(key),
-            None => Err(Refusal::new(ErrorKind::OutOfSequence, Reason::Sequence)),
+            None => Err(Refusal::out_of_sequence()),
         }
     }
 

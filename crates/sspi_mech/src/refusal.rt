@@ -26,6 +26,20 @@ impl Refusal {
             description,
         }
     }
+
+    /// Of a call out of its place.
+    pub fn out_of_sequence() -> Refusal
+        ensures { result ≡ record { error_type = ErrorKind.OutOfSequence; description = Reason.Sequence } }
+    {
+        Refusal::new(ErrorKind::OutOfSequence, Reason::Sequence)
+    }
+
+    /// Of a message of another form.
+    pub fn malformed() -> Refusal
+        ensures { result ≡ record { error_type = ErrorKind.InvalidToken; description = Reason.TokenForm } }
+    {
+        Refusal::new(ErrorKind::InvalidToken, Reason::TokenForm)
+    }
 }
 
 impl From<Refusal> for Error {

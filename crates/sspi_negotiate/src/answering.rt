@@ -24,7 +24,7 @@ use crate::branch::Branch;
 use crate::negotiate::Negotiate;
 use crate::opening::{done, step_with};
 use crate::protocol::{NegotiatedProtocol, Protocol};
-use crate::refusal::{invalid_token, out_of_sequence};
+use crate::refusal::invalid_token;
 use crate::rows::{is_complete, is_guest, is_ok};
 use sspi_mech::{Answer, InitializeSecurityContext, Mechanism, Progressing, Refusal, Reply, Step};
 use sspi_names::CredentialsBuffers;
@@ -376,7 +376,7 @@ impl<N: Mechanism, K: Mechanism> Negotiate<N, K> {
         ensures first { is_answering self.old.branch ≡ false → StaysUnmarked N.meaning K.meaning self.old self.new }
     {
         match mem::replace(&mut self.branch, Branch::Idle) {
-            Branch::Idle => Err(out_of_sequence()),
+            Branch::Idle => Err(Refusal::out_of_sequence()),
             Branch::Opening(first) => self.resume_opening(first, reply),
             Branch::Answering(token) => self.resume_answering(token, reply),
         }

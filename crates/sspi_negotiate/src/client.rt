@@ -16,7 +16,6 @@ ghost use Rattle.sspi_negotiate.specs.Values.{values_of};
 ghost use Rattle.sspi_negotiate.specs.declared.state.NegotiateState.TheVariants as states;
 
 use crate::negotiate::Negotiate;
-use crate::refusal::out_of_sequence;
 use crate::state::{NegotiateState, Role};
 use crate::target::is_named_by_ip;
 use sspi_mech::{InitializeSecurityContext, Mechanism, Progressing, Refusal};
@@ -72,7 +71,7 @@ impl<N: Mechanism, K: Mechanism> Negotiate<N, K> {
         ensures first { self.old.state ≡ states.Initial → StaysUnmarked N.meaning K.meaning self.old self.new }
     {
         if self.is_closed() {
-            Err(out_of_sequence())
+            Err(Refusal::out_of_sequence())
         } else {
             self.data_representation = args.target_data_representation;
             self.step_to(ip, args)
@@ -222,7 +221,7 @@ impl<N: Mechanism, K: Mechanism> Negotiate<N, K> {
             NegotiateState::Initial => self.first_step(args),
             NegotiateState::InProgress => self.read_answer(args),
             NegotiateState::VerifyMic => self.confirm(args),
-            NegotiateState::Ok => Err(out_of_sequence()),
+            NegotiateState::Ok => Err(Refusal::out_of_sequence()),
         }
     }
 }

@@ -3,13 +3,6 @@ ghost use Rattle.std.specs.Prelude.{◌≡◌};
 use sspi_mech::Refusal;
 use sspi_types::{ErrorKind, Reason};
 
-/// A call that does not come in this state.
-pub(crate) fn out_of_sequence() -> Refusal
-    ensures { result.error_type ≡ ErrorKind.OutOfSequence }
-{
-    Refusal::new(ErrorKind::OutOfSequence, Reason::Sequence)
-}
-
 /// A token that may not come here.
 pub(crate) fn invalid_token(reason: Reason) -> Refusal
     ensures { result.error_type ≡ ErrorKind.InvalidToken }

@@ -21,7 +21,7 @@ ghost use Rattle.sspi_negotiate.specs.Verified.{HasNoMic};
 use crate::negotiate::Negotiate;
 use crate::pick::{Choice, Picked, pick};
 use crate::protocol::NegotiatedProtocol;
-use crate::refusal::{invalid_token, out_of_sequence};
+use crate::refusal::invalid_token;
 use crate::rows::{is_over, server_wants_mic};
 use crate::state::{NegotiateState, Role};
 use sspi_mech::{AcceptSecurityContext, Mechanism, Refusal, Step};
@@ -101,12 +101,12 @@ impl<N: Mechanism, K: Mechanism> Negotiate<N, K> {
         ensures picked { self.old.state ≢ states.Initial → StaysPicked (values_of self.old) (values_of self.new) }
     {
         match self.role {
-            Role::Client => Err(out_of_sequence()),
+            Role::Client => Err(Refusal::out_of_sequence()),
             Role::Server => match self.state {
                 NegotiateState::Initial => self.read_init(args),
                 NegotiateState::InProgress => self.read_response(args),
                 NegotiateState::VerifyMic => self.read_last(args),
-                NegotiateState::Ok => Err(out_of_sequence()),
+                NegotiateState::Ok => Err(Refusal::out_of_sequence()),
             },
         }
     }

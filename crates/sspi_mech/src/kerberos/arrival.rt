@@ -23,7 +23,7 @@ pub fn arrival_of(alloc: Global, message: &[u8]) -> Result<Arrival, Refusal>
     ensures { Gives result (arrival_of message.now) }
 {
     let Some((name, key)) = read_ap_request(message) else {
-        return Err(Refusal::new(ErrorKind::InvalidToken, Reason::TokenForm));
+        return Err(Refusal::malformed());
     };
     let Some(text) = text_in(name) else {
         return Err(Refusal::new(ErrorKind::InvalidToken, Reason::Utf));

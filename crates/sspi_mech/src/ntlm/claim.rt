@@ -17,7 +17,7 @@ pub fn claim_of(alloc: Global, message: &[u8]) -> Result<Claim, Refusal>
     ensures { Gives result (claim_of message.now) }
 {
     let Some((name, proof)) = read_authenticate(message) else {
-        return Err(Refusal::new(ErrorKind::InvalidToken, Reason::TokenForm));
+        return Err(Refusal::malformed());
     };
     let Some(text) = text_in(name) else {
         return Err(Refusal::new(ErrorKind::InvalidToken, Reason::Utf));
@@ -41,7 +41,7 @@ impl Stage {
             Stage::Unused
             | Stage::NegotiateSent
             | Stage::AuthenticateSent(_)
-            | Stage::ChallengeSent => Err(Refusal::new(ErrorKind::OutOfSequence, Reason::Sequence)),
+            | Stage::ChallengeSent => Err(Refusal::out_of_sequence()),
         }
     }
 }
