@@ -13,14 +13,14 @@ use Rattle.sspi_mech.specs.Meaning.{Meaning}
 use Rattle.sspi_credssp.specs.declared.public_key.EndpointType.TheVariants.{Server}
 use Rattle.sspi_credssp.specs.declared.state.CredSspState.{CredSspState}
 use Rattle.sspi_credssp.specs.declared.state.CredSspState.TheVariants.{NegoToken, AuthInfo}
-use Rattle.sspi_credssp.specs.Acts.{sealed_by, unsealed_by}
+use Rattle.sspi_credssp.specs.Acts.{sealings_by, unsealings_by}
 use Rattle.sspi_credssp.specs.Begun.{BeginCause}
 use Rattle.sspi_credssp.specs.Client.{ClientSettings, ClientView}
 use Rattle.sspi_credssp.specs.ClientCause.{ClientCause, StateCause, DeliverCause, BlobOpens, SealsCause}
 use Rattle.sspi_credssp.specs.ClientTurn.{StartsUnused, client_frame, client_turn}
 use Rattle.sspi_credssp.specs.Turn.{ClientFrame, OnceNegotiated}
 use Rattle.sspi_credssp.specs.Context.{ContextSetting, ForClient}
-use Rattle.sspi_credssp.specs.Counts.{sealed_in, unsealed_in, SealsIn, SameBut, cleared}
+use Rattle.sspi_credssp.specs.Counts.{sealings_in, unsealings_in, SealsIn, SameBut, cleared}
 use Rattle.sspi_credssp.specs.Credentials.{delegated_text, IfText}
 use Rattle.sspi_credssp.specs.Exchange.{opens_other, BlobStops, CheckedCause, altered, unsealed, ProofCause}
 use Rattle.sspi_credssp.specs.PublicKey.{prescribed}
@@ -89,10 +89,10 @@ module _ {C D : Type 0} (c : Meaning ContextSetting C) (k : KdcCalls D) where
         let unproved : mid.acts.proved ≡ false = is_false mid.acts.proved (λ was.
         let answered = turn.turn.shown.acts.answered (rw (turn.turn.shown.acts.proved was).0 refl) in
         let nego = turn.turn.shown.acts.negotiated answered in let auth = given.is.state_is in cc) in
-        let one : sealed_by mid.acts ≡ 1 = rw (unproved, final.sealed) refl in
-        let sealed_now : sealed_in c mid.context ≡ 2 = turn.moves.sealed unused ∙ (rw (given.is.sealed_is, one) refl) in
+        let one : sealings_by mid.acts ≡ 1 = rw (unproved, final.sealed) refl in
+        let sealed_now : sealings_in c mid.context ≡ 2 = turn.moves.sealings unused ∙ (rw (given.is.sealed_is, one) refl) in
         let seals = subst (λ (x : Result (List ℕ) Error). IfText x
-        (λ text. SealsIn c mid.context (sealed_in c mid.context - 1) text r.auth_info))
+        (λ text. SealsIn c mid.context (sealings_in c mid.context - 1) text r.auth_info))
         (texts_of mid turn.moves.same) turn.turn.held.reply in
         let field = sealed_field c mid.context y own _ text r.auth_info holds given.maker seals in
         let field_is : r.auth_info ≡ Some (own 1 text) = field ∙ (rw sealed_now refl) in
@@ -113,21 +113,21 @@ module _ {C D : Type 0} (c : Meaning ContextSetting C) (k : KdcCalls D) where
         (stops_later _ InvalidToken kind _ given.code (stops_later _ OutOfSequence kind _ given.is.idle cause)))))
 
     seals_never : (m : C) (kind : ErrorKind) (texts : Result (List ℕ) Error) → texts ≡ Ok text → cleared c m ≡ y →
-        (c.counts m).sealed < 2 ^ 64 - 1 →
+        (c.counts m).sealings < 2 ^ 64 - 1 →
         SealsCause c m texts kind → ⊥
     seals_never m kind texts is same few h = given.maker.never m text kind same few
         (subst (λ (r : Result (List ℕ) Error). SealsCause c m r kind) is h)
 
     checked_never : (m : C) (kind : ErrorKind) (texts : Result (List ℕ) Error) → texts ≡ Ok text → cleared c m ≡ y →
-        (c.counts m).sealed < 2 ^ 64 - 1 →
+        (c.counts m).sealings < 2 ^ 64 - 1 →
         CheckedCause c m (peers 0 proof_text) proof_text (SealsCause c m texts kind) kind → ⊥
     checked_never m kind texts is same few (altered (opens_other text2 opens differs) kind_is) =
         differs (given.taker.opened m 0 _ proof_text text2 same opens)
     checked_never m kind texts is same few (unsealed opens h) = seals_never m kind texts is same few h
 
     opened_never : (checked : Bool) (m : C) (kind : ErrorKind) (texts : Result (List ℕ) Error) → texts ≡ Ok text → cleared c m ≡ y →
-        (c.counts m).sealed < 2 ^ 64 - 1 →
-        (checked ≡ false → (c.counts m).unsealed ≡ 0) → ProofCause c checked m (peers 0 proof_text) proof_text
+        (c.counts m).sealings < 2 ^ 64 - 1 →
+        (checked ≡ false → (c.counts m).unsealings ≡ 0) → ProofCause c checked m (peers 0 proof_text) proof_text
         (SealsCause c m texts kind) kind → ⊥
     opened_never false m kind texts is same few next h = given.taker.never m 0 proof_text kind same (next refl) (omega arith) h
     opened_never true m kind texts is same few next h = checked_never m kind texts is same few h
@@ -152,17 +152,17 @@ module _ {C D : Type 0} (c : Meaning ContextSetting C) (k : KdcCalls D) where
         let at = subst (λ (p : List ℕ). ProofCause c mid.acts.checked holds.held blob p
         (SealsCause c holds.held (delegated_text mid.settings.credentials mid.settings.delegation) error.error_type)
         error.error_type) proof_is opens in
-        let sealed = turn.moves.sealed unused in
-        let opened = turn.moves.unsealed unused in
+        let sealed = turn.moves.sealings unused in
+        let opened = turn.moves.unsealings unused in
         let sealed_before = given.is.sealed_is in
         let opened_before = given.is.unsealed_is in
-        let sealed_here : sealed_in c mid.context ≡ (c.counts holds.held).sealed = ap (sealed_in c) holds.there in
-        let opened_here : unsealed_in c mid.context ≡ (c.counts holds.held).unsealed = ap (unsealed_in c) holds.there in
+        let sealed_here : sealings_in c mid.context ≡ (c.counts holds.held).sealings = ap (sealings_in c) holds.there in
+        let opened_here : unsealings_in c mid.context ≡ (c.counts holds.held).unsealings = ap (unsealings_in c) holds.there in
         let two = sealed_few mid.acts in
         opened_never mid.acts.checked holds.held error.error_type (delegated_text mid.settings.credentials mid.settings.delegation)
         (texts_of mid turn.moves.same) holds.same
         (omega (arith, sealed, sealed_before, sealed_here, two))
-        (λ unchecked. let none : unsealed_by mid.acts ≡ 0 = rw (unchecked, turn.turn.shown.acts.opened) refl in omega
+        (λ unchecked. let none : unsealings_by mid.acts ≡ 0 = rw (unchecked, turn.turn.shown.acts.opened) refl in omega
         (arith, opened, opened_before, opened_here, none))
         at
 

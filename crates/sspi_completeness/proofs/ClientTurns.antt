@@ -18,7 +18,7 @@ use Rattle.sspi_mech.specs.Meaning.{Meaning}
 use Rattle.sspi_credssp.specs.declared.public_key.EndpointType.TheVariants.{Client}
 use Rattle.sspi_credssp.specs.declared.state.CredSspState.{CredSspState}
 use Rattle.sspi_credssp.specs.declared.state.CredSspState.TheVariants.{NegoToken, AuthInfo}
-use Rattle.sspi_credssp.specs.Acts.{sealed_by, unsealed_by}
+use Rattle.sspi_credssp.specs.Acts.{sealings_by, unsealings_by}
 use Rattle.sspi_credssp.specs.Begun.{BeginCause}
 use Rattle.sspi_credssp.specs.Client.{ClientSettings, ClientView}
 use Rattle.sspi_credssp.specs.ClientCause.{ClientCause, StateCause, NegoCause, ProveCause}
@@ -26,7 +26,7 @@ use Rattle.sspi_credssp.specs.ClientStep.{Asked, Walked, stepped, resumed, still
 use Rattle.sspi_credssp.specs.ClientStep.{refused_answer, client_args}
 use Rattle.sspi_credssp.specs.ClientTurn.{ClientTurn, StartsUnused, client_frame, client_turn, noted_next}
 use Rattle.sspi_credssp.specs.Context.{ContextSetting, ForClient}
-use Rattle.sspi_credssp.specs.Counts.{sealed_in, SealsIn, is_waiting_in, cleared}
+use Rattle.sspi_credssp.specs.Counts.{sealings_in, SealsIn, is_waiting_in, cleared}
 use Rattle.sspi_credssp.specs.Noted.{noted_in}
 use Rattle.sspi_credssp.specs.PublicKey.{prescribed}
 use Rattle.sspi_credssp.specs.Requests.{is_code, unless_empty}
@@ -200,8 +200,8 @@ module _ {C : Type 0} (c : Meaning ContextSetting C) (laws : IsContext c) where
           (λ (x : Option SecurityStatus). ShowsNego (client_shown frame) t x r) status turn.turn.shown.reply in
           let quiet = nego_acts frame t turn.turn.shown.acts given.is.state_is in
           let unproved : mid.acts.proved ≡ false = is_false mid.acts.proved (λ was. let ok = (turn.turn.shown.acts.proved was).0 in cc) in
-          let none_sealed : sealed_by mid.acts ≡ 0 = rw (unproved, quiet.1) refl in
-          let none_opened : unsealed_by mid.acts ≡ 0 = rw (quiet.0, quiet.2) refl in
+          let none_sealed : sealings_by mid.acts ≡ 0 = rw (unproved, quiet.1) refl in
+          let none_opened : unsealings_by mid.acts ≡ 0 = rw (quiet.0, quiet.2) refl in
           let same = turn.moves.same ∙ given.is.same in
           let later = takes_later c mid s.1.holds.held first w w2 peer (rw same takes) s.1.holds.there
           (noted_now mid turn.moves.noted_going) in (
@@ -213,8 +213,8 @@ module _ {C : Type 0} (c : Meaning ContextSetting C) (laws : IsContext c) where
               fits = later.fits;
               young = later.young;
               notes = later.notes;
-              sealed_is = turn.moves.sealed unused ∙ (rw (given.is.sealed_is, none_sealed) refl);
-              unsealed_is = turn.moves.unsealed unused ∙ (rw (given.is.unsealed_is, none_opened) refl);
+              sealed_is = turn.moves.sealings unused ∙ (rw (given.is.sealed_is, none_sealed) refl);
+              unsealed_is = turn.moves.unsealings unused ∙ (rw (given.is.unsealed_is, none_opened) refl);
             },
             s.1.holds,
             s.1.handle_is,
@@ -255,13 +255,13 @@ module _ {C : Type 0} (c : Meaning ContextSetting C) (laws : IsContext c) where
             subst (λ (x : Option SecurityStatus). ShowsNego (client_shown frame) t x r) status turn.turn.shown.reply in
             let held : HoldsProof c frame r = subst (λ (x : Option SecurityStatus). HoldsNego c frame x r) status turn.turn.held.reply in
             let quiet = nego_acts frame t turn.turn.shown.acts given.is.state_is in
-            let one : sealed_by mid.acts ≡ 1 = rw (proof.proved, quiet.1) refl in
-            let none_opened : unsealed_by mid.acts ≡ 0 = rw (quiet.0, quiet.2) refl in
-            let sealed_now : sealed_in c mid.context ≡ 1 = turn.moves.sealed unused ∙ (rw (given.is.sealed_is, one) refl) in
+            let one : sealings_by mid.acts ≡ 1 = rw (proof.proved, quiet.1) refl in
+            let none_opened : unsealings_by mid.acts ≡ 0 = rw (quiet.0, quiet.2) refl in
+            let sealed_now : sealings_in c mid.context ≡ 1 = turn.moves.sealings unused ∙ (rw (given.is.sealed_is, one) refl) in
             let noted : mid.noted ≡ Some w = noted_now mid turn.moves.noted_going ∙ ap (λ (x : Bool). noted_at x w) later in
             let more = takes_noted c mid s.1.holds.held w s.1.holds.there noted in
             let same = turn.moves.same ∙ given.is.same in
-            let seals = subst (λ (x : Option ℕ). AtNoted x (λ n. SealsIn c mid.context (sealed_in c mid.context - 1)
+            let seals = subst (λ (x : Option ℕ). AtNoted x (λ n. SealsIn c mid.context (sealings_in c mid.context - 1)
             (prescribed Client n mid.settings.nonce mid.settings.public_key) r.pub_key_auth))
             noted held.proof in
             let field = sealed_field c mid.context y blob _ _ r.pub_key_auth s.1.holds maker seals in
@@ -276,7 +276,7 @@ module _ {C : Type 0} (c : Meaning ContextSetting C) (laws : IsContext c) where
                 young = more.young;
                 notes = more.notes;
                 sealed_is = sealed_now;
-                unsealed_is = turn.moves.unsealed unused ∙ (rw (given.is.unsealed_is, none_opened) refl);
+                unsealed_is = turn.moves.unsealings unused ∙ (rw (given.is.unsealed_is, none_opened) refl);
               },
               s.1.holds,
               s.1.after,
@@ -284,7 +284,7 @@ module _ {C : Type 0} (c : Meaning ContextSetting C) (laws : IsContext c) where
 
         prove_never : (mid : View) (noted : Option ℕ) (context : Option C) (m : C) (kind : ErrorKind) → noted ≡ Some w →
             context ≡ Some m → cleared c m ≡ y →
-            (c.counts m).sealed < 2 ^ 64 - 1 → ProveCause c noted context mid kind → ⊥
+            (c.counts m).sealings < 2 ^ 64 - 1 → ProveCause c noted context mid kind → ⊥
         prove_never mid noted context m kind is there same few cause =
             let at : ProveCause c (Some w) (Some m) mid kind =
             subst (λ (x : Option C). ProveCause c (Some w) x mid kind) there
@@ -298,10 +298,10 @@ module _ {C : Type 0} (c : Meaning ContextSetting C) (laws : IsContext c) where
             let x = refusal mid kdc2 kind makes others in
             let noted : mid.noted ≡ Some w =
             noted_now mid (x.turn.moves.noted ∙ (rw (given.is.idle, given.code) refl)) ∙ ap (λ (b : Bool). noted_at b w) later in
-            let sealed = x.turn.moves.sealed unused in
+            let sealed = x.turn.moves.sealings unused in
             let before = given.is.sealed_is in
             let two = sealed_few mid.acts in
-            let here : sealed_in c mid.context ≡ (c.counts x.left.holds.held).sealed = ap (sealed_in c) x.left.holds.there in
+            let here : sealings_in c mid.context ≡ (c.counts x.left.holds.held).sealings = ap (sealings_in c) x.left.holds.there in
             prove_never mid mid.noted mid.context x.left.holds.held kind noted x.left.holds.there x.left.holds.same
             (omega (arith, sealed, before, two, here))
             (subst (λ (s : SecurityStatus). NegoCause c (Some s) mid kind) ends x.cause)

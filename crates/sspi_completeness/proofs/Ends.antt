@@ -10,11 +10,11 @@ use Rattle.sspi_mech.specs.Meaning.{Meaning}
 use Rattle.sspi_credssp.specs.declared.acts.Acts.{Acts}
 use Rattle.sspi_credssp.specs.declared.state.CredSspState.{CredSspState}
 use Rattle.sspi_credssp.specs.declared.state.CredSspState.TheVariants.{NegoToken}
-use Rattle.sspi_credssp.specs.Acts.{count_of, sealed_by}
+use Rattle.sspi_credssp.specs.Acts.{count_of, sealings_by}
 use Rattle.sspi_credssp.specs.Begun.{IfContext, MadeOr}
 use Rattle.sspi_credssp.specs.Client.{ClientView, IsFreshClient}
 use Rattle.sspi_credssp.specs.Context.{ContextSetting}
-use Rattle.sspi_credssp.specs.Counts.{sealed_in, unsealed_in, IsUnusedIn, SameBut, SealsIn, is_waiting_in, silent, cleared}
+use Rattle.sspi_credssp.specs.Counts.{sealings_in, unsealings_in, IsUnusedIn, SameBut, SealsIn, is_waiting_in, silent, cleared}
 use Rattle.sspi_credssp.specs.Noted.{differs, is_altered_in, is_old, is_old_in, noted_in, noted_with}
 use Rattle.sspi_credssp.specs.Server.{ServerView, IsFreshServer}
 use Rattle.sspi_credssp.specs.Stops.{StopsIf}
@@ -56,7 +56,7 @@ count_few true = omega arith
 count_few false = omega arith
 
 -- one call seals at most two texts
-pub sealed_few : (acts : Acts) → sealed_by acts ≤ 2
+pub sealed_few : (acts : Acts) → sealings_by acts ≤ 2
 sealed_few acts = let p = count_few acts.proved in let s = count_few acts.sealed in omega arith
 
 pub differs_never : (w : ℕ) → differs (Some w) w ≡ false
@@ -67,9 +67,9 @@ abbrev pub noted_at : Bool → ℕ → Option ℕ
 noted_at true w = None
 noted_at false w = Some w
 
-all_silent : (n : Counts) → n.sealed ≡ 0 → n.unsealed ≡ 0 → silent n ≡ n
+all_silent : (n : Counts) → n.sealings ≡ 0 → n.unsealings ≡ 0 → silent n ≡ n
 all_silent n sealed unsealed =
-    ap (λ (s : ℕ). record n { sealed = s; unsealed = 0 }) (sym sealed) ∙ ap (λ (u : ℕ). record n { unsealed = u }) (sym unsealed)
+    ap (λ (s : ℕ). record n { sealings = s; unsealings = 0 }) (sym sealed) ∙ ap (λ (u : ℕ). record n { unsealings = u }) (sym unsealed)
 
 module _ {C : Type 0} (c : Meaning ContextSetting C) where
   -- the context is this one, but for what it sealed and opened
@@ -81,13 +81,13 @@ module _ {C : Type 0} (c : Meaning ContextSetting C) where
   -- by which messages the context x seals texts
   pub record IsMaker (x : C) (blob : ℕ → List ℕ → List ℕ) : Type 0 where
     pub made : (m : C) (n : ℕ) (text sealed : List ℕ) → cleared c m ≡ x → c.seals m n text sealed → sealed ≡ blob n text
-    pub never : (m : C) (text : List ℕ) (kind : ErrorKind) → cleared c m ≡ x → (c.counts m).sealed < 2 ^ 64 - 1 →
+    pub never : (m : C) (text : List ℕ) (kind : ErrorKind) → cleared c m ≡ x → (c.counts m).sealings < 2 ^ 64 - 1 →
         c.refuses m (ToSeal text) kind → ⊥
 
   -- which messages the context x opens
   pub record IsTaker (x : C) (blob : ℕ → List ℕ → List ℕ) : Type 0 where
     pub opened : (m : C) (n i : ℕ) (text text2 : List ℕ) → cleared c m ≡ x → c.opens m i (blob n text) text2 → text2 ≡ text
-    pub never : (m : C) (n : ℕ) (text : List ℕ) (kind : ErrorKind) → cleared c m ≡ x → (c.counts m).unsealed ≡ n → n < 2 ^ 64 - 1 →
+    pub never : (m : C) (n : ℕ) (text : List ℕ) (kind : ErrorKind) → cleared c m ≡ x → (c.counts m).unsealings ≡ n → n < 2 ^ 64 - 1 →
         c.refuses m (ToUnseal (blob n text)) kind → ⊥
     pub long : (n : ℕ) (text : List ℕ) → nat_lt (length (blob n text)) 16 ≡ false
 
@@ -107,9 +107,9 @@ module _ {C : Type 0} (c : Meaning ContextSetting C) where
       at None none = absurd none
       at (Some sealed) made = ap Some (maker.made h.held n text sealed h.same made)
 
-  pub unused_in : (o : Option C) → sealed_in c o ≡ 0 → unsealed_in c o ≡ 0 → IsUnusedIn c o
-  unused_in None sealed unsealed = tt
-  unused_in (Some m) sealed unsealed = record { sealed = sealed; unsealed = unsealed }
+  pub unused_in : (o : Option C) → sealings_in c o ≡ 0 → unsealings_in c o ≡ 0 → IsUnusedIn c o
+  unused_in None sealed unsealings = tt
+  unused_in (Some m) sealed unsealed = record { sealings = sealed; unsealings = unsealed }
 
   -- the client v, which began as a: whether its next turn is its first, w the version that it is given then, its state, and
   -- how many messages its context sealed and opened
@@ -120,8 +120,8 @@ module _ {C : Type 0} (c : Meaning ContextSetting C) where
     pub fits : is_altered_in v.context v.noted w ≡ false
     pub young : is_old_in v.context v.settings.least v.noted w ≡ false
     pub notes : noted_in v.context v.settings.least v.noted w ≡ noted_at first w
-    pub sealed_is : sealed_in c v.context ≡ sealed
-    pub unsealed_is : unsealed_in c v.context ≡ unsealed
+    pub sealed_is : sealings_in c v.context ≡ sealed
+    pub unsealed_is : unsealings_in c v.context ≡ unsealed
 
   pub fresh_client : (a : ClientView C) (w : ℕ) → IsFreshClient a → ClientIs a a w true NegoToken 0 0
   fresh_client a w fresh = record {
@@ -184,8 +184,8 @@ module _ {C : Type 0} (c : Meaning ContextSetting C) where
       pub fits : differs v.noted w ≡ false
       pub young : is_old v.settings.least v.noted w ≡ false
       pub notes : noted_with v.settings.least v.noted w ≡ Some w
-      pub sealed_is : sealed_in c v.context ≡ sealed
-      pub unsealed_is : unsealed_in c v.context ≡ unsealed
+      pub sealed_is : sealings_in c v.context ≡ sealed
+      pub unsealed_is : unsealings_in c v.context ≡ unsealed
 
     pub fresh_server : (b : ServerView C P) (w : ℕ) → nat_lt w b.settings.least ≡ false → IsFreshServer b → ServerIs b b w NegoToken 0 0
     fresh_server b w takes fresh = record {
@@ -213,11 +213,11 @@ module _ {C : Type 0} (c : Meaning ContextSetting C) where
 
   module _ (laws : IsContext c) where
     -- where nothing was sealed or opened, the context is this very one
-    pub unused_is : (m x : C) → cleared c m ≡ x → (c.counts m).sealed ≡ 0 → (c.counts m).unsealed ≡ 0 → m ≡ x
+    pub unused_is : (m x : C) → cleared c m ≡ x → (c.counts m).sealings ≡ 0 → (c.counts m).unsealings ≡ 0 → m ≡ x
     unused_is m x is sealed unsealed =
         sym (laws.counted_counts m) ∙ ap (c.counted m) (sym (all_silent (c.counts m) sealed unsealed)) ∙ is
 
-    pub held_is : (o : Option C) (x : C) → Holds o x → sealed_in c o ≡ 0 → unsealed_in c o ≡ 0 → o ≡ Some x
+    pub held_is : (o : Option C) (x : C) → Holds o x → sealings_in c o ≡ 0 → unsealings_in c o ≡ 0 → o ≡ Some x
     held_is o x h sealed unsealed =
-        h.there ∙ ap Some (unused_is h.held x h.same (sym (ap (sealed_in c) h.there) ∙ sealed)
-        (sym (ap (unsealed_in c) h.there) ∙ unsealed))
+        h.there ∙ ap Some (unused_is h.held x h.same (sym (ap (sealings_in c) h.there) ∙ sealed)
+        (sym (ap (unsealings_in c) h.there) ∙ unsealed))

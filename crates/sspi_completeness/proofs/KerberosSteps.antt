@@ -135,7 +135,7 @@ at_stage realms ticket stage key signed verified = record {
   realms = realms;
   ticket = ticket;
   stage = stage;
-  protection = record { key = key; sealed = 0; unsealed = 0; signed = signed; verified = verified };
+  protection = record { key = key; sealings = 0; unsealings = 0; signings = signed; verifications = verified };
 }
 
 -- ---- the client

@@ -7,17 +7,17 @@ use Rattle.sspi_credssp.specs.declared.mode.ClientMode.{ClientMode}
 use Rattle.sspi_credssp.specs.declared.mode.ClientMode.TheVariants as client_mode
 use Rattle.sspi_credssp.specs.declared.mode.ServerMode.{ServerMode}
 use Rattle.sspi_credssp.specs.declared.mode.ServerMode.TheVariants as server_mode
-use Rattle.sspi_completeness.specs.Matching.{IsPlainClient, IsPlainServer, HasChallenge, MatchModes, messages_of}
+use Rattle.sspi_completeness.specs.Matching.{IsNtlmClient, IsNtlmServer, HasChallenge, MatchModes, messages_of}
 
 module _ (told : Option (ℕ → NetworkRequest → Reply)) (call : ℕ) (target : List ℕ) (identity : AuthIdentity) where
-  pub plain_modes : (client : ClientMode) (server : ServerMode) → IsPlainClient client → IsPlainServer server → HasChallenge server →
+  pub ntlm_modes : (client : ClientMode) (server : ServerMode) → IsNtlmClient client → IsNtlmServer server → HasChallenge server →
       MatchModes told call target identity client server
-  plain_modes (client_mode.Ntlm config) (server_mode.Ntlm config2) plain plain2 eight = eight
-  plain_modes (client_mode.Ntlm config) (server_mode.Negotiate config2) plain plain2 eight = plain2
-  plain_modes (client_mode.Negotiate config) server plain plain2 eight = absurd plain
+  ntlm_modes (client_mode.Ntlm config) (server_mode.Ntlm config2) ntlm ntlm2 eight = eight
+  ntlm_modes (client_mode.Ntlm config) (server_mode.Negotiate config2) ntlm ntlm2 eight = ntlm2
+  ntlm_modes (client_mode.Negotiate config) server ntlm ntlm2 eight = absurd ntlm
 
-  pub plain_messages : (client : ClientMode) (server : ServerMode) (modes : MatchModes told call target identity client server) →
-      IsPlainClient client → messages_of told call target identity client server modes ≡ 3
-  plain_messages (client_mode.Ntlm config) (server_mode.Ntlm config2) modes plain = refl
-  plain_messages (client_mode.Ntlm config) (server_mode.Negotiate config2) modes plain = absurd modes
-  plain_messages (client_mode.Negotiate config) server modes plain = absurd plain
+  pub ntlm_messages : (client : ClientMode) (server : ServerMode) (modes : MatchModes told call target identity client server) →
+      IsNtlmClient client → messages_of told call target identity client server modes ≡ 3
+  ntlm_messages (client_mode.Ntlm config) (server_mode.Ntlm config2) modes ntlm = refl
+  ntlm_messages (client_mode.Ntlm config) (server_mode.Negotiate config2) modes ntlm = absurd modes
+  ntlm_messages (client_mode.Negotiate config) server modes ntlm = absurd ntlm

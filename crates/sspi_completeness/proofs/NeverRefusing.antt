@@ -122,10 +122,10 @@ other_refusal m (ToIdentify identities) =
     other_result (identified m identities) (other_with_key m (key_at m.stage m.challenge identities)
     (other_key_at m.stage m.challenge identities))
 other_refusal m ToComplete = other_absence m.protection.key
-other_refusal m (ToSeal text) = other_making m.protection.key m.protection.sealed
-other_refusal m (ToUnseal blob) = other_unseal m.protection.key (peer_direction m.stage) m.protection.unsealed blob
-other_refusal m (ToSign text) = other_making m.protection.key m.protection.signed
-other_refusal m (ToVerify mic text) = other_verify m.protection.key (peer_direction m.stage) m.protection.verified mic text
+other_refusal m (ToSeal text) = other_making m.protection.key m.protection.sealings
+other_refusal m (ToUnseal blob) = other_unseal m.protection.key (peer_direction m.stage) m.protection.unsealings blob
+other_refusal m (ToSign text) = other_making m.protection.key m.protection.signings
+other_refusal m (ToVerify mic text) = other_verify m.protection.key (peer_direction m.stage) m.protection.verifications mic text
 other_refusal m ToDescribe = tt
 other_refusal m ToShowKey = other_absence m.protection.key
 

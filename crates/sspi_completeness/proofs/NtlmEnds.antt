@@ -152,8 +152,8 @@ module _ {K : Type 0} (k : Meaning Setting K) where
           (subst (λ (z : SspiContext NtlmState K). meaning.seals z n text sealed) at.1 seals);
       never = λ m text kind same few refuses.
           let at = as_ntlm m x same in
-          never_unsealed at.0.protection.key key at.0.protection.sealed kind (key_of_rest at.0 at.2).0
-          (subst (λ (z : SspiContext NtlmState K). (meaning.counts z).sealed < 2 ^ 64 - 1) at.1 few)
+          never_unsealed at.0.protection.key key at.0.protection.sealings kind (key_of_rest at.0 at.2).0
+          (subst (λ (z : SspiContext NtlmState K). (meaning.counts z).sealings < 2 ^ 64 - 1) at.1 few)
           (subst (λ (z : SspiContext NtlmState K). meaning.refuses z (ToSeal text) kind) at.1 refuses);
     }
 
@@ -167,8 +167,8 @@ module _ {K : Type 0} (k : Meaning Setting K) where
       never = λ m n text kind same next few refuses.
           let at = as_ntlm m x same in
           let rest = key_of_rest at.0 at.2 in
-          never_unopened at.0.protection.key (peer_direction at.0.stage) at.0.protection.unsealed key peers n text kind rest.0 rest.2
-          (subst (λ (z : SspiContext NtlmState K). (meaning.counts z).unsealed ≡ n) at.1 next) few
+          never_unopened at.0.protection.key (peer_direction at.0.stage) at.0.protection.unsealings key peers n text kind rest.0 rest.2
+          (subst (λ (z : SspiContext NtlmState K). (meaning.counts z).unsealings ≡ n) at.1 next) few
           (subst (λ (z : SspiContext NtlmState K). meaning.refuses z (ToUnseal (blob_of key peers n text)) kind) at.1 refuses);
       long = λ n text. blob_long key peers n text;
     }

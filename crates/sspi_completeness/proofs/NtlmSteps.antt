@@ -122,7 +122,7 @@ module _ (i : AuthIdentity) (challenge : List ℕ) where
   proved own verified = hands.Ntlm (record {
     challenge = own;
     stage = AuthenticateSent i.username;
-    protection = record { key = Some key; sealed = 0; unsealed = 0; signed = 1; verified = verified };
+    protection = record { key = Some key; sealings = 0; unsealings = 0; signings = 1; verifications = verified };
   })
 
   abbrev pub challenged : M
@@ -136,7 +136,7 @@ module _ (i : AuthIdentity) (challenge : List ℕ) where
   keyed_by signed verified = hands.Ntlm (record {
     challenge = challenge;
     stage = Claimed (claim_by i challenge);
-    protection = record { key = Some key; sealed = 0; unsealed = 0; signed = signed; verified = verified };
+    protection = record { key = Some key; sealings = 0; unsealings = 0; signings = signed; verifications = verified };
   })
 
 -- ---- the client

@@ -39,7 +39,7 @@ use Rattle.sspi_completeness.specs.Negotiating.{Needs, messages_by, kdc_url}
 use Rattle.sspi_completeness.specs.Matching.{IsCutShort}
 use Rattle.sspi_completeness.proofs.Negotiated.{known}
 use Rattle.sspi_completeness.proofs.Negotiation.{AreAlike, IsNegotiation}
-use Rattle.sspi_completeness.proofs.PlainNtlm as plain
+use Rattle.sspi_completeness.proofs.PlainNtlm as ntlm
 use Rattle.sspi_completeness.proofs.Points.{IsKnown}
 use Rattle.sspi_completeness.proofs.Settling.{Settled, settled}
 use Rattle.sspi_completeness.proofs.Courses.{Meeting, IsCourse, negotiation}
@@ -134,7 +134,7 @@ module _ {D P : Type 0} (told : D → Option (ℕ → NetworkRequest → Reply))
       (last : ℕ) × Known last × (suc last ≡ messages_of (told kdc) (calls kdc) a.settings.target matching.identity cm sm modes)
   known_by (client_mode.Ntlm config) (server_mode.Ntlm config2) client_is server_is eight = (
     2,
-    known_so 0 false (plain.negotiation kerberos_meaning laws (kdc_calls told calls faults) p (told kdc) (calls kdc) a b kdc matching
+    known_so 0 false (ntlm.negotiation kerberos_meaning laws (kdc_calls told calls faults) p (told kdc) (calls kdc) a b kdc matching
         config config2
         client_is server_is eight),
     refl,

@@ -83,13 +83,13 @@ picked_by Kerberos false false false picked is = absurd (cc (is))
 -- ---- what a server is told again
 
 abbrev resting : NtlmState → NtlmState
-resting m = record m { protection = record m.protection { sealed = 0; unsealed = 0 } }
+resting m = record m { protection = record m.protection { sealings = 0; unsealings = 0 } }
 
 abbrev resting_at : AuthIdentity → List ℕ → NtlmState
 resting_at i challenge = record {
   challenge = challenge;
   stage = Claimed (claim_by i challenge);
-  protection = record { key = Some (key_for i challenge); sealed = 0; unsealed = 0; signed = 1; verified = 1 };
+  protection = record { key = Some (key_for i challenge); sealings = 0; unsealings = 0; signings = 1; verifications = 1 };
 }
 
 pub ntlm_knows : (entries : List AuthIdentity) (i : AuthIdentity) (challenge : List ℕ) (has : HasEntry entries i) (y : M) →

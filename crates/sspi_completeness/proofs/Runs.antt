@@ -14,7 +14,7 @@ use Rattle.sspi_mech.specs.declared.step.Answer.{Answer}
 use Rattle.sspi_mech.specs.declared.step.Answer.TheVariants.{Done, Ask, Refused}
 use Rattle.sspi_mech.specs.declared.step.Reply.{Reply}
 use Rattle.sspi_mech.specs.declared.step.Step.{Step}
-use Rattle.sspi_mech.specs.Calls.{StepArgs, AcceptArgs, ToSign, ToName, ToIdentify, ToVerify, one_signed, one_verified}
+use Rattle.sspi_mech.specs.Calls.{StepArgs, AcceptArgs, ToSign, ToName, ToIdentify, ToVerify, one_signing, one_verification}
 use Rattle.sspi_mech.specs.Kerberos.{kerberos_meaning, kerberos_of, Answers}
 use Rattle.sspi_mech.specs.Kerberos as kerberos
 use Rattle.sspi_mech.specs.KerberosStage.{KerberosState}
@@ -105,13 +105,13 @@ peer_direction (Kerberos m) = kerberos_stage.peer_direction m.stage
 
 -- an object of Kerberos, once it sealed and opened so many messages
 abbrev pub used : KerberosState → ℕ → ℕ → KerberosState
-used m sealed unsealed = record m { protection = record m.protection { sealed = sealed; unsealed = unsealed } }
+used m sealed unsealed = record m { protection = record m.protection { sealings = sealed; unsealings = unsealed } }
 
 abbrev pub signed_once : M → M
-signed_once m = h.counted m (one_signed (h.counts m))
+signed_once m = h.counted m (one_signing (h.counts m))
 
 abbrev pub verified_once : M → M
-verified_once m = h.counted m (one_verified (h.counts m))
+verified_once m = h.counted m (one_verification (h.counts m))
 
 -- ---- what is computed of a plan
 
@@ -153,10 +153,11 @@ runs (Accepts args v go) m = on_move (server_move m args) v (λ m2 step. runs (g
 runs (Pairs go) m = runs (go (h.pairs m)) m
 runs (Names v go) m = on_some (h.names m) (λ name. runs (go name) m)
 runs (Identifies identities v p) m = on_made (identified m identities) (λ m2. runs p m2)
-runs (Signs text v go) m = on_key (protection_of m).key ((protection_of m).signed == 2 ^ 64 - 1)
-    (λ key. runs (go (mic_of key (own_direction m) (protection_of m).signed text)) (signed_once m))
+runs (Signs text v go) m = on_key (protection_of m).key ((protection_of m).signings == 2 ^ 64 - 1)
+    (λ key. runs (go (mic_of key (own_direction m) (protection_of m).signings text)) (signed_once m))
 runs (Verifies mic text v p) m =
-    unless_refused (verify_refusal (protection_of m).key (peer_direction m) (protection_of m).verified mic text) (runs p (verified_once m))
+    unless_refused (verify_refusal (protection_of m).key (peer_direction m) (protection_of m).verifications mic text)
+    (runs p (verified_once m))
 
 -- ---- it is what comes of the plan
 
@@ -254,26 +255,26 @@ signs_so : (m m2 : M) (n : ℕ) (text mic : List ℕ) → m2 ≡ signed_once m �
 signs_so (Ntlm m) m2 n text mic is signs = subst (λ (x : M). h.signs x n text mic) is signs
 signs_so (Kerberos m) m2 n text mic is signs = subst (λ (x : M). h.signs x n text mic) is signs
 
-counts_so : (m : M) → (protection_of m).signed ≡ (h.counts m).signed
+counts_so : (m : M) → (protection_of m).signings ≡ (h.counts m).signings
 counts_so (Ntlm m) = refl
 counts_so (Kerberos m) = refl
 
-permits_so : (m : M) (text : List ℕ) → h.permits m (ToSign text) → making_refusal (protection_of m).key (protection_of m).signed ≡ None
+permits_so : (m : M) (text : List ℕ) → h.permits m (ToSign text) → making_refusal (protection_of m).key (protection_of m).signings ≡ None
 permits_so (Ntlm m) text permits = permits
 permits_so (Kerberos m) text permits = permits
 
 unsigned_so : (m : M) (text : List ℕ) (kind : ErrorKind) → h.refuses m (ToSign text) kind →
-    making_refusal (protection_of m).key (protection_of m).signed ≡ Some kind
+    making_refusal (protection_of m).key (protection_of m).signings ≡ Some kind
 unsigned_so (Ntlm m) text kind refuses = refuses
 unsigned_so (Kerberos m) text kind refuses = refuses
 
 verified_so : (m : M) (mic text : List ℕ) → h.permits m (ToVerify mic text) →
-    verify_refusal (protection_of m).key (peer_direction m) (protection_of m).verified mic text ≡ None
+    verify_refusal (protection_of m).key (peer_direction m) (protection_of m).verifications mic text ≡ None
 verified_so (Ntlm m) mic text permits = permits
 verified_so (Kerberos m) mic text permits = permits
 
 unverified_so : (m : M) (mic text : List ℕ) (kind : ErrorKind) → h.refuses m (ToVerify mic text) kind →
-    verify_refusal (protection_of m).key (peer_direction m) (protection_of m).verified mic text ≡ Some kind
+    verify_refusal (protection_of m).key (peer_direction m) (protection_of m).verifications mic text ≡ Some kind
 unverified_so (Ntlm m) mic text kind refuses = refuses
 unverified_so (Kerberos m) mic text kind refuses = refuses
 
@@ -371,12 +372,12 @@ module _ (r : Answer) (v2 : Values) (m2 : M) (decided : IsDecided r) where
   planned (Identifies identities v p) m (refused error bad is same) =
       unmade (identified m identities) (λ n. runs p n) error.error_type (unidentified m identities error.error_type bad.0)
   planned (Signs text v go) m (answered mic m1 g) =
-      signed (protection_of m).key (own_direction m) (protection_of m).signed text mic (λ x. runs (go x) (signed_once m))
+      signed (protection_of m).key (own_direction m) (protection_of m).signings text mic (λ x. runs (go x) (signed_once m))
       (subst (λ (n : ℕ). SignsBy (protection_of m).key (own_direction m) n text mic) (sym (counts_so m))
-      (signs_so m m1 (h.counts m).signed text mic g.1 g.0)) (permits_so m text g.2)
+      (signs_so m m1 (h.counts m).signings text mic g.1 g.0)) (permits_so m text g.2)
       (planned (go mic) (signed_once m) (subst (λ (x : M). Follows h (go mic) x r v2 m2) g.1 g.3))
   planned (Signs text v go) m (refused error bad is same) =
-      unsigned (protection_of m).key (protection_of m).signed _ error.error_type (unsigned_so m text error.error_type bad.0)
+      unsigned (protection_of m).key (protection_of m).signings _ error.error_type (unsigned_so m text error.error_type bad.0)
   planned (Verifies mic text v p) m (answered u m1 g) =
       subst (λ (o : Option ErrorKind). IsEnd (unless_refused o (runs p (verified_once m)))) (sym (verified_so m mic text g.2))
       (planned p (verified_once m) (subst (λ (x : M). Follows h p x r v2 m2) g.1 g.3))

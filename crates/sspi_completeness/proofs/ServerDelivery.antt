@@ -8,9 +8,9 @@ use Rattle.sspi_mech.specs.Context.{IsContext}
 use Rattle.sspi_mech.specs.Meaning.{Meaning}
 use Rattle.sspi_credssp.specs.declared.state.CredSspState.{CredSspState}
 use Rattle.sspi_credssp.specs.declared.state.CredSspState.TheVariants.{AuthInfo}
-use Rattle.sspi_credssp.specs.Acts.{unsealed_by}
+use Rattle.sspi_credssp.specs.Acts.{unsealings_by}
 use Rattle.sspi_credssp.specs.Context.{ContextSetting}
-use Rattle.sspi_credssp.specs.Counts.{unsealed_in, SameBut, cleared}
+use Rattle.sspi_credssp.specs.Counts.{unsealings_in, SameBut, cleared}
 use Rattle.sspi_credssp.specs.Credentials.{delegated_identity}
 use Rattle.sspi_credssp.specs.Exchange.{OpensIdentity, opens_identity, BlobStops}
 use Rattle.sspi_credssp.specs.Proxy.{ProxyMeaning}
@@ -70,7 +70,7 @@ module _ {C P : Type 0} (c : Meaning ContextSetting C) (laws : IsContext c) (p :
         let one : text2 ≡ text = given.taker.opened m 1 _ text text2 same opens in
         let never : Err error ≡ Ok identity = sym is ∙ ap delegated_identity one ∙ given.delegates in cc
 
-    opened_never : (opened : Bool) (m : C) (kind : ErrorKind) → cleared c m ≡ z → (opened ≡ false → (c.counts m).unsealed ≡ 1) →
+    opened_never : (opened : Bool) (m : C) (kind : ErrorKind) → cleared c m ≡ z → (opened ≡ false → (c.counts m).unsealings ≡ 1) →
         OpenedCause c opened (Some m) (peers 1 text) kind → ⊥
     opened_never false m kind same next h = given.taker.never m 1 text kind same (next refl) (omega arith) h
     opened_never true m kind same next h = unread_never m kind same h
@@ -89,13 +89,13 @@ module _ {C P : Type 0} (c : Meaning ContextSetting C) (laws : IsContext c) (p :
         let h = held_now mid turn.moves.bare in
         let at = subst (λ (o : Option C). OpenedCause c mid.acts.opened o (peers 1 text) error.error_type) h.there later in
         let start : StartsUnused c old = λ nego. let auth = given.is.state_is in absurd cc in
-        let opened = turn.moves.unsealed start in
+        let opened = turn.moves.unsealings start in
         let before = given.is.unsealed_is in
-        let here : unsealed_in c mid.context ≡ (c.counts h.held).unsealed = ap (unsealed_in c) h.there in
+        let here : unsealings_in c mid.context ≡ (c.counts h.held).unsealings = ap (unsealings_in c) h.there in
         let unchecked : mid.acts.checked ≡ false = is_false mid.acts.checked (λ was.
         subst (λ (s : CredSspState). MayCheck s mid.acts.status) given.is.state_is (turn.turn.shown.acts.checked was).0) in
         opened_never mid.acts.opened h.held error.error_type h.same
-        (λ unopened. let none : unsealed_by mid.acts ≡ 0 = rw (unchecked, unopened) refl in omega (arith, opened, before, here, none)) at
+        (λ unopened. let none : unsealings_by mid.acts ≡ 0 = rw (unchecked, unopened) refl in omega (arith, opened, before, here, none)) at
 
     pub last_turn : (out : Outcome) (mid : View) → ServerMakes c p old d out mid →
         Ends out ((identity2 : AuthIdentity) → HoldsIdentity c mid.context d.auth_info identity2 → identity2 ≡ identity)

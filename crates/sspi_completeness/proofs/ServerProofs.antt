@@ -14,10 +14,10 @@ use Rattle.sspi_mech.specs.Meaning.{Meaning}
 use Rattle.sspi_credssp.specs.declared.public_key.EndpointType.TheVariants.{Client, Server}
 use Rattle.sspi_credssp.specs.declared.state.CredSspState.{CredSspState}
 use Rattle.sspi_credssp.specs.declared.state.CredSspState.TheVariants.{PubKeyInfo, AuthInfo}
-use Rattle.sspi_credssp.specs.Acts.{sealed_by, unsealed_by}
+use Rattle.sspi_credssp.specs.Acts.{sealings_by, unsealings_by}
 use Rattle.sspi_credssp.specs.Begun.{IfContext}
 use Rattle.sspi_credssp.specs.Context.{ContextSetting}
-use Rattle.sspi_credssp.specs.Counts.{sealed_in, unsealed_in, SealsIn, SameBut, cleared}
+use Rattle.sspi_credssp.specs.Counts.{sealings_in, unsealings_in, SealsIn, SameBut, cleared}
 use Rattle.sspi_credssp.specs.Exchange.{opens_other, CheckedCause, altered, unsealed, ProofCause}
 use Rattle.sspi_credssp.specs.PublicKey.{prescribed}
 use Rattle.sspi_credssp.specs.Requests.{nonce_of, IsLong}
@@ -79,30 +79,30 @@ module _ {C P : Type 0} (c : Meaning ContextSetting C) (laws : IsContext c) (p :
     answered : (mid : View) (r : TsRequest) → ShowsProofBack (server_shown (server_frame c old mid))
         (server_turn c d (outcome.Reply r) mid) r → HoldsProofBack c (server_frame c old mid) d r → Holds c mid.context z →
         mid.noted ≡ Some w →
-        mid.settings ≡ b.settings → sealed_in c mid.context ≡ 1 → r ≡ answer
+        mid.settings ≡ b.settings → sealings_in c mid.context ≡ 1 → r ≡ answer
     answered mid r proof held holds noted same one =
-        let seals = subst (λ (x : Option ℕ). AtNoted x (λ n. SealsIn c mid.context (sealed_in c mid.context - 1)
+        let seals = subst (λ (x : Option ℕ). AtNoted x (λ n. SealsIn c mid.context (sealings_in c mid.context - 1)
         (prescribed Server n (nonce_of d.client_nonce) mid.settings.public_key) r.pub_key_auth)) noted held in
         let field = sealed_field c mid.context z own _ _ r.pub_key_auth holds proof_given.maker seals in
         let field_is : r.pub_key_auth ≡ Some (own 0 (prescribed Server w (nonce_of d.client_nonce) b.settings.public_key)) =
         field ∙ (rw (one, same) refl) in
         proof_back_is (server_frame c old mid) (server_turn c d (outcome.Reply r) mid) r proof ∙ (rw (same, field_is) refl)
 
-    answer_never : (m : C) (text : List ℕ) (kind : ErrorKind) → cleared c m ≡ z → (c.counts m).sealed < 2 ^ 64 - 1 →
+    answer_never : (m : C) (text : List ℕ) (kind : ErrorKind) → cleared c m ≡ z → (c.counts m).sealings < 2 ^ 64 - 1 →
         CheckedCause c m (peers 0 client_text) client_text (c.refuses m (ToSeal text) kind) kind → ⊥
     answer_never m text kind same few (altered (opens_other text2 opens differs) is) =
         differs (proof_given.taker.opened m 0 _ client_text text2 same opens)
     answer_never m text kind same few (unsealed opens refuses) = proof_given.maker.never m text kind same few refuses
 
-    proof_never : (checked : Bool) (m : C) (text : List ℕ) (kind : ErrorKind) → cleared c m ≡ z → (c.counts m).sealed < 2 ^ 64 - 1 →
-        (checked ≡ false → (c.counts m).unsealed ≡ 0) → ProofCause c checked m (peers 0 client_text) client_text
+    proof_never : (checked : Bool) (m : C) (text : List ℕ) (kind : ErrorKind) → cleared c m ≡ z → (c.counts m).sealings < 2 ^ 64 - 1 →
+        (checked ≡ false → (c.counts m).unsealings ≡ 0) → ProofCause c checked m (peers 0 client_text) client_text
         (c.refuses m (ToSeal text) kind) kind → ⊥
     proof_never false m text kind same few next h = proof_given.taker.never m 0 client_text kind same (next refl) (omega arith) h
     proof_never true m text kind same few next h = answer_never m text kind same few h
 
     exchange_never : (mid : View) (kind : ErrorKind) → Holds c mid.context z → mid.noted ≡ Some w → mid.settings ≡ b.settings →
-        sealed_in c mid.context < 2 ^ 64 - 1 →
-        (mid.acts.checked ≡ false → unsealed_in c mid.context ≡ 0) → ExchangeCause c d.pub_key_auth mid.noted d.client_nonce mid kind → ⊥
+        sealings_in c mid.context < 2 ^ 64 - 1 →
+        (mid.acts.checked ≡ false → unsealings_in c mid.context ≡ 0) → ExchangeCause c d.pub_key_auth mid.noted d.client_nonce mid kind → ⊥
     exchange_never mid kind holds noted same few next cause =
         let blob = peers 0 client_text in
         let at_noted = subst (λ (n : Option ℕ). ExchangeCause c (Some blob) n d.client_nonce mid kind) noted
@@ -113,8 +113,8 @@ module _ {C P : Type 0} (c : Meaning ContextSetting C) (laws : IsContext c) (p :
         let exact = subst (λ (s : ServerSettings). ProofCause c mid.acts.checked holds.held blob
         (prescribed Client w (nonce_of d.client_nonce) s.public_key)
         (c.refuses holds.held (ToSeal (prescribed Server w (nonce_of d.client_nonce) s.public_key)) kind) kind) same at in
-        let sealed_here : sealed_in c mid.context ≡ (c.counts holds.held).sealed = ap (sealed_in c) holds.there in
-        let opened_here : unsealed_in c mid.context ≡ (c.counts holds.held).unsealed = ap (unsealed_in c) holds.there in
+        let sealed_here : sealings_in c mid.context ≡ (c.counts holds.held).sealings = ap (sealings_in c) holds.there in
+        let opened_here : unsealings_in c mid.context ≡ (c.counts holds.held).unsealings = ap (unsealings_in c) holds.there in
         proof_never mid.acts.checked holds.held _ kind holds.same (omega (arith, few, sealed_here))
         (λ unchecked. sym opened_here ∙ next unchecked) exact
 
@@ -145,14 +145,14 @@ module _ {C P : Type 0} (c : Meaning ContextSetting C) (laws : IsContext c) (p :
           subst (λ (s : CredSspState). ShowsStateBack (server_shown (server_frame c old mid)) (server_turn c d (outcome.Reply r) mid) s r)
           is.state_is turn.turn.shown.reply in
           let h = held_now mid turn.moves.bare in
-          let one : sealed_by mid.acts ≡ 1 = rw (proof.proved, turn.turn.shown.acts.sealed) refl in
-          let opened_one : unsealed_by mid.acts ≡ 1 = rw (proof.checked, unopened mid _ turn) refl in
-          let sealed_now : sealed_in c mid.context ≡ 1 = turn.moves.sealed unstarted ∙ (rw (is.sealed_is, one) refl) in
+          let one : sealings_by mid.acts ≡ 1 = rw (proof.proved, turn.turn.shown.acts.sealed) refl in
+          let opened_one : unsealings_by mid.acts ≡ 1 = rw (proof.checked, unopened mid _ turn) refl in
+          let sealed_now : sealings_in c mid.context ≡ 1 = turn.moves.sealings unstarted ∙ (rw (is.sealed_is, one) refl) in
           let noted = noted_at mid h.held h.there turn.moves.noted in
           let same = turn.moves.same ∙ is.same in (
             answered mid r proof (turn.turn.held.reply proof.proved) h noted same sealed_now,
             server_now c laws p b mid w AuthInfo 1 1 same (turn.moves.state ∙ (rw proof.proved refl)) noted sealed_now
-                (turn.moves.unsealed unstarted ∙ (rw (is.unsealed_is, opened_one) refl)),
+                (turn.moves.unsealings unstarted ∙ (rw (is.unsealed_is, opened_one) refl)),
             h,
           )
 
@@ -164,15 +164,15 @@ module _ {C P : Type 0} (c : Meaning ContextSetting C) (laws : IsContext c) (p :
           let cause = cause_past c laws p b old mid w d PubKeyInfo 0 0 makes.0.error_type is version
           (λ none. absurd (cc (none, holds.there))) (makes.3.cause others2) in
           let h = held_now mid turn.moves.bare in
-          let sealed = turn.moves.sealed unstarted in
-          let opened = turn.moves.unsealed unstarted in
+          let sealed = turn.moves.sealings unstarted in
+          let opened = turn.moves.unsealings unstarted in
           let sealed_before = is.sealed_is in
           let opened_before = is.unsealed_is in
           let two = sealed_few mid.acts in
           exchange_never mid makes.0.error_type h (noted_at mid h.held h.there turn.moves.noted)
           (turn.moves.same ∙ is.same)
           (omega (arith, sealed, sealed_before, two))
-          (λ unchecked. let none : unsealed_by mid.acts ≡ 0 =
+          (λ unchecked. let none : unsealings_by mid.acts ≡ 0 =
           rw (unchecked, unopened mid _ turn) refl in omega (arith, opened, opened_before, none)) cause
 
       proof_ends : (mid : View) → ServerMakes c p old d outcome.Finished mid → ⊥
@@ -243,14 +243,14 @@ module _ {C P : Type 0} (c : Meaning ContextSetting C) (laws : IsContext c) (p :
           let left = replied mid r makes in
           let quiet = nego_acts c laws p frame t turn.turn.shown.acts given.is.state_is in
           let start = unused c laws p b old w d step y handle given in
-          let one : sealed_by mid.acts ≡ 1 = rw (proof.proved, quiet.0) refl in
-          let opened_one : unsealed_by mid.acts ≡ 1 = rw (proof.checked, quiet.1) refl in
-          let sealed_now : sealed_in c mid.context ≡ 1 = turn.moves.sealed start ∙ (rw (given.is.sealed_is, one) refl) in
+          let one : sealings_by mid.acts ≡ 1 = rw (proof.proved, quiet.0) refl in
+          let opened_one : unsealings_by mid.acts ≡ 1 = rw (proof.checked, quiet.1) refl in
+          let sealed_now : sealings_in c mid.context ≡ 1 = turn.moves.sealings start ∙ (rw (given.is.sealed_is, one) refl) in
           let same = turn.moves.same ∙ given.is.same in (
             answered b old w d z own peers proof_given mid r proof
                 (turn.turn.held.reply proof.proved) left.0 left.2 same sealed_now,
             server_now c laws p b mid w AuthInfo 1 1 same (turn.moves.state ∙ (rw proof.proved refl)) left.2 sealed_now
-                (turn.moves.unsealed start ∙ (rw (given.is.unsealed_is, opened_one) refl)),
+                (turn.moves.unsealings start ∙ (rw (given.is.unsealed_is, opened_one) refl)),
             left.0,
           )
 
@@ -269,15 +269,15 @@ module _ {C P : Type 0} (c : Meaning ContextSetting C) (laws : IsContext c) (p :
           let start = unused c laws p b old w d step y handle given in
           let quiet = nego_acts c laws p (server_frame c old mid)
           (server_turn c d (outcome.Refused kind reply) mid) x.turn.turn.shown.acts given.is.state_is in
-          let sealed = x.turn.moves.sealed start in
-          let opened = x.turn.moves.unsealed start in
+          let sealed = x.turn.moves.sealings start in
+          let opened = x.turn.moves.unsealings start in
           let sealed_before = given.is.sealed_is in
           let opened_before = given.is.unsealed_is in
           let two = sealed_few mid.acts in
           exchange_never b old w d z own peers proof_given mid kind after.0
           (noted_now c laws p b old w d step y handle given mid after.0.held after.0.there x.turn.moves.noted)
           (x.turn.moves.same ∙ given.is.same) (omega (arith, sealed, sealed_before, two))
-          (λ unchecked. let none : unsealed_by mid.acts ≡ 0 = rw (unchecked, quiet.1) refl in omega (arith, opened, opened_before, none))
+          (λ unchecked. let none : unsealings_by mid.acts ≡ 0 = rw (unchecked, quiet.1) refl in omega (arith, opened, opened_before, none))
           (exchange_at d.pub_key_auth _ mid kind proof_given.proof after.2)
 
       pub exchange_turn : (out : Outcome) (mid : View) → p.faults mid.proxy ≡ p.faults old.proxy → p.faults old.proxy < 2 ^ 64 - 1 →
@@ -305,14 +305,14 @@ module _ {C P : Type 0} (c : Meaning ContextSetting C) (laws : IsContext c) (p :
           let start = unused c laws p b old w d step y handle given in
           let unchecked : mid.acts.checked ≡ false = is_false mid.acts.checked
           (λ was. subst IsLong absent (turn.turn.shown.acts.checked was).1) in
-          let none_sealed : sealed_by mid.acts ≡ 0 = rw (token.0.unproved, quiet.0) refl in
-          let none_opened : unsealed_by mid.acts ≡ 0 = rw (unchecked, quiet.1) refl in
+          let none_sealed : sealings_by mid.acts ≡ 0 = rw (token.0.unproved, quiet.0) refl in
+          let none_opened : unsealings_by mid.acts ≡ 0 = rw (unchecked, quiet.1) refl in
           let same = turn.moves.same ∙ given.is.same in (
             token_back_is frame t r token.0 ∙ (rw (same, left.1) refl),
             server_now c laws p b mid w PubKeyInfo 0 0 same
                 (turn.moves.state ∙ (rw (given.is.state_is, token.0.unproved, s.status_is) (asks_proof step.status over))) left.2
-                (turn.moves.sealed start ∙ (rw (given.is.sealed_is, none_sealed) refl))
-                (turn.moves.unsealed start ∙ (rw (given.is.unsealed_is, none_opened) refl)),
+                (turn.moves.sealings start ∙ (rw (given.is.sealed_is, none_sealed) refl))
+                (turn.moves.unsealings start ∙ (rw (given.is.unsealed_is, none_opened) refl)),
             left.0,
           )
 

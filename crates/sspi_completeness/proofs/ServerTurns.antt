@@ -12,7 +12,7 @@ use Rattle.sspi_mech.specs.Context.{IsContext}
 use Rattle.sspi_mech.specs.Meaning.{Meaning}
 use Rattle.sspi_credssp.specs.declared.state.CredSspState.{CredSspState}
 use Rattle.sspi_credssp.specs.declared.state.CredSspState.TheVariants.{NegoToken}
-use Rattle.sspi_credssp.specs.Acts.{sealed_by, unsealed_by}
+use Rattle.sspi_credssp.specs.Acts.{sealings_by, unsealings_by}
 use Rattle.sspi_credssp.specs.Context.{ContextSetting}
 use Rattle.sspi_credssp.specs.Proxy.{ProxyMeaning}
 use Rattle.sspi_credssp.specs.Server.{ServerSettings, ServerView}
@@ -20,7 +20,7 @@ use Rattle.sspi_credssp.specs.ServerCause.{ServerCause, MakeCause, StateCause, N
 use Rattle.sspi_credssp.specs.ServerStep.{Knowing, Unknown, Completed, DoneStep, HasCome, known_at}
 use Rattle.sspi_credssp.specs.ServerTurn.{ServerTurn, StartsUnused, server_frame, server_turn}
 use Rattle.sspi_credssp.specs.Shown.{IsOver, MayCheck, ShowsNegoBack, ShowsOver, ShowsServerActs, ShowsStateBack, server_shown}
-use Rattle.sspi_credssp.specs.Counts.{sealed_in, unsealed_in}
+use Rattle.sspi_credssp.specs.Counts.{sealings_in, unsealings_in}
 use Rattle.sspi_credssp.specs.Noted.{noted_with}
 use Rattle.sspi_credssp.specs.Turn.{ServerFrame}
 use Rattle.sspi_credssp.specs.declared.turn.Outcome.{Outcome}
@@ -42,7 +42,7 @@ module _ {C P : Type 0} (c : Meaning ContextSetting C) (laws : IsContext c) (p :
 
   -- a server whose peer's version is noted takes that version again
   pub server_now : (b mid : View) (w : ℕ) (state : CredSspState) (sealed unsealed : ℕ) → mid.settings ≡ b.settings → mid.state ≡ state →
-      mid.noted ≡ Some w → sealed_in c mid.context ≡ sealed → unsealed_in c mid.context ≡ unsealed →
+      mid.noted ≡ Some w → sealings_in c mid.context ≡ sealed → unsealings_in c mid.context ≡ unsealed →
       ServerIs c b mid w state sealed unsealed
   server_now b mid w state sealed unsealed same state_is noted sealed_is unsealed_is = record {
     same = same;
@@ -200,15 +200,15 @@ module _ {C P : Type 0} (c : Meaning ContextSetting C) (laws : IsContext c) (p :
         let unchecked : mid.acts.checked ≡ false = is_false mid.acts.checked (λ was.
         subst (λ (x : Option SecurityStatus). MayCheck NegoToken x) status
         (subst (λ (x : CredSspState). MayCheck x mid.acts.status) given.is.state_is (turn.turn.shown.acts.checked was).0)) in
-        let none_sealed : sealed_by mid.acts ≡ 0 = rw (unproved, quiet.0) refl in
-        let none_opened : unsealed_by mid.acts ≡ 0 = rw (unchecked, quiet.1) refl in
+        let none_sealed : sealings_by mid.acts ≡ 0 = rw (unproved, quiet.0) refl in
+        let none_opened : unsealings_by mid.acts ≡ 0 = rw (unchecked, quiet.1) refl in
         let same = turn.moves.same ∙ given.is.same in (
           token_back_is (server_frame c old mid) (server_turn c d (outcome.Reply r) mid) r answer ∙
               (rw (same, left.output_is) refl),
           server_now b mid w NegoToken 0 0 same (turn.moves.state ∙ (rw (given.is.state_is, unproved, status) refl))
               (noted_now mid left.held left.there turn.moves.noted)
-              (turn.moves.sealed unused ∙ (rw (given.is.sealed_is, none_sealed) refl))
-              (turn.moves.unsealed unused ∙ (rw (given.is.unsealed_is, none_opened) refl)),
+              (turn.moves.sealings unused ∙ (rw (given.is.sealed_is, none_sealed) refl))
+              (turn.moves.unsealings unused ∙ (rw (given.is.unsealed_is, none_opened) refl)),
           record { held = left.held; there = left.there; same = left.comes },
           left.handle_is,
         )

@@ -117,12 +117,12 @@ opens_so (Ntlm m) n blob text opens = opens
 opens_so (Kerberos m) n blob text opens = opens
 
 unsealed_so : (m : M) (text : List ℕ) (kind : ErrorKind) → h.refuses m (ToSeal text) kind →
-    making_refusal (protection_of m).key (h.counts m).sealed ≡ Some kind
+    making_refusal (protection_of m).key (h.counts m).sealings ≡ Some kind
 unsealed_so (Ntlm m) text kind refuses = refuses
 unsealed_so (Kerberos m) text kind refuses = refuses
 
 unopened_so : (m : M) (blob : List ℕ) (kind : ErrorKind) → h.refuses m (ToUnseal blob) kind →
-    unseal_refusal (protection_of m).key (peer_direction m) (h.counts m).unsealed blob ≡ Some kind
+    unseal_refusal (protection_of m).key (peer_direction m) (h.counts m).unsealings blob ≡ Some kind
 unopened_so (Ntlm m) blob kind refuses = refuses
 unopened_so (Kerberos m) blob kind refuses = refuses
 
@@ -151,7 +151,7 @@ module _ (v : Values) (x : M) (key : List ℕ) (own peers : Direction) (is : IsK
     never = λ m text kind same few refuses.
         let at = as_holding m v x same in
         never_unsealed (protection_of at.0).key key _ kind (still_keyed x at.0 key own peers at.2 is).keyed
-        (subst (λ (z : C). (c.counts z).sealed < 2 ^ 64 - 1) at.1 few)
+        (subst (λ (z : C). (c.counts z).sealings < 2 ^ 64 - 1) at.1 few)
         (unsealed_so at.0 text kind (subst (λ (z : C). c.refuses z (ToSeal text) kind) at.1 refuses));
   }
 
@@ -165,7 +165,7 @@ module _ (v : Values) (x : M) (key : List ℕ) (own peers : Direction) (is : IsK
         let at = as_holding m v x same in
         let y = still_keyed x at.0 key own peers at.2 is in
         never_unopened (protection_of at.0).key (peer_direction at.0) _ key peers n text kind y.keyed y.peers_are
-        (subst (λ (z : C). (c.counts z).unsealed ≡ n) at.1 next) few
+        (subst (λ (z : C). (c.counts z).unsealings ≡ n) at.1 next) few
         (unopened_so at.0 (blob_of key peers n text) kind
         (subst (λ (z : C). c.refuses z (ToUnseal (blob_of key peers n text)) kind) at.1 refuses));
     long = λ n text. blob_long key peers n text;
@@ -249,9 +249,9 @@ as_used : (y : M) (x : KerberosState) → at_rest y ≡ at_rest (Kerberos x) →
 as_used (Ntlm y) x rest = absurd cc
 as_used (Kerberos y) x rest =
     let same : used y 0 0 ≡ used x 0 0 = cc in (
-      y.protection.sealed,
-      y.protection.unsealed,
-      ap (λ (z : KerberosState). Kerberos (used z y.protection.sealed y.protection.unsealed))
+      y.protection.sealings,
+      y.protection.unsealings,
+      ap (λ (z : KerberosState). Kerberos (used z y.protection.sealings y.protection.unsealings))
           same,
     )
 

@@ -42,7 +42,7 @@ use Rattle.sspi_delegate.specs.EndTurns.{onto_server, server_turns, OthersGoOn}
 use Rattle.sspi_delegate.specs.Turns.{GoesOn, other, next_end, Alternates}
 use Rattle.sspi_delegate.specs.Headline.{HasExchanged}
 use Rattle.sspi_delegate.specs.History.{ServerMakes, ServerMade, ServerHistory}
-use Rattle.sspi_completeness.specs.Matching.{IsPlainServer}
+use Rattle.sspi_completeness.specs.Matching.{IsNtlmServer}
 use Rattle.sspi_completeness.proofs.Ends.{in_context}
 use Rattle.sspi_completeness.proofs.NtlmEnds.{IfNtlm, server_first}
 use Rattle.sspi_credssp.specs.declared.turn.Outcome.{Outcome}
@@ -76,65 +76,65 @@ module _ {K P : Type 0} (k : Meaning Setting K) (p : ProxyMeaning P) where
 
   first_begun : (mode : ServerMode) (told : Option (List AuthIdentity)) (context : Option (SspiContext NtlmState K))
       (had handle : Option CredentialsBuffers)
-      (m0 m : SspiContext NtlmState K) (args : AcceptArgs) (step : Step) → IsPlainServer mode → context ≡ None →
+      (m0 m : SspiContext NtlmState K) (args : AcceptArgs) (step : Step) → IsNtlmServer mode → context ≡ None →
       Begun (either 0 ntlm_meaning k) context had (ForServer mode told) Inbound None handle m0 →
       (either 0 ntlm_meaning k).accepts m0 args (Ok step) m → step.status ≡ statuses.ContinueNeeded
-  first_begun (server.Ntlm config) told context had handle m0 m args step plain none begun accepts =
+  first_begun (server.Ntlm config) told context had handle m0 m args step ntlm none begun accepts =
       asks_first config handle m0 m args step (server_first k config told context had handle m0 none begun) accepts
-  first_begun (server.Negotiate config) told context had handle m0 m args step plain none begun accepts = absurd plain
+  first_begun (server.Negotiate config) told context had handle m0 m args step ntlm none begun accepts = absurd ntlm
 
   first_step : (start : ServerView (SspiContext NtlmState K) P) (handle : Option CredentialsBuffers) (token : Option (List ℕ))
       (known : Knowing) (answer : Result Step Error)
-      (step : Step) (m : SspiContext NtlmState K) → IsPlainServer start.settings.mode → start.context ≡ None → answer ≡ Ok step →
+      (step : Step) (m : SspiContext NtlmState K) → IsNtlmServer start.settings.mode → start.context ≡ None → answer ≡ Ok step →
       Accepted (either 0 ntlm_meaning k) p start handle token known answer m →
       step.status ≡ statuses.ContinueNeeded
-  first_step start handle token known answer step m plain none is (accepted m0 m1 a begun accepts) =
-      first_begun start.settings.mode _ start.context start.handle handle m0 m (server_args handle token) step plain none begun
+  first_step start handle token known answer step m ntlm none is (accepted m0 m1 a begun accepts) =
+      first_begun start.settings.mode _ start.context start.handle handle m0 m (server_args handle token) step ntlm none begun
       (subst (λ (x : Result Step Error). (either 0 ntlm_meaning k).accepts m0 (server_args handle token) x m) is accepts)
-  first_step start handle token known answer step m plain none is (identified m1 m2 a before names) =
-      first_step start handle token Unknown answer step m1 plain none is before
-  first_step start handle token known answer step m plain none is (completed m1 a before permits) =
-      first_step start handle token Identified answer step m plain none is before
-  first_step start handle token known answer step m plain none is (recounted m1 m2 n kn a before counted quiet) =
-      first_step start handle token known answer step m1 plain none is before
+  first_step start handle token known answer step m ntlm none is (identified m1 m2 a before names) =
+      first_step start handle token Unknown answer step m1 ntlm none is before
+  first_step start handle token known answer step m ntlm none is (completed m1 a before permits) =
+      first_step start handle token Identified answer step m ntlm none is before
+  first_step start handle token known answer step m ntlm none is (recounted m1 m2 n kn a before counted quiet) =
+      first_step start handle token known answer step m1 ntlm none is before
 
   first_goes_on : (start now : ServerView (SspiContext NtlmState K) P) (d : TsRequest) (status : SecurityStatus) →
-      IsPlainServer start.settings.mode → start.context ≡ None →
+      IsNtlmServer start.settings.mode → start.context ≡ None →
       IfContext now.context (Accepted (either 0 ntlm_meaning k) p start now.handle d.nego_tokens Completed
       (Ok (record { status = status; output = now.output }))) →
       status ≡ statuses.ContinueNeeded
-  first_goes_on start now d status plain none h =
-      let there = in_context now.context _ h in first_step start now.handle d.nego_tokens Completed _ _ there.0 plain none refl there.2
+  first_goes_on start now d status ntlm none h =
+      let there = in_context now.context _ h in first_step start now.handle d.nego_tokens Completed _ _ there.0 ntlm none refl there.2
 
   -- the first step of a server does not end the authentication
   first_not_over : (start now : ServerView (SspiContext NtlmState K) P) (d : TsRequest) (status : Option SecurityStatus) →
-      IsPlainServer start.settings.mode → start.context ≡ None →
+      IsNtlmServer start.settings.mode → start.context ≡ None →
       DoneStep (either 0 ntlm_meaning k) p status start d now → IsOver status → ⊥
-  first_not_over start now d None plain none step over = over
-  first_not_over start now d (Some statuses.Ok) plain none step over = let e = first_goes_on start now d statuses.Ok plain none step in cc
-  first_not_over start now d (Some statuses.CompleteNeeded) plain none step over = let e =
-      first_goes_on start now d statuses.CompleteNeeded plain none step in cc
-  first_not_over start now d (Some other) plain none step over = over
+  first_not_over start now d None ntlm none step over = over
+  first_not_over start now d (Some statuses.Ok) ntlm none step over = let e = first_goes_on start now d statuses.Ok ntlm none step in cc
+  first_not_over start now d (Some statuses.CompleteNeeded) ntlm none step over = let e =
+      first_goes_on start now d statuses.CompleteNeeded ntlm none step in cc
+  first_not_over start now d (Some other) ntlm none step over = over
 
   nego_check : (state : CredSspState) (status : Option SecurityStatus) → state ≡ NegoToken → MayCheck state status → IsOver status
   nego_check state status nego may = subst (λ (s : CredSspState). MayCheck s status) nego may
 
   -- a server checks no proof in its first turn
-  first_checks : (first mid : ServerView (SspiContext NtlmState K) P) (d : TsRequest) (out : Outcome) → IsPlainServer first.settings.mode →
+  first_checks : (first mid : ServerView (SspiContext NtlmState K) P) (d : TsRequest) (out : Outcome) → IsNtlmServer first.settings.mode →
       IsFreshServer first → GoesOn out →
       ServerMakes (either 0 ntlm_meaning k) p first d out mid → mid.acts.checked ≡ true → ⊥
-  first_checks first mid d (outcome.Reply reply) plain fresh went makes checked =
-      first_not_over first mid d mid.acts.status plain fresh.context makes.1
+  first_checks first mid d (outcome.Reply reply) ntlm fresh went makes checked =
+      first_not_over first mid d mid.acts.status ntlm fresh.context makes.1
       (nego_check first.state mid.acts.status fresh.state (makes.0.turn.shown.acts.checked checked).0)
-  first_checks first mid d (outcome.Final reply) plain fresh went makes checked = makes
-  first_checks first mid d outcome.Finished plain fresh went makes checked = went
-  first_checks first mid d (outcome.Refused kind reply) plain fresh went makes checked = went
+  first_checks first mid d (outcome.Final reply) ntlm fresh went makes checked = makes
+  first_checks first mid d outcome.Finished ntlm fresh went makes checked = went
+  first_checks first mid d (outcome.Refused kind reply) ntlm fresh went makes checked = went
 
-  made_checks : (first old now : ServerView (SspiContext NtlmState K) P) (u : Turn) → old ≡ first → IsPlainServer first.settings.mode →
+  made_checks : (first old now : ServerView (SspiContext NtlmState K) P) (u : Turn) → old ≡ first → IsNtlmServer first.settings.mode →
       IsFreshServer first → GoesOn u.outcome →
       ServerMade (either 0 ntlm_meaning k) p old u now → u.acts.checked ≡ true → ⊥
-  made_checks first old now u same plain fresh went made checked =
-      first_checks first made.mid u.delivered u.outcome plain fresh went
+  made_checks first old now u same ntlm fresh went made checked =
+      first_checks first made.mid u.delivered u.outcome ntlm fresh went
       (subst (λ (x : ServerView (SspiContext NtlmState K) P). ServerMakes (either 0 ntlm_meaning k) p x u.delivered u.outcome made.mid)
       same made.makes)
       (sym (ap (λ (t : Turn). t.acts.checked) made.turn) ∙ checked)
@@ -143,15 +143,15 @@ module _ {K P : Type 0} (k : Meaning Setting K) (p : ProxyMeaning P) where
   exchange_alone true proved h = refl
   exchange_alone false proved h = absurd cc
 
-  pub three_of_server : (first now : ServerView (SspiContext NtlmState K) P) (turns : List Turn) → IsPlainServer first.settings.mode →
+  pub three_of_server : (first now : ServerView (SspiContext NtlmState K) P) (turns : List Turn) → IsNtlmServer first.settings.mode →
       IsFreshServer first → OthersGoOn turns → HasExchanged turns →
       ServerHistory (either 0 ntlm_meaning k) p first turns now → 3 ≤ length turns
-  three_of_server first now [] plain fresh others has history = absurd has
-  three_of_server first now (t ∷ []) plain fresh others has history = absurd (cc (has))
-  three_of_server first now (t ∷ u ∷ []) plain fresh others has history =
-      absurd (made_checks first history.1.0 history.0 u history.1.1 plain fresh others.0 history.1.2
+  three_of_server first now [] ntlm fresh others has history = absurd has
+  three_of_server first now (t ∷ []) ntlm fresh others has history = absurd (cc (has))
+  three_of_server first now (t ∷ u ∷ []) ntlm fresh others has history =
+      absurd (made_checks first history.1.0 history.0 u history.1.1 ntlm fresh others.0 history.1.2
       (exchange_alone u.acts.checked u.acts.proved has))
-  three_of_server first now (t ∷ u ∷ v ∷ past) plain fresh others has history = omega arith
+  three_of_server first now (t ∷ u ∷ v ∷ past) ntlm fresh others has history = omega arith
 
 -- ---- as many turns of the client
 
@@ -183,15 +183,15 @@ module _ {K P : Type 0} (k : Meaning Setting K) (p : ProxyMeaning P) where
   -- an exchange that is Ok had three messages of the client
   pub ok_three : (base log : List Carried) (start now limit : ℕ) (result : Result Delegation DelegateError) (turns : List Turn)
       (first server : ServerView (SspiContext NtlmState K) P) → RunEnds base start limit result turns log now →
-      IsPlainServer first.settings.mode →
+      IsNtlmServer first.settings.mode →
       IsFreshServer first →
       OthersGoOn (server_turns turns) → OnOk result (HasExchanged (server_turns turns)) →
       ServerHistory (either 0 ntlm_meaning k) p first (server_turns turns) server → IfOk result (λ delegation. 3 ≤ delegation.rounds)
-  ok_three base log start now limit (Ok delegation) turns first server ends plain fresh others has history =
+  ok_three base log start now limit (Ok delegation) turns first server ends ntlm fresh others has history =
       let three = three_turns turns ends.0.order ends.0.newest
-      (three_of_server k p first server (server_turns turns) plain fresh others has history) in
+      (three_of_server k p first server (server_turns turns) ntlm fresh others has history) in
       omega (arith, ends.1, three)
-  ok_three base log start now limit (Err error) turns first server ends plain fresh others has history = tt
+  ok_three base log start now limit (Err error) turns first server ends ntlm fresh others has history = tt
 
 pub too_few : (result : Result Delegation DelegateError) (limit : ℕ) → IfOk result (λ delegation. 3 ≤ delegation.rounds) →
     IfOk result (λ delegation. delegation.rounds ≤ limit) →

@@ -30,7 +30,7 @@ use Rattle.sspi_completeness.specs.Examples.{example_target, example_kdc}
 use Rattle.sspi_completeness.specs.Matching.{IsShort, key_limit}
 use Rattle.sspi_completeness.specs.Negotiating.{AreNegotiating, kdc_url, messages_by}
 use Rattle.sspi_completeness.specs.Worked.{Example, Matches, ann, ann_of_realm, realm_kerberos, client_ntlm, server_ntlm}
-use Rattle.sspi_completeness.specs.Worked.{with_ntlm, with_kerberos, with_ticket, with_ntlm_alone, plain}
+use Rattle.sspi_completeness.specs.Worked.{with_ntlm, with_kerberos, with_ticket, with_ntlm_alone, ntlm_example}
 use Rattle.sspi_completeness.specs.Worked.{negotiated, negotiated_at_version_4, negotiated_with_a_long_key}
 use Rattle.sspi_completeness.specs.Worked.{user_to_user, given_up_for_ntlm, realm_kdc}
 use Rattle.sspi_completeness.proofs.Examples.{first_served, session_served, picked_kerberos, picked_first, never_served, negotiating}
@@ -114,9 +114,9 @@ negotiated_match is short key_short takes small ends counted = record {
 -- ---- NTLM without a negotiation
 
 module _ (told : Option (ℕ → NetworkRequest → Reply)) (call : ℕ) where
-  pub plain_matches : (delegation : CredSspMode) (client server least : ℕ) → nat_lt client 5 ≡ nat_lt server 5 → least ≤ server →
-      least ≤ client → client < 2 ^ 32 → server < 2 ^ 32 → Matches told call 3 (plain delegation client server least)
-  plain_matches delegation client server least versions takes takes2 small small2 = record {
+  pub ntlm_matches : (delegation : CredSspMode) (client server least : ℕ) → nat_lt client 5 ≡ nat_lt server 5 → least ≤ server →
+      least ≤ client → client < 2 ^ 32 → server < 2 ^ 32 → Matches told call 3 (ntlm_example delegation client server least)
+  ntlm_matches delegation client server least versions takes takes2 small small2 = record {
     identity_is = ann_is;
     short = short_ann;
     key_short = lit≤ tt;

@@ -25,13 +25,13 @@ use Rattle.sspi_delegate.specs.Edits.{Delivers}
 use Rattle.sspi_completeness.specs.Negotiating.{AreNegotiating, messages_by}
 
 -- NTLM alone, without a negotiation
-abbrev pub IsPlainClient : ClientMode → Type 0
-IsPlainClient (client_mode.Ntlm config) = Unit {0}
-IsPlainClient (client_mode.Negotiate config) = ⊥
+abbrev pub IsNtlmClient : ClientMode → Type 0
+IsNtlmClient (client_mode.Ntlm config) = Unit {0}
+IsNtlmClient (client_mode.Negotiate config) = ⊥
 
-abbrev pub IsPlainServer : ServerMode → Type 0
-IsPlainServer (server_mode.Ntlm config) = Unit {0}
-IsPlainServer (server_mode.Negotiate config) = ⊥
+abbrev pub IsNtlmServer : ServerMode → Type 0
+IsNtlmServer (server_mode.Ntlm config) = Unit {0}
+IsNtlmServer (server_mode.Negotiate config) = ⊥
 
 -- the challenge that it sends has 8 bytes
 abbrev pub HasChallenge : ServerMode → Type 0

@@ -148,8 +148,8 @@ with_ntlm_alone = negotiation (configs.Ntlm server_ntlm) (Some (codes "ntlm")) r
 
 -- ---- the exchanges
 
-abbrev pub plain : CredSspMode → ℕ → ℕ → ℕ → Example
-plain delegation client_version server_version least = record {
+abbrev pub ntlm_example : CredSspMode → ℕ → ℕ → ℕ → Example
+ntlm_example delegation client_version server_version least = record {
   key = 1 ∷ 2 ∷ 3 ∷ [];
   identity = ann;
   delegation = delegation;
@@ -174,13 +174,13 @@ negotiated key identity version least client server = record {
 
 -- NTLM without a negotiation; at versions below 5; and of a client that keeps its credentials
 abbrev pub by_ntlm : Example
-by_ntlm = plain WithCredentials 6 6 5
+by_ntlm = ntlm_example WithCredentials 6 6 5
 
 abbrev pub by_ntlm_of_old : Example
-by_ntlm_of_old = plain WithCredentials 2 4 0
+by_ntlm_of_old = ntlm_example WithCredentials 2 4 0
 
 abbrev pub without_credentials : Example
-without_credentials = plain CredentialLess 5 6 5
+without_credentials = ntlm_example CredentialLess 5 6 5
 
 -- a negotiation of NTLM at version 4; over the key of a channel, of 270 bytes
 abbrev pub negotiated_at_version_4 : Example

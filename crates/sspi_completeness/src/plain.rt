@@ -4,7 +4,7 @@ ghost use Rattle.sspi_delegate.specs.Delegates.{around_by, parties, Delegates, A
 ghost use Rattle.sspi_delegate.specs.Headline.{IsFresh};
 ghost use Rattle.sspi_mech.specs.Kerberos.{kerberos_meaning};
 ghost use Rattle.sspi_mech.specs.Ntlm.{ntlm_meaning};
-ghost use Rattle.sspi_completeness.specs.Matching.{AreMatching, IsPlainServer, messages_in, IsUndisturbed, NoneFailed, delegated_as};
+ghost use Rattle.sspi_completeness.specs.Matching.{AreMatching, IsNtlmServer, messages_in, IsUndisturbed, NoneFailed, delegated_as};
 ghost use Rattle.sspi_completeness.specs.Matching.{ComesToOkIn, IsCutShort};
 
 use sspi_credssp::{CredSspClient, CredSspServer, CredentialsProxy};
@@ -42,9 +42,9 @@ pub fn delegate_plainly<C: CredentialsProxy, L: Link, D: Kdc>(
         (parties client.old server.old link.old kdc.old transcript.old.turns) limit result
         (parties client.new server.new link.new kdc.new transcript.new.turns) }
     // How many messages are too few.
-    ensures three { IsPlainServer server.old.settings.mode → IsFresh client.old server.old transcript.old.turns →
+    ensures three { IsNtlmServer server.old.settings.mode → IsFresh client.old server.old transcript.old.turns →
         IfOk result (λ delegation. 3 ≤ delegation.rounds) }
-    ensures few { IsPlainServer server.old.settings.mode → IsFresh client.old server.old transcript.old.turns → limit < 3 → IsErr result }
+    ensures few { IsNtlmServer server.old.settings.mode → IsFresh client.old server.old transcript.old.turns → limit < 3 → IsErr result }
     // To what ends that match come.
     ensures comes { (matching : AreMatching C.meaning (D.told kdc.old) (D.asked kdc.old) client.old server.old) →
         IsFresh client.old server.old transcript.old.turns →

@@ -13,7 +13,7 @@ mod parts;
 
 use crate::worked::ends::{client_of, run, server_of};
 use crate::worked::parts::{
-    client_with_kerberos, client_with_ntlm, identity_of, plain_client, plain_server, realm_kdc,
+    client_with_kerberos, client_with_ntlm, identity_of, ntlm_client, ntlm_server, realm_kdc,
     server_with_ntlm, server_with_ntlm_alone, server_with_ticket,
 };
 use sspi_credssp::{ClientMode, CredSspMode, ServerMode};
@@ -132,8 +132,8 @@ fn by_ntlm_at(
         least,
         ..USUAL
     };
-    let client = plain_client(alloc);
-    let server = plain_server();
+    let client = ntlm_client(alloc);
+    let server = ntlm_server();
     exchange(alloc, &given, client, server, Ok(FailingKdc::new()), limit)
 }
 

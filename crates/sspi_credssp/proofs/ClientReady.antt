@@ -16,7 +16,7 @@ use Rattle.sspi_credssp.specs.Begun.{IfContext}
 use Rattle.sspi_credssp.specs.Client.{ClientView}
 use Rattle.sspi_credssp.specs.ClientTurn.{IsReady}
 use Rattle.sspi_credssp.specs.Context.{ContextSetting}
-use Rattle.sspi_credssp.specs.Counts.{IsUnusedIn, sealed_in, unsealed_in}
+use Rattle.sspi_credssp.specs.Counts.{IsUnusedIn, sealings_in, unsealings_in}
 use Rattle.sspi_credssp.specs.Turn.{OnceNegotiated, IsUnspent}
 
 pub not_yet : (s : CredSspState) (P : Type 0) → s ≡ NegoToken → OnceNegotiated s P
@@ -29,9 +29,9 @@ pub still_unspent : {S C : Type 0} (c : Meaning S C) (Unused : Type 0) (start : 
 still_unspent c Unused start before state context m m2 unspent nego begins here stays =
     let first : Unused → IsUnused (c.counts m) = λ given. subst (λ x. IsUnusedIn c x) here (unspent.unused given nego) in
     record {
-      sealed = λ given. (stays (first given)).sealed ∙ sym (ap (sealed_in c) here ∙ (first given).sealed) ∙ unspent.sealed given;
-      unsealed = λ given.
-          (stays (first given)).unsealed ∙ sym (ap (unsealed_in c) here ∙ (first given).unsealed) ∙ unspent.unsealed given;
+      sealings = λ given. (stays (first given)).sealings ∙ sym (ap (sealings_in c) here ∙ (first given).sealings) ∙ unspent.sealings given;
+      unsealings = λ given.
+          (stays (first given)).unsealings ∙ sym (ap (unsealings_in c) here ∙ (first given).unsealings) ∙ unspent.unsealings given;
       unused = λ given _. stays (first given);
       bare = not_yet start _ begins;
     }

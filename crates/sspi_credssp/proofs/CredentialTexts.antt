@@ -18,11 +18,11 @@ use Rattle.sspi_credssp.proofs.CredentialRefusals.{OfEach, refused_so, so_creds,
 use Rattle.sspi_credssp.specs.Credentials.{delegated_text, delegated_identity, identity_in, named_or_refused}
 
 -- no refusal has an NTSTATUS code
-abbrev pub IsPlain : Error → Type 0
-IsPlain error = error.nstatus ≡ None
+abbrev pub IsCodeless : Error → Type 0
+IsCodeless error = error.nstatus ≡ None
 
-each_plain : OfEach IsPlain
-each_plain = record {
+each_codeless : OfEach IsCodeless
+each_codeless = record {
   of_malformed = refl;
   of_unknown_type = refl;
   of_smart_card = refl;
@@ -50,9 +50,9 @@ identity_refused text buffers (Ok identity) e f = tt
 identity_refused text buffers (Err error) e (inl w) = λ memory. ap identity_in e ∙ ap named_or_refused w.1 ∙ ap Err (sym w.0)
 identity_refused text buffers (Err error) e (inr w) = λ memory. absurd (memory (ap (λ (x : Error). x.error_type) w))
 
-pub identity_plain : (error : Error) (found : Option AuthIdentity) → IsIdentified (Err error) found → error.nstatus ≡ None
-identity_plain error found (inl w) = ap (λ (x : Error). x.nstatus) w.0
-identity_plain error found (inr w) = ap (λ (x : Error). x.nstatus) w
+pub identity_codeless : (error : Error) (found : Option AuthIdentity) → IsIdentified (Err error) found → error.nstatus ≡ None
+identity_codeless error found (inl w) = ap (λ (x : Error). x.nstatus) w.0
+identity_codeless error found (inr w) = ap (λ (x : Error). x.nstatus) w
 
 pub keytab_read : (text : List ℕ) (keytab : KeytabIdentity) (error : Error) →
     creds_of text ≡ Ok (buffered.Keytab keytab) → error ≡ malformed → delegated_identity text ≡ Err error
@@ -65,9 +65,9 @@ unfolding delegated_identity
 text_refused text error (inl w) memory = ap identity_in w
 text_refused text error (inr w) memory = absurd (memory (ap (λ (x : Error). x.error_type) w))
 
-pub refusal_plain : (text : List ℕ) (error : Error) → (creds_of text ≡ Err error) ⊎ (error ≡ memory_error) → error.nstatus ≡ None
-refusal_plain text error (inl w) = refused_so IsPlain (creds_of text) error (so_creds IsPlain each_plain text) w
-refusal_plain text error (inr w) = ap (λ (x : Error). x.nstatus) w
+pub refusal_codeless : (text : List ℕ) (error : Error) → (creds_of text ≡ Err error) ⊎ (error ≡ memory_error) → error.nstatus ≡ None
+refusal_codeless text error (inl w) = refused_so IsCodeless (creds_of text) error (so_creds IsCodeless each_codeless text) w
+refusal_codeless text error (inr w) = ap (λ (x : Error). x.nstatus) w
 
 -- ---- writing
 
@@ -86,7 +86,8 @@ module _ {X : Type 0} (view : X → List ℕ) (credentials : Credentials) (mode 
   text_unwritten (Err error) same (inl w) = λ memory. ap (λ b. creds_text b mode) (sym same) ∙ w
   text_unwritten (Err error) same (inr w) = λ memory. absurd (memory (ap (λ (x : Error). x.error_type) w))
 
-  pub unwritten_plain : (r : Result X Error) → IsOrMemory view r (creds_text buffers mode) → IfErr r (λ error. error.nstatus ≡ None)
-  unwritten_plain (Ok text) e = tt
-  unwritten_plain (Err error) (inl w) = refused_so IsPlain (creds_text buffers mode) error (so_text_of IsPlain each_plain buffers mode) w
-  unwritten_plain (Err error) (inr w) = ap (λ (x : Error). x.nstatus) w
+  pub unwritten_codeless : (r : Result X Error) → IsOrMemory view r (creds_text buffers mode) → IfErr r (λ error. error.nstatus ≡ None)
+  unwritten_codeless (Ok text) e = tt
+  unwritten_codeless (Err error) (inl w) =
+      refused_so IsCodeless (creds_text buffers mode) error (so_text_of IsCodeless each_codeless buffers mode) w
+  unwritten_codeless (Err error) (inr w) = ap (λ (x : Error). x.nstatus) w

@@ -1,7 +1,7 @@
 -- What a context opened stays opened, and what it sealed stays sealed, whatever its counts become.
 use Rattle.std.proofs.Common.{◌≡◌, ℕ, List, Bool, Result, Ok, Err, OnOk, OnErr, true, false, refl, sym, ◌∙◌, ap, subst, add-zero}
 use Rattle.std.proofs.lemmas.Bool.{true≢false}
-use Rattle.sspi_mech.specs.Calls.{Counts, one_sealed}
+use Rattle.sspi_mech.specs.Calls.{Counts, one_sealing}
 use Rattle.sspi_mech.specs.Context.{IsContext}
 use Rattle.sspi_mech.specs.Meaning.{Meaning}
 use Rattle.sspi_credssp.specs.declared.acts.Acts.{Acts}
@@ -44,8 +44,8 @@ module _ {S C : Type 0} (c : Meaning S C) (laws : IsContext c) where
   pub exchanged : (flag : Acts → Bool) (set : Acts → Acts) → IsNoted flag set →
       {E : Type 0} (m m1 m2 : C) (acts acts1 acts2 : Acts) (blob proof : List ℕ) (same : Bool) (r : Result (List ℕ) E) →
       flag acts ≡ false → HasOpened c m m1 acts acts1 blob proof same → same ≡ true →
-      OnOk r (acts2 ≡ set acts1) → OnOk r (m2 ≡ c.counted m1 (one_sealed (c.counts m1))) →
-      OnOk r (c.counts m2 ≡ one_sealed (c.counts m1)) → OnErr r (m2 ≡ m1) → OnErr r (acts2 ≡ acts1) →
+      OnOk r (acts2 ≡ set acts1) → OnOk r (m2 ≡ c.counted m1 (one_sealing (c.counts m1))) →
+      OnOk r (c.counts m2 ≡ one_sealing (c.counts m1)) → OnErr r (m2 ≡ m1) → OnErr r (acts2 ≡ acts1) →
       Exchanges c m blob proof m2 acts2.checked (flag acts2)
   exchanged flag set notes m m1 m2 acts acts1 acts2 blob proof same (Ok text) unset opened is done made count _ _ =
       let is_set : flag acts2 ≡ true = ap flag done ∙ notes.sets acts1 in
@@ -54,8 +54,8 @@ module _ {S C : Type 0} (c : Meaning S C) (laws : IsContext c) where
       let held = subst (λ b. OpensAs c m1 blob proof b) is opened.holds in
       record {
         after_proof = λ _. (is_checked, rw count (opens_still m1 m2 _ _ blob proof made held));
-        sealed_count = rw (count, opened.count, is_set) refl;
-        unsealed_count = rw (count, opened.count, is_checked) refl;
+        sealings = rw (count, opened.count, is_set) refl;
+        unsealings = rw (count, opened.count, is_checked) refl;
         bare = bare_after m1 m2 _ made refl ∙ bare_after m m1 _ opened.counted refl;
       }
   exchanged flag set notes m m1 m2 acts acts1 acts2 blob proof same (Err e) unset opened is _ _ _ stays kept =
@@ -63,7 +63,7 @@ module _ {S C : Type 0} (c : Meaning S C) (laws : IsContext c) where
       let is_checked : acts2.checked ≡ true = ap (λ (a : Acts). a.checked) kept ∙ ap (λ (a : Acts). a.checked) opened.noted in
       record {
         after_proof = λ h. absurd (true≢false (sym h ∙ not_set));
-        sealed_count = rw (stays, opened.count, not_set) (sym (add-zero _));
-        unsealed_count = rw (stays, opened.count, is_checked) refl;
+        sealings = rw (stays, opened.count, not_set) (sym (add-zero _));
+        unsealings = rw (stays, opened.count, is_checked) refl;
         bare = rw stays (bare_after m m1 _ opened.counted refl);
       }

@@ -9,7 +9,7 @@ pub mod CredentialTexts
 pub mod Deliver
 pub mod LittleEndian
 pub mod Opened
-pub mod PlainErrors
+pub mod CodelessErrors
 pub mod Proxies
 pub mod ServerAsking
 pub mod ServerBeginning

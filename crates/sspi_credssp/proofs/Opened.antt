@@ -8,10 +8,10 @@ use Rattle.sspi_credssp.specs.Exchange.{ProofCause, opens_other, altered}
 use Rattle.sspi_credssp.specs.Opened.{OpensAs, HasOpened}
 
 module _ {S C : Type 0} (c : Meaning S C) where
-  pub opened_as : (m : C) (blob text proof : List ℕ) (same : Bool) → c.opens m ((c.counts m).unsealed - 1) blob text →
+  pub opened_as : (m : C) (blob text proof : List ℕ) (same : Bool) → c.opens m ((c.counts m).unsealings - 1) blob text →
       (same ≡ true → text ≡ proof) → (same ≡ false → text ≢ proof) → OpensAs c m blob proof same
   opened_as m blob text proof true opens is other =
-      subst (λ (t : List ℕ). c.opens m ((c.counts m).unsealed - 1) blob t) (is refl) opens
+      subst (λ (t : List ℕ). c.opens m ((c.counts m).unsealings - 1) blob t) (is refl) opens
   opened_as m blob text proof false opens is other = opens_other text opens (other refl)
 
 -- another text is the cause of the refusal

@@ -11,10 +11,10 @@ use Rattle.sspi_credssp.specs.declared.server_state.ServerError.{ServerError}
 use Rattle.sspi_credssp.specs.declared.state.CredSspState.{CredSspState}
 use Rattle.sspi_credssp.specs.declared.state.CredSspState.TheVariants.{NegoToken}
 use Rattle.sspi_credssp.specs.declared.turn.Outcome.TheVariants as outcome
-use Rattle.sspi_credssp.specs.Acts.{no_acts, sealed_by, unsealed_by}
+use Rattle.sspi_credssp.specs.Acts.{no_acts, sealings_by, unsealings_by}
 use Rattle.sspi_credssp.specs.Begun.{Begun, IfContext, OnContext}
 use Rattle.sspi_credssp.specs.Context.{ContextSetting, ForServer}
-use Rattle.sspi_credssp.specs.Counts.{IsUnusedIn, sealed_in, unsealed_in}
+use Rattle.sspi_credssp.specs.Counts.{IsUnusedIn, sealings_in, unsealings_in}
 use Rattle.sspi_credssp.specs.ErrorRequest.{error_request, version_back}
 use Rattle.sspi_credssp.specs.Noted.{noted_with}
 use Rattle.sspi_credssp.specs.Proxy.{ProxyMeaning}
@@ -35,7 +35,7 @@ pub there_or_not : {C : Type 0} (o : Option C) (Q : C → Type 0) → IfContext 
 there_or_not None Q h = tt
 there_or_not (Some m) Q h = h
 
-more_by_none : (n m : ℕ) (acts : Acts) → acts ≡ no_acts → n ≡ m → (n ≡ m + sealed_by acts) × (n ≡ m + unsealed_by acts)
+more_by_none : (n m : ℕ) (acts : Acts) → acts ≡ no_acts → n ≡ m → (n ≡ m + sealings_by acts) × (n ≡ m + unsealings_by acts)
 more_by_none n m acts idle same = (rw (idle, same) (omega arith), rw (idle, same) (omega arith))
 
 module _ {C : Type 0} (c : Meaning ContextSetting C) where
@@ -53,9 +53,9 @@ module _ {C : Type 0} (c : Meaning ContextSetting C) where
   back_again None noted version own none = refl
   back_again (Some m) noted version own none = rw none refl
 
-  unsealed_so_far : (o : Option C) → IsUnusedIn c o → (sealed_in c o ≡ 0) × (unsealed_in c o ≡ 0)
+  unsealed_so_far : (o : Option C) → IsUnusedIn c o → (sealings_in c o ≡ 0) × (unsealings_in c o ≡ 0)
   unsealed_so_far None h = (refl, refl)
-  unsealed_so_far (Some m) h = (h.sealed, h.unsealed)
+  unsealed_so_far (Some m) h = (h.sealings, h.unsealings)
 
   module _ {P : Type 0} where
     as_new : (told : Option (List AuthIdentity)) (old new : ServerView C P) (o : Option C) →
@@ -80,8 +80,8 @@ module _ {C : Type 0} (c : Meaning ContextSetting C) where
           unstepped = subst (λ (o : Option C). UnlessMade c o new.context (IsNew c old new))
               (sym none) (unmade_before new.context _ (as_new told old new new.context begun));
           back = λ own. back_again new.context new.noted version own (same ∙ unnoted);
-          sealed = λ su. fresh.0 ∙ rw none refl;
-          unsealed = λ su. fresh.1 ∙ rw none refl;
+          sealings = λ su. fresh.0 ∙ rw none refl;
+          unsealings = λ su. fresh.1 ∙ rw none refl;
           bare = not_yet old.state _ state;
         }
 
@@ -146,8 +146,8 @@ module _ {C : Type 0} (c : Meaning ContextSetting C) where
             noted_proved = λ was. absurd (cc (was, proved));
             noted_checked = λ was. absurd (cc (was, checked));
             noted_opened = λ was. absurd (cc (was, opened));
-            sealed = λ su. (more_by_none _ _ new.acts idle (refused.sealed su)).0;
-            unsealed = λ su. (more_by_none _ _ new.acts idle (refused.unsealed su)).1;
+            sealings = λ su. (more_by_none _ _ new.acts idle (refused.sealings su)).0;
+            unsealings = λ su. (more_by_none _ _ new.acts idle (refused.unsealings su)).1;
             bare = refused.bare;
             unstepped = λ none. unstepped_still old new no_acts [] refused.unstepped;
             unanswered = λ none. ap (λ (v : ServerView C P). v.output) is;

@@ -9,7 +9,7 @@ use Rattle.sspi_mech.specs.Refusals.{answered, error_of}
 use Rattle.sspi_credssp.specs.declared.acts.Acts.{Acts}
 use Rattle.sspi_credssp.specs.Acts.{no_acts, count_of}
 use Rattle.sspi_credssp.specs.Context.{ContextSetting}
-use Rattle.sspi_credssp.specs.Counts.{sealed_in, unsealed_in, SameBut}
+use Rattle.sspi_credssp.specs.Counts.{sealings_in, unsealings_in, SameBut}
 use Rattle.sspi_credssp.specs.Exchange.{Opens, OpensIdentity, IsSealedBlob, BlobStops}
 use Rattle.sspi_credssp.specs.Requests.{IsLong}
 use Rattle.sspi_credssp.specs.Server.{ServerView}
@@ -42,8 +42,8 @@ module _ {C P : Type 0} (c : Meaning ContextSetting C) where
     rest = refl;
     acts = h.acts_are;
     opened = λ _. long_blob field blob long;
-    sealed_count = h.sealed_count ∙ sym (ap (sealed_in c) here);
-    unsealed_count = h.unsealed_count ∙ ap (λ n. n + count_of acts.opened) (sym (ap (unsealed_in c) here));
+    sealings = h.sealings ∙ sym (ap (sealings_in c) here);
+    unsealings = h.unsealings ∙ ap (λ n. n + count_of acts.opened) (sym (ap (unsealings_in c) here));
     bare = subst (λ x. SameBut c x (Some m2)) (sym here) h.bare;
   }
 

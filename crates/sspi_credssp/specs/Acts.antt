@@ -10,8 +10,8 @@ count_of true = 1
 count_of false = 0
 
 -- how many texts these acts sealed, and how many blobs they unsealed
-abbrev pub sealed_by : Acts → ℕ
-sealed_by acts = count_of acts.proved + count_of acts.sealed
+abbrev pub sealings_by : Acts → ℕ
+sealings_by acts = count_of acts.proved + count_of acts.sealed
 
-abbrev pub unsealed_by : Acts → ℕ
-unsealed_by acts = count_of acts.checked + count_of acts.opened
+abbrev pub unsealings_by : Acts → ℕ
+unsealings_by acts = count_of acts.checked + count_of acts.opened

@@ -11,10 +11,10 @@ use Rattle.sspi_credssp.specs.declared.client_state.Progress.TheVariants.{Suspen
 use Rattle.sspi_credssp.specs.declared.public_key.EndpointType.TheVariants.{Client, Server}
 use Rattle.sspi_credssp.specs.declared.state.CredSspState.{CredSspState}
 use Rattle.sspi_credssp.specs.declared.state.CredSspState.TheVariants.{NegoToken, AuthInfo, Final}
-use Rattle.sspi_credssp.specs.Acts.{no_acts, count_of, sealed_by, unsealed_by}
+use Rattle.sspi_credssp.specs.Acts.{no_acts, count_of, sealings_by, unsealings_by}
 use Rattle.sspi_credssp.specs.Client.{ClientView}
 use Rattle.sspi_credssp.specs.Context.{ContextSetting}
-use Rattle.sspi_credssp.specs.Counts.{sealed_in, unsealed_in, IsUnusedIn, SameBut, SealsIn, OpensIn, is_waiting_in}
+use Rattle.sspi_credssp.specs.Counts.{sealings_in, unsealings_in, IsUnusedIn, SameBut, SealsIn, OpensIn, is_waiting_in}
 use Rattle.sspi_credssp.specs.Credentials.{delegated_text, IfText}
 use Rattle.sspi_credssp.specs.Held.{HoldsClient}
 use Rattle.sspi_credssp.specs.Noted.{is_altered_in, is_old_in, noted_in}
@@ -44,8 +44,8 @@ module _ {C : Type 0} (c : Meaning ContextSetting C) where
   client_frame old new = record {
     settings = new.settings;
     state = old.state;
-    made = sealed_in c new.context - 1;
-    opened = unsealed_in c new.context - 1;
+    made = sealings_in c new.context - 1;
+    opened = unsealings_in c new.context - 1;
     looks = is_some old.context;
     noted = new.noted;
     context = new.context;
@@ -80,8 +80,8 @@ module _ {C : Type 0} (c : Meaning ContextSetting C) where
     pub noted_proved : new.acts.proved ≡ true → new.noted ≡ noted_next old d
     pub noted_checked : new.acts.checked ≡ true → new.noted ≡ noted_next old d
     pub begun : UnlessRefused out (IsSome new.context)
-    pub sealed : StartsUnused old → sealed_in c new.context ≡ sealed_in c old.context + sealed_by new.acts
-    pub unsealed : StartsUnused old → unsealed_in c new.context ≡ unsealed_in c old.context + unsealed_by new.acts
+    pub sealings : StartsUnused old → sealings_in c new.context ≡ sealings_in c old.context + sealings_by new.acts
+    pub unsealings : StartsUnused old → unsealings_in c new.context ≡ unsealings_in c old.context + unsealings_by new.acts
     -- no step of the context follows its first message
     pub bare : OnceNegotiated old.state (SameBut c old.context new.context)
     -- a call that took no step only has the context count, and one whose step gave no answer has no token
@@ -96,10 +96,10 @@ module _ {C : Type 0} (c : Meaning ContextSetting C) where
   pub record Proved (old : ClientView C) (blob : List ℕ) (new : ClientView C) : Type 0 where
     pub rest : new ≡ record old { context = new.context; acts = record old.acts { proved = true } }
     pub noted : IsSome old.noted
-    pub proof : AtNoted old.noted (λ noted. SealsIn c new.context (sealed_in c new.context - 1)
+    pub proof : AtNoted old.noted (λ noted. SealsIn c new.context (sealings_in c new.context - 1)
         (prescribed Client noted old.settings.nonce old.settings.public_key) (Some blob))
-    pub sealed : sealed_in c new.context ≡ sealed_in c old.context + 1
-    pub unsealed : unsealed_in c new.context ≡ unsealed_in c old.context
+    pub sealings : sealings_in c new.context ≡ sealings_in c old.context + 1
+    pub unsealings : unsealings_in c new.context ≡ unsealings_in c old.context
     pub begun : IsSome new.context
 
   abbrev pub ClientProves : ClientView C → Result (List ℕ) Error → ClientView C → Type 0
@@ -112,10 +112,10 @@ module _ {C : Type 0} (c : Meaning ContextSetting C) where
     pub acts : new.acts ≡ record no_acts { checked = new.acts.checked; sealed = new.acts.sealed }
     pub checked : new.acts.checked ≡ true → IsLong field
     pub sealed : new.acts.sealed ≡ true → (new.acts.checked ≡ true) ×
-        AtNoted old.noted (λ noted. OpensIn c new.context (unsealed_in c new.context - 1) field
+        AtNoted old.noted (λ noted. OpensIn c new.context (unsealings_in c new.context - 1) field
         (prescribed Server noted old.settings.nonce old.settings.public_key))
-    pub sealed_count : sealed_in c new.context ≡ sealed_in c old.context + count_of new.acts.sealed
-    pub unsealed_count : unsealed_in c new.context ≡ unsealed_in c old.context + count_of new.acts.checked
+    pub sealings : sealings_in c new.context ≡ sealings_in c old.context + count_of new.acts.sealed
+    pub unsealings : unsealings_in c new.context ≡ unsealings_in c old.context + count_of new.acts.checked
     pub bare : SameBut c old.context new.context
 
   pub record ClientSeals (old : ClientView C) (blob : List ℕ) (new : ClientView C) : Type 0 where
@@ -124,7 +124,7 @@ module _ {C : Type 0} (c : Meaning ContextSetting C) where
     pub checked : new.acts.checked ≡ true
     pub sealed : new.acts.sealed ≡ true
     pub credentials : IfText (delegated_text old.settings.credentials old.settings.delegation)
-        (λ text. SealsIn c new.context (sealed_in c new.context - 1) text (Some blob))
+        (λ text. SealsIn c new.context (sealings_in c new.context - 1) text (Some blob))
 
   abbrev pub ClientDelivers : ClientView C → Option (List ℕ) → Result (List ℕ) Error → ClientView C → Type 0
   ClientDelivers old field (Ok blob) new = ClientOpens old field new × ClientSeals old blob new

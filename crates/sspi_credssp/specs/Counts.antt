@@ -6,16 +6,16 @@ use Rattle.sspi_mech.specs.Meaning.{Meaning}
 
 -- of one that sealed and opened nothing, and made and took as many MICs
 abbrev pub silent : Counts → Counts
-silent n = record n { sealed = 0; unsealed = 0 }
+silent n = record n { sealings = 0; unsealings = 0 }
 
 module _ {S C : Type 0} (c : Meaning S C) where
-  abbrev pub sealed_in : Option C → ℕ
-  sealed_in None = 0
-  sealed_in (Some m) = (c.counts m).sealed
+  abbrev pub sealings_in : Option C → ℕ
+  sealings_in None = 0
+  sealings_in (Some m) = (c.counts m).sealings
 
-  abbrev pub unsealed_in : Option C → ℕ
-  unsealed_in None = 0
-  unsealed_in (Some m) = (c.counts m).unsealed
+  abbrev pub unsealings_in : Option C → ℕ
+  unsealings_in None = 0
+  unsealings_in (Some m) = (c.counts m).unsealings
 
   -- nothing was sealed or opened
   abbrev pub IsUnusedIn : Option C → Type 0

@@ -29,12 +29,12 @@ BlobStops (Some blob) kind Later = StopsIf (nat_lt (length blob) 16) InvalidToke
 module _ {S C : Type 0} (c : Meaning S C) where
   -- the last blob that the context opened holds another text than the proof
   pub data OpensOther (m : C) (blob proof : List ℕ) : Type 0 where
-    opens_other : (text : List ℕ) → c.opens m ((c.counts m).unsealed - 1) blob text → text ≢ proof → OpensOther m blob proof
+    opens_other : (text : List ℕ) → c.opens m ((c.counts m).unsealings - 1) blob text → text ≢ proof → OpensOther m blob proof
 
   -- the peer's blob opened to another text than its proof; or to the proof, and what the end then owes is not sealed
   pub data CheckedCause (m : C) (blob proof : List ℕ) (Unsealed : Type 0) (kind : ErrorKind) : Type 0 where
     altered : OpensOther m blob proof → kind ≡ MessageAltered → CheckedCause m blob proof Unsealed kind
-    unsealed : c.opens m ((c.counts m).unsealed - 1) blob proof → Unsealed → CheckedCause m blob proof Unsealed kind
+    unsealed : c.opens m ((c.counts m).unsealings - 1) blob proof → Unsealed → CheckedCause m blob proof Unsealed kind
 
   -- why an exchange of proofs was refused, by whether the blob was opened
   abbrev pub ProofCause : Bool → C → List ℕ → List ℕ → Type 0 → ErrorKind → Type 0
@@ -43,19 +43,19 @@ module _ {S C : Type 0} (c : Meaning S C) where
 
   -- an end opened the peer's proof, and perhaps sealed what it then owes: what that did to the context
   pub record Exchanges (m : C) (blob proof : List ℕ) (m2 : C) (checked sealed : Bool) : Type 0 where
-    pub after_proof : sealed ≡ true → (checked ≡ true) × c.opens m2 ((c.counts m2).unsealed - 1) blob proof
-    pub sealed_count : (c.counts m2).sealed ≡ (c.counts m).sealed + count_of sealed
-    pub unsealed_count : (c.counts m2).unsealed ≡ (c.counts m).unsealed + count_of checked
+    pub after_proof : sealed ≡ true → (checked ≡ true) × c.opens m2 ((c.counts m2).unsealings - 1) blob proof
+    pub sealings : (c.counts m2).sealings ≡ (c.counts m).sealings + count_of sealed
+    pub unsealings : (c.counts m2).unsealings ≡ (c.counts m).unsealings + count_of checked
     pub bare : cleared c m2 ≡ cleared c m
 
   -- the server opened the client's credentials, or did not
   pub record Opens (m m2 : C) (before acts : Acts) : Type 0 where
     pub acts_are : acts ≡ record before { opened = acts.opened }
-    pub sealed_count : (c.counts m2).sealed ≡ (c.counts m).sealed
-    pub unsealed_count : (c.counts m2).unsealed ≡ (c.counts m).unsealed + count_of acts.opened
+    pub sealings : (c.counts m2).sealings ≡ (c.counts m).sealings
+    pub unsealings : (c.counts m2).unsealings ≡ (c.counts m).unsealings + count_of acts.opened
     pub bare : cleared c m2 ≡ cleared c m
 
   -- the last blob that the context opened holds this identity
   pub data OpensIdentity (m : C) (blob : List ℕ) (identity : AuthIdentity) : Type 0 where
-    opens_identity : (text : List ℕ) → c.opens m ((c.counts m).unsealed - 1) blob text → delegated_identity text ≡ Ok identity →
+    opens_identity : (text : List ℕ) → c.opens m ((c.counts m).unsealings - 1) blob text → delegated_identity text ≡ Ok identity →
         OpensIdentity m blob identity

@@ -9,7 +9,7 @@ use Rattle.sspi_credssp.specs.declared.server_state.ServerError.{ServerError}
 -- of a call that is refused with an error; memory may be wanting at any time
 pub record IsRefusedBy {T : Type 0} (result : Result T Error) (causes : ErrorKind → Type 0) : Type 0 where
   pub kind : IfErr result (λ error. error.error_type ≢ InsufficientMemory → causes error.error_type)
-  pub plain : IfErr result (λ error. error.nstatus ≡ None)
+  pub codeless : IfErr result (λ error. error.nstatus ≡ None)
 
 -- of a call whose refusal has no code by its type
 abbrev pub IsRefusedFor : {T : Type 0} → Result T Refusal → (ErrorKind → Type 0) → Type 0
@@ -18,4 +18,4 @@ IsRefusedFor result causes = IfErr result (λ refusal. refusal.error_type ≢ In
 -- of a server's turn, whose refusal hands the request back
 pub record IsTurnRefusedBy {T : Type 0} (result : Result T ServerError) (causes : ErrorKind → Type 0) : Type 0 where
   pub kind : IfErr result (λ refusal. refusal.error.error_type ≢ InsufficientMemory → causes refusal.error.error_type)
-  pub plain : IfErr result (λ refusal. refusal.error.nstatus ≡ None)
+  pub codeless : IfErr result (λ refusal. refusal.error.nstatus ≡ None)

@@ -56,7 +56,7 @@ module _ {C : Type 0} (c : Meaning ContextSetting C) where
 
   -- the text that was opened has no credentials, or was not opened
   pub data UnreadCause (m : C) (blob : List ℕ) (kind : ErrorKind) : Type 0 where
-    unread : (text : List ℕ) (error : Error) → c.opens m ((c.counts m).unsealed - 1) blob text → delegated_identity text ≡ Err error →
+    unread : (text : List ℕ) (error : Error) → c.opens m ((c.counts m).unsealings - 1) blob text → delegated_identity text ≡ Err error →
         kind ≡ error.error_type → UnreadCause m blob kind
 
   abbrev pub OpenedCause : Bool → Option C → List ℕ → ErrorKind → Type 0

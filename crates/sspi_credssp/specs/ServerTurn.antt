@@ -16,10 +16,10 @@ use Rattle.sspi_credssp.specs.declared.server_state.ServerState.{ServerState}
 use Rattle.sspi_credssp.specs.declared.server_state.ServerState.TheVariants as ends
 use Rattle.sspi_credssp.specs.declared.state.CredSspState.{CredSspState}
 use Rattle.sspi_credssp.specs.declared.state.CredSspState.TheVariants.{NegoToken, PubKeyInfo, AuthInfo, Final}
-use Rattle.sspi_credssp.specs.Acts.{no_acts, count_of, sealed_by, unsealed_by}
+use Rattle.sspi_credssp.specs.Acts.{no_acts, count_of, sealings_by, unsealings_by}
 use Rattle.sspi_credssp.specs.Begun.{Begun}
 use Rattle.sspi_credssp.specs.Context.{ContextSetting, ForServer}
-use Rattle.sspi_credssp.specs.Counts.{sealed_in, unsealed_in, IsUnusedIn, SameBut, cleared, SealsIn}
+use Rattle.sspi_credssp.specs.Counts.{sealings_in, unsealings_in, IsUnusedIn, SameBut, cleared, SealsIn}
 use Rattle.sspi_credssp.specs.Exchange.{OpensIdentity}
 use Rattle.sspi_credssp.specs.Held.{HoldsServer, Proven}
 use Rattle.sspi_credssp.specs.ErrorRequest.{error_request, version_back}
@@ -81,8 +81,8 @@ module _ {C : Type 0} (c : Meaning ContextSetting C) where
     server_frame old new = record {
       settings = new.settings;
       state = old.state;
-      made = sealed_in c new.context - 1;
-      opened = unsealed_in c new.context - 1;
+      made = sealings_in c new.context - 1;
+      opened = unsealings_in c new.context - 1;
       looks = true;
       noted = new.noted;
       context = new.context;
@@ -118,8 +118,8 @@ module _ {C : Type 0} (c : Meaning ContextSetting C) where
       pub noted_proved : new.acts.proved ≡ true → new.noted ≡ noted_with old.settings.least old.noted d.version
       pub noted_checked : new.acts.checked ≡ true → new.noted ≡ noted_with old.settings.least old.noted d.version
       pub noted_opened : new.acts.opened ≡ true → new.noted ≡ noted_with old.settings.least old.noted d.version
-      pub sealed : StartsUnused old → sealed_in c new.context ≡ sealed_in c old.context + sealed_by new.acts
-      pub unsealed : StartsUnused old → unsealed_in c new.context ≡ unsealed_in c old.context + unsealed_by new.acts
+      pub sealings : StartsUnused old → sealings_in c new.context ≡ sealings_in c old.context + sealings_by new.acts
+      pub unsealings : StartsUnused old → unsealings_in c new.context ≡ unsealings_in c old.context + unsealings_by new.acts
       -- no step of the context follows its first message, but in the authentication
       pub bare : OnceNegotiated old.state (SameBut c old.context new.context)
       -- a call that took no step makes a context at most, or has it count; and one whose step gave no answer has no token
@@ -145,16 +145,16 @@ module _ {C : Type 0} (c : Meaning ContextSetting C) where
       pub checked : new.acts.checked ≡ true → IsLong d.pub_key_auth
           × AtNoted old.noted (λ noted. HasNonce (nat_lt noted 5) d.client_nonce)
       pub proved : new.acts.proved ≡ true → (new.acts.checked ≡ true) ×
-          AtNoted old.noted (Proven c new.context (unsealed_in c new.context - 1) old.settings.public_key d)
-      pub sealed_count : sealed_in c new.context ≡ sealed_in c old.context + count_of new.acts.proved
-      pub unsealed_count : unsealed_in c new.context ≡ unsealed_in c old.context + count_of new.acts.checked
+          AtNoted old.noted (Proven c new.context (unsealings_in c new.context - 1) old.settings.public_key d)
+      pub sealings : sealings_in c new.context ≡ sealings_in c old.context + count_of new.acts.proved
+      pub unsealings : unsealings_in c new.context ≡ unsealings_in c old.context + count_of new.acts.checked
       pub bare : SameBut c old.context new.context
 
     pub record ServerProves (old : ServerView C P) (d : TsRequest) (blob : List ℕ) (new : ServerView C P) : Type 0 where
       pub checked : new.acts.checked ≡ true
       pub proved : new.acts.proved ≡ true
       pub proof : AtNoted old.noted (λ noted.
-          SealsIn c new.context (sealed_in c new.context - 1) (prescribed Server noted (nonce_of d.client_nonce) old.settings.public_key)
+          SealsIn c new.context (sealings_in c new.context - 1) (prescribed Server noted (nonce_of d.client_nonce) old.settings.public_key)
           (Some blob))
 
     abbrev pub ServerExchanges : ServerView C P → TsRequest → Result (List ℕ) Error → ServerView C P → Type 0
@@ -166,8 +166,8 @@ module _ {C : Type 0} (c : Meaning ContextSetting C) where
       pub rest : new ≡ record old { context = new.context; acts = new.acts }
       pub acts : new.acts ≡ record no_acts { opened = new.acts.opened }
       pub opened : new.acts.opened ≡ true → IsLong field
-      pub sealed_count : sealed_in c new.context ≡ sealed_in c old.context
-      pub unsealed_count : unsealed_in c new.context ≡ unsealed_in c old.context + count_of new.acts.opened
+      pub sealings : sealings_in c new.context ≡ sealings_in c old.context
+      pub unsealings : unsealings_in c new.context ≡ unsealings_in c old.context + count_of new.acts.opened
       pub bare : SameBut c old.context new.context
 
     abbrev pub ServerOpens : ServerView C P → Option (List ℕ) → Result AuthIdentity Error → ServerView C P → Type 0
@@ -186,8 +186,8 @@ module _ {C : Type 0} (c : Meaning ContextSetting C) where
       pub unnoted : new.context ≡ None → new.noted ≡ old.noted
       pub unstepped : IsUnstepped old new
       pub back : (own : ℕ) → version_back new.context new.noted version own ≡ version
-      pub sealed : StartsUnused old → sealed_in c new.context ≡ sealed_in c old.context
-      pub unsealed : StartsUnused old → unsealed_in c new.context ≡ unsealed_in c old.context
+      pub sealings : StartsUnused old → sealings_in c new.context ≡ sealings_in c old.context
+      pub unsealings : StartsUnused old → unsealings_in c new.context ≡ unsealings_in c old.context
       pub bare : OnceNegotiated old.state (SameBut c old.context new.context)
 
     -- a turn past the version check that is refused, with the request that tells the client

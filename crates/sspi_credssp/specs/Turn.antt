@@ -6,7 +6,7 @@ use Rattle.sspi_credssp.specs.declared.state.CredSspState.{CredSspState}
 use Rattle.sspi_credssp.specs.declared.state.CredSspState.TheVariants.{NegoToken, PubKeyInfo, AuthInfo}
 use Rattle.sspi_credssp.specs.declared.state.CredSspState.TheVariants as states
 use Rattle.sspi_credssp.specs.Client.{ClientSettings}
-use Rattle.sspi_credssp.specs.Counts.{sealed_in, unsealed_in, IsUnusedIn, SameBut}
+use Rattle.sspi_credssp.specs.Counts.{sealings_in, unsealings_in, IsUnusedIn, SameBut}
 use Rattle.sspi_credssp.specs.Server.{ServerSettings}
 use Rattle.sspi_credssp.specs.declared.turn.Outcome.{Outcome}
 use Rattle.sspi_credssp.specs.declared.turn.Outcome.TheVariants.{Reply, Final, Finished, Refused}
@@ -64,7 +64,7 @@ ServerFrame C = Frame ServerSettings C
 -- authentication it differs in its counts alone.
 pub record IsUnspent {S C : Type 0} (c : Meaning S C) (Unused : Type 0) (start : CredSspState) (before : Option C)
     (state : CredSspState) (context : Option C) : Type 0 where
-  pub sealed : Unused → sealed_in c context ≡ sealed_in c before
-  pub unsealed : Unused → unsealed_in c context ≡ unsealed_in c before
+  pub sealings : Unused → sealings_in c context ≡ sealings_in c before
+  pub unsealings : Unused → unsealings_in c context ≡ unsealings_in c before
   pub unused : Unused → state ≡ NegoToken → IsUnusedIn c context
   pub bare : OnceNegotiated start (SameBut c before context)

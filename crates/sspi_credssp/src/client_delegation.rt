@@ -1,6 +1,6 @@
 // The client's last turn (AuthInfo): the server's proof is checked, and only then are the credentials sealed.
 ghost use Rattle.std.specs.Prelude.{◌≡◌, ◌≢◌, ◌-◌, [], true, false, None, IsSome, IfOk, IfErr, OnOk, OnErr};
-ghost use Rattle.sspi_mech.specs.Calls.{one_sealed};
+ghost use Rattle.sspi_mech.specs.Calls.{one_sealing};
 ghost use Rattle.sspi_credssp.specs.Acts.{no_acts};
 ghost use Rattle.sspi_credssp.specs.ClientCause.{SealsCause, DeliverCause};
 ghost use Rattle.sspi_credssp.specs.Context.{either};
@@ -33,12 +33,12 @@ fn seal_credentials<N: Mechanism, K: Mechanism>(
 ) -> Result<Bytes, Refusal>
     // What `Ok` holds.
     ensures blob { let c = either N.REQUESTS N.meaning K.meaning in IfOk result (λ blob. IfText (delegated_text credentials.now mode)
-        (λ text. c.seals context.new ((c.counts context.new).sealed - 1) text blob)) }
+        (λ text. c.seals context.new ((c.counts context.new).sealings - 1) text blob)) }
     ensures acts { OnOk result (acts.new ≡ record acts.old { sealed = true }) }
     ensures ok { let c = either N.REQUESTS N.meaning K.meaning in
-        OnOk result (context.new ≡ c.counted context.old (one_sealed (c.counts context.old))) }
+        OnOk result (context.new ≡ c.counted context.old (one_sealing (c.counts context.old))) }
     ensures count { let c = either N.REQUESTS N.meaning K.meaning in
-        OnOk result (c.counts context.new ≡ one_sealed (c.counts context.old)) }
+        OnOk result (c.counts context.new ≡ one_sealing (c.counts context.old)) }
     // What a refusal says, and what it leaves.
     ensures err { OnErr result (context.new ≡ context.old) }
     ensures err_acts { OnErr result (acts.new ≡ acts.old) }
@@ -72,7 +72,7 @@ fn deliver<N: Mechanism, K: Mechanism>(
     // What `Ok` holds.
     ensures ok { OnOk result (acts.new ≡ record acts.old { checked = true; sealed = true }) }
     ensures blob { let c = either N.REQUESTS N.meaning K.meaning in IfOk result (λ blob. IfText (delegated_text credentials.now mode)
-        (λ text. c.seals context.new ((c.counts context.new).sealed - 1) text blob)) }
+        (λ text. c.seals context.new ((c.counts context.new).sealings - 1) text blob)) }
     // What a refusal says.
     ensures cause { IfErr result (λ error. error.error_type ≢ ErrorKind.InsufficientMemory →
         ProofCause (either N.REQUESTS N.meaning K.meaning) acts.new.checked context.new blob.now proof.now

@@ -1,6 +1,6 @@
 ghost use Rattle.std.specs.Prelude.{List, [], ◌∷◌, Option, ◌≡◌, ◌≢◌, ◌-◌, true, false, IsTrue, IsErr, IfOk, IfErr, OnOk, OnErr};
 ghost use Rattle.std.specs.Prelude.{option_copied, filter, take};
-ghost use Rattle.sspi_mech.specs.Calls.{step_args, accept_args, no_counts, one_sealed, one_unsealed};
+ghost use Rattle.sspi_mech.specs.Calls.{step_args, accept_args, no_counts, one_sealing, one_unsealing};
 ghost use Rattle.sspi_mech.specs.Calls.{ToAcquire, ToName, ToIdentify, ToComplete, ToSeal, ToUnseal};
 ghost use Rattle.sspi_mech.specs.Answers.{answer_of};
 ghost use Rattle.sspi_names.specs.declared.identity.AuthIdentity.{AuthIdentity};
@@ -81,7 +81,7 @@ impl<N: Mechanism, K: Mechanism> SspiContext<N, K> {
         ensures made { IfOk result (λ context. (told : Option (List AuthIdentity)) → IsListed mode.now told known.items →
             (either N.REQUESTS N.meaning K.meaning).made (ForServer mode.now told) context) }
         ensures fresh { IfOk result (λ context. (either N.REQUESTS N.meaning K.meaning).counts context ≡ no_counts) }
-        ensures plain { IfErr result (λ error. error.nstatus ≡ None) }
+        ensures codeless { IfErr result (λ error. error.nstatus ≡ None) }
         ensures cause { IfErr result (λ error. error.error_type ≢ ErrorKind.InsufficientMemory → (told : Option (List AuthIdentity)) →
             (either N.REQUESTS N.meaning K.meaning).unmade (ForServer mode.now told) error.error_type) }
     {
@@ -138,7 +138,7 @@ impl<N: Mechanism, K: Mechanism> SspiContext<N, K> {
         args: &InitializeSecurityContext<'_>,
     ) -> Result<Progressing, Error>
         ensures step { (either N.REQUESTS N.meaning K.meaning).steps self.old (step_args args.now) (answer_of result) self.new }
-        ensures plain { IfErr result (λ error. error.nstatus ≡ None) }
+        ensures codeless { IfErr result (λ error. error.nstatus ≡ None) }
     {
         match self {
             SspiContext::Negotiate(negotiation) => negotiation.initialize_security_context(args),
@@ -150,7 +150,7 @@ impl<N: Mechanism, K: Mechanism> SspiContext<N, K> {
     /// Goes on with the step that was suspended, once it is known what came of its request.
     pub fn resume(&mut self, reply: &Reply) -> Result<Progressing, Error>
         ensures step { (either N.REQUESTS N.meaning K.meaning).resumes self.old reply.now (answer_of result) self.new }
-        ensures plain { IfErr result (λ error. error.nstatus ≡ None) }
+        ensures codeless { IfErr result (λ error. error.nstatus ≡ None) }
     {
         match self {
             SspiContext::Negotiate(negotiation) => negotiation.resume(reply),
@@ -165,7 +165,7 @@ impl<N: Mechanism, K: Mechanism> SspiContext<N, K> {
         args: &AcceptSecurityContext<'_>,
     ) -> Result<Step, Error>
         ensures step { (either N.REQUESTS N.meaning K.meaning).accepts self.old (accept_args args.now) result self.new }
-        ensures plain { IfErr result (λ error. error.nstatus ≡ None) }
+        ensures codeless { IfErr result (λ error. error.nstatus ≡ None) }
     {
         match self {
             SspiContext::Negotiate(negotiation) => negotiation.accept_security_context(args),
@@ -219,7 +219,7 @@ impl<N: Mechanism, K: Mechanism> SspiContext<N, K> {
         ensures count { (either N.REQUESTS N.meaning K.meaning).counts self.new ≡ (either N.REQUESTS N.meaning K.meaning).counts self.old }
         // What a refusal says, and what it leaves.
         ensures err { OnErr result (self.new ≡ self.old) }
-        ensures plain { IfErr result (λ error. error.nstatus ≡ None) }
+        ensures codeless { IfErr result (λ error. error.nstatus ≡ None) }
         ensures keytab { is_refused_identity (protocol_of self.old) identity ≡ true →
             IfErr result (λ error. error.error_type ≡ ErrorKind.IncompleteCredentials) × IsErr result }
         ensures cause { is_refused_identity (protocol_of self.old) identity ≡ false →
@@ -279,12 +279,12 @@ impl<N: Mechanism, K: Mechanism> SspiContext<N, K> {
     pub fn seal(&mut self, text: &[u8]) -> Result<Vec<u8>, Error>
         // What `Ok` holds.
         ensures blob { let c = either N.REQUESTS N.meaning K.meaning in
-            IfOk result (λ blob. c.seals self.new (c.counts self.old).sealed text.now blob.items) }
+            IfOk result (λ blob. c.seals self.new (c.counts self.old).sealings text.now blob.items) }
         ensures last { let c = either N.REQUESTS N.meaning K.meaning in
-            IfOk result (λ blob. c.seals self.new ((c.counts self.new).sealed - 1) text.now blob.items) }
+            IfOk result (λ blob. c.seals self.new ((c.counts self.new).sealings - 1) text.now blob.items) }
         ensures ok { let c = either N.REQUESTS N.meaning K.meaning in
-            OnOk result (self.new ≡ c.counted self.old (one_sealed (c.counts self.old))) }
-        ensures count { let c = either N.REQUESTS N.meaning K.meaning in OnOk result (c.counts self.new ≡ one_sealed (c.counts self.old)) }
+            OnOk result (self.new ≡ c.counted self.old (one_sealing (c.counts self.old))) }
+        ensures count { let c = either N.REQUESTS N.meaning K.meaning in OnOk result (c.counts self.new ≡ one_sealing (c.counts self.old)) }
         ensures permitted { OnOk result ((either N.REQUESTS N.meaning K.meaning).permits self.old (ToSeal text.now)) }
         // What a refusal says, and what it leaves.
         ensures err { OnErr result (self.new ≡ self.old) }
@@ -304,13 +304,13 @@ impl<N: Mechanism, K: Mechanism> SspiContext<N, K> {
     pub fn unseal(&mut self, blob: &[u8]) -> Result<Vec<u8>, Error>
         // What `Ok` holds.
         ensures text { let c = either N.REQUESTS N.meaning K.meaning in
-            IfOk result (λ text. c.opens self.new (c.counts self.old).unsealed blob.now text.items) }
+            IfOk result (λ text. c.opens self.new (c.counts self.old).unsealings blob.now text.items) }
         ensures last { let c = either N.REQUESTS N.meaning K.meaning in
-            IfOk result (λ text. c.opens self.new ((c.counts self.new).unsealed - 1) blob.now text.items) }
+            IfOk result (λ text. c.opens self.new ((c.counts self.new).unsealings - 1) blob.now text.items) }
         ensures ok { let c = either N.REQUESTS N.meaning K.meaning in
-            OnOk result (self.new ≡ c.counted self.old (one_unsealed (c.counts self.old))) }
+            OnOk result (self.new ≡ c.counted self.old (one_unsealing (c.counts self.old))) }
         ensures count { let c = either N.REQUESTS N.meaning K.meaning in
-            OnOk result (c.counts self.new ≡ one_unsealed (c.counts self.old)) }
+            OnOk result (c.counts self.new ≡ one_unsealing (c.counts self.old)) }
         ensures permitted { OnOk result ((either N.REQUESTS N.meaning K.meaning).permits self.old (ToUnseal blob.now)) }
         // What a refusal says, and what it leaves.
         ensures err { OnErr result (self.new ≡ self.old) }

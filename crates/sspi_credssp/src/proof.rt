@@ -1,6 +1,6 @@
 // Proofs of the channel's key: the blob that holds the peer's, what it opens to, and the sealing of one's own.
 ghost use Rattle.std.specs.Prelude.{◌≡◌, ◌≢◌, ◌==◌, ◌-◌, None, Some, true, false, length, nat_lt, IsTrue, IfOk, IfErr, OnErr, OnOk};
-ghost use Rattle.sspi_mech.specs.Calls.{one_sealed, ToSeal, ToUnseal};
+ghost use Rattle.sspi_mech.specs.Calls.{one_sealing, ToSeal, ToUnseal};
 ghost use Rattle.sspi_credssp.specs.Context.{either};
 ghost use Rattle.sspi_credssp.specs.Exchange.{IsLongBlob, IsSealedBlob, BlobStops};
 ghost use Rattle.sspi_credssp.specs.Opened.{HasOpened};
@@ -71,12 +71,12 @@ pub fn seal_proof<N: Mechanism, K: Mechanism>(
 ) -> Result<Bytes, Refusal>
     // What `Ok` holds.
     ensures blob { let c = either N.REQUESTS N.meaning K.meaning in IfOk result (λ blob.
-        c.seals context.new ((c.counts context.new).sealed - 1) proof.now blob) }
+        c.seals context.new ((c.counts context.new).sealings - 1) proof.now blob) }
     ensures acts { OnOk result (acts.new ≡ record acts.old { proved = true }) }
     ensures ok { let c = either N.REQUESTS N.meaning K.meaning in
-        OnOk result (context.new ≡ c.counted context.old (one_sealed (c.counts context.old))) }
+        OnOk result (context.new ≡ c.counted context.old (one_sealing (c.counts context.old))) }
     ensures count { let c = either N.REQUESTS N.meaning K.meaning in
-        OnOk result (c.counts context.new ≡ one_sealed (c.counts context.old)) }
+        OnOk result (c.counts context.new ≡ one_sealing (c.counts context.old)) }
     // What a refusal says, and what it leaves.
     ensures err { OnErr result (context.new ≡ context.old) }
     ensures err_acts { OnErr result (acts.new ≡ acts.old) }

@@ -263,7 +263,7 @@ impl<N: Mechanism, K: Mechanism, C: CredentialsProxy> CredSspServer<N, K, C> {
             request ≡ record d { version = self.old.settings.version } → IsAtStep c C.meaning start self.old →
             IfErr result (λ refusal. refusal.error.error_type ≢ ErrorKind.InsufficientMemory →
             StateCause c C.meaning self.old.state start d self.new refusal.error.error_type) }
-        ensures plain { IfErr result (λ refusal. refusal.error.nstatus ≡ None) }
+        ensures codeless { IfErr result (λ refusal. refusal.error.nstatus ≡ None) }
         // What is so afterwards, and what the proxy was asked.
         ensures begun { IsSome self.new.context }
         ensures negotiated { self.old.state ≡ CredSspState.NegoToken → self.new.acts.negotiated ≡ true }

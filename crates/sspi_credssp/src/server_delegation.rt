@@ -62,7 +62,7 @@ fn answer_proof<N: Mechanism, K: Mechanism>(
     // What `Ok` holds.
     ensures ok { OnOk result (acts.new ≡ record acts.old { checked = true; proved = true }) }
     ensures blob { let c = either N.REQUESTS N.meaning K.meaning in IfOk result (λ answer.
-        c.seals context.new ((c.counts context.new).sealed - 1) proof.now answer) }
+        c.seals context.new ((c.counts context.new).sealings - 1) proof.now answer) }
     // What a refusal says.
     ensures cause { IfErr result (λ error. error.error_type ≢ ErrorKind.InsufficientMemory →
         ProofCause (either N.REQUESTS N.meaning K.meaning) acts.new.checked context.new blob.now expected.now
@@ -116,7 +116,7 @@ impl<N: Mechanism, K: Mechanism, C: CredentialsProxy> CredSspServer<N, K, C> {
         ensures cause { IfErr result (λ refusal. refusal.error.error_type ≢ ErrorKind.InsufficientMemory →
             ExchangeCause (either N.REQUESTS N.meaning K.meaning) request.pub_key_auth self.new.noted
             request.client_nonce self.new refusal.error.error_type) }
-        ensures plain { IfErr result (λ refusal. refusal.error.nstatus ≡ None) }
+        ensures codeless { IfErr result (λ refusal. refusal.error.nstatus ≡ None) }
         // What is so afterwards.
         ensures acts { (self.new.acts.status ≡ None) × (self.new.acts.negotiated ≡ false) }
         ensures kept { IsSome self.new.context × (self.new.proxy ≡ self.old.proxy) }
@@ -144,7 +144,7 @@ impl<N: Mechanism, K: Mechanism, C: CredentialsProxy> CredSspServer<N, K, C> {
             IfErr result (λ refusal. refusal.error.error_type ≢ ErrorKind.InsufficientMemory →
             BlobStops request.auth_info refusal.error.error_type
             (λ blob. OpenedCause c self.new.acts.opened self.new.context blob refusal.error.error_type)) }
-        ensures plain { IfErr result (λ refusal. refusal.error.nstatus ≡ None) }
+        ensures codeless { IfErr result (λ refusal. refusal.error.nstatus ≡ None) }
         // What is so afterwards.
         ensures acts { (self.new.acts.status ≡ None) × (self.new.acts.negotiated ≡ false) }
         ensures begun { IsSome self.new.context }

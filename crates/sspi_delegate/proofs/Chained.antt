@@ -169,8 +169,8 @@ module _ {C : Type 0} (c : Meaning ContextSetting C) where
                   t.delivered.nego_tokens made.mid.output
                   (client_stage h.0 h.1) (client_stage v kdc2)) (sym made.rest)
                   (client_moved h.0 made.mid h.1 kdc2 t.delivered t.outcome same made.makes));
-              sealed = ran.made;
-              opened = ran.opened;
+              sealings = ran.made;
+              unsealings = ran.opened;
             },
           )
 
@@ -369,8 +369,8 @@ module _ {C : Type 0} (c : Meaning ContextSetting C) where
                     t.delivered.nego_tokens made.mid.output
                     (server_stage h.0) (server_stage v)) (sym made.rest)
                     (server_moved h.0 made.mid t.delivered t.outcome same entries made.made made.makes));
-                sealed = ran.made;
-                opened = ran.opened;
+                sealings = ran.made;
+                unsealings = ran.opened;
               },
             )
 

@@ -8,7 +8,7 @@ use Rattle.sspi_mech.specs.Meaning.{Meaning}
 use Rattle.sspi_tsreq.specs.declared.request.TsRequest.{TsRequest}
 use Rattle.sspi_credssp.specs.declared.state.CredSspState.{CredSspState}
 use Rattle.sspi_credssp.specs.declared.state.CredSspState.TheVariants.{NegoToken, PubKeyInfo, AuthInfo, Final}
-use Rattle.sspi_credssp.specs.Acts.{sealed_by, unsealed_by}
+use Rattle.sspi_credssp.specs.Acts.{sealings_by, unsealings_by}
 use Rattle.sspi_credssp.specs.Client.{ClientSettings, ClientView, IsFreshClient}
 use Rattle.sspi_credssp.specs.ClientTurn.{ClientTurn, IsUnderway, StartsUnused, client_frame, client_turn, noted_next}
 use Rattle.sspi_credssp.specs.ClientTurn.{state_after}
@@ -21,7 +21,7 @@ use Rattle.sspi_credssp.specs.declared.client_state.Progress.TheVariants.{Comple
 use Rattle.sspi_credssp.specs.Begun.{IfContext}
 use Rattle.sspi_credssp.specs.ClientStep.{client_args, Asked, Walked, stepped, resumed, still_asked, recounted, DoneStep}
 use Rattle.sspi_credssp.specs.Context.{ContextSetting}
-use Rattle.sspi_credssp.specs.Counts.{sealed_in, unsealed_in, SameBut, silent, is_waiting_in}
+use Rattle.sspi_credssp.specs.Counts.{sealings_in, unsealings_in, SameBut, silent, is_waiting_in}
 use Rattle.sspi_credssp.specs.Noted.{noted_in, noted_with}
 use Rattle.sspi_credssp.specs.Turn.{ClientFrame, UnlessRefused, FitsNoted, OnceNegotiated}
 use Rattle.sspi_delegate.specs.EndRun.{ClientEnd, client_end}
@@ -189,10 +189,10 @@ module _ {C : Type 0} (c : Meaning ContextSetting C) where
   client_turned law first old new past d out follows turn =
       let unused = starts_unused first old past follows in
       let t : Turn = client_turn c d out new in
-      let made : sealed_in c new.context ≡ made_in past + sealed_by new.acts =
-      turn.moves.sealed unused ∙ ap (λ (n : ℕ). n + sealed_by new.acts) follows.ran.made in
-      let opened : unsealed_in c new.context ≡ opened_in past + unsealed_by new.acts =
-      turn.moves.unsealed unused ∙ ap (λ (n : ℕ). n + unsealed_by new.acts) follows.ran.opened in
+      let made : sealings_in c new.context ≡ made_in past + sealings_by new.acts =
+      turn.moves.sealings unused ∙ ap (λ (n : ℕ). n + sealings_by new.acts) follows.ran.made in
+      let opened : unsealings_in c new.context ≡ opened_in past + unsealings_by new.acts =
+      turn.moves.unsealings unused ∙ ap (λ (n : ℕ). n + unsealings_by new.acts) follows.ran.opened in
       let noted : noted_next c old d ≡ client_noted new.settings.least (t ∷ past) = noted_of first old new t past follows turn.moves.same in
       record {
         same = turn.moves.same ∙ follows.ran.same;
@@ -206,16 +206,16 @@ module _ {C : Type 0} (c : Meaning ContextSetting C) where
             noted = unless_map out _ _ (λ h. sym (h ∙ noted)) turn.moves.noted_going;
             proved = λ was. (
               sym (turn.moves.noted_proved was ∙ noted),
-              made_by_proof new.acts (made_in past) (sealed_in c new.context) made was
+              made_by_proof new.acts (made_in past) (sealings_in c new.context) made was
                   (proved_alone (client_frame c old new) t turn.turn.shown.acts was),
               same_but c new.context,
             );
             checked = λ was. (
               sym (turn.moves.noted_checked was ∙ noted),
-              opened_by_check new.acts (opened_in past) (unsealed_in c new.context) opened was turn.turn.shown.acts.opened,
+              opened_by_check new.acts (opened_in past) (unsealings_in c new.context) opened was turn.turn.shown.acts.opened,
               same_but c new.context,
             );
-            sealed = λ was. made_by_seal new.acts (made_in past) (sealed_in c new.context) made was
+            sealed = λ was. made_by_seal new.acts (made_in past) (sealings_in c new.context) made was
                 (sealed_alone (client_frame c old new) t turn.turn.shown.acts was);
           }) turn.turn,
           each_over law (client_end old) (client_end new) past turn.moves.same
@@ -320,8 +320,8 @@ module _ {C : Type 0} (c : Meaning ContextSetting C) where
       let unused = starts_unused first old past follows in
       record {
         same = way.ready.same ∙ follows.ran.same;
-        made = way.ready.unspent.sealed unused ∙ follows.ran.made;
-        opened = way.ready.unspent.unsealed unused ∙ follows.ran.opened;
+        made = way.ready.unspent.sealings unused ∙ follows.ran.made;
+        opened = way.ready.unspent.unsealings unused ∙ follows.ran.opened;
         each = each_over law (client_end old) (client_end now) past way.ready.same
             (touched_by (client_end old) old.state past (SameBut c old.context now.context) follows.state follows.ran.each follows.going
             way.ready.unspent.bare)

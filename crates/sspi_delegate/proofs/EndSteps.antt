@@ -2,8 +2,8 @@
 use Rattle.std.proofs.Common.{◌≡◌, ℕ, ◌+◌, ◌-◌, Bool, true, false, ◌||◌, List, [], ◌∷◌, refl, arith, Option, None, Some}
 use Rattle.sspi_mech.specs.Meaning.{Meaning}
 use Rattle.sspi_credssp.specs.declared.acts.Acts.{Acts}
-use Rattle.sspi_credssp.specs.Acts.{sealed_by, unsealed_by}
-use Rattle.sspi_credssp.specs.Counts.{sealed_in, unsealed_in, IsUnusedIn, SameBut}
+use Rattle.sspi_credssp.specs.Acts.{sealings_by, unsealings_by}
+use Rattle.sspi_credssp.specs.Counts.{sealings_in, unsealings_in, IsUnusedIn, SameBut}
 use Rattle.sspi_credssp.specs.Context.{ContextSetting}
 use Rattle.sspi_credssp.specs.Turn.{UnlessRefused}
 use Rattle.sspi_delegate.specs.EndRun.{Kept, Ran}
@@ -82,24 +82,24 @@ unless_map outcome.Finished P Q f h = f h
 unless_map (outcome.Refused kind reply) P Q f h = h
 
 -- the number of the one text that a turn sealed, and of the one blob that it opened
-pub made_by_proof : (acts : Acts) (made now : ℕ) → now ≡ made + sealed_by acts → acts.proved ≡ true → acts.sealed ≡ false → made ≡ now - 1
+pub made_by_proof : (acts : Acts) (made now : ℕ) → now ≡ made + sealings_by acts → acts.proved ≡ true → acts.sealed ≡ false → made ≡ now - 1
 made_by_proof acts made now is proved sealed = rw (is, proved, sealed) (omega arith)
 
-pub made_by_seal : (acts : Acts) (made now : ℕ) → now ≡ made + sealed_by acts → acts.sealed ≡ true → acts.proved ≡ false → made ≡ now - 1
+pub made_by_seal : (acts : Acts) (made now : ℕ) → now ≡ made + sealings_by acts → acts.sealed ≡ true → acts.proved ≡ false → made ≡ now - 1
 made_by_seal acts made now is sealed proved = rw (is, proved, sealed) (omega arith)
 
-pub opened_by_check : (acts : Acts) (opened now : ℕ) → now ≡ opened + unsealed_by acts → acts.checked ≡ true → acts.opened ≡ false →
+pub opened_by_check : (acts : Acts) (opened now : ℕ) → now ≡ opened + unsealings_by acts → acts.checked ≡ true → acts.opened ≡ false →
     opened ≡ now - 1
 opened_by_check acts opened now is checked unopened = rw (is, checked, unopened) (omega arith)
 
-pub opened_by_end : (acts : Acts) (opened now : ℕ) → now ≡ opened + unsealed_by acts → acts.opened ≡ true → acts.checked ≡ false →
+pub opened_by_end : (acts : Acts) (opened now : ℕ) → now ≡ opened + unsealings_by acts → acts.opened ≡ true → acts.checked ≡ false →
     opened ≡ now - 1
 opened_by_end acts opened now is was unchecked = rw (is, unchecked, was) (omega arith)
 
 module _ {S C : Type 0} (c : Meaning S C) where
-  pub unused_in : (context : Option C) → sealed_in c context ≡ 0 → unsealed_in c context ≡ 0 → IsUnusedIn c context
+  pub unused_in : (context : Option C) → sealings_in c context ≡ 0 → unsealings_in c context ≡ 0 → IsUnusedIn c context
   unused_in None a b = tt
-  unused_in (Some m) a b = record { sealed = a; unsealed = b }
+  unused_in (Some m) a b = record { sealings = a; unsealings = b }
 
   pub same_but : (x : Option C) → SameBut c x x
   same_but None = tt

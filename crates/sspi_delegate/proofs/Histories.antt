@@ -147,7 +147,7 @@ module _ {C : Type 0} (c : Meaning ContextSetting C) where
     server_refuses old d refusal new call = record {
       cause = call.cause.kind;
       heeds = λ met. (call.heeded.refuses met).0;
-      status = call.cause.plain;
+      status = call.cause.codeless;
       step = call.step;
     }
 

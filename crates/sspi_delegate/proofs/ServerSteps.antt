@@ -8,9 +8,9 @@ use Rattle.sspi_mech.specs.Meaning.{Meaning}
 use Rattle.sspi_tsreq.specs.declared.request.TsRequest.{TsRequest}
 use Rattle.sspi_credssp.specs.declared.state.CredSspState.{CredSspState}
 use Rattle.sspi_credssp.specs.declared.state.CredSspState.TheVariants.{NegoToken, PubKeyInfo, AuthInfo, Final}
-use Rattle.sspi_credssp.specs.Acts.{sealed_by, unsealed_by}
+use Rattle.sspi_credssp.specs.Acts.{sealings_by, unsealings_by}
 use Rattle.sspi_credssp.specs.Context.{ContextSetting}
-use Rattle.sspi_credssp.specs.Counts.{sealed_in, unsealed_in, SameBut}
+use Rattle.sspi_credssp.specs.Counts.{sealings_in, unsealings_in, SameBut}
 use Rattle.sspi_credssp.specs.Noted.{noted_with}
 use Rattle.sspi_credssp.specs.Server.{ServerSettings, ServerView, IsFreshServer}
 use Rattle.sspi_credssp.specs.ServerTurn.{ServerTurn, StartsUnused, server_frame, server_turn, after_reply}
@@ -238,10 +238,10 @@ module _ {C : Type 0} (c : Meaning ContextSetting C) where
     server_turned law first old new past d out follows turn =
         let unused = starts_unused first old past follows in
         let t : Turn = server_turn c d out new in
-        let made : sealed_in c new.context ≡ made_in past + sealed_by new.acts =
-        turn.moves.sealed unused ∙ ap (λ (n : ℕ). n + sealed_by new.acts) follows.ran.made in
-        let opened : unsealed_in c new.context ≡ opened_in past + unsealed_by new.acts =
-        turn.moves.unsealed unused ∙ ap (λ (n : ℕ). n + unsealed_by new.acts) follows.ran.opened in
+        let made : sealings_in c new.context ≡ made_in past + sealings_by new.acts =
+        turn.moves.sealings unused ∙ ap (λ (n : ℕ). n + sealings_by new.acts) follows.ran.made in
+        let opened : unsealings_in c new.context ≡ opened_in past + unsealings_by new.acts =
+        turn.moves.unsealings unused ∙ ap (λ (n : ℕ). n + unsealings_by new.acts) follows.ran.opened in
         let noted : noted_with old.settings.least old.noted d.version ≡ server_noted new.settings.least (t ∷ past) =
         noted_of first old new t past follows turn.moves.same in
         record {
@@ -255,8 +255,8 @@ module _ {C : Type 0} (c : Meaning ContextSetting C) where
               noted = unless_map out _ _ (λ some. sym (turn.moves.noted some ∙ noted)) turn.moves.begun;
               proved = λ was. (
                 sym (turn.moves.noted_proved was ∙ noted),
-                made_by_proof new.acts (made_in past) (sealed_in c new.context) made was turn.turn.shown.acts.sealed,
-                opened_by_check new.acts (opened_in past) (unsealed_in c new.context) opened (turn.turn.shown.acts.proved was).0
+                made_by_proof new.acts (made_in past) (sealings_in c new.context) made was turn.turn.shown.acts.sealed,
+                opened_by_check new.acts (opened_in past) (unsealings_in c new.context) opened (turn.turn.shown.acts.proved was).0
                     (checked_alone (server_frame c old new) t turn.turn.shown.acts (turn.turn.shown.acts.proved was).0),
                 same_but c new.context,
               );

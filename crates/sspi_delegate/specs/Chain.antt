@@ -18,7 +18,7 @@ use Rattle.sspi_credssp.specs.Begun.{Begun, IfContext}
 use Rattle.sspi_credssp.specs.Client.{ClientView}
 use Rattle.sspi_credssp.specs.ClientStep.{Asked, Walked}
 use Rattle.sspi_credssp.specs.Context.{ContextSetting}
-use Rattle.sspi_credssp.specs.Counts.{sealed_in, unsealed_in, SameBut}
+use Rattle.sspi_credssp.specs.Counts.{sealings_in, unsealings_in, SameBut}
 use Rattle.sspi_credssp.specs.Proxy.{ProxyMeaning}
 use Rattle.sspi_credssp.specs.Server.{ServerView}
 use Rattle.sspi_credssp.specs.ServerStep.{Knowing, Unknown, Accepted, RefusedAt, known_at, server_setting}
@@ -78,8 +78,8 @@ module _ {C D : Type 0} (c : Meaning ContextSetting C) (k : KdcCalls D) (first :
   -- one turn after those before it; the context has sealed and opened as often as the turns say
   pub record ClientLink (past : List Turn) (t : Turn) (stage next : ClientStage C D) : Type 0 where
     pub moved : ClientMovedBy t.acts.negotiated t.acts.status t.outcome t.delivered.nego_tokens t.output stage next
-    pub sealed : sealed_in c next.context ≡ made_in (t ∷ past)
-    pub opened : unsealed_in c next.context ≡ opened_in (t ∷ past)
+    pub sealings : sealings_in c next.context ≡ made_in (t ∷ past)
+    pub unsealings : unsealings_in c next.context ≡ opened_in (t ∷ past)
 
   -- the stage that these turns lead to, the newest first, from a client as it was made and a KDC that was `kdc`
   abbrev pub ClientChain : D → List Turn → ClientStage C D → Type 0
@@ -131,8 +131,8 @@ module _ {C P : Type 0} (c : Meaning ContextSetting C) (p : ProxyMeaning P) (fir
   -- one turn after those before it; the context has sealed and opened as often as the turns say
   pub record ServerLink (past : List Turn) (t : Turn) (stage next : ServerStage C) : Type 0 where
     pub moved : ServerMovedBy t.acts.negotiated t.acts.status t.outcome t.delivered.nego_tokens t.output stage next
-    pub sealed : sealed_in c next.context ≡ made_in (t ∷ past)
-    pub opened : unsealed_in c next.context ≡ opened_in (t ∷ past)
+    pub sealings : sealings_in c next.context ≡ made_in (t ∷ past)
+    pub unsealings : unsealings_in c next.context ≡ opened_in (t ∷ past)
 
   -- the stage that these turns lead to, the newest first, from a server as it was made
   abbrev pub ServerChain : List Turn → ServerStage C → Type 0

@@ -4,7 +4,7 @@ use Rattle.sspi_mech.specs.Meaning.{Meaning}
 use Rattle.sspi_credssp.specs.declared.state.CredSspState.{CredSspState}
 use Rattle.sspi_credssp.specs.Client.{ClientSettings, ClientView}
 use Rattle.sspi_credssp.specs.Context.{ContextSetting}
-use Rattle.sspi_credssp.specs.Counts.{sealed_in, unsealed_in}
+use Rattle.sspi_credssp.specs.Counts.{sealings_in, unsealings_in}
 use Rattle.sspi_credssp.specs.Server.{ServerSettings, ServerView}
 use Rattle.sspi_credssp.specs.Turn.{Frame}
 use Rattle.sspi_credssp.specs.declared.turn.Turn.{Turn}
@@ -50,8 +50,8 @@ EachTurn MayCome (t ∷ past) = MayCome past t × EachTurn MayCome past
 pub record Ran {S C : Type 0} (c : Meaning ContextSetting C) (Each Others : List Turn → Type 0) (first now : Kept S C)
     (past : List Turn) : Type 0 where
   pub same : now.settings ≡ first.settings
-  pub made : sealed_in c now.context ≡ made_in past
-  pub opened : unsealed_in c now.context ≡ opened_in past
+  pub made : sealings_in c now.context ≡ made_in past
+  pub opened : unsealings_in c now.context ≡ opened_in past
   pub each : Each past
   -- only the newest turn may have been refused
   pub others : Others past

@@ -1,6 +1,6 @@
 -- The turns of one end, the newest first.
 use Rattle.std.specs.Prelude.{ℕ, ◌+◌, ◌&&◌, ◌||◌, List, [], ◌∷◌, Bool, true, false}
-use Rattle.sspi_credssp.specs.Acts.{sealed_by, unsealed_by}
+use Rattle.sspi_credssp.specs.Acts.{sealings_by, unsealings_by}
 use Rattle.sspi_credssp.specs.declared.turn.End.{End}
 use Rattle.sspi_credssp.specs.declared.turn.End.TheVariants.{Client, Server}
 use Rattle.sspi_credssp.specs.declared.turn.Outcome.{Outcome}
@@ -27,11 +27,11 @@ server_turns (t ∷ past) = onto_server t.end t (server_turns past)
 -- how many texts the end's context sealed, and how many blobs it opened
 abbrev pub made_in : List Turn → ℕ
 made_in [] = 0
-made_in (t ∷ past) = made_in past + sealed_by t.acts
+made_in (t ∷ past) = made_in past + sealings_by t.acts
 
 abbrev pub opened_in : List Turn → ℕ
 opened_in [] = 0
-opened_in (t ∷ past) = opened_in past + unsealed_by t.acts
+opened_in (t ∷ past) = opened_in past + unsealings_by t.acts
 
 abbrev pub is_replied : Outcome → Bool
 is_replied (outcome.Reply reply) = true

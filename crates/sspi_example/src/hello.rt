@@ -20,10 +20,10 @@ use std::alloc::Global;
 pub struct Hello {
     alloc: Global,
     peer: Option<Username>,
-    sealed: u64,
-    unsealed: u64,
-    signed: u64,
-    verified: u64,
+    sealings: u64,
+    unsealings: u64,
+    signings: u64,
+    verifications: u64,
 }
 
 fn refusal(kind: ErrorKind) -> Error
@@ -34,7 +34,7 @@ fn refusal(kind: ErrorKind) -> Error
 
 impl Hello {
     fn greet(&self, args: &InitializeSecurityContext<'_>) -> Result<Step, Error>
-        ensures plain { IfErr result (λ error. error.nstatus ≡ None) }
+        ensures codeless { IfErr result (λ error. error.nstatus ≡ None) }
     {
         if !args.input.is_empty() {
             return Ok(Step {
@@ -54,7 +54,7 @@ impl Hello {
 
 /// The name that a client told.
 fn name_in(alloc: Global, token: &[u8]) -> Result<Username, Error>
-    ensures plain { IfErr result (λ error. error.nstatus ≡ None) }
+    ensures codeless { IfErr result (λ error. error.nstatus ≡ None) }
 {
     let name = Utf16Text::from_bytes_le(alloc, token)?.to_string(alloc)?;
     Ok(Username::parse(alloc, &name)?)
@@ -66,7 +66,7 @@ impl Mechanism for Hello {
     ghost REQUESTS = { 0 };
 
     ghost meaning = { record {
-      made = λ _ m. (m.sealed ≡ 0) × (m.unsealed ≡ 0) × (m.signed ≡ 0) × (m.verified ≡ 0);
+      made = λ _ m. (m.sealings ≡ 0) × (m.unsealings ≡ 0) × (m.signings ≡ 0) × (m.verifications ≡ 0);
       unmade = λ _ _. ⊥;
       acquires = λ m _ _ _ m2. m2 ≡ m;
       steps = λ m _ answer m2. (m2 ≡ m) × elim answer as (λ _. Type 0) [
@@ -87,8 +87,9 @@ impl Mechanism for Hello {
       waits = λ _. false;
       left = λ _. 0;
       pairs = λ _. false;
-      counts = λ m. record { sealed = m.sealed; unsealed = m.unsealed; signed = m.signed; verified = m.verified };
-      counted = λ m n. record m { sealed = n.sealed; unsealed = n.unsealed; signed = n.signed; verified = n.verified };
+      counts = λ m. record { sealings = m.sealings; unsealings = m.unsealings; signings = m.signings; verifications = m.verifications };
+      counted = λ m n.
+          record m { sealings = n.sealings; unsealings = n.unsealings; signings = n.signings; verifications = n.verifications };
       seals = λ _ _ _ blob. 16 ≤ length blob;
       opens = λ _ _ blob text. text ≡ drop 16 blob;
       signs = λ _ _ _ _. ⊥;
@@ -103,10 +104,10 @@ impl Mechanism for Hello {
         Ok(Hello {
             alloc,
             peer: None,
-            sealed: 0,
-            unsealed: 0,
-            signed: 0,
-            verified: 0,
+            sealings: 0,
+            unsealings: 0,
+            signings: 0,
+            verifications: 0,
         })
     }
 
@@ -165,24 +166,24 @@ impl Mechanism for Hello {
     }
 
     fn seal(&mut self, text: &[u8]) -> Result<Vec<u8>, Error> {
-        let Some(count) = self.sealed.checked_add(1) else {
+        let Some(count) = self.sealings.checked_add(1) else {
             return Err(refusal(ErrorKind::ContextExpired));
         };
         let mut blob = Vec::from_slice(self.alloc, &[0; 16])?;
         blob.extend_from_slice(text)?;
-        self.sealed = count;
+        self.sealings = count;
         Ok(blob)
     }
 
     fn unseal(&mut self, blob: &[u8]) -> Result<Vec<u8>, Error> {
-        let Some(count) = self.unsealed.checked_add(1) else {
+        let Some(count) = self.unsealings.checked_add(1) else {
             return Err(refusal(ErrorKind::ContextExpired));
         };
         if blob.len() < 16 {
             return Err(refusal(ErrorKind::InvalidToken));
         }
         let text = Vec::from_slice(self.alloc, &blob[16..])?;
-        self.unsealed = count;
+        self.unsealings = count;
         Ok(text)
     }
 

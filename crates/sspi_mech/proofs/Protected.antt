@@ -29,14 +29,15 @@ signed_verifies m p n text mic peer signed =
 
 -- what opens at the number that is next is not refused, but at the last number
 pub opened_is_taken : (m : NtlmState) (blob text : List ℕ) →
-    ntlm_meaning.opens m m.protection.unsealed blob text → m.protection.unsealed < 2 ^ 64 - 1 → ntlm_meaning.permits m (ToUnseal blob)
+    ntlm_meaning.opens m m.protection.unsealings blob text → m.protection.unsealings < 2 ^ 64 - 1 → ntlm_meaning.permits m (ToUnseal blob)
 opened_is_taken m blob text opens below =
-    opened.opened_is_taken m.protection.key (peer_direction m.stage) m.protection.unsealed blob text opens below
+    opened.opened_is_taken m.protection.key (peer_direction m.stage) m.protection.unsealings blob text opens below
 
 pub verified_is_taken : (m : NtlmState) (mic text : List ℕ) →
-    ntlm_meaning.verifies m m.protection.verified mic text → m.protection.verified < 2 ^ 64 - 1 → ntlm_meaning.permits m (ToVerify mic text)
+    ntlm_meaning.verifies m m.protection.verifications mic text → m.protection.verifications < 2 ^ 64 - 1 →
+    ntlm_meaning.permits m (ToVerify mic text)
 verified_is_taken m mic text verified below =
-    opened.verified_is_taken m.protection.key (peer_direction m.stage) m.protection.verified mic text verified below
+    opened.verified_is_taken m.protection.key (peer_direction m.stage) m.protection.verifications mic text verified below
 
 -- a call that is permitted is refused with no kind, and a refused one with one kind
 pub one_refusal : (m : NtlmState) (call : Call) (kind : ErrorKind) → ntlm_meaning.permits m call → ntlm_meaning.refuses m call kind → ⊥

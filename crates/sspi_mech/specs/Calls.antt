@@ -39,25 +39,25 @@ accept_args args = record {
 
 -- how many messages an object has made and taken
 pub record Counts : Type 0 where
-  pub sealed : ℕ
-  pub unsealed : ℕ
-  pub signed : ℕ
-  pub verified : ℕ
+  pub sealings : ℕ
+  pub unsealings : ℕ
+  pub signings : ℕ
+  pub verifications : ℕ
 
 abbrev pub no_counts : Counts
-no_counts = record { sealed = 0; unsealed = 0; signed = 0; verified = 0 }
+no_counts = record { sealings = 0; unsealings = 0; signings = 0; verifications = 0 }
 
-abbrev pub one_sealed : Counts → Counts
-one_sealed n = record n { sealed = n.sealed + 1 }
+abbrev pub one_sealing : Counts → Counts
+one_sealing n = record n { sealings = n.sealings + 1 }
 
-abbrev pub one_unsealed : Counts → Counts
-one_unsealed n = record n { unsealed = n.unsealed + 1 }
+abbrev pub one_unsealing : Counts → Counts
+one_unsealing n = record n { unsealings = n.unsealings + 1 }
 
-abbrev pub one_signed : Counts → Counts
-one_signed n = record n { signed = n.signed + 1 }
+abbrev pub one_signing : Counts → Counts
+one_signing n = record n { signings = n.signings + 1 }
 
-abbrev pub one_verified : Counts → Counts
-one_verified n = record n { verified = n.verified + 1 }
+abbrev pub one_verification : Counts → Counts
+one_verification n = record n { verifications = n.verifications + 1 }
 
 -- a call that is no step, with what it is given
 pub data Call : Type 0 where

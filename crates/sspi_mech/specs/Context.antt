@@ -13,8 +13,8 @@ use Rattle.sspi_mech.specs.Meaning.{Meaning}
 
 -- nothing was sealed or opened
 pub record IsUnused (n : Counts) : Type 0 where
-  pub sealed : n.sealed ≡ 0
-  pub unsealed : n.unsealed ≡ 0
+  pub sealings : n.sealings ≡ 0
+  pub unsealings : n.unsealings ≡ 0
 
 -- What holds of every context, also of one that chooses among mechanisms: there a refused step may move the context,
 -- a step may sign and check MICs, and another mechanism may take the place of the first, also where credentials are acquired.

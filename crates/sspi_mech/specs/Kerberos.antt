@@ -83,10 +83,10 @@ kerberos_refusal m (ToAcquire use_of auth_data) = result_err (acquired use_of au
 kerberos_refusal m ToName = absence (name_at m.stage)
 kerberos_refusal m (ToIdentify identities) = result_err (identified m identities)
 kerberos_refusal m ToComplete = absence m.protection.key
-kerberos_refusal m (ToSeal text) = making_refusal m.protection.key m.protection.sealed
-kerberos_refusal m (ToUnseal blob) = unseal_refusal m.protection.key (peer_direction m.stage) m.protection.unsealed blob
-kerberos_refusal m (ToSign text) = making_refusal m.protection.key m.protection.signed
-kerberos_refusal m (ToVerify mic text) = verify_refusal m.protection.key (peer_direction m.stage) m.protection.verified mic text
+kerberos_refusal m (ToSeal text) = making_refusal m.protection.key m.protection.sealings
+kerberos_refusal m (ToUnseal blob) = unseal_refusal m.protection.key (peer_direction m.stage) m.protection.unsealings blob
+kerberos_refusal m (ToSign text) = making_refusal m.protection.key m.protection.signings
+kerberos_refusal m (ToVerify mic text) = verify_refusal m.protection.key (peer_direction m.stage) m.protection.verifications mic text
 kerberos_refusal m ToDescribe = None
 kerberos_refusal m ToShowKey = absence m.protection.key
 

@@ -172,7 +172,7 @@ identified_same TicketSent m m2 ids is = cc
 identified_same (Accepted peer) m m2 [] is = cc
 identified_same (Accepted peer) m m2 (first ∷ rest) is = cc
 
-of_fresh : (s : Setting) → counts_of (kerberos_of s).protection ≡ record { sealed = 0; unsealed = 0; signed = 0; verified = 0 }
+of_fresh : (s : Setting) → counts_of (kerberos_of s).protection ≡ record { sealings = 0; unsealings = 0; signings = 0; verifications = 0 }
 of_fresh (OfNtlm config) = refl
 of_fresh (OfKerberos config) = refl
 of_fresh (OfKerberosServer config server) = refl

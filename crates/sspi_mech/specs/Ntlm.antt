@@ -68,10 +68,10 @@ ntlm_refusal m (ToAcquire use_of auth_data) = result_err (acquired use_of auth_d
 ntlm_refusal m ToName = absence (name_at m.stage)
 ntlm_refusal m (ToIdentify identities) = result_err (identified m identities)
 ntlm_refusal m ToComplete = absence m.protection.key
-ntlm_refusal m (ToSeal text) = making_refusal m.protection.key m.protection.sealed
-ntlm_refusal m (ToUnseal blob) = unseal_refusal m.protection.key (peer_direction m.stage) m.protection.unsealed blob
-ntlm_refusal m (ToSign text) = making_refusal m.protection.key m.protection.signed
-ntlm_refusal m (ToVerify mic text) = verify_refusal m.protection.key (peer_direction m.stage) m.protection.verified mic text
+ntlm_refusal m (ToSeal text) = making_refusal m.protection.key m.protection.sealings
+ntlm_refusal m (ToUnseal blob) = unseal_refusal m.protection.key (peer_direction m.stage) m.protection.unsealings blob
+ntlm_refusal m (ToSign text) = making_refusal m.protection.key m.protection.signings
+ntlm_refusal m (ToVerify mic text) = verify_refusal m.protection.key (peer_direction m.stage) m.protection.verifications mic text
 ntlm_refusal m ToDescribe = None
 ntlm_refusal m ToShowKey = absence m.protection.key
 

@@ -84,7 +84,7 @@ with_key_counts m m2 (Ok key) is = cc
 with_key_counts m m2 (Err kind) is = cc
 
 made_fresh : (s : Setting) (m : NtlmState) → NtlmMade s m → counts_of m.protection ≡ record
-    { sealed = 0; unsealed = 0; signed = 0; verified = 0 }
+    { sealings = 0; unsealings = 0; signings = 0; verifications = 0 }
 made_fresh (OfNtlm config) m made = ap (λ (x : NtlmState). counts_of x.protection) made
 made_fresh (OfKerberos config) m made = ap (λ (x : NtlmState). counts_of x.protection) made
 made_fresh (OfKerberosServer config server) m made = ap (λ (x : NtlmState). counts_of x.protection) made

@@ -70,11 +70,11 @@ verify_refusal (Some key) direction n mic text =
     unless_spent n (if bytes_eq mic (mic_of key direction n text) then None else Some MessageAltered)
 
 abbrev pub counts_of : Protection → Counts
-counts_of p = record { sealed = p.sealed; unsealed = p.unsealed; signed = p.signed; verified = p.verified }
+counts_of p = record { sealings = p.sealings; unsealings = p.unsealings; signings = p.signings; verifications = p.verifications }
 
 -- the same key with other counts
 abbrev pub recounted : Protection → Counts → Protection
-recounted p n = record p { sealed = n.sealed; unsealed = n.unsealed; signed = n.signed; verified = n.verified }
+recounted p n = record p { sealings = n.sealings; unsealings = n.unsealings; signings = n.signings; verifications = n.verifications }
 
 abbrev pub no_protection : Protection
-no_protection = record { key = None; sealed = 0; unsealed = 0; signed = 0; verified = 0 }
+no_protection = record { key = None; sealings = 0; unsealings = 0; signings = 0; verifications = 0 }

@@ -1,6 +1,6 @@
 ghost use Rattle.std.specs.Prelude.{◌≡◌, ◌≢◌, ◌<◌, Some, IsTrue, IfOk, IfErr, OnOk, OnErr, option_copied};
 ghost use Rattle.sspi_types.specs.Memory.{memory_error};
-ghost use Rattle.sspi_mech.specs.Calls.{step_args, accept_args, no_counts, one_sealed, one_unsealed, one_signed, one_verified};
+ghost use Rattle.sspi_mech.specs.Calls.{step_args, accept_args, no_counts, one_sealing, one_unsealing, one_signing, one_verification};
 ghost use Rattle.sspi_mech.specs.Calls.{ToAcquire, ToName, ToIdentify, ToComplete, ToSeal, ToUnseal, ToSign, ToVerify, ToDescribe};
 ghost use Rattle.sspi_mech.specs.Calls.{ToShowKey};
 ghost use Rattle.sspi_mech.specs.Context.{IsContext};
@@ -52,7 +52,7 @@ pub trait Mechanism: Sized + Drop {
         ensures count { meaning.counts self.new ≡ meaning.counts self.old }
         // What a refusal says, and what it leaves.
         ensures err { OnErr result (self.new ≡ self.old) }
-        ensures plain { IfErr result (λ error. error.nstatus ≡ None) }
+        ensures codeless { IfErr result (λ error. error.nstatus ≡ None) }
         ensures cause { IfErr result (λ error. error.error_type ≢ ErrorKind.InsufficientMemory →
             meaning.refuses self.old (ToAcquire credential_use (option_copied auth_data.entry)) error.error_type) };
 
@@ -60,20 +60,20 @@ pub trait Mechanism: Sized + Drop {
     fn initialize(&mut self, args: &InitializeSecurityContext<'_>) -> Answer
         ensures step { meaning.steps self.old (step_args args.now) result self.new }
         ensures err { OnRefused result (self.new ≡ self.old) }
-        ensures plain { IfRefused result (λ error. error.nstatus ≡ None) };
+        ensures codeless { IfRefused result (λ error. error.nstatus ≡ None) };
 
     /// Goes on with the step that asked, once it is known what came of its request. Refused, it still waits.
     fn resume(&mut self, reply: &Reply) -> Answer
         ensures step { meaning.resumes self.old reply.now result self.new }
         ensures falls { OnAsk result (meaning.left self.new < meaning.left self.old) }
         ensures err { OnRefused result (self.new ≡ self.old) }
-        ensures plain { IfRefused result (λ error. error.nstatus ≡ None) };
+        ensures codeless { IfRefused result (λ error. error.nstatus ≡ None) };
 
     /// A server's step (AcceptSecurityContext). It asks no KDC.
     fn accept(&mut self, args: &AcceptSecurityContext<'_>) -> Result<Step, Error>
         ensures step { meaning.accepts self.old (accept_args args.now) result self.new }
         ensures err { OnErr result (self.new ≡ self.old) }
-        ensures plain { IfErr result (λ error. error.nstatus ≡ None) };
+        ensures codeless { IfErr result (λ error. error.nstatus ≡ None) };
 
     /// Whether a step waits for what comes of a request.
     fn waiting(&self) -> bool
@@ -90,14 +90,14 @@ pub trait Mechanism: Sized + Drop {
         ensures keyed { IsTrue (meaning.keyed self.old) → result ≡ Ok SecurityStatus.Ok }
         ensures permitted { OnOk result (meaning.permits self.old ToComplete) }
         // What a refusal says.
-        ensures plain { IfErr result (λ error. error.nstatus ≡ None) }
+        ensures codeless { IfErr result (λ error. error.nstatus ≡ None) }
         ensures cause { IfErr result (λ error. error.error_type ≢ ErrorKind.InsufficientMemory →
             meaning.refuses self.old ToComplete error.error_type) };
 
     /// The name that was authenticated: on a server the peer's, on a client its own.
     fn names(&self) -> Result<Username, Error>
         ensures named { IfOk result (λ name. meaning.names self.now ≡ Some name) }
-        ensures plain { IfErr result (λ error. error.nstatus ≡ None) }
+        ensures codeless { IfErr result (λ error. error.nstatus ≡ None) }
         ensures cause { IfErr result (λ error. error.error_type ≢ ErrorKind.InsufficientMemory →
             meaning.refuses self.now ToName error.error_type) };
 
@@ -109,59 +109,59 @@ pub trait Mechanism: Sized + Drop {
         ensures count { meaning.counts self.new ≡ meaning.counts self.old }
         // What a refusal says, and what it leaves.
         ensures err { OnErr result (self.new ≡ self.old) }
-        ensures plain { IfErr result (λ error. error.nstatus ≡ None) }
+        ensures codeless { IfErr result (λ error. error.nstatus ≡ None) }
         ensures cause { IfErr result (λ error. error.error_type ≢ ErrorKind.InsufficientMemory →
             meaning.refuses self.old (ToIdentify identities.now) error.error_type) };
 
     /// Seals a text for the peer (EncryptMessage).
     fn seal(&mut self, text: &[u8]) -> Result<Vec<u8>, Error>
         // What `Ok` holds.
-        ensures blob { IfOk result (λ blob. meaning.seals self.new (meaning.counts self.old).sealed text.now blob.items) }
-        ensures ok { OnOk result (self.new ≡ meaning.counted self.old (one_sealed (meaning.counts self.old))) }
-        ensures count { OnOk result (meaning.counts self.new ≡ one_sealed (meaning.counts self.old)) }
+        ensures blob { IfOk result (λ blob. meaning.seals self.new (meaning.counts self.old).sealings text.now blob.items) }
+        ensures ok { OnOk result (self.new ≡ meaning.counted self.old (one_sealing (meaning.counts self.old))) }
+        ensures count { OnOk result (meaning.counts self.new ≡ one_sealing (meaning.counts self.old)) }
         ensures permitted { OnOk result (meaning.permits self.old (ToSeal text.now)) }
         // What a refusal says, and what it leaves.
         ensures err { OnErr result (self.new ≡ self.old) }
-        ensures plain { IfErr result (λ error. error.nstatus ≡ None) }
+        ensures codeless { IfErr result (λ error. error.nstatus ≡ None) }
         ensures cause { IfErr result (λ error. error.error_type ≢ ErrorKind.InsufficientMemory →
             meaning.refuses self.old (ToSeal text.now) error.error_type) };
 
     /// Opens what the peer sealed (DecryptMessage).
     fn unseal(&mut self, blob: &[u8]) -> Result<Vec<u8>, Error>
         // What `Ok` holds.
-        ensures text { IfOk result (λ text. meaning.opens self.new (meaning.counts self.old).unsealed blob.now text.items) }
-        ensures ok { OnOk result (self.new ≡ meaning.counted self.old (one_unsealed (meaning.counts self.old))) }
-        ensures count { OnOk result (meaning.counts self.new ≡ one_unsealed (meaning.counts self.old)) }
+        ensures text { IfOk result (λ text. meaning.opens self.new (meaning.counts self.old).unsealings blob.now text.items) }
+        ensures ok { OnOk result (self.new ≡ meaning.counted self.old (one_unsealing (meaning.counts self.old))) }
+        ensures count { OnOk result (meaning.counts self.new ≡ one_unsealing (meaning.counts self.old)) }
         ensures permitted { OnOk result (meaning.permits self.old (ToUnseal blob.now)) }
         // What a refusal says, and what it leaves.
         ensures err { OnErr result (self.new ≡ self.old) }
-        ensures plain { IfErr result (λ error. error.nstatus ≡ None) }
+        ensures codeless { IfErr result (λ error. error.nstatus ≡ None) }
         ensures cause { IfErr result (λ error. error.error_type ≢ ErrorKind.InsufficientMemory →
             meaning.refuses self.old (ToUnseal blob.now) error.error_type) };
 
     /// The MIC of a text for the peer (MakeSignature).
     fn sign(&mut self, text: &[u8]) -> Result<Vec<u8>, Error>
         // What `Ok` holds.
-        ensures mic { IfOk result (λ mic. meaning.signs self.new (meaning.counts self.old).signed text.now mic.items) }
-        ensures ok { OnOk result (self.new ≡ meaning.counted self.old (one_signed (meaning.counts self.old))) }
-        ensures count { OnOk result (meaning.counts self.new ≡ one_signed (meaning.counts self.old)) }
+        ensures mic { IfOk result (λ mic. meaning.signs self.new (meaning.counts self.old).signings text.now mic.items) }
+        ensures ok { OnOk result (self.new ≡ meaning.counted self.old (one_signing (meaning.counts self.old))) }
+        ensures count { OnOk result (meaning.counts self.new ≡ one_signing (meaning.counts self.old)) }
         ensures permitted { OnOk result (meaning.permits self.old (ToSign text.now)) }
         // What a refusal says, and what it leaves.
         ensures err { OnErr result (self.new ≡ self.old) }
-        ensures plain { IfErr result (λ error. error.nstatus ≡ None) }
+        ensures codeless { IfErr result (λ error. error.nstatus ≡ None) }
         ensures cause { IfErr result (λ error. error.error_type ≢ ErrorKind.InsufficientMemory →
             meaning.refuses self.old (ToSign text.now) error.error_type) };
 
     /// Checks the MIC that the peer made of a text (VerifySignature). Takes no memory: each refusal is one of the mechanism itself.
     fn verify(&mut self, mic: &[u8], text: &[u8]) -> Result<(), Error>
         // What `Ok` holds.
-        ensures mic { OnOk result (meaning.verifies self.new (meaning.counts self.old).verified mic.now text.now) }
-        ensures ok { OnOk result (self.new ≡ meaning.counted self.old (one_verified (meaning.counts self.old))) }
-        ensures count { OnOk result (meaning.counts self.new ≡ one_verified (meaning.counts self.old)) }
+        ensures mic { OnOk result (meaning.verifies self.new (meaning.counts self.old).verifications mic.now text.now) }
+        ensures ok { OnOk result (self.new ≡ meaning.counted self.old (one_verification (meaning.counts self.old))) }
+        ensures count { OnOk result (meaning.counts self.new ≡ one_verification (meaning.counts self.old)) }
         ensures permitted { OnOk result (meaning.permits self.old (ToVerify mic.now text.now)) }
         // What a refusal says, and what it leaves.
         ensures err { OnErr result (self.new ≡ self.old) }
-        ensures plain { IfErr result (λ error. error.nstatus ≡ None) }
+        ensures codeless { IfErr result (λ error. error.nstatus ≡ None) }
         ensures cause { IfErr result (λ error. meaning.refuses self.old (ToVerify mic.now text.now) error.error_type) };
 
     /// Whether this is a server that authenticates user to user.
@@ -171,7 +171,7 @@ pub trait Mechanism: Sized + Drop {
     /// The entry of the mechanism's package.
     fn package_info(&self) -> Result<PackageInfo, Error>
         ensures entry { IfOk result (λ info. info ≡ meaning.entry self.now) }
-        ensures plain { IfErr result (λ error. error.nstatus ≡ None) }
+        ensures codeless { IfErr result (λ error. error.nstatus ≡ None) }
         ensures cause { IfErr result (λ error. error.error_type ≢ ErrorKind.InsufficientMemory →
             meaning.refuses self.now ToDescribe error.error_type) };
 
@@ -182,7 +182,7 @@ pub trait Mechanism: Sized + Drop {
     /// The session key.
     fn session_key(&self) -> Result<SessionKeys, Error>
         ensures key { IfOk result (λ keys. meaning.session_key self.now ≡ Some keys.session_key.value) }
-        ensures plain { IfErr result (λ error. error.nstatus ≡ None) }
+        ensures codeless { IfErr result (λ error. error.nstatus ≡ None) }
         ensures cause { IfErr result (λ error. error.error_type ≢ ErrorKind.InsufficientMemory →
             meaning.refuses self.now ToShowKey error.error_type) };
 

@@ -34,10 +34,10 @@ impl Direction {
 #[derive(Clone, Copy)]
 pub struct Protection {
     key: Option<[u8; 32]>,
-    sealed: u64,
-    unsealed: u64,
-    signed: u64,
-    verified: u64,
+    sealings: u64,
+    unsealings: u64,
+    signings: u64,
+    verifications: u64,
 }
 
 impl Protection {
@@ -46,10 +46,10 @@ impl Protection {
     {
         Protection {
             key: None,
-            sealed: 0,
-            unsealed: 0,
-            signed: 0,
-            verified: 0,
+            sealings: 0,
+            unsealings: 0,
+            signings: 0,
+            verifications: 0,
         }
     }
 
@@ -79,20 +79,20 @@ impl Protection {
         text: &[u8],
     ) -> Result<Vec<u8>, Refusal>
         // What `Ok` holds.
-        ensures blob { IfOk result (λ blob. SealsBy self.new.key direction self.old.sealed text.now blob.items) }
-        ensures ok { OnOk result (self.new ≡ record self.old { sealed = self.old.sealed + 1 }) }
-        ensures permitted { OnOk result (making_refusal self.old.key self.old.sealed ≡ None) }
+        ensures blob { IfOk result (λ blob. SealsBy self.new.key direction self.old.sealings text.now blob.items) }
+        ensures ok { OnOk result (self.new ≡ record self.old { sealings = self.old.sealings + 1 }) }
+        ensures permitted { OnOk result (making_refusal self.old.key self.old.sealings ≡ None) }
         // What a refusal says, and what it leaves.
         ensures err { OnErr result (self.new ≡ self.old) }
-        ensures cause { IfErr result (λ error. IsCause (making_refusal self.old.key self.old.sealed) error.error_type) }
+        ensures cause { IfErr result (λ error. IsCause (making_refusal self.old.key self.old.sealings) error.error_type) }
     {
         let key = self.key()?;
-        let count = next(self.sealed)?;
-        let tag = seal_tag(key, direction, self.sealed, text);
+        let count = next(self.sealings)?;
+        let tag = seal_tag(key, direction, self.sealings, text);
         let mut blob = Vec::with_capacity(alloc, TAG_LENGTH + text.len())?;
         blob.extend_from_slice(&tag)?;
         blob.extend_from_slice(text)?;
-        self.sealed = count;
+        self.sealings = count;
         Ok(blob)
     }
 
@@ -104,25 +104,25 @@ impl Protection {
         blob: &[u8],
     ) -> Result<Vec<u8>, Refusal>
         // What `Ok` holds.
-        ensures text { IfOk result (λ text. OpensBy self.new.key direction self.old.unsealed blob.now text.items) }
-        ensures ok { OnOk result (self.new ≡ record self.old { unsealed = self.old.unsealed + 1 }) }
-        ensures permitted { OnOk result (unseal_refusal self.old.key direction self.old.unsealed blob.now ≡ None) }
+        ensures text { IfOk result (λ text. OpensBy self.new.key direction self.old.unsealings blob.now text.items) }
+        ensures ok { OnOk result (self.new ≡ record self.old { unsealings = self.old.unsealings + 1 }) }
+        ensures permitted { OnOk result (unseal_refusal self.old.key direction self.old.unsealings blob.now ≡ None) }
         // What a refusal says, and what it leaves.
         ensures err { OnErr result (self.new ≡ self.old) }
-        ensures cause { IfErr result (λ error. IsCause (unseal_refusal self.old.key direction self.old.unsealed blob.now)
+        ensures cause { IfErr result (λ error. IsCause (unseal_refusal self.old.key direction self.old.unsealings blob.now)
             error.error_type) }
     {
         let key = self.key()?;
-        let count = next(self.unsealed)?;
+        let count = next(self.unsealings)?;
         if blob.len() < TAG_LENGTH {
             return Err(Refusal::new(ErrorKind::InvalidToken, Reason::ShortBlob));
         }
         let (tag, text) = blob.split_at(TAG_LENGTH);
-        if tag != seal_tag(key, direction, self.unsealed, text).as_slice() {
+        if tag != seal_tag(key, direction, self.unsealings, text).as_slice() {
             return Err(Refusal::new(ErrorKind::MessageAltered, Reason::Tag));
         }
         let text = Vec::from_slice(alloc, text)?;
-        self.unsealed = count;
+        self.unsealings = count;
         Ok(text)
     }
 
@@ -134,38 +134,38 @@ impl Protection {
         text: &[u8],
     ) -> Result<Vec<u8>, Refusal>
         // What `Ok` holds.
-        ensures mic { IfOk result (λ mic. SignsBy self.new.key direction self.old.signed text.now mic.items) }
-        ensures ok { OnOk result (self.new ≡ record self.old { signed = self.old.signed + 1 }) }
-        ensures permitted { OnOk result (making_refusal self.old.key self.old.signed ≡ None) }
+        ensures mic { IfOk result (λ mic. SignsBy self.new.key direction self.old.signings text.now mic.items) }
+        ensures ok { OnOk result (self.new ≡ record self.old { signings = self.old.signings + 1 }) }
+        ensures permitted { OnOk result (making_refusal self.old.key self.old.signings ≡ None) }
         // What a refusal says, and what it leaves.
         ensures err { OnErr result (self.new ≡ self.old) }
-        ensures cause { IfErr result (λ error. IsCause (making_refusal self.old.key self.old.signed) error.error_type) }
+        ensures cause { IfErr result (λ error. IsCause (making_refusal self.old.key self.old.signings) error.error_type) }
     {
         let key = self.key()?;
-        let count = next(self.signed)?;
-        let mic = mic_of(key, direction, self.signed, text);
+        let count = next(self.signings)?;
+        let mic = mic_of(key, direction, self.signings, text);
         let mic = Vec::from_slice(alloc, &mic)?;
-        self.signed = count;
+        self.signings = count;
         Ok(mic)
     }
 
     /// Whether the MIC is that of the text; MessageAltered where it is not.
     pub fn verify(&mut self, direction: Direction, mic: &[u8], text: &[u8]) -> Result<(), Refusal>
         // What `Ok` holds.
-        ensures mic { OnOk result (VerifiesBy self.new.key direction self.old.verified mic.now text.now) }
-        ensures ok { OnOk result (self.new ≡ record self.old { verified = self.old.verified + 1 }) }
-        ensures permitted { OnOk result (verify_refusal self.old.key direction self.old.verified mic.now text.now ≡ None) }
+        ensures mic { OnOk result (VerifiesBy self.new.key direction self.old.verifications mic.now text.now) }
+        ensures ok { OnOk result (self.new ≡ record self.old { verifications = self.old.verifications + 1 }) }
+        ensures permitted { OnOk result (verify_refusal self.old.key direction self.old.verifications mic.now text.now ≡ None) }
         // What a refusal says, and what it leaves.
         ensures err { OnErr result (self.new ≡ self.old) }
-        ensures cause { IfErr result (λ error. verify_refusal self.old.key direction self.old.verified mic.now text.now ≡ Some
+        ensures cause { IfErr result (λ error. verify_refusal self.old.key direction self.old.verifications mic.now text.now ≡ Some
             error.error_type) }
     {
         let key = self.key()?;
-        let count = next(self.verified)?;
-        if mic != mic_of(key, direction, self.verified, text).as_slice() {
+        let count = next(self.verifications)?;
+        if mic != mic_of(key, direction, self.verifications, text).as_slice() {
             return Err(Refusal::new(ErrorKind::MessageAltered, Reason::Tag));
         }
-        self.verified = count;
+        self.verifications = count;
         Ok(())
     }
 }

@@ -3,7 +3,7 @@ use Rattle.std.proofs.Common.{◌≡◌, ◌∙◌, ◌≢◌, ℕ, List, ◌++�
 use Rattle.sspi_types.specs.declared.buffer.SecurityBuffer.{SecurityBuffer}
 use Rattle.sspi_types.specs.declared.buffer_type.BufferType.TheVariants.{Data, Token, Stream}
 use Rattle.sspi_types.specs.BufferTypes.{buffer_type_number}
-use Rattle.sspi_messages.specs.Buffers.{first_plain, bytes_in, pair_of}
+use Rattle.sspi_messages.specs.Buffers.{first_unflagged, bytes_in, pair_of}
 use Rattle.sspi_messages.specs.Messages.{blob_of, blob_in}
 
 pub token_data : buffer_type_number Token ≢ buffer_type_number Data
@@ -36,17 +36,17 @@ first_is_lacking (Some x) (Some y) b there e = cc
 abbrev content : Option SecurityBuffer → Option (List ℕ)
 content o = option_map (λ (x : SecurityBuffer). x.buffer) o
 
-module _ (xs : List SecurityBuffer) (a b : SecurityBuffer) (has_data : first_plain Data xs ≡ Some b) where
-  pub asked_of : {X : Type 0} (f : List ℕ × List ℕ → X) → first_plain Token xs ≡ Some a →
+module _ (xs : List SecurityBuffer) (a b : SecurityBuffer) (has_data : first_unflagged Data xs ≡ Some b) where
+  pub asked_of : {X : Type 0} (f : List ℕ × List ℕ → X) → first_unflagged Token xs ≡ Some a →
       option_map f (pair_of (bytes_in Token xs) (bytes_in Data xs)) ≡ Some (f (a.buffer, b.buffer))
   asked_of f has_token = ap (λ (o : Option SecurityBuffer). option_map f (pair_of (content o) (bytes_in Data xs))) has_token
       ∙ ap (λ (o : Option SecurityBuffer). option_map f (pair_of (Some a.buffer) (content o))) has_data
 
-  pub stream_taken : first_plain Stream xs ≡ Some a → blob_in xs ≡ Some a.buffer
+  pub stream_taken : first_unflagged Stream xs ≡ Some a → blob_in xs ≡ Some a.buffer
   stream_taken has_stream = ap (λ (o : Option SecurityBuffer). blob_of (content o) (bytes_in Token xs) (bytes_in Data xs)) has_stream
       ∙ ap (λ (o : Option SecurityBuffer). blob_of (Some a.buffer) (bytes_in Token xs) (content o)) has_data
 
-  pub parts_taken : first_plain Stream xs ≡ None → first_plain Token xs ≡ Some a → blob_in xs ≡ Some (a.buffer ++ b.buffer)
+  pub parts_taken : first_unflagged Stream xs ≡ None → first_unflagged Token xs ≡ Some a → blob_in xs ≡ Some (a.buffer ++ b.buffer)
   parts_taken no_stream has_token = ap (λ (o : Option SecurityBuffer). blob_of (content o) (bytes_in Token xs) (bytes_in Data xs)) no_stream
       ∙ ap (λ (o : Option SecurityBuffer). blob_of None (content o) (bytes_in Data xs)) has_token
       ∙ ap (λ (o : Option SecurityBuffer). blob_of None (Some a.buffer) (content o)) has_data

@@ -8,21 +8,21 @@ use Rattle.sspi_types.specs.contracts.buffer.SecurityBuffer.{the_row}
 use Rattle.sspi_types.specs.Buffers.{has_type}
 
 -- whether a buffer is of this type and has no flags
-abbrev pub is_plain : BufferType → SecurityBuffer → Bool
-is_plain type buffer = has_type type buffer && (buffer.buffer_type.buffer_flags.0 == 0)
+abbrev pub is_unflagged : BufferType → SecurityBuffer → Bool
+is_unflagged type buffer = has_type type buffer && (buffer.buffer_type.buffer_flags.0 == 0)
 
-abbrev pub first_plain : BufferType → List SecurityBuffer → Option SecurityBuffer
-first_plain type message = find (is_plain type) message
+abbrev pub first_unflagged : BufferType → List SecurityBuffer → Option SecurityBuffer
+first_unflagged type message = find (is_unflagged type) message
 
 -- the bytes of the buffer that is taken
 abbrev pub bytes_in : BufferType → List SecurityBuffer → Option (List ℕ)
-bytes_in type message = option_map (λ buffer. buffer.buffer) (first_plain type message)
+bytes_in type message = option_map (λ buffer. buffer.buffer) (first_unflagged type message)
 
 -- the message with these bytes in the buffer that is taken
 abbrev pub with_bytes : BufferType → List ℕ → List SecurityBuffer → List SecurityBuffer
 with_bytes type bytes [] = []
 with_bytes type bytes (buffer ∷ rest) =
-    cond (is_plain type buffer) (record buffer { buffer = bytes } ∷ rest) (buffer ∷ with_bytes type bytes rest)
+    cond (is_unflagged type buffer) (record buffer { buffer = bytes } ∷ rest) (buffer ∷ with_bytes type bytes rest)
 
 -- two things, where both are there
 abbrev pub pair_of : {A B : Type 0} → Option A → Option B → Option (A × B)
@@ -34,6 +34,6 @@ pair_of (Some a) (Some b) = Some (a, b)
 abbrev pub LendsPair : MutBor (List SecurityBuffer) → BufferType → BufferType → Option (MutBor SecurityBuffer × MutBor SecurityBuffer) → Fml
 LendsPair message first second lent =
     LendsBothIf (Array the_row 0) the_row the_row message lent
-    (λ a b. slice_set (slice_set message.now (position_or_len (is_plain first) message.now) a)
-    (position_or_len (is_plain second) message.now) b)
+    (λ a b. slice_set (slice_set message.now (position_or_len (is_unflagged first) message.now) a)
+    (position_or_len (is_unflagged second) message.now) b)
     message.now

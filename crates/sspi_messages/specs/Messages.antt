@@ -5,7 +5,7 @@ use Rattle.sspi_types.specs.declared.buffer_type.BufferType.TheVariants.{Data, T
 use Rattle.sspi_types.specs.declared.error.Error.{Error}
 use Rattle.sspi_types.specs.declared.error_kind.ErrorKind.{ErrorKind}
 use Rattle.sspi_types.specs.declared.error_kind.ErrorKind.TheVariants.{InvalidToken, InsufficientMemory}
-use Rattle.sspi_mech.specs.Calls.{Call, ToSeal, ToUnseal, ToSign, ToVerify, one_sealed, one_unsealed, one_signed, one_verified}
+use Rattle.sspi_mech.specs.Calls.{Call, ToSeal, ToUnseal, ToSign, ToVerify, one_sealing, one_unsealing, one_signing, one_verification}
 use Rattle.sspi_messages.specs.Buffers.{bytes_in, with_bytes, pair_of}
 use Rattle.sspi_messages.specs.Protecting.{Protecting}
 
@@ -54,16 +54,16 @@ module _ {C : Type 0} (c : Protecting C) where
   -- a refused call leaves the context
   pub record Refuses (asked : Option Call) (m : C) (error : Error) (m2 : C) : Type 0 where
     pub context : m2 ≡ m
-    pub plain : error.nstatus ≡ None
+    pub codeless : error.nstatus ≡ None
     pub cause : IsCause m asked error.error_type
 
   -- a text is sealed as the next message
   pub record Seals (m : C) (text blob : List ℕ) (m2 : C) : Type 0 where
-    pub sealed : c.seals m2 (c.counts m).sealed text blob
+    pub sealed : c.seals m2 (c.counts m).sealings text blob
     pub long : 16 ≤ length blob
     pub permitted : c.permits m (ToSeal text)
-    pub context : m2 ≡ c.counted m (one_sealed (c.counts m))
-    pub count : c.counts m2 ≡ one_sealed (c.counts m)
+    pub context : m2 ≡ c.counted m (one_sealing (c.counts m))
+    pub count : c.counts m2 ≡ one_sealing (c.counts m)
 
   -- the text of a message is sealed, the blob's tag left in Token and the rest in Data
   pub record Encrypts (m : C) (message : List SecurityBuffer) (m2 : C) (message2 : List SecurityBuffer) : Type 0 where
@@ -76,10 +76,10 @@ module _ {C : Type 0} (c : Protecting C) where
   -- a blob is opened as the peer's next message
   pub record Opens (m : C) (blob text : List ℕ) (m2 : C) : Type 0 where
     pub asked : if_tagged blob ≡ Some (ToUnseal blob)
-    pub opened : c.opens m2 (c.counts m).unsealed blob text
+    pub opened : c.opens m2 (c.counts m).unsealings blob text
     pub permitted : c.permits m (ToUnseal blob)
-    pub context : m2 ≡ c.counted m (one_unsealed (c.counts m))
-    pub count : c.counts m2 ≡ one_unsealed (c.counts m)
+    pub context : m2 ≡ c.counted m (one_unsealing (c.counts m))
+    pub count : c.counts m2 ≡ one_unsealing (c.counts m)
 
   -- the blob of a message is opened, and its text left in Data
   pub record Decrypts (m : C) (message : List SecurityBuffer) (m2 : C) (message2 : List SecurityBuffer) : Type 0 where
@@ -94,10 +94,10 @@ module _ {C : Type 0} (c : Protecting C) where
     pub text : List ℕ
     pub mic : List ℕ
     pub asked : to_sign message ≡ Some (ToSign text)
-    pub signed : c.signs m2 (c.counts m).signed text mic
+    pub signed : c.signs m2 (c.counts m).signings text mic
     pub permitted : c.permits m (ToSign text)
-    pub context : m2 ≡ c.counted m (one_signed (c.counts m))
-    pub count : c.counts m2 ≡ one_signed (c.counts m)
+    pub context : m2 ≡ c.counted m (one_signing (c.counts m))
+    pub count : c.counts m2 ≡ one_signing (c.counts m)
     pub buffers : message2 ≡ with_bytes Token mic message
 
   -- the peer's next MIC is that of the text
@@ -105,7 +105,7 @@ module _ {C : Type 0} (c : Protecting C) where
     pub mic : List ℕ
     pub text : List ℕ
     pub asked : to_verify message ≡ Some (ToVerify mic text)
-    pub verified : c.verifies m2 (c.counts m).verified mic text
+    pub verified : c.verifies m2 (c.counts m).verifications mic text
     pub permitted : c.permits m (ToVerify mic text)
-    pub context : m2 ≡ c.counted m (one_verified (c.counts m))
-    pub count : c.counts m2 ≡ one_verified (c.counts m)
+    pub context : m2 ≡ c.counted m (one_verification (c.counts m))
+    pub count : c.counts m2 ≡ one_verification (c.counts m)

@@ -2,24 +2,24 @@
 ghost use Rattle.std.specs.Prelude.{◌≡◌, ◌≢◌, option_map, position};
 ghost use Rattle.std.specs.Borrow.{sem};
 ghost use Rattle.sspi_types.specs.BufferTypes.{buffer_type_number};
-ghost use Rattle.sspi_messages.specs.Buffers.{is_plain, first_plain, pair_of, bytes_in, LendsPair};
+ghost use Rattle.sspi_messages.specs.Buffers.{is_unflagged, first_unflagged, pair_of, bytes_in, LendsPair};
 
 use bitflags::Flags;
 use sspi_types::{BufferType, SecurityBuffer};
 
-fn is_plain(buffer_type: BufferType, buffer: &SecurityBuffer) -> bool
-    ensures { result ≡ is_plain buffer_type buffer.now }
+fn is_unflagged(buffer_type: BufferType, buffer: &SecurityBuffer) -> bool
+    ensures { result ≡ is_unflagged buffer_type buffer.now }
 {
     buffer.buffer_type.buffer_type.to_u32() == buffer_type.to_u32()
         && buffer.buffer_type.buffer_flags.bits() == 0
 }
 
 fn place(message: &[SecurityBuffer], buffer_type: BufferType) -> Option<usize>
-    ensures { result ≡ position (is_plain buffer_type) message.now }
+    ensures { result ≡ position (is_unflagged buffer_type) message.now }
 {
     message
         .iter()
-        .position(|buffer| is_plain(buffer_type, buffer))
+        .position(|buffer| is_unflagged(buffer_type, buffer))
 }
 
 /// The bytes of the first buffer of this type without flags.
@@ -42,7 +42,7 @@ pub fn pair_mut(
     requires { buffer_type_number first_type ≢ buffer_type_number second_type }
     ensures* writes_back { sem 𝓛 (LendsPair message.entry first_type second_type result) }
     ensures pair { option_map (λ pair. (pair.0.now, pair.1.now)) result
-        ≡ pair_of (first_plain first_type message.old) (first_plain second_type message.old) }
+        ≡ pair_of (first_unflagged first_type message.old) (first_unflagged second_type message.old) }
 {
     let Some(first) = place(message, first_type) else {
         return None;

@@ -1,5 +1,5 @@
 ghost use Rattle.std.specs.Prelude.{◌≡◌, ◌≢◌, ◌≤◌, None, length, IfOk, IfErr, OnOk, OnErr};
-ghost use Rattle.sspi_mech.specs.Calls.{one_sealed, one_unsealed, one_signed, one_verified, ToSeal, ToUnseal, ToSign, ToVerify};
+ghost use Rattle.sspi_mech.specs.Calls.{one_sealing, one_unsealing, one_signing, one_verification, ToSeal, ToUnseal, ToSign, ToVerify};
 ghost use Rattle.sspi_messages.specs.Protecting.{Protecting};
 
 use sspi_types::{Error, ErrorKind};
@@ -14,52 +14,52 @@ pub trait Protects {
     /// Seals a text for the peer, as the next of its messages: a blob of at least 16 bytes.
     fn seal(&mut self, text: &[u8]) -> Result<Vec<u8>, Error>
         // What `Ok` holds.
-        ensures blob { IfOk result (λ blob. protecting.seals self.new (protecting.counts self.old).sealed text.now blob.items) }
+        ensures blob { IfOk result (λ blob. protecting.seals self.new (protecting.counts self.old).sealings text.now blob.items) }
         ensures long { IfOk result (λ blob. 16 ≤ length blob.items) }
-        ensures ok { OnOk result (self.new ≡ protecting.counted self.old (one_sealed (protecting.counts self.old))) }
-        ensures count { OnOk result (protecting.counts self.new ≡ one_sealed (protecting.counts self.old)) }
+        ensures ok { OnOk result (self.new ≡ protecting.counted self.old (one_sealing (protecting.counts self.old))) }
+        ensures count { OnOk result (protecting.counts self.new ≡ one_sealing (protecting.counts self.old)) }
         ensures permitted { OnOk result (protecting.permits self.old (ToSeal text.now)) }
         // What a refusal says, and what it leaves.
         ensures err { OnErr result (self.new ≡ self.old) }
-        ensures plain { IfErr result (λ error. error.nstatus ≡ None) }
+        ensures codeless { IfErr result (λ error. error.nstatus ≡ None) }
         ensures cause { IfErr result (λ error. error.error_type ≢ ErrorKind.InsufficientMemory →
             protecting.refuses self.old (ToSeal text.now) error.error_type) };
 
     /// Opens what the peer sealed, as the next of its messages.
     fn unseal(&mut self, blob: &[u8]) -> Result<Vec<u8>, Error>
         // What `Ok` holds.
-        ensures text { IfOk result (λ text. protecting.opens self.new (protecting.counts self.old).unsealed blob.now text.items) }
-        ensures ok { OnOk result (self.new ≡ protecting.counted self.old (one_unsealed (protecting.counts self.old))) }
-        ensures count { OnOk result (protecting.counts self.new ≡ one_unsealed (protecting.counts self.old)) }
+        ensures text { IfOk result (λ text. protecting.opens self.new (protecting.counts self.old).unsealings blob.now text.items) }
+        ensures ok { OnOk result (self.new ≡ protecting.counted self.old (one_unsealing (protecting.counts self.old))) }
+        ensures count { OnOk result (protecting.counts self.new ≡ one_unsealing (protecting.counts self.old)) }
         ensures permitted { OnOk result (protecting.permits self.old (ToUnseal blob.now)) }
         // What a refusal says, and what it leaves.
         ensures err { OnErr result (self.new ≡ self.old) }
-        ensures plain { IfErr result (λ error. error.nstatus ≡ None) }
+        ensures codeless { IfErr result (λ error. error.nstatus ≡ None) }
         ensures cause { IfErr result (λ error. error.error_type ≢ ErrorKind.InsufficientMemory →
             protecting.refuses self.old (ToUnseal blob.now) error.error_type) };
 
     /// The MIC of a text for the peer, as the next of its MICs.
     fn sign(&mut self, text: &[u8]) -> Result<Vec<u8>, Error>
         // What `Ok` holds.
-        ensures mic { IfOk result (λ mic. protecting.signs self.new (protecting.counts self.old).signed text.now mic.items) }
-        ensures ok { OnOk result (self.new ≡ protecting.counted self.old (one_signed (protecting.counts self.old))) }
-        ensures count { OnOk result (protecting.counts self.new ≡ one_signed (protecting.counts self.old)) }
+        ensures mic { IfOk result (λ mic. protecting.signs self.new (protecting.counts self.old).signings text.now mic.items) }
+        ensures ok { OnOk result (self.new ≡ protecting.counted self.old (one_signing (protecting.counts self.old))) }
+        ensures count { OnOk result (protecting.counts self.new ≡ one_signing (protecting.counts self.old)) }
         ensures permitted { OnOk result (protecting.permits self.old (ToSign text.now)) }
         // What a refusal says, and what it leaves.
         ensures err { OnErr result (self.new ≡ self.old) }
-        ensures plain { IfErr result (λ error. error.nstatus ≡ None) }
+        ensures codeless { IfErr result (λ error. error.nstatus ≡ None) }
         ensures cause { IfErr result (λ error. error.error_type ≢ ErrorKind.InsufficientMemory →
             protecting.refuses self.old (ToSign text.now) error.error_type) };
 
     /// Checks the MIC that the peer made of a text as the next of its MICs. Takes no memory.
     fn verify(&mut self, mic: &[u8], text: &[u8]) -> Result<(), Error>
         // What `Ok` holds.
-        ensures mic { OnOk result (protecting.verifies self.new (protecting.counts self.old).verified mic.now text.now) }
-        ensures ok { OnOk result (self.new ≡ protecting.counted self.old (one_verified (protecting.counts self.old))) }
-        ensures count { OnOk result (protecting.counts self.new ≡ one_verified (protecting.counts self.old)) }
+        ensures mic { OnOk result (protecting.verifies self.new (protecting.counts self.old).verifications mic.now text.now) }
+        ensures ok { OnOk result (self.new ≡ protecting.counted self.old (one_verification (protecting.counts self.old))) }
+        ensures count { OnOk result (protecting.counts self.new ≡ one_verification (protecting.counts self.old)) }
         ensures permitted { OnOk result (protecting.permits self.old (ToVerify mic.now text.now)) }
         // What a refusal says, and what it leaves.
         ensures err { OnErr result (self.new ≡ self.old) }
-        ensures plain { IfErr result (λ error. error.nstatus ≡ None) }
+        ensures codeless { IfErr result (λ error. error.nstatus ≡ None) }
         ensures cause { IfErr result (λ error. protecting.refuses self.old (ToVerify mic.now text.now) error.error_type) };
 }

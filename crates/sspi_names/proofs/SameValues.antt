@@ -10,7 +10,7 @@ use Rattle.sspi_names.specs.declared.identity.AuthIdentity.{AuthIdentity}
 use Rattle.sspi_names.specs.declared.identity.AuthIdentityBuffers.{AuthIdentityBuffers}
 use Rattle.sspi_names.specs.declared.identity.KeytabIdentity.{KeytabIdentity}
 use Rattle.sspi_names.specs.declared.credentials.Credentials.{Credentials}
-use Rattle.sspi_names.specs.declared.credentials.Credentials.TheVariants as plain
+use Rattle.sspi_names.specs.declared.credentials.Credentials.TheVariants as credentials
 use Rattle.sspi_names.specs.declared.credentials.CredentialsBuffers.{CredentialsBuffers}
 use Rattle.sspi_names.specs.declared.credentials.CredentialsBuffers.TheVariants as buffered
 use Rattle.sspi_names.specs.contracts.credentials.CredentialsPartialEq.TheImpl as credentials_impl
@@ -109,14 +109,15 @@ abbrev same_credentials : Credentials → Credentials → Bool
 same_credentials = (credentials_impl.ghosts).eq
 
 credentials_are : (a b : Credentials) → same_credentials a b ≡ true → a ≡ b
-credentials_are (plain.AuthIdentity x) (plain.AuthIdentity y) e = ap (λ (i : AuthIdentity). plain.AuthIdentity i) (identity_is x y e)
-credentials_are (plain.AuthIdentity x) (plain.Keytab y) e = absurd (false≢true e)
-credentials_are (plain.Keytab x) (plain.AuthIdentity y) e = absurd (false≢true e)
-credentials_are (plain.Keytab x) (plain.Keytab y) e = ap (λ (i : KeytabIdentity). plain.Keytab i) (keytab_is x y e)
+credentials_are (credentials.AuthIdentity x) (credentials.AuthIdentity y) e =
+    ap (λ (i : AuthIdentity). credentials.AuthIdentity i) (identity_is x y e)
+credentials_are (credentials.AuthIdentity x) (credentials.Keytab y) e = absurd (false≢true e)
+credentials_are (credentials.Keytab x) (credentials.AuthIdentity y) e = absurd (false≢true e)
+credentials_are (credentials.Keytab x) (credentials.Keytab y) e = ap (λ (i : KeytabIdentity). credentials.Keytab i) (keytab_is x y e)
 
 credentials_themselves : (a : Credentials) → same_credentials a a ≡ true
-credentials_themselves (plain.AuthIdentity x) = (identity_decided x x).1 refl
-credentials_themselves (plain.Keytab x) = (keytab_decided x x).1 refl
+credentials_themselves (credentials.AuthIdentity x) = (identity_decided x x).1 refl
+credentials_themselves (credentials.Keytab x) = (keytab_decided x x).1 refl
 
 pub credentials_decided : ComparesValues same_credentials
 credentials_decided = decides same_credentials credentials_are credentials_themselves

@@ -5,7 +5,7 @@
 //! - `AuthIdentity`, `KeytabIdentity` and `Credentials`, with their buffers.
 //! - `KdcTable`: which KDC serves which realm; `NetworkRequest`: what is asked of a KDC.
 //!
-//! Names and texts are seen by contracts as plain values: `specs/Name.antt` has the grammar of names,
+//! Names and texts are seen by contracts as values: `specs/Name.antt` has the grammar of names,
 //! `specs/Utf16.antt` the two encodings of a text, `specs/Identity.antt` the conversions.
 #![tactic(auto)]
 

@@ -9,7 +9,7 @@ use Rattle.sspi_mech.specs.declared.step.Answer.{Answer}
 use Rattle.sspi_mech.specs.declared.step.Answer.TheVariants.{Done, Ask, Refused}
 use Rattle.sspi_mech.specs.declared.step.Reply.{Reply}
 use Rattle.sspi_mech.specs.declared.step.Step.{Step}
-use Rattle.sspi_mech.specs.Calls.{StepArgs, AcceptArgs, ToName, ToSign, one_signed}
+use Rattle.sspi_mech.specs.Calls.{StepArgs, AcceptArgs, ToName, ToSign, one_signing}
 use Rattle.sspi_mech.specs.Meaning.{Meaning}
 use Rattle.sspi_negotiate.specs.Does.{Meets, UnlessMemory}
 use Rattle.sspi_negotiate.specs.Follows.{answered, refused}
@@ -53,8 +53,8 @@ module _ {M : Type 0} {c : Meaning Origin M} {m m2 : M} {v2 : Values} where
   not_named error h same still = record { as_planned = λ other. refused error (h other, still) refl same }
 
   pub signed : {r : Answer} {v : Values} {text : List ℕ} {go : List ℕ → Plan} (m1 : M) (mic : List ℕ) →
-      c.signs m1 (c.counts m).signed text mic →
-      m1 ≡ c.counted m (one_signed (c.counts m)) → c.permits m (ToSign text) → Meets c (go mic) m1 r v2 m2 →
+      c.signs m1 (c.counts m).signings text mic →
+      m1 ≡ c.counted m (one_signing (c.counts m)) → c.permits m (ToSign text) → Meets c (go mic) m1 r v2 m2 →
       Meets c (Signs text v go) m r v2 m2
   signed {r = r} m1 mic h counted permitted p =
       record { as_planned = unless_map r (λ q. answered mic m1 (h, counted, permitted, q)) p.as_planned }

@@ -28,7 +28,7 @@ first_fresh c laws (Ok origin) m made = laws.made_fresh origin m made
 first_fresh c laws (Err kind) m made = absurd made
 
 fresh_unused : (counts : Counts) → counts ≡ no_counts → IsUnused counts
-fresh_unused counts none = subst IsUnused (sym none) (record { sealed = refl; unsealed = refl })
+fresh_unused counts none = subst IsUnused (sym none) (record { sealings = refl; unsealings = refl })
 
 taken_unused : {M : Type 0} (c : Meaning Origin M) → IsContext c →
     (url : Option (List ℕ)) (kdcs : List KdcEntry) (computer : List ℕ) (m m2 : M) →

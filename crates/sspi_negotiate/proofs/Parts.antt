@@ -25,5 +25,5 @@ long_is_no_octet (a ∷ b ∷ []) h o = omega arith
 long_is_no_octet (a ∷ b ∷ c ∷ []) h o = omega arith
 long_is_no_octet (a ∷ b ∷ c ∷ d ∷ more) h o =
     let first : IsAsciiDigit a = o.digits 0 0 (omega arith) in
-    let plain : a ≡ 48 → ⊥ = o.plain (omega arith) in
+    let leading : a ≡ 48 → ⊥ = o.leading (omega arith) in
     omega (arith, fold_grows ((((0 + (a - 48)) * 10 + (b - 48)) * 10 + (c - 48)) * 10 + (d - 48)) more)

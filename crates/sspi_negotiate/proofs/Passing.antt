@@ -8,7 +8,7 @@ use Rattle.sspi_names.specs.declared.credentials.Credentials.{Credentials}
 use Rattle.sspi_names.specs.declared.kdc_table.KdcEntry.{KdcEntry}
 use Rattle.sspi_mech.specs.declared.step.Answer.{Answer}
 use Rattle.sspi_mech.specs.declared.step.Answer.TheVariants.{Refused}
-use Rattle.sspi_mech.specs.Calls.{ToName, ToIdentify, ToVerify, one_verified}
+use Rattle.sspi_mech.specs.Calls.{ToName, ToIdentify, ToVerify, one_verification}
 use Rattle.sspi_mech.specs.Meaning.{Meaning}
 use Rattle.sspi_mech.specs.Settings.{Setting}
 use Rattle.sspi_negotiate.specs.declared.protocol.NegotiatedProtocol.{NegotiatedProtocol}
@@ -81,8 +81,8 @@ module _ {N K : Type 0} {n : Meaning Setting N} {k : Meaning Setting K} where
 
   pub verified_part : (mic text : List ℕ) (old new : Negotiation (NegotiatedProtocol N K)) (result : Result (Unit {0}) Error) →
       values_of new ≡ values_of old →
-      OnOk result ((hand n k).verifies new.mech ((hand n k).counts old.mech).verified mic text) →
-      OnOk result (new.mech ≡ (hand n k).counted old.mech (one_verified ((hand n k).counts old.mech))) →
+      OnOk result ((hand n k).verifies new.mech ((hand n k).counts old.mech).verifications mic text) →
+      OnOk result (new.mech ≡ (hand n k).counted old.mech (one_verification ((hand n k).counts old.mech))) →
       OnOk result ((hand n k).permits old.mech (ToVerify mic text)) → OnErr result (new.mech ≡ old.mech) →
       IfErr result (λ error. (hand n k).refuses old.mech (ToVerify mic text) error.error_type) →
       Passes n k (Verifies mic text (values_of old)) (values_of old) old result new

@@ -6,7 +6,7 @@ use Rattle.sspi_types.specs.declared.error_kind.ErrorKind.TheVariants.{Insuffici
 use Rattle.sspi_mech.specs.declared.step.Answer.{Answer}
 use Rattle.sspi_mech.specs.declared.step.Answer.TheVariants.{Done, Ask, Refused}
 use Rattle.sspi_mech.specs.declared.step.Step.{Step}
-use Rattle.sspi_mech.specs.Calls.{Call, ToName, ToIdentify, ToSign, ToVerify, one_signed, one_verified}
+use Rattle.sspi_mech.specs.Calls.{Call, ToName, ToIdentify, ToSign, ToVerify, one_signing, one_verification}
 use Rattle.sspi_mech.specs.Meaning.{Meaning}
 use Rattle.sspi_negotiate.specs.Hand.{Origin}
 use Rattle.sspi_negotiate.specs.Plan.{Plan, Goes, Stops, Takes, Steps, Resumes, Accepts, Pairs, Names, Identifies, Signs, Verifies}
@@ -52,8 +52,8 @@ module _ {M : Type 0} (c : Meaning Origin M) where
   Follows (Identifies identities v p) m r v2 m2 =
       Asked (λ (_ : Unit {0}) m1. c.identifies m identities m1 × Follows p m1 r v2 m2) (RefusedTo c (ToIdentify identities) m) r v v2 m2
   Follows (Signs text v go) m r v2 m2 =
-      Asked (λ mic m1. c.signs m1 (c.counts m).signed text mic × (m1 ≡ c.counted m (one_signed (c.counts m))) × c.permits m (ToSign text)
+      Asked (λ mic m1. c.signs m1 (c.counts m).signings text mic × (m1 ≡ c.counted m (one_signing (c.counts m))) × c.permits m (ToSign text)
       × Follows (go mic) m1 r v2 m2) (RefusedTo c (ToSign text) m) r v v2 m2
   Follows (Verifies mic text v p) m r v2 m2 =
-      Asked (λ (_ : Unit {0}) m1. c.verifies m1 (c.counts m).verified mic text × (m1 ≡ c.counted m (one_verified (c.counts m)))
+      Asked (λ (_ : Unit {0}) m1. c.verifies m1 (c.counts m).verifications mic text × (m1 ≡ c.counted m (one_verification (c.counts m)))
       × c.permits m (ToVerify mic text) × Follows p m1 r v2 m2) (RefusedTo c (ToVerify mic text) m) r v v2 m2

@@ -11,7 +11,7 @@ decimal_value digits = fold (λ number digit. number * 10 + (digit - 48)) 0 digi
 pub record IsOctet (part : List ℕ) : Type 0 where
   pub some : 0 < length part
   pub digits : All IsAsciiDigit part
-  pub plain : 1 < length part → slice_index part 0 ≢ 48
+  pub leading : 1 < length part → slice_index part 0 ≢ 48
   pub small : decimal_value part ≤ 255
 
 -- `IPv4address` of RFC 3986, section 3.2.2: four of them between dots

@@ -1,19 +1,19 @@
 -- That the peer's MIC over a list of mechanisms was verified, or that no MIC was made or verified at all.
 use Rattle.std.specs.Prelude.{◌≡◌, ℕ, List, Some}
-use Rattle.sspi_mech.specs.Calls.{Counts, ToVerify, one_signed, one_verified}
+use Rattle.sspi_mech.specs.Calls.{Counts, ToVerify, one_signing, one_verification}
 use Rattle.sspi_mech.specs.Meaning.{Meaning}
 use Rattle.sspi_tokens.specs.Spelling.{spelled_list}
 use Rattle.sspi_negotiate.specs.Hand.{Origin}
 
 -- no MIC was made or verified
 pub record HasNoMic (n : Counts) : Type 0 where
-  pub signed : n.signed ≡ 0
-  pub verified : n.verified ≡ 0
+  pub signings : n.signings ≡ 0
+  pub verifications : n.verifications ≡ 0
 
 -- what is left of a mechanism: itself, or with one MIC more that it made
 pub data Leaves {M : Type 0} (c : Meaning Origin M) (m left : M) : Type 0 where
   as_it_was : left ≡ m → Leaves c m left
-  having_signed : left ≡ c.counted m (one_signed (c.counts m)) → Leaves c m left
+  having_signed : left ≡ c.counted m (one_signing (c.counts m)) → Leaves c m left
 
 -- The mechanism that is left in hand took this MIC of the peer as its next one and found it to be that of the list; since then
 -- it has made at most its own.
@@ -24,6 +24,6 @@ pub record IsVerified {M : Type 0} (c : Meaning Origin M) (list : List (List ℕ
   pub text : List ℕ
   pub spelled : spelled_list list ≡ Some text
   pub permitted : c.permits before (ToVerify mic text)
-  pub verified : c.verifies after (c.counts before).verified mic text
-  pub counted : after ≡ c.counted before (one_verified (c.counts before))
+  pub verified : c.verifies after (c.counts before).verifications mic text
+  pub counted : after ≡ c.counted before (one_verification (c.counts before))
   pub last : Leaves c after left

@@ -71,7 +71,7 @@ impl<N: Mechanism, K: Mechanism> Negotiate<N, K> {
         // What holds of every answer.
         ensures unused { StaysUnused N.meaning K.meaning self.old self.new }
         // What a refusal says.
-        ensures plain { IfErr result (λ error. error.nstatus ≡ None) }
+        ensures codeless { IfErr result (λ error. error.nstatus ≡ None) }
         ensures cause { IfErr result (λ error. error.error_type ≢ ErrorKind.InsufficientMemory →
             RefusesToAcquire N.meaning K.meaning self.old credential_use (option_copied auth_data.entry) error.error_type) }
     {

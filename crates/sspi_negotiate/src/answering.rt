@@ -55,7 +55,7 @@ fn answer_with<N: Mechanism, K: Mechanism>(
     }) result protocol.new }
     ensures unused { IsUnused ((hand N.meaning K.meaning).counts protocol.old) → IsUnused ((hand N.meaning K.meaning).counts protocol.new) }
     ensures named { hand_of protocol.new ≡ hand_of protocol.old }
-    ensures plain { IfRefused result (λ error. error.nstatus ≡ None) }
+    ensures codeless { IfRefused result (λ error. error.nstatus ≡ None) }
 {
     let input = match token {
         None => &[],
@@ -361,7 +361,7 @@ impl<N: Mechanism, K: Mechanism> Negotiate<N, K> {
     pub fn resume(&mut self, reply: &Reply) -> Result<Progressing, Error>
         ensures step { (negotiate N.REQUESTS N.meaning K.meaning).resumes self.old reply.now (answer_of result) self.new }
         ensures falls { let c = negotiate N.REQUESTS N.meaning K.meaning in OnAsk (answer_of result) (c.left self.new < c.left self.old) }
-        ensures plain { IfErr result (λ error. error.nstatus ≡ None) }
+        ensures codeless { IfErr result (λ error. error.nstatus ≡ None) }
     {
         Ok(self.resume_at(reply)?)
     }

@@ -51,7 +51,7 @@ impl<N: Mechanism, K: Mechanism> Negotiate<N, K> {
         args: &InitializeSecurityContext<'_>,
     ) -> Result<Progressing, Error>
         ensures step { (negotiate N.REQUESTS N.meaning K.meaning).steps self.old (step_args args.now) (answer_of result) self.new }
-        ensures plain { IfErr result (λ error. error.nstatus ≡ None) }
+        ensures codeless { IfErr result (λ error. error.nstatus ≡ None) }
     {
         let ip = is_named_by_ip(args.target_name);
         Ok(self.step(ip, args)?)

@@ -1,6 +1,6 @@
 // What a negotiation is as a security context: the mechanism in hand, once it has authenticated.
 ghost use Rattle.std.specs.Prelude.{◌≡◌, ◌≢◌, ◌-◌, [], ◌∷◌, None, true, false, IsTrue, IsErr, IfOk, IfErr, OnOk, OnErr};
-ghost use Rattle.sspi_mech.specs.Calls.{one_sealed, one_unsealed, ToName, ToIdentify, ToComplete, ToSeal, ToUnseal};
+ghost use Rattle.sspi_mech.specs.Calls.{one_sealing, one_unsealing, ToName, ToIdentify, ToComplete, ToSeal, ToUnseal};
 ghost use Rattle.sspi_negotiate.specs.Hand.{hand_of};
 ghost use Rattle.sspi_negotiate.specs.Identity.{is_refused_identity};
 ghost use Rattle.sspi_negotiate.specs.Negotiate.{negotiate};
@@ -28,7 +28,7 @@ impl<N: Mechanism, K: Mechanism> Negotiate<N, K> {
     /// The name that was authenticated: on a server the peer's, on a client its own. `OutOfSequence` before it is known.
     pub fn query_context_names(&self) -> Result<ContextNames, Error>
         ensures named { IfOk result (λ names. (negotiate N.REQUESTS N.meaning K.meaning).names self.now ≡ Some names.username) }
-        ensures plain { IfErr result (λ error. error.nstatus ≡ None) }
+        ensures codeless { IfErr result (λ error. error.nstatus ≡ None) }
         ensures cause { IfErr result (λ error. error.error_type ≢ ErrorKind.InsufficientMemory →
             (negotiate N.REQUESTS N.meaning K.meaning).refuses self.now ToName error.error_type) }
     {
@@ -44,7 +44,7 @@ impl<N: Mechanism, K: Mechanism> Negotiate<N, K> {
         ensures count { let c = negotiate N.REQUESTS N.meaning K.meaning in c.counts self.new ≡ c.counts self.old }
         // What a refusal says, and what it leaves.
         ensures err { OnErr result (self.new ≡ self.old) }
-        ensures plain { IfErr result (λ error. error.nstatus ≡ None) }
+        ensures codeless { IfErr result (λ error. error.nstatus ≡ None) }
         ensures keytab { is_refused_identity (hand_of self.old.mech) identity ≡ true →
             IfErr result (λ error. error.error_type ≡ ErrorKind.IncompleteCredentials) × IsErr result }
         ensures cause { is_refused_identity (hand_of self.old.mech) identity ≡ false →
@@ -68,7 +68,7 @@ impl<N: Mechanism, K: Mechanism> Negotiate<N, K> {
         ensures count { let c = negotiate N.REQUESTS N.meaning K.meaning in c.counts self.new ≡ c.counts self.old }
         // What a refusal says, and what it leaves.
         ensures err { OnErr result (self.new ≡ self.old) }
-        ensures plain { IfErr result (λ error. error.nstatus ≡ None) }
+        ensures codeless { IfErr result (λ error. error.nstatus ≡ None) }
         ensures cause { IfErr result (λ error. error.error_type ≢ ErrorKind.InsufficientMemory →
             (negotiate N.REQUESTS N.meaning K.meaning).refuses self.old (ToIdentify identities.items) error.error_type) }
     {
@@ -82,7 +82,7 @@ impl<N: Mechanism, K: Mechanism> Negotiate<N, K> {
         ensures keyed { IsTrue ((negotiate N.REQUESTS N.meaning K.meaning).keyed self.old) → result ≡ Ok SecurityStatus.Ok }
         ensures permitted { OnOk result ((negotiate N.REQUESTS N.meaning K.meaning).permits self.old ToComplete) }
         // What a refusal says.
-        ensures plain { IfErr result (λ error. error.nstatus ≡ None) }
+        ensures codeless { IfErr result (λ error. error.nstatus ≡ None) }
         ensures cause { IfErr result (λ error. error.error_type ≢ ErrorKind.InsufficientMemory →
             (negotiate N.REQUESTS N.meaning K.meaning).refuses self.old ToComplete error.error_type) }
     {
@@ -95,17 +95,17 @@ impl<N: Mechanism, K: Mechanism> Negotiate<N, K> {
     pub fn seal(&mut self, text: &[u8]) -> Result<Vec<u8>, Error>
         // What `Ok` holds.
         ensures blob { let c = negotiate N.REQUESTS N.meaning K.meaning in
-            IfOk result (λ blob. c.seals self.new (c.counts self.old).sealed text.now blob.items) }
+            IfOk result (λ blob. c.seals self.new (c.counts self.old).sealings text.now blob.items) }
         ensures last { let c = negotiate N.REQUESTS N.meaning K.meaning in
-            IfOk result (λ blob. c.seals self.new ((c.counts self.new).sealed - 1) text.now blob.items) }
+            IfOk result (λ blob. c.seals self.new ((c.counts self.new).sealings - 1) text.now blob.items) }
         ensures ok { let c = negotiate N.REQUESTS N.meaning K.meaning in
-            OnOk result (self.new ≡ c.counted self.old (one_sealed (c.counts self.old))) }
+            OnOk result (self.new ≡ c.counted self.old (one_sealing (c.counts self.old))) }
         ensures count { let c = negotiate N.REQUESTS N.meaning K.meaning in
-            OnOk result (c.counts self.new ≡ one_sealed (c.counts self.old)) }
+            OnOk result (c.counts self.new ≡ one_sealing (c.counts self.old)) }
         ensures permitted { OnOk result ((negotiate N.REQUESTS N.meaning K.meaning).permits self.old (ToSeal text.now)) }
         // What a refusal says, and what it leaves.
         ensures err { OnErr result (self.new ≡ self.old) }
-        ensures plain { IfErr result (λ error. error.nstatus ≡ None) }
+        ensures codeless { IfErr result (λ error. error.nstatus ≡ None) }
         ensures cause { IfErr result (λ error. error.error_type ≢ ErrorKind.InsufficientMemory →
             (negotiate N.REQUESTS N.meaning K.meaning).refuses self.new (ToSeal text.now) error.error_type) }
     {
@@ -119,17 +119,17 @@ impl<N: Mechanism, K: Mechanism> Negotiate<N, K> {
     pub fn unseal(&mut self, blob: &[u8]) -> Result<Vec<u8>, Error>
         // What `Ok` holds.
         ensures text { let c = negotiate N.REQUESTS N.meaning K.meaning in
-            IfOk result (λ text. c.opens self.new (c.counts self.old).unsealed blob.now text.items) }
+            IfOk result (λ text. c.opens self.new (c.counts self.old).unsealings blob.now text.items) }
         ensures last { let c = negotiate N.REQUESTS N.meaning K.meaning in
-            IfOk result (λ text. c.opens self.new ((c.counts self.new).unsealed - 1) blob.now text.items) }
+            IfOk result (λ text. c.opens self.new ((c.counts self.new).unsealings - 1) blob.now text.items) }
         ensures ok { let c = negotiate N.REQUESTS N.meaning K.meaning in
-            OnOk result (self.new ≡ c.counted self.old (one_unsealed (c.counts self.old))) }
+            OnOk result (self.new ≡ c.counted self.old (one_unsealing (c.counts self.old))) }
         ensures count { let c = negotiate N.REQUESTS N.meaning K.meaning in
-            OnOk result (c.counts self.new ≡ one_unsealed (c.counts self.old)) }
+            OnOk result (c.counts self.new ≡ one_unsealing (c.counts self.old)) }
         ensures permitted { OnOk result ((negotiate N.REQUESTS N.meaning K.meaning).permits self.old (ToUnseal blob.now)) }
         // What a refusal says, and what it leaves.
         ensures err { OnErr result (self.new ≡ self.old) }
-        ensures plain { IfErr result (λ error. error.nstatus ≡ None) }
+        ensures codeless { IfErr result (λ error. error.nstatus ≡ None) }
         ensures cause { IfErr result (λ error. error.error_type ≢ ErrorKind.InsufficientMemory →
             (negotiate N.REQUESTS N.meaning K.meaning).refuses self.new (ToUnseal blob.now) error.error_type) }
     {

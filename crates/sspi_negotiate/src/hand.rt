@@ -3,7 +3,7 @@ ghost use Rattle.std.specs.Prelude.{◌≡◌, ◌≢◌, ◌<◌, IsTrue, IfOk,
 ghost use Rattle.std.specs.Prelude.{OnOk, OnErr, Some, None, option_copied, filter, take};
 ghost use Rattle.sspi_types.specs.Memory.{memory_error};
 ghost use Rattle.sspi_mech.specs.Answers.{IfRefused};
-ghost use Rattle.sspi_mech.specs.Calls.{step_args, accept_args, no_counts, one_sealed, one_unsealed, one_signed, one_verified};
+ghost use Rattle.sspi_mech.specs.Calls.{step_args, accept_args, no_counts, one_sealing, one_unsealing, one_signing, one_verification};
 ghost use Rattle.sspi_mech.specs.Calls.{ToAcquire, ToName, ToIdentify, ToComplete, ToSeal};
 ghost use Rattle.sspi_mech.specs.Calls.{ToUnseal, ToSign, ToVerify};
 ghost use Rattle.sspi_mech.specs.Context.{IsUnused};
@@ -124,11 +124,11 @@ impl<N: Mechanism, K: Mechanism> NegotiatedProtocol<N, K> {
     pub(crate) fn initialize(&mut self, args: &InitializeSecurityContext<'_>) -> Answer
         // The step.
         ensures step { (hand N.meaning K.meaning).steps self.old (step_args args.now) result self.new }
-        // What every answer keeps, and that a refusal is plain.
+        // What every answer keeps, and that a refusal has no code.
         ensures unused { IsUnused ((hand N.meaning K.meaning).counts self.old) → IsUnused ((hand N.meaning K.meaning).counts self.new) }
         ensures unmarked { HasNoMic ((hand N.meaning K.meaning).counts self.old) → HasNoMic ((hand N.meaning K.meaning).counts self.new) }
         ensures named { hand_of self.new ≡ hand_of self.old }
-        ensures plain { IfRefused result (λ error. error.nstatus ≡ None) }
+        ensures codeless { IfRefused result (λ error. error.nstatus ≡ None) }
     {
         match self {
             NegotiatedProtocol::Ntlm(mechanism) => mechanism.initialize(args),
@@ -139,11 +139,11 @@ impl<N: Mechanism, K: Mechanism> NegotiatedProtocol<N, K> {
     pub(crate) fn resume(&mut self, reply: &Reply) -> Answer
         // The step.
         ensures step { (hand N.meaning K.meaning).resumes self.old reply.now result self.new }
-        // What every answer keeps, and that a refusal is plain.
+        // What every answer keeps, and that a refusal has no code.
         ensures unused { IsUnused ((hand N.meaning K.meaning).counts self.old) → IsUnused ((hand N.meaning K.meaning).counts self.new) }
         ensures unmarked { HasNoMic ((hand N.meaning K.meaning).counts self.old) → HasNoMic ((hand N.meaning K.meaning).counts self.new) }
         ensures named { hand_of self.new ≡ hand_of self.old }
-        ensures plain { IfRefused result (λ error. error.nstatus ≡ None) }
+        ensures codeless { IfRefused result (λ error. error.nstatus ≡ None) }
     {
         match self {
             NegotiatedProtocol::Ntlm(mechanism) => mechanism.resume(reply),
@@ -226,9 +226,9 @@ impl<N: Mechanism, K: Mechanism> NegotiatedProtocol<N, K> {
     pub(crate) fn seal(&mut self, text: &[u8]) -> Result<Vec<u8>, Refusal>
         // What `Ok` holds.
         ensures blob { let c = hand N.meaning K.meaning in
-            IfOk result (λ blob. c.seals self.new (c.counts self.old).sealed text.now blob.items) }
-        ensures ok { let c = hand N.meaning K.meaning in OnOk result (self.new ≡ c.counted self.old (one_sealed (c.counts self.old))) }
-        ensures count { let c = hand N.meaning K.meaning in OnOk result (c.counts self.new ≡ one_sealed (c.counts self.old)) }
+            IfOk result (λ blob. c.seals self.new (c.counts self.old).sealings text.now blob.items) }
+        ensures ok { let c = hand N.meaning K.meaning in OnOk result (self.new ≡ c.counted self.old (one_sealing (c.counts self.old))) }
+        ensures count { let c = hand N.meaning K.meaning in OnOk result (c.counts self.new ≡ one_sealing (c.counts self.old)) }
         ensures permitted { OnOk result ((hand N.meaning K.meaning).permits self.old (ToSeal text.now)) }
         // What a refusal says, and what it leaves.
         ensures err { OnErr result (self.new ≡ self.old) }
@@ -244,9 +244,9 @@ impl<N: Mechanism, K: Mechanism> NegotiatedProtocol<N, K> {
     pub(crate) fn unseal(&mut self, blob: &[u8]) -> Result<Vec<u8>, Refusal>
         // What `Ok` holds.
         ensures text { let c = hand N.meaning K.meaning in
-            IfOk result (λ text. c.opens self.new (c.counts self.old).unsealed blob.now text.items) }
-        ensures ok { let c = hand N.meaning K.meaning in OnOk result (self.new ≡ c.counted self.old (one_unsealed (c.counts self.old))) }
-        ensures count { let c = hand N.meaning K.meaning in OnOk result (c.counts self.new ≡ one_unsealed (c.counts self.old)) }
+            IfOk result (λ text. c.opens self.new (c.counts self.old).unsealings blob.now text.items) }
+        ensures ok { let c = hand N.meaning K.meaning in OnOk result (self.new ≡ c.counted self.old (one_unsealing (c.counts self.old))) }
+        ensures count { let c = hand N.meaning K.meaning in OnOk result (c.counts self.new ≡ one_unsealing (c.counts self.old)) }
         ensures permitted { OnOk result ((hand N.meaning K.meaning).permits self.old (ToUnseal blob.now)) }
         // What a refusal says, and what it leaves.
         ensures err { OnErr result (self.new ≡ self.old) }
@@ -264,14 +264,14 @@ impl<N: Mechanism, K: Mechanism> NegotiatedProtocol<N, K> {
     pub fn generate_mic_token(&mut self, text: &[u8]) -> Result<Vec<u8>, Error>
         // What `Ok` holds, and that the mechanism is the same.
         ensures mic { let c = hand N.meaning K.meaning in
-            IfOk result (λ mic. c.signs self.new (c.counts self.old).signed text.now mic.items) }
-        ensures ok { let c = hand N.meaning K.meaning in OnOk result (self.new ≡ c.counted self.old (one_signed (c.counts self.old))) }
-        ensures count { let c = hand N.meaning K.meaning in OnOk result (c.counts self.new ≡ one_signed (c.counts self.old)) }
+            IfOk result (λ mic. c.signs self.new (c.counts self.old).signings text.now mic.items) }
+        ensures ok { let c = hand N.meaning K.meaning in OnOk result (self.new ≡ c.counted self.old (one_signing (c.counts self.old))) }
+        ensures count { let c = hand N.meaning K.meaning in OnOk result (c.counts self.new ≡ one_signing (c.counts self.old)) }
         ensures named { hand_of self.new ≡ hand_of self.old }
         ensures permitted { OnOk result ((hand N.meaning K.meaning).permits self.old (ToSign text.now)) }
         // What a refusal says, and what it leaves.
         ensures err { OnErr result (self.new ≡ self.old) }
-        ensures plain { IfErr result (λ error. error.nstatus ≡ None) }
+        ensures codeless { IfErr result (λ error. error.nstatus ≡ None) }
         ensures cause { IfErr result (λ error. error.error_type ≢ ErrorKind.InsufficientMemory →
             (hand N.meaning K.meaning).refuses self.old (ToSign text.now) error.error_type) }
     {
@@ -286,14 +286,15 @@ impl<N: Mechanism, K: Mechanism> NegotiatedProtocol<N, K> {
     pub fn verify_mic_token(&mut self, token: &[u8], text: &[u8]) -> Result<(), Error>
         // What `Ok` holds, and that the mechanism is the same.
         ensures mic { let c = hand N.meaning K.meaning in
-            OnOk result (c.verifies self.new (c.counts self.old).verified token.now text.now) }
-        ensures ok { let c = hand N.meaning K.meaning in OnOk result (self.new ≡ c.counted self.old (one_verified (c.counts self.old))) }
-        ensures count { let c = hand N.meaning K.meaning in OnOk result (c.counts self.new ≡ one_verified (c.counts self.old)) }
+            OnOk result (c.verifies self.new (c.counts self.old).verifications token.now text.now) }
+        ensures ok { let c = hand N.meaning K.meaning in
+            OnOk result (self.new ≡ c.counted self.old (one_verification (c.counts self.old))) }
+        ensures count { let c = hand N.meaning K.meaning in OnOk result (c.counts self.new ≡ one_verification (c.counts self.old)) }
         ensures named { hand_of self.new ≡ hand_of self.old }
         ensures permitted { OnOk result ((hand N.meaning K.meaning).permits self.old (ToVerify token.now text.now)) }
         // What a refusal says, and what it leaves.
         ensures err { OnErr result (self.new ≡ self.old) }
-        ensures plain { IfErr result (λ error. error.nstatus ≡ None) }
+        ensures codeless { IfErr result (λ error. error.nstatus ≡ None) }
         ensures cause { IfErr result (λ error.
             (hand N.meaning K.meaning).refuses self.old (ToVerify token.now text.now) error.error_type) }
     {

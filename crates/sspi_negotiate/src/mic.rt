@@ -1,6 +1,6 @@
 // The MICs over the mechanism list (RFC 4178, section 5).
 ghost use Rattle.std.specs.Prelude.{◌≡◌, ◌≢◌, None, Some, IfOk, IfErr, OnOk, OnErr, map, ◌==◌};
-ghost use Rattle.sspi_mech.specs.Calls.{one_signed, one_verified, ToSign, ToVerify};
+ghost use Rattle.sspi_mech.specs.Calls.{one_signing, one_verification, ToSign, ToVerify};
 ghost use Rattle.sspi_mech.specs.Refusals.{answered};
 ghost use Rattle.sspi_negotiate.specs.Hand.{hand, hand_of};
 ghost use Rattle.sspi_names.specs.declared.credentials.Credentials.TheVariants as credentials;
@@ -29,10 +29,10 @@ fn verify_with<N: Mechanism, K: Mechanism>(
 ) -> Result<(), Refusal>
     // What `Ok` holds, and that the mechanism is the same.
     ensures mic { let c = hand N.meaning K.meaning in
-        OnOk result (c.verifies protocol.new (c.counts protocol.old).verified mic.now text.now) }
+        OnOk result (c.verifies protocol.new (c.counts protocol.old).verifications mic.now text.now) }
     ensures ok { let c = hand N.meaning K.meaning in
-        OnOk result (protocol.new ≡ c.counted protocol.old (one_verified (c.counts protocol.old))) }
-    ensures count { let c = hand N.meaning K.meaning in OnOk result (c.counts protocol.new ≡ one_verified (c.counts protocol.old)) }
+        OnOk result (protocol.new ≡ c.counted protocol.old (one_verification (c.counts protocol.old))) }
+    ensures count { let c = hand N.meaning K.meaning in OnOk result (c.counts protocol.new ≡ one_verification (c.counts protocol.old)) }
     ensures named { hand_of protocol.new ≡ hand_of protocol.old }
     ensures permitted { OnOk result ((hand N.meaning K.meaning).permits protocol.old (ToVerify mic.now text.now)) }
     // What a refusal says, and what it leaves.
@@ -49,10 +49,10 @@ fn sign_with<N: Mechanism, K: Mechanism>(
 ) -> Result<Bytes, Refusal>
     // What `Ok` holds, and that the mechanism is the same.
     ensures mic { let c = hand N.meaning K.meaning in
-        IfOk result (λ mic. c.signs protocol.new (c.counts protocol.old).signed text.now mic) }
+        IfOk result (λ mic. c.signs protocol.new (c.counts protocol.old).signings text.now mic) }
     ensures ok { let c = hand N.meaning K.meaning in
-        OnOk result (protocol.new ≡ c.counted protocol.old (one_signed (c.counts protocol.old))) }
-    ensures count { let c = hand N.meaning K.meaning in OnOk result (c.counts protocol.new ≡ one_signed (c.counts protocol.old)) }
+        OnOk result (protocol.new ≡ c.counted protocol.old (one_signing (c.counts protocol.old))) }
+    ensures count { let c = hand N.meaning K.meaning in OnOk result (c.counts protocol.new ≡ one_signing (c.counts protocol.old)) }
     ensures named { hand_of protocol.new ≡ hand_of protocol.old }
     ensures permitted { OnOk result ((hand N.meaning K.meaning).permits protocol.old (ToSign text.now)) }
     // What a refusal says, and what it leaves.

@@ -154,7 +154,7 @@ impl<N: Mechanism, K: Mechanism> Negotiate<N, K> {
     pub fn new_client(alloc: Global, config: &NegotiateConfig) -> Result<Self, Error>
         ensures made { IfOk result (λ it. MadeOf N.meaning K.meaning (ForClient config.now) it) }
         ensures fresh { IfOk result (λ it. (hand N.meaning K.meaning).counts it.mech ≡ no_counts) }
-        ensures plain { IfErr result (λ error. error.nstatus ≡ None) }
+        ensures codeless { IfErr result (λ error. error.nstatus ≡ None) }
         ensures cause { IfErr result (λ error. error.error_type ≢ ErrorKind.InsufficientMemory →
             UnmadeOf (ForClient config.now) error.error_type) }
     {
@@ -172,7 +172,7 @@ impl<N: Mechanism, K: Mechanism> Negotiate<N, K> {
     ) -> Result<Self, Error>
         ensures made { IfOk result (λ it. MadeOf N.meaning K.meaning (ForServer config.now auth_data.items) it) }
         ensures fresh { IfOk result (λ it. (hand N.meaning K.meaning).counts it.mech ≡ no_counts) }
-        ensures plain { IfErr result (λ error. error.nstatus ≡ None) }
+        ensures codeless { IfErr result (λ error. error.nstatus ≡ None) }
         ensures cause { IfErr result (λ error. error.error_type ≢ ErrorKind.InsufficientMemory →
             UnmadeOf (ForServer config.now auth_data.items) error.error_type) }
     {

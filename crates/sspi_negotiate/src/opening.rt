@@ -43,12 +43,12 @@ pub(crate) fn step_with<N: Mechanism, K: Mechanism>(
     ensures step { (hand N.meaning K.meaning).steps protocol.old
         (record (step_args args.now) { handle = handle_for (hand_of protocol.old) kept.now (option_copied args.now.credentials_handle) })
         result protocol.new }
-    // What every answer keeps, and that a refusal is plain.
+    // What every answer keeps, and that a refusal has no code.
     ensures unused { IsUnused ((hand N.meaning K.meaning).counts protocol.old) → IsUnused ((hand N.meaning K.meaning).counts protocol.new) }
     ensures unmarked { HasNoMic ((hand N.meaning K.meaning).counts protocol.old)
         → HasNoMic ((hand N.meaning K.meaning).counts protocol.new) }
     ensures named { hand_of protocol.new ≡ hand_of protocol.old }
-    ensures plain { IfRefused result (λ error. error.nstatus ≡ None) }
+    ensures codeless { IfRefused result (λ error. error.nstatus ≡ None) }
 {
     let handle = handle_for(protocol.protocol(), kept.as_ref(), args.credentials_handle);
     protocol.initialize(&InitializeSecurityContext {
@@ -74,12 +74,12 @@ fn step_again<N: Mechanism, K: Mechanism>(
       target = first.now.target_name;
       input = first.now.input;
     }) result protocol.new }
-    // What every answer keeps, and that a refusal is plain.
+    // What every answer keeps, and that a refusal has no code.
     ensures unused { IsUnused ((hand N.meaning K.meaning).counts protocol.old) → IsUnused ((hand N.meaning K.meaning).counts protocol.new) }
     ensures unmarked { HasNoMic ((hand N.meaning K.meaning).counts protocol.old)
         → HasNoMic ((hand N.meaning K.meaning).counts protocol.new) }
     ensures named { hand_of protocol.new ≡ hand_of protocol.old }
-    ensures plain { IfRefused result (λ error. error.nstatus ≡ None) }
+    ensures codeless { IfRefused result (λ error. error.nstatus ≡ None) }
 {
     let target_name = match &first.target_name {
         None => None,

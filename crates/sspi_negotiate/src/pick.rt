@@ -79,8 +79,8 @@ pub(crate) fn pick(list: &[Oid], packages: PackageListConfig, protocol: Protocol
 {
     let kerberos = packages.kerberos && protocol.is_kerberos();
     let ntlm = Choice::Ntlm.or(packages.ntlm, list, None);
-    let plain = Choice::Kerberos.or(kerberos, list, ntlm);
-    Choice::MsKerberos.or(kerberos, list, plain)
+    let by_oid = Choice::Kerberos.or(kerberos, list, ntlm);
+    Choice::MsKerberos.or(kerberos, list, by_oid)
 }
 
 /// What a client offers.

@@ -31,7 +31,7 @@ impl<N: Mechanism, K: Mechanism> Negotiate<N, K> {
     pub fn query_context_session_key(&self) -> Result<SessionKeys, Error>
         ensures key { IfOk result (λ keys.
             (negotiate N.REQUESTS N.meaning K.meaning).session_key self.now ≡ Some keys.session_key.value) }
-        ensures plain { IfErr result (λ error. error.nstatus ≡ None) }
+        ensures codeless { IfErr result (λ error. error.nstatus ≡ None) }
         ensures cause { IfErr result (λ error. error.error_type ≢ ErrorKind.InsufficientMemory →
             (negotiate N.REQUESTS N.meaning K.meaning).refuses self.now ToShowKey error.error_type) }
     {
@@ -53,7 +53,7 @@ impl<N: Mechanism, K: Mechanism> Negotiate<N, K> {
     /// The entry of the mechanism in hand.
     pub fn query_context_negotiation_package(&self) -> Result<PackageInfo, Error>
         ensures entry { IfOk result (λ info. info ≡ (hand N.meaning K.meaning).entry self.now.mech) }
-        ensures plain { IfErr result (λ error. error.nstatus ≡ None) }
+        ensures codeless { IfErr result (λ error. error.nstatus ≡ None) }
         ensures cause { IfErr result (λ error. error.error_type ≢ ErrorKind.InsufficientMemory →
             (hand N.meaning K.meaning).refuses self.now.mech ToDescribe error.error_type) }
     {

@@ -85,7 +85,7 @@ impl<N: Mechanism, K: Mechanism> Negotiate<N, K> {
         args: &AcceptSecurityContext<'_>,
     ) -> Result<Step, Error>
         ensures step { (negotiate N.REQUESTS N.meaning K.meaning).accepts self.old (accept_args args.now) result self.new }
-        ensures plain { IfErr result (λ error. error.nstatus ≡ None) }
+        ensures codeless { IfErr result (λ error. error.nstatus ≡ None) }
     {
         Ok(self.accept_at(args)?)
     }

@@ -36,7 +36,7 @@ use Rattle.sspi_play.specs.Agreement.{HoldsSealed, Agreement}
 use Rattle.sspi_play.specs.Faithful.{behind_tag, client_sealed, server_sealed, opened_texts, AreFirstOf, by_client}
 use Rattle.sspi_play.specs.Faithful.{by_server, IsFaithful}
 use Rattle.sspi_play.specs.History.{GaveIn}
-use Rattle.sspi_play.proofs.ClientSeals.{ClientProof, ClientProofIn, client_proof, seals_once_opened, sealed_in, second_seal}
+use Rattle.sspi_play.proofs.ClientSeals.{ClientProof, ClientProofIn, client_proof, seals_once_opened, sealings_in, second_seal}
 use Rattle.sspi_play.proofs.Lists.{last_same, none_last}
 use Rattle.sspi_play.proofs.OwnIdentity.{has_password, own_identity}
 use Rattle.sspi_play.proofs.Parts.{server_more, server_split, server_place, client_noted_later, server_noted_later}
@@ -239,7 +239,7 @@ module _ {C : Type 0} (c : Meaning ContextSetting C) (kept : Option C → List (
         ∙ ap (λ (l : List (List ℕ)). text.0 ∷ l) one.1 in
         let before = all_before c kept client server (t ∷ []) place.past here in
         let sealed = second_seal c client place.past text.0 one.0 turn.2.0
-        (sealed_in c client place.past before.client_each before.client_others)
+        (sealings_in c client place.past before.client_each before.client_others)
         (turn.2.1 ∙ ap (λ (l : List (List ℕ)). turn.2.0 ++ l) opened) in
         let own = has_password client.settings.credentials client.settings.delegation text.0 sealed.1 in
         record {

@@ -343,11 +343,11 @@ module _ {C : Type 0} (c : Meaning ContextSetting C) (e : ClientEnd C) where
   others_before Client t (u ∷ past) others = others.1
   others_before Server t past others = others
 
-  pub sealed_in : (turns : List Turn) → EachClientTurn c e (client_turns turns) → OthersGoOn (client_turns turns) → SealedIn turns
-  sealed_in [] each others = inl (omega arith)
-  sealed_in (t ∷ past) each others =
+  pub sealings_in : (turns : List Turn) → EachClientTurn c e (client_turns turns) → OthersGoOn (client_turns turns) → SealedIn turns
+  sealings_in [] each others = inl (omega arith)
+  sealings_in (t ∷ past) each others =
       sealed_by t past t.end t.acts.sealed refl refl each others
-      (sealed_in past (each_before t.end t (client_turns past) each) (others_before t.end t (client_turns past) others))
+      (sealings_in past (each_before t.end t (client_turns past) each) (others_before t.end t (client_turns past) others))
 
   pub second_seal : (turns : List Turn) (z y : List ℕ) (later : List (List ℕ)) → SealedIn turns →
       client_sealed e (client_turns turns) ≡ later ++ (z ∷ (y ∷ [])) →

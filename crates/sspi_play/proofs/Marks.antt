@@ -29,7 +29,7 @@ use Rattle.sspi_credssp.specs.Counts.{silent}
 
 -- a MIC was made or taken
 abbrev pub is_marked : Counts → Bool
-is_marked counts = nat_lt 0 counts.signed || nat_lt 0 counts.verified
+is_marked counts = nat_lt 0 counts.signings || nat_lt 0 counts.verifications
 
 either_off : (a b : Bool) → a || b ≡ false → (a ≡ false) × (b ≡ false)
 either_off false b off = (refl, off)
@@ -39,11 +39,12 @@ none : (count : ℕ) → nat_lt 0 count ≡ false → count ≡ 0
 none count off = let most : count ≤ 0 = ltb-false 0 count off in omega (arith, most)
 
 has_none : (counts : Counts) → is_marked counts ≡ false → HasNoMic counts
-has_none counts off = let both = either_off (nat_lt 0 counts.signed) (nat_lt 0 counts.verified) off in
-    record { signed = none counts.signed both.0; verified = none counts.verified both.1 }
+has_none counts off = let both = either_off (nat_lt 0 counts.signings) (nat_lt 0 counts.verifications) off in
+    record { signings = none counts.signings both.0; verifications = none counts.verifications both.1 }
 
 none_marked : (counts : Counts) → HasNoMic counts → is_marked counts ≡ false
-none_marked counts h = ap (λ (x : ℕ). nat_lt 0 x || nat_lt 0 counts.verified) h.signed ∙ ap (λ (x : ℕ). nat_lt 0 0 || nat_lt 0 x) h.verified
+none_marked counts h =
+    ap (λ (x : ℕ). nat_lt 0 x || nat_lt 0 counts.verifications) h.signings ∙ ap (λ (x : ℕ). nat_lt 0 0 || nat_lt 0 x) h.verifications
 
 marks_by : (a b : Counts) (marked : Bool) → is_marked a ≡ marked → (HasNoMic a → HasNoMic b) → is_marked b ≡ true → is_marked a ≡ true
 marks_by a b true is stays on = is

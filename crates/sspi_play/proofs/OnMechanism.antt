@@ -26,7 +26,7 @@ use Rattle.sspi_delegate.specs.EndTurns.{client_turns, server_turns}
 use Rattle.sspi_delegate.proofs.Chained.{client_past_chained, server_chained}
 use Rattle.sspi_play.specs.declared.played.Delivery.{Delivery}
 use Rattle.sspi_play.specs.declared.played.Played.{Played}
-use Rattle.sspi_play.specs.Faithful.{signed_in, verified_in}
+use Rattle.sspi_play.specs.Faithful.{signings_in, verifications_in}
 use Rattle.sspi_play.specs.Kept.{kept_list}
 use Rattle.sspi_play.specs.Negotiated.{HasOffered, HasRead, IsPickOf, NegotiatesIfFaithful}
 use Rattle.sspi_play.specs.Played.{Both, Accounts, IsPlay}
@@ -43,11 +43,11 @@ second_holds : (a b : Bool) → b ≡ true → a || b ≡ true
 second_holds true b h = refl
 second_holds false b h = h
 
-signed_marks : (counts : Counts) → 1 ≤ counts.signed → is_marked counts ≡ true
-signed_marks counts h = first_holds (nat_lt 0 counts.signed) (nat_lt 0 counts.verified) (lt-ltb 0 counts.signed h)
+signed_marks : (counts : Counts) → 1 ≤ counts.signings → is_marked counts ≡ true
+signed_marks counts h = first_holds (nat_lt 0 counts.signings) (nat_lt 0 counts.verifications) (lt-ltb 0 counts.signings h)
 
-verified_marks : (counts : Counts) → 1 ≤ counts.verified → is_marked counts ≡ true
-verified_marks counts h = second_holds (nat_lt 0 counts.signed) (nat_lt 0 counts.verified) (lt-ltb 0 counts.verified h)
+verified_marks : (counts : Counts) → 1 ≤ counts.verifications → is_marked counts ≡ true
+verified_marks counts h = second_holds (nat_lt 0 counts.signings) (nat_lt 0 counts.verifications) (lt-ltb 0 counts.verifications h)
 
 unmarked : (counts : Counts) → is_marked counts ≡ false → is_marked counts ≡ true → ⊥
 unmarked counts off on = false≢true (sym off ∙ on)
@@ -58,11 +58,11 @@ module _ {N K : Type 0} (r q : ℕ) (n : Meaning Setting N) (k : Meaning Setting
   IsMarked None = ⊥
   IsMarked (Some m) = is_marked ((either r n k).counts m) ≡ true
 
-  signed_is : (context : Option (SspiContext N K)) → 1 ≤ signed_in (either r n k) context → IsMarked context
+  signed_is : (context : Option (SspiContext N K)) → 1 ≤ signings_in (either r n k) context → IsMarked context
   signed_is None h = let never : ⊥ = omega (arith, h) in never
   signed_is (Some m) h = signed_marks ((either r n k).counts m) h
 
-  verified_is : (context : Option (SspiContext N K)) → 1 ≤ verified_in (either r n k) context → IsMarked context
+  verified_is : (context : Option (SspiContext N K)) → 1 ≤ verifications_in (either r n k) context → IsMarked context
   verified_is None h = let never : ⊥ = omega (arith, h) in never
   verified_is (Some m) h = verified_marks ((either r n k).counts m) h
 
@@ -115,14 +115,14 @@ module _ {N K : Type 0} (r q : ℕ) (n : Meaning Setting N) (k : Meaning Setting
         record {
           a_server_that_verified = λ some.
               let lists = faithful.server_verifies.lists some in
-              let signed : 1 ≤ signed_in (either r n k) new.client.context = omega (arith, some, faithful.server_verifies.count) in (
+              let signed : 1 ≤ signings_in (either r n k) new.client.context = omega (arith, some, faithful.server_verifies.count) in (
                 subst (λ (l : List (List ℕ)). IsPickOf new.server.context old.server.settings.mode l) lists
                     (picked_mechanism old.server.settings.mode (server_turns new.turns) new.server.context
                     (verified_is new.server.context some) shows),
                 offered_list (client_turns new.turns) new.client.context (signed_is new.client.context signed) offers,
               );
           a_client_that_verified = λ some.
-              let signed : 1 ≤ signed_in (either r n k) new.server.context = omega (arith, some, faithful.client_verifies.count) in
+              let signed : 1 ≤ signings_in (either r n k) new.server.context = omega (arith, some, faithful.client_verifies.count) in
               subst (λ (l : List (List ℕ)). HasRead (server_turns new.turns) l) (sym (faithful.client_verifies.lists some))
               (read_list old.server.settings.mode (server_turns new.turns) new.server.context (signed_is new.server.context signed) shows);
         }

@@ -80,13 +80,13 @@ pub data IsHashed {C : Type 0} (client : ClientEnd C) (server : ServerEnd C) (tu
 
 -- how many MICs a context made and verified
 module _ {C : Type 0} (c : Meaning ContextSetting C) where
-  abbrev pub signed_in : Option C → ℕ
-  signed_in None = 0
-  signed_in (Some m) = (c.counts m).signed
+  abbrev pub signings_in : Option C → ℕ
+  signings_in None = 0
+  signings_in (Some m) = (c.counts m).signings
 
-  abbrev pub verified_in : Option C → ℕ
-  verified_in None = 0
-  verified_in (Some m) = (c.counts m).verified
+  abbrev pub verifications_in : Option C → ℕ
+  verifications_in None = 0
+  verifications_in (Some m) = (c.counts m).verifications
 
 module _ {C : Type 0} (c : Meaning ContextSetting C) (kept : Option C → List (List ℕ)) where
   -- after each turn what an end has opened so far is what its peer sealed first
@@ -99,8 +99,8 @@ module _ {C : Type 0} (c : Meaning ContextSetting C) (kept : Option C → List (
 
   -- an end verified no more than its peer signed, and where it did both keep the same list of mechanisms
   pub record VerifiesWhatWasSigned (own peer : Option C) : Type 0 where
-    pub count : verified_in c own ≤ signed_in c peer
-    pub lists : 1 ≤ verified_in c own → kept own ≡ kept peer
+    pub count : verifications_in c own ≤ signings_in c peer
+    pub lists : 1 ≤ verifications_in c own → kept own ≡ kept peer
 
   -- `kept` is the list that a context keeps
   pub record IsFaithful (client : ClientEnd C) (server : ServerEnd C) (turns : List Turn) : Type 0 where

@@ -31,7 +31,7 @@ use Rattle.sspi_credssp.specs.Requests.{token_of}
 use Rattle.sspi_delegate.specs.EndRun.{ClientEnd, ServerEnd}
 use Rattle.sspi_delegate.specs.EndTurns.{client_turns, server_turns}
 use Rattle.sspi_play.specs.Agreement.{TurnOf}
-use Rattle.sspi_play.specs.Faithful.{verified_in, IsFaithful}
+use Rattle.sspi_play.specs.Faithful.{verifications_in, IsFaithful}
 use Rattle.sspi_play.specs.Kept.{kept_list}
 
 -- ---- the list on its way
@@ -102,9 +102,9 @@ module _ {N K : Type 0} (requests : ℕ) (n : Meaning Setting N) (k : Meaning Se
   -- of a server that was made in this mode
   pub record AgreesOnMechanism (client : ClientEnd (SspiContext N K)) (server : ServerEnd (SspiContext N K)) (mode : ServerMode)
       (turns : List Turn) : Type 0 where
-    pub a_server_that_verified : 1 ≤ verified_in (either requests n k) server.context →
+    pub a_server_that_verified : 1 ≤ verifications_in (either requests n k) server.context →
         IsPickOf server.context mode (kept_list client.context) × HasOffered (client_turns turns) (kept_list client.context)
-    pub a_client_that_verified : 1 ≤ verified_in (either requests n k) client.context →
+    pub a_client_that_verified : 1 ≤ verifications_in (either requests n k) client.context →
         HasRead (server_turns turns) (kept_list client.context)
 
   -- The theorem, of the ends as the play left them.

@@ -1,4 +1,4 @@
--- The status of an early result, where the exchange of a plain scenario came before it.
+-- The status of an early result, where the exchange of a scenario whose ends match came before it.
 use Rattle.std.proofs.Common.{◌≡◌, ℕ, ◌<◌, inr, List, [], Some, Result, Ok, Err, refl, sym, ap, ◌∙◌, subst}
 use Rattle.std.proofs.Math.Dec.{lit<}
 use Rattle.sspi_names.specs.declared.identity.AuthIdentity.{AuthIdentity}
@@ -21,7 +21,7 @@ use Rattle.sspi_program.specs.declared.record.Record.{Record}
 use Rattle.sspi_program.specs.declared.record.RunOutcome.{RunOutcome}
 use Rattle.sspi_program.specs.Early.{IsEarlyOf, admitted_status}
 use Rattle.sspi_program.specs.Exchange.{around}
-use Rattle.sspi_program.specs.Outcome.{messages_in, user_identity, IsPlain}
+use Rattle.sspi_program.specs.Outcome.{messages_in, user_identity, IsMatching}
 use Rattle.sspi_program.specs.Said.{early_status, heard_status, status_of}
 use Rattle.sspi_program.specs.Status.{IsUnlessWrite, EndsAs}
 
@@ -90,22 +90,22 @@ module _ (before after : MemoryLinkView) (names names2 : List Name) (result : Re
   short_behind (Err (errors.Write end)) short goes_on = absurd short
   short_behind (Err errors.LinkFault) short goes_on = absurd short
 
-pub plain_early : (made r : Record) (own status : ℕ) → IsEarlyOf made r → status_of r.outcome ≡ Some own → IsUnlessWrite own status →
-    (plain : IsPlain made.scenario) →
-    EndsAs (admitted_status made.scenario) (messages_in made.scenario plain) made.scenario.turns status
-plain_early made r own status has e unless plain =
+pub matching_early : (made r : Record) (own status : ℕ) → IsEarlyOf made r → status_of r.outcome ≡ Some own → IsUnlessWrite own status →
+    (matching : IsMatching made.scenario) →
+    EndsAs (admitted_status made.scenario) (messages_in made.scenario matching) made.scenario.turns status
+matching_early made r own status has e unless matching =
     let s = made.scenario in
     let exchange = has.exchange.exchange in
     let ended : early_status has.answer ≡ Some own = subst (λ (o : RunOutcome). status_of o ≡ Some own) has.outcome_is e in
-    let none : made.link.edits ≡ [] = exchange.edits ∙ plain.no_edit in
+    let none : made.link.edits ≡ [] = exchange.edits ∙ matching.no_edit in
     let follows : FollowsEdits made.link.edits made.link.log =
     subst (λ (edits : List Edit). FollowsEdits edits made.link.log) (sym exchange.edits) exchange.follows in (
       (λ enough. inr (subst (λ (n : ℕ). IsUnlessWrite n status)
-          (ok_behind made.link r.link s.admit r.policy has.answer own ended (messages_in s plain)
-          (delegated_as s.delegation (user_identity s)) exchange.answer (has.exchange.comes.comes plain enough) has.goes_on none follows)
+          (ok_behind made.link r.link s.admit r.policy has.answer own ended (messages_in s matching)
+          (delegated_as s.delegation (user_identity s)) exchange.answer (has.exchange.comes.comes matching enough) has.goes_on none follows)
           unless)),
       (λ few. inr (subst (λ (n : ℕ). IsUnlessWrite n status)
-          (short_behind made.link r.link s.admit r.policy has.answer own ended exchange.answer (has.exchange.comes.short plain few)
+          (short_behind made.link r.link s.admit r.policy has.answer own ended exchange.answer (has.exchange.comes.short matching few)
           has.goes_on)
           unless)),
     )

@@ -28,14 +28,14 @@ use Rattle.sspi_program.specs.Desk.{HasSeats, SeatsDue}
 use Rattle.sspi_program.specs.Early.{HasEarly, IsEarlyTold, EarlyEnds, admitted_status}
 use Rattle.sspi_program.specs.Gate.{IsGated, GateEnds}
 use Rattle.sspi_program.specs.Generate.{TallyDue}
-use Rattle.sspi_program.specs.Outcome.{messages_in, IsPlain}
+use Rattle.sspi_program.specs.Outcome.{messages_in, IsMatching}
 use Rattle.sspi_program.specs.Play.{HasPlay, PlayEnds}
 use Rattle.sspi_program.specs.Promises.{Does, Due, KeptDue, EndsSo}
 use Rattle.sspi_program.specs.Run.{Comes}
 use Rattle.sspi_program.specs.Said.{delegated_status, status_of, RecordDue, IsDue, said_status, said_text, read_text, Written}
 use Rattle.sspi_program.specs.Seats.{PlainSeat}
-use Rattle.sspi_program.specs.Status.{IsUnlessWrite, IsUnlessFault, EndsAs, EndsPlainly}
-use Rattle.sspi_program.proofs.EarlyStatus.{plain_early}
+use Rattle.sspi_program.specs.Status.{IsUnlessWrite, IsUnlessFault, EndsAs, EndsMatched}
+use Rattle.sspi_program.proofs.EarlyStatus.{matching_early}
 use Rattle.sspi_program.proofs.Running.{unless_write, unless_read, unless_memory, status_due, due_small}
 
 same_scenario : (purpose : Purpose) (text : List ℕ) (scenario scenario2 : Scenario) → scenario_of purpose text ≡ Ok scenario →
@@ -137,39 +137,39 @@ answered_status (Ok played) own e = let is : 0 ≡ own = cc in sym is
 answered_status (Err error) own e = absurd cc
 
 module _ (w w2 : Option (List ℕ)) (f f2 : ℕ) (status : ℕ) where
-  -- an exchange of a plain scenario
-  plain_exchange : (r : Record) (own : ℕ) → HasExchange r → status_of r.outcome ≡ Some own → IsUnlessWrite own status →
-      (plain : IsPlain r.scenario) → EndsPlainly (messages_in r.scenario plain) r.scenario.turns status
-  plain_exchange r own has e unless plain =
+  -- an exchange of a scenario whose ends match
+  matching_exchange : (r : Record) (own : ℕ) → HasExchange r → status_of r.outcome ≡ Some own → IsUnlessWrite own status →
+      (matching : IsMatching r.scenario) → EndsMatched (messages_in r.scenario matching) r.scenario.turns status
+  matching_exchange r own has e unless matching =
       let answered = subst (λ (o : RunOutcome). status_of o ≡ Some own) has.exchange.outcome_is e in (
         (λ enough. inr (subst (λ (n : ℕ). IsUnlessWrite n status)
-            (ok_status _ _ has.exchange.answer own answered (has.comes.comes plain enough)) unless)),
+            (ok_status _ _ has.exchange.answer own answered (has.comes.comes matching enough)) unless)),
         (λ few. inr (subst (λ (n : ℕ). IsUnlessWrite n status)
-            (short_status has.exchange.answer own answered (has.comes.short plain few)) unless)),
+            (short_status has.exchange.answer own answered (has.comes.short matching few)) unless)),
       )
 
 module _ (D : Record → ℕ → List ℕ → Type 0)
     (due_status : (r : Record) (own : ℕ) (text : List ℕ) → D r own text → status_of r.outcome ≡ Some own)
     (w w2 : Option (List ℕ)) (f f2 : ℕ) (status : ℕ) where
-  plain_record : (text : List ℕ) (r : Record) (own : ℕ) (written : List ℕ) → HasExchange r →
+  matching_record : (text : List ℕ) (r : Record) (own : ℕ) (written : List ℕ) → HasExchange r →
       scenario_of purposes.Exchange text ≡ Ok r.scenario → IsDue (D r) own written → Written own written w w2 f f2 status →
       DelegateEnds text status
-  plain_record text r own written has told (inl e) wrote = λ scenario is plain.
+  matching_record text r own written has told (inl e) wrote = λ scenario is matching.
       let same : r.scenario ≡ scenario = same_scenario purposes.Exchange text r.scenario scenario told is in
-      subst (λ (s : Scenario). (it : IsPlain s) → EndsPlainly (messages_in s it) s.turns status) same
-      (λ it. plain_exchange w w2 f f2 status r own has (due_status r own written e)
-      (unless_write w w2 f f2 own written status wrote) it) plain
-  plain_record text r own written has told (inr h) wrote = λ scenario is plain.
+      subst (λ (s : Scenario). (it : IsMatching s) → EndsMatched (messages_in s it) s.turns status) same
+      (λ it. matching_exchange w w2 f f2 status r own has (due_status r own written e)
+      (unless_write w w2 f f2 own written status wrote) it) matching
+  matching_record text r own written has told (inr h) wrote = λ scenario is matching.
       let lost = subst (λ (n : ℕ). Written n written w w2 f f2 status) h.0 wrote in
       ((λ enough. unless_memory w w2 f f2 0 written status lost), (λ few. unless_memory w w2 f f2 1 written status lost))
 
   delegate_done : (text : List ℕ) (own : ℕ) (written : List ℕ) (kept : Option Record) →
       IfSome kept (λ k. HasExchange k × (scenario_of purposes.Exchange text ≡ Ok k.scenario) × IsSome (status_of k.outcome)) →
       IsDue (KeptDue D kept) own written → Written own written w w2 f f2 status → DelegateEnds text status
-  delegate_done text own written None keeps told wrote = λ scenario is plain.
+  delegate_done text own written None keeps told wrote = λ scenario is matching.
       let lost = subst (λ (n : ℕ). Written n written w w2 f f2 status) (none_due D own written told) wrote in
       ((λ enough. unless_memory w w2 f f2 0 written status lost), (λ few. unless_memory w w2 f f2 1 written status lost))
-  delegate_done text own written (Some r) keeps told wrote = plain_record text r own written keeps.0 keeps.1 told wrote
+  delegate_done text own written (Some r) keeps told wrote = matching_record text r own written keeps.0 keeps.1 told wrote
 
 audited_status : (r : Record) (own : ℕ) (text : List ℕ) → IsAudited r own text → status_of r.outcome ≡ Some own
 audited_status r own text audited = audited.status_is
@@ -179,12 +179,12 @@ module _ (w w2 : Option (List ℕ)) (f f2 : ℕ) (status : ℕ) where
       Written (said_status said) (said_text said) w w2 f f2 status → DelegateEnds text status
   delegate_ends before now text (Done c items) comes written =
       delegate_done RecordDue status_due w w2 f f2 status text c.status items.items c.kept comes.0.0 comes.1 written
-  delegate_ends before now text (NoScenario n) comes written = λ scenario is plain.
+  delegate_ends before now text (NoScenario n) comes written = λ scenario is matching.
       absurd (both purposes.Exchange text scenario n is comes)
-  delegate_ends before now text ReadFault comes written = λ scenario is plain.
+  delegate_ends before now text ReadFault comes written = λ scenario is matching.
       ((λ enough. unless_read w w2 f f2 0 read_text status written), (λ few. unless_read w w2 f f2 1 read_text status written))
   delegate_ends before now text OtherWords comes written = absurd cc
-  delegate_ends before now text NoMemory comes written = λ scenario is plain.
+  delegate_ends before now text NoMemory comes written = λ scenario is matching.
       ((λ enough. unless_memory w w2 f f2 0 [] status written), (λ few. unless_memory w w2 f f2 1 [] status written))
 
   -- a play is not refused
@@ -244,40 +244,41 @@ module _ (w w2 : Option (List ℕ)) (f f2 : ℕ) (status : ℕ) where
   audit_ends before now text OtherWords comes written = absurd cc
   audit_ends before now text NoMemory comes written = delegate_ends before now text NoMemory refl written
 
-  early_lost : (own : ℕ) (scenario : Scenario) (plain : IsPlain scenario) (written : List ℕ) → Written 5 written w w2 f f2 status →
-      EndsAs own (messages_in scenario plain) scenario.turns status
-  early_lost own scenario plain written lost =
+  early_lost : (own : ℕ) (scenario : Scenario) (matching : IsMatching scenario) (written : List ℕ) → Written 5 written w w2 f f2 status →
+      EndsAs own (messages_in scenario matching) scenario.turns status
+  early_lost own scenario matching written lost =
       ((λ enough. unless_memory w w2 f f2 own written status lost), (λ few. unless_memory w w2 f f2 1 written status lost))
 
   early_record : (text : List ℕ) (r : Record) (own : ℕ) (written : List ℕ) → HasEarly r →
       scenario_of purposes.Early text ≡ Ok r.scenario → IsDue (IsEarlyTold r) own written → Written own written w w2 f f2 status →
       EarlyEnds text status
-  early_record text r own written has told (inl e) wrote = λ scenario is plain.
+  early_record text r own written has told (inl e) wrote = λ scenario is matching.
       let same : has.made.scenario ≡ scenario = sym (ap (λ (k : Record). k.scenario) has.early.rest)
       ∙ same_scenario purposes.Early text r.scenario scenario told is in
-      subst (λ (s : Scenario). (it : IsPlain s) → EndsAs (admitted_status s) (messages_in s it) s.turns status) same
-      (λ it. plain_early has.made r own status has.early e.status_is (unless_write w w2 f f2 own written status wrote) it) plain
-  early_record text r own written has told (inr h) wrote = λ scenario is plain.
-      early_lost (admitted_status scenario) scenario plain written (subst (λ (n : ℕ). Written n written w w2 f f2 status) h.0 wrote)
+      subst (λ (s : Scenario). (it : IsMatching s) → EndsAs (admitted_status s) (messages_in s it) s.turns status) same
+      (λ it. matching_early has.made r own status has.early e.status_is (unless_write w w2 f f2 own written status wrote) it) matching
+  early_record text r own written has told (inr h) wrote = λ scenario is matching.
+      early_lost (admitted_status scenario) scenario matching written (subst (λ (n : ℕ). Written n written w w2 f f2 status) h.0 wrote)
 
   early_done : (text : List ℕ) (own : ℕ) (written : List ℕ) (kept : Option Record) →
       IfSome kept (λ k. HasEarly k × (scenario_of purposes.Early text ≡ Ok k.scenario) × IsSome (status_of k.outcome)) →
       IsDue (KeptDue IsEarlyTold kept) own written → Written own written w w2 f f2 status → EarlyEnds text status
-  early_done text own written None keeps told wrote = λ scenario is plain.
-      early_lost (admitted_status scenario) scenario plain written
+  early_done text own written None keeps told wrote = λ scenario is matching.
+      early_lost (admitted_status scenario) scenario matching written
       (subst (λ (n : ℕ). Written n written w w2 f f2 status) (none_due IsEarlyTold own written told) wrote)
   early_done text own written (Some r) keeps told wrote = early_record text r own written keeps.0 keeps.1 told wrote
 
   early_ends : (before now : ℕ) (text : List ℕ) (said : Said) → Comes (Some (Told Early)) (Some text) before now said →
       Written (said_status said) (said_text said) w w2 f f2 status → EarlyEnds text status
   early_ends before now text (Done c items) comes written = early_done text c.status items.items c.kept comes.0.0 comes.1 written
-  early_ends before now text (NoScenario n) comes written = λ scenario is plain. absurd (both purposes.Early text scenario n is comes)
-  early_ends before now text ReadFault comes written = λ scenario is plain. (
+  early_ends before now text (NoScenario n) comes written = λ scenario is matching. absurd (both purposes.Early text scenario n is comes)
+  early_ends before now text ReadFault comes written = λ scenario is matching. (
     (λ enough. unless_read w w2 f f2 (admitted_status scenario) read_text status written),
     (λ few. unless_read w w2 f f2 1 read_text status written),
   )
   early_ends before now text OtherWords comes written = absurd cc
-  early_ends before now text NoMemory comes written = λ scenario is plain. early_lost (admitted_status scenario) scenario plain [] written
+  early_ends before now text NoMemory comes written = λ scenario is matching.
+      early_lost (admitted_status scenario) scenario matching [] written
 
   -- without memory
   no_memory_status : (text : List ℕ) → Written 5 text w w2 f f2 status → IsUnlessWrite 0 status

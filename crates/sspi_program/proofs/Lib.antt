@@ -5,7 +5,7 @@ pub mod Telling
 pub mod Ending
 pub mod TooLong
 pub mod Conducting
-pub mod Plainly
+pub mod Matching
 pub mod Numbered
 pub mod Tallying
 pub mod SeatedEnds

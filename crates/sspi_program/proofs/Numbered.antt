@@ -52,7 +52,7 @@ use Rattle.sspi_program.specs.declared.record.RunOutcome.{RunOutcome}
 use Rattle.sspi_program.specs.declared.record.RunOutcome.TheVariants.{Delegated}
 use Rattle.sspi_program.specs.Delegate.{HasExchange}
 use Rattle.sspi_program.specs.Generate.{HasDelegated, IsFree, IsNumbered, messages_at}
-use Rattle.sspi_program.specs.Outcome.{IsPlain, IsOutcome, messages_in, user_identity}
+use Rattle.sspi_program.specs.Outcome.{IsMatching, IsOutcome, messages_in, user_identity}
 use Rattle.sspi_program.specs.Said.{delegated_status, status_of}
 
 -- ---- the user of a number
@@ -165,8 +165,8 @@ ntlm_negotiation told identity computer no_guest =
 
 -- a scenario whose ends match, in which the client makes so many messages and may make so many
 pub record Matches (messages limit : ℕ) (s : Scenario) : Type 0 where
-  pub plain : IsPlain s
-  pub made : messages_in s plain ≡ messages
+  pub matching : IsMatching s
+  pub made : messages_in s matching ≡ messages
   pub limited : s.turns ≡ limit
   pub delegates : s.delegation ≡ WithCredentials
 
@@ -174,7 +174,7 @@ module _ (version least : ℕ) (user : Name) (password key : List ℕ) (takes : 
     (short : IsShort (own_identity user password)) where
   by_ntlm : Matches 3 5 (usual Ntlm version least user password key)
   by_ntlm = record {
-    plain = record {
+    matching = record {
       mode = refl;
       no_edit = refl;
       no_failure = refl;
@@ -194,7 +194,7 @@ module _ (version least : ℕ) (user : Name) (password key : List ℕ) (takes : 
 
   by_few : Matches 3 2 (record (usual Ntlm version least user password key) { turns = 2 })
   by_few = record {
-    plain = record {
+    matching = record {
       mode = refl;
       no_edit = refl;
       no_failure = refl;
@@ -217,7 +217,7 @@ module _ (version least : ℕ) (user : Name) (password key : List ℕ) (takes : 
   by_negotiation no_guest =
       let ends = ntlm_negotiation (Some (told_by [] [])) (own_identity user password) (codes "CLIENT") no_guest in
       record {
-        plain = record {
+        matching = record {
           mode = ends.0;
           no_edit = refl;
           no_failure = refl;
@@ -239,7 +239,7 @@ module _ (version least : ℕ) (user : Name) (password key : List ℕ) (takes : 
   by_kerberos =
       let ends = kerberos_ends (own_identity user password) (codes "tcp://kdc") (replicate 32 0) (codes "CLIENT") refl in
       record {
-        plain = record {
+        matching = record {
           mode = ends.0;
           no_edit = refl;
           no_failure = refl;
@@ -344,14 +344,14 @@ module _ (s : Scenario) (answer : Result Delegation DelegateError) (comes : IsOu
   delegated_by : (messages limit : ℕ) → Matches messages limit s → messages ≤ limit →
       HasDelegated messages (user_identity s) (Delegated answer)
   delegated_by messages limit matches enough =
-      let all : messages_in s matches.plain ≤ s.turns = omega (arith, matches.made, matches.limited, enough) in
-      let came = comes.comes matches.plain all in
+      let all : messages_in s matches.matching ≤ s.turns = omega (arith, matches.made, matches.limited, enough) in
+      let came = comes.comes matches.matching all in
       delegated_in messages (user_identity s) answer (rw (matches.made, matches.delegates) at came) memory
 
   cut_by : (messages limit : ℕ) → Matches messages limit s → limit < messages → Delegated answer ≡ Delegated (Err errors.TurnsSpent)
   cut_by messages limit matches few =
-      let less : s.turns < messages_in s matches.plain = omega (arith, matches.made, matches.limited, few) in
-      cut_in answer (comes.short matches.plain less) memory
+      let less : s.turns < messages_in s matches.matching = omega (arith, matches.made, matches.limited, few) in
+      cut_in answer (comes.short matches.matching less) memory
 
 few_messages : (i : ℕ) → messages_at i ≤ 5
 few_messages i = at ((i % 2) == 0)

@@ -16,7 +16,7 @@ use Rattle.sspi_program.specs.declared.record.RunOutcome.{RunOutcome}
 use Rattle.sspi_program.specs.declared.record.RunOutcome.TheVariants as outcomes
 use Rattle.sspi_program.specs.Delegate.{HasExchange}
 use Rattle.sspi_program.specs.Exchange.{around}
-use Rattle.sspi_program.specs.Outcome.{messages_in, user_identity, IsPlain}
+use Rattle.sspi_program.specs.Outcome.{messages_in, user_identity, IsMatching}
 use Rattle.sspi_program.specs.Said.{heard_status, report_of, status_of}
 use Rattle.sspi_program.specs.Status.{EndsAs}
 
@@ -58,7 +58,7 @@ abbrev pub admitted_status : Scenario → ℕ
 admitted_status scenario =
     heard_status (told_of (is_listed scenario.admit (delegated_as scenario.delegation (user_identity scenario)).username))
 
--- what the status is where the text is that of a plain scenario
+-- what the status is where the text is that of a scenario whose ends match
 abbrev pub EarlyEnds : List ℕ → ℕ → Type 0
-EarlyEnds text status = (scenario : Scenario) → scenario_of purposes.Early text ≡ Ok scenario → (plain : IsPlain scenario) →
-    EndsAs (admitted_status scenario) (messages_in scenario plain) scenario.turns status
+EarlyEnds text status = (scenario : Scenario) → scenario_of purposes.Early text ≡ Ok scenario → (matching : IsMatching scenario) →
+    EndsAs (admitted_status scenario) (messages_in scenario matching) scenario.turns status

@@ -22,7 +22,7 @@ kdc_told scenario = Some (told_by scenario.kdc_user scenario.kdc_answer)
 -- The ends that the scenario names match: both authenticate by plain NTLM alone, or both negotiate and come to a mechanism. Nothing is
 -- edited and no look-up fails; the client has the password that the server's table knows, both ends have one key and one kind of
 -- proof, and each takes the other's version.
-pub record IsPlain (scenario : Scenario) : Type 0 where
+pub record IsMatching (scenario : Scenario) : Type 0 where
   pub mode : MatchModes (kdc_told scenario) 0 scenario.target (user_identity scenario) (client_mode_in scenario) (server_mode_in scenario)
   pub no_edit : scenario.edit ≡ []
   pub no_failure : scenario.proxy_fail ≡ []
@@ -36,15 +36,15 @@ pub record IsPlain (scenario : Scenario) : Type 0 where
   pub short : IsShort (user_identity scenario)
 
 -- the messages that the client makes then
-abbrev pub messages_in : (scenario : Scenario) → IsPlain scenario → ℕ
-messages_in scenario plain =
+abbrev pub messages_in : (scenario : Scenario) → IsMatching scenario → ℕ
+messages_in scenario matching =
     messages_of (kdc_told scenario) 0 scenario.target (user_identity scenario) (client_mode_in scenario) (server_mode_in scenario)
-    plain.mode
+    matching.mode
 
--- Ok of plain NTLM alone takes three messages of the client. A plain scenario comes to Ok where the client may make as many
+-- Ok of plain NTLM alone takes three messages of the client. A scenario whose ends match comes to Ok where the client may make as many
 -- messages as it takes, and else is cut short; but for want of memory.
 pub record IsOutcome (scenario : Scenario) (answer : Result Delegation DelegateError) : Type 0 where
   pub three : scenario.mode ≡ Ntlm → IfOk answer (λ delegation. 3 ≤ delegation.rounds)
-  pub comes : (plain : IsPlain scenario) → messages_in scenario plain ≤ scenario.turns →
-      ComesToOkIn (messages_in scenario plain) (delegated_as scenario.delegation (user_identity scenario)) answer
-  pub short : (plain : IsPlain scenario) → scenario.turns < messages_in scenario plain → IsCutShort answer
+  pub comes : (matching : IsMatching scenario) → messages_in scenario matching ≤ scenario.turns →
+      ComesToOkIn (messages_in scenario matching) (delegated_as scenario.delegation (user_identity scenario)) answer
+  pub short : (matching : IsMatching scenario) → scenario.turns < messages_in scenario matching → IsCutShort answer

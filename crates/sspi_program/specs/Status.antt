@@ -14,5 +14,5 @@ abbrev pub EndsAs : ℕ → ℕ → ℕ → ℕ → Type 0
 EndsAs own messages turns status = (messages ≤ turns → IsUnlessFault own status) × (turns < messages → IsUnlessFault 1 status)
 
 -- so many messages of the client are enough, and fewer are not
-abbrev pub EndsPlainly : ℕ → ℕ → ℕ → Type 0
-EndsPlainly = EndsAs 0
+abbrev pub EndsMatched : ℕ → ℕ → ℕ → Type 0
+EndsMatched = EndsAs 0

@@ -20,10 +20,10 @@ decimal-digits (d ∷ next ∷ more) e = (and_parts (not (eqb d 48)) (all_ascii_
 
 digits-decimal : (bs : List ℕ) → 0 < length bs → (1 < length bs → get_or bs 0 0 ≡ 48 → ⊥) → all_ascii_digits bs ≡ true →
     is_decimal bs ≡ true
-digits-decimal [] some plain e = absurd (omega (arith, some))
-digits-decimal (d ∷ []) some plain e = (and_parts (is_ascii_digit d) true e).0
-digits-decimal (d ∷ next ∷ more) some plain e =
-    and_from (not (eqb d 48)) (all_ascii_digits (d ∷ next ∷ more)) (not_from_false (eqb d 48) (ne_eqb d 48 (plain (omega arith)))) e
+digits-decimal [] some unpadded e = absurd (omega (arith, some))
+digits-decimal (d ∷ []) some unpadded e = (and_parts (is_ascii_digit d) true e).0
+digits-decimal (d ∷ next ∷ more) some unpadded e =
+    and_from (not (eqb d 48)) (all_ascii_digits (d ∷ next ∷ more)) (not_from_false (eqb d 48) (ne_eqb d 48 (unpadded (omega arith)))) e
 
 head-digit : (bs : List ℕ) → 0 < length bs → all_ascii_digits bs ≡ true → is_ascii_digit (get_or bs 0 0) ≡ true
 head-digit [] some e = absurd (omega (arith, some))
@@ -53,10 +53,10 @@ module _ {E : Type 0} (bs : List ℕ) where
       → OkIff r ((all_ascii_digits bs ≡ true) × (0 < length bs) × (digits_value 10 bs < 2 ^ 32)) (digits_value 10 bs) →
       result_ok r ≡ number_of bs
   unfolding number_of
-  number-ok (Ok n) some plain h =
+  number-ok (Ok n) some unpadded h =
       let fits : digits_value 10 bs ≤ 4294967295 = omega (arith, h.0.2) in
-      rw (digits-decimal bs some plain h.0.0, le-leb (digits_value 10 bs) 4294967295 fits) (ap Some h.1)
-  number-ok (Err e) some plain h =
+      rw (digits-decimal bs some unpadded h.0.0, le-leb (digits_value 10 bs) 4294967295 fits) (ap Some h.1)
+  number-ok (Err e) some unpadded h =
       let refused = false_from_ne_true (is_decimal bs && leb (digits_value 10 bs) 4294967295) (λ t.
       let parts = and_parts (is_decimal bs) (leb (digits_value 10 bs) 4294967295) t in
       let fits = leb-true (digits_value 10 bs) 4294967295 parts.1 in
@@ -67,4 +67,4 @@ module _ {E : Type 0} (bs : List ℕ) where
   pub number-parsed : (r : Result ℕ E) → ParsesUnsigned 32 10 bs r → get_or bs 0 0 ≢ 43 → 0 < length bs →
       (1 < length bs → get_or bs 0 0 ≡ 48 → ⊥)
       → result_ok r ≡ number_of bs
-  number-parsed r parses plus some plain = number-ok r some plain (parse_plain own 32 bs r parses plus)
+  number-parsed r parses plus some unpadded = number-ok r some unpadded (parse_plain own 32 bs r parses plus)

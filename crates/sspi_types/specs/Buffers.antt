@@ -14,8 +14,8 @@ use Rattle.sspi_types.specs.contracts.buffer.SecurityBuffer.{the_row}
 use Rattle.sspi_types.specs.BufferTypes.{buffer_type_number}
 
 -- a buffer with these bytes, of this type and without flags
-abbrev pub plain_buffer : List ℕ → BufferType → SecurityBuffer
-plain_buffer bytes type = record {
+abbrev pub unflagged_buffer : List ℕ → BufferType → SecurityBuffer
+unflagged_buffer bytes type = record {
   buffer = bytes;
   buffer_type = record { buffer_type = type; buffer_flags = record { 0 = 0 } };
 }

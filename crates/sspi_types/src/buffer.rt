@@ -1,6 +1,6 @@
 ghost use Rattle.std.specs.Prelude.{◌≡◌, Some, None, find, option_map, position, IfOk, IfErr};
 ghost use Rattle.std.specs.Borrow.{sem};
-ghost use Rattle.sspi_types.specs.Buffers.{has_type, no_buffer, plain_buffer, LendsFirst, LendsFound};
+ghost use Rattle.sspi_types.specs.Buffers.{has_type, no_buffer, unflagged_buffer, LendsFirst, LendsFound};
 
 use crate::buffer_flags::SecurityBufferFlags;
 use crate::buffer_type::BufferType;
@@ -23,7 +23,7 @@ pub struct SecurityBuffer {
 impl SecurityBuffer {
     /// A buffer of this type without flags. The bytes are moved and not copied.
     pub fn new(buffer: Vec<u8>, buffer_type: BufferType) -> SecurityBuffer
-        ensures { result ≡ plain_buffer buffer.items buffer_type }
+        ensures { result ≡ unflagged_buffer buffer.items buffer_type }
     {
         SecurityBuffer {
             buffer: Bytes::from_vec(buffer),

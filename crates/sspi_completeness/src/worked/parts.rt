@@ -69,14 +69,14 @@ fn server_ntlm() -> NtlmConfig
 }
 
 /// A client by NTLM alone.
-pub(crate) fn plain_client(alloc: Global) -> Result<ClientMode, AllocError>
+pub(crate) fn ntlm_client(alloc: Global) -> Result<ClientMode, AllocError>
     ensures { IfOk result (λ mode. mode ≡ ClientMode.Ntlm client_ntlm) }
 {
     Ok(ClientMode::Ntlm(client_ntlm(alloc)?))
 }
 
 /// A server by NTLM alone.
-pub(crate) fn plain_server() -> Result<ServerMode, AllocError>
+pub(crate) fn ntlm_server() -> Result<ServerMode, AllocError>
     ensures { IfOk result (λ mode. mode ≡ ServerMode.Ntlm server_ntlm) }
 {
     Ok(ServerMode::Ntlm(server_ntlm()))

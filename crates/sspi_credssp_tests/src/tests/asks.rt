@@ -24,10 +24,10 @@ pub struct Asks<const TIMES: u32> {
     left: u32,
     waiting: bool,
     peer: Option<Username>,
-    sealed: u64,
-    unsealed: u64,
-    signed: u64,
-    verified: u64,
+    sealings: u64,
+    unsealings: u64,
+    signings: u64,
+    verifications: u64,
 }
 
 impl<const TIMES: u32> Asks<TIMES> {
@@ -35,7 +35,7 @@ impl<const TIMES: u32> Asks<TIMES> {
         requires { 0 < self.old.left }
         ensures asked { OnOk result (self.new ≡ record self.old { left = self.old.left - 1; waiting = true }) }
         ensures err { OnErr result (self.new ≡ self.old) }
-        ensures plain { IfErr result (λ error. error.nstatus ≡ None) }
+        ensures codeless { IfErr result (λ error. error.nstatus ≡ None) }
     {
         let url = Text::from_text(self.alloc, "tcp://kdc")?;
         self.left -= 1;
@@ -51,7 +51,7 @@ impl<const TIMES: u32> Asks<TIMES> {
     fn answered(&mut self) -> Result<Step, Error>
         ensures done { OnOk result (self.new ≡ record self.old { waiting = false }) }
         ensures err { OnErr result (self.new ≡ self.old) }
-        ensures plain { IfErr result (λ error. error.nstatus ≡ None) }
+        ensures codeless { IfErr result (λ error. error.nstatus ≡ None) }
     {
         let output = Bytes::from_slice(self.alloc, b"asked")?;
         self.waiting = false;
@@ -90,7 +90,7 @@ impl<const TIMES: u32> Mechanism for Asks<TIMES> {
     ghost REQUESTS = { TIMES };
 
     ghost meaning = { record {
-      made = λ _ m. (m.left ≡ TIMES) × (m.sealed ≡ 0) × (m.unsealed ≡ 0) × (m.signed ≡ 0) × (m.verified ≡ 0);
+      made = λ _ m. (m.left ≡ TIMES) × (m.sealings ≡ 0) × (m.unsealings ≡ 0) × (m.signings ≡ 0) × (m.verifications ≡ 0);
       unmade = λ _ _. ⊥;
       acquires = λ m _ _ _ m2. m2 ≡ m;
       steps = λ m _ answer m2. (m2 ≡ record m { left = m2.left; waiting = m2.waiting }) × (m2.left ≤ m.left)
@@ -113,8 +113,9 @@ impl<const TIMES: u32> Mechanism for Asks<TIMES> {
       waits = λ m. m.waiting;
       left = λ m. m.left;
       pairs = λ _. false;
-      counts = λ m. record { sealed = m.sealed; unsealed = m.unsealed; signed = m.signed; verified = m.verified };
-      counted = λ m n. record m { sealed = n.sealed; unsealed = n.unsealed; signed = n.signed; verified = n.verified };
+      counts = λ m. record { sealings = m.sealings; unsealings = m.unsealings; signings = m.signings; verifications = m.verifications };
+      counted = λ m n.
+          record m { sealings = n.sealings; unsealings = n.unsealings; signings = n.signings; verifications = n.verifications };
       seals = λ _ _ _ blob. 16 ≤ length blob;
       opens = λ _ _ _ _. Unit {0};
       signs = λ _ _ _ _. Unit {0};
@@ -131,10 +132,10 @@ impl<const TIMES: u32> Mechanism for Asks<TIMES> {
             left: TIMES,
             waiting: false,
             peer: None,
-            sealed: 0,
-            unsealed: 0,
-            signed: 0,
-            verified: 0,
+            sealings: 0,
+            unsealings: 0,
+            signings: 0,
+            verifications: 0,
         })
     }
 
@@ -220,24 +221,24 @@ impl<const TIMES: u32> Mechanism for Asks<TIMES> {
     }
 
     fn seal(&mut self, text: &[u8]) -> Result<Vec<u8>, Error> {
-        let Some(count) = self.sealed.checked_add(1) else {
+        let Some(count) = self.sealings.checked_add(1) else {
             return Err(spent());
         };
         let mut blob = Vec::from_slice(self.alloc, &[0; 16])?;
         blob.extend_from_slice(text)?;
-        self.sealed = count;
+        self.sealings = count;
         Ok(blob)
     }
 
     fn unseal(&mut self, blob: &[u8]) -> Result<Vec<u8>, Error> {
-        let Some(count) = self.unsealed.checked_add(1) else {
+        let Some(count) = self.unsealings.checked_add(1) else {
             return Err(spent());
         };
         if blob.len() < 16 {
             return Err(out_of_sequence());
         }
         let text = Vec::from_slice(self.alloc, &blob[16..])?;
-        self.unsealed = count;
+        self.unsealings = count;
         Ok(text)
     }
 

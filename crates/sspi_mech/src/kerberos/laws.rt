@@ -28,7 +28,7 @@ pub fn sealed_opens()
     ensures opens { (m p : KerberosState) (n : ℕ) (text blob : List ℕ) →
         IsPeer m p → kerberos_meaning.seals m n text blob → kerberos_meaning.opens p n blob text }
     ensures taken { (p : KerberosState) (blob text : List ℕ) →
-        kerberos_meaning.opens p p.protection.unsealed blob text → p.protection.unsealed < 2 ^ 64 - 1 →
+        kerberos_meaning.opens p p.protection.unsealings blob text → p.protection.unsealings < 2 ^ 64 - 1 →
         kerberos_meaning.permits p (ToUnseal blob) }
 {}
 
@@ -37,7 +37,7 @@ pub fn signed_verifies()
     ensures verifies { (m p : KerberosState) (n : ℕ) (text mic : List ℕ) →
         IsPeer m p → kerberos_meaning.signs m n text mic → kerberos_meaning.verifies p n mic text }
     ensures taken { (p : KerberosState) (mic text : List ℕ) →
-        kerberos_meaning.verifies p p.protection.verified mic text → p.protection.verified < 2 ^ 64 - 1 →
+        kerberos_meaning.verifies p p.protection.verifications mic text → p.protection.verifications < 2 ^ 64 - 1 →
         kerberos_meaning.permits p (ToVerify mic text) }
 {}
 

@@ -21,7 +21,8 @@ pub fn sealed_opens()
     ensures opens { (m p : NtlmState) (n : ℕ) (text blob : List ℕ) →
         IsPeer m p → ntlm_meaning.seals m n text blob → ntlm_meaning.opens p n blob text }
     ensures taken { (p : NtlmState) (blob text : List ℕ) →
-        ntlm_meaning.opens p p.protection.unsealed blob text → p.protection.unsealed < 2 ^ 64 - 1 → ntlm_meaning.permits p (ToUnseal blob) }
+        ntlm_meaning.opens p p.protection.unsealings blob text → p.protection.unsealings < 2 ^ 64 - 1 →
+        ntlm_meaning.permits p (ToUnseal blob) }
 {}
 
 /// The MIC that one end makes, the other finds right, and does not refuse where it is the next, unless the count is spent.
@@ -29,7 +30,7 @@ pub fn signed_verifies()
     ensures verifies { (m p : NtlmState) (n : ℕ) (text mic : List ℕ) →
         IsPeer m p → ntlm_meaning.signs m n text mic → ntlm_meaning.verifies p n mic text }
     ensures taken { (p : NtlmState) (mic text : List ℕ) →
-        ntlm_meaning.verifies p p.protection.verified mic text → p.protection.verified < 2 ^ 64 - 1 →
+        ntlm_meaning.verifies p p.protection.verifications mic text → p.protection.verifications < 2 ^ 64 - 1 →
         ntlm_meaning.permits p (ToVerify mic text) }
 {}
 

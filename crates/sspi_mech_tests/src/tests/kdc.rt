@@ -1,7 +1,7 @@
 //! What the laws of mechanisms give a caller that knows no more of one: its questions end, no step changes a count, and
 //! what it seals has a tag.
 ghost use Rattle.std.specs.Prelude.{◌≡◌, ◌≤◌, false, length, IfOk, OnOk};
-ghost use Rattle.sspi_mech.specs.Calls.{no_counts, one_sealed};
+ghost use Rattle.sspi_mech.specs.Calls.{no_counts, one_sealing};
 
 use crate::tests::asks::Asks;
 use crate::tests::checks::holds;
@@ -61,7 +61,7 @@ fn seal_first<M: Mechanism>(
     ensures few { IfOk result (λ first. first.questions ≤ M.REQUESTS) }
     ensures blob { IfOk result (λ first. M.meaning.seals first.client 0 text.now first.blob.items) }
     ensures long { IfOk result (λ first. 16 ≤ length first.blob.items) }
-    ensures count { IfOk result (λ first. M.meaning.counts first.client ≡ one_sealed no_counts) }
+    ensures count { IfOk result (λ first. M.meaning.counts first.client ≡ one_sealing no_counts) }
 {
     let mut client = M::make(alloc, &MechConfig::Ntlm(config))?;
     let (step, questions) = first_step(&mut client, reply);

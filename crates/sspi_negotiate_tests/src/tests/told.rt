@@ -25,10 +25,10 @@ pub struct Told<const TIMES: u32> {
     left: u32,
     waiting: bool,
     peer: Option<Username>,
-    sealed: u64,
-    unsealed: u64,
-    signed: u64,
-    verified: u64,
+    sealings: u64,
+    unsealings: u64,
+    signings: u64,
+    verifications: u64,
 }
 
 /// What a client is told to ask by.
@@ -75,7 +75,7 @@ fn refusal_of(word: u8) -> ErrorKind {
 
 /// The step that a token tells; it goes on where it tells nothing.
 fn step_of(alloc: Global, told: &[u8]) -> Result<Step, Error>
-    ensures plain { IfErr result (λ error. error.nstatus ≡ None) }
+    ensures codeless { IfErr result (λ error. error.nstatus ≡ None) }
 {
     let Some((word, output)) = told.split_first() else {
         return Ok(Step {
@@ -95,7 +95,7 @@ impl<const TIMES: u32> Told<TIMES> {
         ensures asked { OnOk result ((self.new ≡ record self.old { left = self.new.left; waiting = true })
             × (self.new.left < self.old.left)) }
         ensures err { OnErr result (self.new ≡ self.old) }
-        ensures plain { IfErr result (λ error. error.nstatus ≡ None) }
+        ensures codeless { IfErr result (λ error. error.nstatus ≡ None) }
     {
         if self.left == 0 {
             return Err(spent());
@@ -113,7 +113,7 @@ impl<const TIMES: u32> Told<TIMES> {
     fn step(&mut self, told: &[u8]) -> Result<Step, Error>
         ensures done { OnOk result (self.new ≡ record self.old { waiting = false }) }
         ensures err { OnErr result (self.new ≡ self.old) }
-        ensures plain { IfErr result (λ error. error.nstatus ≡ None) }
+        ensures codeless { IfErr result (λ error. error.nstatus ≡ None) }
     {
         let step = step_of(self.alloc, told)?;
         self.waiting = false;
@@ -127,7 +127,7 @@ impl<const TIMES: u32> Told<TIMES> {
               | answers.Ask _ ↦ (self.new.left < self.old.left) × (self.new.waiting ≡ true)
               | answers.Refused _ ↦ self.new ≡ self.old
             ] }
-        ensures plain { IfRefused result (λ error. error.nstatus ≡ None) }
+        ensures codeless { IfRefused result (λ error. error.nstatus ≡ None) }
     {
         if told == QUESTION {
             match self.ask() {
@@ -149,7 +149,7 @@ impl<const TIMES: u32> Mechanism for Told<TIMES> {
     ghost REQUESTS = { TIMES };
 
     ghost meaning = { record {
-      made = λ _ m. (m.left ≡ TIMES) × (m.sealed ≡ 0) × (m.unsealed ≡ 0) × (m.signed ≡ 0) × (m.verified ≡ 0);
+      made = λ _ m. (m.left ≡ TIMES) × (m.sealings ≡ 0) × (m.unsealings ≡ 0) × (m.signings ≡ 0) × (m.verifications ≡ 0);
       unmade = λ _ _. ⊥;
       acquires = λ m _ _ _ m2. m2 ≡ m;
       steps = λ m _ answer m2. (m2 ≡ record m { left = m2.left; waiting = m2.waiting })
@@ -172,8 +172,9 @@ impl<const TIMES: u32> Mechanism for Told<TIMES> {
       waits = λ m. m.waiting;
       left = λ m. m.left;
       pairs = λ _. false;
-      counts = λ m. record { sealed = m.sealed; unsealed = m.unsealed; signed = m.signed; verified = m.verified };
-      counted = λ m n. record m { sealed = n.sealed; unsealed = n.unsealed; signed = n.signed; verified = n.verified };
+      counts = λ m. record { sealings = m.sealings; unsealings = m.unsealings; signings = m.signings; verifications = m.verifications };
+      counted = λ m n.
+          record m { sealings = n.sealings; unsealings = n.unsealings; signings = n.signings; verifications = n.verifications };
       seals = λ _ _ _ blob. 16 ≤ length blob;
       opens = λ _ _ _ _. Unit {0};
       signs = λ _ _ _ _. Unit {0};
@@ -190,10 +191,10 @@ impl<const TIMES: u32> Mechanism for Told<TIMES> {
             left: TIMES,
             waiting: false,
             peer: None,
-            sealed: 0,
-            unsealed: 0,
-            signed: 0,
-            verified: 0,
+            sealings: 0,
+            unsealings: 0,
+            signings: 0,
+            verifications: 0,
         })
     }
 
@@ -264,44 +265,44 @@ impl<const TIMES: u32> Mechanism for Told<TIMES> {
     }
 
     fn seal(&mut self, text: &[u8]) -> Result<Vec<u8>, Error> {
-        let Some(count) = self.sealed.checked_add(1) else {
+        let Some(count) = self.sealings.checked_add(1) else {
             return Err(spent());
         };
         let mut blob = Vec::from_slice(self.alloc, &[0; 16])?;
         blob.extend_from_slice(text)?;
-        self.sealed = count;
+        self.sealings = count;
         Ok(blob)
     }
 
     fn unseal(&mut self, blob: &[u8]) -> Result<Vec<u8>, Error> {
-        let Some(count) = self.unsealed.checked_add(1) else {
+        let Some(count) = self.unsealings.checked_add(1) else {
             return Err(spent());
         };
         if blob.len() < 16 {
             return Err(out_of_sequence());
         }
         let text = Vec::from_slice(self.alloc, &blob[16..])?;
-        self.unsealed = count;
+        self.unsealings = count;
         Ok(text)
     }
 
     fn sign(&mut self, text: &[u8]) -> Result<Vec<u8>, Error> {
-        let Some(count) = self.signed.checked_add(1) else {
+        let Some(count) = self.signings.checked_add(1) else {
             return Err(spent());
         };
         let mic = Vec::from_slice(self.alloc, text)?;
-        self.signed = count;
+        self.signings = count;
         Ok(mic)
     }
 
     fn verify(&mut self, mic: &[u8], text: &[u8]) -> Result<(), Error> {
-        let Some(count) = self.verified.checked_add(1) else {
+        let Some(count) = self.verifications.checked_add(1) else {
             return Err(spent());
         };
         if mic != text {
             return Err(refusal(ErrorKind::MessageAltered, Reason::Tag));
         }
-        self.verified = count;
+        self.verifications = count;
         Ok(())
     }
 

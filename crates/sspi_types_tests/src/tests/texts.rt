@@ -39,12 +39,12 @@ fn statuses_are_displayed(rt: HostRuntime) {
 #[test]
 fn refusals_are_displayed(rt: HostRuntime) {
     let alloc = rt.alloc();
-    let plain = Error::new(ErrorKind::Unknown, Reason::Package);
+    let bare = Error::new(ErrorKind::Unknown, Reason::Package);
     let status = NStatusCode::LOGON_FAILURE;
     let with_status = Error::new_with_nstatus(ErrorKind::InvalidToken, Reason::ErrorStatus, status);
     is(
         &rt,
-        format!(in alloc; "{plain}"),
+        format!(in alloc; "{bare}"),
         "Unknown: queried info about unknown package",
     );
     is(

@@ -12,16 +12,16 @@ use Rattle.sspi_completeness.proofs.ThreeTurns.{ok_three, too_few}
 use Rattle.sspi_completeness.proofs.plain.delegate_plainly.Goals as goal
 
 pub returns-clause-three : goal.returns-clause-three
-returns-clause-three g c plain fresh =
+returns-clause-three g c ntlm fresh =
     let made = c.delegate.ensures.delegates fresh in
     ok_three kerberos_meaning g.C.CredentialsProxy.meaning _ _ _ _ _ _ _ _ _
-    made.accounts.turns_and_log_show_the_answer plain fresh.server_is
+    made.accounts.turns_and_log_show_the_answer ntlm fresh.server_is
     (servers_others _ made.the_turns_are_a_run.order)
     made.both_proofs_came_before_ok (server_past_history (either 0 ntlm_meaning kerberos_meaning) g.C.CredentialsProxy.meaning _ _ _ _
     made.accounts.server_turns_are_its_calls)
 
 pub returns-clause-few : goal.returns-clause-few
-returns-clause-few g c plain fresh few = too_few _ _ (returns-clause-three g c plain fresh)
+returns-clause-few g c ntlm fresh few = too_few _ _ (returns-clause-three g c ntlm fresh)
     c.delegate.ensures.stays.ok_comes_within_the_limit few
 
 pub returns-clause-comes : goal.returns-clause-comes

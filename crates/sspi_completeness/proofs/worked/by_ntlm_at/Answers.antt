@@ -1,6 +1,6 @@
 use Rattle.std.proofs.Common.{refl, arith}
-use Rattle.sspi_completeness.specs.Worked.{Example, plain}
-use Rattle.sspi_completeness.proofs.WorkedMatches.{ann_parsed, plain_matches}
+use Rattle.sspi_completeness.specs.Worked.{Example, ntlm_example}
+use Rattle.sspi_completeness.proofs.WorkedMatches.{ann_parsed, ntlm_matches}
 use Rattle.sspi_completeness.proofs.worked.by_ntlm_at.Goals as goal
 
 pub exchange-requires : goal.exchange-requires
@@ -8,7 +8,7 @@ exchange-requires c = rw ann_parsed refl
 
 pub returns : goal.returns
 returns c versions takes takes2 =
-    let x : Example = plain c.args.delegation c.args.client_version c.args.server_version c.args.least in
-    c.exchange.ensures x 3 refl ann_parsed refl refl refl refl refl c.plain_client-client.ensures c.plain_server-server.ensures
-    (plain_matches _ _ c.args.delegation c.args.client_version c.args.server_version c.args.least versions takes2 takes (omega arith)
+    let x : Example = ntlm_example c.args.delegation c.args.client_version c.args.server_version c.args.least in
+    c.exchange.ensures x 3 refl ann_parsed refl refl refl refl refl c.ntlm_client-client.ensures c.ntlm_server-server.ensures
+    (ntlm_matches _ _ c.args.delegation c.args.client_version c.args.server_version c.args.least versions takes2 takes (omega arith)
     (omega arith))

@@ -1,16 +1,16 @@
-use Rattle.std.proofs.Common.{◌≡◌, ◌<◌, Some, None, length, position, refl, arith}
-use Rattle.sspi_messages.specs.Buffers.{is_plain}
+use Rattle.std.proofs.Common.{◌≡◌, ◌<◌, None, position, refl, arith}
+use Rattle.sspi_messages.specs.Buffers.{is_unflagged}
 use Rattle.sspi_messages.proofs.Pairs.{differ, lent, lent_back, pair_found, read_front, read_back, first_lacks, second_lacks}
 use Rattle.sspi_messages.proofs.buffers.pair_mut.Goals as goal
 
 pub returns-in_default : goal.returns-in_default
 returns-in_default c =
-    let at : None ≡ position (is_plain c.args.first_type) c.args.message.now = c.in_default.ensures in
+    let at : None ≡ position (is_unflagged c.args.first_type) c.args.message.now = c.in_default.ensures in
     (refl, record { writes_back = tt; pair = first_lacks c.args.first_type c.args.second_type c.args.message.now at })
 
 pub returns-in_default-place : goal.returns-in_default-place
 returns-in_default-place c =
-    let at : None ≡ position (is_plain c.args.second_type) c.args.message.now = c.in_default-place.ensures in
+    let at : None ≡ position (is_unflagged c.args.second_type) c.args.message.now = c.in_default-place.ensures in
     (refl, record { writes_back = tt; pair = second_lacks c.args.first_type c.args.second_type c.args.message.now at })
 
 pub returns-then-first-second : goal.returns-then-first-second

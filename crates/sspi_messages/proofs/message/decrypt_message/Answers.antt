@@ -1,6 +1,6 @@
 use Rattle.std.proofs.Common.{◌≡◌, ◌∙◌, ℕ, List, ◌++◌, Some, None, sym, ap, refl}
 use Rattle.sspi_types.specs.declared.buffer_type.BufferType.TheVariants.{Data, Token, Stream}
-use Rattle.sspi_messages.specs.Buffers.{first_plain, pair_of}
+use Rattle.sspi_messages.specs.Buffers.{first_unflagged, pair_of}
 use Rattle.sspi_messages.proofs.Asked.{token_data, stream_data, on_err, both_found, first_is_lacking, stream_taken, parts_taken}
 use Rattle.sspi_messages.proofs.Left.{holding, none_left, second_left}
 use Rattle.sspi_messages.proofs.message.decrypt_message.Goals as goal
@@ -38,8 +38,8 @@ returns-clause-opened g c =
     let a = c.in-Some-pair_mut.token.now in
     let b = c.in-Some-pair_mut.data.now in
     let both = both_found _ _ a b c.in-Some-pair_mut.ensures.pair in
-    let lacking : None ≡ pair_of (first_plain Stream xs) (first_plain Data xs) = c.in_default.ensures.pair in
-    let no_stream = first_is_lacking (first_plain Stream xs) (first_plain Data xs) b both.1 lacking in
+    let lacking : None ≡ pair_of (first_unflagged Stream xs) (first_unflagged Data xs) = c.in_default.ensures.pair in
+    let no_stream = first_is_lacking (first_unflagged Stream xs) (first_unflagged Data xs) b both.1 lacking in
     record {
       blob = a.buffer ++ c.as_slice-2.result.now;
       text = c.in_ok-text-2.text.items;

@@ -1,4 +1,4 @@
-use Rattle.std.proofs.Common.{◌≡◌, ◌∙◌, ℕ, List, take, drop, Some, sym, ap, refl}
+use Rattle.std.proofs.Common.{◌∙◌, ℕ, List, take, drop, Some, sym, ap, refl}
 use Rattle.sspi_types.specs.declared.buffer_type.BufferType.TheVariants.{Data, Token}
 use Rattle.sspi_mech.specs.Calls.{ToSeal}
 use Rattle.sspi_messages.proofs.Asked.{token_data, on_err, both_found, asked_of}

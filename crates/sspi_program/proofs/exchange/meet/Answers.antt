@@ -20,8 +20,8 @@ use Rattle.sspi_completeness.proofs.PlainSettled.{comes_to_ok, cut_short, settle
 use Rattle.sspi_completeness.proofs.Settling.{calm_by, Settled}
 use Rattle.sspi_program.specs.Ends.{PlainContext, IsClientOf, IsServerOf}
 use Rattle.sspi_program.specs.Exchange.{plain_meaning, told_replies, kdc_asked, kdc_faults}
-use Rattle.sspi_program.specs.Outcome.{user_identity, messages_in, IsPlain}
-use Rattle.sspi_program.proofs.Plainly.{plain_match, plain_messages, plain_server, plain_link, plain_proxy}
+use Rattle.sspi_program.specs.Outcome.{user_identity, messages_in, IsMatching}
+use Rattle.sspi_program.proofs.Matching.{ends_match, match_messages, ntlm_server, unedited_link, calm_proxy}
 use Rattle.sspi_program.proofs.exchange.meet.Goals as goal
 
 some_edits : (edits edits2 : List Edit) → Some edits ≡ Some edits2 → edits ≡ edits2
@@ -55,16 +55,16 @@ returns-clause-exchange c ends link_is held =
     delegates.accounts.server_turns_are_its_calls in
     let laws = lawful 0 2 ntlm_meaning kerberos_meaning ntlm_laws kerberos_laws in
     let kdc = c.args.ends.kdc in
-    let settles : (plain : IsPlain s) →
-    Settled (messages_in s plain) s.turns (delegated_as client.settings.delegation (user_identity s)) answer =
-    λ plain. subst (λ (n : ℕ). Settled n s.turns (delegated_as client.settings.delegation (user_identity s)) answer)
-    (plain_messages s client server kdc client_named server_named ends.kdc held plain)
+    let settles : (matching : IsMatching s) →
+    Settled (messages_in s matching) s.turns (delegated_as client.settings.delegation (user_identity s)) answer =
+    λ matching. subst (λ (n : ℕ). Settled n s.turns (delegated_as client.settings.delegation (user_identity s)) answer)
+    (match_messages s client server kdc client_named server_named ends.kdc held matching)
     (settled_plainly told_replies kdc_asked kdc_faults laws table_meaning client server kdc client_fresh server_fresh
-    (plain_match s client server kdc client_named server_named ends.kdc held plain) _ _ _ _ s.turns made.client made.server _ _ _ _ _
-    (plain_link s c.args.link made.link.log made.link.faults link_is plain)
+    (ends_match s client server kdc client_named server_named ends.kdc held matching) _ _ _ _ s.turns made.client made.server _ _ _ _ _
+    (unedited_link s c.args.link made.link.log made.link.faults link_is matching)
     delegates.accounts.turns_and_log_show_the_answer stays.the_link_tells_what_it_told stays.the_link_fails_where_its_edits_say_so
     delegates.accounts.client_turns_are_its_calls server_history
-    (calm_by _ _ _ (plain_proxy s server made.server.proxy.faults server_named plain) stays.the_proxy_tells_what_it_told.calm)
+    (calm_by _ _ _ (calm_proxy s server made.server.proxy.faults server_named matching) stays.the_proxy_tells_what_it_told.calm)
     delegates.the_identity_is_what_was_opened_last) in
     record {
       exchange = record {
@@ -81,15 +81,15 @@ returns-clause-exchange c ends link_is held =
         delegates = rw (link_is, ends.kdc, empty) at delegates;
       };
       comes = record {
-        three = λ plain. ok_three kerberos_meaning table_meaning _ _ _ _ _ _ _ _ _
-            delegates.accounts.turns_and_log_show_the_answer (plain_server s server server_named plain) fresh.server_is
+        three = λ matching. ok_three kerberos_meaning table_meaning _ _ _ _ _ _ _ _ _
+            delegates.accounts.turns_and_log_show_the_answer (ntlm_server s server server_named matching) fresh.server_is
             (servers_others _ delegates.the_turns_are_a_run.order)
             delegates.both_proofs_came_before_ok server_history;
-        comes = λ plain enough. subst (λ (mode : CredSspMode). ComesToOkIn (messages_in s plain)
+        comes = λ matching enough. subst (λ (mode : CredSspMode). ComesToOkIn (messages_in s matching)
             (delegated_as mode (user_identity s)) answer) (ap (λ (s : ClientSettings). s.delegation) client_named)
-            (comes_to_ok (messages_in s plain) s.turns (delegated_as client.settings.delegation (user_identity s)) answer enough
-            (settles plain));
-        short = λ plain few. cut_short (messages_in s plain) s.turns
-            (delegated_as client.settings.delegation (user_identity s)) answer few stays.ok_comes_within_the_limit (settles plain);
+            (comes_to_ok (messages_in s matching) s.turns (delegated_as client.settings.delegation (user_identity s)) answer enough
+            (settles matching));
+        short = λ matching few. cut_short (messages_in s matching) s.turns
+            (delegated_as client.settings.delegation (user_identity s)) answer few stays.ok_comes_within_the_limit (settles matching);
       };
     }

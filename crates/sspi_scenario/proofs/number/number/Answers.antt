@@ -29,11 +29,11 @@ returns c =
     let same = c.as_bytes-digits.ensures.value in
     let some = eqb-false (length c.as_bytes-digits.result.now) 0 (sym c.is_empty.ensures ∙ c.if-is_empty.false) in
     let more : 0 < length c.as_bytes-digits.result.now = omega (arith, some) in
-    let plain : 1 < length c.as_bytes-digits.result.now → get_or c.as_bytes-digits.result.now 0 0 ≡ 48 → ⊥ =
+    let unpadded : 1 < length c.as_bytes-digits.result.now → get_or c.as_bytes-digits.result.now 0 0 ≡ 48 → ⊥ =
     λ long zero. elim c.else-digits-gt1.branch [
       | else-digits-gt1-via-then-digits-gt1+else-digits-eq48 w ↦ w.if-digits-eq48.false zero
       | else-digits-gt1-via-else-digits-gt1 w ↦ let short = w.if-digits-gt1.false in omega (arith, short)
     ] in
     c.ok.ensures.value
     ∙ number-parsed c.args.text.now c.parse.result c.parse.ensures.value.0 (rw same at c.if-digits-eq43.false) (rw same at more)
-    (rw same at plain)
+    (rw same at unpadded)

@@ -11,7 +11,7 @@ use Rattle.sspi_credssp.specs.Counts.{is_waiting_in}
 use Rattle.sspi_credssp.specs.Noted.{is_altered_in, is_old_in}
 use Rattle.sspi_credssp.specs.Refusal.{IsRefusedBy}
 use Rattle.sspi_credssp.specs.Stops.{StopsIf}
-use Rattle.sspi_credssp.proofs.PlainErrors.{caused}
+use Rattle.sspi_credssp.proofs.CodelessErrors.{caused}
 use Rattle.sspi_credssp.proofs.ClientHeeding.{client_only, no_step}
 use Rattle.sspi_credssp.proofs.Causes.{client_cause_past, client_cause_begun}
 use Rattle.sspi_credssp.proofs.client.CredSspClient.process.Goals as goal

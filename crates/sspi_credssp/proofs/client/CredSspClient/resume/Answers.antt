@@ -4,7 +4,7 @@ use Rattle.sspi_credssp.specs.ClientStep.{HasStepped, StepsTo}
 use Rattle.sspi_credssp.specs.ClientTurn.{IsReady}
 use Rattle.sspi_mech.specs.Refusals.{answered}
 use Rattle.sspi_credssp.specs.Context.{either}
-use Rattle.sspi_credssp.proofs.PlainErrors.{caused, on_err_answered}
+use Rattle.sspi_credssp.proofs.CodelessErrors.{caused, on_err_answered}
 use Rattle.sspi_credssp.proofs.ClientHeeding.{resumed_never}
 use Rattle.sspi_credssp.proofs.ClientReady.{ready_forgot}
 use Rattle.sspi_credssp.proofs.client.CredSspClient.resume.Goals as goal
@@ -32,7 +32,7 @@ returns-in-Some g c =
           };
       stepped = search rules;
       falls = search rules;
-      cause = record { kind = search rules; plain = caused.plain };
+      cause = record { kind = search rules; codeless = caused.codeless };
       kept = record {
         same = search rules;
         still = λ start d tries log q awaits.

@@ -44,7 +44,7 @@ returns-in-Ok g c =
     record {
       turn = c.take-in-Ok.ensures.turn now d (search rules) ready (search rules);
       step = step;
-      cause = record { kind = cause; plain = c.take-in-Ok.ensures.plain };
+      cause = record { kind = cause; codeless = c.take-in-Ok.ensures.codeless };
       heeded = record {
         refuses = λ met. let old = met.old in absurd (cc (young, old));
         only = λ never. server_only it never p now d _ _ (λ some. c.take-in-Ok.ensures.begun) cause step;
@@ -89,7 +89,7 @@ returns-in-Err g c =
           (subst (λ v. BeginRefused it v d.version new) c.forget_last_call.ensures c.in-Err.ensures.refused.0)
           (search rules) (search rules) c.refusal.ensures;
       step = step;
-      cause = record { kind = cause; plain = search rules };
+      cause = record { kind = cause; codeless = search rules };
       heeded = record {
         refuses = λ met.
             let old : is_old c.forget_last_call.new.self.settings.least c.forget_last_call.new.self.noted d.version ≡ true =

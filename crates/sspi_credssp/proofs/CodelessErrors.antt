@@ -8,14 +8,14 @@ use Rattle.sspi_mech.specs.Refusals.{answered, error_of, refusal_of}
 use Rattle.sspi_credssp.specs.Refusal.{IsRefusedBy, IsRefusedFor}
 
 -- an error without a code is all in its kind and its reason
-pub plain_again : (error : Error) → error.nstatus ≡ None → error_of (refusal_of error) ≡ error
-plain_again error none = ap (λ (code : Option NStatusCode). record error { nstatus = code }) (sym none)
+pub codeless_again : (error : Error) → error.nstatus ≡ None → error_of (refusal_of error) ≡ error
+codeless_again error none = ap (λ (code : Option NStatusCode). record error { nstatus = code }) (sym none)
 
 -- the causes of a refusal are those of the answer to a caller
 pub caused : {T : Type 0} (causes : ErrorKind → Type 0) (result : Result T Refusal) → IsRefusedFor result causes →
     IsRefusedBy (answered result) causes
-caused causes (Ok x) h = record { kind = tt; plain = tt }
-caused causes (Err refusal) h = record { kind = h; plain = refl }
+caused causes (Ok x) h = record { kind = tt; codeless = tt }
+caused causes (Err refusal) h = record { kind = h; codeless = refl }
 
 pub on_err_answered : {T : Type 0} (P : Type 0) (result : Result T Refusal) → OnErr result P → OnErr (answered result) P
 on_err_answered P (Ok x) h = tt
