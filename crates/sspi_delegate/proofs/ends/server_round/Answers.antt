@@ -10,12 +10,8 @@ returns-in-Err-clause-turn g c =
     refusal_pushed (either g.N.Mechanism.REQUESTS g.N.Mechanism.meaning g.K.Mechanism.meaning) c.args.server.now c.process-answered.new.self
     c.args.request
     c.in-Err.field-0.error.error_type c.in-Err.field-0.ts_request c.args.transcript.now.turns c.record-in-Err.new.self.turns
-    c.in-Err.ensures.turn (rw (
-      ← c.in-Ok.ensures.turns,
-      ← c.in-Ok-clone.ensures,
-      ← c.last_acts-acts.ensures,
-      ← c.take_output-output.ensures.output,
-    )
+    c.in-Err.ensures.turn
+    (rw (← c.in-Ok.ensures.turns, ← c.in-Ok-clone.ensures, ← c.last_acts-acts.ensures, ← c.take_output-output.ensures.output)
     c.record-in-Err.ensures)
 
 pub returns-in-Ok-ReplyNeeded-clause-server_history : goal.returns-in-Ok-ReplyNeeded-clause-server_history
@@ -26,12 +22,8 @@ returns-in-Ok-ReplyNeeded-clause-server_history g c first history =
     c.args.transcript.now.turns c.record.new.self.turns history
     (rw c.in-Ok-ReplyNeeded.field-0-is at c.in-Ok-ReplyNeeded.ensures.turn, c.in-Ok-ReplyNeeded.ensures.step)
     c.in-Ok-ReplyNeeded.ensures.kept.made c.in-Ok-ReplyNeeded.ensures.proxy.at_most c.in-Ok-ReplyNeeded.ensures.proxy.exactly
-    c.take_output-output.ensures.rest (rw (
-      ← c.in-Ok.ensures.turns,
-      ← c.in-Ok-clone.ensures,
-      ← c.last_acts-acts.ensures,
-      ← c.take_output-output.ensures.output,
-    )
+    c.take_output-output.ensures.rest
+    (rw (← c.in-Ok.ensures.turns, ← c.in-Ok-clone.ensures, ← c.last_acts-acts.ensures, ← c.take_output-output.ensures.output)
     c.record.ensures)
 
 pub returns-in-Ok-Finished-clause-server_history : goal.returns-in-Ok-Finished-clause-server_history
@@ -41,12 +33,8 @@ returns-in-Ok-Finished-clause-server_history g c first history =
     c.args.transcript.now.turns c.record-in-Ok-Finished.new.self.turns history
     (rw c.in-Ok-Finished.field-0-is at c.in-Ok-Finished.ensures.turn) c.in-Ok-Finished.ensures.step
     c.in-Ok-Finished.ensures.kept.made c.in-Ok-Finished.ensures.proxy.at_most c.in-Ok-Finished.ensures.proxy.exactly
-    c.take_output-output.ensures.rest (rw (
-      ← c.in-Ok.ensures.turns,
-      ← c.in-Ok-clone.ensures,
-      ← c.last_acts-acts.ensures,
-      ← c.take_output-output.ensures.output,
-    )
+    c.take_output-output.ensures.rest
+    (rw (← c.in-Ok.ensures.turns, ← c.in-Ok-clone.ensures, ← c.last_acts-acts.ensures, ← c.take_output-output.ensures.output)
     c.record-in-Ok-Finished.ensures)
 
 pub returns-in-Err-clause-server_history : goal.returns-in-Err-clause-server_history
@@ -58,12 +46,8 @@ returns-in-Err-clause-server_history g c first history =
     g.C.CredentialsProxy.meaning
     _ _ c.in-Err.field-0 _ c.in-Err.ensures)
     c.in-Err.ensures.kept.made c.in-Err.ensures.proxy.at_most
-    c.take_output-output.ensures.rest (rw (
-      ← c.in-Ok.ensures.turns,
-      ← c.in-Ok-clone.ensures,
-      ← c.last_acts-acts.ensures,
-      ← c.take_output-output.ensures.output,
-    )
+    c.take_output-output.ensures.rest
+    (rw (← c.in-Ok.ensures.turns, ← c.in-Ok-clone.ensures, ← c.last_acts-acts.ensures, ← c.take_output-output.ensures.output)
     c.record-in-Err.ensures)
 
 pub returns-in-Ok-ReplyNeeded-clause-made : goal.returns-in-Ok-ReplyNeeded-clause-made
@@ -73,12 +57,8 @@ returns-in-Ok-ReplyNeeded-clause-made g c =
     c.args.transcript.now.turns c.record.new.self.turns
     (rw c.in-Ok-ReplyNeeded.field-0-is at c.in-Ok-ReplyNeeded.ensures.turn, c.in-Ok-ReplyNeeded.ensures.step)
     c.in-Ok-ReplyNeeded.ensures.kept.made c.in-Ok-ReplyNeeded.ensures.proxy.at_most c.in-Ok-ReplyNeeded.ensures.proxy.exactly
-    c.take_output-output.ensures.rest (rw (
-      ← c.in-Ok.ensures.turns,
-      ← c.in-Ok-clone.ensures,
-      ← c.last_acts-acts.ensures,
-      ← c.take_output-output.ensures.output,
-    )
+    c.take_output-output.ensures.rest
+    (rw (← c.in-Ok.ensures.turns, ← c.in-Ok-clone.ensures, ← c.last_acts-acts.ensures, ← c.take_output-output.ensures.output)
     c.record.ensures)
 
 pub returns-in-Ok-Finished-clause-made : goal.returns-in-Ok-Finished-clause-made
@@ -88,12 +68,8 @@ returns-in-Ok-Finished-clause-made g c =
     c.args.transcript.now.turns c.record-in-Ok-Finished.new.self.turns
     (rw c.in-Ok-Finished.field-0-is at c.in-Ok-Finished.ensures.turn) c.in-Ok-Finished.ensures.step
     c.in-Ok-Finished.ensures.kept.made c.in-Ok-Finished.ensures.proxy.at_most c.in-Ok-Finished.ensures.proxy.exactly
-    c.take_output-output.ensures.rest (rw (
-      ← c.in-Ok.ensures.turns,
-      ← c.in-Ok-clone.ensures,
-      ← c.last_acts-acts.ensures,
-      ← c.take_output-output.ensures.output,
-    )
+    c.take_output-output.ensures.rest
+    (rw (← c.in-Ok.ensures.turns, ← c.in-Ok-clone.ensures, ← c.last_acts-acts.ensures, ← c.take_output-output.ensures.output)
     c.record-in-Ok-Finished.ensures)
 
 pub returns-in-Err-clause-made : goal.returns-in-Err-clause-made
@@ -105,10 +81,6 @@ returns-in-Err-clause-made g c =
     g.C.CredentialsProxy.meaning
     _ _ c.in-Err.field-0 _ c.in-Err.ensures)
     c.in-Err.ensures.kept.made c.in-Err.ensures.proxy.at_most
-    c.take_output-output.ensures.rest (rw (
-      ← c.in-Ok.ensures.turns,
-      ← c.in-Ok-clone.ensures,
-      ← c.last_acts-acts.ensures,
-      ← c.take_output-output.ensures.output,
-    )
+    c.take_output-output.ensures.rest
+    (rw (← c.in-Ok.ensures.turns, ← c.in-Ok-clone.ensures, ← c.last_acts-acts.ensures, ← c.take_output-output.ensures.output)
     c.record-in-Err.ensures)
