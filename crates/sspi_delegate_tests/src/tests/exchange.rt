@@ -281,7 +281,7 @@ fn assert_log(rt: &impl std::process::Abort, log: &[Carried], sent: &[&str], del
     }
 }
 
-const PLAIN: Setting = Setting {
+const USUAL: Setting = Setting {
     user: ("DOM\\ann", 1),
     key: (1, 4),
     versions: (6, 6),
@@ -302,7 +302,7 @@ fn edited(
     Row {
         setting: Setting {
             edit: Some((entry, kind)),
-            ..PLAIN
+            ..USUAL
         },
         wanted,
         turns,
@@ -315,7 +315,7 @@ fn limited(limit: u32, wanted: Wanted, turns: usize, sent: usize, delivered: usi
     Row {
         setting: Setting {
             turns: limit,
-            ..PLAIN
+            ..USUAL
         },
         wanted,
         turns,
@@ -327,7 +327,7 @@ fn limited(limit: u32, wanted: Wanted, turns: usize, sent: usize, delivered: usi
 /// Pieces change neither the answer nor the log.
 fn in_pieces(piece: usize) -> Row {
     Row {
-        setting: Setting { piece, ..PLAIN },
+        setting: Setting { piece, ..USUAL },
         wanted: Wanted::Credentials(3),
         turns: 6,
         sent: 5,
@@ -351,7 +351,7 @@ fn rows() -> [Row; 16] {
         Row {
             setting: Setting {
                 user: ("a", 65536),
-                ..PLAIN
+                ..USUAL
             },
             wanted: Wanted::Client(ErrorKind::InternalError, None),
             turns: 3,
@@ -402,7 +402,7 @@ fn an_altered_proof_is_told_to_the_client(rt: HostRuntime) -> Result<(), Fail> {
         key: (0, 270),
         versions: (4, 6),
         least: 4,
-        ..PLAIN
+        ..USUAL
     };
     let mut link = memory_link(rt.alloc(), &setting)?;
     let exchanged = exchange(rt.alloc(), &setting, &mut link)?;
@@ -417,7 +417,7 @@ fn an_altered_proof_is_told_to_the_client(rt: HostRuntime) -> Result<(), Fail> {
 fn an_old_client_is_told_so(rt: HostRuntime) -> Result<(), Fail> {
     let setting = Setting {
         versions: (4, 6),
-        ..PLAIN
+        ..USUAL
     };
     let mut link = memory_link(rt.alloc(), &setting)?;
     let exchanged = exchange(rt.alloc(), &setting, &mut link)?;
@@ -434,7 +434,7 @@ fn an_old_client_is_told_so(rt: HostRuntime) -> Result<(), Fail> {
 #[test]
 fn exchange_over_a_carrier(rt: HostRuntime) -> Result<(), Fail> {
     let mut link = KeptLink::new(rt.alloc(), echoing(rt.alloc(), Some(5), None));
-    let exchanged = exchange(rt.alloc(), &PLAIN, &mut link)?;
+    let exchanged = exchange(rt.alloc(), &USUAL, &mut link)?;
     assert!(rt; is_wanted(&exchanged.answer, Wanted::Credentials(3)));
     assert_log(&rt, link.log(), &plain_messages(), 104);
     assert!(rt; link.log().iter().all(|entry| is_whole(entry)));
@@ -447,7 +447,7 @@ fn a_fault_of_the_carrier_ends_the_exchange(rt: HostRuntime) -> Result<(), Fail>
     for (sends_left, receives_left, turns) in [(Some(1), None, 2), (None, Some(0), 1)] {
         let carrier = echoing(rt.alloc(), sends_left, receives_left);
         let mut link = KeptLink::new(rt.alloc(), carrier);
-        let exchanged = exchange(rt.alloc(), &PLAIN, &mut link)?;
+        let exchanged = exchange(rt.alloc(), &USUAL, &mut link)?;
         let wanted = Wanted::Other(DelegateError::LinkFault);
         assert!(rt; is_wanted(&exchanged.answer, wanted));
         assert_eq!(rt; exchanged.turns, turns);

@@ -43,7 +43,7 @@ pub struct Ends {
 }
 
 /// Ends that have plain NTLM alone.
-pub fn plain(rt: &impl Test) -> Ends {
+pub fn by_ntlm(rt: &impl Test) -> Ends {
     Ends {
         client: SspiContext::Ntlm(ntlm(rt)),
         server: SspiContext::Ntlm(ntlm(rt)),

@@ -1,4 +1,4 @@
-use crate::tests::ends::{Ends, Test, negotiating, plain};
+use crate::tests::ends::{Ends, Test, by_ntlm, negotiating};
 use crate::tests::lines::go;
 
 // The tags are the first 16 bytes of SHA-256 over the label, the key, who made the message, its number and its text; the key
@@ -152,7 +152,7 @@ fn run<S: Stage>(rt: &impl Test, stage: S, scripts: &[&str]) {
 
 #[test]
 fn refusals_of_ntlm(rt: HostRuntime) {
-    run(&rt, plain(&rt), &REFUSALS);
+    run(&rt, by_ntlm(&rt), &REFUSALS);
 }
 
 #[test]
@@ -163,7 +163,7 @@ fn refusals_of_a_negotiation(rt: HostRuntime) {
 #[test]
 fn messages_of_ntlm(rt: HostRuntime) {
     let scripts = [OF_NTLM, "authenticate", TOLD, SEALED, EMPTY, SIGNED];
-    run(&rt, plain(&rt), &scripts);
+    run(&rt, by_ntlm(&rt), &scripts);
 }
 
 #[test]
@@ -181,7 +181,7 @@ fn messages_of_a_negotiation(rt: HostRuntime) {
 
 #[test]
 fn which_buffers_are_taken(rt: HostRuntime) {
-    run(&rt, plain(&rt), &["authenticate", FIRST, STREAMS]);
+    run(&rt, by_ntlm(&rt), &["authenticate", FIRST, STREAMS]);
 }
 
 #[test]
