@@ -36,7 +36,6 @@ pub mod KerberosStart
 pub mod ChangedRow
 pub mod KerberosRow
 pub mod PlainSettled
-pub mod Modes
 pub mod ThreeTurns
 pub mod Examples
 pub mod WorkedEnds

@@ -25,18 +25,9 @@ use Rattle.sspi_delegate.specs.Edits.{Delivers}
 use Rattle.sspi_completeness.specs.Negotiating.{AreNegotiating, messages_by}
 
 -- NTLM alone, without a negotiation
-abbrev pub IsNtlmClient : ClientMode → Type 0
-IsNtlmClient (client_mode.Ntlm config) = Unit {0}
-IsNtlmClient (client_mode.Negotiate config) = ⊥
-
 abbrev pub IsNtlmServer : ServerMode → Type 0
 IsNtlmServer (server_mode.Ntlm config) = Unit {0}
 IsNtlmServer (server_mode.Negotiate config) = ⊥
-
--- the challenge that it sends has 8 bytes
-abbrev pub HasChallenge : ServerMode → Type 0
-HasChallenge (server_mode.Ntlm config) = length config.challenge ≡ 8
-HasChallenge (server_mode.Negotiate config) = Unit {0}
 
 -- the first entry of the identity's name, but for the case of ASCII letters, has its password
 pub record HasEntry (entries : List AuthIdentity) (identity : AuthIdentity) : Type 0 where
@@ -129,10 +120,6 @@ abbrev pub ComesToOkIn : ℕ → AuthIdentity → Result Delegation DelegateErro
 ComesToOkIn messages identity (Ok delegation) = (delegation.rounds ≡ messages) × (delegation.credentials ≡ identity)
 ComesToOkIn messages identity (Err errors.InsufficientMemory) = Unit {0}
 ComesToOkIn messages identity (Err error) = ⊥
-
--- three messages, as without a negotiation
-abbrev pub ComesToOk : AuthIdentity → Result Delegation DelegateError → Type 0
-ComesToOk = ComesToOkIn 3
 
 -- the client may not make as many messages; or there was no memory
 abbrev pub IsCutShort : Result Delegation DelegateError → Type 0
