@@ -8,7 +8,8 @@ use Rattle.sspi_ber.specs.Outside.{Answers, Reads}
 use Rattle.std.proofs.lemmas.Bool.{le-ltb}
 use Rattle.std.proofs.lemmas.List.{length-append}
 use Rattle.sspi_ber.proofs.PiecesMatch.{length_match, limited_takes}
-use Rattle.sspi_ber.specs.Pieces.{byte_at, is_octet_count, limited_at, length_at, sized_length_at, header_at, sized_header_at}
+use Rattle.sspi_ber.specs.Pieces.{byte_at, is_octet_count, limited_at, length_at, header_at, sized_header_at}
+use Rattle.sspi_ber.specs.Sized.{sized_length_at}
 
 abbrev whole : ℕ × ℕ → ℕ × ℕ
 whole sized = (sized.0, sized.1)

@@ -4,5 +4,6 @@ pub mod Kinds
 pub mod Outside
 pub mod Forms
 pub mod Pieces
+pub mod Sized
 pub mod Short
 pub mod Identifier

@@ -38,12 +38,6 @@ header_at tag bytes = do
   first ← byte_at bytes
   if first.0 == tag then length_at first.1 else Err Invalid
 
--- a length, and how many bytes it takes
-unfoldable pub sized_length_at : List ℕ → Read (ℕ × ℕ)
-sized_length_at bytes = do
-  n ← length_at bytes
-  Ok ((n.0, length bytes - length n.1), n.1)
-
 -- the length in a header, and how many bytes the header takes
 unfoldable pub sized_header_at : ℕ → List ℕ → Read (ℕ × ℕ)
 sized_header_at tag bytes = do

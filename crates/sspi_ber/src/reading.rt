@@ -2,17 +2,8 @@ ghost use Rattle.std.specs.Prelude.{◌≡◌, ◌≤◌, IfOk, IsTrue};
 ghost use Rattle.sspi_ber.specs.Forms.{is_integer_size};
 ghost use Rattle.sspi_ber.specs.Identifier.{contextual_identifier};
 ghost use Rattle.sspi_ber.specs.Outside.{Reads, ReadCause, LeavesRest};
-ghost use Rattle.sspi_ber.specs.Pieces.{
-  byte_at,
-  is_octet_count,
-  limited_at,
-  length_at,
-  sized_length_at,
-  header_at,
-  sized_header_at,
-  number_at,
-  integer_at,
-};
+ghost use Rattle.sspi_ber.specs.Pieces.{byte_at, is_octet_count, limited_at, length_at, header_at, sized_header_at, number_at, integer_at};
+ghost use Rattle.sspi_ber.specs.Sized.{sized_length_at};
 
 use crate::identifier::{INTEGER, OCTET_STRING, Pc, SEQUENCE, contextual_identifier};
 use crate::limit::{MAX_CONTENT, MAX_LENGTH_OCTETS};
@@ -69,7 +60,7 @@ fn is_octet_count(count: u32) -> bool
 }
 
 /// A length in one of its four forms, and how many bytes it took.
-#[tactic(auto, unfolding(crate::specs::Pieces::sized_length_at, crate::specs::Pieces::length_at))]
+#[tactic(auto, unfolding(crate::specs::Sized::sized_length_at, crate::specs::Pieces::length_at))]
 fn read_sized_length<S: Source>(source: &mut S) -> Result<(u32, usize), WireKind>
     ensures read { Reads (λ sized. (sized.0, sized.1)) (S.left source.old) (S.left source.new) result sized_length_at }
     ensures size { IfOk result (λ sized. sized.1 ≤ 4) }
@@ -115,7 +106,7 @@ pub fn read_header<S: Source>(source: &mut S, tag: u8) -> Result<u32, WireKind>
 }
 
 /// The same with how many bytes the header took.
-#[tactic(auto, unfolding(crate::specs::Pieces::sized_header_at, crate::specs::Pieces::header_at, crate::specs::Pieces::sized_length_at))]
+#[tactic(auto, unfolding(crate::specs::Pieces::sized_header_at, crate::specs::Pieces::header_at, crate::specs::Sized::sized_length_at))]
 pub fn read_sized_header<S: Source>(source: &mut S, tag: u8) -> Result<(u32, usize), WireKind>
     ensures read { Reads (λ sized. (sized.0, sized.1)) (S.left source.old) (S.left source.new) result (sized_header_at tag) }
     ensures size { IfOk result (λ sized. sized.1 ≤ 5) }

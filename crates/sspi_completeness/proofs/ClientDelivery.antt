@@ -22,7 +22,7 @@ use Rattle.sspi_credssp.specs.Turn.{ClientFrame, OnceNegotiated}
 use Rattle.sspi_credssp.specs.Context.{ContextSetting, ForClient}
 use Rattle.sspi_credssp.specs.Counts.{sealings_in, unsealings_in, SealsIn, SameBut, cleared}
 use Rattle.sspi_credssp.specs.Credentials.{delegated_text, IfText}
-use Rattle.sspi_credssp.specs.Exchange.{opens_other, BlobStops, CheckedCause, altered, unsealed, ProofCause}
+use Rattle.sspi_credssp.specs.Exchange.{BlobStops, opens_other, altered, unsealed, CheckedCause, ProofCause}
 use Rattle.sspi_credssp.specs.PublicKey.{prescribed}
 use Rattle.sspi_credssp.specs.Requests.{is_code}
 use Rattle.sspi_credssp.specs.declared.turn.Outcome.{Outcome}

@@ -18,7 +18,7 @@ use Rattle.sspi_credssp.specs.Acts.{sealings_by, unsealings_by}
 use Rattle.sspi_credssp.specs.Begun.{IfContext}
 use Rattle.sspi_credssp.specs.Context.{ContextSetting}
 use Rattle.sspi_credssp.specs.Counts.{sealings_in, unsealings_in, SealsIn, SameBut, cleared}
-use Rattle.sspi_credssp.specs.Exchange.{opens_other, CheckedCause, altered, unsealed, ProofCause}
+use Rattle.sspi_credssp.specs.Exchange.{CheckedCause, ProofCause, opens_other, altered, unsealed}
 use Rattle.sspi_credssp.specs.PublicKey.{prescribed}
 use Rattle.sspi_credssp.specs.Requests.{nonce_of, IsLong}
 use Rattle.sspi_credssp.specs.Proxy.{ProxyMeaning}

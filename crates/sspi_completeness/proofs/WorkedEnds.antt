@@ -23,7 +23,8 @@ use Rattle.sspi_completeness.specs.Examples.{example_target}
 use Rattle.sspi_completeness.specs.Matching.{AreMatching, HasEntry, MatchModes, messages_of}
 use Rattle.sspi_completeness.specs.Matching.{messages_in, delegated_as, ComesToOkIn, IsCutShort}
 use Rattle.sspi_completeness.specs.Matching.{NoneFailed, none_told, IsUndisturbed, unedited}
-use Rattle.sspi_completeness.specs.Worked.{Example, IsClientOf, IsServerOf, Matches, AnswersIn}
+use Rattle.sspi_completeness.specs.Worked.{Example, IsClientOf, IsServerOf, Matches}
+use Rattle.sspi_completeness.specs.Answered.{AnswersIn}
 
 -- a table that begins with an identity has it
 pub own_entry : (identity : AuthIdentity) → HasEntry (identity ∷ []) identity

@@ -29,7 +29,8 @@ use Rattle.sspi_tsreq.specs.declared.mode.CredSspMode.{CredSspMode}
 use Rattle.sspi_completeness.specs.Examples.{example_target, example_kdc}
 use Rattle.sspi_completeness.specs.Matching.{IsShort, key_limit}
 use Rattle.sspi_completeness.specs.Negotiating.{AreNegotiating, kdc_url, messages_by}
-use Rattle.sspi_completeness.specs.Worked.{Example, Matches, ann, ann_of_realm, realm_kerberos, client_ntlm, server_ntlm}
+use Rattle.sspi_completeness.specs.Worked.{Example, Matches, realm_kerberos, client_ntlm, server_ntlm}
+use Rattle.sspi_completeness.specs.Answered.{ann, ann_of_realm}
 use Rattle.sspi_completeness.specs.Worked.{with_ntlm, with_kerberos, with_ticket, with_ntlm_alone, ntlm_example}
 use Rattle.sspi_completeness.specs.Worked.{negotiated, negotiated_at_version_4, negotiated_with_a_long_key}
 use Rattle.sspi_completeness.specs.Worked.{user_to_user, given_up_for_ntlm, realm_kdc}

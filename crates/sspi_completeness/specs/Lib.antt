@@ -2,3 +2,4 @@ pub mod Examples
 pub mod Matching
 pub mod Negotiating
 pub mod Worked
+pub mod Answered

@@ -1,11 +1,10 @@
 -- Exchanges worked by hand: what the two ends of each are made of, that they match, and what comes of them.
-use Rattle.std.specs.Prelude.{◌≡◌, ℕ, ◌^◌, ◌<◌, ◌≤◌, List, [], ◌∷◌, length, codes, replicate, nat_lt, Option, None, Some, Result}
+use Rattle.std.specs.Prelude.{◌≡◌, ℕ, ◌^◌, ◌<◌, ◌≤◌, List, [], ◌∷◌, length, codes, replicate, nat_lt, Option, None, Some}
 use Rattle.sspi_names.specs.declared.credentials.Credentials.TheVariants as credentials
 use Rattle.sspi_names.specs.declared.identity.AuthIdentity.{AuthIdentity}
 use Rattle.sspi_names.specs.declared.kdc_table.KdcEntry.{KdcEntry}
 use Rattle.sspi_names.specs.declared.network.NetworkRequest.{NetworkRequest}
 use Rattle.sspi_names.specs.Identity.{IsIdentity}
-use Rattle.sspi_names.specs.Name.{Name, down_level, principal}
 use Rattle.sspi_mech.specs.declared.config.KerberosConfig.{KerberosConfig}
 use Rattle.sspi_mech.specs.declared.config.NtlmConfig.{NtlmConfig}
 use Rattle.sspi_mech.specs.declared.step.Reply.{Reply}
@@ -22,10 +21,9 @@ use Rattle.sspi_credssp.specs.declared.mode.ServerMode.TheVariants as server_mod
 use Rattle.sspi_credssp.specs.Client.{ClientView, IsFreshClient}
 use Rattle.sspi_credssp.specs.Server.{ServerView, IsFreshServer}
 use Rattle.sspi_credssp.specs.Table.{TableView}
-use Rattle.sspi_delegate.specs.declared.answer.Delegation.{Delegation}
-use Rattle.sspi_delegate.specs.declared.answer.DelegateError.{DelegateError}
+use Rattle.sspi_completeness.specs.Answered.{ann, ann_of_realm, identity_by}
 use Rattle.sspi_completeness.specs.Examples.{example_target}
-use Rattle.sspi_completeness.specs.Matching.{MatchModes, messages_of, IsShort, key_limit, ComesToOkIn, IsCutShort}
+use Rattle.sspi_completeness.specs.Matching.{MatchModes, messages_of, IsShort, key_limit}
 
 -- ---- what an exchange is made of
 
@@ -74,30 +72,6 @@ pub record Matches (told : Option (ℕ → NetworkRequest → Reply)) (call mess
   pub server_version : x.server_version < 2 ^ 32
   pub modes : MatchModes told call example_target x.identity x.client x.server
   pub counted : messages_of told call example_target x.identity x.client x.server modes ≡ messages
-
--- ---- what comes of it
-
--- Ok after so many messages of the client, with this identity, where it may make as many, and else the turns are spent; or there
--- was no memory.
-pub record AnswersIn (messages turns : ℕ) (identity : AuthIdentity) (answer : Result Delegation DelegateError) : Type 0 where
-  pub comes : messages ≤ turns → ComesToOkIn messages identity answer
-  pub short : turns < messages → IsCutShort answer
-
--- ---- who delegates
-
-abbrev pub identity_by : Name → List ℕ → AuthIdentity
-identity_by name password = record { username = name; password = record { value = password } }
-
--- DOM\ann, and ann@example.com
-abbrev pub ann : AuthIdentity
-ann = identity_by (down_level (codes "ann") (codes "DOM")) (codes "pw")
-
-abbrev pub ann_of_realm : List ℕ → AuthIdentity
-ann_of_realm password = identity_by (principal (codes "ann") (codes "example.com")) password
-
--- who comes of a client that keeps its credentials
-abbrev pub nobody : AuthIdentity
-nobody = identity_by (down_level [] []) []
 
 -- ---- how the ends authenticate
 

@@ -6,7 +6,8 @@ ghost use Rattle.std.specs.Prelude.{◌≡◌, ◌≤◌, ℕ, Some, IfOk, IsSom
 ghost use Rattle.sspi_names.specs.Name.{parse_name};
 ghost use Rattle.sspi_names.specs.declared.identity.AuthIdentity.{AuthIdentity};
 ghost use Rattle.sspi_completeness.specs.Matching.{delegated_as};
-ghost use Rattle.sspi_completeness.specs.Worked.{Example, Matches, AnswersIn, ann, ann_of_realm, nobody};
+ghost use Rattle.sspi_completeness.specs.Worked.{Example, Matches};
+ghost use Rattle.sspi_completeness.specs.Answered.{AnswersIn, ann, ann_of_realm, nobody};
 
 mod ends;
 mod parts;

@@ -3,7 +3,8 @@ use Rattle.std.proofs.Common.{◌≡◌, ◌∙◌, ◌+◌, ◌-◌, ◌<◌, �
 use Rattle.std.proofs.Common.{Some, Result, Ok, Err, OnOk, refl, sym, ap, subst, arith}
 use Rattle.sspi_credssp.specs.declared.proxy.ProxyError.{ProxyError}
 use Rattle.sspi_credssp.specs.declared.proxy.ProxyError.TheVariants.{NotFound, Failed, InsufficientMemory}
-use Rattle.sspi_credssp.specs.Proxy.{ProxyMeaning, ProxyTells, HasAnswered, HasAsked, IsLater, IsAsked, FailsAfter, TellsFailure}
+use Rattle.sspi_credssp.specs.Proxy.{ProxyMeaning, ProxyTells, HasAnswered, HasAsked, IsAsked, FailsAfter, TellsFailure}
+use Rattle.sspi_credssp.specs.ServerStage.{IsLater}
 use Rattle.sspi_credssp.specs.Proxy.{FailsAsTold, LookUpCause, counted_on, counted_after}
 use Rattle.sspi_credssp.proofs.Proxies.{calm_look_up}
 

@@ -25,7 +25,7 @@ use Rattle.sspi_credssp.specs.ClientStep.{refused_answer}
 use Rattle.sspi_credssp.specs.Context.{ContextSetting, ForClient}
 use Rattle.sspi_credssp.specs.Counts.{is_waiting_in}
 use Rattle.sspi_credssp.specs.Credentials.{delegated_text}
-use Rattle.sspi_credssp.specs.Exchange.{BlobStops, CheckedCause, altered, unsealed, ProofCause}
+use Rattle.sspi_credssp.specs.Exchange.{BlobStops, altered, unsealed, CheckedCause, ProofCause}
 use Rattle.sspi_credssp.specs.Heeded.{NeverRefuses, ClientMeetsOld}
 use Rattle.sspi_credssp.specs.Noted.{is_old_in, is_altered_in}
 use Rattle.sspi_credssp.specs.PublicKey.{prescribed}

@@ -4,8 +4,10 @@ use Rattle.sspi_types.specs.declared.error.Error.{Error}
 use Rattle.sspi_types.specs.declared.error_kind.ErrorKind.{ErrorKind}
 use Rattle.sspi_types.specs.declared.nstatus.NStatusCode.{NStatusCode}
 use Rattle.sspi_mech.specs.declared.refusal.Refusal.{Refusal}
-use Rattle.sspi_mech.specs.Refusals.{answered, error_of, refusal_of}
-use Rattle.sspi_credssp.specs.Refusal.{IsRefusedBy, IsRefusedFor}
+use Rattle.sspi_mech.specs.Refusals.{error_of, refusal_of}
+use Rattle.sspi_mech.specs.Answered.{answered}
+use Rattle.sspi_credssp.specs.Refusal.{IsRefusedBy}
+use Rattle.sspi_credssp.specs.Refused.{IsRefusedFor}
 
 -- an error without a code is all in its kind and its reason
 pub codeless_again : (error : Error) → error.nstatus ≡ None → error_of (refusal_of error) ≡ error

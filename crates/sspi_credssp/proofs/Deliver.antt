@@ -6,8 +6,7 @@ use Rattle.sspi_mech.specs.Context.{IsContext}
 use Rattle.sspi_mech.specs.Meaning.{Meaning}
 use Rattle.sspi_credssp.specs.declared.acts.Acts.{Acts}
 use Rattle.sspi_credssp.specs.Counts.{silent, cleared}
-use Rattle.sspi_credssp.specs.Exchange.{Exchanges}
-use Rattle.sspi_credssp.specs.Opened.{OpensAs, HasOpened}
+use Rattle.sspi_credssp.specs.Opened.{Exchanges, OpensAs, HasOpened}
 
 -- an end notes an act by setting this flag, whatever it has checked
 pub record IsNoted (flag : Acts → Bool) (set : Acts → Acts) : Type 0 where

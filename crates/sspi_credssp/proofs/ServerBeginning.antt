@@ -20,7 +20,8 @@ use Rattle.sspi_credssp.specs.Noted.{noted_with}
 use Rattle.sspi_credssp.specs.Proxy.{ProxyMeaning}
 use Rattle.sspi_credssp.specs.Server.{ServerView}
 use Rattle.sspi_credssp.specs.ServerStep.{OnStep}
-use Rattle.sspi_credssp.specs.ServerTurn.{BeginRefused, ServerTurn, UnlessMade, IsNew, is_made, IsUnstepped}
+use Rattle.sspi_credssp.specs.ServerTurn.{ServerTurn, UnlessMade, IsNew, is_made, IsUnstepped}
+use Rattle.sspi_credssp.specs.ServerStage.{BeginRefused}
 use Rattle.sspi_credssp.proofs.ClientReady.{not_yet}
 
 pub refused_both : {T E : Type 0} (r : Result T E) (Q R : Type 0) → OnErr r Q → OnErr r R → OnErr r (Q × R)

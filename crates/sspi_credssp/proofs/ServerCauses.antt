@@ -12,7 +12,8 @@ use Rattle.sspi_credssp.specs.declared.server_state.ServerError.{ServerError}
 use Rattle.sspi_credssp.specs.declared.state.CredSspState.{CredSspState}
 use Rattle.sspi_credssp.specs.Begun.{MadeOr}
 use Rattle.sspi_credssp.specs.Context.{ContextSetting}
-use Rattle.sspi_credssp.specs.Proxy.{ProxyMeaning, ProxyTells, IsLater, AreFound}
+use Rattle.sspi_credssp.specs.Proxy.{ProxyMeaning, ProxyTells, AreFound}
+use Rattle.sspi_credssp.specs.ServerStage.{IsLater}
 use Rattle.sspi_credssp.specs.Server.{ServerView}
 use Rattle.sspi_credssp.specs.ServerCause.{ServerCause, MakeCause, StateCause, NegoCause, AfterCause, OverCause, known, IdentifyCause}
 use Rattle.sspi_credssp.specs.ServerCause.{nameless, looked, unset, LookUpRefused, failed, nobody}

@@ -5,16 +5,19 @@ use Rattle.sspi_types.specs.declared.error_kind.ErrorKind.TheVariants.{Insuffici
 use Rattle.sspi_names.specs.declared.identity.AuthIdentity.{AuthIdentity}
 use Rattle.sspi_mech.specs.Meaning.{Meaning}
 use Rattle.sspi_mech.specs.declared.refusal.Refusal.{Refusal}
-use Rattle.sspi_mech.specs.Refusals.{answered, error_of}
+use Rattle.sspi_mech.specs.Refusals.{error_of}
+use Rattle.sspi_mech.specs.Answered.{answered}
 use Rattle.sspi_credssp.specs.declared.acts.Acts.{Acts}
 use Rattle.sspi_credssp.specs.Acts.{no_acts, count_of}
 use Rattle.sspi_credssp.specs.Context.{ContextSetting}
 use Rattle.sspi_credssp.specs.Counts.{sealings_in, unsealings_in, SameBut}
-use Rattle.sspi_credssp.specs.Exchange.{Opens, OpensIdentity, IsSealedBlob, BlobStops}
+use Rattle.sspi_credssp.specs.Exchange.{OpensIdentity, BlobStops}
+use Rattle.sspi_credssp.specs.Opened.{Opens, IsSealedBlob}
 use Rattle.sspi_credssp.specs.Requests.{IsLong}
 use Rattle.sspi_credssp.specs.Server.{ServerView}
 use Rattle.sspi_credssp.specs.ServerCause.{OpenedCause}
-use Rattle.sspi_credssp.specs.ServerTurn.{ServerOpens, ServerOpensBlob, HoldsIdentity}
+use Rattle.sspi_credssp.specs.ServerTurn.{HoldsIdentity}
+use Rattle.sspi_credssp.specs.ServerStage.{ServerOpens, ServerOpensBlob}
 
 long_blob : (field : Option (List ℕ)) (blob : List ℕ) → IsSealedBlob field blob → IsLong field
 long_blob None blob h = absurd h

@@ -7,7 +7,7 @@ use Rattle.sspi_credssp.specs.declared.acts.Acts.{Acts}
 use Rattle.sspi_credssp.specs.declared.state.CredSspState.TheVariants.{NegoToken}
 use Rattle.sspi_credssp.specs.Context.{ContextSetting}
 use Rattle.sspi_credssp.specs.Server.{ServerView}
-use Rattle.sspi_credssp.specs.ServerTurn.{IsReady}
+use Rattle.sspi_credssp.specs.ServerStage.{IsReady}
 use Rattle.sspi_credssp.proofs.ClientReady.{still_unspent}
 
 module _ {C P : Type 0} (c : Meaning ContextSetting C) where

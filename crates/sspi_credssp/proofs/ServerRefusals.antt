@@ -13,7 +13,8 @@ use Rattle.sspi_credssp.specs.declared.state.CredSspState.TheVariants.{NegoToken
 use Rattle.sspi_credssp.specs.Context.{ContextSetting}
 use Rattle.sspi_credssp.specs.ErrorRequest.{error_request}
 use Rattle.sspi_credssp.specs.Server.{ServerView}
-use Rattle.sspi_credssp.specs.ServerTurn.{ServerTurn, ServerGoes, HaltedTurn, answered_by}
+use Rattle.sspi_credssp.specs.ServerTurn.{ServerTurn, ServerGoes}
+use Rattle.sspi_credssp.specs.ServerStage.{HaltedTurn, answered_by}
 use Rattle.sspi_credssp.specs.declared.turn.Outcome.TheVariants as outcome
 
 same_request : (state : CredSspState) (version v : ℕ) (kind : ErrorKind) (d : TsRequest) →

@@ -13,7 +13,8 @@ use Rattle.sspi_credssp.specs.Context.{ContextSetting}
 use Rattle.sspi_credssp.specs.Counts.{SameBut}
 use Rattle.sspi_credssp.specs.Proxy.{ProxyMeaning}
 use Rattle.sspi_credssp.specs.Server.{ServerView}
-use Rattle.sspi_credssp.specs.ServerStep.{Knowing, Unknown, Completed, Accepted, AcceptedSoFar, RefusedAt, CompletedStep, HasAccepted}
+use Rattle.sspi_credssp.specs.ServerStep.{Knowing, Unknown, Completed, Accepted, AcceptedSoFar, RefusedAt, HasAccepted}
+use Rattle.sspi_credssp.specs.ServerStage.{CompletedStep}
 use Rattle.sspi_credssp.specs.ServerStep.{HasCome, DoneStep, OnStep, refused_step, known_at, recounted, so_far}
 use Rattle.sspi_credssp.specs.Shown.{IsOver}
 use Rattle.sspi_credssp.proofs.Walks.{recounted_as, silent_as}

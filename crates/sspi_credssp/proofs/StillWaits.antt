@@ -18,7 +18,8 @@ use Rattle.sspi_credssp.specs.ClientCall.{Awaits}
 use Rattle.sspi_credssp.specs.ClientStage.{KeepsRequest}
 use Rattle.sspi_credssp.specs.ClientStep.{Asked, StepsTo, Walked, still_asked}
 use Rattle.sspi_mech.specs.declared.refusal.Refusal.{Refusal}
-use Rattle.sspi_mech.specs.Refusals.{answered, error_of}
+use Rattle.sspi_mech.specs.Refusals.{error_of}
+use Rattle.sspi_mech.specs.Answered.{answered}
 use Rattle.sspi_credssp.specs.ClientTurn.{IsReady, IsUnderway}
 use Rattle.sspi_credssp.specs.Context.{ContextSetting}
 use Rattle.sspi_credssp.specs.Counts.{is_waiting_in}

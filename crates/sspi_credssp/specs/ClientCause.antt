@@ -19,7 +19,7 @@ use Rattle.sspi_credssp.specs.Client.{ClientView}
 use Rattle.sspi_credssp.specs.Context.{ContextSetting, ForClient}
 use Rattle.sspi_credssp.specs.Counts.{is_waiting_in}
 use Rattle.sspi_credssp.specs.Credentials.{delegated_text}
-use Rattle.sspi_credssp.specs.Exchange.{ProofCause, BlobStops}
+use Rattle.sspi_credssp.specs.Exchange.{BlobStops, ProofCause}
 use Rattle.sspi_credssp.specs.Noted.{is_altered_in, is_old_in}
 use Rattle.sspi_credssp.specs.PublicKey.{prescribed}
 use Rattle.sspi_credssp.specs.Requests.{is_code}

@@ -1,5 +1,5 @@
 -- A client's turn (MS-CSSP 3.1.5.1).
-use Rattle.std.specs.Prelude.{◌≡◌, ℕ, ◌+◌, ◌-◌, ◌||◌, List, [], Option, None, Some, is_some, IsSome, Result, Ok, Err, Bool, true}
+use Rattle.std.specs.Prelude.{◌≡◌, ℕ, ◌+◌, ◌-◌, ◌||◌, [], Option, None, Some, is_some, IsSome, Result, Ok, Err, Bool, true}
 use Rattle.std.specs.Prelude.{false, if◌then◌else◌}
 use Rattle.sspi_types.specs.declared.error.Error.{Error}
 use Rattle.sspi_mech.specs.Meaning.{Meaning}
@@ -8,20 +8,18 @@ use Rattle.sspi_credssp.specs.declared.client_state.ClientState.{ClientState}
 use Rattle.sspi_credssp.specs.declared.client_state.ClientState.TheVariants.{ReplyNeeded, FinalMessage}
 use Rattle.sspi_credssp.specs.declared.client_state.Progress.{Progress}
 use Rattle.sspi_credssp.specs.declared.client_state.Progress.TheVariants.{Suspended, Completed}
-use Rattle.sspi_credssp.specs.declared.public_key.EndpointType.TheVariants.{Client, Server}
+use Rattle.sspi_credssp.specs.declared.public_key.EndpointType.TheVariants.{Client}
 use Rattle.sspi_credssp.specs.declared.state.CredSspState.{CredSspState}
 use Rattle.sspi_credssp.specs.declared.state.CredSspState.TheVariants.{NegoToken, AuthInfo, Final}
-use Rattle.sspi_credssp.specs.Acts.{no_acts, count_of, sealings_by, unsealings_by}
+use Rattle.sspi_credssp.specs.Acts.{no_acts, sealings_by, unsealings_by}
 use Rattle.sspi_credssp.specs.Client.{ClientView}
 use Rattle.sspi_credssp.specs.Context.{ContextSetting}
-use Rattle.sspi_credssp.specs.Counts.{sealings_in, unsealings_in, IsUnusedIn, SameBut, SealsIn, OpensIn, is_waiting_in}
-use Rattle.sspi_credssp.specs.Credentials.{delegated_text, IfText}
+use Rattle.sspi_credssp.specs.Counts.{sealings_in, unsealings_in, IsUnusedIn, SameBut, is_waiting_in}
 use Rattle.sspi_credssp.specs.Held.{HoldsClient}
 use Rattle.sspi_credssp.specs.Noted.{is_altered_in, is_old_in, noted_in}
-use Rattle.sspi_credssp.specs.PublicKey.{prescribed}
-use Rattle.sspi_credssp.specs.Requests.{is_code, IsLong}
+use Rattle.sspi_credssp.specs.Requests.{is_code}
 use Rattle.sspi_credssp.specs.Shown.{client_shown, ShowsClient}
-use Rattle.sspi_credssp.specs.Turn.{UnlessRefused, AtNoted, FitsNoted, ClientFrame, OnceNegotiated, IsUnspent}
+use Rattle.sspi_credssp.specs.Turn.{UnlessRefused, FitsNoted, ClientFrame, OnceNegotiated, IsUnspent}
 use Rattle.sspi_credssp.specs.declared.turn.End.TheVariants.{Client}
 use Rattle.sspi_credssp.specs.declared.turn.Outcome.{Outcome}
 use Rattle.sspi_credssp.specs.declared.turn.Outcome.TheVariants as outcome
@@ -92,44 +90,6 @@ module _ {C : Type 0} (c : Meaning ContextSetting C) where
     pub turn : IsClientTurn (client_frame old new) (client_turn d out new)
     pub moves : ClientMoves old d out new
 
-  -- Sealing the client's proof: refused it leaves the client as it was; else the blob is the context's last message.
-  pub record Proved (old : ClientView C) (blob : List ℕ) (new : ClientView C) : Type 0 where
-    pub rest : new ≡ record old { context = new.context; acts = record old.acts { proved = true } }
-    pub noted : IsSome old.noted
-    pub proof : AtNoted old.noted (λ noted. SealsIn c new.context (sealings_in c new.context - 1)
-        (prescribed Client noted old.settings.nonce old.settings.public_key) (Some blob))
-    pub sealings : sealings_in c new.context ≡ sealings_in c old.context + 1
-    pub unsealings : unsealings_in c new.context ≡ unsealings_in c old.context
-    pub begun : IsSome new.context
-
-  abbrev pub ClientProves : ClientView C → Result (List ℕ) Error → ClientView C → Type 0
-  ClientProves old (Ok blob) new = Proved old blob new
-  ClientProves old (Err error) new = new ≡ old
-
-  -- Opening the server's proof, and sealing the credentials where it was the right one.
-  pub record ClientOpens (old : ClientView C) (field : Option (List ℕ)) (new : ClientView C) : Type 0 where
-    pub rest : new ≡ record old { context = new.context; acts = new.acts }
-    pub acts : new.acts ≡ record no_acts { checked = new.acts.checked; sealed = new.acts.sealed }
-    pub checked : new.acts.checked ≡ true → IsLong field
-    pub sealed : new.acts.sealed ≡ true → (new.acts.checked ≡ true) ×
-        AtNoted old.noted (λ noted. OpensIn c new.context (unsealings_in c new.context - 1) field
-        (prescribed Server noted old.settings.nonce old.settings.public_key))
-    pub sealings : sealings_in c new.context ≡ sealings_in c old.context + count_of new.acts.sealed
-    pub unsealings : unsealings_in c new.context ≡ unsealings_in c old.context + count_of new.acts.checked
-    pub bare : SameBut c old.context new.context
-
-  pub record ClientSeals (old : ClientView C) (blob : List ℕ) (new : ClientView C) : Type 0 where
-    pub begun : IsSome new.context
-    pub noted : IsSome old.noted
-    pub checked : new.acts.checked ≡ true
-    pub sealed : new.acts.sealed ≡ true
-    pub credentials : IfText (delegated_text old.settings.credentials old.settings.delegation)
-        (λ text. SealsIn c new.context (sealings_in c new.context - 1) text (Some blob))
-
-  abbrev pub ClientDelivers : ClientView C → Option (List ℕ) → Result (List ℕ) Error → ClientView C → Type 0
-  ClientDelivers old field (Ok blob) new = ClientOpens old field new × ClientSeals old blob new
-  ClientDelivers old field (Err error) new = ClientOpens old field new
-
   -- A turn on d that began at `start` has come past the version check. What follows speaks of the context as it is now.
   pub record IsReady (start : ClientView C) (d : TsRequest) (now : ClientView C) : Type 0 where
     pub idle : is_waiting_in c start.context ≡ false
@@ -154,10 +114,6 @@ module _ {C : Type 0} (c : Meaning ContextSetting C) where
   abbrev pub CompletedTurn : ClientView C → TsRequest → ClientState → ClientView C → Type 0
   CompletedTurn old d (ReplyNeeded reply) new = ClientTurn old d (outcome.Reply reply) new
   CompletedTurn old d (FinalMessage reply) new = ClientTurn old d (outcome.Final reply) new
-
-  abbrev pub ClientAnswers : ClientView C → TsRequest → Result ClientState Error → ClientView C → Type 0
-  ClientAnswers old d (Ok state) new = CompletedTurn old d state new
-  ClientAnswers old d (Err error) new = ClientTurn old d (outcome.Refused error.error_type None) new
 
   abbrev pub ClientGoes : ClientView C → TsRequest → Result Progress Error → ClientView C → Type 0
   ClientGoes old d (Ok (Completed state)) new = CompletedTurn old d state new

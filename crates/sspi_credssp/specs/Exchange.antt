@@ -1,25 +1,12 @@
 -- What is opened of a peer, and what an end answers to it.
-use Rattle.std.specs.Prelude.{◌≡◌, ◌≢◌, ◌≤◌, ℕ, ◌+◌, ◌-◌, List, length, Bool, Option, None, Some, Ok, true, false, nat_lt}
-use Rattle.sspi_names.specs.declared.identity.AuthIdentity.{AuthIdentity}
+use Rattle.std.specs.Prelude.{◌≢◌, ◌≡◌, ℕ, ◌-◌, List, length, Bool, Option, None, Some, Ok, true, nat_lt, false}
 use Rattle.sspi_types.specs.declared.error_kind.ErrorKind.{ErrorKind}
 use Rattle.sspi_types.specs.declared.error_kind.ErrorKind.TheVariants.{InvalidToken, MessageAltered}
-use Rattle.sspi_mech.specs.Calls.{ToUnseal}
+use Rattle.sspi_names.specs.declared.identity.AuthIdentity.{AuthIdentity}
 use Rattle.sspi_mech.specs.Meaning.{Meaning}
-use Rattle.sspi_credssp.specs.declared.acts.Acts.{Acts}
-use Rattle.sspi_credssp.specs.Acts.{count_of}
-use Rattle.sspi_credssp.specs.Counts.{cleared}
+use Rattle.sspi_mech.specs.Calls.{ToUnseal}
 use Rattle.sspi_credssp.specs.Credentials.{delegated_identity}
 use Rattle.sspi_credssp.specs.Stops.{StopsIf}
-
--- the field holds this blob, which is long enough to hold a seal
-pub record IsLongBlob (held blob : List ℕ) : Type 0 where
-  pub same : held ≡ blob
-  pub long : 16 ≤ length blob
-  pub passes : nat_lt (length held) 16 ≡ false
-
-abbrev pub IsSealedBlob : Option (List ℕ) → List ℕ → Type 0
-IsSealedBlob None blob = ⊥
-IsSealedBlob (Some held) blob = IsLongBlob held blob
 
 -- a field that is absent, or too short to hold a seal, is refused; else it goes on
 abbrev pub BlobStops : Option (List ℕ) → ErrorKind → (List ℕ → Type 0) → Type 0
@@ -27,6 +14,11 @@ BlobStops None kind Later = kind ≡ InvalidToken
 BlobStops (Some blob) kind Later = StopsIf (nat_lt (length blob) 16) InvalidToken kind (Later blob)
 
 module _ {S C : Type 0} (c : Meaning S C) where
+  -- the last blob that the context opened holds this identity
+  pub data OpensIdentity (m : C) (blob : List ℕ) (identity : AuthIdentity) : Type 0 where
+    opens_identity : (text : List ℕ) → c.opens m ((c.counts m).unsealings - 1) blob text → delegated_identity text ≡ Ok identity →
+        OpensIdentity m blob identity
+
   -- the last blob that the context opened holds another text than the proof
   pub data OpensOther (m : C) (blob proof : List ℕ) : Type 0 where
     opens_other : (text : List ℕ) → c.opens m ((c.counts m).unsealings - 1) blob text → text ≢ proof → OpensOther m blob proof
@@ -40,22 +32,3 @@ module _ {S C : Type 0} (c : Meaning S C) where
   abbrev pub ProofCause : Bool → C → List ℕ → List ℕ → Type 0 → ErrorKind → Type 0
   ProofCause false m blob proof Unsealed kind = c.refuses m (ToUnseal blob) kind
   ProofCause true m blob proof Unsealed kind = CheckedCause m blob proof Unsealed kind
-
-  -- an end opened the peer's proof, and perhaps sealed what it then owes: what that did to the context
-  pub record Exchanges (m : C) (blob proof : List ℕ) (m2 : C) (checked sealed : Bool) : Type 0 where
-    pub after_proof : sealed ≡ true → (checked ≡ true) × c.opens m2 ((c.counts m2).unsealings - 1) blob proof
-    pub sealings : (c.counts m2).sealings ≡ (c.counts m).sealings + count_of sealed
-    pub unsealings : (c.counts m2).unsealings ≡ (c.counts m).unsealings + count_of checked
-    pub bare : cleared c m2 ≡ cleared c m
-
-  -- the server opened the client's credentials, or did not
-  pub record Opens (m m2 : C) (before acts : Acts) : Type 0 where
-    pub acts_are : acts ≡ record before { opened = acts.opened }
-    pub sealings : (c.counts m2).sealings ≡ (c.counts m).sealings
-    pub unsealings : (c.counts m2).unsealings ≡ (c.counts m).unsealings + count_of acts.opened
-    pub bare : cleared c m2 ≡ cleared c m
-
-  -- the last blob that the context opened holds this identity
-  pub data OpensIdentity (m : C) (blob : List ℕ) (identity : AuthIdentity) : Type 0 where
-    opens_identity : (text : List ℕ) → c.opens m ((c.counts m).unsealings - 1) blob text → delegated_identity text ≡ Ok identity →
-        OpensIdentity m blob identity

@@ -22,6 +22,7 @@ pub mod Proxy
 pub mod PublicKey
 pub mod Queries
 pub mod Refusal
+pub mod Refused
 pub mod Requests
 pub mod Server
 pub mod ServerAsks

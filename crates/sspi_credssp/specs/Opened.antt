@@ -1,9 +1,21 @@
 -- What a blob opened to, beside the proof that was due.
-use Rattle.std.specs.Prelude.{◌≡◌, ℕ, ◌-◌, List, Bool, true, false}
+use Rattle.std.specs.Prelude.{◌≡◌, ℕ, ◌-◌, ◌+◌, ◌≤◌, List, length, Bool, true, false, Option, None, Some, nat_lt}
 use Rattle.sspi_mech.specs.Calls.{one_unsealing}
 use Rattle.sspi_mech.specs.Meaning.{Meaning}
 use Rattle.sspi_credssp.specs.declared.acts.Acts.{Acts}
+use Rattle.sspi_credssp.specs.Acts.{count_of}
+use Rattle.sspi_credssp.specs.Counts.{cleared}
 use Rattle.sspi_credssp.specs.Exchange.{OpensOther}
+
+-- the field holds this blob, which is long enough to hold a seal
+pub record IsLongBlob (held blob : List ℕ) : Type 0 where
+  pub same : held ≡ blob
+  pub long : 16 ≤ length blob
+  pub passes : nat_lt (length held) 16 ≡ false
+
+abbrev pub IsSealedBlob : Option (List ℕ) → List ℕ → Type 0
+IsSealedBlob None blob = ⊥
+IsSealedBlob (Some held) blob = IsLongBlob held blob
 
 -- the last blob that the context opened holds exactly this proof, or another text
 abbrev pub OpensAs : {S C : Type 0} → Meaning S C → C → List ℕ → List ℕ → Bool → Type 0
@@ -16,3 +28,18 @@ pub record HasOpened {S C : Type 0} (c : Meaning S C) (m m2 : C) (acts acts2 : A
   pub counted : m2 ≡ c.counted m (one_unsealing (c.counts m))
   pub count : c.counts m2 ≡ one_unsealing (c.counts m)
   pub holds : OpensAs c m2 blob proof same
+
+module _ {S C : Type 0} (c : Meaning S C) where
+  -- an end opened the peer's proof, and perhaps sealed what it then owes: what that did to the context
+  pub record Exchanges (m : C) (blob proof : List ℕ) (m2 : C) (checked sealed : Bool) : Type 0 where
+    pub after_proof : sealed ≡ true → (checked ≡ true) × c.opens m2 ((c.counts m2).unsealings - 1) blob proof
+    pub sealings : (c.counts m2).sealings ≡ (c.counts m).sealings + count_of sealed
+    pub unsealings : (c.counts m2).unsealings ≡ (c.counts m).unsealings + count_of checked
+    pub bare : cleared c m2 ≡ cleared c m
+
+  -- the server opened the client's credentials, or did not
+  pub record Opens (m m2 : C) (before acts : Acts) : Type 0 where
+    pub acts_are : acts ≡ record before { opened = acts.opened }
+    pub sealings : (c.counts m2).sealings ≡ (c.counts m).sealings
+    pub unsealings : (c.counts m2).unsealings ≡ (c.counts m).unsealings + count_of acts.opened
+    pub bare : cleared c m2 ≡ cleared c m

@@ -1,5 +1,5 @@
 -- The peers that a server knows when its context is made: what a negotiation is made with lists them by the proxy.
-use Rattle.std.specs.Prelude.{◌≡◌, ℕ, List, [], Option, None, Some}
+use Rattle.std.specs.Prelude.{ℕ, List, [], Option, None, Some}
 use Rattle.sspi_names.specs.declared.identity.AuthIdentity.{AuthIdentity}
 use Rattle.sspi_mech.specs.Meaning.{Meaning}
 use Rattle.sspi_negotiate.specs.declared.negotiate_config.NegotiateConfig.{NegotiateConfig}
@@ -61,8 +61,3 @@ list_calls (modes.Ntlm config) = 0
 abbrev pub lists_in : {C : Type 0} → Option C → ServerMode → ℕ
 lists_in None mode = list_calls mode
 lists_in (Some m) mode = 0
-
--- the peers that a context is made with: those that the proxy tells, where it tells them, and nobody without a negotiation
-abbrev pub IsListed : ServerMode → Option (List AuthIdentity) → List AuthIdentity → Type 0
-IsListed (modes.Negotiate config) told known = IsTold told known
-IsListed (modes.Ntlm config) told known = known ≡ []

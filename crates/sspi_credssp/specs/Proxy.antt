@@ -106,11 +106,6 @@ module _ {P : Type 0} (p : ProxyMeaning P) where
     pub cause : LookUpCause (p.faults before) (p.faults now) answer
     pub fails : FailsAsTold (p.told before).failing (p.calls before) (p.faults before) (p.faults now) answer
 
-  -- the same proxy, perhaps some calls later
-  pub record IsLater (before now : P) : Type 0 where
-    pub told_same : p.told now ≡ p.told before
-    pub faults_stay : p.faults before ≤ p.faults now
-
   -- the same proxy, at most so many calls later
   pub record IsAsked (limit : ℕ) (before now : P) : Type 0 where
     pub told_same : p.told now ≡ p.told before

@@ -3,17 +3,12 @@ use Rattle.std.specs.Prelude.{◌≡◌, ◌≢◌, None, Result, IfErr}
 use Rattle.sspi_types.specs.declared.error.Error.{Error}
 use Rattle.sspi_types.specs.declared.error_kind.ErrorKind.{ErrorKind}
 use Rattle.sspi_types.specs.declared.error_kind.ErrorKind.TheVariants.{InsufficientMemory}
-use Rattle.sspi_mech.specs.declared.refusal.Refusal.{Refusal}
 use Rattle.sspi_credssp.specs.declared.server_state.ServerError.{ServerError}
 
 -- of a call that is refused with an error; memory may be wanting at any time
 pub record IsRefusedBy {T : Type 0} (result : Result T Error) (causes : ErrorKind → Type 0) : Type 0 where
   pub kind : IfErr result (λ error. error.error_type ≢ InsufficientMemory → causes error.error_type)
   pub codeless : IfErr result (λ error. error.nstatus ≡ None)
-
--- of a call whose refusal has no code by its type
-abbrev pub IsRefusedFor : {T : Type 0} → Result T Refusal → (ErrorKind → Type 0) → Type 0
-IsRefusedFor result causes = IfErr result (λ refusal. refusal.error_type ≢ InsufficientMemory → causes refusal.error_type)
 
 -- of a server's turn, whose refusal hands the request back
 pub record IsTurnRefusedBy {T : Type 0} (result : Result T ServerError) (causes : ErrorKind → Type 0) : Type 0 where

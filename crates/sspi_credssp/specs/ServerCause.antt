@@ -21,7 +21,7 @@ use Rattle.sspi_credssp.specs.declared.state.CredSspState.TheVariants.{NegoToken
 use Rattle.sspi_credssp.specs.Begun.{BeginCause, IfContext, MadeOr}
 use Rattle.sspi_credssp.specs.Context.{ContextSetting, ForServer}
 use Rattle.sspi_credssp.specs.Credentials.{delegated_identity}
-use Rattle.sspi_credssp.specs.Exchange.{ProofCause, BlobStops}
+use Rattle.sspi_credssp.specs.Exchange.{BlobStops, ProofCause}
 use Rattle.sspi_credssp.specs.Noted.{VersionStops}
 use Rattle.sspi_credssp.specs.Proxy.{ProxyMeaning, ProxyTells, counted_on, AreFound}
 use Rattle.sspi_credssp.specs.PublicKey.{prescribed}

@@ -75,12 +75,6 @@ module _ {C : Type 0} (c : Meaning ContextSetting C) where
         (answer : Result Step Error) (m : C) : Type 0 where
       so_far : (known : Knowing) → Accepted start handle token known answer m → AcceptedSoFar start handle token answer m
 
-    -- once the step had ended the authentication: a call that is not refused has come to know its peer
-    abbrev pub CompletedStep : {T : Type 0} → ServerView C P → Option CredentialsBuffers → Option (List ℕ) → Result Step Error →
-        Result T Error → Option C → Type 0
-    CompletedStep start handle token answer (Ok value) context = IfContext context (Accepted start handle token Completed answer)
-    CompletedStep start handle token answer (Err error) context = IfContext context (AcceptedSoFar start handle token answer)
-
     -- how far a refused call had come: a peer is looked up only once the step had ended the authentication
     abbrev pub RefusedAt : Option SecurityStatus → ServerView C P → Option CredentialsBuffers → Option (List ℕ) → Result Step Error → C →
         Type 0

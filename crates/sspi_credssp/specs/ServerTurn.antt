@@ -1,34 +1,27 @@
 -- A server's turn (MS-CSSP 3.1.5.2).
-use Rattle.std.specs.Prelude.{◌≡◌, ℕ, ◌+◌, ◌-◌, List, [], Option, None, Some, IsSome, Result, Ok, Err, Bool, true, false, nat_lt}
+use Rattle.std.specs.Prelude.{◌≡◌, ℕ, ◌+◌, ◌-◌, List, [], Option, None, Some, IsSome, Result, Ok, Err, Bool, true, false}
 use Rattle.sspi_types.specs.declared.credential_use.CredentialUse.TheVariants.{Inbound}
-use Rattle.sspi_types.specs.declared.error.Error.{Error}
-use Rattle.sspi_types.specs.declared.error_kind.ErrorKind.{ErrorKind}
 use Rattle.sspi_types.specs.declared.security_status.SecurityStatus.{SecurityStatus}
 use Rattle.sspi_types.specs.declared.security_status.SecurityStatus.TheVariants as statuses
 use Rattle.sspi_names.specs.declared.identity.AuthIdentity.{AuthIdentity}
 use Rattle.sspi_mech.specs.Meaning.{Meaning}
 use Rattle.sspi_tsreq.specs.declared.request.TsRequest.{TsRequest}
 use Rattle.sspi_credssp.specs.declared.public_key.EndpointType.TheVariants.{Server}
-use Rattle.sspi_credssp.specs.declared.server_negotiation.Answer.{Answer}
-use Rattle.sspi_credssp.specs.declared.server_negotiation.Answer.TheVariants as answers
 use Rattle.sspi_credssp.specs.declared.server_state.ServerError.{ServerError}
 use Rattle.sspi_credssp.specs.declared.server_state.ServerState.{ServerState}
 use Rattle.sspi_credssp.specs.declared.server_state.ServerState.TheVariants as ends
 use Rattle.sspi_credssp.specs.declared.state.CredSspState.{CredSspState}
 use Rattle.sspi_credssp.specs.declared.state.CredSspState.TheVariants.{NegoToken, PubKeyInfo, AuthInfo, Final}
-use Rattle.sspi_credssp.specs.Acts.{no_acts, count_of, sealings_by, unsealings_by}
+use Rattle.sspi_credssp.specs.Acts.{sealings_by, unsealings_by}
 use Rattle.sspi_credssp.specs.Begun.{Begun}
 use Rattle.sspi_credssp.specs.Context.{ContextSetting, ForServer}
-use Rattle.sspi_credssp.specs.Counts.{sealings_in, unsealings_in, IsUnusedIn, SameBut, cleared, SealsIn}
+use Rattle.sspi_credssp.specs.Counts.{sealings_in, unsealings_in, IsUnusedIn, SameBut, cleared}
 use Rattle.sspi_credssp.specs.Exchange.{OpensIdentity}
-use Rattle.sspi_credssp.specs.Held.{HoldsServer, Proven}
-use Rattle.sspi_credssp.specs.ErrorRequest.{error_request, version_back}
-use Rattle.sspi_credssp.specs.PublicKey.{prescribed}
-use Rattle.sspi_credssp.specs.Requests.{IsLong, nonce_of}
+use Rattle.sspi_credssp.specs.Held.{HoldsServer}
 use Rattle.sspi_credssp.specs.Server.{ServerView}
-use Rattle.sspi_credssp.specs.Shown.{server_shown, ShowsServer, HasNonce}
-use Rattle.sspi_credssp.specs.Noted.{differs, is_old, noted_with}
-use Rattle.sspi_credssp.specs.Turn.{UnlessRefused, AtNoted, ServerFrame, OnceNegotiated, IsUnspent}
+use Rattle.sspi_credssp.specs.Shown.{server_shown, ShowsServer}
+use Rattle.sspi_credssp.specs.Noted.{noted_with}
+use Rattle.sspi_credssp.specs.Turn.{UnlessRefused, ServerFrame, OnceNegotiated}
 use Rattle.sspi_credssp.specs.declared.turn.End.TheVariants.{Server}
 use Rattle.sspi_credssp.specs.declared.turn.Outcome.{Outcome}
 use Rattle.sspi_credssp.specs.declared.turn.Outcome.TheVariants as outcome
@@ -50,11 +43,6 @@ server_state_after state (outcome.Reply reply) proved status = after_reply state
 server_state_after state (outcome.Final reply) proved status = state
 server_state_after state outcome.Finished proved status = Final
 server_state_after state (outcome.Refused kind reply) proved status = state
-
--- what goes back of an authentication: a token, or the server's proof
-abbrev pub answered_by : TsRequest → Answer → TsRequest
-answered_by d (answers.Token token) = record d { nego_tokens = Some token }
-answered_by d (answers.Proof blob) = record d { nego_tokens = None; pub_key_auth = Some blob }
 
 module _ {C : Type 0} (c : Meaning ContextSetting C) where
   -- what its bytes can show, and what stands behind them
@@ -126,77 +114,9 @@ module _ {C : Type 0} (c : Meaning ContextSetting C) where
       pub unstepped : new.acts.negotiated ≡ false → IsUnstepped old new
       pub unanswered : new.acts.status ≡ None → new.output ≡ []
 
-    -- A turn on d that began at `start` has come past the version check. What follows speaks of the context as it is now.
-    pub record IsReady (start : ServerView C P) (d : TsRequest) (now : ServerView C P) : Type 0 where
-      pub same : now.settings ≡ start.settings
-      pub handle : KeepsHandle start now
-      pub state : now.state ≡ start.state
-      pub noted : now.noted ≡ noted_with start.settings.least start.noted d.version
-      pub fits : AtNoted now.noted (λ noted. d.version ≡ noted)
-      pub young : is_old start.settings.least start.noted d.version ≡ false
-      pub passed : differs start.noted d.version ≡ false
-      pub begun : IsSome now.context
-      pub unspent : IsUnspent c (StartsUnused start) start.state start.context now.state now.context
-
-    -- checking the client's proof, and sealing the server's own where it was the right one
-    pub record ServerChecks (old : ServerView C P) (d : TsRequest) (new : ServerView C P) : Type 0 where
-      pub rest : new ≡ record old { context = new.context; acts = new.acts }
-      pub acts : new.acts ≡ record old.acts { checked = new.acts.checked; proved = new.acts.proved }
-      pub checked : new.acts.checked ≡ true → IsLong d.pub_key_auth
-          × AtNoted old.noted (λ noted. HasNonce (nat_lt noted 5) d.client_nonce)
-      pub proved : new.acts.proved ≡ true → (new.acts.checked ≡ true) ×
-          AtNoted old.noted (Proven c new.context (unsealings_in c new.context - 1) old.settings.public_key d)
-      pub sealings : sealings_in c new.context ≡ sealings_in c old.context + count_of new.acts.proved
-      pub unsealings : unsealings_in c new.context ≡ unsealings_in c old.context + count_of new.acts.checked
-      pub bare : SameBut c old.context new.context
-
-    pub record ServerProves (old : ServerView C P) (d : TsRequest) (blob : List ℕ) (new : ServerView C P) : Type 0 where
-      pub checked : new.acts.checked ≡ true
-      pub proved : new.acts.proved ≡ true
-      pub proof : AtNoted old.noted (λ noted.
-          SealsIn c new.context (sealings_in c new.context - 1) (prescribed Server noted (nonce_of d.client_nonce) old.settings.public_key)
-          (Some blob))
-
-    abbrev pub ServerExchanges : ServerView C P → TsRequest → Result (List ℕ) Error → ServerView C P → Type 0
-    ServerExchanges old d (Ok blob) new = ServerChecks old d new × ServerProves old d blob new
-    ServerExchanges old d (Err error) new = ServerChecks old d new
-
-    -- opening the client's credentials
-    pub record ServerOpensBlob (old : ServerView C P) (field : Option (List ℕ)) (new : ServerView C P) : Type 0 where
-      pub rest : new ≡ record old { context = new.context; acts = new.acts }
-      pub acts : new.acts ≡ record no_acts { opened = new.acts.opened }
-      pub opened : new.acts.opened ≡ true → IsLong field
-      pub sealings : sealings_in c new.context ≡ sealings_in c old.context
-      pub unsealings : unsealings_in c new.context ≡ unsealings_in c old.context + count_of new.acts.opened
-      pub bare : SameBut c old.context new.context
-
-    abbrev pub ServerOpens : ServerView C P → Option (List ℕ) → Result AuthIdentity Error → ServerView C P → Type 0
-    ServerOpens old field (Ok identity) new =
-        ServerOpensBlob old field new × (new.acts.opened ≡ true) × HoldsIdentity new.context field identity
-    ServerOpens old field (Err error) new = ServerOpensBlob old field new
-
     pub record ServerTurn (old : ServerView C P) (d : TsRequest) (out : Outcome) (new : ServerView C P) : Type 0 where
       pub turn : IsServerTurn (server_frame old new) (server_turn d out new)
       pub moves : ServerMoves old d out new
-
-    -- a call that is refused before it looks at the version, or by it, keeps what the server had, or the new context
-    pub record BeginRefused (old : ServerView C P) (version : ℕ) (new : ServerView C P) : Type 0 where
-      pub handle : KeepsHandle old new
-      pub noted : IsSome new.context → new.noted ≡ noted_with old.settings.least old.noted version
-      pub unnoted : new.context ≡ None → new.noted ≡ old.noted
-      pub unstepped : IsUnstepped old new
-      pub back : (own : ℕ) → version_back new.context new.noted version own ≡ version
-      pub sealings : StartsUnused old → sealings_in c new.context ≡ sealings_in c old.context
-      pub unsealings : StartsUnused old → unsealings_in c new.context ≡ unsealings_in c old.context
-      pub bare : OnceNegotiated old.state (SameBut c old.context new.context)
-
-    -- a turn past the version check that is refused, with the request that tells the client
-    abbrev pub HaltedTurn : ServerView C P → TsRequest → ErrorKind → ServerView C P → Type 0
-    HaltedTurn old d kind new = ServerTurn old d (outcome.Refused kind (Some (error_request old.state new.settings.version kind d))) new
-
-    abbrev pub Answered : ServerView C P → TsRequest → Result Answer Error → ServerView C P → Type 0
-    Answered old d (Ok answer) new = ServerTurn old d (outcome.Reply (answered_by (record d { version = new.settings.version }) answer)) new
-    Answered old d (Err error) new = HaltedTurn old d error.error_type new
 
     abbrev pub EndedTurn : ServerView C P → TsRequest → ServerState → ServerView C P → Type 0
     EndedTurn old d (ends.ReplyNeeded reply) new = ServerTurn old d (outcome.Reply reply) new

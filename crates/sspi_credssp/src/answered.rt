@@ -1,6 +1,6 @@
 // A refusal becomes an error where a caller is answered, and nowhere else.
 ghost use Rattle.std.specs.Prelude.{◌≡◌};
-ghost use Rattle.sspi_mech.specs.Refusals.{answered};
+ghost use Rattle.sspi_mech.specs.Answered.{answered};
 
 use sspi_mech::Refusal;
 use sspi_types::Error;

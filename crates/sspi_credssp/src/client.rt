@@ -6,10 +6,10 @@ ghost use Rattle.sspi_credssp.specs.Client.{ClientView};
 ghost use Rattle.sspi_credssp.specs.Context.{either, ForClient};
 ghost use Rattle.sspi_credssp.specs.Counts.{IsUnusedIn, is_waiting_in, left_in};
 ghost use Rattle.sspi_credssp.specs.Noted.{is_altered_in, is_old_in, noted_in};
-ghost use Rattle.sspi_credssp.specs.Refusal.{IsRefusedFor};
+ghost use Rattle.sspi_credssp.specs.Refused.{IsRefusedFor};
 ghost use Rattle.sspi_credssp.specs.Requests.{is_code};
 ghost use Rattle.sspi_credssp.specs.Stops.{StopsIf};
-ghost use Rattle.sspi_mech.specs.Refusals.{answered};
+ghost use Rattle.sspi_mech.specs.Answered.{answered};
 
 use crate::acts::Acts;
 use crate::answered::answered;

@@ -5,9 +5,10 @@ ghost use Rattle.sspi_credssp.specs.Acts.{no_acts};
 ghost use Rattle.sspi_credssp.specs.ClientCause.{SealsCause, DeliverCause};
 ghost use Rattle.sspi_credssp.specs.Context.{either};
 ghost use Rattle.sspi_credssp.specs.Credentials.{delegated_text, IfText};
-ghost use Rattle.sspi_credssp.specs.Exchange.{Exchanges, ProofCause};
+ghost use Rattle.sspi_credssp.specs.Opened.{Exchanges};
+ghost use Rattle.sspi_credssp.specs.Exchange.{ProofCause};
 ghost use Rattle.sspi_credssp.specs.PublicKey.{prescribed};
-ghost use Rattle.sspi_mech.specs.Refusals.{answered};
+ghost use Rattle.sspi_mech.specs.Answered.{answered};
 
 use crate::acts::Acts;
 use crate::client::CredSspClient;
@@ -88,7 +89,8 @@ fn deliver<N: Mechanism, K: Mechanism>(
 
 impl<N: Mechanism, K: Mechanism> CredSspClient<N, K> {
     ghost use Rattle.sspi_credssp.specs.Client.{ClientView};
-    ghost use Rattle.sspi_credssp.specs.ClientTurn.{ClientAnswers, IsReady, ClientDelivers};
+    ghost use Rattle.sspi_credssp.specs.ClientTurn.{IsReady};
+    ghost use Rattle.sspi_credssp.specs.ClientStage.{ClientAnswers, ClientDelivers};
 
     pub(crate) fn conclude(&mut self, request: TsRequest) -> Result<ClientState, Refusal>
         // What must hold before.

@@ -9,8 +9,8 @@ ghost use Rattle.sspi_credssp.specs.ClientCause.{NegoCause, ProveCause};
 ghost use Rattle.sspi_credssp.specs.ClientStep.{Asked, StepsTo, HasStepped, OnSuspended, client_requirements, client_args};
 ghost use Rattle.sspi_credssp.specs.Context.{either, ForClient};
 ghost use Rattle.sspi_credssp.specs.Counts.{SameBut, is_waiting_in, left_in};
-ghost use Rattle.sspi_credssp.specs.Refusal.{IsRefusedFor};
-ghost use Rattle.sspi_mech.specs.Refusals.{answered};
+ghost use Rattle.sspi_credssp.specs.Refused.{IsRefusedFor};
+ghost use Rattle.sspi_mech.specs.Answered.{answered};
 ghost use Rattle.sspi_types.specs.declared.credential_use.CredentialUse.TheVariants as purposes;
 
 use crate::client::CredSspClient;
@@ -68,8 +68,8 @@ fn resume<N: Mechanism, K: Mechanism>(
 impl<N: Mechanism, K: Mechanism> CredSspClient<N, K> {
     ghost use Rattle.sspi_credssp.specs.Client.{ClientView};
     ghost use Rattle.sspi_credssp.specs.ClientCall.{Awaits};
-    ghost use Rattle.sspi_credssp.specs.ClientStage.{HasDone, HasGoneOn, KeepsStep, KeepsRequest};
-    ghost use Rattle.sspi_credssp.specs.ClientTurn.{ClientGoes, ClientAnswers, IsReady, ClientProves};
+    ghost use Rattle.sspi_credssp.specs.ClientStage.{HasDone, HasGoneOn, KeepsStep, KeepsRequest, ClientAnswers, ClientProves};
+    ghost use Rattle.sspi_credssp.specs.ClientTurn.{ClientGoes, IsReady};
 
     pub(crate) fn negotiate(&mut self, request: TsRequest) -> Result<Progress, Refusal>
         // What must hold before.

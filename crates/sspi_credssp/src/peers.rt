@@ -1,6 +1,7 @@
 // The identities that a negotiating server is made with.
 ghost use Rattle.std.specs.Prelude.{◌≡◌, ◌≢◌, ◌≤◌, IfOk, IfErr, OnOk};
-ghost use Rattle.sspi_credssp.specs.Peers.{IsListed, list_calls};
+ghost use Rattle.sspi_credssp.specs.Peers.{list_calls};
+ghost use Rattle.sspi_credssp.specs.ServerStage.{IsListed};
 ghost use Rattle.sspi_credssp.specs.Proxy.{IsTold, IsAsked, HasAsked, counted_on};
 ghost use Rattle.sspi_credssp.specs.ServerCause.{ListRefused};
 

@@ -2,8 +2,8 @@
 ghost use Rattle.std.specs.Prelude.{◌≡◌, ◌≢◌, ◌==◌, ◌-◌, None, Some, true, false, length, nat_lt, IsTrue, IfOk, IfErr, OnErr, OnOk};
 ghost use Rattle.sspi_mech.specs.Calls.{one_sealing, ToSeal, ToUnseal};
 ghost use Rattle.sspi_credssp.specs.Context.{either};
-ghost use Rattle.sspi_credssp.specs.Exchange.{IsLongBlob, IsSealedBlob, BlobStops};
-ghost use Rattle.sspi_credssp.specs.Opened.{HasOpened};
+ghost use Rattle.sspi_credssp.specs.Exchange.{BlobStops};
+ghost use Rattle.sspi_credssp.specs.Opened.{IsLongBlob, IsSealedBlob, HasOpened};
 
 use crate::acts::Acts;
 use crate::context::SspiContext;

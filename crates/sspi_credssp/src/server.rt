@@ -7,8 +7,8 @@ ghost use Rattle.sspi_credssp.specs.Context.{either};
 ghost use Rattle.sspi_credssp.specs.Counts.{IsUnusedIn};
 ghost use Rattle.sspi_credssp.specs.Noted.{differs, is_old, VersionStops};
 ghost use Rattle.sspi_credssp.specs.Peers.{list_calls, lists_in};
-ghost use Rattle.sspi_credssp.specs.Refusal.{IsRefusedFor};
-ghost use Rattle.sspi_mech.specs.Refusals.{answered};
+ghost use Rattle.sspi_credssp.specs.Refused.{IsRefusedFor};
+ghost use Rattle.sspi_mech.specs.Answered.{answered};
 
 use crate::acts::Acts;
 use crate::both_ends::{adopt, forget};
@@ -151,9 +151,9 @@ impl<N: Mechanism, K: Mechanism, C: CredentialsProxy> CredSspServer<N, K, C> {
     ghost use Rattle.sspi_credssp.specs.ServerAsks.{look_ups_at};
     ghost use Rattle.sspi_credssp.specs.ServerCall.{ServerCall};
     ghost use Rattle.sspi_credssp.specs.ServerCause.{MakeCause, StateCause};
-    ghost use Rattle.sspi_credssp.specs.ServerStage.{HasDone, IsAtStep, LooksAt, MakesContext};
+    ghost use Rattle.sspi_credssp.specs.ServerStage.{HasDone, IsAtStep, LooksAt, MakesContext, BeginRefused, IsReady};
     ghost use Rattle.sspi_credssp.specs.ServerStep.{HasAcceptedTurn, server_setting};
-    ghost use Rattle.sspi_credssp.specs.ServerTurn.{ServerGoes, IsReady, BeginRefused};
+    ghost use Rattle.sspi_credssp.specs.ServerTurn.{ServerGoes};
 
     /// Takes the client's message and makes the server's next one, or reads the credentials that end the exchange.
     ///

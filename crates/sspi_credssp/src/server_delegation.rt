@@ -3,11 +3,12 @@ ghost use Rattle.std.specs.Prelude.{◌≡◌, ◌≢◌, ◌-◌, [], None, Som
 ghost use Rattle.sspi_mech.specs.Calls.{ToSeal};
 ghost use Rattle.sspi_credssp.specs.Acts.{no_acts};
 ghost use Rattle.sspi_credssp.specs.Context.{either};
-ghost use Rattle.sspi_credssp.specs.Exchange.{BlobStops, Exchanges, Opens, OpensIdentity, ProofCause};
+ghost use Rattle.sspi_credssp.specs.Exchange.{BlobStops, OpensIdentity, ProofCause};
+ghost use Rattle.sspi_credssp.specs.Opened.{Exchanges, Opens};
 ghost use Rattle.sspi_credssp.specs.Requests.{nonce_of};
 ghost use Rattle.sspi_credssp.specs.ServerCause.{OpenedCause, lacks_nonce};
 ghost use Rattle.sspi_credssp.specs.Shown.{HasNonce};
-ghost use Rattle.sspi_mech.specs.Refusals.{answered};
+ghost use Rattle.sspi_mech.specs.Answered.{answered};
 
 use crate::acts::Acts;
 use crate::context::SspiContext;
@@ -100,7 +101,8 @@ fn open_credentials<N: Mechanism, K: Mechanism>(
 impl<N: Mechanism, K: Mechanism, C: CredentialsProxy> CredSspServer<N, K, C> {
     ghost use Rattle.sspi_credssp.specs.Server.{ServerView};
     ghost use Rattle.sspi_credssp.specs.ServerCause.{ExchangeCause};
-    ghost use Rattle.sspi_credssp.specs.ServerTurn.{ServerGoes, ServerExchanges, ServerOpens, IsReady};
+    ghost use Rattle.sspi_credssp.specs.ServerTurn.{ServerGoes};
+    ghost use Rattle.sspi_credssp.specs.ServerStage.{ServerExchanges, ServerOpens, IsReady};
 
     pub(crate) fn prove(&mut self, request: TsRequest) -> Result<ServerState, ServerError>
         // What must hold before.

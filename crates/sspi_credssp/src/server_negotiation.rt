@@ -6,12 +6,12 @@ ghost use Rattle.sspi_credssp.specs.Acts.{no_acts};
 ghost use Rattle.sspi_credssp.specs.Begun.{IfContext};
 ghost use Rattle.sspi_credssp.specs.Context.{either};
 ghost use Rattle.sspi_credssp.specs.Counts.{SameBut};
-ghost use Rattle.sspi_credssp.specs.Proxy.{IsAsked, HasAsked, IsLater, AreFound};
+ghost use Rattle.sspi_credssp.specs.Proxy.{IsAsked, HasAsked, AreFound};
+ghost use Rattle.sspi_credssp.specs.ServerStage.{IsLater, answered_by};
 ghost use Rattle.sspi_credssp.specs.ServerCause.{IdentifyCause, LookUpRefused};
-ghost use Rattle.sspi_credssp.specs.ServerTurn.{answered_by};
 ghost use Rattle.sspi_credssp.specs.Shown.{IsOver};
 ghost use Rattle.sspi_credssp.specs.ServerStep.{IsIdentified, server_requirements, server_args};
-ghost use Rattle.sspi_mech.specs.Refusals.{answered};
+ghost use Rattle.sspi_mech.specs.Answered.{answered};
 
 use crate::context::SspiContext;
 use crate::proxy::{CredentialsProxy, ProxyError};
@@ -156,9 +156,9 @@ impl<N: Mechanism, K: Mechanism, C: CredentialsProxy> CredSspServer<N, K, C> {
     ghost use Rattle.sspi_credssp.specs.Server.{ServerView};
     ghost use Rattle.sspi_credssp.specs.ServerAsks.{look_ups_at};
     ghost use Rattle.sspi_credssp.specs.ServerCause.{NegoCause, OverCause, AfterCause};
-    ghost use Rattle.sspi_credssp.specs.ServerStage.{HasDone, HasReached, IsAtStep, KeepsStep};
-    ghost use Rattle.sspi_credssp.specs.ServerStep.{Unknown, Accepted, HasCome, CompletedStep, HasAccepted, HasAcceptedTurn};
-    ghost use Rattle.sspi_credssp.specs.ServerTurn.{ServerGoes, Answered, IsReady};
+    ghost use Rattle.sspi_credssp.specs.ServerStage.{HasDone, HasReached, IsAtStep, KeepsStep, CompletedStep, Answered, IsReady};
+    ghost use Rattle.sspi_credssp.specs.ServerStep.{Unknown, Accepted, HasCome, HasAccepted, HasAcceptedTurn};
+    ghost use Rattle.sspi_credssp.specs.ServerTurn.{ServerGoes};
 
     pub(crate) fn negotiate(&mut self, request: TsRequest) -> Result<ServerState, ServerError>
         // What must hold before.

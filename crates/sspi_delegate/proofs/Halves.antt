@@ -9,9 +9,8 @@ use Rattle.sspi_credssp.specs.Server.{ServerView}
 use Rattle.sspi_delegate.specs.declared.answer.DelegateError.{DelegateError}
 use Rattle.sspi_delegate.specs.declared.answer.DelegateError.TheVariants as errors
 use Rattle.sspi_delegate.specs.Asking.{KdcCalls}
-use Rattle.sspi_delegate.specs.Causes.{IsAnswerTo}
+use Rattle.sspi_delegate.specs.Halves.{IsAnswerTo, IsNoRefusal, ClientHalfStops, ServerHalfStops}
 use Rattle.sspi_delegate.specs.History.{ClientHistory, ClientStopped, between, ClientStops, ServerHistory, ServerStopped, ServerStops}
-use Rattle.sspi_delegate.specs.Rounds.{IsNoRefusal, ClientHalfStops, ServerHalfStops}
 use Rattle.sspi_delegate.proofs.Histories.{client_stopped_history, server_stopped_history}
 use Rattle.sspi_credssp.specs.declared.turn.Turn.{Turn}
 

@@ -28,7 +28,7 @@ use Rattle.sspi_delegate.specs.History.{ClientMakes, ClientHistory, ClientStoppe
 use Rattle.sspi_delegate.specs.History.{ServerRefuses, ServerHistory, ServerGave, ServerStopped, ServerPast}
 use Rattle.sspi_delegate.specs.Refusals.{ClientRefuses}
 use Rattle.sspi_delegate.specs.Rounds.{newest_alone}
-use Rattle.sspi_delegate.specs.Turns.{recorded}
+use Rattle.sspi_delegate.specs.LogKeeping.{recorded}
 
 module _ {C D : Type 0} (c : Meaning ContextSetting C) (k : KdcCalls D) where
   pub client_made : (first old mid new : ClientView C) (kdc_first kdc kdc2 : D) (d : TsRequest) (out : Outcome) (turns turns2 : List Turn) →

@@ -19,11 +19,12 @@ use Rattle.sspi_credssp.specs.declared.turn.End.TheVariants.{Client, Server}
 use Rattle.sspi_credssp.specs.declared.turn.Outcome.{Outcome}
 use Rattle.sspi_credssp.specs.declared.turn.Outcome.TheVariants.{Reply, Final, Finished, Refused}
 use Rattle.sspi_credssp.specs.declared.turn.Turn.{Turn}
-use Rattle.sspi_delegate.specs.Causes.{Between, Asked, Turned, Finishes, Stopped, NewestIs, IsClientRefusal, IsServerRefusal}
-use Rattle.sspi_delegate.specs.Causes.{IsFinished, IsAnswerTo, MayLackAfter, MayLack, TurnLeft, HasMessage, Given, carried, too_long}
+use Rattle.sspi_delegate.specs.Causes.{Finishes, Stopped, NewestIs, IsClientRefusal, IsServerRefusal}
+use Rattle.sspi_delegate.specs.Halves.{Between, Asked, Turned, IsAnswerTo, HasMessage}
+use Rattle.sspi_delegate.specs.Causes.{IsFinished, MayLackAfter, MayLack, TurnLeft, Given, carried, too_long}
 use Rattle.sspi_delegate.specs.Causes.{link_failed, no_memory, turns_of}
-use Rattle.sspi_delegate.specs.Deliveries.{delivery_limit, IsUnread, Fed, HeadTaken, HeadWithin}
-use Rattle.sspi_delegate.specs.Readers.{TakesIn}
+use Rattle.sspi_delegate.specs.Deliveries.{delivery_limit, IsUnread, HeadWithin}
+use Rattle.sspi_delegate.specs.Readers.{Fed, HeadTaken, TakesIn}
 use Rattle.sspi_delegate.specs.Recorded.{PushedSuch}
 use Rattle.sspi_delegate.specs.Run.{Logged, LoggedButLast, HasLog, IsDelivered, IsRead, IsSent, IsFault, IsUnreadable}
 use Rattle.sspi_delegate.specs.Turns.{next_end, GoesOn, AllGoOn, Alternates}

@@ -4,7 +4,7 @@ use Rattle.std.proofs.Common.{Result, Ok, Err, IfOk, OnErr, true}
 use Rattle.std.proofs.lemmas.List.{length-reverse, reverse-append, set_split, take_more, take_all, drop_all}
 use Rattle.sspi_delegate.specs.declared.carried.Carried.{Carried}
 use Rattle.sspi_delegate.specs.declared.link.LinkError.{LinkError}
-use Rattle.sspi_delegate.specs.Edits.{NewestDelivers}
+use Rattle.sspi_delegate.specs.LogKeeping.{NewestDelivers}
 use Rattle.sspi_delegate.specs.Link.{IsReceived, IsReceivedOf, PieceGives}
 use Rattle.sspi_delegate.specs.Log.{grown}
 

@@ -8,8 +8,9 @@ use Rattle.sspi_delegate.specs.declared.answer.DelegateError.{DelegateError}
 use Rattle.sspi_delegate.specs.declared.answer.DelegateError.TheVariants as errors
 use Rattle.sspi_delegate.specs.declared.edit.Edit.{Edit}
 use Rattle.sspi_delegate.specs.Link.{StaysTold}
-use Rattle.sspi_delegate.specs.Causes.{IsAnswerTo}
-use Rattle.sspi_delegate.specs.Messages.{CarryFails, HasFailed, GiveTold, AnswerTold, RequestTold}
+use Rattle.sspi_delegate.specs.Halves.{IsAnswerTo}
+use Rattle.sspi_delegate.specs.Messages.{CarryFails, HasFailed, AnswerTold}
+use Rattle.sspi_delegate.specs.Sending.{GiveTold, RequestTold}
 use Rattle.sspi_tsreq.specs.declared.reader.TsReader.{TsReader}
 use Rattle.sspi_tsreq.specs.declared.request.TsRequest.{TsRequest}
 use Rattle.sspi_tsreq.specs.Feeding.{Stands}

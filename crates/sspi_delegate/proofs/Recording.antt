@@ -12,8 +12,8 @@ use Rattle.sspi_credssp.specs.declared.turn.Outcome.TheVariants as outcome
 use Rattle.sspi_credssp.specs.declared.turn.Turn.{Turn}
 use Rattle.sspi_credssp.specs.Shown.{ShowsAnswer, server_shown}
 use Rattle.sspi_delegate.specs.Causes.{IsServerRefusal}
+use Rattle.sspi_delegate.specs.LogKeeping.{recorded}
 use Rattle.sspi_delegate.specs.Recorded.{PushedSuch}
-use Rattle.sspi_delegate.specs.Turns.{recorded}
 
 -- a refused turn of the server is recorded with the message that tells the client
 refusal_told : {C : Type 0} (c : Meaning ContextSetting C) (f : ServerFrame C) (t : Turn) (kind : ErrorKind) (reply : Option TsRequest) →

@@ -1,8 +1,7 @@
 -- What the turns and the log of an exchange show of its answer.
-use Rattle.std.specs.Prelude.{◌≡◌, ◌≢◌, ℕ, ◌+◌, ◌<◌, ◌⊎◌, Bool, true, false, List, [], ◌∷◌, Option, None, Some, IsSome, Result, Ok, Err}
+use Rattle.std.specs.Prelude.{◌≡◌, ◌≢◌, ℕ, ◌+◌, ◌<◌, ◌⊎◌, Bool, true, false, List, [], ◌∷◌, Option, None, Some, Result, Ok, Err}
 use Rattle.sspi_types.specs.declared.error_kind.ErrorKind.{ErrorKind}
 use Rattle.sspi_types.specs.declared.error_kind.ErrorKind.TheVariants as kinds
-use Rattle.sspi_names.specs.declared.identity.AuthIdentity.{AuthIdentity}
 use Rattle.sspi_ber.specs.Outside.{Counts}
 use Rattle.sspi_tsreq.specs.declared.request.TsRequest.{TsRequest}
 use Rattle.sspi_tsreq.specs.Spelling.{fits}
@@ -16,7 +15,7 @@ use Rattle.sspi_credssp.specs.declared.turn.Outcome.{Outcome}
 use Rattle.sspi_credssp.specs.declared.turn.Outcome.TheVariants.{Reply, Final, Finished, Refused}
 use Rattle.sspi_credssp.specs.declared.turn.Turn.{Turn}
 use Rattle.sspi_delegate.specs.Deliveries.{HeadWithin}
-use Rattle.sspi_delegate.specs.Run.{Logged, LoggedButLast, HasLog, IsDelivered, UnreadFor, OpenFor, IsUnreadable}
+use Rattle.sspi_delegate.specs.Run.{Logged, LoggedButLast, HasLog, UnreadFor, OpenFor, IsUnreadable}
 use Rattle.sspi_delegate.specs.Turns.{other, next_end, AllGoOn, Alternates}
 use Rattle.sspi_credssp.specs.Turn.{message_of}
 
@@ -79,11 +78,6 @@ abbrev pub NewestFits : List Turn → Bool → Type 0
 NewestFits [] fit = ⊥
 NewestFits (t ∷ past) fit = MessageFits (message_of t.outcome) fit
 
--- the newest turn has a message
-abbrev pub HasMessage : List Turn → Type 0
-HasMessage [] = ⊥
-HasMessage (t ∷ past) = IsSome (message_of t.outcome)
-
 -- a client whose turn is next has not made as many as it may
 abbrev pub TurnLeft : ℕ → List Turn → Type 0
 TurnLeft limit turns = next_end turns ≡ Client → turns_of Client turns < limit
@@ -91,29 +85,6 @@ TurnLeft limit turns = next_end turns ≡ Client → turns_of Client turns < lim
 -- base: the log before the exchange; start: the link's count of faults then. A failure of the link counts one fault, and nothing
 -- else counts any.
 module _ (base : List Carried) (start : ℕ) where
-  -- between two turns: all went on, each has its entry, and the newest delivery is still to be read
-  pub record Between (turns : List Turn) (log : List Carried) (now : ℕ) : Type 0 where
-    pub order : Alternates turns
-    pub going : AllGoOn turns
-    pub entries : Logged base turns log
-    pub unread : UnreadFor turns log
-    pub calm : now ≡ start
-
-  -- the same, once the next request was read
-  pub record Asked (turns : List Turn) (log : List Carried) (now : ℕ) (request : TsRequest) : Type 0 where
-    pub order : Alternates turns
-    pub going : AllGoOn turns
-    pub entries : Logged base turns log
-    pub delivered : IsDelivered turns log request
-    pub calm : now ≡ start
-
-  -- a turn was made whose message is still to be carried
-  pub record Turned (turns : List Turn) (log : List Carried) (now : ℕ) : Type 0 where
-    pub order : Alternates turns
-    pub going : AllGoOn turns
-    pub entries : LoggedButLast base turns log
-    pub calm : now ≡ start
-
   -- the server has the credentials
   pub record Finishes (turns : List Turn) (log : List Carried) (now : ℕ) : Type 0 where
     pub order : Alternates turns
@@ -154,22 +125,7 @@ module _ (base : List Carried) (start : ℕ) where
     pub order : Alternates turns
     pub cause : Cause limit error turns log now
 
-  -- what half a round comes to
-  abbrev pub ClientHalf : ℕ → Result (Unit {0}) DelegateError → List Turn → List Carried → ℕ → Type 0
-  ClientHalf limit (Ok done) turns log now = Between turns log now
-  ClientHalf limit (Err error) turns log now = Stopped limit error turns log now
-
-  abbrev pub ServerHalf : ℕ → Result (Option AuthIdentity) DelegateError → List Turn → List Carried → ℕ → Type 0
-  ServerHalf limit (Ok None) turns log now = Between turns log now
-  ServerHalf limit (Ok (Some identity)) turns log now = Finishes turns log now
-  ServerHalf limit (Err error) turns log now = Stopped limit error turns log now
-
   -- what the exchange comes to
   abbrev pub RunEnds : ℕ → Result Delegation DelegateError → List Turn → List Carried → ℕ → Type 0
   RunEnds limit (Ok delegation) turns log now = Finishes turns log now × (delegation.rounds ≡ turns_of Client turns)
   RunEnds limit (Err error) turns log now = Stopped limit error turns log now
-
--- an end's refusal as an answer: want of memory is no refusal
-abbrev pub IsAnswerTo : ErrorKind → DelegateError → DelegateError → Type 0
-IsAnswerTo kind refusal answer = ((kind ≡ kinds.InsufficientMemory) × (answer ≡ errors.InsufficientMemory)) ⊎
-    ((kind ≢ kinds.InsufficientMemory) × (answer ≡ refusal))

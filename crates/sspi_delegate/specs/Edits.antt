@@ -43,11 +43,6 @@ FollowsEdits edits [] = Unit {0}
 FollowsEdits edits (e ∷ log) =
     Delivers (edited edits (sent_texts (reverse log)) e.sent) e × FollowsEdits edits log
 
--- the newest entry delivers this text
-abbrev pub NewestDelivers : List ℕ → List Carried → Type 0
-NewestDelivers text [] = Unit {0}
-NewestDelivers text (e ∷ log) = Delivers (Some text) e
-
 -- this text is what the edits give of the newest entry
 abbrev pub IsNewestText : List Edit → List Carried → List ℕ → Type 0
 IsNewestText edits [] text = Unit {0}

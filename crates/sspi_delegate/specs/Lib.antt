@@ -1,11 +1,13 @@
 pub mod Asking
 pub mod Causes
+pub mod Halves
 pub mod Chain
 pub mod ClientRun
 pub mod Delegates
 pub mod Deliveries
 pub mod Readers
 pub mod Edits
+pub mod LogKeeping
 pub mod EndRun
 pub mod EndTurns
 pub mod Exactly
@@ -15,6 +17,7 @@ pub mod History
 pub mod Link
 pub mod Log
 pub mod Messages
+pub mod Sending
 pub mod Recorded
 pub mod Refusals
 pub mod Rounds

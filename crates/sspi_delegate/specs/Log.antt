@@ -21,11 +21,6 @@ abbrev pub Grows : List Carried → List Carried → ℕ → List ℕ → Type 0
 Grows [] new n into = (n ≡ 0) × (new ≡ [])
 Grows (e ∷ log) new n into = (e.ended ≡ true → n ≡ 0) × (new ≡ grown e n into ∷ log)
 
--- a log that is kept in memory: its entries, the newest first, and for how many more there is room
-pub record LogView : Type 0 where
-  pub entries : List Carried
-  pub room : ℕ
-
 -- a link over a carrier: its log, the newest entry first, and the carrier
 pub record KeptLinkView (R : Type 0) : Type 0 where
   pub log : List Carried

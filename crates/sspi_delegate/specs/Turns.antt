@@ -1,7 +1,5 @@
 -- The turns of an exchange, the newest first.
 use Rattle.std.specs.Prelude.{◌≡◌, ℕ, List, [], ◌∷◌}
-use Rattle.sspi_tsreq.specs.declared.request.TsRequest.{TsRequest}
-use Rattle.sspi_credssp.specs.declared.acts.Acts.{Acts}
 use Rattle.sspi_credssp.specs.declared.turn.End.{End}
 use Rattle.sspi_credssp.specs.declared.turn.End.TheVariants.{Client, Server}
 use Rattle.sspi_credssp.specs.declared.turn.Outcome.{Outcome}
@@ -12,10 +10,6 @@ use Rattle.sspi_credssp.specs.declared.turn.Turn.{Turn}
 pub record TranscriptView : Type 0 where
   pub turns : List Turn
   pub room : ℕ
-
--- a turn as it is recorded
-abbrev pub recorded : End → TsRequest → Acts → List ℕ → Outcome → Turn
-recorded end request acts output outcome = record { end = end; delivered = request; acts = acts; output = output; outcome = outcome }
 
 abbrev pub other : End → End
 other Client = Server

@@ -4,12 +4,13 @@ ghost use Rattle.sspi_credssp.specs.Context.{either};
 ghost use Rattle.sspi_credssp.specs.Server.{ServerView};
 ghost use Rattle.sspi_delegate.specs.Asking.{HasReplied, HasNoReply, kdc_calls};
 ghost use Rattle.sspi_delegate.specs.EndTurns.{client_turns, server_turns};
-ghost use Rattle.sspi_delegate.specs.Turns.{AllGoOn, recorded};
+ghost use Rattle.sspi_delegate.specs.LogKeeping.{recorded};
+ghost use Rattle.sspi_delegate.specs.Turns.{AllGoOn};
 ghost use Rattle.sspi_delegate.specs.History.{ClientHistory, ServerHistory};
 ghost use Rattle.sspi_delegate.specs.Recorded.{ClientPushed, ServerPushed};
 ghost use Rattle.sspi_delegate.specs.Refusals.{KdcStays, ProxyStays};
-ghost use Rattle.sspi_delegate.specs.Rounds.{added_by_client, added_by_server, ClientConcludes};
-ghost use Rattle.sspi_delegate.specs.Rounds.{WaitsWhereLost, ClientRoundPast, ServerRoundPast};
+ghost use Rattle.sspi_delegate.specs.Rounds.{added_by_client, added_by_server, ClientRoundPast, ServerRoundPast};
+ghost use Rattle.sspi_delegate.specs.Halves.{ClientConcludes, WaitsWhereLost};
 
 use crate::transcript::Transcript;
 use sspi_credssp::{

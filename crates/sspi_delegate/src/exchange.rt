@@ -7,13 +7,14 @@ ghost use Rattle.sspi_delegate.specs.Delegates.{around_by, parties, Delegates, A
 ghost use Rattle.sspi_delegate.specs.EndTurns.{client_turns, server_turns};
 ghost use Rattle.sspi_delegate.specs.History.{ClientHistory, ClientPast, ServerHistory, ServerPast};
 ghost use Rattle.sspi_delegate.specs.Refusals.{KdcStays, ProxyStays};
-ghost use Rattle.sspi_delegate.specs.Rounds.{IsNoRefusal, ClientHalfPast, ServerHalfPast};
+ghost use Rattle.sspi_delegate.specs.Halves.{IsNoRefusal, ClientHalfPast, ServerHalfPast, Between};
 ghost use Rattle.sspi_delegate.specs.declared.carried.Carried.{Carried};
-ghost use Rattle.sspi_delegate.specs.Causes.{Between, Asked, Turned, Stopped, ClientHalf, ServerHalf, RunEnds, TurnLeft, HasMessage};
-ghost use Rattle.sspi_delegate.specs.Causes.{Given, turns_of, IsAnswerTo};
+ghost use Rattle.sspi_delegate.specs.Causes.{Stopped, RunEnds, TurnLeft, Given, turns_of};
+ghost use Rattle.sspi_delegate.specs.Halves.{Asked, Turned, ClientHalf, ServerHalf, HasMessage, IsAnswerTo};
 ghost use Rattle.sspi_delegate.specs.Headline.{IsFresh};
 ghost use Rattle.sspi_delegate.specs.Link.{StaysTold};
-ghost use Rattle.sspi_delegate.specs.Messages.{newest_message, GiveTold, AnswerTold, RequestTold};
+ghost use Rattle.sspi_delegate.specs.Messages.{newest_message, AnswerTold};
+ghost use Rattle.sspi_delegate.specs.Sending.{GiveTold, RequestTold};
 ghost use Rattle.sspi_delegate.specs.Run.{LoggedButLast};
 ghost use Rattle.sspi_delegate.specs.Turns.{next_end, AllGoOn};
 

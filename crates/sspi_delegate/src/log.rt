@@ -1,6 +1,7 @@
 ghost use Rattle.std.specs.Prelude.{◌≡◌, ◌<◌, ◌≤◌, [], ◌∷◌, length, reverse, true, IfOk, IfErr, OnOk, OnErr};
 ghost use Rattle.sspi_delegate.specs.Link.{IsReceived, IsReceivedOf, LinkCause, PieceGives};
-ghost use Rattle.sspi_delegate.specs.Edits.{Delivers, NewestDelivers};
+ghost use Rattle.sspi_delegate.specs.Edits.{Delivers};
+ghost use Rattle.sspi_delegate.specs.LogKeeping.{NewestDelivers};
 ghost use Rattle.sspi_delegate.specs.Log.{grown};
 
 use crate::carried::Carried;
@@ -92,7 +93,7 @@ impl Log {
 
 impl Model for Log {
     ghost use Rattle.std.specs.Prelude.{◌-◌, reverse, vec_len, vec_capacity};
-    ghost use Rattle.sspi_delegate.specs.Log.{LogView};
+    ghost use Rattle.sspi_delegate.specs.LogKeeping.{LogView};
 
     ghost Value = { LogView };
 

@@ -2,7 +2,7 @@ ghost use Rattle.std.specs.Prelude.{◌+◌, ◌<◌, ◌≤◌};
 ghost use Rattle.sspi_delegate.specs.Deliveries.{IsUnread};
 ghost use Rattle.sspi_delegate.specs.Readers.{TakesIn};
 ghost use Rattle.sspi_delegate.specs.Link.{LinkCause, NeverFails, StaysTold};
-ghost use Rattle.sspi_delegate.specs.Messages.{Encodes, Sends, SendTold};
+ghost use Rattle.sspi_delegate.specs.Sending.{Encodes, Sends, SendTold};
 
 use crate::answer::DelegateError;
 use crate::link::{Link, LinkError};

@@ -1,6 +1,6 @@
 ghost use Rattle.std.specs.Prelude.{◌≡◌, ◌<◌, [], ◌∷◌, reverse, slice_get, OnOk};
 ghost use Rattle.std.specs.Option.{option_copied};
-ghost use Rattle.sspi_delegate.specs.Turns.{recorded};
+ghost use Rattle.sspi_delegate.specs.LogKeeping.{recorded};
 
 use crate::room::reserve_one;
 use sspi_credssp::{Acts, End, Outcome, Turn};

@@ -12,7 +12,8 @@ use Rattle.sspi_credssp.specs.Proxy.{ProxyMeaning}
 use Rattle.sspi_credssp.specs.Server.{ServerView}
 use Rattle.sspi_desk.specs.declared.answer.DeskError.{DeskError}
 use Rattle.sspi_desk.specs.declared.answer.DeskError.TheVariants.{NoSession, Unread, Refused, TooLong, InsufficientMemory}
-use Rattle.sspi_desk.specs.Call.{HasFault, HasNoRoom, Tells, Takes, IsServed}
+use Rattle.sspi_desk.specs.Call.{HasFault, HasNoRoom, Takes, IsServed}
+use Rattle.sspi_desk.specs.Refusing.{Tells}
 
 pub no_room : (bytes : List ℕ) → IsAnswer bytes (Err wire.InsufficientMemory) → HasNoRoom bytes
 no_room bytes h = record { request = h.0; count = h.1; read = h.2; octets = h.3 }

@@ -1,6 +1,5 @@
 -- One call on a server (MS-CSSP 3.1.5.2): bytes are read, the server takes their request, and its message is spelled.
 use Rattle.std.specs.Prelude.{◌≡◌, ◌≢◌, ◌⊎◌, ℕ, List, Option, None, Some, Result, Ok, Err, true, false}
-use Rattle.sspi_types.specs.declared.error.Error.{Error}
 use Rattle.sspi_types.specs.declared.error_kind.ErrorKind.TheVariants as kinds
 use Rattle.sspi_ber.specs.Fault.{Ended, Invalid}
 use Rattle.sspi_ber.specs.declared.wire_kind.WireKind.{WireKind}
@@ -9,7 +8,7 @@ use Rattle.sspi_mech.specs.Meaning.{Meaning}
 use Rattle.sspi_tsreq.specs.declared.request.TsRequest.{TsRequest}
 use Rattle.sspi_tsreq.specs.Answer.{fault}
 use Rattle.sspi_tsreq.specs.Grammar.{IsRequest}
-use Rattle.sspi_tsreq.specs.Parts.{HasOctets}
+use Rattle.sspi_tsreq.specs.Quiet.{HasOctets}
 use Rattle.sspi_tsreq.specs.Spelling.{fits, spelled}
 use Rattle.sspi_credssp.specs.declared.server_state.ServerError.{ServerError}
 use Rattle.sspi_credssp.specs.declared.server_state.ServerState.{ServerState}
@@ -52,16 +51,6 @@ SpellsAny None (Ok None) = Unit {0}
 SpellsAny None (Ok (Some text)) = ⊥
 SpellsAny None (Err error) = ⊥
 SpellsAny (Some message) answer = Spells message answer
-
--- What is made of a server's refusal: it is told with the message for its client, or there was no memory.
-abbrev pub Tells : Option TsRequest → Error → DeskError → Type 0
-Tells request error NoSession = ⊥
-Tells request error (Unread kind) = ⊥
-Tells request error (Refused told text) =
-    (told ≡ error) × (error.error_type ≢ kinds.InsufficientMemory) × SpellsAny {E = DeskError} request (Ok text)
-Tells request error TooLong = ⊥
-Tells request error InsufficientMemory =
-    (error.error_type ≡ kinds.InsufficientMemory) ⊎ SpellsAny {E = DeskError} request (Err InsufficientMemory)
 
 -- ---- the turn
 

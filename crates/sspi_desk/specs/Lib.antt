@@ -1,4 +1,5 @@
 pub mod Call
+pub mod Refusing
 pub mod Alone
 pub mod Desk
 pub mod All

@@ -1,5 +1,6 @@
 ghost use Rattle.sspi_credssp.specs.Context.{either};
-ghost use Rattle.sspi_desk.specs.Call.{IsServed, Tells};
+ghost use Rattle.sspi_desk.specs.Call.{IsServed};
+ghost use Rattle.sspi_desk.specs.Refusing.{Tells};
 
 use crate::answer::{DeskError, Served};
 use crate::spelling::spell;

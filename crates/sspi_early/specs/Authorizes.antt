@@ -1,11 +1,10 @@
 -- When each answer comes behind a delegation: a policy decides on the identity, the link carries the result, and the client reads it.
-use Rattle.std.specs.Prelude.{◌≡◌, ℕ, ◌≤◌, List, ◌∷◌, length, Bool, true, false, reverse, Option, None, Some, Result, Ok, Err, IfOk}
+use Rattle.std.specs.Prelude.{◌≡◌, ℕ, List, ◌∷◌, Bool, true, false, reverse, Option, None, Some, Result, Ok, Err, IfOk}
 use Rattle.sspi_ber.specs.Outside.{Counts}
 use Rattle.sspi_ber.specs.declared.wire_kind.WireKind.TheVariants as kinds
 use Rattle.sspi_names.specs.declared.identity.AuthIdentity.{AuthIdentity}
 use Rattle.sspi_delegate.specs.declared.carried.Carried.{Carried}
 use Rattle.sspi_delegate.specs.declared.edit.Edit.{Edit}
-use Rattle.sspi_delegate.specs.Deliveries.{Fed}
 use Rattle.sspi_delegate.specs.Edits.{Delivers, edited, sent_texts}
 use Rattle.sspi_delegate.specs.Link.{StaysTold}
 use Rattle.sspi_tsreq.specs.declared.early.EarlyUserAuthResult.{EarlyUserAuthResult}
@@ -16,7 +15,7 @@ use Rattle.sspi_early.specs.declared.answer.EarlyError.{EarlyError}
 use Rattle.sspi_early.specs.declared.answer.EarlyError.TheVariants.{Delegate, Policy, LinkFault, Read, InsufficientMemory}
 use Rattle.sspi_early.specs.declared.policy.PolicyError.{PolicyError}
 use Rattle.sspi_early.specs.declared.policy.PolicyError.TheVariants as decisions
-use Rattle.sspi_early.specs.Heard.{Tells, Heard, IsCut, IsNoResult, IsOpen, OfNewest}
+use Rattle.sspi_early.specs.Heard.{Tells, Heard, IsCut, IsNoResult, IsOpen}
 use Rattle.sspi_early.specs.Policy.{PolicyMeaning, HasDecided}
 
 -- what a link shows at one moment
@@ -79,20 +78,6 @@ pub record IsCarried (told : EarlyUserAuthResult) (before after : List Carried) 
   pub only : IsOnlyAnswer entry answer
   -- what was delivered as it was sent is heard as it was told
   pub honest : Delivers (Some entry.sent) entry → IfOk answer (λ authorized. authorized.heard ≡ told)
-
--- a link that tells its edits does not fail to deliver
-abbrev pub NeverFailsToDeliver : Option (List Edit) → Result Authorized EarlyError → Type 0
-NeverFailsToDeliver None answer = Unit {0}
-NeverFailsToDeliver (Some edits) answer = answer ≡ Err LinkFault → ⊥
-
--- the client read the newest delivery, of which nothing was taken before
-pub record Hears (told : EarlyUserAuthResult) (before after : LinkAt) (answer : Result Authorized EarlyError) : Type 0 where
-  pub fed : Fed before.log after.log
-  pub within : OfNewest (λ e. length e.delivered ≤ 4) after.log
-  pub cause : OfNewest (λ e. HasCause told e answer) after.log
-  pub count : CountsFault before.faults after.faults answer
-  pub stays : StaysTold before.edits after.edits before.log after.log
-  pub still : NeverFailsToDeliver before.edits answer
 
 -- ---- the answers where it was not
 

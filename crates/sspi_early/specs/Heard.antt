@@ -1,9 +1,7 @@
 -- What a client makes of the entry by which its server told the result (MS-RDPBCGR 2.2.10.2).
-use Rattle.std.specs.Prelude.{◌≡◌, ℕ, ◌<◌, ◌≤◌, List, [], ◌∷◌, length, take, true, false, Option, None, Some, Result, Ok, Err}
+use Rattle.std.specs.Prelude.{◌≡◌, ◌<◌, ◌≤◌, length, take, true, false}
 use Rattle.sspi_credssp.specs.declared.turn.End.TheVariants.{Server}
 use Rattle.sspi_delegate.specs.declared.carried.Carried.{Carried}
-use Rattle.sspi_delegate.specs.declared.link.LinkError.{LinkError}
-use Rattle.sspi_delegate.specs.Deliveries.{Fed}
 use Rattle.sspi_tsreq.specs.declared.early.EarlyUserAuthResult.{EarlyUserAuthResult}
 use Rattle.sspi_tsreq.specs.Early.{early_result_text}
 
@@ -28,19 +26,3 @@ IsNoResult e = (4 ≤ length e.delivered) × ((result : EarlyUserAuthResult) →
 -- fewer than four bytes came, and the delivery has not ended
 abbrev pub IsOpen : Carried → Type 0
 IsOpen e = (e.ended ≡ false) × (length e.delivered < 4)
-
--- this is so of the newest entry
-abbrev pub OfNewest : (Carried → Type 0) → List Carried → Type 0
-OfNewest P [] = ⊥
-OfNewest P (e ∷ log) = P e
-
--- the four bytes that were taken of the newest delivery, or none where it ended before; or the link was asked in vain
-abbrev pub Takes : List Carried → List Carried → Result (Option (List ℕ)) LinkError → Type 0
-Takes old new (Ok (Some bytes)) = Fed old new × OfNewest (λ e. e.delivered ≡ bytes) new
-Takes old new (Ok None) = Fed old new × OfNewest IsCut new
-Takes old new (Err error) = Fed old new × OfNewest IsOpen new
-
--- the result that these bytes are; none where they are no result
-abbrev pub IsResultIn : List ℕ → Option EarlyUserAuthResult → Type 0
-IsResultIn bytes (Some result) = bytes ≡ early_result_text result
-IsResultIn bytes None = (result : EarlyUserAuthResult) → bytes ≡ early_result_text result → ⊥

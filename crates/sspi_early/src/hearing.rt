@@ -1,6 +1,6 @@
 ghost use Rattle.sspi_delegate.specs.Deliveries.{IsUnread};
 ghost use Rattle.sspi_delegate.specs.Link.{LinkCause, NeverFails, StaysTold};
-ghost use Rattle.sspi_early.specs.Heard.{IsResultIn, Takes};
+ghost use Rattle.sspi_early.specs.Hearing.{IsResultIn, Takes};
 
 use sspi_delegate::{Link, LinkError};
 use sspi_tsreq::{EARLY_USER_AUTH_RESULT_PDU_SIZE, EarlyUserAuthResult};

@@ -24,7 +24,8 @@ use Rattle.sspi_gate.specs.declared.answer.GateFault.TheVariants.{Bad, Version, 
 use Rattle.sspi_gate.specs.declared.answer.Relayed.{Relayed}
 use Rattle.sspi_gate.specs.Decided.{IsDecided, IsOfRequests}
 use Rattle.sspi_gate.specs.Front.{AreCalm, AreRequests, GivesFirst, IsText, HaveOneVersion, MaySend, first_version, refusal}
-use Rattle.sspi_gate.specs.Next.{HasFault, IsBad}
+use Rattle.sspi_gate.specs.Next.{IsBad}
+use Rattle.sspi_gate.specs.Step.{HasFault}
 use Rattle.sspi_gate.specs.Relay.{Closes, GivesUp, GoesOn, IsRefused, IsRelay, IsSpent, Stops, of}
 use Rattle.sspi_gate.specs.Way.{HandsOn, Way}
 use Rattle.sspi_gate.proofs.Fronts.{given_first, one_front}

@@ -16,8 +16,8 @@ use Rattle.sspi_tsreq.proofs.Faults.{framed}
 use Rattle.sspi_gate.specs.declared.answer.GateFault.{GateFault}
 use Rattle.sspi_gate.specs.declared.answer.GateFault.TheVariants.{Bad, Version, ReadFault, WriteFault, TurnsSpent, InsufficientMemory}
 use Rattle.sspi_credssp.specs.declared.turn.End.{End}
-use Rattle.sspi_gate.specs.Next.{Fails, HasFault, IsBad, IsWhole, ShowsFault, TakesOnly, TakesToFault}
-use Rattle.sspi_gate.specs.Step.{Judges}
+use Rattle.sspi_gate.specs.Next.{Fails, IsBad, IsWhole, ShowsFault, TakesOnly, TakesToFault}
+use Rattle.sspi_gate.specs.Step.{HasFault, Judges}
 use Rattle.sspi_gate.specs.Taking.{TakesRequest, TakingCause}
 use Rattle.sspi_gate.specs.Way.{Way}
 use Rattle.sspi_gate.proofs.Wanted.{whole_shown, whole_wanted}

@@ -20,14 +20,6 @@ abbrev pub other_end : End → End
 other_end Client = Server
 other_end Server = Client
 
--- the bytes begin with no request, for this reason
-abbrev pub HasFault : List ℕ → WireKind → Type 0
-HasFault bytes kinds.UnexpectedEof = fault bytes ≡ Some Ended
-HasFault bytes kinds.InvalidData = fault bytes ≡ Some Invalid
-HasFault bytes kinds.ReadFault = ⊥
-HasFault bytes kinds.WriteFault = ⊥
-HasFault bytes kinds.InsufficientMemory = ⊥
-
 -- bytes are left, and they begin with no request
 abbrev pub IsBad : Option (List ℕ) → WireKind → Type 0
 IsBad left kinds.UnexpectedEof = IfSome left (λ bytes. (bytes ≡ [] → ⊥) × (fault bytes ≡ Some Ended))

@@ -86,15 +86,3 @@ pairs_at (SessionSent name) = false
 pairs_at (Ended name) = false
 pairs_at TicketSent = true
 pairs_at (Accepted peer) = peer.user_to_user
-
--- the next stage of a client under its name
-abbrev pub advanced : Stage → Stage
-advanced Unused = Unused
-advanced PairingAsked = PairingAsked
-advanced (TicketAsked key) = TicketAsked key
-advanced (LogonAsked name) = SessionAsked name
-advanced (SessionAsked name) = SessionSent name
-advanced (SessionSent name) = Ended name
-advanced (Ended name) = Ended name
-advanced TicketSent = TicketSent
-advanced (Accepted peer) = Accepted peer

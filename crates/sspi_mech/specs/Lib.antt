@@ -9,6 +9,7 @@ pub mod KerberosMessages
 pub mod KerberosPeers
 pub mod KerberosReplies
 pub mod KerberosStage
+pub mod Advanced
 pub mod KerberosSteps
 pub mod Laws
 pub mod Life
@@ -26,6 +27,7 @@ pub mod NtlmSteps
 pub mod PlainKdc
 pub mod Protection
 pub mod Refusals
+pub mod Answered
 pub mod Settings
 pub mod Sum
 pub mod Tags

@@ -3,7 +3,7 @@ ghost use Rattle.sspi_mech.specs.declared.step.Progressing.TheVariants as progre
 ghost use Rattle.sspi_mech.specs.Answers.{answer_of};
 ghost use Rattle.sspi_mech.specs.KerberosMessages.{read_ap_reply};
 ghost use Rattle.sspi_mech.specs.KerberosSteps.{proof_by, wants_pairing};
-ghost use Rattle.sspi_mech.specs.Refusals.{Gives, answered};
+ghost use Rattle.sspi_mech.specs.Answered.{Gives, answered};
 
 mod arrival;
 pub mod laws;
@@ -86,7 +86,7 @@ impl Kerberos {
     ghost use Rattle.sspi_mech.specs.KerberosMessages.{read_ticket};
     ghost use Rattle.sspi_mech.specs.KerberosReplies.{first_key_in};
     ghost use Rattle.sspi_mech.specs.KerberosSteps.{Moves, Steps, client_step, resumed_step, server_step};
-    ghost use Rattle.sspi_mech.specs.Refusals.{answered};
+    ghost use Rattle.sspi_mech.specs.Answered.{answered};
     ghost use Rattle.sspi_mech.specs.KerberosSteps.{begins, takes_ticket, pairs, admits, sends_ticket, arrival_of};
 
     /// An object of this configuration that has made no step.

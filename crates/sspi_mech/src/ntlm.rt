@@ -64,7 +64,7 @@ impl Ntlm {
     ghost use Rattle.sspi_mech.specs.NtlmSteps.{Steps, client_step, server_step, negotiates, authenticates, challenges, claims};
     ghost use Rattle.sspi_mech.specs.NtlmMessages.{is_negotiate, read_challenge};
     ghost use Rattle.sspi_mech.specs.NtlmClaims.{claim_of};
-    ghost use Rattle.sspi_mech.specs.Refusals.{answered};
+    ghost use Rattle.sspi_mech.specs.Answered.{answered};
 
     fn client_step(
         &mut self,

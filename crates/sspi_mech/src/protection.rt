@@ -1,7 +1,7 @@
 ghost use Rattle.std.specs.Prelude.{◌≡◌, ◌+◌, ◌-◌, ◌^◌, ◌==◌, false, true, None, Some, IfOk, OnOk, OnErr, IfErr};
 ghost use Rattle.sspi_mech.specs.Protection.{direction_byte, tag_of, seal_tag, mic_of, SealsBy, OpensBy, SignsBy, VerifiesBy};
 ghost use Rattle.sspi_mech.specs.Protection.{making_refusal, unseal_refusal, verify_refusal, no_protection};
-ghost use Rattle.sspi_mech.specs.Refusals.{IsCause};
+ghost use Rattle.sspi_mech.specs.Answered.{IsCause};
 
 use crate::refusal::Refusal;
 use sha2::{Digest, Sha256};

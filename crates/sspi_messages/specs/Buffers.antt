@@ -1,10 +1,7 @@
 -- Which buffers a call takes: of each type that it names the first one without flags. It neither reads nor changes the others.
-use Rattle.std.specs.Prelude.{ℕ, List, [], ◌∷◌, Bool, ◌==◌, ◌&&◌, cond, Option, None, Some, option_map, find, slice_set}
-use Rattle.std.specs.Borrow.{LendsBothIf, MutBor, Fml, Array}
-use Rattle.std.specs.List.{position_or_len}
+use Rattle.std.specs.Prelude.{ℕ, List, [], ◌∷◌, Bool, ◌==◌, ◌&&◌, cond, Option, None, Some, option_map, find}
 use Rattle.sspi_types.specs.declared.buffer.SecurityBuffer.{SecurityBuffer}
 use Rattle.sspi_types.specs.declared.buffer_type.BufferType.{BufferType}
-use Rattle.sspi_types.specs.contracts.buffer.SecurityBuffer.{the_row}
 use Rattle.sspi_types.specs.Buffers.{has_type}
 
 -- whether a buffer is of this type and has no flags
@@ -29,11 +26,3 @@ abbrev pub pair_of : {A B : Type 0} → Option A → Option B → Option (A × B
 pair_of None b = None
 pair_of (Some a) None = None
 pair_of (Some a) (Some b) = Some (a, b)
-
--- the message ends with the two buffers as they were left
-abbrev pub LendsPair : MutBor (List SecurityBuffer) → BufferType → BufferType → Option (MutBor SecurityBuffer × MutBor SecurityBuffer) → Fml
-LendsPair message first second lent =
-    LendsBothIf (Array the_row 0) the_row the_row message lent
-    (λ a b. slice_set (slice_set message.now (position_or_len (is_unflagged first) message.now) a)
-    (position_or_len (is_unflagged second) message.now) b)
-    message.now

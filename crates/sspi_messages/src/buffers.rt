@@ -2,7 +2,8 @@
 ghost use Rattle.std.specs.Prelude.{◌≡◌, ◌≢◌, option_map, position};
 ghost use Rattle.std.specs.Borrow.{sem};
 ghost use Rattle.sspi_types.specs.BufferTypes.{buffer_type_number};
-ghost use Rattle.sspi_messages.specs.Buffers.{is_unflagged, first_unflagged, pair_of, bytes_in, LendsPair};
+ghost use Rattle.sspi_messages.specs.Buffers.{is_unflagged, first_unflagged, pair_of, bytes_in};
+ghost use Rattle.sspi_messages.specs.Pair.{LendsPair};
 
 use bitflags::Flags;
 use sspi_types::{BufferType, SecurityBuffer};

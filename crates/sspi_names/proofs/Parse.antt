@@ -9,7 +9,7 @@ use Rattle.std.proofs.lemmas.List.Folds.{list_any_at}
 use Rattle.std.proofs.lemmas.Str.{IsUtf8-nil, IsUtf8-take, IsUtf8-drop, IsCharBoundary-before_ascii, IsCharBoundary-after_ascii}
 use Rattle.sspi_names.specs.Places.{IsLast, IsFirst}
 use Rattle.sspi_names.specs.Name.{IsName, principal, down_level, parse_name, has_at_sign, has_backslash, at_sign, backslash}
-use Rattle.sspi_names.specs.Username.{IsSplit}
+use Rattle.sspi_names.specs.Splits.{IsSplit}
 use Rattle.sspi_names.specs.declared.shape.Shape.TheVariants.{Principal, Qualified, Bare}
 use Rattle.sspi_names.proofs.Places.{is, nowhere-any, any-nowhere, last_at, first_at}
 

@@ -38,10 +38,6 @@ abbrev pub IsIdentified : Result AuthIdentity Error → Option AuthIdentity → 
 IsIdentified (Ok identity) found = found ≡ Some identity
 IsIdentified (Err e) found = ((e ≡ bad_name) × (found ≡ None)) ⊎ (e ≡ memory_error)
 
-abbrev pub IsNameOfParts : Result Name Error → Option Name → Type 0
-IsNameOfParts (Ok name) found = found ≡ Some name
-IsNameOfParts (Err e) found = ((e ≡ bad_name) × (found ≡ None)) ⊎ (e ≡ memory_error)
-
 -- what is true of each identity that is made
 pub record IsIdentity (i : AuthIdentity) : Type 0 where
   pub name : IsName i.username

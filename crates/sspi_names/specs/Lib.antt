@@ -3,6 +3,7 @@ pub mod Equality
 pub mod Format
 pub mod Grammar
 pub mod Identity
+pub mod Splits
 pub mod Kdcs
 pub mod Name
 pub mod Named

@@ -1,6 +1,6 @@
 -- How a `Username` holds a name: the text that shows it, and where its separator stands.
-use Rattle.std.specs.Prelude.{◌≡◌, Some, ◌+◌, ◌<◌, ℕ, List, [], take, drop, length, slice_index}
-use Rattle.sspi_names.specs.Name.{Name, IsName, parse_name, principal, down_level, at_sign, backslash}
+use Rattle.std.specs.Prelude.{◌≡◌, ◌+◌, ◌<◌, ℕ, List, [], take, drop, length, slice_index}
+use Rattle.sspi_names.specs.Name.{Name, IsName, principal, down_level, at_sign, backslash}
 use Rattle.sspi_names.specs.declared.shape.Shape.{Shape}
 use Rattle.sspi_names.specs.declared.shape.Shape.TheVariants.{Principal, Qualified, Bare}
 
@@ -19,8 +19,3 @@ IsPlaced inner Bare = Unit {0}
 pub record IsHeld (inner : List ℕ) (shape : Shape) : Type 0 where
   pub placed : IsPlaced inner shape
   pub name : IsName (name_at inner shape)
-
--- that text shows the name which `value` is
-pub record IsSplit (value inner : List ℕ) (shape : Shape) : Type 0 where
-  pub named : parse_name value ≡ Some (name_at inner shape)
-  pub held : IsHeld inner shape

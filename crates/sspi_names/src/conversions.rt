@@ -1,5 +1,6 @@
 ghost use Rattle.std.specs.Prelude.{◌≡◌, Some, IfOk};
-ghost use Rattle.sspi_names.specs.Identity.{AreBuffers, buffers_of, identity_of, user_text, domain_text, IsIdentified, IsNameOfParts};
+ghost use Rattle.sspi_names.specs.Identity.{AreBuffers, buffers_of, identity_of, user_text, domain_text, IsIdentified};
+ghost use Rattle.sspi_names.specs.Splits.{IsNameOfParts};
 ghost use Rattle.sspi_names.specs.Name.{new_name, IsName};
 
 use crate::error::UsernameError;

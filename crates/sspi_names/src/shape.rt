@@ -15,7 +15,7 @@ pub(crate) enum Shape {
 
 impl Shape {
     ghost use Rattle.sspi_names.specs.Name.{parse_name, has_at_sign, has_backslash, backslash};
-    ghost use Rattle.sspi_names.specs.Username.{IsSplit};
+    ghost use Rattle.sspi_names.specs.Splits.{IsSplit};
     ghost use Rattle.sspi_names.specs.Places.{IsFirst};
 
     /// The text that shows the name which `value` is, and its shape; none where the forms are mixed.

@@ -9,7 +9,8 @@ use Rattle.std.proofs.lemmas.Bool.{ne_eqb}
 use Rattle.std.proofs.lemmas.List.{same_from_push, take-append-drop}
 use Rattle.std.proofs.lemmas.List.Elements.{All-head, All-tail, All-nil, All-cons, All-from_get_or}
 use Rattle.std.proofs.lemmas.List.Splits.{slice_split-cons_yes, slice_split-cons_no, length-slice_split, slice_split_none}
-use Rattle.sspi_negotiate.specs.IpText.{IsIpv4, IsGroup, IsGroups, IsHead, IsTail, EndsInIpv4, Counts, dotted, groups_of}
+use Rattle.sspi_negotiate.specs.IpText.{IsIpv4, IsGroup, IsGroups, IsHead, IsTail, EndsInIpv4, dotted, groups_of}
+use Rattle.sspi_negotiate.specs.IpGroups.{Counts}
 
 -- there is always a first part
 slice_split_some : (p : ℕ → Bool) (xs : List ℕ) → 0 < length (slice_split p xs)

@@ -5,7 +5,8 @@ use Rattle.std.specs.Option.{option_eq}
 use Rattle.std.proofs.lemmas.Bool.{eqb-true, eq-eqb, cases_lt}
 use Rattle.std.proofs.lemmas.List.{append-nil}
 use Rattle.std.proofs.lemmas.List.Elements.{All-push}
-use Rattle.sspi_negotiate.specs.IpText.{IsIpv4, IsGroups, IsHead, IsTail, IsElided, IsIpv6, Counts, groups_of}
+use Rattle.sspi_negotiate.specs.IpText.{IsIpv4, IsGroups, IsHead, IsTail, IsElided, IsIpv6, groups_of}
+use Rattle.sspi_negotiate.specs.IpGroups.{Counts}
 use Rattle.sspi_negotiate.proofs.Colons.{groups_of-append, All-front, All-rest, undotted_is_no_ipv4}
 
 -- no part between two colons is empty

@@ -12,7 +12,8 @@ use Rattle.sspi_mech.specs.Calls.{ToName, ToIdentify, ToVerify, one_verification
 use Rattle.sspi_mech.specs.Meaning.{Meaning}
 use Rattle.sspi_mech.specs.Settings.{Setting}
 use Rattle.sspi_negotiate.specs.declared.protocol.NegotiatedProtocol.{NegotiatedProtocol}
-use Rattle.sspi_negotiate.specs.Does.{Meets, Passes}
+use Rattle.sspi_negotiate.specs.Does.{Meets}
+use Rattle.sspi_negotiate.specs.Passes.{Passes}
 use Rattle.sspi_negotiate.specs.Follows.{answered, refused}
 use Rattle.sspi_negotiate.specs.Hand.{Origin, hand, in_place_of_kerberos}
 use Rattle.sspi_negotiate.specs.Plan.{Plan, Stops, Names, Identifies, Verifies}

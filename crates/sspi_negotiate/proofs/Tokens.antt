@@ -11,7 +11,8 @@ use Rattle.sspi_mech.specs.Refusals.{error_of, refusal_of}
 use Rattle.sspi_mech.specs.Settings.{Setting}
 use Rattle.sspi_tokens.specs.Answers.{ReadsAs}
 use Rattle.sspi_negotiate.specs.declared.protocol.NegotiatedProtocol.{NegotiatedProtocol}
-use Rattle.sspi_negotiate.specs.Does.{Meets, Passes}
+use Rattle.sspi_negotiate.specs.Does.{Meets}
+use Rattle.sspi_negotiate.specs.Passes.{Passes}
 use Rattle.sspi_negotiate.specs.Fallback.{is_fallback}
 use Rattle.sspi_negotiate.specs.Hand.{Origin}
 use Rattle.sspi_negotiate.specs.Plan.{Plan, Stops}

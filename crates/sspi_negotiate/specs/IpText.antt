@@ -1,5 +1,5 @@
 use Rattle.std.specs.Prelude.{◌≡◌, ◌≢◌, ℕ, ◌+◌, ◌*◌, ◌-◌, ◌<◌, ◌≤◌, ◌⊎◌, List, [], ◌∷◌, ◌++◌}
-use Rattle.std.specs.Prelude.{Option, Some, None, ◌==◌, All, length, fold, slice_index}
+use Rattle.std.specs.Prelude.{◌==◌, All, length, fold, slice_index}
 use Rattle.std.specs.List.{slice_split}
 use Rattle.std.specs.Char.{IsAsciiDigit, IsAsciiHexdigit}
 
@@ -71,8 +71,3 @@ IsIpv6 text = IsTail text 8 ⊎ IsElided text
 
 abbrev pub IsIpText : List ℕ → Type 0
 IsIpText text = IsIpv4 text ⊎ IsIpv6 text
-
--- a count is the one number of which the fact holds, and there is none where it holds of no number
-abbrev pub Counts : Option ℕ → (ℕ → Type 0) → Type 0
-Counts None P = (n : ℕ) → ¬ (P n)
-Counts (Some count) P = P count × ((n : ℕ) → P n → n ≡ count)

@@ -1,11 +1,13 @@
 pub mod Acquire
 pub mod Client
 pub mod Does
+pub mod Passes
 pub mod Fallback
 pub mod Follows
 pub mod Hand
 pub mod Identity
 pub mod IpText
+pub mod IpGroups
 pub mod Keeps
 pub mod Known
 pub mod Negotiate

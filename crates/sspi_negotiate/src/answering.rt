@@ -3,7 +3,7 @@ ghost use Rattle.std.specs.Prelude.{◌≡◌, ◌≢◌, ◌<◌, [], false, tr
 ghost use Rattle.sspi_mech.specs.Answers.{answer_of, IfRefused, OnAsk};
 ghost use Rattle.sspi_mech.specs.Calls.{step_args};
 ghost use Rattle.sspi_mech.specs.Context.{IsUnused};
-ghost use Rattle.sspi_mech.specs.Refusals.{answered};
+ghost use Rattle.sspi_mech.specs.Answered.{answered};
 ghost use Rattle.sspi_tokens.specs.Oids.{kind_of};
 ghost use Rattle.sspi_tokens.specs.Reading.{targ_of};
 ghost use Rattle.sspi_negotiate.specs.declared.protocol.Protocol.TheVariants as protocols;

@@ -4,7 +4,7 @@ ghost use Rattle.sspi_names.specs.Identity.{identity_of, buffers_of};
 ghost use Rattle.sspi_names.specs.declared.credentials.CredentialsBuffers.TheVariants as buffered;
 ghost use Rattle.sspi_mech.specs.Answers.{answer_of};
 ghost use Rattle.sspi_mech.specs.Calls.{step_args};
-ghost use Rattle.sspi_mech.specs.Refusals.{answered};
+ghost use Rattle.sspi_mech.specs.Answered.{answered};
 ghost use Rattle.sspi_negotiate.specs.declared.protocol.Protocol.TheVariants as protocols;
 ghost use Rattle.sspi_negotiate.specs.Client.{is_closed, spnego_client, by_target, with_handle, keeps, ruled, client_at};
 ghost use Rattle.sspi_negotiate.specs.Does.{Does, Stays, StaysUnmarked, StaysUnused};

@@ -4,10 +4,10 @@ ghost use Rattle.std.specs.Prelude.{OnOk, OnErr, Some, None, option_copied, filt
 ghost use Rattle.sspi_types.specs.Memory.{memory_error};
 ghost use Rattle.sspi_mech.specs.Answers.{IfRefused};
 ghost use Rattle.sspi_mech.specs.Calls.{step_args, accept_args, no_counts, one_sealing, one_unsealing, one_signing, one_verification};
-ghost use Rattle.sspi_mech.specs.Calls.{ToAcquire, ToName, ToIdentify, ToComplete, ToSeal};
-ghost use Rattle.sspi_mech.specs.Calls.{ToUnseal, ToSign, ToVerify};
+ghost use Rattle.sspi_mech.specs.Calls.{ToAcquire, ToName, ToIdentify, ToComplete, ToSeal, ToUnseal, ToSign, ToVerify};
 ghost use Rattle.sspi_mech.specs.Context.{IsUnused};
-ghost use Rattle.sspi_mech.specs.Refusals.{answered, refusal_of};
+ghost use Rattle.sspi_mech.specs.Refusals.{refusal_of};
+ghost use Rattle.sspi_mech.specs.Answered.{answered};
 ghost use Rattle.sspi_negotiate.specs.declared.protocol.Protocol.TheVariants as protocols;
 ghost use Rattle.sspi_negotiate.specs.Hand.{InPlaceOfNtlm, in_place_of_kerberos, hand, hand_of, has_password, asks_left};
 ghost use Rattle.sspi_negotiate.specs.Verified.{HasNoMic};

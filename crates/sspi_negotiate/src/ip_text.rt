@@ -1,6 +1,7 @@
 ghost use Rattle.std.specs.Prelude.{◌≡◌, ◌↔◌, ℕ, ◌+◌, ◌-◌, ◌*◌, ◌≤◌, IsTrue, IfSome, IsSomeAnd, length};
 ghost use Rattle.std.specs.Char.{IsAsciiDigit};
-ghost use Rattle.sspi_negotiate.specs.IpText.{IsIpText, IsIpv4, IsIpv6, IsOctet, IsGroup, IsGroups, IsHead, IsTail, EndsInIpv4, Counts};
+ghost use Rattle.sspi_negotiate.specs.IpText.{IsIpText, IsIpv4, IsIpv6, IsOctet, IsGroup, IsGroups, IsHead, IsTail, EndsInIpv4};
+ghost use Rattle.sspi_negotiate.specs.IpGroups.{Counts};
 
 /// Whether `s` is an IPv4 address in dotted decimals (RFC 3986, section 3.2.2), or an IPv6 address in one of the forms of
 /// RFC 4291, section 2.2, with no zone and no brackets.

@@ -1,10 +1,11 @@
 // The MICs over the mechanism list (RFC 4178, section 5).
 ghost use Rattle.std.specs.Prelude.{◌≡◌, ◌≢◌, None, Some, IfOk, IfErr, OnOk, OnErr, map, ◌==◌};
 ghost use Rattle.sspi_mech.specs.Calls.{one_signing, one_verification, ToSign, ToVerify};
-ghost use Rattle.sspi_mech.specs.Refusals.{answered};
+ghost use Rattle.sspi_mech.specs.Answered.{answered};
 ghost use Rattle.sspi_negotiate.specs.Hand.{hand, hand_of};
 ghost use Rattle.sspi_names.specs.declared.credentials.Credentials.TheVariants as credentials;
-ghost use Rattle.sspi_negotiate.specs.Does.{Does, Passes, Stays, StaysPicked, StaysUnused, told};
+ghost use Rattle.sspi_negotiate.specs.Does.{Does, Stays, StaysPicked, StaysUnused, told};
+ghost use Rattle.sspi_negotiate.specs.Passes.{Passes};
 ghost use Rattle.sspi_negotiate.specs.Rows.{identifies_among, identifies, verifies, checks};
 ghost use Rattle.sspi_negotiate.specs.Rows.{writes, targ, if_some, answers_signed, completes_signed, hands_mic};
 ghost use Rattle.sspi_negotiate.specs.Known.{named};

@@ -1,6 +1,7 @@
 ghost use Rattle.std.specs.Prelude.{◌≡◌, ◌≢◌, [], None, OnErr};
-ghost use Rattle.sspi_mech.specs.Refusals.{answered};
-ghost use Rattle.sspi_negotiate.specs.Does.{Does, Passes, Stays, StaysPicked, StaysUnmarked, StaysUnused, told};
+ghost use Rattle.sspi_mech.specs.Answered.{answered};
+ghost use Rattle.sspi_negotiate.specs.Does.{Does, Stays, StaysPicked, StaysUnmarked, StaysUnused, told};
+ghost use Rattle.sspi_negotiate.specs.Passes.{Passes};
 ghost use Rattle.sspi_negotiate.specs.declared.protocol.Protocol.TheVariants as protocols;
 ghost use Rattle.sspi_negotiate.specs.Hand.{hand_of, asks_left};
 ghost use Rattle.sspi_negotiate.specs.Rows.{in_ntlm, writes, if_some, completes, carries_on};

@@ -2,7 +2,7 @@
 ghost use Rattle.std.specs.Prelude.{◌≡◌, ◌≢◌, [], None, Some, IfOk, IfErr, OnErr, if◌then◌else◌};
 ghost use Rattle.sspi_mech.specs.Calls.{accept_args};
 ghost use Rattle.sspi_mech.specs.Context.{IsUnused};
-ghost use Rattle.sspi_mech.specs.Refusals.{answered};
+ghost use Rattle.sspi_mech.specs.Answered.{answered};
 ghost use Rattle.sspi_tokens.specs.Reading.{init_of};
 ghost use Rattle.sspi_negotiate.specs.Does.{Does, Stays, StaysPicked, StaysUnmarked, StaysUnused, told};
 ghost use Rattle.sspi_negotiate.specs.declared.protocol.Protocol.TheVariants as protocols;

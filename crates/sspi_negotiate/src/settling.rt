@@ -1,7 +1,7 @@
 // The later steps of a server: the mechanism authenticates, and the MICs protect the list.
 ghost use Rattle.std.specs.Prelude.{◌≡◌, [], None, Some, OnErr};
 ghost use Rattle.sspi_mech.specs.Calls.{accept_args};
-ghost use Rattle.sspi_mech.specs.Refusals.{answered};
+ghost use Rattle.sspi_mech.specs.Answered.{answered};
 ghost use Rattle.sspi_tokens.specs.Reading.{targ_of};
 ghost use Rattle.sspi_negotiate.specs.Does.{Does, Stays, StaysPicked, StaysUnused, told};
 ghost use Rattle.sspi_negotiate.specs.Plan.{Accepts, Names, Goes};

@@ -9,7 +9,7 @@ use Rattle.sspi_types.specs.declared.error_kind.ErrorKind.{ErrorKind}
 use Rattle.sspi_names.specs.declared.credentials.Credentials.{Credentials}
 use Rattle.sspi_names.specs.declared.credentials.CredentialsBuffers.{CredentialsBuffers}
 use Rattle.sspi_names.specs.declared.identity.AuthIdentity.{AuthIdentity}
-use Rattle.sspi_mech.specs.declared.step.Answer.TheVariants.{Done, Refused}
+use Rattle.sspi_mech.specs.declared.step.Answer.TheVariants.{Done}
 use Rattle.sspi_mech.specs.declared.step.Step.{Step}
 use Rattle.sspi_mech.specs.Calls.{AcceptArgs, Counts, no_counts}
 use Rattle.sspi_mech.specs.Laws.{IsMechanism}

@@ -21,8 +21,8 @@ use Rattle.sspi_play.specs.declared.hand.Standing.{Standing}
 use Rattle.sspi_play.specs.declared.played.Delivery.{Delivery}
 use Rattle.sspi_play.specs.declared.played.Ending.{Ending}
 use Rattle.sspi_play.specs.declared.played.Ending.TheVariants.{Running, Refused, Unread}
-use Rattle.sspi_play.specs.Hands.{RequestIs, EndsBy, TurnsSo, EndsSo, LacksSo, ClientHands, ServerHands, IsNoWant, Stands, StopsAt}
-use Rattle.sspi_play.specs.Plays.{any_for, is_start, unread_kind, refusal_in, ending_by, ending_of, IsGiven, Plays, begins}
+use Rattle.sspi_play.specs.Hands.{RequestIs, EndsBy, TurnsSo, EndsSo, LacksSo, ClientHands, ServerHands, Stands, StopsAt}
+use Rattle.sspi_play.specs.Plays.{IsNoWant, any_for, is_start, unread_kind, refusal_in, ending_by, ending_of, IsGiven, Plays, begins}
 use Rattle.sspi_play.specs.Plays.{takes, passes}
 use Rattle.sspi_play.specs.Played.{PlaysFront}
 use Rattle.sspi_play.proofs.Order.{reverse_more, reverse_all, still_runs, is_unread, stays, server_apart, client_apart, client_after}

@@ -5,21 +5,26 @@ use Rattle.sspi_types.specs.declared.error_kind.ErrorKind.TheVariants as kinds
 use Rattle.sspi_ber.specs.declared.wire_kind.WireKind.{WireKind}
 use Rattle.sspi_ber.specs.declared.wire_kind.WireKind.TheVariants as wire
 use Rattle.sspi_tsreq.specs.declared.request.TsRequest.{TsRequest}
+use Rattle.sspi_mech.specs.Meaning.{Meaning}
 use Rattle.sspi_credssp.specs.declared.turn.End.{End}
 use Rattle.sspi_credssp.specs.declared.turn.End.TheVariants.{Client, Server}
 use Rattle.sspi_credssp.specs.declared.turn.Outcome.{Outcome}
 use Rattle.sspi_credssp.specs.declared.turn.Turn.{Turn}
+use Rattle.sspi_credssp.specs.Context.{ContextSetting}
+use Rattle.sspi_credssp.specs.Proxy.{ProxyMeaning}
+use Rattle.sspi_credssp.specs.Server.{ServerView}
 use Rattle.sspi_delegate.specs.declared.answer.DelegateError.{DelegateError}
 use Rattle.sspi_delegate.specs.declared.answer.DelegateError.TheVariants as errors
 use Rattle.sspi_delegate.specs.Causes.{IsClientRefusal, IsServerRefusal, IsFinished}
 use Rattle.sspi_delegate.specs.Turns.{GoesOn}
+use Rattle.sspi_delegate.specs.History.{ServerHistory, ServerGave}
 use Rattle.sspi_play.specs.declared.hand.Handed.{Handed}
 use Rattle.sspi_play.specs.declared.hand.Handed.TheVariants as handed
 use Rattle.sspi_play.specs.declared.hand.Standing.{Standing}
 use Rattle.sspi_play.specs.declared.played.Delivery.{Delivery}
 use Rattle.sspi_play.specs.declared.played.Ending.{Ending}
 use Rattle.sspi_play.specs.declared.played.Ending.TheVariants.{Running, Refused, Unread}
-use Rattle.sspi_play.specs.Plays.{any_for, unread_kind, ending_of, IsGiven, Plays}
+use Rattle.sspi_play.specs.Plays.{any_for, unread_kind, ending_of, IsGiven, Plays, IsNoWant}
 
 -- the request of a delivery, or why it has none
 abbrev pub RequestIs : Bool → List ℕ → Result TsRequest WireKind → Type 0
@@ -65,12 +70,6 @@ ServerHands bytes (Ok (handed.Stands ending)) old new = EndsSo Server IsServerRe
 ServerHands bytes (Ok (handed.Finished identity)) old new = TurnsSo Server false bytes IsFinished old new
 ServerHands bytes (Err error) old new = LacksSo Server IsServerRefusal false bytes error old new
 
--- no end stands refused for want of memory
-abbrev pub IsNoWant : Ending → Type 0
-IsNoWant Running = Unit {0}
-IsNoWant (Refused kind) = kind ≢ kinds.InsufficientMemory
-IsNoWant (Unread kind) = Unit {0}
-
 -- a play that stands so after these deliveries and turns
 pub record Stands (deliveries : List Delivery) (turns : List Turn) (standing : Standing) : Type 0 where
   pub plays : Plays deliveries turns
@@ -83,3 +82,9 @@ pub record Stands (deliveries : List Delivery) (turns : List Turn) (standing : S
 -- a play that this delivery ended by an error: it made a turn, or it made none
 abbrev pub StopsAt : Delivery → List Delivery → List Turn → Type 0
 StopsAt d past turns = Plays past turns ⊎ Plays (d ∷ past) turns
+
+module _ {C P : Type 0} (c : Meaning ContextSetting C) (p : ProxyMeaning P) where
+  abbrev pub ServerHandPast : ServerView C P → Result Handed DelegateError → List Turn → ServerView C P → Type 0
+  ServerHandPast first (Ok (handed.Stands ending)) turns now = ServerHistory c p first turns now
+  ServerHandPast first (Ok (handed.Finished identity)) turns now = ServerGave c p first identity turns now
+  ServerHandPast first (Err error) turns now = ServerHistory c p first turns now

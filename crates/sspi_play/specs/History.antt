@@ -11,9 +11,7 @@ use Rattle.sspi_delegate.specs.declared.answer.DelegateError.{DelegateError}
 use Rattle.sspi_delegate.specs.Asking.{KdcCalls}
 use Rattle.sspi_delegate.specs.Causes.{IsFinished}
 use Rattle.sspi_delegate.specs.EndTurns.{any_finished}
-use Rattle.sspi_delegate.specs.History.{ClientHistory, ClientLeft, ServerHistory, ServerGave}
-use Rattle.sspi_play.specs.declared.hand.Handed.{Handed}
-use Rattle.sspi_play.specs.declared.hand.Handed.TheVariants as handed
+use Rattle.sspi_delegate.specs.History.{ClientHistory, ClientLeft, ServerGave}
 
 module _ {C D : Type 0} (c : Meaning ContextSetting C) (k : KdcCalls D) where
   -- the history of a client, by the answer: where there was no memory it may have been left waiting for its KDC
@@ -22,11 +20,6 @@ module _ {C D : Type 0} (c : Meaning ContextSetting C) (k : KdcCalls D) where
   ClientPlayed first kdc (Err error) turns now kdc2 = ClientLeft c k first kdc turns now kdc2
 
 module _ {C P : Type 0} (c : Meaning ContextSetting C) (p : ProxyMeaning P) where
-  abbrev pub ServerHandPast : ServerView C P → Result Handed DelegateError → List Turn → ServerView C P → Type 0
-  ServerHandPast first (Ok (handed.Stands ending)) turns now = ServerHistory c p first turns now
-  ServerHandPast first (Ok (handed.Finished identity)) turns now = ServerGave c p first identity turns now
-  ServerHandPast first (Err error) turns now = ServerHistory c p first turns now
-
   -- one of these turns of the server finished, and gave this identity
   pub record GaveIn (first : ServerView C P) (identity : AuthIdentity) (turns : List Turn) : Type 0 where
     pub later : List Turn

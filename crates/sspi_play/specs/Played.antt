@@ -17,9 +17,8 @@ use Rattle.sspi_delegate.specs.History.{ServerHistory}
 use Rattle.sspi_delegate.specs.ServerRun.{ServerRan}
 use Rattle.sspi_play.specs.declared.played.Delivery.{Delivery}
 use Rattle.sspi_play.specs.declared.played.Played.{Played}
-use Rattle.sspi_play.specs.Hands.{IsNoWant}
+use Rattle.sspi_play.specs.Plays.{IsNoWant, ending_of, Plays}
 use Rattle.sspi_play.specs.History.{ClientPlayed, Gave}
-use Rattle.sspi_play.specs.Plays.{ending_of, Plays}
 
 -- what takes part in a play, at one moment
 pub record Both (C P D : Type 0) : Type 0 where

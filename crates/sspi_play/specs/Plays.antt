@@ -18,6 +18,7 @@ use Rattle.sspi_delegate.specs.Run.{IsRead}
 use Rattle.sspi_play.specs.declared.played.Delivery.{Delivery}
 use Rattle.sspi_play.specs.declared.played.Ending.{Ending}
 use Rattle.sspi_play.specs.declared.played.Ending.TheVariants.{Running, Refused, Unread}
+use Rattle.sspi_types.specs.declared.error_kind.ErrorKind.TheVariants as kinds
 
 -- ---- the deliveries to an end
 
@@ -103,3 +104,9 @@ pub data Plays : List Delivery → List Turn → Type 0 where
       Plays (d ∷ past) (t ∷ turns)
   passes : (d : Delivery) (past : List Delivery) (turns : List Turn) → Plays past turns →
       ending_of d.to (d ∷ past) turns ≢ Running → Plays (d ∷ past) turns
+
+-- no end stands refused for want of memory
+abbrev pub IsNoWant : Ending → Type 0
+IsNoWant Running = Unit {0}
+IsNoWant (Refused kind) = kind ≢ kinds.InsufficientMemory
+IsNoWant (Unread kind) = Unit {0}

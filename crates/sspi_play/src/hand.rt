@@ -8,8 +8,8 @@ ghost use Rattle.sspi_delegate.specs.History.{ClientHistory, ServerHistory};
 ghost use Rattle.sspi_delegate.specs.Refusals.{KdcStays, ProxyStays};
 ghost use Rattle.sspi_delegate.specs.Turns.{AllGoOn};
 ghost use Rattle.sspi_play.specs.declared.played.Delivery.{Delivery};
-ghost use Rattle.sspi_play.specs.Hands.{RequestIs, EndsBy, ClientHands, ServerHands, Stands, StopsAt};
-ghost use Rattle.sspi_play.specs.History.{ClientPlayed, ServerHandPast, Gave};
+ghost use Rattle.sspi_play.specs.Hands.{RequestIs, EndsBy, ClientHands, ServerHands, Stands, StopsAt, ServerHandPast};
+ghost use Rattle.sspi_play.specs.History.{ClientPlayed, Gave};
 
 use crate::played::{Delivery, Ending, Played};
 use sspi_ber::WireKind;

@@ -25,9 +25,10 @@ use Rattle.sspi_program.specs.Generate.{AreNumbered, TallyDue, summary_of}
 use Rattle.sspi_program.specs.Kept.{nothing, keeping, seating, tallying, HasRecordAlone, HasTallyAlone, HasSeatsAlone}
 use Rattle.sspi_program.specs.Play.{HasPlay}
 use Rattle.sspi_program.specs.Promises.{KeepsRecord, KeepsTally, KeepsSeats, Keeps, KeptDue}
-use Rattle.sspi_program.specs.Run.{IsTold, Comes, CarriesOut, Conducts, Generates, SumsUp, SaysOfSeats}
+use Rattle.sspi_program.specs.Run.{IsTold, Comes}
+use Rattle.sspi_program.specs.Telling.{CarriesOut, Conducts, Generates, SumsUp, SaysOfSeats, SaysOf, SaysWith}
 use Rattle.sspi_program.specs.Seats.{PlainSeat}
-use Rattle.sspi_program.specs.Said.{status_of, RecordDue, IsDue, SaysOf, SaysWith}
+use Rattle.sspi_program.specs.Said.{status_of, RecordDue, IsDue}
 
 -- ---- a record that is said
 

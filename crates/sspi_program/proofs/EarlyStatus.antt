@@ -1,5 +1,5 @@
 -- The status of an early result, where the exchange of a scenario whose ends match came before it.
-use Rattle.std.proofs.Common.{◌≡◌, ℕ, ◌<◌, inr, List, [], Some, Result, Ok, Err, refl, sym, ap, ◌∙◌, subst}
+use Rattle.std.proofs.Common.{◌≡◌, ℕ, inr, List, [], Some, Result, Ok, Err, refl, sym, ap, ◌∙◌, subst}
 use Rattle.std.proofs.Math.Dec.{lit<}
 use Rattle.sspi_names.specs.declared.identity.AuthIdentity.{AuthIdentity}
 use Rattle.sspi_names.specs.Name.{Name}

@@ -1,18 +1,18 @@
 -- The ends of the scenario of a number match where nothing stands in the way, and where only the turns are few.
-use Rattle.std.proofs.Common.{◌≡◌, ℕ, ◌+◌, ◌<◌, ◌≤◌, ◌^◌, ◌%◌, ◌==◌, ◌⊎◌, inl, inr, Bool, true, false, List, [], ◌∷◌, ◌++◌, codes}
+use Rattle.std.proofs.Common.{◌≡◌, ℕ, ◌<◌, ◌≤◌, ◌^◌, ◌%◌, ◌==◌, inl, inr, Bool, true, false, List, [], ◌∷◌, ◌++◌, codes}
 use Rattle.std.proofs.Common.{decimal, length, replicate}
-use Rattle.std.proofs.Common.{nat_lt, option_map, suc, Option, None, Some, Result, Ok, Err, refl, sym, ap, ◌∙◌, subst, arith, if◌then◌else◌}
-use Rattle.std.specs.Prelude.{IfOk, IsSome}
+use Rattle.std.proofs.Common.{option_map, suc, Option, None, Some, Result, Ok, Err, refl, sym, ap, ◌∙◌, subst, arith, if◌then◌else◌}
+use Rattle.std.specs.Prelude.{IsSome}
 use Rattle.std.specs.Char.Escape.{encode_utf16}
 use Rattle.std.specs.List.{flat_map}
-use Rattle.std.specs.Str.{IsAscii, chars}
+use Rattle.std.specs.Str.{IsAscii}
 use Rattle.std.proofs.lemmas.Fmt.{length-decimal-le}
 use Rattle.std.proofs.lemmas.Str.{IsUtf8-from_ascii, chars-IsAscii}
 use Rattle.std.proofs.str.Utf16.{one_unit}
 use Rattle.sspi_names.specs.declared.identity.AuthIdentity.{AuthIdentity}
 use Rattle.sspi_names.specs.Equality.{ignoring_case-equiv}
 use Rattle.sspi_names.specs.Identity.{buffers_of}
-use Rattle.sspi_names.specs.Name.{Name, down_level, equals_ignoring_case}
+use Rattle.sspi_names.specs.Name.{Name}
 use Rattle.sspi_names.specs.Utf16.{text_of, units_of}
 use Rattle.sspi_names.proofs.CodeUnits.{text_of-units_of}
 use Rattle.sspi_credssp.specs.Proxy.{entry_of}
@@ -37,8 +37,7 @@ use Rattle.sspi_delegate.specs.declared.answer.DelegateError.TheVariants as erro
 use Rattle.sspi_completeness.specs.Examples.{example_ntlm, example_target}
 use Rattle.sspi_completeness.specs.Negotiating.{AreNegotiating, begins_with, messages_by}
 use Rattle.sspi_completeness.proofs.Examples.{kerberos_ends, ntlm_ends}
-use Rattle.sspi_completeness.specs.Matching.{HasEntry, IsShort, ComesToOkIn, IsCutShort, delegated_as}
-use Rattle.sspi_tsreq.specs.declared.mode.CredSspMode.{CredSspMode}
+use Rattle.sspi_completeness.specs.Matching.{HasEntry, IsShort, ComesToOkIn, IsCutShort}
 use Rattle.sspi_tsreq.specs.declared.mode.CredSspMode.TheVariants.{WithCredentials}
 use Rattle.sspi_scenario.specs.declared.scenario.Mode.{Mode}
 use Rattle.sspi_scenario.specs.declared.scenario.Mode.TheVariants.{Ntlm, Negotiate}

@@ -33,10 +33,10 @@ use Rattle.sspi_program.specs.Gate.{IsGated, relayed_status}
 use Rattle.sspi_program.specs.Generate.{TallyDue}
 use Rattle.sspi_program.specs.Kept.{nothing, with_status}
 use Rattle.sspi_program.specs.Promises.{Keeps, KeptDue, Due, Does}
-use Rattle.sspi_program.specs.Run.{Outside, IsToldFor, NoneTold, Comes, IsJudged, KeepsOnly, IsReported, WroteLine, WroteOwed}
+use Rattle.sspi_program.specs.Run.{Outside, IsToldFor, NoneTold, Comes, KeepsOnly, IsReported, WroteLine, WroteOwed}
+use Rattle.sspi_program.specs.Telling.{IsJudged, said_status, Written}
 use Rattle.sspi_program.specs.Said.{heard_status, status_of, report_of, record_due, RecordDue, IsDue}
-use Rattle.sspi_program.specs.Said.{said_status, said_text, conducted_as, words_text, read_text}
-use Rattle.sspi_program.specs.Said.{Written}
+use Rattle.sspi_program.specs.Said.{said_text, conducted_as, words_text, read_text}
 use Rattle.sspi_program.specs.Seats.{PlainSeat}
 use Rattle.sspi_program.specs.Status.{IsUnlessWrite, IsUnlessFault}
 

@@ -11,10 +11,11 @@ use Rattle.sspi_scenario.specs.declared.scenario.Scenario.{Scenario}
 use Rattle.sspi_seats.specs.Seat.{Place, place}
 use Rattle.sspi_seats.specs.Table.{AreSeated}
 use Rattle.sspi_program.specs.declared.ends.Ends.{Ends}
-use Rattle.sspi_program.specs.Desk.{client_in, server_in, place_in, places_in, AreSeatedFor}
-use Rattle.sspi_program.specs.Ends.{PlainContext, IsClientOf, IsServerOf, AreEndsOf}
+use Rattle.sspi_program.specs.Desk.{client_in, server_in, place_in, places_in}
+use Rattle.sspi_program.specs.Seating.{AreSeatedFor, PlainTable}
+use Rattle.sspi_program.specs.Ends.{PlainContext, IsClientOf, IsServerOf}
+use Rattle.sspi_program.specs.Making.{AreEndsOf}
 use Rattle.sspi_program.specs.Exchange.{plain_meaning, around}
-use Rattle.sspi_program.specs.Seats.{PlainTable}
 
 -- a field after another
 client_is : (scenario : Scenario) (a : ClientView PlainContext) → IsFreshClient a → IsClientOf scenario a → a ≡ client_in scenario

@@ -1,9 +1,8 @@
 -- The exchanges of so many numbers, and of one more.
-use Rattle.std.proofs.Common.{◌≡◌, ℕ, suc, ◌+◌, ◌⊎◌, inl, inr, List, [], ◌∷◌, ◌++◌, length, Some, Result, Ok, Err, refl, sym, ap, subst}
+use Rattle.std.proofs.Common.{◌≡◌, ℕ, ◌+◌, inl, inr, List, [], ◌∷◌, ◌++◌, Result, Ok, Err, refl, sym, subst}
 use Rattle.std.proofs.Common.{arith}
 use Rattle.std.proofs.lemmas.List.{length-append}
-use Rattle.std.specs.List.{slice_get}
-use Rattle.std.specs.Prelude.{OnOk, zero}
+use Rattle.std.specs.Prelude.{OnOk}
 use Rattle.sspi_seats.proofs.Lists.{last_or_before}
 use Rattle.sspi_program.specs.declared.record.Record.{Record}
 use Rattle.sspi_program.specs.Generate.{AreNumbered, IsNumbered}

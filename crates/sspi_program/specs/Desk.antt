@@ -11,12 +11,12 @@ use Rattle.sspi_delegate.specs.Delegates.{calls_of_kdc}
 use Rattle.sspi_report.specs.Seats.{seats_text}
 use Rattle.sspi_scenario.specs.declared.scenario.Scenario.{Scenario}
 use Rattle.sspi_seats.specs.Seat.{Place, place}
-use Rattle.sspi_seats.specs.Table.{AreSeated, AreSeats}
+use Rattle.sspi_seats.specs.Table.{AreSeats}
 use Rattle.sspi_seats.specs.declared.seat.SeatOutcome.{SeatOutcome}
 use Rattle.sspi_seats.specs.declared.seat.SeatOutcome.TheVariants as seats
 use Rattle.sspi_program.specs.Ends.{PlainContext, client_settings_in, server_settings_in, kdc_in}
 use Rattle.sspi_program.specs.Exchange.{plain_meaning, around}
-use Rattle.sspi_program.specs.Seats.{PlainSeat, PlainTable}
+use Rattle.sspi_program.specs.Seats.{PlainSeat}
 
 -- ---- the ends
 
@@ -54,10 +54,6 @@ abbrev pub places_in : ℕ → Scenario → List (Place PlainContext TableView P
 places_in count scenario = replicate count (place_in scenario)
 
 -- ---- the sessions
-
--- so many of these ends were seated, and none has made a turn
-abbrev pub AreSeatedFor : Scenario → ℕ → PlainTable → Type 0
-AreSeatedFor scenario count table = AreSeated plain_meaning table_meaning (calls_of_kdc around) (places_in count scenario) table
 
 -- so many had a session each at one desk
 abbrev pub HasSeats : ℕ → Scenario → List PlainSeat → Type 0

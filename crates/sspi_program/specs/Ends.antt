@@ -16,11 +16,10 @@ use Rattle.sspi_credssp.specs.declared.mode.ClientMode.{ClientMode}
 use Rattle.sspi_credssp.specs.declared.mode.ClientMode.TheVariants as client
 use Rattle.sspi_credssp.specs.declared.mode.ServerMode.{ServerMode}
 use Rattle.sspi_credssp.specs.declared.mode.ServerMode.TheVariants as server
-use Rattle.sspi_credssp.specs.Client.{ClientSettings, ClientView, IsFreshClient}
-use Rattle.sspi_credssp.specs.Server.{ServerSettings, ServerView, IsFreshServer}
+use Rattle.sspi_credssp.specs.Client.{ClientSettings, ClientView}
+use Rattle.sspi_credssp.specs.Server.{ServerSettings, ServerView}
 use Rattle.sspi_credssp.specs.Table.{TableView}
 use Rattle.sspi_delegate.specs.Edits.{MemoryLinkView}
-use Rattle.sspi_program.specs.declared.ends.Ends.{Ends}
 use Rattle.sspi_scenario.specs.declared.scenario.Mode.{Mode}
 use Rattle.sspi_scenario.specs.declared.scenario.Mode.TheVariants as mode
 use Rattle.sspi_scenario.specs.declared.scenario.Package.{Package}
@@ -127,11 +126,3 @@ link_in scenario = record { log = []; edits = scenario.edit; faults = 0; most = 
 -- the KDC knows the scenario's names and answers by its script, and was not asked yet
 abbrev pub kdc_in : Scenario → PlainKdcState
 kdc_in scenario = record { users = scenario.kdc_user; script = scenario.kdc_answer; asked = 0; faults = 0 }
-
--- both ends and the KDC are the scenario's, as they were made
-pub record AreEndsOf (scenario : Scenario) (ends : Ends) : Type 0 where
-  pub client_fresh : IsFreshClient ends.client.value
-  pub client_named : IsClientOf scenario ends.client.value
-  pub server_fresh : IsFreshServer ends.server.value
-  pub server_named : IsServerOf scenario ends.server.value
-  pub kdc : ends.kdc ≡ kdc_in scenario

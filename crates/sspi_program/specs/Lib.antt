@@ -13,5 +13,8 @@ pub mod Early
 pub mod Generate
 pub mod Promises
 pub mod Run
+pub mod Telling
 pub mod Seats
 pub mod Desk
+pub mod Seating
+pub mod Making

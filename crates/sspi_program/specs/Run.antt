@@ -6,19 +6,13 @@ use Rattle.sspi_scenario.specs.declared.scenario.Scenario.{Scenario}
 use Rattle.sspi_scenario.specs.Reading.{IsReadWhole}
 use Rattle.sspi_scenario.specs.Scenario.{scenario_of}
 use Rattle.sspi_program.specs.declared.command.Command.{Command}
-use Rattle.sspi_program.specs.declared.command.Command.TheVariants.{Told, Gen}
-use Rattle.sspi_program.specs.declared.command.Task.{Task}
 use Rattle.sspi_program.specs.declared.record.Conducted.{Conducted}
-use Rattle.sspi_program.specs.declared.record.Record.{Record}
 use Rattle.sspi_program.specs.declared.said.Said.{Said}
 use Rattle.sspi_program.specs.declared.said.Said.TheVariants.{Done, NoScenario, ReadFault, OtherWords, NoMemory}
 use Rattle.sspi_program.specs.Commands.{task_in, purpose_of}
-use Rattle.sspi_program.specs.Desk.{SeatsDue}
-use Rattle.sspi_program.specs.Generate.{TallyDue}
-use Rattle.sspi_program.specs.Kept.{nothing, seating, tallying}
+use Rattle.sspi_program.specs.Kept.{nothing}
 use Rattle.sspi_program.specs.Promises.{Keeps, Does, Due, EndsSo}
-use Rattle.sspi_program.specs.Said.{IsDue, said_text, conducted_as, words_text, read_text, line_text}
-use Rattle.sspi_program.specs.Seats.{PlainSeat}
+use Rattle.sspi_program.specs.Said.{said_text, conducted_as, words_text, read_text, line_text}
 use Rattle.sspi_program.specs.Status.{IsUnlessWrite, IsUnlessFault}
 
 -- what the source and the sink of a run show at one moment: the bytes that are left and those that were written, where these are
@@ -54,57 +48,6 @@ Comes command left faults faults2 (NoScenario line) = IsSomeAnd (task_in command
 Comes command left faults faults2 ReadFault = IsSome (task_in command) × Rose faults faults2
 Comes command left faults faults2 OtherWords = command ≡ None
 Comes command left faults faults2 NoMemory = IsSome command
-
--- what was read of the source where its text was judged: all of it, or one byte more than a text may have
-abbrev pub IsJudged : Option (List ℕ) → Option (List ℕ) → Said → Type 0
-IsJudged before after (Done conducted text) = IsReadWhole before after
-IsJudged before after (NoScenario line) = IsReadWhole before after
-IsJudged before after ReadFault = Unit {0}
-IsJudged before after OtherWords = Unit {0}
-IsJudged before after NoMemory = Unit {0}
-
--- what a task makes of a text
-abbrev pub CarriesOut : Task → List ℕ → Said → Type 0
-CarriesOut task text (Done conducted written) =
-    Does (Told task) (λ scenario. scenario_of (purpose_of task) text ≡ Ok scenario) conducted written.items
-CarriesOut task text (NoScenario line) = scenario_of (purpose_of task) text ≡ Err line
-CarriesOut task text ReadFault = ⊥
-CarriesOut task text OtherWords = ⊥
-CarriesOut task text NoMemory = Unit {0}
-
--- what a task makes of a scenario
-abbrev pub Conducts : Task → Scenario → Said → Type 0
-Conducts task scenario (Done conducted written) = Does (Told task) (λ s. s ≡ scenario) conducted written.items
-Conducts task scenario (NoScenario line) = ⊥
-Conducts task scenario ReadFault = ⊥
-Conducts task scenario OtherWords = ⊥
-Conducts task scenario NoMemory = Unit {0}
-
--- what is made of so many scenarios
-abbrev pub Generates : ℕ → Said → Type 0
-Generates count (Done conducted written) = Does (Gen count) (λ s. Unit {0}) conducted written.items
-Generates count (NoScenario line) = ⊥
-Generates count ReadFault = ⊥
-Generates count OtherWords = ⊥
-Generates count NoMemory = Unit {0}
-
--- what is said of many exchanges
-abbrev pub SumsUp : List Record → Said → Type 0
-SumsUp tally (Done conducted written) =
-    (conducted ≡ tallying conducted.status tally) × IsDue (TallyDue tally) conducted.status written.items
-SumsUp tally (NoScenario line) = ⊥
-SumsUp tally ReadFault = ⊥
-SumsUp tally OtherWords = ⊥
-SumsUp tally NoMemory = ⊥
-
--- what is said of sessions
-abbrev pub SaysOfSeats : List PlainSeat → Said → Type 0
-SaysOfSeats seats (Done conducted written) =
-    (conducted ≡ seating conducted.status seats) × IsDue (SeatsDue seats) conducted.status written.items
-SaysOfSeats seats (NoScenario line) = ⊥
-SaysOfSeats seats ReadFault = ⊥
-SaysOfSeats seats OtherWords = ⊥
-SaysOfSeats seats NoMemory = ⊥
 
 -- ---- what a run promises
 

@@ -1,8 +1,6 @@
 -- What a run says: its exit status and its text, before they are written.
-use Rattle.std.specs.Prelude.{◌≡◌, ℕ, ◌⊎◌, List, [], ◌∷◌, ◌++◌, codes, decimal, reverse, Option, None, Some, IsSome, Result, Ok, Err}
-use Rattle.std.specs.Global.{Vec}
+use Rattle.std.specs.Prelude.{◌≡◌, ℕ, ◌⊎◌, List, [], ◌∷◌, ◌++◌, codes, decimal, reverse, Option, None, Some, Result, Ok, Err}
 use Rattle.std.specs.Option.{option_map}
-use Rattle.sspi_ber.specs.Outside.{Rose, Wrote, WroteFront}
 use Rattle.sspi_delegate.specs.declared.answer.Delegation.{Delegation}
 use Rattle.sspi_delegate.specs.declared.answer.DelegateError.{DelegateError}
 use Rattle.sspi_delegate.specs.declared.answer.DelegateError.TheVariants as errors
@@ -20,7 +18,7 @@ use Rattle.sspi_program.specs.declared.record.RunOutcome.TheVariants as outcomes
 use Rattle.sspi_program.specs.declared.record.RunOutcome.TheVariants.{Delegated, Played}
 use Rattle.sspi_program.specs.declared.said.Said.{Said}
 use Rattle.sspi_program.specs.declared.said.Said.TheVariants.{Done, NoScenario, ReadFault, OtherWords, NoMemory}
-use Rattle.sspi_program.specs.Kept.{nothing, keeping, with_status}
+use Rattle.sspi_program.specs.Kept.{nothing, with_status}
 
 abbrev pub with_newline : List ℕ → List ℕ
 with_newline text = text ++ 10 ∷ []
@@ -81,41 +79,7 @@ RecordDue kept status text = record_due kept ≡ Some (status, text)
 abbrev pub IsDue : (ℕ → List ℕ → Type 0) → ℕ → List ℕ → Type 0
 IsDue D status text = D status text ⊎ ((status ≡ 5) × (text ≡ []))
 
--- what is said of a record
-abbrev pub SaysOf : Record → Said → Type 0
-SaysOf kept (Done conducted text) = (conducted ≡ keeping conducted.status kept) × IsSome (status_of kept.outcome) ×
-    IsDue (RecordDue kept) conducted.status text.items
-SaysOf kept (NoScenario line) = ⊥
-SaysOf kept ReadFault = ⊥
-SaysOf kept OtherWords = ⊥
-SaysOf kept NoMemory = status_of kept.outcome ≡ None
-
--- the record is kept with the status and the text that are told; or, where these had no memory, with none
-abbrev pub IsDoneWith : {E : Type 0} → Record → Result (ℕ × Vec ℕ) E → Said → Type 0
-IsDoneWith kept told (Done conducted text) = (conducted ≡ keeping conducted.status kept) ×
-    ((told ≡ Ok (conducted.status, text)) ⊎ ((conducted.status ≡ 5) × (text.items ≡ [])))
-IsDoneWith kept told (NoScenario line) = ⊥
-IsDoneWith kept told ReadFault = ⊥
-IsDoneWith kept told OtherWords = ⊥
-IsDoneWith kept told NoMemory = ⊥
-
--- what is said of a record with the status and the text that are told
-abbrev pub SaysWith : {E : Type 0} → Record → Result (ℕ × Vec ℕ) E → Said → Type 0
-SaysWith kept told (Done conducted text) = (conducted ≡ keeping conducted.status kept) × IsSome (status_of kept.outcome) ×
-    ((told ≡ Ok (conducted.status, text)) ⊎ ((conducted.status ≡ 5) × (text.items ≡ [])))
-SaysWith kept told (NoScenario line) = ⊥
-SaysWith kept told ReadFault = ⊥
-SaysWith kept told OtherWords = ⊥
-SaysWith kept told NoMemory = status_of kept.outcome ≡ None
-
 -- ---- what is said
-
-abbrev pub said_status : Said → ℕ
-said_status (Done conducted text) = conducted.status
-said_status (NoScenario line) = 2
-said_status ReadFault = 3
-said_status OtherWords = 6
-said_status NoMemory = 5
 
 abbrev pub said_text : Said → List ℕ
 said_text (Done conducted text) = text.items
@@ -131,10 +95,3 @@ conducted_as status (NoScenario line) = nothing status
 conducted_as status ReadFault = nothing status
 conducted_as status OtherWords = nothing status
 conducted_as status NoMemory = nothing status
-
--- The whole text was written, and the status is its own; or a front of it, since the sink failed (4) or had no memory (5).
-abbrev pub Written : ℕ → List ℕ → Option (List ℕ) → Option (List ℕ) → ℕ → ℕ → ℕ → Type 0
-Written own text before after faults faults2 status =
-    ((status ≡ own) × Wrote before after text)
-    ⊎ (((status ≡ 4) × Rose faults faults2 × WroteFront before after text)
-    ⊎ ((status ≡ 5) × WroteFront before after text))

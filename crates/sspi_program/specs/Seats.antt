@@ -4,10 +4,6 @@ use Rattle.sspi_mech.specs.NtlmStage.{NtlmState}
 use Rattle.sspi_mech.specs.PlainKdc.{PlainKdcState}
 use Rattle.sspi_credssp.specs.Table.{TableView}
 use Rattle.sspi_seats.specs.declared.seat.Seat.{Seat}
-use Rattle.sspi_seats.specs.declared.table.Table.{Table}
 
 abbrev pub PlainSeat : Type 0
 PlainSeat = Seat NtlmState KerberosState TableView PlainKdcState
-
-abbrev pub PlainTable : Type 0
-PlainTable = Table NtlmState KerberosState TableView PlainKdcState

@@ -1,7 +1,8 @@
 ghost use Rattle.std.specs.Prelude.{◌≡◌, IfOk};
 ghost use Rattle.sspi_credssp.specs.Client.{IsFreshClient};
 ghost use Rattle.sspi_credssp.specs.Server.{IsFreshServer};
-ghost use Rattle.sspi_program.specs.Ends.{credentials_in, IsClientOf, IsServerOf, link_in, kdc_in, AreEndsOf};
+ghost use Rattle.sspi_program.specs.Ends.{credentials_in, IsClientOf, IsServerOf, link_in, kdc_in};
+ghost use Rattle.sspi_program.specs.Making.{AreEndsOf};
 
 use crate::modes::{client_mode, server_mode};
 use sspi_credssp::{CredSspClient, CredSspServer, TableProxy};

@@ -1,6 +1,7 @@
 ghost use Rattle.std.specs.Prelude.{◌≡◌, IfOk};
 ghost use Rattle.sspi_program.specs.Delegate.{HasExchange};
-ghost use Rattle.sspi_program.specs.Ends.{AreEndsOf, link_in};
+ghost use Rattle.sspi_program.specs.Ends.{link_in};
+ghost use Rattle.sspi_program.specs.Making.{AreEndsOf};
 ghost use Rattle.sspi_scenario.specs.Held.{HoldsValues};
 
 use crate::ends::{Ends, ends_of, link_of};

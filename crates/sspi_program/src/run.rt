@@ -1,8 +1,9 @@
 ghost use Rattle.std.specs.Prelude.{◌≡◌, ◌+◌, ◌≤◌, None, Some, IfOk, IsSome, string_bytes};
 ghost use Rattle.sspi_program.specs.Commands.{command_of, task_in};
 ghost use Rattle.sspi_program.specs.Kept.{with_status};
-ghost use Rattle.sspi_program.specs.Run.{outside, Comes, IsJudged, CarriesOut, IsRun, EndsRun};
-ghost use Rattle.sspi_program.specs.Said.{conducted_as, line_text, said_status, said_text, Written};
+ghost use Rattle.sspi_program.specs.Run.{outside, Comes, IsRun, EndsRun};
+ghost use Rattle.sspi_program.specs.Telling.{CarriesOut, IsJudged, said_status, Written};
+ghost use Rattle.sspi_program.specs.Said.{conducted_as, line_text, said_text};
 ghost use Rattle.sspi_scenario.specs.declared.reading.TheConstants.{TEXT_LIMIT};
 ghost use Rattle.sspi_scenario.specs.Reading.{TakesAtMost};
 

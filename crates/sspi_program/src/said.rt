@@ -1,5 +1,6 @@
 ghost use Rattle.std.specs.Prelude.{◌≡◌, ◌++◌, IfOk};
-ghost use Rattle.sspi_program.specs.Said.{IsDoneWith, SaysOf, SaysWith, delegated_status, early_status, heard_status, report_of, status_of};
+ghost use Rattle.sspi_program.specs.Said.{delegated_status, early_status, heard_status, report_of, status_of};
+ghost use Rattle.sspi_program.specs.Telling.{IsDoneWith, SaysOf, SaysWith};
 
 use crate::record::{Conducted, Record, RunOutcome};
 use crate::status;

@@ -1,6 +1,6 @@
 //! What the program makes of a scenario, a module for each word; and what it makes of a number of scenarios.
 
-ghost use Rattle.sspi_program.specs.Run.{Conducts};
+ghost use Rattle.sspi_program.specs.Telling.{Conducts};
 ghost use Rattle.sspi_scenario.specs.Held.{HoldsValues};
 
 mod audit;

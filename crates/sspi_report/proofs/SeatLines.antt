@@ -1,6 +1,6 @@
 -- The lines of seats, and of one more.
 use Rattle.std.proofs.Common.{◌≡◌, ℕ, ◌+◌, ◌<◌, List, [], ◌∷◌, ◌++◌, length, take, get_or}
-use Rattle.std.proofs.Common.{sym, ap, ◌∙◌, append_assoc, append-nil, arith, subst}
+use Rattle.std.proofs.Common.{sym, ap, ◌∙◌, append_assoc, append-nil, arith}
 use Rattle.std.proofs.lemmas.List.{take_more, length-take}
 use Rattle.sspi_seats.specs.declared.seat.Seat.{Seat}
 use Rattle.sspi_report.specs.Seats.{lines_from, seat_line}

@@ -5,7 +5,6 @@ use Rattle.sspi_seats.specs.declared.seat.Seat.{Seat}
 use Rattle.sspi_seats.specs.declared.seat.SeatOutcome.{SeatOutcome}
 use Rattle.sspi_seats.specs.declared.seat.SeatOutcome.TheVariants as seats
 use Rattle.sspi_report.specs.Entries.{line}
-use Rattle.sspi_report.specs.Names.{end_name}
 use Rattle.sspi_report.specs.Outcome.{delegated_text, read_text, refusal_text, write_text}
 
 -- what an outcome says, in the words of a delegation

@@ -4,8 +4,8 @@ use Rattle.std.specs.Prelude.{MatchResult, ◌⊎◌}
 use Rattle.hex.specs.Hex.{decode_of}
 use Rattle.hex.specs.declared.error.FromHexError.{FromHexError}
 use Rattle.hex.specs.declared.error.FromHexError.TheVariants.{OutOfMemory, InvalidHexCharacter, OddLength, InvalidStringLength}
-use Rattle.sspi_scenario.specs.Hex.{hex_of, hex_refusal}
-use Rattle.sspi_scenario.specs.Reads.{Reads}
+use Rattle.sspi_scenario.specs.Hex.{hex_of}
+use Rattle.sspi_scenario.specs.Reads.{hex_refusal, Reads}
 use Rattle.std.specs.Result.{result_ok}
 
 module _ {E : Type 0} (out : List ℕ) where

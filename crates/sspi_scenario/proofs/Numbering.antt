@@ -1,7 +1,7 @@
 -- The values of the scenario of a number.
-use Rattle.std.proofs.Common.{◌≡◌, ℕ, ◌<◌, ◌≤◌, ◌^◌, ◌%◌, ◌/◌, ◌==◌, ◌||◌, Bool, true, false, List, [], ◌∷◌, ◌++◌, codes, decimal, length}
+use Rattle.std.proofs.Common.{◌≡◌, ℕ, ◌<◌, ◌^◌, ◌%◌, ◌==◌, ◌||◌, Bool, true, false, List, [], ◌∷◌, ◌++◌, codes, decimal}
 use Rattle.std.proofs.Common.{refl, arith}
-use Rattle.std.proofs.Common.{if◌then◌else◌, Option, None, Some, ap, sym, subst}
+use Rattle.std.proofs.Common.{if◌then◌else◌, None, Some, ap, sym, subst}
 use Rattle.std.proofs.lemmas.Bool.{and_parts}
 use Rattle.std.proofs.lemmas.Bool.Decides.{nat_tests}
 use Rattle.std.proofs.lemmas.Fmt.{IsAscii-decimal, digits_decimal}
@@ -14,7 +14,7 @@ use Rattle.sspi_scenario.specs.declared.scenario.Scenario.{Scenario}
 use Rattle.sspi_scenario.specs.declared.values.Values.{Values}
 use Rattle.sspi_scenario.specs.Held.{HoldsValues}
 use Rattle.sspi_scenario.specs.Scenario.{defaults}
-use Rattle.sspi_scenario.specs.Numbered.{is_old, numbered, set_apart, user_at, usual_at, version_at, with_kerberos, with_loss}
+use Rattle.sspi_scenario.specs.Numbered.{is_old, numbered, user_at, usual_at, with_kerberos, with_loss}
 use Rattle.sspi_scenario.specs.Numbered.{with_other_password}
 use Rattle.sspi_scenario.proofs.Numerals.{own}
 

@@ -3,10 +3,6 @@ use Rattle.std.specs.Prelude.{ℕ, List, Option, slice_index}
 use Rattle.std.specs.Option.{option_map}
 use Rattle.std.specs.Result.{result_ok}
 use Rattle.hex.specs.Hex.{decode_of, decode_sized}
-use Rattle.hex.specs.declared.error.FromHexError.{FromHexError}
-use Rattle.hex.specs.declared.error.FromHexError.TheVariants.{OutOfMemory}
-use Rattle.sspi_scenario.specs.declared.error.LineError.{LineError}
-use Rattle.sspi_scenario.specs.declared.error.LineError.TheVariants.{Fault, InsufficientMemory}
 
 -- the bytes that a text of hex digits spells; an odd number of digits spells none
 unfoldable pub hex_of : List ℕ → Option (List ℕ)
@@ -19,8 +15,3 @@ hex_of_size size text = result_ok (decode_sized text size)
 -- the same of one byte
 abbrev pub hex_byte_of : List ℕ → Option ℕ
 hex_byte_of text = option_map (λ bytes. slice_index bytes 0) (hex_of_size 1 text)
-
--- what the refusal of a decoding is for a line
-abbrev pub hex_refusal : FromHexError → LineError
-hex_refusal OutOfMemory = InsufficientMemory
-hex_refusal other = Fault

@@ -8,6 +8,8 @@ use Rattle.sspi_scenario.specs.Lines.{lines_of}
 use Rattle.sspi_scenario.specs.declared.error.LineError.{LineError}
 use Rattle.sspi_scenario.specs.declared.error.LineError.TheVariants.{Fault, InsufficientMemory}
 use Rattle.sspi_scenario.specs.declared.values.Values.{Values}
+use Rattle.hex.specs.declared.error.FromHexError.{FromHexError}
+use Rattle.hex.specs.declared.error.FromHexError.TheVariants.{OutOfMemory}
 
 -- exactly the value that there is; a fault exactly where there is none; want of memory is free
 abbrev pub Reads : {T : Type 0} → Result T LineError → Option T → Type 0
@@ -36,3 +38,8 @@ first_named name (row ∷ rows) = if bytes_eq name row.1.now then Some row.0 els
 abbrev pub lines_after : Option (List ℕ) → List (List ℕ)
 lines_after None = []
 lines_after (Some rest) = lines_of rest
+
+-- what the refusal of a decoding is for a line
+abbrev pub hex_refusal : FromHexError → LineError
+hex_refusal OutOfMemory = InsufficientMemory
+hex_refusal other = Fault

@@ -22,7 +22,7 @@ impl From<AllocError> for LineError {
 
 impl From<FromHexError> for LineError {
     ghost use Rattle.std.specs.Prelude.{◌≡◌};
-    ghost use Rattle.sspi_scenario.specs.Hex.{hex_refusal};
+    ghost use Rattle.sspi_scenario.specs.Reads.{hex_refusal};
 
     ghost from_gives = { λ error refusal. refusal ≡ hex_refusal error };
 

@@ -23,11 +23,13 @@ use Rattle.sspi_delegate.proofs.Heeding.{client_past_heeds}
 use Rattle.sspi_delegate.proofs.Histories.{client_stopped_history}
 use Rattle.sspi_delegate.proofs.HistoryRuns.{client_past_ran}
 use Rattle.sspi_desk.specs.Desk.{DeskView, session}
-use Rattle.sspi_seats.specs.Guest.{OthersStay, AreClients, IsSeatOf, IsVisited, StandsBy}
+use Rattle.sspi_seats.specs.Guest.{AreClients, IsVisited, StandsBy}
+use Rattle.sspi_seats.specs.Keeping.{OthersStay, AreKept, HasLeft}
+use Rattle.sspi_seats.specs.Hearing.{IsSeatOf}
 use Rattle.sspi_seats.specs.Messages.{AreServed}
 use Rattle.sspi_seats.specs.Outcomes.{Shows}
 use Rattle.sspi_seats.specs.Seat.{Place, ClientCame, ClientRuns, IsSeat}
-use Rattle.sspi_seats.specs.Table.{AreKept, AreSeats, HasLeft, IsKept}
+use Rattle.sspi_seats.specs.Table.{AreSeats, IsKept}
 use Rattle.sspi_seats.specs.declared.guest.Guest.{Guest}
 use Rattle.sspi_seats.specs.declared.seat.Seat.{Seat}
 use Rattle.sspi_seats.specs.declared.seat.SeatOutcome.{SeatOutcome}

@@ -22,7 +22,7 @@ use Rattle.sspi_desk.specs.declared.answer.DeskError.{DeskError}
 use Rattle.sspi_desk.specs.declared.answer.DeskError.TheVariants.{NoSession, Unread, Refused, TooLong, InsufficientMemory}
 use Rattle.sspi_desk.specs.declared.answer.Served.{Served}
 use Rattle.sspi_desk.specs.declared.answer.Served.TheVariants.{Answer, Finished}
-use Rattle.sspi_seats.specs.Messages.{AreServed, AreServedButLast, IsNext}
+use Rattle.sspi_seats.specs.Messages.{AreServed, IsNext, AreServedButLast}
 use Rattle.sspi_seats.specs.Outcomes.{Shows, NewestAnswer, IsRefusedWith, IsUnreadable, kind_of}
 use Rattle.sspi_seats.proofs.Leaving.{served_count}
 use Rattle.sspi_seats.specs.declared.seat.SeatOutcome.{SeatOutcome}

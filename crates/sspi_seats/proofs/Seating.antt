@@ -14,7 +14,8 @@ use Rattle.sspi_credssp.specs.Proxy.{ProxyMeaning}
 use Rattle.sspi_credssp.specs.Server.{ServerView}
 use Rattle.sspi_delegate.specs.Asking.{KdcCalls}
 use Rattle.sspi_desk.specs.Desk.{session, IsAdmitted}
-use Rattle.sspi_seats.specs.Guest.{IsNew, IsVisited, OthersStay}
+use Rattle.sspi_seats.specs.Guest.{IsVisited}
+use Rattle.sspi_seats.specs.Keeping.{IsNew, OthersStay}
 use Rattle.sspi_seats.specs.Seat.{Place}
 use Rattle.sspi_seats.specs.Table.{IsKept, IsEmpty, AreVisited, AreSeated}
 use Rattle.sspi_seats.specs.declared.guest.Guest.{Guest}

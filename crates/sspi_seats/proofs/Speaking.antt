@@ -28,7 +28,9 @@ use Rattle.sspi_desk.specs.declared.answer.DeskError.{DeskError}
 use Rattle.sspi_desk.specs.declared.answer.DeskError.TheVariants.{NoSession, Unread, Refused, TooLong, InsufficientMemory}
 use Rattle.sspi_desk.specs.declared.answer.Served.{Served}
 use Rattle.sspi_desk.specs.declared.answer.Served.TheVariants.{Answer, Finished}
-use Rattle.sspi_seats.specs.Guest.{AreClients, KeepsCall, Speaks, SpeaksAs, IsHeard, IsSpeaking, IsVisited, StandsBy, OthersStay}
+use Rattle.sspi_seats.specs.Guest.{AreClients, IsVisited, StandsBy}
+use Rattle.sspi_seats.specs.Keeping.{KeepsCall, OthersStay}
+use Rattle.sspi_seats.specs.Hearing.{Speaks, SpeaksAs, IsHeard, IsSpeaking}
 use Rattle.sspi_seats.specs.Messages.{IsNext, AreServed, AreServedButLast}
 use Rattle.sspi_seats.specs.Outcomes.{Shows}
 use Rattle.sspi_seats.specs.Seat.{Place, ClientCame}

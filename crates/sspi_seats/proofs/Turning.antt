@@ -23,7 +23,9 @@ use Rattle.sspi_desk.specs.declared.answer.Served.{Served}
 use Rattle.sspi_delegate.specs.History.{ClientHistory, ClientStopped}
 use Rattle.sspi_delegate.specs.Recorded.{PushedSuch}
 use Rattle.sspi_delegate.specs.Turns.{AllGoOn, GoesOn, TranscriptView}
-use Rattle.sspi_seats.specs.Guest.{AreClients, IsNew, Runs, IsSpeaking, HasEnded, IsVisited, StandsBy}
+use Rattle.sspi_seats.specs.Guest.{AreClients, Runs, HasEnded, IsVisited, StandsBy}
+use Rattle.sspi_seats.specs.Keeping.{IsNew}
+use Rattle.sspi_seats.specs.Hearing.{IsSpeaking}
 use Rattle.sspi_seats.specs.Messages.{IsNext, AreServed, AreServedButLast}
 use Rattle.sspi_seats.specs.Seat.{Place}
 use Rattle.sspi_seats.specs.Table.{IsKept}

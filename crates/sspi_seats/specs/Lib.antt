@@ -2,4 +2,6 @@ pub mod Messages
 pub mod Outcomes
 pub mod Seat
 pub mod Guest
+pub mod Hearing
 pub mod Table
+pub mod Keeping

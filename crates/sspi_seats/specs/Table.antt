@@ -1,5 +1,5 @@
 -- All seats of a table; the client of each has the session of its number.
-use Rattle.std.specs.Prelude.{◌≡◌, ℕ, ◌+◌, ◌<◌, ◌≤◌, List, [], ◌∷◌, ◌++◌, length, Option, None, Some}
+use Rattle.std.specs.Prelude.{◌≡◌, ℕ, ◌+◌, ◌<◌, ◌≤◌, List, [], length, Option, None, Some}
 use Rattle.std.specs.List.{slice_get}
 use Rattle.sspi_mech.specs.Meaning.{Meaning}
 use Rattle.sspi_credssp.specs.declared.context.SspiContext.{SspiContext}
@@ -7,7 +7,7 @@ use Rattle.sspi_credssp.specs.Context.{ContextSetting}
 use Rattle.sspi_credssp.specs.Proxy.{ProxyMeaning}
 use Rattle.sspi_credssp.specs.Server.{ServerView}
 use Rattle.sspi_delegate.specs.Asking.{KdcCalls}
-use Rattle.sspi_desk.specs.Desk.{DeskView, session}
+use Rattle.sspi_desk.specs.Desk.{session}
 use Rattle.sspi_seats.specs.Guest.{IsVisited}
 use Rattle.sspi_seats.specs.Seat.{Place, IsSeat}
 use Rattle.sspi_seats.specs.declared.guest.Guest.{Guest}
@@ -27,21 +27,9 @@ module _ {N K P D : Type 0} (c : Meaning ContextSetting (SspiContext N K)) (p : 
   IsKept rounds guest None = ⊥
   IsKept rounds guest (Some server) = IsVisited c p k came rounds guest server
 
-  -- the seat of one client more
-  pub record HasLeft (limit : ℕ) (old new : List (Seat N K P D)) : Type 0 where
-    pub seat : Seat N K P D
-    pub added : new ≡ old ++ seat ∷ []
-    pub is : IsSeat c p k came limit seat
-
 -- `cames`: the places of a table, the first one first
 module _ {N K P D : Type 0} (c : Meaning ContextSetting (SspiContext N K)) (p : ProxyMeaning P) (k : KdcCalls D)
     (cames : List (Place (SspiContext N K) P D)) where
-  -- a client came to each place, and has the session of its number; they have had so many rounds
-  pub record AreKept (rounds : ℕ) (guests : List (Guest N K D)) (desk : DeskView (SspiContext N K) P) : Type 0 where
-    pub each : (i : ℕ) (came : Place (SspiContext N K) P D) (guest : Guest N K D) → slice_get cames i ≡ Some came →
-        slice_get guests i ≡ Some guest → IsKept c p k came rounds guest (session i desk)
-    pub seated : length guests ≡ length cames
-
   -- The client of each place is seated there and has the session of its number. They have had so many rounds; those of the places below
   -- `first` one more.
   pub record AreVisited (rounds first : ℕ) (table : Table N K P D) : Type 0 where

@@ -5,7 +5,8 @@ ghost use Rattle.sspi_credssp.specs.Server.{ServerView};
 ghost use Rattle.sspi_delegate.specs.Asking.{kdc_calls};
 ghost use Rattle.sspi_desk.specs.Alone.{Alone};
 ghost use Rattle.sspi_desk.specs.Desk.{session, Serves};
-ghost use Rattle.sspi_seats.specs.Guest.{IsNew, IsSeatOf, IsSpeaking, KeepsCall, OthersStay};
+ghost use Rattle.sspi_seats.specs.Keeping.{IsNew, KeepsCall, OthersStay};
+ghost use Rattle.sspi_seats.specs.Hearing.{IsSeatOf, IsSpeaking};
 ghost use Rattle.sspi_seats.specs.Seat.{Place};
 ghost use Rattle.sspi_seats.specs.Table.{IsKept};
 

@@ -1,5 +1,5 @@
 ghost use Rattle.std.specs.Prelude.{IfOk};
-ghost use Rattle.sspi_seats.specs.Guest.{IsHeard, IsReadAs, IsRefusal, Speaks};
+ghost use Rattle.sspi_seats.specs.Hearing.{IsHeard, IsReadAs, IsRefusal, Speaks};
 
 use crate::seat::SeatOutcome;
 use sspi_ber::WireKind;

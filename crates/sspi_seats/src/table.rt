@@ -4,9 +4,9 @@ ghost use Rattle.sspi_credssp.specs.Context.{either};
 ghost use Rattle.sspi_credssp.specs.declared.context.SspiContext.{SspiContext};
 ghost use Rattle.sspi_delegate.specs.Asking.{kdc_calls};
 ghost use Rattle.sspi_desk.specs.Desk.{session};
-ghost use Rattle.sspi_seats.specs.Guest.{OthersStay};
+ghost use Rattle.sspi_seats.specs.Keeping.{OthersStay, AreKept, HasLeft};
 ghost use Rattle.sspi_seats.specs.Seat.{Place, place};
-ghost use Rattle.sspi_seats.specs.Table.{AreKept, AreSeated, AreSeats, AreVisited, HasLeft, IsEmpty, IsKept};
+ghost use Rattle.sspi_seats.specs.Table.{AreSeated, AreSeats, AreVisited, IsEmpty, IsKept};
 
 use crate::guest::{Guest, lost};
 use crate::seat::Seat;

@@ -16,12 +16,12 @@ use Rattle.sspi_tsreq.specs.declared.place.Stage.{Stage}
 use Rattle.sspi_tsreq.specs.declared.place.Stage.TheVariants.{OuterTag, Content}
 use Rattle.sspi_tsreq.specs.declared.reader.TsReader.{TsReader}
 use Rattle.sspi_tsreq.specs.Answer.{IsAnswer, IsUnlessMemory}
-use Rattle.sspi_tsreq.specs.Feeding.{EndsAs, IsPastReading, Stands, StandsAt, StandsInside}
+use Rattle.sspi_tsreq.specs.Feeding.{IsPastReading, Stands, StandsAt, StandsInside}
+use Rattle.sspi_tsreq.specs.Walks.{EndsAs}
 use Rattle.sspi_tsreq.specs.Grammar.{IsOctets, IsRequest, IsToken}
-use Rattle.sspi_tsreq.specs.Parts.{HasOctets}
+use Rattle.sspi_tsreq.specs.Quiet.{HasOctets, IsWithout}
 use Rattle.sspi_tsreq.specs.Places.{answered, rest_at}
 use Rattle.sspi_tsreq.specs.Reading.{body_at, request_at}
-use Rattle.sspi_tsreq.specs.Walks.{IsWithout}
 use Rattle.sspi_tsreq.proofs.BodyMatch.{body_again}
 use Rattle.sspi_tsreq.proofs.Feeding.{last_answer, last_only, never, stage_past, without_parts}
 use Rattle.sspi_tsreq.proofs.FromBuffer.{unkept_answer}

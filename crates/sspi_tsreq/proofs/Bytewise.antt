@@ -6,9 +6,10 @@ use Rattle.sspi_tsreq.specs.declared.place.Stage.TheVariants.{Content}
 use Rattle.sspi_tsreq.specs.declared.place.Text.{Text}
 use Rattle.sspi_tsreq.specs.declared.reader.TsReader.{TsReader}
 use Rattle.sspi_tsreq.specs.declared.request.TsRequest.{TsRequest}
-use Rattle.sspi_tsreq.specs.Feeding.{Stands, WentOn}
-use Rattle.sspi_tsreq.specs.Places.{answered, rest_at, text_from, text_left, text_of, with_text}
-use Rattle.sspi_tsreq.specs.Walks.{IsWithout, Opened}
+use Rattle.sspi_tsreq.specs.Feeding.{Stands}
+use Rattle.sspi_tsreq.specs.Walks.{WentOn, with_text}
+use Rattle.sspi_tsreq.specs.Places.{answered, rest_at, text_from, text_left, text_of}
+use Rattle.sspi_tsreq.specs.Quiet.{IsWithout, Opened}
 use Rattle.sspi_tsreq.proofs.Feeding.{inside, inside_on, without_parts}
 use Rattle.sspi_tsreq.proofs.Walks.{octet_more, text_part}
 

@@ -24,11 +24,12 @@ use Rattle.sspi_tsreq.specs.declared.place.Stage.{Stage}
 use Rattle.sspi_tsreq.specs.declared.place.Stage.TheVariants.{OuterTag, OuterLength, Content, Refused}
 use Rattle.sspi_tsreq.specs.Answer.{IsAnswer}
 use Rattle.sspi_tsreq.specs.Grammar.{IsRequest}
-use Rattle.sspi_tsreq.specs.Feeding.{EndsAs, IsPast, IsPastReading, lengthened, numbered, stage_of, Stands, StandsAt, StandsInside, WentOn}
-use Rattle.sspi_tsreq.specs.Places.{answered, length_rest, rest_at, LengthSteps}
+use Rattle.sspi_tsreq.specs.Feeding.{IsPastReading, Stands, StandsAt, StandsInside}
+use Rattle.sspi_tsreq.specs.Walks.{WentOn, EndsAs, IsPast, lengthened, numbered, stage_of, LengthSteps, filled, goes_on, slot}
+use Rattle.sspi_tsreq.specs.Places.{answered, length_rest, rest_at}
 use Rattle.sspi_tsreq.specs.declared.walk.Walk.{Walk}
 use Rattle.sspi_tsreq.specs.Reading.{body_at, request_at}
-use Rattle.sspi_tsreq.specs.Walks.{filled, goes_on, slot, IsWithout, Opened}
+use Rattle.sspi_tsreq.specs.Quiet.{IsWithout, Opened}
 use Rattle.sspi_tsreq.proofs.FromBuffer.{kept_answer}
 use Rattle.sspi_tsreq.proofs.Numbers.{bytes_short, bytes_there}
 use Rattle.sspi_tsreq.proofs.Ends.{part_end}

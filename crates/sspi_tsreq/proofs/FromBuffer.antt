@@ -6,7 +6,7 @@ use Rattle.sspi_ber.specs.Fault.{Fault, Ended, Invalid, Read, fault_of}
 use Rattle.sspi_ber.specs.Outside.{Gives, NeedsNoMemory}
 use Rattle.sspi_tsreq.specs.declared.request.TsRequest.{TsRequest}
 use Rattle.sspi_tsreq.specs.Answer.{fault, IsAnswer, IsUnlessMemory}
-use Rattle.sspi_tsreq.specs.Parts.{HasOctets}
+use Rattle.sspi_tsreq.specs.Quiet.{HasOctets}
 use Rattle.sspi_tsreq.specs.Grammar.{IsRequest}
 use Rattle.sspi_tsreq.specs.Reading.{request_at}
 use Rattle.sspi_tsreq.proofs.RequestMatch.{request_takes, request_again}

@@ -11,7 +11,8 @@ use Rattle.sspi_ber.specs.Pieces.{bytes_at, is_octet_count, limited_at, length_a
 use Rattle.sspi_ber.proofs.Match.{read_of}
 use Rattle.sspi_tsreq.specs.declared.place.LengthStep.{LengthStep}
 use Rattle.sspi_tsreq.specs.declared.place.LengthStep.TheVariants.{Part, Known, Bad}
-use Rattle.sspi_tsreq.specs.Places.{limited_from, low_from, sized_low, LengthLasts, LengthSteps}
+use Rattle.sspi_tsreq.specs.Places.{limited_from, low_from, sized_low}
+use Rattle.sspi_tsreq.specs.Walks.{LengthLasts, LengthSteps}
 
 -- ---- bytes
 

@@ -20,7 +20,8 @@ use Rattle.sspi_names.specs.declared.credentials.CredentialsBuffers.{Credentials
 use Rattle.sspi_names.specs.declared.credentials.CredentialsBuffers.TheVariants as buffered
 use Rattle.sspi_tsreq.specs.Creds.{Passwords, malformed, unknown_type, smart_card, spelled_or_malformed, ◌and_then◌, creds_of}
 use Rattle.sspi_tsreq.specs.Creds.{creds_in, fields_at, passwords_at, password_type, texts_of, text_or_refused}
-use Rattle.sspi_tsreq.specs.CredsAnswers.{IsCredsRefusal, IsOrMemory, ReadsCreds, CredsCause, refusal_by}
+use Rattle.sspi_tsreq.specs.CredsAnswers.{IsCredsRefusal, IsOrMemory, ReadsCreds, CredsCause}
+use Rattle.sspi_tsreq.specs.CredsReading.{refusal_by}
 use Rattle.sspi_tsreq.specs.CredsGrammar.{IsCreds}
 use Rattle.sspi_tsreq.specs.Filled.{CopyCause}
 use Rattle.sspi_tsreq.proofs.CredsAre.{password_stands, keytab_never}

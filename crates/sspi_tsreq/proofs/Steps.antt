@@ -16,8 +16,8 @@ use Rattle.sspi_tsreq.specs.declared.place.Inner.TheVariants.{Version, VersionNu
 use Rattle.sspi_tsreq.specs.declared.place.Inner.TheVariants.{NonceOctets}
 use Rattle.sspi_tsreq.specs.Reading.{low_at, octets_at, token_at, code_at, nonce_at, looked_at, after_code, after_key, after_auth}
 use Rattle.sspi_tsreq.specs.Reading.{after_nego, after_version, body_at}
-use Rattle.sspi_tsreq.specs.Places.{behind, inner_tag, sized_low, text_then, version_then, code_then, nonce_then}
-use Rattle.sspi_tsreq.specs.Walks.{from_inner}
+use Rattle.sspi_tsreq.specs.Places.{behind, sized_low, text_then, version_then, code_then, nonce_then}
+use Rattle.sspi_tsreq.specs.Walks.{inner_tag, from_inner}
 use Rattle.sspi_tsreq.proofs.Numbers.{map_then}
 
 -- ---- what has to come

@@ -15,7 +15,7 @@ use Rattle.std.specs.Result.{IfErr}
 use Rattle.sspi_names.specs.declared.credentials.CredentialsBuffers.{CredentialsBuffers}
 use Rattle.sspi_tsreq.specs.Creds.{Fields, Passwords, malformed, unknown_type, smart_card, spelled_or_malformed, password_type}
 use Rattle.sspi_tsreq.specs.Creds.{texts_of, fields_at, passwords_at, creds_in, creds_of}
-use Rattle.sspi_tsreq.specs.CredsAnswers.{IsLate, refusal_by}
+use Rattle.sspi_tsreq.specs.CredsReading.{IsLate, refusal_by}
 use Rattle.sspi_tsreq.specs.CredsGrammar.{HasPasswords, BeginsSequence}
 use Rattle.sspi_tsreq.proofs.CredsAre.{Form, malformed_form, unknown_form, smart_card_form, bad_text_form, stands_form, form_of}
 use Rattle.sspi_tsreq.proofs.CredsAre.{texts_cases, texts_answer, malformed_refused, unknown_refused, smart_card_refused}

@@ -11,8 +11,8 @@ use Rattle.sspi_ber.proofs.Match.{read_of}
 use Rattle.sspi_tsreq.specs.declared.request.TsRequest.{TsRequest}
 use Rattle.sspi_tsreq.specs.declared.place.Text.{Text}
 use Rattle.sspi_tsreq.specs.declared.place.Text.TheVariants.{NegoTokens, AuthInfo, PubKeyAuth}
-use Rattle.sspi_tsreq.specs.Places.{low_from, nonce_from, nonce_rest, nonce_then, text_of}
-use Rattle.sspi_tsreq.specs.Places.{text_from, text_left, text_more, text_then, with_text}
+use Rattle.sspi_tsreq.specs.Places.{low_from, nonce_from, nonce_rest, nonce_then, text_of, text_from, text_left, text_more, text_then}
+use Rattle.sspi_tsreq.specs.Walks.{with_text}
 use Rattle.sspi_tsreq.specs.Places.{version_from, version_then, code_from, code_then}
 use Rattle.sspi_tsreq.proofs.Numbers.{bytes_there, bytes_behind, byte_behind, low_step, low_last, none_left, put_before}
 

@@ -5,7 +5,7 @@ use Rattle.sspi_ber.specs.declared.wire_kind.WireKind.TheVariants.{UnexpectedEof
 use Rattle.sspi_ber.specs.Fault.{Fault, Ended, Invalid, fault_of}
 use Rattle.sspi_tsreq.specs.declared.request.TsRequest.{TsRequest}
 use Rattle.sspi_tsreq.specs.Grammar.{IsRequest}
-use Rattle.sspi_tsreq.specs.Parts.{HasOctets}
+use Rattle.sspi_tsreq.specs.Quiet.{HasOctets}
 use Rattle.sspi_tsreq.specs.Reading.{request_at, body_at}
 
 -- the first fault of bytes that begin with no request

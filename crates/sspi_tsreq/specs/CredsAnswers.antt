@@ -3,9 +3,7 @@ use Rattle.std.specs.Prelude.{◌≡◌, ◌⊎◌, ◌≤◌, ℕ, List, Option
 use Rattle.sspi_types.specs.Memory.{memory_error}
 use Rattle.sspi_types.specs.declared.error.Error.{Error}
 use Rattle.sspi_types.specs.declared.error_kind.ErrorKind.TheVariants.{InternalError}
-use Rattle.sspi_ber.specs.Kinds.{io_error, error_of}
-use Rattle.sspi_ber.specs.declared.wire_kind.WireKind.{WireKind}
-use Rattle.sspi_ber.specs.declared.wire_kind.WireKind.TheVariants.{UnexpectedEof, InvalidData, ReadFault, WriteFault, InsufficientMemory}
+use Rattle.sspi_ber.specs.Kinds.{io_error}
 use Rattle.sspi_ber.specs.Outside.{Rose}
 use Rattle.sspi_names.specs.Refusals.{bad_text}
 use Rattle.sspi_names.specs.declared.credentials.CredentialsBuffers.{CredentialsBuffers}
@@ -13,20 +11,10 @@ use Rattle.sspi_names.specs.declared.credentials.CredentialsBuffers.TheVariants 
 use Rattle.sspi_tsreq.specs.Creds.{creds_of, keytab_refused, malformed, smart_card, unknown_type}
 use Rattle.sspi_tsreq.specs.CredsGrammar.{StandsBefore}
 
--- exactly this answer, with the value seen by view
-abbrev pub Is : {X A : Type 0} → (X → A) → Result X Error → Result A Error → Type 0
-Is view (Ok x) answer = answer ≡ Ok (view x)
-Is view (Err error) answer = answer ≡ Err error
-
 -- this answer, or want of memory
 abbrev pub IsOrMemory : {X A : Type 0} → (X → A) → Result X Error → Result A Error → Type 0
 IsOrMemory view (Ok x) answer = answer ≡ Ok (view x)
 IsOrMemory view (Err error) answer = (answer ≡ Err error) ⊎ (error ≡ memory_error)
-
--- no refusal that is reached before the texts are copied
-abbrev pub IsLate : Result CredentialsBuffers Error → Type 0
-IsLate (Ok buffers) = Unit {0}
-IsLate (Err error) = error ≡ bad_text
 
 -- a keytab is refused before memory is taken
 abbrev pub RefusesKeytab : {X : Type 0} → CredentialsBuffers → Result X Error → Type 0
@@ -45,14 +33,6 @@ ReadsCreds (Some text) after (Err error) = (creds_of text ≡ Err error) ⊎ ((e
 abbrev pub CredsCause : {X : Type 0} → ℕ → ℕ → Result X Error → Type 0
 CredsCause before now (Ok x) = before ≤ now
 CredsCause before now (Err error) = (before ≤ now) × (error.error_type ≡ InternalError → Rose before now)
-
--- what a fault of reading is to a caller: what is not spelled is malformed, all else a fault of the outside
-abbrev pub refusal_by : WireKind → Error
-refusal_by UnexpectedEof = malformed
-refusal_by InvalidData = malformed
-refusal_by ReadFault = error_of ReadFault
-refusal_by WriteFault = error_of WriteFault
-refusal_by InsufficientMemory = error_of InsufficientMemory
 
 -- The refusals that reading may answer: a structure that is not there, a type without meaning, a smart card, a text that is
 -- not UTF-16, want of memory, and a fault of the source. None has a status.

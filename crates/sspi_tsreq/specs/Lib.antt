@@ -1,6 +1,7 @@
 pub mod Creds
 pub mod CredsGrammar
 pub mod CredsAnswers
+pub mod CredsReading
 pub mod CredsSizes
 pub mod Early
 pub mod Filled
@@ -18,4 +19,5 @@ pub mod Equality
 pub mod SameRequest
 pub mod Places
 pub mod Walks
+pub mod Quiet
 pub mod Feeding

@@ -1,5 +1,5 @@
 -- What a reader that is fed with pieces answers from each place of the grammar, if these bytes still come.
-use Rattle.std.specs.Prelude.{◌≡◌, ◌<◌, ◌≤◌, ℕ, ◌+◌, ◌-◌, ◌*◌, ◌%◌, ◌^◌, nat_lt, nat_le, ◌==◌, List, [], ◌++◌, take, fold, Option}
+use Rattle.std.specs.Prelude.{ℕ, ◌+◌, ◌-◌, ◌*◌, ◌%◌, ◌^◌, nat_lt, nat_le, ◌==◌, List, [], ◌++◌, take, fold, Option}
 use Rattle.std.specs.Prelude.{None, Some, Result, Ok, Err, if◌then◌else◌}
 use Rattle.sspi_ber.specs.Fault.{Fault, Invalid, Read, ◌>>=◌}
 use Rattle.sspi_ber.specs.Forms.{is_integer_size}
@@ -8,14 +8,11 @@ use Rattle.sspi_ber.specs.Pieces.{bytes_at, number_at, length_at, tagged_at}
 use Rattle.sspi_tsreq.specs.declared.request.TsRequest.{TsRequest}
 use Rattle.sspi_tsreq.specs.declared.place.LengthPart.{LengthPart}
 use Rattle.sspi_tsreq.specs.declared.place.LengthPart.TheVariants.{First, Three, Two, One}
-use Rattle.sspi_tsreq.specs.declared.place.LengthStep.{LengthStep}
-use Rattle.sspi_tsreq.specs.declared.place.LengthStep.TheVariants.{Part, Known, Bad}
 use Rattle.sspi_tsreq.specs.declared.place.Text.{Text}
 use Rattle.sspi_tsreq.specs.declared.place.Text.TheVariants.{NegoTokens, AuthInfo, PubKeyAuth}
 use Rattle.sspi_tsreq.specs.declared.place.Element.{Element}
 use Rattle.sspi_tsreq.specs.declared.place.Element.TheVariants.{Optional, Required}
 use Rattle.sspi_tsreq.specs.declared.place.Field.TheVariants.{Nego, Auth, Key, Code, Nonce}
-use Rattle.sspi_tsreq.specs.declared.place.Inner.{Inner}
 use Rattle.sspi_tsreq.specs.declared.place.Inner.TheVariants.{Version, VersionNumber, TokenList, TokenItem, Token, Octets, CodeNumber}
 use Rattle.sspi_tsreq.specs.declared.place.Inner.TheVariants.{NonceOctets}
 use Rattle.sspi_tsreq.specs.declared.place.Place.{Place}
@@ -37,17 +34,6 @@ length_rest First bytes = length_at bytes
 length_rest Three bytes = limited_from 0 3 bytes
 length_rest (Two value) bytes = limited_from value 2 bytes
 length_rest (One value) bytes = limited_from value 1 bytes
-
-abbrev pub LengthSteps : Read ℕ → LengthStep → List ℕ → Type 0
-LengthSteps read (Part part) more = read ≡ length_rest part more
-LengthSteps read (Known n) more = read ≡ Ok (n, more)
-LengthSteps read Bad more = read ≡ Err Invalid
-
--- what the limit makes of a length of several octets
-abbrev pub LengthLasts : LengthStep → ℕ → Type 0
-LengthLasts (Part part) len = ⊥
-LengthLasts (Known n) len = (n ≡ len) × (len ≤ max_content)
-LengthLasts Bad len = max_content < len
 
 -- the low 32 bits of a number, behind bytes that stand for this value
 unfoldable pub low_from : ℕ → ℕ → List ℕ → Read ℕ
@@ -119,12 +105,6 @@ text_of NegoTokens r = octets_of r.nego_tokens
 text_of AuthInfo r = octets_of r.auth_info
 text_of PubKeyAuth r = octets_of r.pub_key_auth
 
--- the request with this for the field's bytes
-abbrev pub with_text : Text → TsRequest → List ℕ → TsRequest
-with_text NegoTokens r octets = record r { nego_tokens = Some octets }
-with_text AuthInfo r octets = record r { auth_info = Some octets }
-with_text PubKeyAuth r octets = record r { pub_key_auth = Some octets }
-
 -- bytes of a field behind those that it has
 abbrev pub text_more : Text → TsRequest → List ℕ × List ℕ → Read TsRequest
 text_more text r rest = text_then text r (text_of text r ++ rest.0, rest.1)
@@ -167,14 +147,3 @@ rest_at nonce Faulty r bytes = Err Invalid
 abbrev pub answered : Read TsRequest → Result TsRequest Fault
 answered (Ok read) = Ok read.0
 answered (Err fault) = Err fault
-
--- the identifier octet of what has to come
-abbrev pub inner_tag : Inner → ℕ
-inner_tag Version = 0xA0
-inner_tag VersionNumber = 0x02
-inner_tag TokenList = 0x30
-inner_tag TokenItem = 0x30
-inner_tag Token = 0xA0
-inner_tag (Octets text) = 0x04
-inner_tag CodeNumber = 0x02
-inner_tag NonceOctets = 0x04

@@ -1,7 +1,9 @@
 -- A reader on its way through a piece, over the request that it has from the pieces before.
-use Rattle.std.specs.Prelude.{◌≡◌, ℕ, List, [], ◌∷◌, Option, None, Some, Result}
-use Rattle.sspi_ber.specs.Fault.{Fault, Read}
-use Rattle.sspi_tsreq.specs.declared.place.Element.{Element}
+use Rattle.std.specs.Prelude.{◌≡◌, ℕ, List, Option, None, Some, Result, ◌<◌, ◌≤◌, ◌++◌, Ok, Err}
+use Rattle.sspi_ber.specs.Fault.{Fault, Read, Invalid, Ended}
+use Rattle.sspi_ber.specs.Limit.{max_content}
+use Rattle.sspi_ber.specs.declared.wire_kind.WireKind.{WireKind}
+use Rattle.sspi_ber.specs.declared.wire_kind.WireKind.TheVariants.{UnexpectedEof, InvalidData, ReadFault, WriteFault, InsufficientMemory}
 use Rattle.sspi_tsreq.specs.declared.place.Element.TheVariants.{Optional, Required}
 use Rattle.sspi_tsreq.specs.declared.place.Field.{Field}
 use Rattle.sspi_tsreq.specs.declared.place.Inner.{Inner}
@@ -15,7 +17,15 @@ use Rattle.sspi_tsreq.specs.declared.request.TsRequest.{TsRequest}
 use Rattle.sspi_tsreq.specs.declared.walk.Slot.{Slot}
 use Rattle.sspi_tsreq.specs.declared.walk.Slot.TheVariants.{Kept, Absent, Here}
 use Rattle.sspi_tsreq.specs.declared.walk.Walk.{Walk}
-use Rattle.sspi_tsreq.specs.Places.{answered, behind, code_then, from_tag, rest_at, version_then}
+use Rattle.sspi_tsreq.specs.Places.{answered, behind, code_then, from_tag, rest_at, version_then, length_rest, text_of}
+use Rattle.sspi_tsreq.specs.declared.place.LengthStep.{LengthStep}
+use Rattle.sspi_tsreq.specs.declared.place.LengthStep.TheVariants.{Part, Known, Bad}
+use Rattle.sspi_tsreq.specs.declared.place.Text.{Text}
+use Rattle.sspi_tsreq.specs.declared.place.Text.TheVariants.{NegoTokens, AuthInfo, PubKeyAuth}
+use Rattle.sspi_tsreq.specs.declared.place.Stage.{Stage}
+use Rattle.sspi_tsreq.specs.declared.place.Stage.TheVariants.{OuterTag, OuterLength, Content, Refused}
+use Rattle.sspi_tsreq.specs.Quiet.{Opened, IsWithout}
+use Rattle.sspi_tsreq.specs.declared.reader.TsReader.{TsReader}
 
 abbrev pub slot : Slot → Option (List ℕ) → Option (List ℕ)
 slot Kept before = before
@@ -56,37 +66,6 @@ IsInText Faulty = ⊥
 
 -- ---- what takes no memory
 
--- the bytes have none of this value
-abbrev pub IsWithout : ℕ → List ℕ → Type 0
-IsWithout value [] = Unit {0}
-IsWithout value (byte ∷ rest) = (byte ≡ value → ⊥) × IsWithout value rest
-
--- an OCTET STRING of any length
-abbrev pub IsOctetsHeader : Inner → Type 0
-IsOctetsHeader Version = ⊥
-IsOctetsHeader VersionNumber = ⊥
-IsOctetsHeader TokenList = ⊥
-IsOctetsHeader TokenItem = ⊥
-IsOctetsHeader Token = ⊥
-IsOctetsHeader (Octets text) = Unit {0}
-IsOctetsHeader CodeNumber = ⊥
-IsOctetsHeader NonceOctets = ⊥
-
-abbrev pub IsOctetsElement : Element → Type 0
-IsOctetsElement (Optional field) = ⊥
-IsOctetsElement (Required inner) = IsOctetsHeader inner
-
--- the identifier octet of an OCTET STRING was read, and not yet all of its bytes
-abbrev pub Opened : Place → Type 0
-Opened (AtTag element) = ⊥
-Opened (InLength element part) = IsOctetsElement element
-Opened (InVersion more value) = ⊥
-Opened (InCode more value) = ⊥
-Opened (InText text more) = Unit {0}
-Opened (InNonce have) = ⊥
-Opened Whole = ⊥
-Opened Faulty = ⊥
-
 abbrev pub IsHere : Slot → Type 0
 IsHere Kept = ⊥
 IsHere Absent = ⊥
@@ -112,3 +91,81 @@ IsOpening (next.Version low) = ⊥
 IsOpening (next.Code low) = ⊥
 IsOpening (next.Begins text len) = Unit {0}
 IsOpening next.Walked = ⊥
+
+abbrev pub LengthSteps : Read ℕ → LengthStep → List ℕ → Type 0
+LengthSteps read (Part part) more = read ≡ length_rest part more
+LengthSteps read (Known n) more = read ≡ Ok (n, more)
+LengthSteps read Bad more = read ≡ Err Invalid
+
+-- what the limit makes of a length of several octets
+abbrev pub LengthLasts : LengthStep → ℕ → Type 0
+LengthLasts (Part part) len = ⊥
+LengthLasts (Known n) len = (n ≡ len) × (len ≤ max_content)
+LengthLasts Bad len = max_content < len
+
+-- the request with this for the field's bytes
+abbrev pub with_text : Text → TsRequest → List ℕ → TsRequest
+with_text NegoTokens r octets = record r { nego_tokens = Some octets }
+with_text AuthInfo r octets = record r { auth_info = Some octets }
+with_text PubKeyAuth r octets = record r { pub_key_auth = Some octets }
+
+-- the identifier octet of what has to come
+abbrev pub inner_tag : Inner → ℕ
+inner_tag Version = 0xA0
+inner_tag VersionNumber = 0x02
+inner_tag TokenList = 0x30
+inner_tag TokenItem = 0x30
+inner_tag Token = 0xA0
+inner_tag (Octets text) = 0x04
+inner_tag CodeNumber = 0x02
+inner_tag NonceOctets = 0x04
+
+-- no byte of the content is read yet
+abbrev pub IsOuter : Stage → Type 0
+IsOuter OuterTag = Unit {0}
+IsOuter (OuterLength part) = Unit {0}
+IsOuter (Content left place) = ⊥
+IsOuter Refused = Unit {0}
+
+-- the field in which the reader stands, with these bytes more
+abbrev pub lengthened : Place → TsRequest → List ℕ → TsRequest
+lengthened (AtTag element) r octets = r
+lengthened (InLength element part) r octets = r
+lengthened (InVersion more value) r octets = r
+lengthened (InCode more value) r octets = r
+lengthened (InText text more) r octets = with_text text r (text_of text r ++ octets)
+lengthened (InNonce have) r octets = r
+lengthened Whole r octets = r
+lengthened Faulty r octets = r
+
+-- another request's texts with this one's version, code and nonce
+abbrev pub numbered : TsRequest → TsRequest → TsRequest
+numbered r base = record base { version = r.version; error_code = r.error_code; client_nonce = r.client_nonce }
+
+-- what a list reads as, told as a result
+abbrev pub EndsAs : Result TsRequest Fault → Result TsRequest WireKind → Type 0
+EndsAs answer (Ok r) = answer ≡ Ok r
+EndsAs answer (Err UnexpectedEof) = answer ≡ Err Ended
+EndsAs answer (Err InvalidData) = answer ≡ Err Invalid
+EndsAs answer (Err ReadFault) = ⊥
+EndsAs answer (Err WriteFault) = ⊥
+EndsAs answer (Err InsufficientMemory) = ⊥
+
+-- what a step of its length makes of the outer header
+abbrev pub stage_of : LengthStep → Stage
+stage_of (Part part) = OuterLength part
+stage_of (Known size) = Content size (AtTag (Required Version))
+stage_of Bad = Refused
+
+abbrev pub IsPast : Stage → Type 0
+IsPast OuterTag = ⊥
+IsPast (OuterLength part) = ⊥
+IsPast (Content left place) = left ≡ 0
+IsPast Refused = Unit {0}
+
+-- the reader went on through these bytes of the content, from a place over a request, and so many are left
+pub record WentOn (nonce : List ℕ) (place : Place) (r : TsRequest) (body : List ℕ) (left : ℕ) (reader : TsReader) : Type 0 where
+  pub now : Place
+  pub stage : reader.stage ≡ Content left now
+  pub goes : (more : List ℕ) → answered (rest_at nonce place r (body ++ more)) ≡ answered (rest_at reader.nonce now reader.request more)
+  pub quiet : (Opened place → ⊥) → IsWithout 0x04 body → Opened now → ⊥

@@ -3,9 +3,8 @@
 ghost use Rattle.std.specs.Prelude.{◌≡◌, ℕ, List, [], Ok, Err};
 ghost use Rattle.sspi_ber.specs.Outside.{NeedsNoMemory};
 ghost use Rattle.sspi_tsreq.specs.declared.request.TsRequest.{TsRequest};
-ghost use Rattle.sspi_tsreq.specs.Feeding.{EndsAs};
+ghost use Rattle.sspi_tsreq.specs.Walks.{EndsAs, from_field, from_inner};
 ghost use Rattle.sspi_tsreq.specs.Places.{answered, from_tag, nonce_from, rest_at};
-ghost use Rattle.sspi_tsreq.specs.Walks.{from_field, from_inner};
 
 use crate::place::{Element, Field, Inner, Place};
 use crate::request::TsRequest;

@@ -1,6 +1,7 @@
 ghost use Rattle.std.specs.Prelude.{◌≡◌, ◌∷◌, ℕ, List};
 ghost use Rattle.sspi_ber.specs.Forms.{is_integer_size};
-ghost use Rattle.sspi_tsreq.specs.Places.{LengthLasts, LengthSteps, length_rest};
+ghost use Rattle.sspi_tsreq.specs.Places.{length_rest};
+ghost use Rattle.sspi_tsreq.specs.Walks.{LengthLasts, LengthSteps};
 
 use crate::place::{LengthPart, LengthStep};
 use sspi_ber::MAX_CONTENT;

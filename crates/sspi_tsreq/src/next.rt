@@ -2,8 +2,9 @@
 
 ghost use Rattle.std.specs.Prelude.{◌≡◌, ℕ, List, ◌∷◌};
 ghost use Rattle.sspi_tsreq.specs.declared.request.TsRequest.{TsRequest};
-ghost use Rattle.sspi_tsreq.specs.Places.{behind, length_from, rest_at, text_left, with_text};
-ghost use Rattle.sspi_tsreq.specs.Walks.{from_inner, IsOctetsElement, IsOpening, LeadsTo, Opened};
+ghost use Rattle.sspi_tsreq.specs.Places.{behind, length_from, rest_at, text_left};
+ghost use Rattle.sspi_tsreq.specs.Walks.{with_text, from_inner, IsOpening, LeadsTo};
+ghost use Rattle.sspi_tsreq.specs.Quiet.{IsOctetsElement, Opened};
 
 use crate::length::next_length;
 use crate::place::{Element, Inner, LengthPart, LengthStep, Next, Place, Text};

@@ -1,10 +1,10 @@
 //! One byte of a request's content, which changes the reader where it stands.
 
 ghost use Rattle.std.specs.Prelude.{◌≡◌, ◌<◌, [], ◌∷◌, ◌++◌, Some, IsOk, OnOk, OnErr, slice_set};
-ghost use Rattle.sspi_tsreq.specs.Feeding.{WentOn};
-ghost use Rattle.sspi_tsreq.specs.Places.{octets_of, text_of, with_text};
+ghost use Rattle.sspi_tsreq.specs.Walks.{WentOn, with_text};
+ghost use Rattle.sspi_tsreq.specs.Places.{octets_of, text_of};
 ghost use Rattle.sspi_tsreq.specs.Value.{bare};
-ghost use Rattle.sspi_tsreq.specs.Walks.{Opened};
+ghost use Rattle.sspi_tsreq.specs.Quiet.{Opened};
 
 use crate::next::{next_place, text_place};
 use crate::place::{Element, Field, Next, Place, Stage, Text};

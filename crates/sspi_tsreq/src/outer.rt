@@ -2,7 +2,8 @@
 
 ghost use Rattle.std.specs.Prelude.{◌≡◌, ◌≤◌, ℕ, List, [], ◌∷◌, ◌++◌, length, take, MatchBool};
 ghost use Rattle.sspi_tsreq.specs.declared.request.TsRequest.{TsRequest};
-ghost use Rattle.sspi_tsreq.specs.Feeding.{IsOuter, IsPast, stage_of, StandsAt};
+ghost use Rattle.sspi_tsreq.specs.Feeding.{StandsAt};
+ghost use Rattle.sspi_tsreq.specs.Walks.{IsOuter, IsPast, stage_of};
 
 use crate::length::next_length;
 use crate::place::{Element, Inner, LengthPart, LengthStep, Place, Stage};

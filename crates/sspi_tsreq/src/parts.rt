@@ -2,7 +2,8 @@
 
 ghost use Rattle.std.specs.Prelude.{◌≡◌, IfOk, IfErr};
 ghost use Rattle.std.specs.Option.{IsSome, option_copied};
-ghost use Rattle.sspi_tsreq.specs.Parts.{HasOctets, seen};
+ghost use Rattle.sspi_tsreq.specs.Parts.{seen};
+ghost use Rattle.sspi_tsreq.specs.Quiet.{HasOctets};
 
 use crate::request::TsRequest;
 use sspi_ber::WireKind;

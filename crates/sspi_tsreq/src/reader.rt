@@ -5,11 +5,12 @@ ghost use Rattle.std.specs.Prelude.{OnOk, OnErr};
 ghost use Rattle.sspi_ber.specs.Outside.{NeedsNoMemory};
 ghost use Rattle.sspi_tsreq.specs.declared.request.TsRequest.{TsRequest};
 ghost use Rattle.sspi_tsreq.specs.Answer.{IsAnswer, IsUnlessMemory};
-ghost use Rattle.sspi_tsreq.specs.Feeding.{IsPastReading, lengthened, numbered, Stands, StandsInside, WentOn};
+ghost use Rattle.sspi_tsreq.specs.Feeding.{IsPastReading, Stands, StandsInside};
+ghost use Rattle.sspi_tsreq.specs.Walks.{WentOn, lengthened, numbered, with_text, filled, slot, IsHere, IsInText, IsQuiet};
 ghost use Rattle.sspi_tsreq.specs.Grammar.{IsRequest};
-ghost use Rattle.sspi_tsreq.specs.Parts.{HasOctets, seen};
-ghost use Rattle.sspi_tsreq.specs.Places.{octets_of, rest_at, text_from, text_of, with_text};
-ghost use Rattle.sspi_tsreq.specs.Walks.{filled, slot, IsHere, IsInText, IsQuiet, IsWithout, Opened};
+ghost use Rattle.sspi_tsreq.specs.Parts.{seen};
+ghost use Rattle.sspi_tsreq.specs.Quiet.{HasOctets, IsWithout, Opened};
+ghost use Rattle.sspi_tsreq.specs.Places.{octets_of, rest_at, text_from, text_of};
 
 use crate::ending::ended;
 use crate::outer::read_outer;

@@ -4,11 +4,10 @@ ghost use Rattle.std.specs.Prelude.{◌≡◌, ℕ, ◌+◌, ◌*◌, ◌%◌, �
 ghost use Rattle.std.specs.Prelude.{MatchOption};
 ghost use Rattle.sspi_tsreq.specs.declared.request.TsRequest.{TsRequest};
 ghost use Rattle.sspi_tsreq.specs.Value.{bare};
-ghost use Rattle.sspi_tsreq.specs.Places.{answered, behind, code_from, inner_tag, length_from, nonce_from, rest_at, text_then};
-ghost use Rattle.sspi_tsreq.specs.Places.{version_from, with_text};
+ghost use Rattle.sspi_tsreq.specs.Places.{answered, behind, code_from, length_from, nonce_from, rest_at, text_then, version_from};
+ghost use Rattle.sspi_tsreq.specs.Walks.{inner_tag, with_text, filled, goes_on, from_field, from_inner, IsInText, IsQuiet};
 ghost use Rattle.sspi_tsreq.specs.Reading.{after_code, after_key, after_auth, after_nego, after_version};
-ghost use Rattle.sspi_tsreq.specs.Walks.{filled, goes_on, from_field, from_inner, IsInText, IsOctetsElement, IsOctetsHeader, IsQuiet};
-ghost use Rattle.sspi_tsreq.specs.Walks.{IsWithout, Opened};
+ghost use Rattle.sspi_tsreq.specs.Quiet.{IsOctetsElement, IsOctetsHeader, IsWithout, Opened};
 
 use crate::length::{is_integer_size, next_length};
 use crate::place::{Element, Field, Inner, LengthPart, LengthStep, Place, Text};

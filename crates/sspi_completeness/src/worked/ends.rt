@@ -3,7 +3,8 @@
 ghost use Rattle.std.specs.Prelude.{◌≡◌, ◌∷◌, [], ℕ, Result, Ok, Err, IfOk, IfErr};
 ghost use Rattle.sspi_names.specs.declared.identity.AuthIdentity.{AuthIdentity};
 ghost use Rattle.sspi_completeness.specs.Matching.{delegated_as};
-ghost use Rattle.sspi_completeness.specs.Worked.{Example, IsClientOf, IsServerOf, Matches, AnswersIn};
+ghost use Rattle.sspi_completeness.specs.Worked.{Example, IsClientOf, IsServerOf, Matches};
+ghost use Rattle.sspi_completeness.specs.Answered.{AnswersIn};
 
 use crate::plain::delegate_plainly;
 use sspi_credssp::{ClientMode, CredSspClient, CredSspMode, CredSspServer, ServerMode, TableProxy};
@@ -123,7 +124,8 @@ trait Runs: Drop {
 impl<D: Kdc + Drop> Runs for Ends<Client, Server, D> {
     ghost use Rattle.std.specs.Prelude.{ℕ};
     ghost use Rattle.sspi_completeness.specs.Matching.{delegated_as};
-    ghost use Rattle.sspi_completeness.specs.Worked.{Example, IsClientOf, IsServerOf, Matches, AnswersIn};
+    ghost use Rattle.sspi_completeness.specs.Worked.{Example, IsClientOf, IsServerOf, Matches};
+    ghost use Rattle.sspi_completeness.specs.Answered.{AnswersIn};
 
     ghost Answers = { λ ends limit answer. (x : Example) → (messages : ℕ) → IsClientOf x ends.client → IsServerOf x ends.server →
         Matches (D.told ends.kdc) (D.asked ends.kdc) messages x → AnswersIn messages limit (delegated_as x.delegation x.identity) answer };

@@ -4,7 +4,8 @@ ghost use Rattle.std.specs.Prelude.{◌≡◌, ◌∷◌, [], ℕ, List, Option,
 ghost use Rattle.sspi_names.specs.Name.{parse_name};
 ghost use Rattle.sspi_names.specs.declared.kdc_table.KdcEntry.{KdcEntry};
 ghost use Rattle.sspi_negotiate.specs.declared.protocol_config.ProtocolConfig.{ProtocolConfig};
-ghost use Rattle.sspi_completeness.specs.Worked.{ann, ann_of_realm, client_ntlm, server_ntlm, realm_table, negotiation};
+ghost use Rattle.sspi_completeness.specs.Worked.{client_ntlm, server_ntlm, realm_table, negotiation};
+ghost use Rattle.sspi_completeness.specs.Answered.{ann, ann_of_realm};
 ghost use Rattle.sspi_completeness.specs.Worked.{with_ntlm, with_kerberos, with_ticket, with_ntlm_alone};
 ghost use Rattle.sspi_completeness.specs.Worked.{computer, realm_kerberos, realm_kdc};
 

@@ -1,6 +1,6 @@
 ghost use Rattle.std.specs.Prelude.{◌≡◌};
 ghost use Rattle.sspi_mech.specs.KerberosSteps.{arrival_of};
-ghost use Rattle.sspi_mech.specs.Refusals.{Gives};
+ghost use Rattle.sspi_mech.specs.Answered.{Gives};
 
 use crate::kerberos::messages::read_ap_request;
 use crate::named::text_in;

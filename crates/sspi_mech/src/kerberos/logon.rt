@@ -1,7 +1,7 @@
 ghost use Rattle.std.specs.Prelude.{◌≡◌, ◌≤◌, length, option_copied};
 ghost use Rattle.sspi_names.specs.Name.{inner_of};
 ghost use Rattle.sspi_mech.specs.KerberosLogon.{acquired, name_in, short_name, logon_of, protocol_of, request_at};
-ghost use Rattle.sspi_mech.specs.Refusals.{Gives};
+ghost use Rattle.sspi_mech.specs.Answered.{Gives};
 
 use crate::kerberos::realms::Realms;
 use crate::refusal::Refusal;

@@ -1,7 +1,7 @@
 ghost use Rattle.std.specs.Prelude.{◌≡◌, codes};
 ghost use Rattle.sspi_mech.specs.KerberosReplies.{kind_of_code, kind_in, granted, first_key_in, session_key_in};
 ghost use Rattle.sspi_mech.specs.Named.{after_letters};
-ghost use Rattle.sspi_mech.specs.Refusals.{Gives};
+ghost use Rattle.sspi_mech.specs.Answered.{Gives};
 
 use crate::kerberos::messages::{AS_REPLY_LETTERS, ERROR_LETTERS, TGS_REPLY_LETTERS};
 use crate::named::{after_letters, read_block};

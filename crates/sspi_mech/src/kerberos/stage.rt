@@ -1,5 +1,6 @@
 ghost use Rattle.std.specs.Prelude.{◌≡◌, option_copied};
-ghost use Rattle.sspi_mech.specs.KerberosStage.{own_direction, peer_direction, name_at, waits_at, left_at, pairs_at, advanced};
+ghost use Rattle.sspi_mech.specs.KerberosStage.{own_direction, peer_direction, name_at, waits_at, left_at, pairs_at};
+ghost use Rattle.sspi_mech.specs.Advanced.{advanced};
 
 use crate::kerberos::logon::ClientName;
 use crate::protection::Direction;

@@ -1,6 +1,6 @@
 ghost use Rattle.std.specs.Prelude.{◌≡◌, option_copied};
 ghost use Rattle.sspi_mech.specs.NtlmAcquire.{acquired};
-ghost use Rattle.sspi_mech.specs.Refusals.{Gives};
+ghost use Rattle.sspi_mech.specs.Answered.{Gives};
 
 use crate::refusal::Refusal;
 use sspi_names::{Credentials, CredentialsBuffers};

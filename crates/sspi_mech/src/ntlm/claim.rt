@@ -2,7 +2,7 @@ ghost use Rattle.std.specs.Prelude.{◌≡◌, find, option_copied};
 ghost use Rattle.std.specs.List.{list_any};
 ghost use Rattle.sspi_mech.specs.NtlmClaims.{claim_of};
 ghost use Rattle.sspi_mech.specs.NtlmIdentities.{has_password, proves, claimed_key, key_at};
-ghost use Rattle.sspi_mech.specs.Refusals.{Gives};
+ghost use Rattle.sspi_mech.specs.Answered.{Gives};
 
 use crate::named::text_in;
 use crate::ntlm::messages::{key_of, proof_of, read_authenticate};

@@ -1,7 +1,7 @@
 ghost use Rattle.std.specs.Prelude.{◌≡◌, ◌≤◌, length, IfOk, option_copied};
 ghost use Rattle.sspi_names.specs.Name.{inner_of};
 ghost use Rattle.sspi_mech.specs.NtlmSteps.{login_of};
-ghost use Rattle.sspi_mech.specs.Refusals.{Gives};
+ghost use Rattle.sspi_mech.specs.Answered.{Gives};
 
 use crate::refusal::Refusal;
 use sspi_names::{CredentialsBuffers, Username};

@@ -1,6 +1,6 @@
 ghost use Rattle.std.specs.Prelude.{IfOk};
 ghost use Rattle.sspi_program.specs.Audit.{IsAudited};
-ghost use Rattle.sspi_program.specs.Run.{Conducts};
+ghost use Rattle.sspi_program.specs.Telling.{Conducts};
 ghost use Rattle.sspi_scenario.specs.Held.{HoldsValues};
 
 use crate::command::Task;

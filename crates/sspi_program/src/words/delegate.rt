@@ -1,4 +1,4 @@
-ghost use Rattle.sspi_program.specs.Run.{Conducts};
+ghost use Rattle.sspi_program.specs.Telling.{Conducts};
 ghost use Rattle.sspi_scenario.specs.Held.{HoldsValues};
 
 use crate::command::Task;

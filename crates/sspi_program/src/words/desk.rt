@@ -1,7 +1,8 @@
 ghost use Rattle.std.specs.Prelude.{◌≡◌, ℕ, ◌+◌, OnOk};
 ghost use Rattle.std.specs.List.{list_all};
-ghost use Rattle.sspi_program.specs.Desk.{AreSeatedFor, is_ok, seats_status};
-ghost use Rattle.sspi_program.specs.Run.{Conducts, SaysOfSeats};
+ghost use Rattle.sspi_program.specs.Desk.{is_ok, seats_status};
+ghost use Rattle.sspi_program.specs.Seating.{AreSeatedFor};
+ghost use Rattle.sspi_program.specs.Telling.{Conducts, SaysOfSeats};
 ghost use Rattle.sspi_scenario.specs.declared.scenario.Scenario.{Scenario};
 ghost use Rattle.sspi_seats.specs.Table.{IsEmpty};
 

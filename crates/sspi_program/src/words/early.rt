@@ -2,7 +2,7 @@ ghost use Rattle.std.specs.Prelude.{◌≡◌, ◌++◌, Some, IfOk, drop, rever
 ghost use Rattle.std.specs.Result.{IsOkAnd};
 ghost use Rattle.sspi_program.specs.Delegate.{HasExchange};
 ghost use Rattle.sspi_program.specs.Early.{IsEarlyOf, behind_text};
-ghost use Rattle.sspi_program.specs.Run.{Conducts};
+ghost use Rattle.sspi_program.specs.Telling.{Conducts};
 ghost use Rattle.sspi_program.specs.Said.{status_of};
 ghost use Rattle.sspi_scenario.specs.Held.{HoldsValues};
 

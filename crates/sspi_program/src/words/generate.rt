@@ -1,7 +1,7 @@
 ghost use Rattle.std.specs.Prelude.{◌≡◌, ◌+◌, IfOk, OnOk};
 ghost use Rattle.sspi_program.specs.Delegate.{HasExchange};
 ghost use Rattle.sspi_program.specs.Generate.{AreNumbered};
-ghost use Rattle.sspi_program.specs.Run.{Generates, SumsUp};
+ghost use Rattle.sspi_program.specs.Telling.{Generates, SumsUp};
 ghost use Rattle.sspi_scenario.specs.Numbered.{numbered};
 
 use crate::exchange::exchange;

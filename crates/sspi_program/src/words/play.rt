@@ -1,7 +1,7 @@
 ghost use Rattle.std.specs.Prelude.{◌≡◌, IfOk};
-ghost use Rattle.sspi_program.specs.Ends.{AreEndsOf};
+ghost use Rattle.sspi_program.specs.Making.{AreEndsOf};
 ghost use Rattle.sspi_program.specs.Play.{HasPlay};
-ghost use Rattle.sspi_program.specs.Run.{Conducts};
+ghost use Rattle.sspi_program.specs.Telling.{Conducts};
 
 use crate::command::Task;
 use crate::ends::{Ends, ends_of};

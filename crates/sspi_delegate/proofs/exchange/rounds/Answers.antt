@@ -2,7 +2,7 @@ use Rattle.std.proofs.Common.{◌+◌, ap, sym, ◌∙◌, refl, arith, Option}
 use Rattle.std.proofs.lemmas.Result.{err_from_is_err_and}
 use Rattle.sspi_names.specs.declared.identity.AuthIdentity.{AuthIdentity}
 use Rattle.sspi_delegate.specs.declared.answer.Delegation.{Delegation}
-use Rattle.sspi_delegate.specs.Causes.{Between}
+use Rattle.sspi_delegate.specs.Halves.{Between}
 use Rattle.sspi_delegate.proofs.LogSteps.{at_first, left_at, spent}
 use Rattle.sspi_credssp.specs.Context.{either}
 use Rattle.sspi_delegate.proofs.Halves.{client_half_past, server_beside, client_beside, server_half_past}

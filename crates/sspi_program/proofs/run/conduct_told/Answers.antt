@@ -1,5 +1,5 @@
 use Rattle.std.proofs.Common.{ℕ, List, subst}
-use Rattle.sspi_program.specs.Run.{CarriesOut}
+use Rattle.sspi_program.specs.Telling.{CarriesOut}
 use Rattle.sspi_program.proofs.Conducting.{comes_read}
 use Rattle.sspi_program.proofs.run.conduct_told.Goals as goal
 

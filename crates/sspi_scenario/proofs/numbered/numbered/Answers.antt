@@ -1,4 +1,3 @@
-use Rattle.std.proofs.Common.{◌<◌, ◌^◌, arith}
 use Rattle.sspi_scenario.proofs.Numbering.{told_values, values_hold}
 use Rattle.sspi_scenario.proofs.numbered.numbered.Goals as goal
 

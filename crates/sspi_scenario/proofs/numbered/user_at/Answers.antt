@@ -1,4 +1,4 @@
-use Rattle.std.proofs.Common.{◌≡◌, ◌++◌, ◌∙◌, codes, decimal}
+use Rattle.std.proofs.Common.{◌∙◌}
 use Rattle.sspi_scenario.proofs.Numbering.{named_user}
 use Rattle.sspi_scenario.proofs.numbered.user_at.Goals as goal
 

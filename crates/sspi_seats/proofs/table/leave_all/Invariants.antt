@@ -4,7 +4,7 @@ use Rattle.sspi_credssp.specs.Context.{either}
 use Rattle.sspi_credssp.specs.declared.context.SspiContext.{SspiContext}
 use Rattle.sspi_delegate.specs.Asking.{kdc_calls}
 use Rattle.sspi_seats.specs.Seat.{Place}
-use Rattle.sspi_seats.specs.Table.{AreKept}
+use Rattle.sspi_seats.specs.Keeping.{AreKept}
 use Rattle.sspi_seats.proofs.Leaving.{HaveLeft}
 use Rattle.sspi_seats.proofs.table.leave_all.Given as goal
 

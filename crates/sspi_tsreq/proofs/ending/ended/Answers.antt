@@ -1,6 +1,6 @@
 use Rattle.std.proofs.Common.{ℕ, List, [], Err, ap, subst, sym}
 use Rattle.sspi_tsreq.specs.declared.place.Place.{Place}
-use Rattle.sspi_tsreq.specs.Feeding.{EndsAs}
+use Rattle.sspi_tsreq.specs.Walks.{EndsAs}
 use Rattle.sspi_tsreq.specs.Places.{answered, rest_at}
 use Rattle.sspi_tsreq.proofs.Ends.{length_from_end, version_from_end, code_from_end, text_from_end}
 use Rattle.sspi_tsreq.proofs.ending.ended.Goals as goal

@@ -1,8 +1,8 @@
 use Rattle.std.proofs.Common.{ℕ, ◌∷◌, subst, sym}
 use Rattle.sspi_ber.specs.Fault.{Read, ◌>>=◌}
 use Rattle.sspi_tsreq.specs.declared.place.LengthStep.{LengthStep}
-use Rattle.sspi_tsreq.specs.Places.{behind, length_rest, LengthSteps}
-use Rattle.sspi_tsreq.specs.Walks.{LeadsTo}
+use Rattle.sspi_tsreq.specs.Places.{behind, length_rest}
+use Rattle.sspi_tsreq.specs.Walks.{LengthSteps, LeadsTo}
 use Rattle.sspi_tsreq.proofs.next.length_next.Goals as goal
 
 pub returns-in-Known-clause-goes : goal.returns-in-Known-clause-goes

@@ -1,7 +1,7 @@
 use Rattle.std.proofs.Common.{ℕ, ap, ◌∙◌, arith}
 use Rattle.sspi_tsreq.specs.declared.request.TsRequest.{TsRequest}
-use Rattle.sspi_tsreq.specs.Places.{text_left, with_text}
-use Rattle.sspi_tsreq.specs.Walks.{from_field}
+use Rattle.sspi_tsreq.specs.Places.{text_left}
+use Rattle.sspi_tsreq.specs.Walks.{with_text, from_field}
 use Rattle.sspi_tsreq.proofs.Walks.{put_again, text_over}
 use Rattle.sspi_tsreq.proofs.next.text_place.Goals as goal
 

@@ -1,6 +1,7 @@
 use Rattle.std.proofs.Common.{◌≤◌, ◌-◌, ℕ, List, ◌++◌, length, take}
 use Rattle.sspi_tsreq.specs.declared.request.TsRequest.{TsRequest}
-use Rattle.sspi_tsreq.specs.Feeding.{IsPast, StandsAt}
+use Rattle.sspi_tsreq.specs.Feeding.{StandsAt}
+use Rattle.sspi_tsreq.specs.Walks.{IsPast}
 use Rattle.sspi_tsreq.proofs.outer.read_outer.Given as goal
 
 abbrev pub invariant-loop-taken : goal.invariant-loop-taken

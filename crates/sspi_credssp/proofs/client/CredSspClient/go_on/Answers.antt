@@ -2,7 +2,7 @@ use Rattle.std.proofs.Common.{◌≡◌, Ok, ap, ◌∙◌, subst}
 use Rattle.std.proofs.lemmas.Result.{err_from_is_err_and}
 use Rattle.sspi_mech.specs.declared.step.Answer.TheVariants.{Done}
 use Rattle.sspi_mech.specs.Answers.{answer_of}
-use Rattle.sspi_mech.specs.Refusals.{answered}
+use Rattle.sspi_mech.specs.Answered.{answered}
 use Rattle.sspi_credssp.specs.ClientStep.{StepsTo}
 use Rattle.sspi_credssp.specs.Context.{either}
 use Rattle.sspi_credssp.proofs.ContextLaws.{lawful}

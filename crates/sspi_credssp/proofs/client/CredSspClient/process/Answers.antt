@@ -3,7 +3,8 @@ use Rattle.std.proofs.lemmas.Result.{err_from_is_err_and}
 use Rattle.sspi_types.specs.declared.credential_use.CredentialUse.TheVariants.{Outbound}
 use Rattle.sspi_types.specs.declared.error_kind.ErrorKind.TheVariants.{DowngradeDetected, MessageAltered, InsufficientMemory}
 use Rattle.sspi_credssp.specs.Begun.{Begun, BeginCause, IfContext, MadeOr}
-use Rattle.sspi_mech.specs.Refusals.{answered, error_of}
+use Rattle.sspi_mech.specs.Refusals.{error_of}
+use Rattle.sspi_mech.specs.Answered.{answered}
 use Rattle.sspi_credssp.specs.ClientCause.{ClientCause, StateCause}
 use Rattle.sspi_credssp.specs.ClientStep.{HasStepped}
 use Rattle.sspi_credssp.specs.Context.{either, ForClient}

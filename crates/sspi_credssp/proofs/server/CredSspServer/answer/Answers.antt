@@ -9,7 +9,7 @@ use Rattle.sspi_credssp.specs.Begun.{Begun, IfContext}
 use Rattle.sspi_credssp.specs.Context.{either}
 use Rattle.sspi_credssp.specs.ServerCause.{NegoCause}
 use Rattle.sspi_credssp.specs.ServerStep.{RefusedAt, accepted, refused_step, server_args, server_setting}
-use Rattle.sspi_credssp.specs.ServerTurn.{IsReady}
+use Rattle.sspi_credssp.specs.ServerStage.{IsReady}
 use Rattle.sspi_credssp.proofs.ClientReady.{context_here}
 use Rattle.sspi_credssp.proofs.ContextLaws.{lawful}
 use Rattle.sspi_credssp.proofs.ServerReady.{ready_stepped}

@@ -1,5 +1,6 @@
 use Rattle.std.proofs.Common.{◌≡◌, ◌∙◌, Some, true, ap, sym, rules}
-use Rattle.sspi_mech.specs.Refusals.{answered, error_of}
+use Rattle.sspi_mech.specs.Refusals.{error_of}
+use Rattle.sspi_mech.specs.Answered.{answered}
 use Rattle.sspi_credssp.specs.Context.{either}
 use Rattle.sspi_credssp.specs.ServerAsks.{look_ups_at}
 use Rattle.sspi_credssp.specs.Shown.{IsOver}

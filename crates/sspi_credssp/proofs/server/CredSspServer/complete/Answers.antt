@@ -3,12 +3,12 @@ use Rattle.std.proofs.lemmas.Result.{err_from_is_err_and}
 use Rattle.sspi_types.specs.declared.error.Error.{Error}
 use Rattle.sspi_mech.specs.declared.step.Step.{Step}
 use Rattle.sspi_mech.specs.Calls.{ToComplete}
-use Rattle.sspi_mech.specs.Refusals.{answered}
+use Rattle.sspi_mech.specs.Answered.{answered}
 use Rattle.sspi_credssp.specs.declared.server_negotiation.Answer.{Answer}
 use Rattle.sspi_credssp.specs.Context.{either}
-use Rattle.sspi_credssp.specs.Proxy.{IsLater}
+use Rattle.sspi_credssp.specs.ServerStage.{IsLater, CompletedStep}
 use Rattle.sspi_credssp.specs.ServerCause.{IdentifyCause, unknown, incomplete}
-use Rattle.sspi_credssp.specs.ServerStep.{AcceptedSoFar, CompletedStep, Unknown, Identified, Completed}
+use Rattle.sspi_credssp.specs.ServerStep.{AcceptedSoFar, Unknown, Identified, Completed}
 use Rattle.sspi_credssp.specs.ServerStep.{Accepted, HasCome, IsIdentified, identified, completed, so_far}
 use Rattle.sspi_credssp.proofs.ClientReady.{context_here}
 use Rattle.sspi_credssp.proofs.ContextLaws.{lawful}

@@ -1,7 +1,7 @@
 use Rattle.std.proofs.Common.{◌≡◌, Some, subst, rules}
 use Rattle.sspi_credssp.specs.Acts.{no_acts}
 use Rattle.sspi_credssp.specs.Context.{either}
-use Rattle.sspi_credssp.specs.Exchange.{Opens}
+use Rattle.sspi_credssp.specs.Opened.{Opens}
 use Rattle.sspi_credssp.proofs.ServerOpening.{opened, opened_cause}
 use Rattle.sspi_credssp.proofs.server.CredSspServer.open.Goals as goal
 

@@ -11,9 +11,8 @@ use Rattle.sspi_credssp.specs.Noted.{VersionStops, is_old}
 use Rattle.sspi_credssp.specs.Peers.{lists_in}
 use Rattle.sspi_credssp.specs.Proxy.{IsAsked, HasAsked}
 use Rattle.sspi_credssp.specs.ServerCause.{MakeCause, ServerCause}
-use Rattle.sspi_credssp.specs.ServerStage.{IsAtStep}
+use Rattle.sspi_credssp.specs.ServerStage.{IsAtStep, BeginRefused}
 use Rattle.sspi_credssp.specs.ServerStep.{HasAcceptedTurn, server_setting}
-use Rattle.sspi_credssp.specs.ServerTurn.{BeginRefused}
 use Rattle.sspi_credssp.proofs.Asked.{later, asked_on, turn_asked}
 use Rattle.sspi_credssp.proofs.ServerBeginning.{begin_halted, context_there, no_step}
 use Rattle.sspi_credssp.proofs.ServerHeeding.{server_only}

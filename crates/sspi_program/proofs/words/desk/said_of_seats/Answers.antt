@@ -1,4 +1,4 @@
-use Rattle.std.proofs.Common.{◌≡◌, ℕ, List, ap, ◌∙◌}
+use Rattle.std.proofs.Common.{ap, ◌∙◌}
 use Rattle.sspi_report.specs.Seats.{seats_text}
 use Rattle.sspi_program.specs.Desk.{seats_status}
 use Rattle.sspi_program.proofs.Conducting.{seats_done}

@@ -1,4 +1,4 @@
-use Rattle.sspi_program.specs.Desk.{AreSeatedFor}
+use Rattle.sspi_program.specs.Seating.{AreSeatedFor}
 use Rattle.sspi_seats.specs.Table.{IsEmpty}
 use Rattle.sspi_program.proofs.words.desk.seat_all.Given as goal
 

@@ -1,7 +1,7 @@
 use Rattle.std.proofs.Common.{subst}
 use Rattle.sspi_scenario.specs.declared.scenario.Scenario.{Scenario}
 use Rattle.sspi_program.specs.declared.command.Task.TheVariants.{Early}
-use Rattle.sspi_program.specs.Run.{Conducts}
+use Rattle.sspi_program.specs.Telling.{Conducts}
 use Rattle.sspi_program.proofs.words.early.early.Goals as goal
 
 pub returns-in-Ok-policy_of : goal.returns-in-Ok-policy_of

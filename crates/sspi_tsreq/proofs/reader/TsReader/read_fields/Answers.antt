@@ -1,7 +1,7 @@
 use Rattle.std.proofs.Common.{ℕ, ◌-◌, List, ◌++◌, length, take, drop, ap, ◌∙◌, subst, sym}
 use Rattle.sspi_tsreq.specs.declared.reader.TsReader.{TsReader}
-use Rattle.sspi_tsreq.specs.Feeding.{lengthened}
-use Rattle.sspi_tsreq.specs.Walks.{goes_on, slot, IsWithout}
+use Rattle.sspi_tsreq.specs.Walks.{lengthened, goes_on, slot}
+use Rattle.sspi_tsreq.specs.Quiet.{IsWithout}
 use Rattle.sspi_tsreq.proofs.Feeding.{content_on, range_back, settled, without_back}
 use Rattle.sspi_tsreq.proofs.reader.TsReader.read_fields.Goals as goal
 

@@ -1,5 +1,6 @@
 use Rattle.std.proofs.Common.{List, ℕ, ◌++◌, ap, ◌∙◌, subst}
-use Rattle.sspi_tsreq.specs.Walks.{goes_on, IsWithout}
+use Rattle.sspi_tsreq.specs.Walks.{goes_on}
+use Rattle.sspi_tsreq.specs.Quiet.{IsWithout}
 use Rattle.sspi_tsreq.proofs.walk.Walk.advance.Goals as goal
 
 pub loop-byte-preserved : goal.loop-byte-preserved

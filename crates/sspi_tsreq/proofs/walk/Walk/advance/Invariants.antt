@@ -1,6 +1,7 @@
 use Rattle.std.proofs.Common.{◌≡◌, ℕ, List, [], ◌++◌, length}
 use Rattle.sspi_tsreq.specs.declared.request.TsRequest.{TsRequest}
-use Rattle.sspi_tsreq.specs.Walks.{goes_on, IsInText, IsQuiet, IsWithout}
+use Rattle.sspi_tsreq.specs.Walks.{goes_on, IsInText, IsQuiet}
+use Rattle.sspi_tsreq.specs.Quiet.{IsWithout}
 use Rattle.sspi_tsreq.proofs.walk.Walk.advance.Given as goal
 
 abbrev pub invariant-loop-byte : goal.invariant-loop-byte

@@ -1,6 +1,6 @@
 use Rattle.std.proofs.Common.{subst}
 use Rattle.sspi_tsreq.specs.declared.place.Element.{Element}
-use Rattle.sspi_tsreq.specs.Walks.{IsOctetsElement}
+use Rattle.sspi_tsreq.specs.Quiet.{IsOctetsElement}
 use Rattle.sspi_tsreq.proofs.walk.Walk.behind.Goals as goal
 
 pub returns-in-Required-clause-quiet : goal.returns-in-Required-clause-quiet

@@ -1,6 +1,7 @@
 use Rattle.std.proofs.Common.{ℕ, List, ap, ◌∙◌, subst, sym}
 use Rattle.sspi_tsreq.specs.Places.{answered}
-use Rattle.sspi_tsreq.specs.Walks.{filled, IsWithout}
+use Rattle.sspi_tsreq.specs.Walks.{filled}
+use Rattle.sspi_tsreq.specs.Quiet.{IsWithout}
 use Rattle.sspi_tsreq.proofs.Feeding.{without_back}
 use Rattle.sspi_tsreq.proofs.Walks.{nonce_there}
 use Rattle.sspi_tsreq.proofs.walk.Walk.nonce_octets.Goals as goal

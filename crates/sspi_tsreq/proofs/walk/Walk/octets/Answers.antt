@@ -1,8 +1,8 @@
 use Rattle.std.proofs.Common.{ℕ, ◌-◌, List, ◌++◌, length, take, drop, ap, ◌∙◌, sym}
 use Rattle.std.proofs.Math.Seq.{drop-length}
 use Rattle.sspi_tsreq.specs.declared.request.TsRequest.{TsRequest}
-use Rattle.sspi_tsreq.specs.Places.{answered, text_from, with_text}
-use Rattle.sspi_tsreq.specs.Walks.{filled, from_field}
+use Rattle.sspi_tsreq.specs.Places.{answered, text_from}
+use Rattle.sspi_tsreq.specs.Walks.{with_text, filled, from_field}
 use Rattle.sspi_tsreq.proofs.Walks.{octets_there, octets_begun}
 use Rattle.sspi_tsreq.proofs.walk.Walk.octets.Goals as goal
 

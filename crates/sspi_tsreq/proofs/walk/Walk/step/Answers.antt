@@ -1,6 +1,6 @@
 use Rattle.std.proofs.Common.{subst}
 use Rattle.sspi_tsreq.specs.declared.place.Place.{Place}
-use Rattle.sspi_tsreq.specs.Walks.{Opened}
+use Rattle.sspi_tsreq.specs.Quiet.{Opened}
 use Rattle.sspi_tsreq.proofs.walk.Walk.step.Goals as goal
 
 pub returns-in-InLength-clause-quiet : goal.returns-in-InLength-clause-quiet

@@ -1,0 +1,27 @@
+-- What the worked examples answer.
+use Rattle.std.specs.Prelude.{◌≡◌, ℕ, ◌<◌, ◌≤◌, List, [], ◌∷◌, codes, Result}
+use Rattle.sspi_names.specs.declared.identity.AuthIdentity.{AuthIdentity}
+use Rattle.sspi_names.specs.Name.{Name, down_level, principal}
+use Rattle.sspi_delegate.specs.declared.answer.Delegation.{Delegation}
+use Rattle.sspi_delegate.specs.declared.answer.DelegateError.{DelegateError}
+use Rattle.sspi_completeness.specs.Matching.{ComesToOkIn, IsCutShort}
+
+-- Ok after so many messages of the client, with this identity, where it may make as many, and else the turns are spent; or there
+-- was no memory.
+pub record AnswersIn (messages turns : ℕ) (identity : AuthIdentity) (answer : Result Delegation DelegateError) : Type 0 where
+  pub comes : messages ≤ turns → ComesToOkIn messages identity answer
+  pub short : turns < messages → IsCutShort answer
+
+abbrev pub identity_by : Name → List ℕ → AuthIdentity
+identity_by name password = record { username = name; password = record { value = password } }
+
+-- DOM\ann, and ann@example.com
+abbrev pub ann : AuthIdentity
+ann = identity_by (down_level (codes "ann") (codes "DOM")) (codes "pw")
+
+abbrev pub ann_of_realm : List ℕ → AuthIdentity
+ann_of_realm password = identity_by (principal (codes "ann") (codes "example.com")) password
+
+-- who comes of a client that keeps its credentials
+abbrev pub nobody : AuthIdentity
+nobody = identity_by (down_level [] []) []

@@ -1,0 +1,16 @@
+-- Where plain Kerberos stands behind a reply of the KDC.
+use Rattle.sspi_mech.specs.declared.kerberos.stage.Stage.{Stage}
+use Rattle.sspi_mech.specs.declared.kerberos.stage.Stage.TheVariants.{Unused, PairingAsked, TicketAsked, LogonAsked, SessionAsked}
+use Rattle.sspi_mech.specs.declared.kerberos.stage.Stage.TheVariants.{SessionSent, Ended, TicketSent, Accepted}
+
+-- the next stage of a client under its name
+abbrev pub advanced : Stage → Stage
+advanced Unused = Unused
+advanced PairingAsked = PairingAsked
+advanced (TicketAsked key) = TicketAsked key
+advanced (LogonAsked name) = SessionAsked name
+advanced (SessionAsked name) = SessionSent name
+advanced (SessionSent name) = Ended name
+advanced (Ended name) = Ended name
+advanced TicketSent = TicketSent
+advanced (Accepted peer) = Accepted peer

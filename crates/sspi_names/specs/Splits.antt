@@ -1,0 +1,17 @@
+-- How a name is parted, and put together again.
+use Rattle.std.specs.Prelude.{◌≡◌, ◌⊎◌, List, ℕ, Option, Some, None, Result, Ok, Err}
+use Rattle.sspi_types.specs.declared.error.Error.{Error}
+use Rattle.sspi_types.specs.Memory.{memory_error}
+use Rattle.sspi_names.specs.Name.{Name, parse_name}
+use Rattle.sspi_names.specs.Refusals.{bad_name}
+use Rattle.sspi_names.specs.declared.shape.Shape.{Shape}
+use Rattle.sspi_names.specs.Username.{name_at, IsHeld}
+
+abbrev pub IsNameOfParts : Result Name Error → Option Name → Type 0
+IsNameOfParts (Ok name) found = found ≡ Some name
+IsNameOfParts (Err e) found = ((e ≡ bad_name) × (found ≡ None)) ⊎ (e ≡ memory_error)
+
+-- that text shows the name which `value` is
+pub record IsSplit (value inner : List ℕ) (shape : Shape) : Type 0 where
+  pub named : parse_name value ≡ Some (name_at inner shape)
+  pub held : IsHeld inner shape

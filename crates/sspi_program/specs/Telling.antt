@@ -1,0 +1,111 @@
+-- How a record is told, step by step.
+use Rattle.std.specs.Prelude.{◌≡◌, ℕ, List, Option, None, IsSome, Ok, ◌⊎◌, [], Result, Err}
+use Rattle.std.specs.Global.{Vec}
+use Rattle.sspi_ber.specs.Outside.{Rose, Wrote, WroteFront}
+use Rattle.sspi_scenario.specs.declared.scenario.Scenario.{Scenario}
+use Rattle.sspi_scenario.specs.Reading.{IsReadWhole}
+use Rattle.sspi_scenario.specs.Scenario.{scenario_of}
+use Rattle.sspi_program.specs.declared.command.Command.TheVariants.{Told, Gen}
+use Rattle.sspi_program.specs.declared.command.Task.{Task}
+use Rattle.sspi_program.specs.declared.record.Record.{Record}
+use Rattle.sspi_program.specs.declared.said.Said.{Said}
+use Rattle.sspi_program.specs.declared.said.Said.TheVariants.{Done, NoScenario, ReadFault, OtherWords, NoMemory}
+use Rattle.sspi_program.specs.Desk.{SeatsDue}
+use Rattle.sspi_program.specs.Generate.{TallyDue}
+use Rattle.sspi_program.specs.Kept.{seating, tallying, keeping}
+use Rattle.sspi_program.specs.Promises.{Does}
+use Rattle.sspi_program.specs.Seats.{PlainSeat}
+use Rattle.sspi_program.specs.Said.{status_of, RecordDue, IsDue}
+use Rattle.sspi_program.specs.Commands.{purpose_of}
+
+-- what was read of the source where its text was judged: all of it, or one byte more than a text may have
+abbrev pub IsJudged : Option (List ℕ) → Option (List ℕ) → Said → Type 0
+IsJudged before after (Done conducted text) = IsReadWhole before after
+IsJudged before after (NoScenario line) = IsReadWhole before after
+IsJudged before after ReadFault = Unit {0}
+IsJudged before after OtherWords = Unit {0}
+IsJudged before after NoMemory = Unit {0}
+
+-- what a task makes of a scenario
+abbrev pub Conducts : Task → Scenario → Said → Type 0
+Conducts task scenario (Done conducted written) = Does (Told task) (λ s. s ≡ scenario) conducted written.items
+Conducts task scenario (NoScenario line) = ⊥
+Conducts task scenario ReadFault = ⊥
+Conducts task scenario OtherWords = ⊥
+Conducts task scenario NoMemory = Unit {0}
+
+-- what is made of so many scenarios
+abbrev pub Generates : ℕ → Said → Type 0
+Generates count (Done conducted written) = Does (Gen count) (λ s. Unit {0}) conducted written.items
+Generates count (NoScenario line) = ⊥
+Generates count ReadFault = ⊥
+Generates count OtherWords = ⊥
+Generates count NoMemory = Unit {0}
+
+-- what is said of many exchanges
+abbrev pub SumsUp : List Record → Said → Type 0
+SumsUp tally (Done conducted written) =
+    (conducted ≡ tallying conducted.status tally) × IsDue (TallyDue tally) conducted.status written.items
+SumsUp tally (NoScenario line) = ⊥
+SumsUp tally ReadFault = ⊥
+SumsUp tally OtherWords = ⊥
+SumsUp tally NoMemory = ⊥
+
+-- what is said of sessions
+abbrev pub SaysOfSeats : List PlainSeat → Said → Type 0
+SaysOfSeats seats (Done conducted written) =
+    (conducted ≡ seating conducted.status seats) × IsDue (SeatsDue seats) conducted.status written.items
+SaysOfSeats seats (NoScenario line) = ⊥
+SaysOfSeats seats ReadFault = ⊥
+SaysOfSeats seats OtherWords = ⊥
+SaysOfSeats seats NoMemory = ⊥
+
+-- what is said of a record
+abbrev pub SaysOf : Record → Said → Type 0
+SaysOf kept (Done conducted text) = (conducted ≡ keeping conducted.status kept) × IsSome (status_of kept.outcome) ×
+    IsDue (RecordDue kept) conducted.status text.items
+SaysOf kept (NoScenario line) = ⊥
+SaysOf kept ReadFault = ⊥
+SaysOf kept OtherWords = ⊥
+SaysOf kept NoMemory = status_of kept.outcome ≡ None
+
+-- the record is kept with the status and the text that are told; or, where these had no memory, with none
+abbrev pub IsDoneWith : {E : Type 0} → Record → Result (ℕ × Vec ℕ) E → Said → Type 0
+IsDoneWith kept told (Done conducted text) = (conducted ≡ keeping conducted.status kept) ×
+    ((told ≡ Ok (conducted.status, text)) ⊎ ((conducted.status ≡ 5) × (text.items ≡ [])))
+IsDoneWith kept told (NoScenario line) = ⊥
+IsDoneWith kept told ReadFault = ⊥
+IsDoneWith kept told OtherWords = ⊥
+IsDoneWith kept told NoMemory = ⊥
+
+-- what is said of a record with the status and the text that are told
+abbrev pub SaysWith : {E : Type 0} → Record → Result (ℕ × Vec ℕ) E → Said → Type 0
+SaysWith kept told (Done conducted text) = (conducted ≡ keeping conducted.status kept) × IsSome (status_of kept.outcome) ×
+    ((told ≡ Ok (conducted.status, text)) ⊎ ((conducted.status ≡ 5) × (text.items ≡ [])))
+SaysWith kept told (NoScenario line) = ⊥
+SaysWith kept told ReadFault = ⊥
+SaysWith kept told OtherWords = ⊥
+SaysWith kept told NoMemory = status_of kept.outcome ≡ None
+
+abbrev pub said_status : Said → ℕ
+said_status (Done conducted text) = conducted.status
+said_status (NoScenario line) = 2
+said_status ReadFault = 3
+said_status OtherWords = 6
+said_status NoMemory = 5
+
+-- The whole text was written, and the status is its own; or a front of it, since the sink failed (4) or had no memory (5).
+abbrev pub Written : ℕ → List ℕ → Option (List ℕ) → Option (List ℕ) → ℕ → ℕ → ℕ → Type 0
+Written own text before after faults faults2 status =
+    ((status ≡ own) × Wrote before after text)
+    ⊎ (((status ≡ 4) × Rose faults faults2 × WroteFront before after text)
+    ⊎ ((status ≡ 5) × WroteFront before after text))
+
+-- what a task makes of a text
+abbrev pub CarriesOut : Task → List ℕ → Said → Type 0
+CarriesOut task text (Done conducted written) =
+    Does (Told task) (λ scenario. scenario_of (purpose_of task) text ≡ Ok scenario) conducted written.items
+CarriesOut task text (NoScenario line) = scenario_of (purpose_of task) text ≡ Err line
+CarriesOut task text ReadFault = ⊥
+CarriesOut task text OtherWords = ⊥
+CarriesOut task text NoMemory = Unit {0}

@@ -1,0 +1,27 @@
+-- What the steps of reading TSCredentials promise each other.
+use Rattle.std.specs.Prelude.{◌≡◌, Result, Ok, Err}
+use Rattle.sspi_types.specs.declared.error.Error.{Error}
+use Rattle.sspi_names.specs.Refusals.{bad_text}
+use Rattle.sspi_names.specs.declared.credentials.CredentialsBuffers.{CredentialsBuffers}
+use Rattle.sspi_ber.specs.Kinds.{error_of}
+use Rattle.sspi_ber.specs.declared.wire_kind.WireKind.{WireKind}
+use Rattle.sspi_ber.specs.declared.wire_kind.WireKind.TheVariants.{UnexpectedEof, InvalidData, ReadFault, WriteFault, InsufficientMemory}
+use Rattle.sspi_tsreq.specs.Creds.{malformed}
+
+-- exactly this answer, with the value seen by view
+abbrev pub Is : {X A : Type 0} → (X → A) → Result X Error → Result A Error → Type 0
+Is view (Ok x) answer = answer ≡ Ok (view x)
+Is view (Err error) answer = answer ≡ Err error
+
+-- no refusal that is reached before the texts are copied
+abbrev pub IsLate : Result CredentialsBuffers Error → Type 0
+IsLate (Ok buffers) = Unit {0}
+IsLate (Err error) = error ≡ bad_text
+
+-- what a fault of reading is to a caller: what is not spelled is malformed, all else a fault of the outside
+abbrev pub refusal_by : WireKind → Error
+refusal_by UnexpectedEof = malformed
+refusal_by InvalidData = malformed
+refusal_by ReadFault = error_of ReadFault
+refusal_by WriteFault = error_of WriteFault
+refusal_by InsufficientMemory = error_of InsufficientMemory
