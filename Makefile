@@ -1,4 +1,4 @@
-.PHONY: run play test check fmt size wrong-bodies hostile fuzz
+.PHONY: run play test check fmt size apart wrong-bodies hostile fuzz
 
 # Carries one delegation and shows its messages, each with the end that sent it, and the outcome. Builds, and proves nothing.
 run:
@@ -23,6 +23,10 @@ fmt:
 # The lines of each crate by kind, and what the contract of `delegate` rests on.
 size:
 	@tools/size
+
+# The spec files in which what public contracts reach stands beside what none of them reaches. Those that are left say why.
+apart:
+	@tools/apart
 
 # The built program with each of its allocations, reads and writes failing in turn.
 hostile:
