@@ -6,7 +6,7 @@ TOP = Path(__file__).resolve().parent.parent
 CRATES = TOP / "crates"
 USE = re.compile(r"use Rattle\.(\w+)\.specs\.(\w+)\.\{([^}]*)\}")
 NAME = re.compile(r"[A-Za-z_][\w'-]*")
-DEFINES = re.compile(r"(\s*)(?:abbrev |unfoldable |recursive )*(?:pub )?(?:(record|data) )?([A-Za-z_][\w'-]*)(?: :|(?<=\w)(?= [({]))")
+DEFINES = re.compile(r"(\s*)(?:abbrev |unfoldable |recursive )*(?:pub )?(?:(record|data) (?=[A-Z]))?([A-Za-z_][\w'-]*)(?: :|(?<=\w)(?= [({]))")
 
 
 def imports(text):
