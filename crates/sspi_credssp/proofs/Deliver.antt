@@ -45,13 +45,14 @@ module _ {S C : Type 0} (c : Meaning S C) (laws : IsContext c) where
       flag acts ≡ false → HasOpened c m m1 acts acts1 blob proof same → same ≡ true →
       OnOk r (acts2 ≡ set acts1) → OnOk r (m2 ≡ c.counted m1 (one_sealing (c.counts m1))) →
       OnOk r (c.counts m2 ≡ one_sealing (c.counts m1)) → OnErr r (m2 ≡ m1) → OnErr r (acts2 ≡ acts1) →
-      Exchanges c m blob proof m2 acts2.checked (flag acts2)
+      Exchanges c m blob proof m2 acts2.checked (flag acts2) r
   exchanged flag set notes m m1 m2 acts acts1 acts2 blob proof same (Ok text) unset opened is done made count _ _ =
       let is_set : flag acts2 ≡ true = ap flag done ∙ notes.sets acts1 in
       let is_checked : acts2.checked ≡ true =
       ap (λ (a : Acts). a.checked) done ∙ notes.keeps acts1 ∙ ap (λ (a : Acts). a.checked) opened.noted in
       let held = subst (λ b. OpensAs c m1 blob proof b) is opened.holds in
       record {
+        answered = (is_checked, is_set);
         after_proof = λ _. (is_checked, rw count (opens_still m1 m2 _ _ blob proof made held));
         sealings = rw (count, opened.count, is_set) refl;
         unsealings = rw (count, opened.count, is_checked) refl;
@@ -61,6 +62,7 @@ module _ {S C : Type 0} (c : Meaning S C) (laws : IsContext c) where
       let not_set : flag acts2 ≡ false = ap flag kept ∙ ap flag opened.noted ∙ notes.other acts ∙ unset in
       let is_checked : acts2.checked ≡ true = ap (λ (a : Acts). a.checked) kept ∙ ap (λ (a : Acts). a.checked) opened.noted in
       record {
+        answered = tt;
         after_proof = λ h. absurd (true≢false (sym h ∙ not_set));
         sealings = rw (stays, opened.count, not_set) (sym (add-zero _));
         unsealings = rw (stays, opened.count, is_checked) refl;

@@ -1,5 +1,5 @@
 -- What a blob opened to, beside the proof that was due.
-use Rattle.std.specs.Prelude.{◌≡◌, ℕ, ◌-◌, ◌+◌, ◌≤◌, List, length, Bool, true, false, Option, None, Some, nat_lt}
+use Rattle.std.specs.Prelude.{◌≡◌, ℕ, ◌-◌, ◌+◌, ◌≤◌, List, length, Bool, true, false, Option, None, Some, Result, OnOk, nat_lt}
 use Rattle.sspi_mech.specs.Calls.{one_unsealing}
 use Rattle.sspi_mech.specs.Meaning.{Meaning}
 use Rattle.sspi_credssp.specs.declared.acts.Acts.{Acts}
@@ -31,7 +31,8 @@ pub record HasOpened {S C : Type 0} (c : Meaning S C) (m m2 : C) (acts acts2 : A
 
 module _ {S C : Type 0} (c : Meaning S C) where
   -- an end opened the peer's proof, and perhaps sealed what it then owes: what that did to the context
-  pub record Exchanges (m : C) (blob proof : List ℕ) (m2 : C) (checked sealed : Bool) : Type 0 where
+  pub record Exchanges {T E : Type 0} (m : C) (blob proof : List ℕ) (m2 : C) (checked sealed : Bool) (result : Result T E) : Type 0 where
+    pub answered : OnOk result ((checked ≡ true) × (sealed ≡ true))
     pub after_proof : sealed ≡ true → (checked ≡ true) × c.opens m2 ((c.counts m2).unsealings - 1) blob proof
     pub sealings : (c.counts m2).sealings ≡ (c.counts m).sealings + count_of sealed
     pub unsealings : (c.counts m2).unsealings ≡ (c.counts m).unsealings + count_of checked

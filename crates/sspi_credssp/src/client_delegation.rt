@@ -68,10 +68,9 @@ fn deliver<N: Mechanism, K: Mechanism>(
     requires sealed { acts.old.sealed ≡ false }
     // What holds of every answer.
     ensures exchanges { Exchanges (either N.REQUESTS N.meaning K.meaning) context.old blob.now proof.now context.new
-        acts.new.checked acts.new.sealed }
+        acts.new.checked acts.new.sealed result }
     ensures acts { acts.new ≡ record acts.old { checked = acts.new.checked; sealed = acts.new.sealed } }
     // What `Ok` holds.
-    ensures ok { OnOk result (acts.new ≡ record acts.old { checked = true; sealed = true }) }
     ensures blob { let c = either N.REQUESTS N.meaning K.meaning in IfOk result (λ blob. IfText (delegated_text credentials.now mode)
         (λ text. c.seals context.new ((c.counts context.new).sealings - 1) text blob)) }
     // What a refusal says.

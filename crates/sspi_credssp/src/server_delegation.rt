@@ -58,10 +58,9 @@ fn answer_proof<N: Mechanism, K: Mechanism>(
     requires proved { acts.old.proved ≡ false }
     // What holds of every answer.
     ensures exchanges { Exchanges (either N.REQUESTS N.meaning K.meaning) context.old blob.now expected.now context.new
-        acts.new.checked acts.new.proved }
+        acts.new.checked acts.new.proved result }
     ensures acts { acts.new ≡ record acts.old { checked = acts.new.checked; proved = acts.new.proved } }
     // What `Ok` holds.
-    ensures ok { OnOk result (acts.new ≡ record acts.old { checked = true; proved = true }) }
     ensures blob { let c = either N.REQUESTS N.meaning K.meaning in IfOk result (λ answer.
         c.seals context.new ((c.counts context.new).sealings - 1) proof.now answer) }
     // What a refusal says.
