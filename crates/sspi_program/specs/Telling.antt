@@ -7,6 +7,7 @@ use Rattle.sspi_scenario.specs.Reading.{IsReadWhole}
 use Rattle.sspi_scenario.specs.Scenario.{scenario_of}
 use Rattle.sspi_program.specs.declared.command.Command.TheVariants.{Told, Gen}
 use Rattle.sspi_program.specs.declared.command.Task.{Task}
+use Rattle.sspi_program.specs.declared.record.Conducted.{Conducted}
 use Rattle.sspi_program.specs.declared.record.Record.{Record}
 use Rattle.sspi_program.specs.declared.said.Said.{Said}
 use Rattle.sspi_program.specs.declared.said.Said.TheVariants.{Done, NoScenario, ReadFault, OtherWords, NoMemory}
@@ -42,23 +43,18 @@ Generates count ReadFault = ⊥
 Generates count OtherWords = ⊥
 Generates count NoMemory = Unit {0}
 
+-- what is said where this is kept with its status, and this text is due
+abbrev pub SaysDue : (ℕ → Conducted) → (ℕ → List ℕ → Type 0) → Said → Type 0
+SaysDue kept Due (Done conducted written) = (conducted ≡ kept conducted.status) × IsDue Due conducted.status written.items
+SaysDue kept Due other = ⊥
+
 -- what is said of many exchanges
 abbrev pub SumsUp : List Record → Said → Type 0
-SumsUp tally (Done conducted written) =
-    (conducted ≡ tallying conducted.status tally) × IsDue (TallyDue tally) conducted.status written.items
-SumsUp tally (NoScenario line) = ⊥
-SumsUp tally ReadFault = ⊥
-SumsUp tally OtherWords = ⊥
-SumsUp tally NoMemory = ⊥
+SumsUp tally said = SaysDue (λ status. tallying status tally) (TallyDue tally) said
 
 -- what is said of sessions
 abbrev pub SaysOfSeats : List PlainSeat → Said → Type 0
-SaysOfSeats seats (Done conducted written) =
-    (conducted ≡ seating conducted.status seats) × IsDue (SeatsDue seats) conducted.status written.items
-SaysOfSeats seats (NoScenario line) = ⊥
-SaysOfSeats seats ReadFault = ⊥
-SaysOfSeats seats OtherWords = ⊥
-SaysOfSeats seats NoMemory = ⊥
+SaysOfSeats seats said = SaysDue (λ status. seating status seats) (SeatsDue seats) said
 
 -- what is said of a record
 abbrev pub SaysOf : Record → Said → Type 0
