@@ -36,11 +36,10 @@ module _ {C : Type 0} (c : Meaning ContextSetting C) where
   SealsCause m (Err error) kind = kind ≡ error.error_type
 
   abbrev pub BlobOpens : Option ℕ → Option C → List ℕ → ClientView C → ErrorKind → Type 0
-  BlobOpens None context blob new kind = ⊥
-  BlobOpens (Some noted) None blob new kind = ⊥
   BlobOpens (Some noted) (Some m) blob new kind =
       ProofCause c new.acts.checked m blob (prescribed Server noted new.settings.nonce new.settings.public_key)
       (SealsCause m (delegated_text new.settings.credentials new.settings.delegation) kind) kind
+  BlobOpens noted context blob new kind = ⊥
 
   -- pubKeyAuth is absent, too short, or what it opens to is refused
   abbrev pub DeliverCause : Option (List ℕ) → ClientView C → ErrorKind → Type 0

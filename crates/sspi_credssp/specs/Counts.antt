@@ -29,20 +29,17 @@ module _ {S C : Type 0} (c : Meaning S C) where
   -- the same context, but for what it sealed and opened
   abbrev pub SameBut : Option C → Option C → Type 0
   SameBut None None = Unit {0}
-  SameBut None (Some m2) = ⊥
-  SameBut (Some m) None = ⊥
   SameBut (Some m) (Some m2) = cleared m2 ≡ cleared m
+  SameBut context other = ⊥
 
   -- the blob is the text, sealed or opened as the context's message of that number
   abbrev pub SealsIn : Option C → ℕ → List ℕ → Option (List ℕ) → Type 0
-  SealsIn None n text blob = ⊥
-  SealsIn (Some m) n text None = ⊥
   SealsIn (Some m) n text (Some blob) = c.seals m n text blob
+  SealsIn context n text sealed = ⊥
 
   abbrev pub OpensIn : Option C → ℕ → Option (List ℕ) → List ℕ → Type 0
-  OpensIn None n blob text = ⊥
-  OpensIn (Some m) n None text = ⊥
   OpensIn (Some m) n (Some blob) text = c.opens m n blob text
+  OpensIn context n sealed text = ⊥
 
   abbrev pub is_waiting_in : Option C → Bool
   is_waiting_in None = false

@@ -7,10 +7,9 @@ use Rattle.sspi_credssp.specs.Server.{ServerView}
 
 -- the peer is looked up once the step has ended the authentication, and at no other status
 abbrev pub look_ups_at : Option SecurityStatus → ℕ
-look_ups_at None = 0
 look_ups_at (Some statuses.Ok) = 1
 look_ups_at (Some statuses.CompleteNeeded) = 1
-look_ups_at (Some other) = 0
+look_ups_at other = 0
 
 -- all calls of a turn
 abbrev pub calls_in : {C P : Type 0} → ServerView C P → Option SecurityStatus → ℕ

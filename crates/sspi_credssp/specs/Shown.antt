@@ -84,9 +84,8 @@ ShowsNego f t (Some other) r = ShowsToken f t r
 abbrev pub ShowsReply : ShownFrame → Turn → Outcome → Type 0
 ShowsReply f t (outcome.Reply r) = ShowsNego f t t.acts.status r
 ShowsReply f t (outcome.Final r) = ShowsFinal f t r
-ShowsReply f t outcome.Finished = ⊥
 ShowsReply f t (outcome.Refused kind None) = Unit {0}
-ShowsReply f t (outcome.Refused kind (Some r)) = ⊥
+ShowsReply f t other = ⊥
 
 pub record ShowsClient (f : ShownFrame) (t : Turn) : Type 0 where
   pub code : UnlessRefused t.outcome (is_code t.delivered.error_code ≡ false)
@@ -98,17 +97,15 @@ pub record ShowsClient (f : ShownFrame) (t : Turn) : Type 0 where
 
 -- the authentication has ended
 abbrev pub IsOver : Option SecurityStatus → Type 0
-IsOver None = ⊥
 IsOver (Some statuses.Ok) = Unit {0}
 IsOver (Some statuses.CompleteNeeded) = Unit {0}
-IsOver (Some other) = ⊥
+IsOver other = ⊥
 
 -- the client's proof may be opened
 abbrev pub MayCheck : CredSspState → Option SecurityStatus → Type 0
 MayCheck NegoToken status = IsOver status
 MayCheck PubKeyInfo status = Unit {0}
-MayCheck AuthInfo status = ⊥
-MayCheck Final status = ⊥
+MayCheck other status = ⊥
 
 -- a version below 5 needs no nonce, and any other needs one of 32 bytes
 abbrev pub HasNonce : Bool → Option (List ℕ) → Type 0
@@ -153,8 +150,7 @@ ShowsNegoBack f t other r = ⊥
 abbrev pub ShowsStateBack : ShownFrame → Turn → CredSspState → TsRequest → Type 0
 ShowsStateBack f t NegoToken r = ShowsNegoBack f t t.acts.status r
 ShowsStateBack f t PubKeyInfo r = ShowsProofBack f t r
-ShowsStateBack f t AuthInfo r = ⊥
-ShowsStateBack f t Final r = ⊥
+ShowsStateBack f t other r = ⊥
 
 -- the version of an error request: the delivered one, or the server's own; any where that is not known
 abbrev pub IsVersionBack : Option ℕ → ℕ → ℕ → Type 0
@@ -168,10 +164,9 @@ pub record ShowsError (f : ShownFrame) (t : Turn) (kind : ErrorKind) (r : TsRequ
 
 abbrev pub ShowsAnswer : ShownFrame → Turn → Outcome → Type 0
 ShowsAnswer f t (outcome.Reply r) = ShowsStateBack f t f.state r
-ShowsAnswer f t (outcome.Final r) = ⊥
 ShowsAnswer f t outcome.Finished = (f.state ≡ AuthInfo) × (t.acts.opened ≡ true)
-ShowsAnswer f t (outcome.Refused kind None) = ⊥
 ShowsAnswer f t (outcome.Refused kind (Some r)) = ShowsError f t kind r
+ShowsAnswer f t other = ⊥
 
 pub record ShowsServer (f : ShownFrame) (t : Turn) : Type 0 where
   pub version : UnlessRefused t.outcome (FitsNoted f.looks f.noted t.delivered.version)

@@ -22,9 +22,8 @@ use Rattle.sspi_credssp.specs.Turn.{message_of}
 -- how many turns an end has made
 abbrev pub one_of : End → End → ℕ
 one_of Client Client = 1
-one_of Client Server = 0
-one_of Server Client = 0
 one_of Server Server = 1
+one_of end one = 0
 
 abbrev pub turns_of : End → List Turn → ℕ
 turns_of end [] = 0
@@ -37,25 +36,17 @@ NewestIs end P (t ∷ past) = (t.end ≡ end) × P t.outcome
 
 -- a client's refusal has no message
 abbrev pub IsClientRefusal : ErrorKind → Outcome → Type 0
-IsClientRefusal kind (Reply reply) = ⊥
-IsClientRefusal kind (Final reply) = ⊥
-IsClientRefusal kind Finished = ⊥
 IsClientRefusal kind (Refused refused None) = refused ≡ kind
-IsClientRefusal kind (Refused refused (Some reply)) = ⊥
+IsClientRefusal kind outcome = ⊥
 
 -- a server's refusal has the message that tells the client
 abbrev pub IsServerRefusal : ErrorKind → Outcome → Type 0
-IsServerRefusal kind (Reply reply) = ⊥
-IsServerRefusal kind (Final reply) = ⊥
-IsServerRefusal kind Finished = ⊥
-IsServerRefusal kind (Refused refused None) = ⊥
 IsServerRefusal kind (Refused refused (Some reply)) = refused ≡ kind
+IsServerRefusal kind outcome = ⊥
 
 abbrev pub IsFinished : Outcome → Type 0
-IsFinished (Reply reply) = ⊥
-IsFinished (Final reply) = ⊥
 IsFinished Finished = Unit {0}
-IsFinished (Refused kind reply) = ⊥
+IsFinished outcome = ⊥
 
 -- want of memory may be the answer after this outcome: it went on, or it was itself refused for want of memory
 abbrev pub MayLackAfter : Outcome → Type 0

@@ -20,10 +20,8 @@ is_second [] = false
 is_second (t ∷ past) = is_first past
 
 abbrev pub IsDowngrade : Outcome → Type 0
-IsDowngrade (outcome.Reply reply) = ⊥
-IsDowngrade (outcome.Final reply) = ⊥
-IsDowngrade outcome.Finished = ⊥
 IsDowngrade (outcome.Refused kind reply) = kind ≡ DowngradeDetected
+IsDowngrade other = ⊥
 
 -- a client's turn after these finds its server below the least version, and looks so far: the server reports no error
 pub record FindsOldServer (least : ℕ) (past : List Turn) (t : Turn) : Type 0 where

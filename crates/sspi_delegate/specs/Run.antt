@@ -2,7 +2,7 @@
 -- entries are those that the exchange added to the log that it found.
 use Rattle.std.specs.Prelude.{◌≡◌, ◌≤◌, ℕ, ◌⊎◌, true, List, [], ◌∷◌, length, Option, None, Some}
 use Rattle.sspi_ber.specs.declared.wire_kind.WireKind.{WireKind}
-use Rattle.sspi_ber.specs.declared.wire_kind.WireKind.TheVariants.{UnexpectedEof, InvalidData, ReadFault, WriteFault, InsufficientMemory}
+use Rattle.sspi_ber.specs.declared.wire_kind.WireKind.TheVariants.{UnexpectedEof, InvalidData}
 use Rattle.sspi_ber.specs.Fault.{Ended, Invalid}
 use Rattle.sspi_tsreq.specs.declared.request.TsRequest.{TsRequest}
 use Rattle.sspi_tsreq.specs.Answer.{fault}
@@ -22,9 +22,7 @@ IsRead bytes request = (taken : ℕ) × IsRequest bytes request taken
 abbrev pub IsFault : List ℕ → WireKind → Type 0
 IsFault bytes UnexpectedEof = fault bytes ≡ Some Ended
 IsFault bytes InvalidData = fault bytes ≡ Some Invalid
-IsFault bytes ReadFault = ⊥
-IsFault bytes WriteFault = ⊥
-IsFault bytes InsufficientMemory = ⊥
+IsFault bytes other = ⊥
 
 -- a turn after these turns is given this request: the first one its own, each other one what was delivered of the newest
 -- entry, which was taken to its end or to the limit, and no further
@@ -71,6 +69,5 @@ OpenFor (t ∷ past) log = HeadOpen log
 
 -- there are turns, and the newest delivery was taken whole and is no request, for this reason
 abbrev pub IsUnreadable : List Turn → List Carried → WireKind → Type 0
-IsUnreadable [] log kind = ⊥
-IsUnreadable (t ∷ past) [] kind = ⊥
 IsUnreadable (t ∷ past) (e ∷ log) kind = (is_taken e ≡ true) × IsFault e.delivered kind
+IsUnreadable turns log kind = ⊥

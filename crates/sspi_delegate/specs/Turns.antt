@@ -24,8 +24,7 @@ next_end (t ∷ past) = other t.end
 abbrev pub GoesOn : Outcome → Type 0
 GoesOn (Reply reply) = Unit {0}
 GoesOn (Final reply) = Unit {0}
-GoesOn Finished = ⊥
-GoesOn (Refused kind reply) = ⊥
+GoesOn outcome = ⊥
 
 abbrev pub AllGoOn : List Turn → Type 0
 AllGoOn [] = Unit {0}
