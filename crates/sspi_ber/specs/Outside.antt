@@ -1,7 +1,8 @@
 -- What a call on a source or a sink says of the world outside: the bytes that are left or written where they are told,
 -- and the count of faults of the object.
-use Rattle.std.specs.Prelude.{◌≡◌, ℕ, ◌+◌, ◌-◌, ◌^◌, ◌≤◌, min, Bool, true, false, List, [], ◌∷◌, ◌++◌, Option, None, Some, Result, Ok, Err}
+use Rattle.std.specs.Prelude.{◌≡◌, ℕ, ◌≤◌, Bool, true, false, List, [], ◌∷◌, ◌++◌, Option, None, Some, Result, Ok, Err}
 use Rattle.std.specs.Io.KnownBytes.{Appends, Consumes, Keeps, IsAtEnd}
+use Rattle.sspi_types.specs.Counting.{counted_on}
 use Rattle.sspi_ber.specs.declared.source.SourceError.{SourceError}
 use Rattle.sspi_ber.specs.declared.source.SourceError.TheVariants as source_errors
 use Rattle.sspi_ber.specs.declared.sink.SinkError.{SinkError}
@@ -12,11 +13,7 @@ use Rattle.sspi_ber.specs.Fault.{Ended, Invalid, Read}
 
 -- the count of faults rose, or stands at the last value of its counter
 abbrev pub Rose : ℕ → ℕ → Type 0
-Rose before now = min (before + 1) (2 ^ 64 - 1) ≤ now
-
--- one call more, up to the last value of the counter
-abbrev pub Counts : ℕ → ℕ → Type 0
-Counts before now = now ≡ min (before + 1) (2 ^ 64 - 1)
+Rose before now = counted_on before ≤ now
 
 -- what a call of `read` says of the count: it never falls, and a failure has it rise
 abbrev pub SourceCause : {X : Type 0} → ℕ → ℕ → Result X SourceError → Type 0

@@ -1,6 +1,7 @@
 ghost use Rattle.std.specs.Prelude.{◌≡◌, ◌↔◌, ◌<◌, ◌≤◌, [], length, IfOk, IsErrOf};
 ghost use Rattle.std.specs.Io.KnownBytes.{ReadConsumes, WriteAppends};
-ghost use Rattle.sspi_ber.specs.Outside.{SourceCause, SinkCause, Counts};
+ghost use Rattle.sspi_types.specs.Counting.{Counts};
+ghost use Rattle.sspi_ber.specs.Outside.{SourceCause, SinkCause};
 
 use crate::sink::{Sink, SinkError};
 use crate::slice_source::SliceSource;

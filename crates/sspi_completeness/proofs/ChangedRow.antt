@@ -4,7 +4,7 @@ use Rattle.std.proofs.Common.{refl, ap, sym, ◌∙◌, subst, arith}
 use Rattle.sspi_types.specs.declared.security_status.SecurityStatus.TheVariants as statuses
 use Rattle.sspi_names.specs.declared.identity.AuthIdentity.{AuthIdentity}
 use Rattle.sspi_mech.specs.declared.step.Step.{Step}
-use Rattle.sspi_mech.specs.Asking.{counted_on}
+use Rattle.sspi_types.specs.Counting.{counted_on}
 use Rattle.sspi_mech.specs.Ntlm.{ntlm_with}
 use Rattle.sspi_negotiate.specs.declared.package_list.PackageListConfig.{PackageListConfig}
 use Rattle.sspi_negotiate.specs.declared.pick.Choice.{Choice}

@@ -5,7 +5,7 @@ use Rattle.sspi_types.specs.declared.security_status.SecurityStatus.TheVariants 
 use Rattle.sspi_names.specs.declared.identity.AuthIdentity.{AuthIdentity}
 use Rattle.sspi_mech.specs.declared.kerberos.realms.Realms.{Realms}
 use Rattle.sspi_mech.specs.declared.step.Step.{Step}
-use Rattle.sspi_mech.specs.Asking.{counted_on}
+use Rattle.sspi_types.specs.Counting.{counted_on}
 use Rattle.sspi_mech.specs.Calls.{StepArgs}
 use Rattle.sspi_mech.specs.Kerberos.{kerberos_with}
 use Rattle.sspi_mech.specs.KerberosLogon.{url_by}

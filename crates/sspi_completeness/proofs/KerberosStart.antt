@@ -4,7 +4,7 @@ use Rattle.std.proofs.Common.{refl, ap, sym, ◌∙◌}
 use Rattle.sspi_types.specs.declared.security_status.SecurityStatus.TheVariants as statuses
 use Rattle.sspi_names.specs.declared.identity.AuthIdentity.{AuthIdentity}
 use Rattle.sspi_names.specs.declared.network.NetworkRequest.{NetworkRequest}
-use Rattle.sspi_mech.specs.Asking.{counted_on}
+use Rattle.sspi_types.specs.Counting.{counted_on}
 use Rattle.sspi_mech.specs.Calls.{StepArgs}
 use Rattle.sspi_mech.specs.Kerberos.{kerberos_with}
 use Rattle.sspi_mech.specs.KerberosLogon.{url_by}

@@ -8,7 +8,7 @@ use Rattle.sspi_names.specs.Name.{Name, domain_of, inner_of}
 use Rattle.sspi_names.specs.Utf16.{text_of}
 use Rattle.sspi_mech.specs.declared.step.Reply.{Reply}
 use Rattle.sspi_mech.specs.declared.step.Reply.TheVariants.{Answered}
-use Rattle.sspi_mech.specs.Asking.{counted_on}
+use Rattle.sspi_types.specs.Counting.{counted_on}
 use Rattle.sspi_mech.specs.KerberosLogon.{request_at, url_by}
 use Rattle.sspi_mech.specs.KerberosMessages.{as_request, as_reply, tgs_request, tgs_reply}
 use Rattle.sspi_negotiate.specs.declared.negotiate_config.NegotiateConfig.{NegotiateConfig}

@@ -5,7 +5,8 @@ use Rattle.sspi_credssp.specs.declared.proxy.ProxyError.{ProxyError}
 use Rattle.sspi_credssp.specs.declared.proxy.ProxyError.TheVariants.{NotFound, Failed, InsufficientMemory}
 use Rattle.sspi_credssp.specs.Proxy.{ProxyMeaning, ProxyTells, HasAnswered, HasAsked, IsAsked, FailsAfter, TellsFailure}
 use Rattle.sspi_credssp.specs.ServerStage.{IsLater}
-use Rattle.sspi_credssp.specs.Proxy.{FailsAsTold, LookUpCause, counted_on, counted_after}
+use Rattle.sspi_types.specs.Counting.{counted_on}
+use Rattle.sspi_credssp.specs.Proxy.{FailsAsTold, LookUpCause, counted_after}
 use Rattle.sspi_credssp.proofs.Proxies.{calm_look_up}
 
 rises : {X : Type 0} (before now : ℕ) (r : Result X ProxyError) → LookUpCause before now r → before ≤ now

@@ -1,7 +1,8 @@
 -- What a proxy tells of itself, and what a call of it does.
-use Rattle.std.specs.Prelude.{◌≡◌, ℕ, zero, suc, ◌+◌, ◌-◌, ◌^◌, ◌<◌, ◌≤◌, ◌==◌, min, List, [], find, filter, Option, None, Some}
+use Rattle.std.specs.Prelude.{◌≡◌, ℕ, zero, suc, ◌+◌, ◌<◌, ◌≤◌, ◌==◌, List, [], find, filter, Option, None, Some}
 use Rattle.std.specs.Prelude.{Result, Ok, Err, Bool, true, false}
 use Rattle.std.specs.List.{list_any}
+use Rattle.sspi_types.specs.Counting.{counted_on}
 use Rattle.sspi_names.specs.declared.identity.AuthIdentity.{AuthIdentity}
 use Rattle.sspi_names.specs.Name.{Name, equals_ignoring_case}
 use Rattle.sspi_credssp.specs.declared.proxy.ProxyError.{ProxyError}
@@ -22,10 +23,6 @@ pub record ProxyMeaning (P : Type 0) : Type 0 where
   -- how many calls were made, and how many of them failed
   pub calls : P → ℕ
   pub faults : P → ℕ
-
--- the next value of a count that stays at its last one
-abbrev pub counted_on : ℕ → ℕ
-counted_on n = min (n + 1) (2 ^ 64 - 1)
 
 -- its value so many calls later
 abbrev pub counted_after : ℕ → ℕ → ℕ

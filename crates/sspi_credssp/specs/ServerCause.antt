@@ -23,7 +23,8 @@ use Rattle.sspi_credssp.specs.Context.{ContextSetting, ForServer}
 use Rattle.sspi_credssp.specs.Credentials.{delegated_identity}
 use Rattle.sspi_credssp.specs.Exchange.{BlobStops, ProofCause}
 use Rattle.sspi_credssp.specs.Noted.{VersionStops}
-use Rattle.sspi_credssp.specs.Proxy.{ProxyMeaning, ProxyTells, counted_on, AreFound}
+use Rattle.sspi_types.specs.Counting.{counted_on}
+use Rattle.sspi_credssp.specs.Proxy.{ProxyMeaning, ProxyTells, AreFound}
 use Rattle.sspi_credssp.specs.PublicKey.{prescribed}
 use Rattle.sspi_credssp.specs.Requests.{nonce_of}
 use Rattle.sspi_credssp.specs.Server.{ServerView}

@@ -1,5 +1,6 @@
 ghost use Rattle.std.specs.Prelude.{◌≡◌, Err};
-ghost use Rattle.sspi_credssp.specs.Proxy.{counted_on, IsList, HasAnswered};
+ghost use Rattle.sspi_types.specs.Counting.{counted_on};
+ghost use Rattle.sspi_credssp.specs.Proxy.{IsList, HasAnswered};
 
 use crate::proxy::{CredentialsProxy, ProxyError};
 use sspi_names::{AuthIdentity, Username};

@@ -2,7 +2,8 @@
 ghost use Rattle.std.specs.Prelude.{◌≡◌, ◌≢◌, ◌≤◌, IfOk, IfErr, OnOk};
 ghost use Rattle.sspi_credssp.specs.Peers.{list_calls};
 ghost use Rattle.sspi_credssp.specs.ServerStage.{IsListed};
-ghost use Rattle.sspi_credssp.specs.Proxy.{IsTold, IsAsked, HasAsked, counted_on};
+ghost use Rattle.sspi_types.specs.Counting.{counted_on};
+ghost use Rattle.sspi_credssp.specs.Proxy.{IsTold, IsAsked, HasAsked};
 ghost use Rattle.sspi_credssp.specs.ServerCause.{ListRefused};
 
 use crate::mode::ServerMode;

@@ -1,5 +1,6 @@
 ghost use Rattle.std.specs.Prelude.{◌≡◌, ◌≤◌, false, IsTrue, IfOk, Some, option_copied};
-ghost use Rattle.sspi_credssp.specs.Proxy.{counted_on, fails_at, candidates_of, entry_of};
+ghost use Rattle.sspi_types.specs.Counting.{counted_on};
+ghost use Rattle.sspi_credssp.specs.Proxy.{fails_at, candidates_of, entry_of};
 
 use crate::proxy::{CredentialsProxy, ProxyError};
 use sspi_names::{AuthIdentity, Username};

@@ -2,7 +2,8 @@
 use Rattle.std.proofs.Common.{◌≡◌, ℕ, ◌+◌, ◌≤◌, Option, None, Some, Ok, Vec, ◌∙◌, arith}
 use Rattle.sspi_mech.specs.declared.step.Reply.{Reply}
 use Rattle.sspi_mech.specs.declared.step.Reply.TheVariants.{Answered, Failed}
-use Rattle.sspi_mech.specs.Asking.{counted_on, IsTold}
+use Rattle.sspi_types.specs.Counting.{counted_on}
+use Rattle.sspi_mech.specs.Asking.{IsTold}
 use Rattle.sspi_names.specs.declared.network.NetworkRequest.{NetworkRequest}
 use Rattle.sspi_credssp.specs.declared.client_state.Progress.{Progress}
 use Rattle.sspi_credssp.specs.declared.client_state.Progress.TheVariants.{Suspended, Completed}

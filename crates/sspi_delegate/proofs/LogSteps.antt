@@ -6,7 +6,8 @@ use Rattle.sspi_types.specs.declared.error_kind.ErrorKind.{ErrorKind}
 use Rattle.sspi_types.specs.declared.error_kind.ErrorKind.TheVariants as kinds
 use Rattle.sspi_ber.specs.declared.wire_kind.WireKind.{WireKind}
 use Rattle.sspi_ber.specs.declared.wire_kind.WireKind.TheVariants.{UnexpectedEof, InvalidData, ReadFault, WriteFault, InsufficientMemory}
-use Rattle.sspi_ber.specs.Outside.{Counts, NeedsNoMemory}
+use Rattle.sspi_types.specs.Counting.{Counts}
+use Rattle.sspi_ber.specs.Outside.{NeedsNoMemory}
 use Rattle.sspi_tsreq.specs.declared.reader.TsReader.{TsReader}
 use Rattle.sspi_tsreq.specs.declared.request.TsRequest.{TsRequest}
 use Rattle.sspi_tsreq.specs.Answer.{IsAnswer}

@@ -1,7 +1,7 @@
 -- What a KDC was asked in an exchange, and what it replied.
 use Rattle.std.specs.Prelude.{◌≡◌, ℕ, ◌≤◌, List, [], ◌∷◌, Option, None, Some}
 use Rattle.sspi_names.specs.declared.network.NetworkRequest.{NetworkRequest}
-use Rattle.sspi_mech.specs.Asking.{counted_on}
+use Rattle.sspi_types.specs.Counting.{counted_on}
 use Rattle.sspi_mech.specs.declared.step.Reply.{Reply}
 use Rattle.sspi_mech.specs.declared.step.Reply.TheVariants.{Answered, Failed}
 use Rattle.sspi_credssp.specs.ClientStep.{Asked}

@@ -5,7 +5,7 @@ use Rattle.sspi_delegate.specs.declared.edit.Edit.{Edit}
 use Rattle.sspi_delegate.specs.declared.link.LinkError.{LinkError}
 use Rattle.sspi_delegate.specs.declared.link.LinkError.TheVariants.{Failed, InsufficientMemory}
 use Rattle.sspi_delegate.specs.Edits.{edited, sent_texts, FollowsEdits}
-use Rattle.sspi_ber.specs.Outside.{Counts}
+use Rattle.sspi_types.specs.Counting.{Counts}
 use Rattle.sspi_delegate.specs.Log.{Grows}
 
 -- a failure counts one fault, and no other answer counts any

@@ -1,6 +1,6 @@
 -- How the message of a turn is sent.
 use Rattle.std.specs.Prelude.{◌≡◌, ℕ, ◌⊎◌, List, [], ◌∷◌, reverse, Option, None, Some, Result, Ok, Err}
-use Rattle.sspi_ber.specs.Outside.{Counts}
+use Rattle.sspi_types.specs.Counting.{Counts}
 use Rattle.sspi_tsreq.specs.declared.request.TsRequest.{TsRequest}
 use Rattle.sspi_tsreq.specs.Spelling.{spelled}
 use Rattle.sspi_delegate.specs.declared.answer.DelegateError.{DelegateError}

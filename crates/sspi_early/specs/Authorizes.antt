@@ -1,6 +1,6 @@
 -- When each answer comes behind a delegation: a policy decides on the identity, the link carries the result, and the client reads it.
 use Rattle.std.specs.Prelude.{◌≡◌, ℕ, List, ◌∷◌, Bool, true, false, reverse, Option, None, Some, Result, Ok, Err, IfOk}
-use Rattle.sspi_ber.specs.Outside.{Counts}
+use Rattle.sspi_types.specs.Counting.{Counts}
 use Rattle.sspi_ber.specs.declared.wire_kind.WireKind.TheVariants as kinds
 use Rattle.sspi_names.specs.declared.identity.AuthIdentity.{AuthIdentity}
 use Rattle.sspi_delegate.specs.declared.carried.Carried.{Carried}

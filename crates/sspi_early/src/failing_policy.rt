@@ -1,5 +1,5 @@
 ghost use Rattle.std.specs.Prelude.{◌≡◌, Err};
-ghost use Rattle.sspi_credssp.specs.Proxy.{counted_on};
+ghost use Rattle.sspi_types.specs.Counting.{counted_on};
 ghost use Rattle.sspi_early.specs.Policy.{HasDecided};
 
 use crate::policy::{Policy, PolicyError};

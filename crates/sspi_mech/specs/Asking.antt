@@ -1,14 +1,11 @@
 -- What a call on a KDC says of the world outside.
-use Rattle.std.specs.Prelude.{◌≡◌, ℕ, ◌+◌, ◌-◌, ◌^◌, ◌≤◌, min, Option, None, Some, Result, Ok, Err, Vec}
+use Rattle.std.specs.Prelude.{◌≡◌, ℕ, ◌≤◌, Option, None, Some, Result, Ok, Err, Vec}
+use Rattle.sspi_types.specs.Counting.{counted_on}
 use Rattle.sspi_names.specs.declared.network.NetworkRequest.{NetworkRequest}
 use Rattle.sspi_mech.specs.declared.kdc.KdcError.{KdcError}
 use Rattle.sspi_mech.specs.declared.kdc.KdcError.TheVariants as errors
 use Rattle.sspi_mech.specs.declared.step.Reply.{Reply}
 use Rattle.sspi_mech.specs.declared.step.Reply.TheVariants as replies
-
--- the next value of a count that stays at its last one
-abbrev pub counted_on : ℕ → ℕ
-counted_on n = min (n + 1) (2 ^ 64 - 1)
 
 -- the count of faults never falls; a failure has it rise, or finds it at its last value
 abbrev pub AskCause : {X : Type 0} → ℕ → ℕ → Result X KdcError → Type 0

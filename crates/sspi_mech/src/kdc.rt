@@ -1,5 +1,6 @@
 ghost use Rattle.std.specs.Prelude.{◌≡◌};
-ghost use Rattle.sspi_mech.specs.Asking.{counted_on, AskCause, IsTold};
+ghost use Rattle.sspi_types.specs.Counting.{counted_on};
+ghost use Rattle.sspi_mech.specs.Asking.{AskCause, IsTold};
 
 use sspi_names::NetworkRequest;
 use std::alloc::AllocError;

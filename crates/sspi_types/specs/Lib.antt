@@ -5,6 +5,7 @@ pub mod Capabilities
 pub mod CertTrustFlags
 pub mod Certificates
 pub mod Connections
+pub mod Counting
 pub mod CredentialUses
 pub mod DataRepresentations
 pub mod ErrorKinds
