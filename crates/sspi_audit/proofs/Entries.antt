@@ -4,7 +4,7 @@ use Rattle.sspi_ber.specs.declared.wire_kind.WireKind.{WireKind}
 use Rattle.sspi_tsreq.specs.declared.request.TsRequest.{TsRequest}
 use Rattle.sspi_tsreq.specs.Answer.{IsAnswer, IsUnlessMemory}
 use Rattle.sspi_tsreq.specs.Grammar.{IsRequest}
-use Rattle.sspi_delegate.specs.Run.{IsRead}
+use Rattle.sspi_delegate.specs.Log.{IsRead}
 
 -- the reader answers so for whatever the octets begin with
 abbrev pub IsOnly : List ℕ → Result TsRequest WireKind → Type 0

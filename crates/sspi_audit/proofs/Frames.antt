@@ -5,9 +5,8 @@ use Rattle.std.proofs.lemmas.Bool.{le-ltb}
 use Rattle.sspi_credssp.specs.declared.state.CredSspState.{CredSspState}
 use Rattle.sspi_credssp.specs.declared.turn.Turn.{Turn}
 use Rattle.sspi_credssp.specs.Noted.{noted_with}
-use Rattle.sspi_credssp.specs.Shown.{ShownFrame}
-use Rattle.sspi_delegate.specs.ClientRun.{client_state, client_noted, has_turn}
-use Rattle.sspi_delegate.specs.ServerRun.{server_state, server_noted}
+use Rattle.sspi_credssp.specs.Turn.{ShownFrame}
+use Rattle.sspi_delegate.specs.EndRun.{client_state, client_noted, has_turn, server_state, server_noted}
 use Rattle.sspi_audit.specs.Frames.{client_frame, server_frame, own_version, told_by}
 use Rattle.sspi_audit.specs.Standings.{client_before, client_note, server_before, server_note}
 

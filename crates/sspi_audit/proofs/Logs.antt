@@ -7,7 +7,7 @@ use Rattle.std.proofs.lemmas.Option.{slice_get-get_or, slice_get_past}
 use Rattle.sspi_tsreq.specs.declared.request.TsRequest.{TsRequest}
 use Rattle.sspi_credssp.specs.declared.turn.Turn.{Turn}
 use Rattle.sspi_delegate.specs.declared.carried.Carried.{Carried}
-use Rattle.sspi_delegate.specs.Run.{IsDelivered, IsEntry, Logged, HasLog}
+use Rattle.sspi_delegate.specs.Log.{IsDelivered, IsEntry, Logged, HasLog}
 use Rattle.sspi_audit.specs.Shown.{IsGiven, IsCounted}
 
 -- ---- an element by how many stand before it

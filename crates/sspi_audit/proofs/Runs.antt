@@ -15,26 +15,20 @@ use Rattle.sspi_credssp.specs.declared.turn.End.TheVariants.{Client, Server}
 use Rattle.sspi_credssp.specs.declared.turn.Outcome.{Outcome}
 use Rattle.sspi_credssp.specs.declared.turn.Outcome.TheVariants as outcome
 use Rattle.sspi_credssp.specs.declared.turn.Turn.{Turn}
-use Rattle.sspi_credssp.specs.Client.{ClientView}
+use Rattle.sspi_credssp.specs.Ends.{ClientView, ServerView}
 use Rattle.sspi_credssp.specs.ClientTurn.{IsClientTurn}
 use Rattle.sspi_credssp.specs.Context.{ContextSetting}
-use Rattle.sspi_credssp.specs.Counts.{SealsIn}
-use Rattle.sspi_credssp.specs.Credentials.{IfText}
-use Rattle.sspi_credssp.specs.Held.{HoldsNego, HoldsReply, HoldsAnswer}
+use Rattle.sspi_credssp.specs.Acts.{SealsIn}
+use Rattle.sspi_credssp.specs.Exchange.{IfText}
+use Rattle.sspi_credssp.specs.Turn.{HoldsNego, HoldsReply, HoldsAnswer, ShownFrame, IsOwn, ShowsNego, ShowsOver, ShowsNegoBack}
+use Rattle.sspi_credssp.specs.Turn.{ShowsStateBack, ShowsReply, ShowsAnswer, client_shown, server_shown, AtNoted, ClientFrame, ServerFrame}
 use Rattle.sspi_credssp.specs.Noted.{noted_with}
 use Rattle.sspi_credssp.specs.Requests.{IsLong}
-use Rattle.sspi_credssp.specs.Server.{ServerView}
-use Rattle.sspi_credssp.specs.Shown.{ShownFrame, IsOwn, ShowsNego, ShowsOver, ShowsNegoBack}
-use Rattle.sspi_credssp.specs.Shown.{ShowsStateBack, ShowsReply, ShowsAnswer, client_shown}
-use Rattle.sspi_credssp.specs.Shown.{server_shown}
-use Rattle.sspi_credssp.specs.Turn.{AtNoted, ClientFrame, ServerFrame}
 use Rattle.sspi_delegate.specs.declared.carried.Carried.{Carried}
-use Rattle.sspi_delegate.specs.EndRun.{ClientEnd, client_end, ServerEnd, server_end}
-use Rattle.sspi_delegate.specs.ClientRun.{client_noted, client_frame_at, EachClientTurn}
-use Rattle.sspi_delegate.specs.EndTurns.{client_turns, server_turns, onto_client, onto_server}
+use Rattle.sspi_delegate.specs.EndRun.{ClientEnd, client_end, ServerEnd, server_end, client_noted, client_frame_at, EachClientTurn}
+use Rattle.sspi_delegate.specs.EndRun.{server_noted, server_frame_at, EachServerTurn}
+use Rattle.sspi_delegate.specs.Turns.{client_turns, server_turns, onto_client, onto_server, Alternates}
 use Rattle.sspi_delegate.specs.Headline.{IsRun}
-use Rattle.sspi_delegate.specs.ServerRun.{server_noted, server_frame_at, EachServerTurn}
-use Rattle.sspi_delegate.specs.Turns.{Alternates}
 use Rattle.sspi_audit.specs.Frames.{client_frame, server_frame, own_version, told_by}
 use Rattle.sspi_audit.specs.Left.{LeavesShown}
 use Rattle.sspi_audit.specs.Shown.{ShowsTurn, HasLongBlobs, EachShown}

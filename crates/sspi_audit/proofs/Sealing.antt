@@ -10,12 +10,11 @@ use Rattle.sspi_credssp.specs.declared.turn.End.TheVariants.{Client, Server}
 use Rattle.sspi_credssp.specs.declared.turn.Outcome.{Outcome}
 use Rattle.sspi_credssp.specs.declared.turn.Outcome.TheVariants as outcome
 use Rattle.sspi_credssp.specs.declared.turn.Turn.{Turn}
-use Rattle.sspi_credssp.specs.Shown.{ShownFrame, ShowsNego, ShowsReply}
+use Rattle.sspi_credssp.specs.Turn.{ShownFrame, ShowsNego, ShowsReply}
 use Rattle.sspi_tsreq.specs.declared.request.TsRequest.{TsRequest}
 use Rattle.sspi_delegate.specs.declared.carried.Carried.{Carried}
-use Rattle.sspi_delegate.specs.ClientRun.{client_state}
-use Rattle.sspi_delegate.specs.EndTurns.{client_turns, onto_client, is_ended, any_ended}
-use Rattle.sspi_delegate.specs.Turns.{GoesOn, AllGoOn}
+use Rattle.sspi_delegate.specs.EndRun.{client_state}
+use Rattle.sspi_delegate.specs.Turns.{client_turns, onto_client, is_ended, any_ended, GoesOn, AllGoOn}
 use Rattle.sspi_audit.specs.Shown.{ShowsTurn, ShownTurn, EachShown}
 use Rattle.sspi_audit.specs.Standings.{sealing_after}
 use Rattle.sspi_audit.specs.Verdicts.{SealsOnlyIn}

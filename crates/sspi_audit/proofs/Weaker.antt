@@ -8,8 +8,8 @@ use Rattle.sspi_credssp.specs.declared.state.CredSspState.TheVariants as state
 use Rattle.sspi_credssp.specs.declared.turn.Outcome.{Outcome}
 use Rattle.sspi_credssp.specs.declared.turn.Outcome.TheVariants as outcome
 use Rattle.sspi_credssp.specs.declared.turn.Turn.{Turn}
-use Rattle.sspi_credssp.specs.Shown.{ShownFrame, IsOwn, IsVersionBack, ShowsToken, ShowsProof, ShowsNego, ShowsReply, ShowsClient}
-use Rattle.sspi_credssp.specs.Shown.{ShowsTokenBack, ShowsProofBack, ShowsOver, ShowsNegoBack, ShowsStateBack, ShowsAnswer, ShowsServer}
+use Rattle.sspi_credssp.specs.Turn.{ShownFrame, IsOwn, IsVersionBack, ShowsToken, ShowsProof, ShowsNego, ShowsReply, ShowsClient}
+use Rattle.sspi_credssp.specs.Turn.{ShowsTokenBack, ShowsProofBack, ShowsOver, ShowsNegoBack, ShowsStateBack, ShowsAnswer, ShowsServer}
 use Rattle.sspi_credssp.specs.Turn.{UnlessRefused, AtNoted, FitsNoted}
 
 -- the second frame knows what the first does, or less of its end's own version; it may have noted a version where the first has none

@@ -4,9 +4,8 @@ use Rattle.std.specs.Prelude.{ℕ, List, [], ◌∷◌, Option, None, Some, true
 use Rattle.sspi_credssp.specs.declared.turn.Outcome.{Outcome}
 use Rattle.sspi_credssp.specs.declared.turn.Outcome.TheVariants as outcome
 use Rattle.sspi_credssp.specs.declared.turn.Turn.{Turn}
-use Rattle.sspi_credssp.specs.Shown.{ShownFrame}
-use Rattle.sspi_delegate.specs.ClientRun.{client_state, client_noted, has_turn}
-use Rattle.sspi_delegate.specs.ServerRun.{server_state, server_noted}
+use Rattle.sspi_credssp.specs.Turn.{ShownFrame}
+use Rattle.sspi_delegate.specs.EndRun.{client_state, client_noted, has_turn, server_state, server_noted}
 
 -- an end's own version is that of its first message that reports no error
 abbrev pub told_by : Option ℕ → Outcome → Option ℕ

@@ -2,19 +2,17 @@
 -- stand behind them. Turns are a list, the newest first; the log is the oldest first, so that entry i is that of turn i.
 use Rattle.std.specs.Prelude.{◌≡◌, ◌+◌, ◌≤◌, true, List, [], ◌∷◌, length, slice_get, IfSome}
 use Rattle.sspi_tsreq.specs.declared.request.TsRequest.{TsRequest}
-use Rattle.sspi_tsreq.specs.Value.{first_request}
+use Rattle.sspi_tsreq.specs.Grammar.{first_request}
 use Rattle.sspi_credssp.specs.declared.turn.End.{End}
 use Rattle.sspi_credssp.specs.declared.turn.End.TheVariants.{Client, Server}
 use Rattle.sspi_credssp.specs.declared.turn.Outcome.{Outcome}
 use Rattle.sspi_credssp.specs.declared.turn.Outcome.TheVariants as outcome
 use Rattle.sspi_credssp.specs.declared.turn.Turn.{Turn}
 use Rattle.sspi_credssp.specs.Requests.{IsLong}
-use Rattle.sspi_credssp.specs.Shown.{ShowsClient, ShowsServer}
+use Rattle.sspi_credssp.specs.Turn.{ShowsClient, ShowsServer}
 use Rattle.sspi_delegate.specs.declared.carried.Carried.{Carried}
-use Rattle.sspi_delegate.specs.Deliveries.{delivery_limit, is_taken}
-use Rattle.sspi_delegate.specs.EndTurns.{client_turns, server_turns}
-use Rattle.sspi_delegate.specs.Run.{IsRead, IsEntry}
-use Rattle.sspi_delegate.specs.Turns.{next_end, AllGoOn}
+use Rattle.sspi_delegate.specs.Log.{delivery_limit, is_taken, IsRead, IsEntry}
+use Rattle.sspi_delegate.specs.Turns.{client_turns, server_turns, next_end, AllGoOn}
 use Rattle.sspi_audit.specs.Frames.{client_frame, server_frame}
 
 -- by its end's own turns before, a turn has only acts that it may have, and the message that it owes

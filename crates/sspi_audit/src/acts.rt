@@ -3,8 +3,8 @@ ghost use Rattle.std.specs.Prelude.{◌≡◌, ◌↔◌, Some, true, false, len
 ghost use Rattle.sspi_types.specs.declared.security_status.SecurityStatus.TheVariants as statuses;
 ghost use Rattle.sspi_credssp.specs.declared.state.CredSspState.TheVariants.{AuthInfo, NegoToken};
 ghost use Rattle.sspi_credssp.specs.Requests.{is_code, IsLong};
-ghost use Rattle.sspi_credssp.specs.Shown.{IsOver, MayCheck, HasNonce, IsOwn, ShowsClientActs, ShowsServerActs};
-ghost use Rattle.sspi_credssp.specs.Turn.{AtNoted, FitsNoted, UnlessRefused};
+ghost use Rattle.sspi_credssp.specs.Turn.{IsOver, MayCheck, HasNonce, IsOwn, ShowsClientActs, ShowsServerActs, AtNoted, FitsNoted};
+ghost use Rattle.sspi_credssp.specs.Turn.{UnlessRefused};
 
 use crate::fields::{has_code, is_long};
 use crate::frame::Frame;

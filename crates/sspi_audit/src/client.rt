@@ -1,7 +1,7 @@
 //! Whether recorded bytes show a client's turn (MS-CSSP 3.1.5.1).
 ghost use Rattle.std.specs.Prelude.{◌≡◌, ◌↔◌, None, Some, IsTrue};
 ghost use Rattle.sspi_credssp.specs.Requests.{unless_empty};
-ghost use Rattle.sspi_credssp.specs.Shown.{ShowsClient, ShowsFinal, ShowsNego, ShowsProof, ShowsReply, ShowsToken};
+ghost use Rattle.sspi_credssp.specs.Turn.{ShowsClient, ShowsFinal, ShowsNego, ShowsProof, ShowsReply, ShowsToken};
 
 use crate::acts::{heeds_code, heeds_version, is_own, shows_client_acts};
 use crate::fields::{is_octets, same_code, same_nonce, same_octets};

@@ -1,8 +1,7 @@
 //! Whether a log's entries are those of the turns.
 ghost use Rattle.std.specs.Prelude.{◌≡◌, ◌≤◌, ◌↔◌, length, Some, true, IsTrue, IfErr, IfOk};
-ghost use Rattle.sspi_delegate.specs.Deliveries.{delivery_limit, is_taken};
+ghost use Rattle.sspi_delegate.specs.Log.{delivery_limit, is_taken, IsEntry, IsRead, IsSent};
 ghost use Rattle.sspi_delegate.specs.Sending.{Encodes};
-ghost use Rattle.sspi_delegate.specs.Run.{IsEntry, IsRead, IsSent};
 
 use sspi_ber::{VecSink, WireKind};
 use sspi_credssp::Turn;

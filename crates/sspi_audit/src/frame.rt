@@ -15,7 +15,7 @@ pub(crate) struct Frame {
 }
 
 impl Model for Frame {
-    ghost use Rattle.sspi_credssp.specs.Shown.{ShownFrame};
+    ghost use Rattle.sspi_credssp.specs.Turn.{ShownFrame};
 
     ghost Value = { ShownFrame };
 

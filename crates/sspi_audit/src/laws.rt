@@ -1,9 +1,8 @@
 //! What an auditor finds of what `delegate` leaves.
 ghost use Rattle.std.specs.Prelude.{List};
 ghost use Rattle.sspi_credssp.specs.declared.turn.Turn.{Turn};
-ghost use Rattle.sspi_credssp.specs.Client.{ClientView};
+ghost use Rattle.sspi_credssp.specs.Ends.{ClientView, ServerView};
 ghost use Rattle.sspi_credssp.specs.Context.{either};
-ghost use Rattle.sspi_credssp.specs.Server.{ServerView};
 ghost use Rattle.sspi_delegate.specs.declared.carried.Carried.{Carried};
 ghost use Rattle.sspi_delegate.specs.Headline.{IsRun};
 ghost use Rattle.sspi_audit.specs.Left.{LeavesShown};

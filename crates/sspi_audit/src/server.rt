@@ -1,8 +1,8 @@
 //! Whether recorded bytes show a server's turn (MS-CSSP 3.1.5.2).
 ghost use Rattle.std.specs.Prelude.{◌≡◌, ◌↔◌, None, Some, IsTrue};
-ghost use Rattle.sspi_credssp.specs.ErrorRequest.{error_request, error_code_of, stripped};
-ghost use Rattle.sspi_credssp.specs.Shown.{IsVersionBack, ShowsAnswer, ShowsError, ShowsNegoBack, ShowsOver, ShowsProofBack, ShowsServer};
-ghost use Rattle.sspi_credssp.specs.Shown.{ShowsStateBack, ShowsTokenBack};
+ghost use Rattle.sspi_credssp.specs.Requests.{error_request, error_code_of, stripped};
+ghost use Rattle.sspi_credssp.specs.Turn.{IsVersionBack, ShowsAnswer, ShowsError, ShowsNegoBack, ShowsOver, ShowsProofBack, ShowsServer};
+ghost use Rattle.sspi_credssp.specs.Turn.{ShowsStateBack, ShowsTokenBack};
 
 use crate::acts::{heeds_version, is_own, shows_server_acts};
 use crate::client::is_token_reply;

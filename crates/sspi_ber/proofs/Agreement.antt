@@ -1,8 +1,7 @@
 -- The laws that public functions state.
 use Rattle.std.proofs.Common.{◌≡◌, ℕ, ◌+◌, ◌<◌, ◌≤◌, ◌^◌, sym, subst, List, [], ◌∷◌, ◌++◌, length, get_or, Ok, refl, arith, inl, inr}
 use Rattle.std.proofs.lemmas.Bool.{cases_lt, lt-ltb, le-ltb}
-use Rattle.sspi_ber.specs.Forms.{IsLength, IsElement, IsInteger, IsNotNegative, big_endian}
-use Rattle.sspi_ber.specs.Limit.{max_content}
+use Rattle.sspi_ber.specs.Forms.{IsLength, IsElement, IsInteger, IsNotNegative, big_endian, max_content}
 use Rattle.sspi_ber.specs.Pieces.{length_at, element_at, integer_at}
 use Rattle.sspi_ber.specs.Short.{length_octets, len_short, element, int_content, int_short}
 use Rattle.sspi_ber.proofs.PiecesMatch.{length_match, integer_match, element_match}

@@ -1,7 +1,7 @@
 -- A reader on lists and a form, a relation between a text, its value and what follows it, say the same; and so do readers
 -- that are made of such readers.
 use Rattle.std.proofs.Common.{◌≡◌, ℕ, Bool, true, false, cond, List, [], ◌++◌, Result, Ok, Err, refl, sym, ap, ◌∙◌, subst, append_assoc}
-use Rattle.sspi_ber.specs.Fault.{Fault, Read, ◌>>=◌}
+use Rattle.sspi_ber.specs.Pieces.{Fault, Read, ◌>>=◌}
 
 -- The reader takes exactly a text of the form, and reads each text of the form again. The form sees what follows the text.
 pub record Matches {A : Type 0} (read : List ℕ → Read A) (F : List ℕ → A → List ℕ → Type 0) : Type 0 where

@@ -7,10 +7,9 @@ use Rattle.std.proofs.lemmas.List.{drop_more, drop_all, take_more}
 use Rattle.std.proofs.lemmas.List.Sums.{fold_push}
 use Rattle.sspi_ber.specs.declared.wire_kind.WireKind.{WireKind}
 use Rattle.sspi_ber.specs.declared.wire_kind.WireKind.TheVariants.{UnexpectedEof, InvalidData, ReadFault, WriteFault, InsufficientMemory}
-use Rattle.sspi_ber.specs.Fault.{Ended, Invalid}
+use Rattle.sspi_ber.specs.Pieces.{Ended, Invalid, byte_at, bytes_at, number_at}
 use Rattle.sspi_ber.specs.Forms.{big_endian}
 use Rattle.sspi_ber.specs.Outside.{Answers, Reads}
-use Rattle.sspi_ber.specs.Pieces.{byte_at, bytes_at, number_at}
 
 -- i bytes were read, and they stand for this number
 abbrev pub ReadSoFar : Option (List ℕ) → Option (List ℕ) → ℕ → ℕ → Type 0

@@ -3,12 +3,10 @@ use Rattle.std.proofs.Common.{◌≡◌, ℕ, ◌-◌, ◌<◌, ◌≤◌, Bool,
 use Rattle.std.proofs.Common.{length, take, drop, Option, None, Some, Ok, Err, refl, sym, ap, ◌∙◌, subst, arith, ◌⊎◌, inl, inr}
 use Rattle.std.proofs.lemmas.Bool.{ltb-true, ltb-false, lt-ltb, le-ltb, leb-true, le-leb, eqb-true, eq-eqb, eqb-false}
 use Rattle.std.proofs.lemmas.List.{take_at, drop_at, take-append-drop, length-take, length-append}
-use Rattle.sspi_ber.specs.Fault.{Ended, Invalid, Read, ◌>>=◌}
-use Rattle.sspi_ber.specs.Limit.{max_content, max_length_octets}
-use Rattle.sspi_ber.specs.Forms.{IsLength, IsLongLength, IsHeader, IsElement, IsInteger}
-use Rattle.sspi_ber.specs.Forms.{big_endian, is_integer_size, IsNotNext, IsWrapped, IsField}
-use Rattle.sspi_ber.specs.Pieces.{byte_at, bytes_at, is_octet_count, limited_at, length_at, header_at, element_at}
-use Rattle.sspi_ber.specs.Pieces.{number_at, integer_at, tag_or_absent_at, present_at, field_at, tagged_at}
+use Rattle.sspi_ber.specs.Pieces.{Ended, Invalid, Read, ◌>>=◌, byte_at, bytes_at, is_octet_count, limited_at, length_at, header_at}
+use Rattle.sspi_ber.specs.Pieces.{element_at, number_at, integer_at, tag_or_absent_at, present_at, field_at, tagged_at}
+use Rattle.sspi_ber.specs.Forms.{max_content, max_length_octets, IsLength, IsLongLength, IsHeader, IsElement, IsInteger, big_endian}
+use Rattle.sspi_ber.specs.Forms.{is_integer_size, IsNotNext, IsWrapped, IsField}
 use Rattle.sspi_ber.proofs.Absent.{absent}
 use Rattle.sspi_ber.proofs.Match.{Matches, Matches-then, Matches-map, Matches-if, Matches-nothing}
 use Rattle.sspi_ber.proofs.Match.{Matches-same, Then, Mapped, bind_ok, both_are, read_of, changed}

@@ -1,8 +1,7 @@
 -- The shortest spelling of each piece is one of its forms.
 use Rattle.std.proofs.Common.{◌≡◌, ℕ, ◌+◌, ◌/◌, ◌%◌, ◌<◌, ◌≤◌, true, List, [], ◌∷◌, length, refl, sym, ap, ◌∙◌, subst, arith, inl, inr}
 use Rattle.std.proofs.lemmas.Bool.{cases_lt, lt-ltb, le-ltb}
-use Rattle.sspi_ber.specs.Limit.{max_content}
-use Rattle.sspi_ber.specs.Forms.{IsLength, IsElement, IsTagged, IsInteger, big_endian, is_integer_size}
+use Rattle.sspi_ber.specs.Forms.{max_content, IsLength, IsElement, IsTagged, IsInteger, big_endian, is_integer_size}
 use Rattle.sspi_ber.specs.Short.{length_octets, len_short, header, element, int_content, int_short}
 
 len_small : (n : ℕ) → n < 0x80 → len_short n ≡ n ∷ []

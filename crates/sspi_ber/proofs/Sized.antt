@@ -3,12 +3,12 @@ use Rattle.std.proofs.Common.{◌≡◌, ℕ, ◌+◌, ◌-◌, ◌≤◌, true,
 use Rattle.std.proofs.Common.{arith, eq-eqb, Option, None, Some, Ok, Err, refl, sym, ap}
 use Rattle.sspi_ber.specs.declared.wire_kind.WireKind.{WireKind}
 use Rattle.sspi_ber.specs.declared.wire_kind.WireKind.TheVariants.{UnexpectedEof, InvalidData, ReadFault, WriteFault, InsufficientMemory}
-use Rattle.sspi_ber.specs.Fault.{Fault, Ended, Invalid, Read, ◌>>=◌}
+use Rattle.sspi_ber.specs.Pieces.{Fault, Ended, Invalid, Read, ◌>>=◌, byte_at, is_octet_count, limited_at, length_at, header_at}
+use Rattle.sspi_ber.specs.Pieces.{sized_header_at}
 use Rattle.sspi_ber.specs.Outside.{Answers, Reads}
 use Rattle.std.proofs.lemmas.Bool.{le-ltb}
 use Rattle.std.proofs.lemmas.List.{length-append}
 use Rattle.sspi_ber.proofs.PiecesMatch.{length_match, limited_takes}
-use Rattle.sspi_ber.specs.Pieces.{byte_at, is_octet_count, limited_at, length_at, header_at, sized_header_at}
 use Rattle.sspi_ber.specs.Sized.{sized_length_at}
 
 abbrev whole : ℕ × ℕ → ℕ × ℕ

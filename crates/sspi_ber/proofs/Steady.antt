@@ -4,11 +4,9 @@ use Rattle.std.proofs.Common.{◌≡◌, ℕ, ◌≤◌, Bool, true, false, cond
 use Rattle.std.proofs.Common.{Option, None, Some, Ok, Err, refl, sym, ap, ◌∙◌, append_assoc, arith, ◌+◌, ◌-◌, inl, inr}
 use Rattle.std.proofs.lemmas.Bool.{ltb-false, le-ltb, cases_Bool}
 use Rattle.std.proofs.lemmas.List.{length-append, length-replicate, replicate-append-replicate, take-append-le, drop-append-le}
-use Rattle.sspi_ber.specs.Fault.{Fault, Ended, Invalid, Read, ◌>>=◌, zeros}
-use Rattle.sspi_ber.specs.Limit.{max_content}
-use Rattle.sspi_ber.specs.Forms.{big_endian, is_integer_size}
-use Rattle.sspi_ber.specs.Pieces.{byte_at, bytes_at, is_octet_count, limited_at, length_at, header_at, element_at}
-use Rattle.sspi_ber.specs.Pieces.{number_at, integer_at, tag_or_absent_at, present_at, field_at, tagged_at}
+use Rattle.sspi_ber.specs.Pieces.{Fault, Ended, Invalid, Read, ◌>>=◌, zeros, byte_at, bytes_at, is_octet_count, limited_at, length_at}
+use Rattle.sspi_ber.specs.Pieces.{header_at, element_at, number_at, integer_at, tag_or_absent_at, present_at, field_at, tagged_at}
+use Rattle.sspi_ber.specs.Forms.{max_content, big_endian, is_integer_size}
 use Rattle.sspi_ber.proofs.Match.{bind_ok, both_are, read_of, changed}
 use Rattle.sspi_ber.proofs.PiecesMatch.{chosen}
 

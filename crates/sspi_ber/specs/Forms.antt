@@ -1,6 +1,13 @@
--- The pieces of BER, as relations between bytes and what they stand for (X.690 8.1.3, 8.3, 8.7).
-use Rattle.std.specs.Prelude.{◌≡◌, ℕ, ◌+◌, ◌*◌, ◌<◌, ◌≤◌, Bool, ◌||◌, ◌==◌, IsTrue, List, [], ◌∷◌, ◌++◌, length, fold, Option, None, Some}
-use Rattle.sspi_ber.specs.Limit.{max_content, max_length_octets}
+-- The pieces of BER, as relations between bytes and what they stand for (X.690 8.1.3, 8.3, 8.7), and the one limit of all lengths.
+use Rattle.std.specs.Prelude.{ℕ, ◌≡◌, ◌+◌, ◌*◌, ◌<◌, ◌≤◌, Bool, ◌||◌, ◌==◌, IsTrue, List, [], ◌∷◌, ◌++◌, length, fold, Option, None, Some}
+
+-- the most bytes that the content of an element may have
+abbrev pub max_content : ℕ
+max_content = 1048576
+
+-- the most octets that a length may have behind its first: as many as the limit needs
+abbrev pub max_length_octets : ℕ
+max_length_octets = 3
 
 -- the number that bytes stand for, the first byte the highest
 abbrev pub big_endian : List ℕ → ℕ

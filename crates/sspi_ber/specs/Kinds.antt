@@ -1,6 +1,6 @@
 -- What a failed write is to a writer, and what a wire fault is to a caller that answers `Error`.
 use Rattle.std.specs.Prelude.{None}
-use Rattle.sspi_types.specs.Memory.{memory_error}
+use Rattle.sspi_types.specs.Errors.{memory_error}
 use Rattle.sspi_types.specs.declared.error.Error.{Error}
 use Rattle.sspi_types.specs.declared.error_kind.ErrorKind.TheVariants.{InternalError}
 use Rattle.sspi_types.specs.declared.reason.Reason.TheVariants.{Io}

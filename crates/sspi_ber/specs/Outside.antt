@@ -9,7 +9,7 @@ use Rattle.sspi_ber.specs.declared.sink.SinkError.{SinkError}
 use Rattle.sspi_ber.specs.declared.sink.SinkError.TheVariants as sink_errors
 use Rattle.sspi_ber.specs.declared.wire_kind.WireKind.{WireKind}
 use Rattle.sspi_ber.specs.declared.wire_kind.WireKind.TheVariants.{UnexpectedEof, InvalidData, ReadFault, WriteFault, InsufficientMemory}
-use Rattle.sspi_ber.specs.Fault.{Ended, Invalid, Read}
+use Rattle.sspi_ber.specs.Pieces.{Ended, Invalid, Read}
 
 -- the count of faults rose, or stands at the last value of its counter
 abbrev pub Rose : ℕ → ℕ → Type 0

@@ -1,8 +1,7 @@
 -- A length, and how many octets it took.
 use Rattle.std.specs.Prelude.{ℕ, ◌-◌, List, length}
 use Rattle.std.specs.Prelude.{Ok}
-use Rattle.sspi_ber.specs.Fault.{Read, ◌>>=◌}
-use Rattle.sspi_ber.specs.Pieces.{length_at}
+use Rattle.sspi_ber.specs.Pieces.{Read, ◌>>=◌, length_at}
 
 -- a length, and how many bytes it takes
 unfoldable pub sized_length_at : List ℕ → Read (ℕ × ℕ)

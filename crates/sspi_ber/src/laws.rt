@@ -1,8 +1,7 @@
 //! Laws about the pieces, each on a function that does nothing.
 
 ghost use Rattle.std.specs.Prelude.{◌≡◌, ℕ, ◌<◌, ◌≤◌, ◌^◌, List, ◌++◌, length, slice_index, Ok};
-ghost use Rattle.sspi_ber.specs.Forms.{IsLength, IsElement, IsInteger, IsNotNegative, big_endian};
-ghost use Rattle.sspi_ber.specs.Limit.{max_content};
+ghost use Rattle.sspi_ber.specs.Forms.{IsLength, IsElement, IsInteger, IsNotNegative, big_endian, max_content};
 ghost use Rattle.sspi_ber.specs.Pieces.{length_at, element_at, integer_at};
 ghost use Rattle.sspi_ber.specs.Short.{len_short, element, element_size, int_content, int_short};
 

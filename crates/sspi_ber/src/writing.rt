@@ -1,6 +1,6 @@
 ghost use Rattle.std.specs.Prelude.{◌≡◌, ◌≤◌, nat_le, [], ◌∷◌, ◌++◌, length, IfOk};
 ghost use Rattle.sspi_ber.specs.Identifier.{universal_identifier, contextual_identifier};
-ghost use Rattle.sspi_ber.specs.Limit.{max_content};
+ghost use Rattle.sspi_ber.specs.Forms.{max_content};
 ghost use Rattle.sspi_ber.specs.Outside.{Writes, WritesIf, WriteCause};
 ghost use Rattle.sspi_ber.specs.Short.{len_short, header, element, element_size, int_content, int_short};
 

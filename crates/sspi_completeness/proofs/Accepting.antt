@@ -12,15 +12,13 @@ use Rattle.sspi_mech.specs.declared.step.Step.{Step}
 use Rattle.sspi_mech.specs.Calls.{ToComplete}
 use Rattle.sspi_mech.specs.Context.{IsContext}
 use Rattle.sspi_mech.specs.Meaning.{Meaning}
-use Rattle.sspi_credssp.specs.Begun.{Begun, IfContext}
-use Rattle.sspi_credssp.specs.Context.{ContextSetting}
-use Rattle.sspi_credssp.specs.Counts.{cleared}
+use Rattle.sspi_credssp.specs.Context.{Begun, IfContext, ContextSetting}
+use Rattle.sspi_credssp.specs.Acts.{cleared}
 use Rattle.sspi_credssp.specs.Proxy.{ProxyMeaning, ProxyTells}
-use Rattle.sspi_credssp.specs.Server.{ServerView}
+use Rattle.sspi_credssp.specs.Ends.{ServerView}
 use Rattle.sspi_credssp.specs.ServerCause.{IdentifyCause}
-use Rattle.sspi_credssp.specs.ServerStep.{Knowing, Unknown, Identified, Completed, IsIdentified, Accepted, accepted, identified}
-use Rattle.sspi_credssp.specs.ServerStep.{completed, recounted, AcceptedSoFar, so_far, RefusedAt, OnStep, refused_step, server_args}
-use Rattle.sspi_credssp.specs.ServerStep.{server_setting}
+use Rattle.sspi_credssp.specs.ServerTurn.{Knowing, Unknown, Identified, Completed, IsIdentified, Accepted, accepted, identified, completed}
+use Rattle.sspi_credssp.specs.ServerTurn.{recounted, AcceptedSoFar, so_far, RefusedAt, OnStep, refused_step, server_args, server_setting}
 use Rattle.sspi_credssp.proofs.Deliver.{bare_after}
 use Rattle.sspi_completeness.proofs.Ends.{in_context}
 

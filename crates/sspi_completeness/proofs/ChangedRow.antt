@@ -19,7 +19,7 @@ use Rattle.sspi_negotiate.specs.New.{packages_in}
 use Rattle.sspi_negotiate.specs.Pick.{pick}
 use Rattle.sspi_negotiate.specs.Server.{spnego_server}
 use Rattle.sspi_negotiate.specs.Values.{Values}
-use Rattle.sspi_credssp.specs.ServerStep.{server_args}
+use Rattle.sspi_credssp.specs.ServerTurn.{server_args}
 use Rattle.sspi_completeness.specs.Negotiating.{SuitNtlm, HasFirstKey, kdc_url, challenge_of}
 use Rattle.sspi_completeness.proofs.Courses.{Meeting, IsCourse}
 use Rattle.sspi_completeness.proofs.NtlmRound.{token_length}

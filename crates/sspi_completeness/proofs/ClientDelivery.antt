@@ -13,27 +13,23 @@ use Rattle.sspi_mech.specs.Meaning.{Meaning}
 use Rattle.sspi_credssp.specs.declared.public_key.EndpointType.TheVariants.{Server}
 use Rattle.sspi_credssp.specs.declared.state.CredSspState.{CredSspState}
 use Rattle.sspi_credssp.specs.declared.state.CredSspState.TheVariants.{NegoToken, AuthInfo}
-use Rattle.sspi_credssp.specs.Acts.{sealings_by, unsealings_by}
-use Rattle.sspi_credssp.specs.Begun.{BeginCause}
-use Rattle.sspi_credssp.specs.Client.{ClientSettings, ClientView}
+use Rattle.sspi_credssp.specs.Acts.{sealings_by, unsealings_by, sealings_in, unsealings_in, SealsIn, SameBut, cleared}
+use Rattle.sspi_credssp.specs.Context.{BeginCause, ContextSetting, ForClient}
+use Rattle.sspi_credssp.specs.Ends.{ClientSettings, ClientView}
 use Rattle.sspi_credssp.specs.ClientCause.{ClientCause, StateCause, DeliverCause, BlobOpens, SealsCause}
 use Rattle.sspi_credssp.specs.ClientTurn.{StartsUnused, client_frame, client_turn}
-use Rattle.sspi_credssp.specs.Turn.{ClientFrame, OnceNegotiated}
-use Rattle.sspi_credssp.specs.Context.{ContextSetting, ForClient}
-use Rattle.sspi_credssp.specs.Counts.{sealings_in, unsealings_in, SealsIn, SameBut, cleared}
-use Rattle.sspi_credssp.specs.Credentials.{delegated_text, IfText}
-use Rattle.sspi_credssp.specs.Exchange.{BlobStops, opens_other, altered, unsealed, CheckedCause, ProofCause}
-use Rattle.sspi_credssp.specs.PublicKey.{prescribed}
+use Rattle.sspi_credssp.specs.Turn.{ClientFrame, OnceNegotiated, ShowsNego, client_shown}
+use Rattle.sspi_credssp.specs.Exchange.{delegated_text, IfText, BlobStops, opens_other, altered, unsealed, CheckedCause, ProofCause}
+use Rattle.sspi_credssp.specs.Exchange.{prescribed}
 use Rattle.sspi_credssp.specs.Requests.{is_code}
 use Rattle.sspi_credssp.specs.declared.turn.Outcome.{Outcome}
 use Rattle.sspi_credssp.specs.declared.turn.Outcome.TheVariants as outcome
-use Rattle.sspi_delegate.specs.Asking.{KdcCalls}
+use Rattle.sspi_delegate.specs.Chain.{KdcCalls}
 use Rattle.sspi_delegate.specs.History.{ClientMakes}
 use Rattle.sspi_completeness.proofs.Ends.{Comes, is_false, stops_later, made_past, sealed_few, Holds, IsMaker, IsTaker, holds_still}
 use Rattle.sspi_completeness.proofs.Ends.{sealed_field, ClientIs}
 use Rattle.sspi_completeness.proofs.Replies.{final_is}
 use Rattle.sspi_credssp.specs.declared.turn.Turn.{Turn}
-use Rattle.sspi_credssp.specs.Shown.{ShowsNego, client_shown}
 
 module _ {C D : Type 0} (c : Meaning ContextSetting C) (k : KdcCalls D) where
   abbrev View : Type 0

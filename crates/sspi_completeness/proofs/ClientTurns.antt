@@ -18,29 +18,25 @@ use Rattle.sspi_mech.specs.Meaning.{Meaning}
 use Rattle.sspi_credssp.specs.declared.public_key.EndpointType.TheVariants.{Client}
 use Rattle.sspi_credssp.specs.declared.state.CredSspState.{CredSspState}
 use Rattle.sspi_credssp.specs.declared.state.CredSspState.TheVariants.{NegoToken, AuthInfo}
-use Rattle.sspi_credssp.specs.Acts.{sealings_by, unsealings_by}
-use Rattle.sspi_credssp.specs.Begun.{BeginCause}
-use Rattle.sspi_credssp.specs.Client.{ClientSettings, ClientView}
+use Rattle.sspi_credssp.specs.Acts.{sealings_by, unsealings_by, sealings_in, SealsIn, is_waiting_in, cleared}
+use Rattle.sspi_credssp.specs.Context.{BeginCause, ContextSetting, ForClient}
+use Rattle.sspi_credssp.specs.Ends.{ClientSettings, ClientView}
 use Rattle.sspi_credssp.specs.ClientCause.{ClientCause, StateCause, NegoCause, ProveCause}
-use Rattle.sspi_credssp.specs.ClientStep.{Asked, Walked, stepped, resumed, still_asked, recounted, StepsTo, DoneStep, OnStep}
-use Rattle.sspi_credssp.specs.ClientStep.{refused_answer, client_args}
-use Rattle.sspi_credssp.specs.ClientTurn.{ClientTurn, StartsUnused, client_frame, client_turn, noted_next}
-use Rattle.sspi_credssp.specs.Context.{ContextSetting, ForClient}
-use Rattle.sspi_credssp.specs.Counts.{sealings_in, SealsIn, is_waiting_in, cleared}
+use Rattle.sspi_credssp.specs.ClientTurn.{Asked, Walked, stepped, resumed, still_asked, recounted, StepsTo, DoneStep, OnStep}
+use Rattle.sspi_credssp.specs.ClientTurn.{refused_answer, client_args, ClientTurn, StartsUnused, client_frame, client_turn, noted_next}
 use Rattle.sspi_credssp.specs.Noted.{noted_in}
-use Rattle.sspi_credssp.specs.PublicKey.{prescribed}
+use Rattle.sspi_credssp.specs.Exchange.{prescribed}
 use Rattle.sspi_credssp.specs.Requests.{is_code, unless_empty}
-use Rattle.sspi_credssp.specs.Turn.{ClientFrame, AtNoted}
+use Rattle.sspi_credssp.specs.Turn.{ClientFrame, AtNoted, ShowsClientActs, ShowsNego, ShowsProof, ShowsToken, client_shown, HoldsNego}
+use Rattle.sspi_credssp.specs.Turn.{HoldsProof}
 use Rattle.sspi_credssp.specs.declared.turn.Outcome.{Outcome}
 use Rattle.sspi_credssp.specs.declared.turn.Outcome.TheVariants as outcome
-use Rattle.sspi_delegate.specs.Asking.{KdcCalls}
+use Rattle.sspi_delegate.specs.Chain.{KdcCalls}
 use Rattle.sspi_delegate.specs.History.{ClientMakes}
 use Rattle.sspi_completeness.proofs.Ends.{Comes, in_context, is_false, stops_later, made_past, sealed_few, noted_at, Holds, IsMaker}
 use Rattle.sspi_completeness.proofs.Ends.{sealed_field, unused_in, ClientIs, takes_later, takes_noted}
 use Rattle.sspi_completeness.proofs.Replies.{proof_is, token_is}
 use Rattle.sspi_credssp.specs.declared.turn.Turn.{Turn}
-use Rattle.sspi_credssp.specs.Shown.{ShowsClientActs, ShowsNego, ShowsProof, ShowsToken, client_shown}
-use Rattle.sspi_credssp.specs.Held.{HoldsNego, HoldsProof}
 
 module _ {C : Type 0} (c : Meaning ContextSetting C) (laws : IsContext c) where
   abbrev View : Type 0

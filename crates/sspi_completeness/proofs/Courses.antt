@@ -38,18 +38,16 @@ use Rattle.sspi_credssp.specs.declared.mode.ClientMode.{ClientMode}
 use Rattle.sspi_credssp.specs.declared.mode.ClientMode.TheVariants as client_mode
 use Rattle.sspi_credssp.specs.declared.mode.ServerMode.{ServerMode}
 use Rattle.sspi_credssp.specs.declared.mode.ServerMode.TheVariants as server_mode
-use Rattle.sspi_credssp.specs.Begun.{Begun, goes_on, is_new, BeginCause, unmade, unacquired}
-use Rattle.sspi_credssp.specs.Client.{ClientSettings, ClientView}
-use Rattle.sspi_credssp.specs.ClientStep.{client_args}
-use Rattle.sspi_credssp.specs.Context.{ContextSetting, ForClient, ForServer}
-use Rattle.sspi_credssp.specs.Counts.{cleared}
+use Rattle.sspi_credssp.specs.Context.{Begun, goes_on, is_new, BeginCause, unmade, unacquired, ContextSetting, ForClient, ForServer}
+use Rattle.sspi_credssp.specs.Ends.{ClientSettings, ClientView, ServerSettings, ServerView}
+use Rattle.sspi_credssp.specs.ClientTurn.{client_args}
+use Rattle.sspi_credssp.specs.Acts.{cleared}
 use Rattle.sspi_credssp.specs.Proxy.{ProxyMeaning, ProxyTells, AreFound, AreCandidates, IsTold, candidates_of}
-use Rattle.sspi_credssp.specs.Server.{ServerSettings, ServerView}
 use Rattle.sspi_credssp.specs.ServerCause.{MakeCause, unlisted, unbegun, ListRefused, failed, nobody, IdentifyCause, nameless, looked}
 use Rattle.sspi_credssp.specs.ServerCause.{unset}
-use Rattle.sspi_credssp.specs.ServerStep.{IsIdentified, is_identified, server_args, server_setting}
-use Rattle.sspi_credssp.specs.Shown.{IsOver}
-use Rattle.sspi_delegate.specs.Asking.{kdc_calls}
+use Rattle.sspi_credssp.specs.ServerTurn.{IsIdentified, is_identified, server_args, server_setting}
+use Rattle.sspi_credssp.specs.Turn.{IsOver}
+use Rattle.sspi_delegate.specs.Chain.{kdc_calls}
 use Rattle.sspi_completeness.specs.Matching.{AreMatching}
 use Rattle.sspi_completeness.specs.Negotiating.{protocol_of, AreNegotiating}
 use Rattle.sspi_completeness.proofs.Accepting.{IsPeer, Takes}

@@ -5,23 +5,21 @@ use Rattle.std.proofs.lemmas.Bool.{leb-true}
 use Rattle.std.proofs.lemmas.List.{take_all}
 use Rattle.sspi_ber.specs.declared.wire_kind.WireKind.{WireKind}
 use Rattle.sspi_ber.specs.declared.wire_kind.WireKind.TheVariants.{UnexpectedEof, InvalidData, ReadFault, WriteFault, InsufficientMemory}
-use Rattle.sspi_ber.specs.Fault.{Ended, Invalid, fault_of}
-use Rattle.sspi_ber.specs.Limit.{max_content}
+use Rattle.sspi_ber.specs.Pieces.{Ended, Invalid, fault_of}
+use Rattle.sspi_ber.specs.Forms.{max_content}
 use Rattle.sspi_ber.proofs.Written.{size_below}
 use Rattle.sspi_tsreq.specs.declared.request.TsRequest.{TsRequest}
-use Rattle.sspi_tsreq.specs.Answer.{fault}
-use Rattle.sspi_tsreq.specs.Grammar.{IsRequest}
+use Rattle.sspi_tsreq.specs.Reading.{fault}
+use Rattle.sspi_tsreq.specs.Grammar.{IsRequest, IsRequestValue}
 use Rattle.sspi_tsreq.specs.Spelling.{carried, fields, fits, spelled}
-use Rattle.sspi_tsreq.specs.Value.{IsRequestValue}
 use Rattle.sspi_tsreq.proofs.Capped.{spelled_length}
 use Rattle.sspi_tsreq.proofs.RequestMatch.{request_again}
 use Rattle.sspi_tsreq.proofs.RoundTrip.{spelled_whole, one_request}
 use Rattle.sspi_delegate.specs.declared.carried.Carried.{Carried}
 use Rattle.sspi_credssp.specs.declared.turn.Turn.{Turn}
 use Rattle.sspi_delegate.specs.Causes.{NewestFits, MessageFits}
-use Rattle.sspi_delegate.specs.Deliveries.{delivery_limit, is_taken}
-use Rattle.sspi_delegate.specs.Edits.{Delivers, FollowsEdits}
-use Rattle.sspi_delegate.specs.Run.{IsRead, IsFault, IsDelivered, IsSent, IsEntry, Logged, IsUnreadable}
+use Rattle.sspi_delegate.specs.Log.{delivery_limit, is_taken, IsRead, IsFault, IsDelivered, IsSent, IsEntry, Logged, IsUnreadable}
+use Rattle.sspi_delegate.specs.Link.{Delivers, FollowsEdits}
 use Rattle.sspi_credssp.specs.Turn.{message_of}
 
 spelled_short : (r : TsRequest) → fits r ≡ true → length (spelled r) ≤ delivery_limit

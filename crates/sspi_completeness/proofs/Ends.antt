@@ -10,14 +10,11 @@ use Rattle.sspi_mech.specs.Meaning.{Meaning}
 use Rattle.sspi_credssp.specs.declared.acts.Acts.{Acts}
 use Rattle.sspi_credssp.specs.declared.state.CredSspState.{CredSspState}
 use Rattle.sspi_credssp.specs.declared.state.CredSspState.TheVariants.{NegoToken}
-use Rattle.sspi_credssp.specs.Acts.{count_of, sealings_by}
-use Rattle.sspi_credssp.specs.Begun.{IfContext, MadeOr}
-use Rattle.sspi_credssp.specs.Client.{ClientView, IsFreshClient}
-use Rattle.sspi_credssp.specs.Context.{ContextSetting}
-use Rattle.sspi_credssp.specs.Counts.{sealings_in, unsealings_in, IsUnusedIn, SameBut, SealsIn, is_waiting_in, silent, cleared}
-use Rattle.sspi_credssp.specs.Noted.{differs, is_altered_in, is_old, is_old_in, noted_in, noted_with}
-use Rattle.sspi_credssp.specs.Server.{ServerView, IsFreshServer}
-use Rattle.sspi_credssp.specs.Stops.{StopsIf}
+use Rattle.sspi_credssp.specs.Acts.{count_of, sealings_by, sealings_in, unsealings_in, IsUnusedIn, SameBut, SealsIn, is_waiting_in, silent}
+use Rattle.sspi_credssp.specs.Acts.{cleared}
+use Rattle.sspi_credssp.specs.Context.{IfContext, MadeOr, ContextSetting}
+use Rattle.sspi_credssp.specs.Ends.{ClientView, IsFreshClient, ServerView, IsFreshServer}
+use Rattle.sspi_credssp.specs.Noted.{differs, is_altered_in, is_old, is_old_in, noted_in, noted_with, StopsIf}
 use Rattle.sspi_credssp.specs.declared.turn.Outcome.{Outcome}
 use Rattle.sspi_credssp.specs.declared.turn.Outcome.TheVariants.{Reply, Final, Finished, Refused}
 

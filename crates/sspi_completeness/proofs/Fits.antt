@@ -7,10 +7,10 @@ use Rattle.sha2.proofs.Facts256.{length-sha256}
 use Rattle.sspi_types.specs.declared.nstatus.NStatusCode.{NStatusCode}
 use Rattle.sspi_tsreq.specs.declared.request.TsRequest.{TsRequest}
 use Rattle.sspi_tsreq.specs.Spelling.{carries_nonce, fits}
-use Rattle.sspi_tsreq.specs.Value.{IsRequestValue}
+use Rattle.sspi_tsreq.specs.Grammar.{IsRequestValue}
 use Rattle.sspi_credssp.specs.declared.public_key.EndpointType.{EndpointType}
 use Rattle.sspi_credssp.specs.declared.public_key.EndpointType.TheVariants.{Client, Server}
-use Rattle.sspi_credssp.specs.PublicKey.{bytes_of, little_endian, incremented, magic, echo, prescribed}
+use Rattle.sspi_credssp.specs.Exchange.{bytes_of, little_endian, incremented, magic, echo, prescribed}
 use Rattle.sspi_credssp.specs.Requests.{nonce_of}
 use Rattle.sspi_credssp.specs.ServerCause.{lacks_nonce}
 use Rattle.sspi_completeness.proofs.Lengths.{size_of, message_fits}

@@ -23,8 +23,8 @@ use Rattle.sspi_negotiate.specs.New.{packages_in}
 use Rattle.sspi_negotiate.specs.Pick.{pick}
 use Rattle.sspi_negotiate.specs.Server.{spnego_server}
 use Rattle.sspi_negotiate.specs.Values.{Values}
-use Rattle.sspi_credssp.specs.ClientStep.{client_args}
-use Rattle.sspi_credssp.specs.ServerStep.{server_args}
+use Rattle.sspi_credssp.specs.ClientTurn.{client_args}
+use Rattle.sspi_credssp.specs.ServerTurn.{server_args}
 use Rattle.sspi_completeness.specs.Negotiating.{HasSessionKey, kdc_url}
 use Rattle.sspi_completeness.specs.Negotiating.{ticket_of}
 use Rattle.sspi_completeness.proofs.Courses.{Meeting, IsCourse}

@@ -17,7 +17,7 @@ use Rattle.sspi_negotiate.specs.declared.state.NegotiateState.TheVariants as sta
 use Rattle.sspi_negotiate.specs.Client.{client_at, spnego_client}
 use Rattle.sspi_negotiate.specs.Hand.{hand_of}
 use Rattle.sspi_negotiate.specs.Values.{Values}
-use Rattle.sspi_credssp.specs.ClientStep.{client_args}
+use Rattle.sspi_credssp.specs.ClientTurn.{client_args}
 use Rattle.sspi_completeness.specs.Negotiating.{HasFirstKey, kdc_url}
 use Rattle.sspi_completeness.proofs.Courses.{Meeting}
 use Rattle.sspi_completeness.proofs.KerberosSteps as by_kerberos

@@ -58,9 +58,9 @@ use Rattle.sspi_negotiate.specs.Server.{spnego_server, reads_list, picks, placed
 use Rattle.sspi_negotiate.specs.Server.{accepted}
 use Rattle.sspi_negotiate.specs.Server as server
 use Rattle.sspi_negotiate.specs.Values.{Values}
-use Rattle.sspi_credssp.specs.ClientStep.{client_args}
+use Rattle.sspi_credssp.specs.ClientTurn.{client_args}
 use Rattle.sspi_credssp.specs.Proxy.{candidates_of}
-use Rattle.sspi_credssp.specs.ServerStep.{server_args}
+use Rattle.sspi_credssp.specs.ServerTurn.{server_args}
 use Rattle.sspi_completeness.specs.Matching.{HasEntry}
 use Rattle.sspi_completeness.proofs.NtlmOutcomes.{some_candidates}
 use Rattle.sspi_completeness.proofs.NtlmSteps.{verified_mic, server_values}

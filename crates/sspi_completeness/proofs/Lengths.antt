@@ -4,7 +4,7 @@ use Rattle.std.proofs.Common.{arith, if◌then◌else◌, nat_lt, false}
 use Rattle.std.proofs.lemmas.Bool.{le-leb}
 use Rattle.std.proofs.lemmas.List.{length-append}
 use Rattle.sspi_types.specs.declared.nstatus.NStatusCode.{NStatusCode}
-use Rattle.sspi_ber.specs.Limit.{max_content}
+use Rattle.sspi_ber.specs.Forms.{max_content}
 use Rattle.sspi_ber.specs.Short.{element, element_size, int_short, int_content}
 use Rattle.sspi_ber.proofs.Written.{length-element, size_below}
 use Rattle.sspi_names.specs.Utf16.{bytes_le}

@@ -4,23 +4,22 @@ use Rattle.std.proofs.Common.{refl, ap, sym, ◌∙◌, subst, arith}
 use Rattle.sspi_names.specs.declared.identity.AuthIdentity.{AuthIdentity}
 use Rattle.sspi_tsreq.specs.declared.request.TsRequest.{TsRequest}
 use Rattle.sspi_tsreq.specs.Spelling.{carried, carries_code}
-use Rattle.sspi_tsreq.specs.Value.{first_request}
+use Rattle.sspi_tsreq.specs.Grammar.{first_request}
 use Rattle.sspi_mech.specs.declared.step.Step.{Step}
 use Rattle.sspi_mech.specs.Context.{IsContext}
 use Rattle.sspi_mech.specs.Meaning.{Meaning}
 use Rattle.sspi_credssp.specs.declared.public_key.EndpointType.{EndpointType}
 use Rattle.sspi_credssp.specs.declared.public_key.EndpointType.TheVariants as endpoint
 use Rattle.sspi_credssp.specs.declared.state.CredSspState.TheVariants.{NegoToken, PubKeyInfo, AuthInfo}
-use Rattle.sspi_credssp.specs.Client.{ClientView, IsFreshClient}
+use Rattle.sspi_credssp.specs.Ends.{ClientView, IsFreshClient, ServerView, IsFreshServer}
 use Rattle.sspi_credssp.specs.Context.{ContextSetting}
-use Rattle.sspi_credssp.specs.PublicKey.{prescribed}
+use Rattle.sspi_credssp.specs.Exchange.{prescribed}
 use Rattle.sspi_credssp.specs.Requests.{nonce_of, unless_empty}
 use Rattle.sspi_credssp.specs.Proxy.{ProxyMeaning, ProxyTells}
-use Rattle.sspi_credssp.specs.Server.{ServerView, IsFreshServer}
 use Rattle.sspi_credssp.specs.ServerTurn.{HoldsIdentity}
-use Rattle.sspi_credssp.specs.Shown.{IsOver}
+use Rattle.sspi_credssp.specs.Turn.{IsOver}
 use Rattle.sspi_credssp.specs.declared.turn.Outcome.{Outcome}
-use Rattle.sspi_delegate.specs.Asking.{KdcCalls}
+use Rattle.sspi_delegate.specs.Chain.{KdcCalls}
 use Rattle.sspi_delegate.specs.History.{ClientMakes, ServerMakes}
 use Rattle.sspi_completeness.proofs.Accepting.{IsPeer, Takes}
 use Rattle.sspi_completeness.proofs.ClientDelivery as client_last

@@ -8,22 +8,19 @@ use Rattle.sspi_names.specs.declared.credentials.CredentialsBuffers.{Credentials
 use Rattle.sspi_names.specs.declared.identity.AuthIdentity.{AuthIdentity}
 use Rattle.sspi_tsreq.specs.declared.request.TsRequest.{TsRequest}
 use Rattle.sspi_tsreq.specs.Spelling.{carried, carries_code, carries_nonce}
-use Rattle.sspi_tsreq.specs.Value.{first_request}
+use Rattle.sspi_tsreq.specs.Grammar.{first_request}
 use Rattle.sspi_mech.specs.declared.step.Step.{Step}
 use Rattle.sspi_mech.specs.Context.{IsContext}
 use Rattle.sspi_mech.specs.Meaning.{Meaning}
 use Rattle.sspi_credssp.specs.declared.public_key.EndpointType.TheVariants as endpoint
-use Rattle.sspi_credssp.specs.Begun.{BeginCause}
-use Rattle.sspi_credssp.specs.Client.{ClientView}
-use Rattle.sspi_credssp.specs.Context.{ContextSetting, ForClient}
-use Rattle.sspi_credssp.specs.Credentials.{delegated_text, delegated_identity}
-use Rattle.sspi_credssp.specs.PublicKey.{prescribed}
+use Rattle.sspi_credssp.specs.Context.{BeginCause, ContextSetting, ForClient}
+use Rattle.sspi_credssp.specs.Ends.{ClientView, ServerView}
+use Rattle.sspi_credssp.specs.Exchange.{delegated_text, delegated_identity, prescribed}
 use Rattle.sspi_credssp.specs.Requests.{nonce_of, unless_empty}
 use Rattle.sspi_credssp.specs.Proxy.{ProxyMeaning}
 use Rattle.sspi_credssp.specs.ServerCause.{MakeCause}
-use Rattle.sspi_credssp.specs.Server.{ServerView}
-use Rattle.sspi_credssp.specs.Shown.{IsOver}
-use Rattle.sspi_delegate.specs.Asking.{KdcCalls}
+use Rattle.sspi_credssp.specs.Turn.{IsOver}
+use Rattle.sspi_delegate.specs.Chain.{KdcCalls}
 use Rattle.sspi_completeness.proofs.Accepting.{IsPeer, Takes}
 use Rattle.sspi_completeness.proofs.ClientTurns.{Walks}
 use Rattle.sspi_completeness.proofs.Ends.{IsMaker, IsTaker}

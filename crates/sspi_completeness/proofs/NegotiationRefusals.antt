@@ -30,7 +30,7 @@ use Rattle.sspi_tokens.specs.declared.oid.MechKind.TheVariants as kinds
 use Rattle.sspi_tokens.specs.Oids.{kind_of}
 use Rattle.sspi_tokens.specs.Reading.{init_of, targ_of}
 use Rattle.sspi_tokens.specs.Spelling.{spelled_list, spelled_targ}
-use Rattle.sspi_credssp.specs.Heeded.{NeverRefuses}
+use Rattle.sspi_credssp.specs.Context.{NeverRefuses}
 use Rattle.sspi_negotiate.specs.declared.branch.Branch.{Branch}
 use Rattle.sspi_negotiate.specs.declared.branch.Branch.TheVariants.{Idle, Opening, Answering}
 use Rattle.sspi_negotiate.specs.declared.branch.Opening.{Opening as FirstStep}

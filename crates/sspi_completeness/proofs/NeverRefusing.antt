@@ -35,8 +35,7 @@ use Rattle.sspi_mech.specs.declared.protection.Direction.{Direction}
 use Rattle.sspi_mech.specs.Protection.{unless_spent, making_refusal, unseal_refusal, verify_refusal}
 use Rattle.sspi_mech.specs.Settings.{Setting}
 use Rattle.sspi_mech.specs.Sum.{in_hand, Both, sum, taking, taken, seen}
-use Rattle.sspi_credssp.specs.Context.{either, made_of, as_sum, of_sum, has_password}
-use Rattle.sspi_credssp.specs.Heeded.{NeverRefuses}
+use Rattle.sspi_credssp.specs.Context.{either, made_of, as_sum, of_sum, has_password, NeverRefuses}
 use Rattle.sspi_credssp.specs.Peers.{knowing, listed_setting}
 use Rattle.sspi_negotiate.specs.Negotiate.{negotiate}
 use Rattle.sspi_negotiate.specs.New.{NegotiateSetting}

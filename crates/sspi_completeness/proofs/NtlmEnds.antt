@@ -21,11 +21,10 @@ use Rattle.sspi_credssp.specs.declared.context.SspiContext.{SspiContext}
 use Rattle.sspi_credssp.specs.declared.context.SspiContext.TheVariants.{Negotiate, Ntlm, Kerberos}
 use Rattle.sspi_credssp.specs.declared.mode.ClientMode.TheVariants as client
 use Rattle.sspi_credssp.specs.declared.mode.ServerMode.TheVariants as server
-use Rattle.sspi_credssp.specs.Begun.{Begun, goes_on, is_new}
-use Rattle.sspi_credssp.specs.Client.{ClientView}
-use Rattle.sspi_credssp.specs.ClientStep.{Asked, Walked, stepped, resumed, still_asked, recounted as walk_recounted, client_args}
-use Rattle.sspi_credssp.specs.Context.{ContextSetting, ForClient, ForServer, either}
-use Rattle.sspi_credssp.specs.Counts.{silent, cleared}
+use Rattle.sspi_credssp.specs.Context.{Begun, goes_on, is_new, ContextSetting, ForClient, ForServer, either}
+use Rattle.sspi_credssp.specs.Ends.{ClientView}
+use Rattle.sspi_credssp.specs.ClientTurn.{Asked, Walked, stepped, resumed, still_asked, recounted as walk_recounted, client_args}
+use Rattle.sspi_credssp.specs.Acts.{silent, cleared}
 use Rattle.sspi_credssp.proofs.Deliver.{bare_after}
 use Rattle.sspi_completeness.proofs.Blobs.{blob_of, blob_long, one_text, never_unopened, never_unsealed}
 use Rattle.sspi_completeness.proofs.Ends.{IsMaker, IsTaker}

@@ -54,10 +54,10 @@ use Rattle.sspi_negotiate.specs.Rows.{completes_signed, verifies, verifies_text,
 use Rattle.sspi_negotiate.specs.Server.{spnego_server, reads_list, picks, placed, first_token as first_accepted, goes_on, drops, accepted}
 use Rattle.sspi_negotiate.specs.Server as server
 use Rattle.sspi_negotiate.specs.Values.{Values}
-use Rattle.sspi_credssp.specs.ClientStep.{client_args, client_requirements}
+use Rattle.sspi_credssp.specs.ClientTurn.{client_args, client_requirements}
 use Rattle.sspi_credssp.specs.Context.{has_password}
 use Rattle.sspi_credssp.specs.Proxy.{candidates_of}
-use Rattle.sspi_credssp.specs.ServerStep.{server_args}
+use Rattle.sspi_credssp.specs.ServerTurn.{server_args}
 use Rattle.sspi_completeness.specs.Matching.{HasEntry}
 use Rattle.sspi_completeness.specs.Negotiating.{challenge_of}
 use Rattle.sspi_completeness.proofs.NtlmOutcomes.{claim_by, key_for, logged_on, client_outcome, server_outcome, some_candidates, keyed}

@@ -36,17 +36,15 @@ use Rattle.sspi_credssp.specs.declared.mode.ClientMode.{ClientMode}
 use Rattle.sspi_credssp.specs.declared.mode.ClientMode.TheVariants as client_mode
 use Rattle.sspi_credssp.specs.declared.mode.ServerMode.{ServerMode}
 use Rattle.sspi_credssp.specs.declared.mode.ServerMode.TheVariants as server_mode
-use Rattle.sspi_credssp.specs.Begun.{Begun, BeginCause, unmade, unacquired}
-use Rattle.sspi_credssp.specs.Client.{ClientSettings, ClientView}
-use Rattle.sspi_credssp.specs.Context.{ContextSetting, ForClient, ForServer, either, has_password}
-use Rattle.sspi_credssp.specs.Counts.{cleared}
+use Rattle.sspi_credssp.specs.Context.{Begun, BeginCause, unmade, unacquired, ContextSetting, ForClient, ForServer, either, has_password}
+use Rattle.sspi_credssp.specs.Ends.{ClientSettings, ClientView, ServerSettings, ServerView}
+use Rattle.sspi_credssp.specs.Acts.{cleared}
 use Rattle.sspi_credssp.specs.Proxy.{ProxyMeaning, AreFound}
 use Rattle.sspi_credssp.specs.Requests.{token_of}
-use Rattle.sspi_credssp.specs.Server.{ServerSettings, ServerView}
 use Rattle.sspi_credssp.specs.ServerCause.{MakeCause, unlisted, unbegun, ListRefused, LookUpRefused, IdentifyCause}
 use Rattle.sspi_credssp.specs.ServerCause.{nameless, looked, unset}
-use Rattle.sspi_credssp.specs.ServerStep.{IsIdentified, is_identified, server_args, server_setting}
-use Rattle.sspi_delegate.specs.Asking.{KdcCalls}
+use Rattle.sspi_credssp.specs.ServerTurn.{IsIdentified, is_identified, server_args, server_setting}
+use Rattle.sspi_delegate.specs.Chain.{KdcCalls}
 use Rattle.sspi_completeness.specs.Matching.{AreMatching}
 use Rattle.sspi_completeness.proofs.Accepting.{IsPeer, Takes}
 use Rattle.sspi_completeness.proofs.Blobs.{blob_of, blob_length}

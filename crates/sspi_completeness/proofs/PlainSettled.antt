@@ -11,28 +11,25 @@ use Rattle.sspi_negotiate.specs.declared.pick.Choice.{Choice}
 use Rattle.sspi_negotiate.specs.declared.pick.Choice.TheVariants as choices
 use Rattle.sspi_negotiate.specs.declared.protocol.Protocol.{Protocol}
 use Rattle.sspi_negotiate.specs.declared.protocol.Protocol.TheVariants.{Ntlm, Kerberos}
-use Rattle.sspi_credssp.specs.Client.{ClientView, IsFreshClient}
+use Rattle.sspi_credssp.specs.Ends.{ClientView, IsFreshClient, ServerView, IsFreshServer}
 use Rattle.sspi_credssp.specs.declared.mode.ClientMode.{ClientMode}
 use Rattle.sspi_credssp.specs.declared.mode.ClientMode.TheVariants as client_mode
 use Rattle.sspi_credssp.specs.declared.mode.ServerMode.{ServerMode}
 use Rattle.sspi_credssp.specs.declared.mode.ServerMode.TheVariants as server_mode
-use Rattle.sspi_credssp.specs.Credentials.{delegated_text}
+use Rattle.sspi_credssp.specs.Exchange.{delegated_text}
 use Rattle.sspi_credssp.specs.Proxy.{ProxyMeaning}
-use Rattle.sspi_credssp.specs.Server.{ServerView, IsFreshServer}
 use Rattle.sspi_delegate.specs.declared.answer.Delegation.{Delegation}
 use Rattle.sspi_delegate.specs.declared.answer.DelegateError.{DelegateError}
 use Rattle.sspi_delegate.specs.declared.answer.DelegateError.TheVariants as errors
 use Rattle.sspi_delegate.specs.declared.carried.Carried.{Carried}
 use Rattle.sspi_delegate.specs.declared.edit.Edit.{Edit}
 use Rattle.sspi_credssp.specs.declared.turn.Turn.{Turn}
-use Rattle.sspi_delegate.specs.Asking.{kdc_calls}
+use Rattle.sspi_delegate.specs.Chain.{kdc_calls}
 use Rattle.sspi_delegate.specs.Causes.{RunEnds}
-use Rattle.sspi_delegate.specs.EndTurns.{client_turns, server_turns}
+use Rattle.sspi_delegate.specs.Turns.{client_turns, server_turns}
 use Rattle.sspi_delegate.specs.History.{ClientPast, ServerHistory}
-use Rattle.sspi_delegate.specs.Link.{StaysTold}
-use Rattle.sspi_delegate.specs.Messages.{newest_message, AnswerTold}
-use Rattle.sspi_delegate.specs.EndRun.{server_end}
-use Rattle.sspi_delegate.specs.ServerRun.{GivesNewest}
+use Rattle.sspi_delegate.specs.Link.{StaysTold, newest_message, AnswerTold}
+use Rattle.sspi_delegate.specs.EndRun.{server_end, GivesNewest}
 use Rattle.sspi_completeness.specs.Matching.{MatchModes, messages_of, messages_in, AreMatching, IsUndisturbed, IsCalm, delegated_as}
 use Rattle.sspi_completeness.specs.Matching.{ComesToOkIn}
 use Rattle.sspi_completeness.specs.Negotiating.{Needs, messages_by, kdc_url}

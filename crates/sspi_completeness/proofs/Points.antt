@@ -5,11 +5,10 @@ use Rattle.sspi_names.specs.declared.identity.AuthIdentity.{AuthIdentity}
 use Rattle.sspi_mech.specs.Meaning.{Meaning}
 use Rattle.sspi_tsreq.specs.declared.request.TsRequest.{TsRequest}
 use Rattle.sspi_tsreq.specs.Spelling.{carried}
-use Rattle.sspi_tsreq.specs.Value.{first_request}
-use Rattle.sspi_credssp.specs.Client.{ClientView}
+use Rattle.sspi_tsreq.specs.Grammar.{first_request}
+use Rattle.sspi_credssp.specs.Ends.{ClientView, ServerView}
 use Rattle.sspi_credssp.specs.Context.{ContextSetting}
 use Rattle.sspi_credssp.specs.Proxy.{ProxyMeaning}
-use Rattle.sspi_credssp.specs.Server.{ServerView}
 use Rattle.sspi_credssp.specs.ServerTurn.{HoldsIdentity}
 use Rattle.sspi_delegate.specs.declared.carried.Carried.{Carried}
 use Rattle.sspi_credssp.specs.declared.turn.End.{End}
@@ -17,13 +16,12 @@ use Rattle.sspi_credssp.specs.declared.turn.End.TheVariants.{Client, Server}
 use Rattle.sspi_credssp.specs.declared.turn.Outcome.{Outcome}
 use Rattle.sspi_credssp.specs.declared.turn.Outcome.TheVariants.{Reply, Final, Finished, Refused}
 use Rattle.sspi_credssp.specs.declared.turn.Turn.{Turn}
-use Rattle.sspi_delegate.specs.Asking.{KdcCalls}
+use Rattle.sspi_delegate.specs.Chain.{KdcCalls}
 use Rattle.sspi_delegate.specs.Causes.{one_of, turns_of}
-use Rattle.sspi_delegate.specs.Edits.{FollowsEdits}
-use Rattle.sspi_delegate.specs.EndTurns.{onto_client, onto_server, client_turns, server_turns}
+use Rattle.sspi_delegate.specs.Link.{FollowsEdits}
+use Rattle.sspi_delegate.specs.Turns.{onto_client, onto_server, client_turns, server_turns, other, next_end, GoesOn, AllGoOn, Alternates}
 use Rattle.sspi_delegate.specs.History.{ClientMakes, ClientMade, ClientHistory, ServerMakes, ServerMade, ServerHistory}
-use Rattle.sspi_delegate.specs.Run.{IsDelivered, Logged}
-use Rattle.sspi_delegate.specs.Turns.{other, next_end, GoesOn, AllGoOn, Alternates}
+use Rattle.sspi_delegate.specs.Log.{IsDelivered, Logged}
 use Rattle.sspi_completeness.proofs.Deliveries.{next_request}
 use Rattle.sspi_completeness.proofs.Ends.{Comes, Ends}
 use Rattle.sspi_completeness.proofs.Fits.{IsMessage}

@@ -3,7 +3,7 @@ use Rattle.std.proofs.Common.{◌≡◌, ℕ, ◌∙◌, ap, Some, None}
 use Rattle.sspi_tsreq.specs.declared.request.TsRequest.{TsRequest}
 use Rattle.sspi_credssp.specs.declared.turn.Turn.{Turn}
 use Rattle.sspi_credssp.specs.Requests.{unless_empty}
-use Rattle.sspi_credssp.specs.Shown.{client_shown, server_shown, ShowsToken, ShowsProof, ShowsFinal, ShowsTokenBack, ShowsProofBack}
+use Rattle.sspi_credssp.specs.Turn.{client_shown, server_shown, ShowsToken, ShowsProof, ShowsFinal, ShowsTokenBack, ShowsProofBack}
 use Rattle.sspi_credssp.specs.Turn.{ClientFrame, ServerFrame}
 
 pub token_is : {C : Type 0} (f : ClientFrame C) (t : Turn) (r : TsRequest) → ShowsToken (client_shown f) t r →

@@ -30,7 +30,7 @@ use Rattle.sspi_negotiate.specs.New.{packages_in}
 use Rattle.sspi_negotiate.specs.Pick.{pick, picked_or}
 use Rattle.sspi_negotiate.specs.Rule.{url_for}
 use Rattle.sspi_negotiate.specs.Values.{Values}
-use Rattle.sspi_credssp.specs.ClientStep.{client_args}
+use Rattle.sspi_credssp.specs.ClientTurn.{client_args}
 use Rattle.sspi_credssp.specs.Proxy.{candidates_of}
 use Rattle.sspi_completeness.specs.Matching.{HasEntry}
 use Rattle.sspi_completeness.specs.Negotiating.{protocol_of, challenge_of}

@@ -8,17 +8,14 @@ use Rattle.sspi_mech.specs.Context.{IsContext}
 use Rattle.sspi_mech.specs.Meaning.{Meaning}
 use Rattle.sspi_credssp.specs.declared.state.CredSspState.{CredSspState}
 use Rattle.sspi_credssp.specs.declared.state.CredSspState.TheVariants.{AuthInfo}
-use Rattle.sspi_credssp.specs.Acts.{unsealings_by}
+use Rattle.sspi_credssp.specs.Acts.{unsealings_by, unsealings_in, SameBut, cleared}
 use Rattle.sspi_credssp.specs.Context.{ContextSetting}
-use Rattle.sspi_credssp.specs.Counts.{unsealings_in, SameBut, cleared}
-use Rattle.sspi_credssp.specs.Credentials.{delegated_identity}
-use Rattle.sspi_credssp.specs.Exchange.{OpensIdentity, opens_identity, BlobStops}
+use Rattle.sspi_credssp.specs.Exchange.{delegated_identity, OpensIdentity, opens_identity, BlobStops}
 use Rattle.sspi_credssp.specs.Proxy.{ProxyMeaning}
-use Rattle.sspi_credssp.specs.Server.{ServerView}
+use Rattle.sspi_credssp.specs.Ends.{ServerView}
 use Rattle.sspi_credssp.specs.ServerCause.{UnreadCause, unread, OpenedCause}
 use Rattle.sspi_credssp.specs.ServerTurn.{StartsUnused, HoldsIdentity, server_frame, server_turn}
-use Rattle.sspi_credssp.specs.Turn.{OnceNegotiated}
-use Rattle.sspi_credssp.specs.Shown.{MayCheck, ShowsStateBack, server_shown}
+use Rattle.sspi_credssp.specs.Turn.{OnceNegotiated, MayCheck, ShowsStateBack, server_shown}
 use Rattle.sspi_credssp.specs.declared.turn.Outcome.{Outcome}
 use Rattle.sspi_credssp.specs.declared.turn.Outcome.TheVariants as outcome
 use Rattle.sspi_delegate.specs.History.{ServerMakes}

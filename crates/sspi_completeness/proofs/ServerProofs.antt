@@ -14,26 +14,21 @@ use Rattle.sspi_mech.specs.Meaning.{Meaning}
 use Rattle.sspi_credssp.specs.declared.public_key.EndpointType.TheVariants.{Client, Server}
 use Rattle.sspi_credssp.specs.declared.state.CredSspState.{CredSspState}
 use Rattle.sspi_credssp.specs.declared.state.CredSspState.TheVariants.{PubKeyInfo, AuthInfo}
-use Rattle.sspi_credssp.specs.Acts.{sealings_by, unsealings_by}
-use Rattle.sspi_credssp.specs.Begun.{IfContext}
-use Rattle.sspi_credssp.specs.Context.{ContextSetting}
-use Rattle.sspi_credssp.specs.Counts.{sealings_in, unsealings_in, SealsIn, SameBut, cleared}
-use Rattle.sspi_credssp.specs.Exchange.{CheckedCause, ProofCause, opens_other, altered, unsealed}
-use Rattle.sspi_credssp.specs.PublicKey.{prescribed}
+use Rattle.sspi_credssp.specs.Acts.{sealings_by, unsealings_by, sealings_in, unsealings_in, SealsIn, SameBut, cleared}
+use Rattle.sspi_credssp.specs.Context.{IfContext, ContextSetting}
+use Rattle.sspi_credssp.specs.Exchange.{CheckedCause, ProofCause, opens_other, altered, unsealed, prescribed}
 use Rattle.sspi_credssp.specs.Requests.{nonce_of, IsLong}
 use Rattle.sspi_credssp.specs.Proxy.{ProxyMeaning}
-use Rattle.sspi_credssp.specs.Server.{ServerSettings, ServerView}
+use Rattle.sspi_credssp.specs.Ends.{ServerSettings, ServerView}
 use Rattle.sspi_credssp.specs.ServerCause.{IdentifyCause, OverCause, unknown, incomplete, known, AfterCause, ExchangeCause}
 use Rattle.sspi_credssp.specs.ServerCause.{BlobCause, lacks_nonce}
-use Rattle.sspi_credssp.specs.ServerStep.{Unknown, Identified, Completed}
+use Rattle.sspi_credssp.specs.ServerTurn.{Unknown, Identified, Completed, StartsUnused, ServerTurn, after_status, server_frame, server_turn}
 use Rattle.sspi_credssp.specs.Noted.{noted_with}
-use Rattle.sspi_credssp.specs.ServerTurn.{StartsUnused, ServerTurn, after_status, server_frame, server_turn}
-use Rattle.sspi_credssp.specs.Shown.{IsOver, ShowsOver, ShowsProofBack, ShowsStateBack, server_shown}
-use Rattle.sspi_credssp.specs.Turn.{AtNoted, OnceNegotiated}
+use Rattle.sspi_credssp.specs.Turn.{IsOver, ShowsOver, ShowsProofBack, ShowsStateBack, server_shown, AtNoted, OnceNegotiated}
+use Rattle.sspi_credssp.specs.Turn.{HoldsProofBack}
 use Rattle.sspi_mech.specs.Calls.{ToComplete, ToSeal}
 use Rattle.sspi_credssp.specs.declared.turn.Outcome.{Outcome}
 use Rattle.sspi_credssp.specs.declared.turn.Outcome.TheVariants as outcome
-use Rattle.sspi_credssp.specs.Held.{HoldsProofBack}
 use Rattle.sspi_delegate.specs.History.{ServerMakes}
 use Rattle.sspi_completeness.proofs.Accepting.{IsPeer, named_is, come_at}
 use Rattle.sspi_completeness.proofs.Ends.{Comes, is_false, stops_later, sealed_few, Holds, IsMaker, IsTaker, holds_still, sealed_field}

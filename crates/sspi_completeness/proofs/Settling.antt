@@ -7,10 +7,9 @@ use Rattle.sspi_ber.specs.declared.wire_kind.WireKind.{WireKind}
 use Rattle.sspi_names.specs.declared.identity.AuthIdentity.{AuthIdentity}
 use Rattle.sspi_mech.specs.Meaning.{Meaning}
 use Rattle.sspi_tsreq.specs.declared.request.TsRequest.{TsRequest}
-use Rattle.sspi_credssp.specs.Client.{ClientView}
+use Rattle.sspi_credssp.specs.Ends.{ClientView, ServerView}
 use Rattle.sspi_credssp.specs.Context.{ContextSetting}
 use Rattle.sspi_credssp.specs.Proxy.{ProxyMeaning}
-use Rattle.sspi_credssp.specs.Server.{ServerView}
 use Rattle.sspi_credssp.specs.ServerTurn.{HoldsIdentity}
 use Rattle.sspi_delegate.specs.declared.answer.Delegation.{Delegation}
 use Rattle.sspi_delegate.specs.declared.answer.DelegateError.{DelegateError}
@@ -22,19 +21,15 @@ use Rattle.sspi_delegate.specs.declared.edit.Edit.{Edit}
 use Rattle.sspi_credssp.specs.declared.turn.Outcome.{Outcome}
 use Rattle.sspi_credssp.specs.declared.turn.Outcome.TheVariants.{Reply, Final, Finished, Refused}
 use Rattle.sspi_credssp.specs.declared.turn.Turn.{Turn}
-use Rattle.sspi_delegate.specs.Asking.{KdcCalls}
+use Rattle.sspi_delegate.specs.Chain.{KdcCalls}
 use Rattle.sspi_delegate.specs.Causes.{Cause, RunEnds, Given, carried, too_long, link_failed, no_memory, turns_of, IsClientRefusal}
 use Rattle.sspi_delegate.specs.Causes.{IsServerRefusal, IsFinished}
-use Rattle.sspi_delegate.specs.Edits.{FollowsEdits}
-use Rattle.sspi_delegate.specs.EndTurns.{onto_server, client_turns, server_turns}
+use Rattle.sspi_delegate.specs.Link.{FollowsEdits, FollowsTold, StaysTold, newest_message, CarryFails, AnswerTold}
+use Rattle.sspi_delegate.specs.Turns.{onto_server, client_turns, server_turns, next_end, Alternates}
 use Rattle.sspi_delegate.proofs.Histories.{client_stopped_history}
 use Rattle.sspi_delegate.specs.History.{ClientHistory, ClientPast, ServerHistory}
-use Rattle.sspi_delegate.specs.Link.{FollowsTold, StaysTold}
-use Rattle.sspi_delegate.specs.Messages.{newest_message, CarryFails, AnswerTold}
-use Rattle.sspi_delegate.specs.Run.{LoggedButLast}
-use Rattle.sspi_delegate.specs.EndRun.{server_end}
-use Rattle.sspi_delegate.specs.ServerRun.{GivesNewest}
-use Rattle.sspi_delegate.specs.Turns.{next_end, Alternates}
+use Rattle.sspi_delegate.specs.Log.{LoggedButLast}
+use Rattle.sspi_delegate.specs.EndRun.{server_end, GivesNewest}
 use Rattle.sspi_completeness.specs.Matching.{AreWhole, IsUndisturbed, unedited, shown, IsCalm, NoneFailed, none_told, none_counted}
 use Rattle.sspi_completeness.proofs.Deliveries.{always_readable, never_too_long}
 use Rattle.sspi_completeness.proofs.Ends.{Comes, Ends}

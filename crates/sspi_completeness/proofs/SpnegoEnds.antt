@@ -32,16 +32,14 @@ use Rattle.sspi_negotiate.specs.Target.{IsNamedByIp}
 use Rattle.sspi_negotiate.specs.Values.{Values, Negotiation, values_of}
 use Rattle.sspi_credssp.specs.declared.context.SspiContext.{SspiContext}
 use Rattle.sspi_credssp.specs.declared.context.SspiContext.TheVariants as contexts
-use Rattle.sspi_credssp.specs.Begun.{Begun}
-use Rattle.sspi_credssp.specs.Client.{ClientView}
-use Rattle.sspi_credssp.specs.ClientStep.{Asked, Walked, stepped, resumed, still_asked, recounted as walk_recounted, client_args}
-use Rattle.sspi_credssp.specs.Context.{ContextSetting, ForClient, either}
-use Rattle.sspi_credssp.specs.Counts.{silent, cleared}
+use Rattle.sspi_credssp.specs.Context.{Begun, ContextSetting, ForClient, either}
+use Rattle.sspi_credssp.specs.Ends.{ClientView, ServerView}
+use Rattle.sspi_credssp.specs.ClientTurn.{Asked, Walked, stepped, resumed, still_asked, recounted as walk_recounted, client_args}
+use Rattle.sspi_credssp.specs.Acts.{silent, cleared}
 use Rattle.sspi_credssp.specs.Proxy.{ProxyMeaning}
-use Rattle.sspi_credssp.specs.Server.{ServerView}
-use Rattle.sspi_credssp.specs.ServerStep.{server_args, server_setting}
+use Rattle.sspi_credssp.specs.ServerTurn.{server_args, server_setting}
 use Rattle.sspi_credssp.proofs.Deliver.{bare_after}
-use Rattle.sspi_delegate.specs.Asking.{kdc_calls, HasReplied, RepliesAsTold}
+use Rattle.sspi_delegate.specs.Chain.{kdc_calls, HasReplied, RepliesAsTold}
 use Rattle.sspi_completeness.proofs.Accepting.{Takes}
 use Rattle.sspi_completeness.proofs.Blobs.{blob_of, blob_long, one_text, never_unopened, never_unsealed}
 use Rattle.sspi_completeness.proofs.ClientTurns.{Walks}

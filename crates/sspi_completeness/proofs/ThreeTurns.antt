@@ -24,13 +24,12 @@ use Rattle.sspi_credssp.specs.declared.mode.ServerMode.{ServerMode}
 use Rattle.sspi_credssp.specs.declared.mode.ServerMode.TheVariants as server
 use Rattle.sspi_credssp.specs.declared.state.CredSspState.{CredSspState}
 use Rattle.sspi_credssp.specs.declared.state.CredSspState.TheVariants.{NegoToken}
-use Rattle.sspi_credssp.specs.Begun.{Begun, IfContext}
-use Rattle.sspi_credssp.specs.Context.{either, ForServer}
+use Rattle.sspi_credssp.specs.Context.{Begun, IfContext, either, ForServer}
 use Rattle.sspi_credssp.specs.Proxy.{ProxyMeaning}
-use Rattle.sspi_credssp.specs.Server.{ServerView, IsFreshServer}
-use Rattle.sspi_credssp.specs.ServerStep.{DoneStep, Knowing, Unknown, Identified, Completed, Accepted, accepted, identified, completed}
-use Rattle.sspi_credssp.specs.ServerStep.{recounted, server_args}
-use Rattle.sspi_credssp.specs.Shown.{IsOver, MayCheck}
+use Rattle.sspi_credssp.specs.Ends.{ServerView, IsFreshServer}
+use Rattle.sspi_credssp.specs.ServerTurn.{DoneStep, Knowing, Unknown, Identified, Completed, Accepted, accepted, identified, completed}
+use Rattle.sspi_credssp.specs.ServerTurn.{recounted, server_args}
+use Rattle.sspi_credssp.specs.Turn.{IsOver, MayCheck}
 use Rattle.sspi_delegate.specs.declared.answer.Delegation.{Delegation}
 use Rattle.sspi_delegate.specs.declared.answer.DelegateError.{DelegateError}
 use Rattle.sspi_delegate.specs.declared.carried.Carried.{Carried}
@@ -38,8 +37,7 @@ use Rattle.sspi_credssp.specs.declared.turn.End.{End}
 use Rattle.sspi_credssp.specs.declared.turn.End.TheVariants.{Client, Server}
 use Rattle.sspi_credssp.specs.declared.turn.Turn.{Turn}
 use Rattle.sspi_delegate.specs.Causes.{one_of, turns_of, NewestIs, IsFinished, RunEnds}
-use Rattle.sspi_delegate.specs.EndTurns.{onto_server, server_turns, OthersGoOn}
-use Rattle.sspi_delegate.specs.Turns.{GoesOn, other, next_end, Alternates}
+use Rattle.sspi_delegate.specs.Turns.{onto_server, server_turns, OthersGoOn, GoesOn, other, next_end, Alternates}
 use Rattle.sspi_delegate.specs.Headline.{HasExchanged}
 use Rattle.sspi_delegate.specs.History.{ServerMakes, ServerMade, ServerHistory}
 use Rattle.sspi_completeness.specs.Matching.{IsNtlmServer}

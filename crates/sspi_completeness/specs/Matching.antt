@@ -13,15 +13,14 @@ use Rattle.sspi_credssp.specs.declared.mode.ClientMode.{ClientMode}
 use Rattle.sspi_credssp.specs.declared.mode.ClientMode.TheVariants as client_mode
 use Rattle.sspi_credssp.specs.declared.mode.ServerMode.{ServerMode}
 use Rattle.sspi_credssp.specs.declared.mode.ServerMode.TheVariants as server_mode
-use Rattle.sspi_credssp.specs.Client.{ClientView}
+use Rattle.sspi_credssp.specs.Ends.{ClientView, ServerView}
 use Rattle.sspi_credssp.specs.Proxy.{ProxyMeaning, entry_of}
-use Rattle.sspi_credssp.specs.Server.{ServerView}
 use Rattle.sspi_delegate.specs.declared.answer.Delegation.{Delegation}
 use Rattle.sspi_delegate.specs.declared.answer.DelegateError.{DelegateError}
 use Rattle.sspi_delegate.specs.declared.answer.DelegateError.TheVariants as errors
 use Rattle.sspi_delegate.specs.declared.carried.Carried.{Carried}
 use Rattle.sspi_delegate.specs.declared.edit.Edit.{Edit}
-use Rattle.sspi_delegate.specs.Edits.{Delivers}
+use Rattle.sspi_delegate.specs.Link.{Delivers}
 use Rattle.sspi_completeness.specs.Negotiating.{AreNegotiating, messages_by}
 
 -- NTLM alone, without a negotiation

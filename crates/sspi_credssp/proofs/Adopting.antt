@@ -9,7 +9,7 @@ use Rattle.sspi_names.specs.declared.credentials.CredentialsBuffers.{Credentials
 use Rattle.sspi_mech.specs.Calls.{ToAcquire}
 use Rattle.sspi_mech.specs.Meaning.{Meaning}
 use Rattle.sspi_mech.specs.declared.refusal.Refusal.{Refusal}
-use Rattle.sspi_credssp.specs.Begun.{Begun, BeginCause, IfContext, is_new, unacquired}
+use Rattle.sspi_credssp.specs.Context.{Begun, BeginCause, IfContext, is_new, unacquired}
 use Rattle.sspi_credssp.specs.Refused.{IsRefusedFor}
 
 module _ {S C : Type 0} (c : Meaning S C) (setting : S) (purpose : CredentialUse) (asked : Option Credentials) (m : C)

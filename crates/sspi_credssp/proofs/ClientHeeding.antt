@@ -17,20 +17,15 @@ use Rattle.sspi_credssp.specs.declared.client_state.Progress.{Progress}
 use Rattle.sspi_credssp.specs.declared.public_key.EndpointType.TheVariants.{Server}
 use Rattle.sspi_credssp.specs.declared.state.CredSspState.{CredSspState}
 use Rattle.sspi_credssp.specs.declared.state.CredSspState.TheVariants.{NegoToken, PubKeyInfo, AuthInfo, Final}
-use Rattle.sspi_credssp.specs.Begun.{BeginCause, unmade, unacquired, IfContext, MadeOr}
-use Rattle.sspi_credssp.specs.Client.{ClientView}
+use Rattle.sspi_credssp.specs.Context.{BeginCause, unmade, unacquired, IfContext, MadeOr, ContextSetting, ForClient, NeverRefuses}
+use Rattle.sspi_credssp.specs.Ends.{ClientView}
 use Rattle.sspi_credssp.specs.ClientCause.{ClientCause, StateCause, NegoCause, ProveCause, BlobOpens, SealsCause}
-use Rattle.sspi_credssp.specs.ClientStep.{client_args, Asked, Walked, stepped, resumed, still_asked, recounted, OnStep, HasStepped}
-use Rattle.sspi_credssp.specs.ClientStep.{refused_answer}
-use Rattle.sspi_credssp.specs.Context.{ContextSetting, ForClient}
-use Rattle.sspi_credssp.specs.Counts.{is_waiting_in}
-use Rattle.sspi_credssp.specs.Credentials.{delegated_text}
-use Rattle.sspi_credssp.specs.Exchange.{BlobStops, altered, unsealed, CheckedCause, ProofCause}
-use Rattle.sspi_credssp.specs.Heeded.{NeverRefuses, ClientMeetsOld}
-use Rattle.sspi_credssp.specs.Noted.{is_old_in, is_altered_in}
-use Rattle.sspi_credssp.specs.PublicKey.{prescribed}
+use Rattle.sspi_credssp.specs.ClientTurn.{client_args, Asked, Walked, stepped, resumed, still_asked, recounted, OnStep, HasStepped}
+use Rattle.sspi_credssp.specs.ClientTurn.{refused_answer}
+use Rattle.sspi_credssp.specs.Acts.{is_waiting_in}
+use Rattle.sspi_credssp.specs.Exchange.{delegated_text, BlobStops, altered, unsealed, CheckedCause, ProofCause, prescribed}
+use Rattle.sspi_credssp.specs.Noted.{ClientMeetsOld, is_old_in, is_altered_in, StopsIf}
 use Rattle.sspi_credssp.specs.Requests.{is_code}
-use Rattle.sspi_credssp.specs.Stops.{StopsIf}
 use Rattle.sspi_credssp.proofs.CredentialRefusals.{IfRefused, OfEach, so_delegated}
 
 -- of another kind

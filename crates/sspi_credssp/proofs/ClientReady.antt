@@ -6,17 +6,17 @@ use Rattle.sspi_mech.specs.declared.step.Answer.TheVariants.{Done, Ask, Refused}
 use Rattle.sspi_mech.specs.declared.step.Reply.{Reply}
 use Rattle.sspi_mech.specs.Answers.{OnAsk}
 use Rattle.sspi_mech.specs.Calls.{StepArgs}
-use Rattle.sspi_mech.specs.Context.{IsUnused, IsContext}
+use Rattle.sspi_mech.specs.Context.{IsContext}
+use Rattle.sspi_mech.specs.Calls.{IsUnused}
 use Rattle.sspi_mech.specs.Meaning.{Meaning}
 use Rattle.sspi_tsreq.specs.declared.request.TsRequest.{TsRequest}
 use Rattle.sspi_credssp.specs.declared.acts.Acts.{Acts}
 use Rattle.sspi_credssp.specs.declared.state.CredSspState.{CredSspState}
 use Rattle.sspi_credssp.specs.declared.state.CredSspState.TheVariants.{NegoToken}
-use Rattle.sspi_credssp.specs.Begun.{IfContext}
-use Rattle.sspi_credssp.specs.Client.{ClientView}
+use Rattle.sspi_credssp.specs.Context.{IfContext, ContextSetting}
+use Rattle.sspi_credssp.specs.Ends.{ClientView}
 use Rattle.sspi_credssp.specs.ClientTurn.{IsReady}
-use Rattle.sspi_credssp.specs.Context.{ContextSetting}
-use Rattle.sspi_credssp.specs.Counts.{IsUnusedIn, sealings_in, unsealings_in}
+use Rattle.sspi_credssp.specs.Acts.{IsUnusedIn, sealings_in, unsealings_in}
 use Rattle.sspi_credssp.specs.Turn.{OnceNegotiated, IsUnspent}
 
 pub not_yet : (s : CredSspState) (P : Type 0) → s ≡ NegoToken → OnceNegotiated s P

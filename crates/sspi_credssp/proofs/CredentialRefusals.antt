@@ -1,10 +1,11 @@
 -- What holds of every refusal of credentials and of their texts.
 use Rattle.std.proofs.Common.{◌≡◌, ℕ, ◌==◌, List, [], ◌∷◌, None, Some, Result, Ok, Err, Option, Bool, true, false, if◌then◌else◌, subst}
 use Rattle.sspi_types.specs.declared.error.Error.{Error}
-use Rattle.sspi_types.specs.Memory.{memory_error}
+use Rattle.sspi_types.specs.Errors.{memory_error}
 use Rattle.sspi_names.specs.Utf16.{decode_le}
-use Rattle.sspi_names.specs.Identity.{identity_of}
-use Rattle.sspi_names.specs.Refusals.{bad_name, bad_text}
+use Rattle.sspi_names.specs.Identity.{identity_of, credentials_buffers_of}
+use Rattle.sspi_names.specs.Utf16.{bad_text}
+use Rattle.sspi_names.specs.Name.{bad_name}
 use Rattle.sspi_names.specs.declared.credentials.Credentials.{Credentials}
 use Rattle.sspi_names.specs.declared.credentials.CredentialsBuffers.{CredentialsBuffers}
 use Rattle.sspi_names.specs.declared.credentials.CredentialsBuffers.TheVariants as buffered
@@ -12,12 +13,11 @@ use Rattle.sspi_names.specs.declared.error.Utf16Error.{Utf16Error}
 use Rattle.sspi_names.specs.declared.error.Utf16Error.TheVariants as utf16
 use Rattle.sspi_names.specs.declared.identity.AuthIdentity.{AuthIdentity}
 use Rattle.sspi_names.specs.declared.identity.AuthIdentityBuffers.{AuthIdentityBuffers}
-use Rattle.sspi_names.specs.Credentials.{credentials_buffers_of}
 use Rattle.sspi_tsreq.specs.declared.mode.CredSspMode.{CredSspMode}
 use Rattle.sspi_tsreq.specs.Creds.{Fields, Passwords, fields_at, passwords_at, malformed, unknown_type, smart_card, keytab_refused}
 use Rattle.sspi_tsreq.specs.Creds.{too_long, ◌and_then◌, spelled_or_malformed, password_type, text_or_refused, texts_of, creds_in}
 use Rattle.sspi_tsreq.specs.Creds.{creds_of, creds_text, buffers_text, spelled_if_fits}
-use Rattle.sspi_credssp.specs.Credentials.{delegated_text, delegated_identity, identity_in, named_or_refused}
+use Rattle.sspi_credssp.specs.Exchange.{delegated_text, delegated_identity, identity_in, named_or_refused}
 
 abbrev pub IfRefused : (Error → Type 0) → {A : Type 0} → Result A Error → Type 0
 IfRefused Q (Ok x) = Unit {0}

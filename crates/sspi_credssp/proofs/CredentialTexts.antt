@@ -2,20 +2,19 @@
 use Rattle.std.proofs.Common.{◌≡◌, ◌≢◌, ◌⊎◌, inl, inr, ◌∙◌, ℕ, List, Option, None, Result, Ok, Err, IfOk, IfErr, refl, sym, ap}
 use Rattle.sspi_types.specs.declared.error.Error.{Error}
 use Rattle.sspi_types.specs.declared.error_kind.ErrorKind.TheVariants.{InsufficientMemory}
-use Rattle.sspi_types.specs.Memory.{memory_error}
-use Rattle.sspi_names.specs.Identity.{identity_of, IsIdentified}
+use Rattle.sspi_types.specs.Errors.{memory_error}
+use Rattle.sspi_names.specs.Identity.{identity_of, IsIdentified, credentials_buffers_of}
 use Rattle.sspi_names.specs.declared.credentials.Credentials.{Credentials}
 use Rattle.sspi_names.specs.declared.credentials.CredentialsBuffers.{CredentialsBuffers}
 use Rattle.sspi_names.specs.declared.credentials.CredentialsBuffers.TheVariants as buffered
 use Rattle.sspi_names.specs.declared.identity.AuthIdentity.{AuthIdentity}
 use Rattle.sspi_names.specs.declared.identity.AuthIdentityBuffers.{AuthIdentityBuffers}
-use Rattle.sspi_names.specs.Credentials.{credentials_buffers_of}
 use Rattle.sspi_names.specs.declared.identity.KeytabIdentity.{KeytabIdentity}
 use Rattle.sspi_tsreq.specs.declared.mode.CredSspMode.{CredSspMode}
 use Rattle.sspi_tsreq.specs.CredsAnswers.{IsOrMemory}
 use Rattle.sspi_tsreq.specs.Creds.{malformed, creds_of, creds_text}
 use Rattle.sspi_credssp.proofs.CredentialRefusals.{OfEach, refused_so, so_creds, so_text_of}
-use Rattle.sspi_credssp.specs.Credentials.{delegated_text, delegated_identity, identity_in, named_or_refused}
+use Rattle.sspi_credssp.specs.Exchange.{delegated_text, delegated_identity, identity_in, named_or_refused}
 
 -- no refusal has an NTSTATUS code
 abbrev pub IsCodeless : Error → Type 0

@@ -5,7 +5,7 @@ use Rattle.sspi_mech.specs.Calls.{Counts, one_sealing}
 use Rattle.sspi_mech.specs.Context.{IsContext}
 use Rattle.sspi_mech.specs.Meaning.{Meaning}
 use Rattle.sspi_credssp.specs.declared.acts.Acts.{Acts}
-use Rattle.sspi_credssp.specs.Counts.{silent, cleared}
+use Rattle.sspi_credssp.specs.Acts.{silent, cleared}
 use Rattle.sspi_credssp.specs.Opened.{Exchanges, OpensAs, HasOpened}
 
 -- an end notes an act by setting this flag, whatever it has checked

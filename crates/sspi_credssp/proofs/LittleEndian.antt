@@ -6,7 +6,7 @@ use Rattle.std.proofs.lemmas.List.Elements.{All-head, All-tail}
 use Rattle.std.proofs.Math.Dec.{eqb-suc-zero}
 use Rattle.std.proofs.Math.ListN.{set}
 use Rattle.std.proofs.Math.Nat.{pow-suc}
-use Rattle.sspi_credssp.specs.PublicKey.{little_endian, bytes_of, incremented, decremented}
+use Rattle.sspi_credssp.specs.Exchange.{little_endian, bytes_of, incremented, decremented}
 
 abbrev pub AreBytes : List ℕ → Type 0
 AreBytes [] = Unit {0}

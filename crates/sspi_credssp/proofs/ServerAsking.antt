@@ -2,8 +2,8 @@
 use Rattle.std.proofs.Common.{◌≡◌, Some, refl}
 use Rattle.sspi_types.specs.declared.security_status.SecurityStatus.{SecurityStatus}
 use Rattle.sspi_types.specs.declared.security_status.SecurityStatus.TheVariants as statuses
-use Rattle.sspi_credssp.specs.ServerAsks.{look_ups_at}
-use Rattle.sspi_credssp.specs.Shown.{IsOver}
+use Rattle.sspi_credssp.specs.Proxy.{look_ups_at}
+use Rattle.sspi_credssp.specs.Turn.{IsOver}
 
 pub over_looks : (s : SecurityStatus) → IsOver (Some s) → 1 ≡ look_ups_at (Some s)
 over_looks statuses.Ok over = refl

@@ -11,16 +11,13 @@ use Rattle.sspi_credssp.specs.declared.server_state.ServerError.{ServerError}
 use Rattle.sspi_credssp.specs.declared.state.CredSspState.{CredSspState}
 use Rattle.sspi_credssp.specs.declared.state.CredSspState.TheVariants.{NegoToken}
 use Rattle.sspi_credssp.specs.declared.turn.Outcome.TheVariants as outcome
-use Rattle.sspi_credssp.specs.Acts.{no_acts, sealings_by, unsealings_by}
-use Rattle.sspi_credssp.specs.Begun.{Begun, IfContext, OnContext}
-use Rattle.sspi_credssp.specs.Context.{ContextSetting, ForServer}
-use Rattle.sspi_credssp.specs.Counts.{IsUnusedIn, sealings_in, unsealings_in}
-use Rattle.sspi_credssp.specs.ErrorRequest.{error_request, version_back}
+use Rattle.sspi_credssp.specs.Acts.{no_acts, sealings_by, unsealings_by, IsUnusedIn, sealings_in, unsealings_in}
+use Rattle.sspi_credssp.specs.Context.{Begun, IfContext, OnContext, ContextSetting, ForServer}
+use Rattle.sspi_credssp.specs.Requests.{error_request, version_back}
 use Rattle.sspi_credssp.specs.Noted.{noted_with}
 use Rattle.sspi_credssp.specs.Proxy.{ProxyMeaning}
-use Rattle.sspi_credssp.specs.Server.{ServerView}
-use Rattle.sspi_credssp.specs.ServerStep.{OnStep}
-use Rattle.sspi_credssp.specs.ServerTurn.{ServerTurn, UnlessMade, IsNew, is_made, IsUnstepped}
+use Rattle.sspi_credssp.specs.Ends.{ServerView}
+use Rattle.sspi_credssp.specs.ServerTurn.{OnStep, ServerTurn, UnlessMade, IsNew, is_made, IsUnstepped}
 use Rattle.sspi_credssp.specs.ServerStage.{BeginRefused}
 use Rattle.sspi_credssp.proofs.ClientReady.{not_yet}
 

@@ -10,15 +10,14 @@ use Rattle.sspi_tsreq.specs.declared.request.TsRequest.{TsRequest}
 use Rattle.sspi_mech.specs.Meaning.{Meaning}
 use Rattle.sspi_credssp.specs.declared.server_state.ServerError.{ServerError}
 use Rattle.sspi_credssp.specs.declared.state.CredSspState.{CredSspState}
-use Rattle.sspi_credssp.specs.Begun.{MadeOr}
-use Rattle.sspi_credssp.specs.Context.{ContextSetting}
+use Rattle.sspi_credssp.specs.Context.{MadeOr, ContextSetting}
 use Rattle.sspi_credssp.specs.Proxy.{ProxyMeaning, ProxyTells, AreFound}
 use Rattle.sspi_credssp.specs.ServerStage.{IsLater}
-use Rattle.sspi_credssp.specs.Server.{ServerView}
+use Rattle.sspi_credssp.specs.Ends.{ServerView}
 use Rattle.sspi_credssp.specs.ServerCause.{ServerCause, MakeCause, StateCause, NegoCause, AfterCause, OverCause, known, IdentifyCause}
 use Rattle.sspi_credssp.specs.ServerCause.{nameless, looked, unset, LookUpRefused, failed, nobody}
-use Rattle.sspi_credssp.specs.ServerStep.{Completed, HasCome}
-use Rattle.sspi_credssp.specs.Shown.{IsOver}
+use Rattle.sspi_credssp.specs.ServerTurn.{Completed, HasCome}
+use Rattle.sspi_credssp.specs.Turn.{IsOver}
 use Rattle.sspi_credssp.specs.Noted.{differs, is_old, VersionStops}
 use Rattle.sspi_credssp.proofs.Causes.{stops_map, made_map, made_later}
 

@@ -18,19 +18,17 @@ use Rattle.sspi_credssp.specs.declared.server_state.ServerError.{ServerError}
 use Rattle.sspi_credssp.specs.declared.server_state.ServerState.{ServerState}
 use Rattle.sspi_credssp.specs.declared.state.CredSspState.{CredSspState}
 use Rattle.sspi_credssp.specs.declared.state.CredSspState.TheVariants.{NegoToken, PubKeyInfo, AuthInfo, Final}
-use Rattle.sspi_credssp.specs.Begun.{BeginCause, unmade, unacquired, IfContext, MadeOr}
-use Rattle.sspi_credssp.specs.Context.{ContextSetting}
-use Rattle.sspi_credssp.specs.Credentials.{delegated_identity}
-use Rattle.sspi_credssp.specs.Heeded.{NeverRefuses, ServerMeetsOld}
-use Rattle.sspi_credssp.specs.Noted.{differs, is_old}
+use Rattle.sspi_credssp.specs.Context.{BeginCause, unmade, unacquired, IfContext, MadeOr, ContextSetting, NeverRefuses}
+use Rattle.sspi_credssp.specs.Exchange.{delegated_identity}
+use Rattle.sspi_credssp.specs.Noted.{ServerMeetsOld, differs, is_old}
 use Rattle.sspi_credssp.specs.Proxy.{ProxyMeaning, ProxyTells}
-use Rattle.sspi_credssp.specs.Server.{ServerView}
+use Rattle.sspi_credssp.specs.Ends.{ServerView}
 use Rattle.sspi_credssp.specs.ServerCause.{ServerCause, MakeCause, unlisted, unbegun, ListRefused, StateCause, NegoCause, OverCause}
 use Rattle.sspi_credssp.specs.ServerCause.{unknown, incomplete, known, AfterCause, ExchangeCause, BlobCause}
 use Rattle.sspi_credssp.specs.ServerCause.{OpenedCause, UnreadCause, unread, IdentifyCause, nameless, looked, unset}
 use Rattle.sspi_credssp.specs.ServerCause.{LookUpRefused, failed, nobody}
-use Rattle.sspi_credssp.specs.ServerStep.{server_args, Knowing, Unknown, Identified, Accepted, accepted, identified, completed}
-use Rattle.sspi_credssp.specs.ServerStep.{recounted, OnStep, RefusedAt, HasAccepted, HasAcceptedTurn, refused_step}
+use Rattle.sspi_credssp.specs.ServerTurn.{server_args, Knowing, Unknown, Identified, Accepted, accepted, identified, completed, recounted}
+use Rattle.sspi_credssp.specs.ServerTurn.{OnStep, RefusedAt, HasAccepted, HasAcceptedTurn, refused_step}
 use Rattle.sspi_credssp.proofs.ClientHeeding.{IsOther, each_other, not_here, here, blob_never, proof_never}
 use Rattle.sspi_credssp.proofs.CredentialRefusals.{refused_so, so_read}
 

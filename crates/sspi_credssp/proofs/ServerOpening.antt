@@ -8,13 +8,12 @@ use Rattle.sspi_mech.specs.declared.refusal.Refusal.{Refusal}
 use Rattle.sspi_mech.specs.Refusals.{error_of}
 use Rattle.sspi_mech.specs.Answered.{answered}
 use Rattle.sspi_credssp.specs.declared.acts.Acts.{Acts}
-use Rattle.sspi_credssp.specs.Acts.{no_acts, count_of}
+use Rattle.sspi_credssp.specs.Acts.{no_acts, count_of, sealings_in, unsealings_in, SameBut}
 use Rattle.sspi_credssp.specs.Context.{ContextSetting}
-use Rattle.sspi_credssp.specs.Counts.{sealings_in, unsealings_in, SameBut}
 use Rattle.sspi_credssp.specs.Exchange.{OpensIdentity, BlobStops}
 use Rattle.sspi_credssp.specs.Opened.{Opens, IsSealedBlob}
 use Rattle.sspi_credssp.specs.Requests.{IsLong}
-use Rattle.sspi_credssp.specs.Server.{ServerView}
+use Rattle.sspi_credssp.specs.Ends.{ServerView}
 use Rattle.sspi_credssp.specs.ServerCause.{OpenedCause}
 use Rattle.sspi_credssp.specs.ServerTurn.{HoldsIdentity}
 use Rattle.sspi_credssp.specs.ServerStage.{ServerOpens, ServerOpensBlob}

@@ -1,12 +1,12 @@
 -- A turn of the server that is under way stays so over a step of its context, and while the context only counts.
 use Rattle.std.proofs.Common.{◌≡◌, ℕ, List, Some, refl, sym, ◌∙◌}
-use Rattle.sspi_mech.specs.Context.{IsUnused}
+use Rattle.sspi_mech.specs.Calls.{IsUnused}
 use Rattle.sspi_mech.specs.Meaning.{Meaning}
 use Rattle.sspi_tsreq.specs.declared.request.TsRequest.{TsRequest}
 use Rattle.sspi_credssp.specs.declared.acts.Acts.{Acts}
 use Rattle.sspi_credssp.specs.declared.state.CredSspState.TheVariants.{NegoToken}
 use Rattle.sspi_credssp.specs.Context.{ContextSetting}
-use Rattle.sspi_credssp.specs.Server.{ServerView}
+use Rattle.sspi_credssp.specs.Ends.{ServerView}
 use Rattle.sspi_credssp.specs.ServerStage.{IsReady}
 use Rattle.sspi_credssp.proofs.ClientReady.{still_unspent}
 

@@ -11,8 +11,8 @@ use Rattle.sspi_credssp.specs.declared.server_state.ServerState.TheVariants.{Rep
 use Rattle.sspi_credssp.specs.declared.state.CredSspState.{CredSspState}
 use Rattle.sspi_credssp.specs.declared.state.CredSspState.TheVariants.{NegoToken, PubKeyInfo, AuthInfo, Final}
 use Rattle.sspi_credssp.specs.Context.{ContextSetting}
-use Rattle.sspi_credssp.specs.ErrorRequest.{error_request}
-use Rattle.sspi_credssp.specs.Server.{ServerView}
+use Rattle.sspi_credssp.specs.Requests.{error_request}
+use Rattle.sspi_credssp.specs.Ends.{ServerView}
 use Rattle.sspi_credssp.specs.ServerTurn.{ServerTurn, ServerGoes}
 use Rattle.sspi_credssp.specs.ServerStage.{HaltedTurn, answered_by}
 use Rattle.sspi_credssp.specs.declared.turn.Outcome.TheVariants as outcome

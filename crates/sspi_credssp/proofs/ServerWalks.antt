@@ -8,15 +8,14 @@ use Rattle.sspi_tsreq.specs.declared.request.TsRequest.{TsRequest}
 use Rattle.sspi_mech.specs.declared.step.Step.{Step}
 use Rattle.sspi_mech.specs.Context.{IsContext}
 use Rattle.sspi_mech.specs.Meaning.{Meaning}
-use Rattle.sspi_credssp.specs.Begun.{IfContext}
-use Rattle.sspi_credssp.specs.Context.{ContextSetting}
-use Rattle.sspi_credssp.specs.Counts.{SameBut}
+use Rattle.sspi_credssp.specs.Context.{IfContext, ContextSetting}
+use Rattle.sspi_credssp.specs.Acts.{SameBut}
 use Rattle.sspi_credssp.specs.Proxy.{ProxyMeaning}
-use Rattle.sspi_credssp.specs.Server.{ServerView}
-use Rattle.sspi_credssp.specs.ServerStep.{Knowing, Unknown, Completed, Accepted, AcceptedSoFar, RefusedAt, HasAccepted}
+use Rattle.sspi_credssp.specs.Ends.{ServerView}
+use Rattle.sspi_credssp.specs.ServerTurn.{Knowing, Unknown, Completed, Accepted, AcceptedSoFar, RefusedAt, HasAccepted, HasCome, DoneStep}
+use Rattle.sspi_credssp.specs.ServerTurn.{OnStep, refused_step, known_at, recounted, so_far}
 use Rattle.sspi_credssp.specs.ServerStage.{CompletedStep}
-use Rattle.sspi_credssp.specs.ServerStep.{HasCome, DoneStep, OnStep, refused_step, known_at, recounted, so_far}
-use Rattle.sspi_credssp.specs.Shown.{IsOver}
+use Rattle.sspi_credssp.specs.Turn.{IsOver}
 use Rattle.sspi_credssp.proofs.Walks.{recounted_as, silent_as}
 
 module _ {C P : Type 0} (c : Meaning ContextSetting C) (laws : IsContext c) (p : ProxyMeaning P) where

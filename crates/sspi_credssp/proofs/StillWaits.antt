@@ -12,17 +12,15 @@ use Rattle.sspi_mech.specs.Meaning.{Meaning}
 use Rattle.sspi_credssp.specs.declared.acts.Acts.{Acts}
 use Rattle.sspi_credssp.specs.declared.client_state.Progress.{Progress}
 use Rattle.sspi_credssp.specs.declared.state.CredSspState.TheVariants.{NegoToken}
-use Rattle.sspi_credssp.specs.Acts.{no_acts}
-use Rattle.sspi_credssp.specs.Client.{ClientView}
+use Rattle.sspi_credssp.specs.Acts.{no_acts, is_waiting_in}
+use Rattle.sspi_credssp.specs.Ends.{ClientView}
 use Rattle.sspi_credssp.specs.ClientCall.{Awaits}
 use Rattle.sspi_credssp.specs.ClientStage.{KeepsRequest}
-use Rattle.sspi_credssp.specs.ClientStep.{Asked, StepsTo, Walked, still_asked}
+use Rattle.sspi_credssp.specs.ClientTurn.{Asked, StepsTo, Walked, still_asked, IsReady, IsUnderway}
 use Rattle.sspi_mech.specs.declared.refusal.Refusal.{Refusal}
 use Rattle.sspi_mech.specs.Refusals.{error_of}
 use Rattle.sspi_mech.specs.Answered.{answered}
-use Rattle.sspi_credssp.specs.ClientTurn.{IsReady, IsUnderway}
 use Rattle.sspi_credssp.specs.Context.{ContextSetting}
-use Rattle.sspi_credssp.specs.Counts.{is_waiting_in}
 use Rattle.sspi_credssp.proofs.ClientReady.{ready_stepped, ready_forgot}
 
 module _ {C : Type 0} (c : Meaning ContextSetting C) (laws : IsContext c) where

@@ -4,11 +4,10 @@ use Rattle.sspi_names.specs.declared.credentials.CredentialsBuffers.{Credentials
 use Rattle.sspi_mech.specs.declared.step.Answer.{Answer}
 use Rattle.sspi_mech.specs.Context.{IsContext}
 use Rattle.sspi_mech.specs.Meaning.{Meaning}
-use Rattle.sspi_credssp.specs.Begun.{IfContext}
-use Rattle.sspi_credssp.specs.Client.{ClientView}
-use Rattle.sspi_credssp.specs.ClientStep.{Asked, Walked, recounted}
-use Rattle.sspi_credssp.specs.Context.{ContextSetting}
-use Rattle.sspi_credssp.specs.Counts.{SameBut, silent, cleared}
+use Rattle.sspi_credssp.specs.Context.{IfContext, ContextSetting}
+use Rattle.sspi_credssp.specs.Ends.{ClientView}
+use Rattle.sspi_credssp.specs.ClientTurn.{Asked, Walked, recounted}
+use Rattle.sspi_credssp.specs.Acts.{SameBut, silent, cleared}
 
 -- two contexts that differ in their counts alone
 pub recounted_as : {S C : Type 0} (c : Meaning S C) → IsContext c → (m m2 : C) →

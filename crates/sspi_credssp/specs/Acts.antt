@@ -1,5 +1,7 @@
--- What an end did on its security context in one call.
-use Rattle.std.specs.Prelude.{ℕ, ◌+◌, Bool, true, false, None}
+-- What an end did on its security context in one call, and how many messages a context has made and taken.
+use Rattle.std.specs.Prelude.{ℕ, ◌+◌, Bool, true, false, None, ◌≡◌, List, Option, Some}
+use Rattle.sspi_mech.specs.Calls.{Counts, IsUnused}
+use Rattle.sspi_mech.specs.Meaning.{Meaning}
 use Rattle.sspi_credssp.specs.declared.acts.Acts.{Acts}
 
 abbrev pub no_acts : Acts
@@ -15,3 +17,50 @@ sealings_by acts = count_of acts.proved + count_of acts.sealed
 
 abbrev pub unsealings_by : Acts → ℕ
 unsealings_by acts = count_of acts.checked + count_of acts.opened
+
+-- ---- what a context counts, where there is one
+
+-- of one that sealed and opened nothing, and made and took as many MICs
+abbrev pub silent : Counts → Counts
+silent n = record n { sealings = 0; unsealings = 0 }
+
+module _ {S C : Type 0} (c : Meaning S C) where
+  abbrev pub sealings_in : Option C → ℕ
+  sealings_in None = 0
+  sealings_in (Some m) = (c.counts m).sealings
+
+  abbrev pub unsealings_in : Option C → ℕ
+  unsealings_in None = 0
+  unsealings_in (Some m) = (c.counts m).unsealings
+
+  -- nothing was sealed or opened
+  abbrev pub IsUnusedIn : Option C → Type 0
+  IsUnusedIn None = Unit {0}
+  IsUnusedIn (Some m) = IsUnused (c.counts m)
+
+  -- the context but for what it sealed and opened
+  abbrev pub cleared : C → C
+  cleared m = c.counted m (silent (c.counts m))
+
+  -- the same context, but for what it sealed and opened
+  abbrev pub SameBut : Option C → Option C → Type 0
+  SameBut None None = Unit {0}
+  SameBut (Some m) (Some m2) = cleared m2 ≡ cleared m
+  SameBut context other = ⊥
+
+  -- the blob is the text, sealed or opened as the context's message of that number
+  abbrev pub SealsIn : Option C → ℕ → List ℕ → Option (List ℕ) → Type 0
+  SealsIn (Some m) n text (Some blob) = c.seals m n text blob
+  SealsIn context n text sealed = ⊥
+
+  abbrev pub OpensIn : Option C → ℕ → Option (List ℕ) → List ℕ → Type 0
+  OpensIn (Some m) n (Some blob) text = c.opens m n blob text
+  OpensIn context n sealed text = ⊥
+
+  abbrev pub is_waiting_in : Option C → Bool
+  is_waiting_in None = false
+  is_waiting_in (Some m) = c.waits m
+
+  abbrev pub left_in : Option C → ℕ
+  left_in None = 0
+  left_in (Some m) = c.left m

@@ -8,15 +8,12 @@ use Rattle.sspi_mech.specs.declared.step.Reply.{Reply}
 use Rattle.sspi_mech.specs.Meaning.{Meaning}
 use Rattle.sspi_tsreq.specs.declared.request.TsRequest.{TsRequest}
 use Rattle.sspi_credssp.specs.declared.client_state.Progress.{Progress}
-use Rattle.sspi_credssp.specs.Acts.{no_acts}
-use Rattle.sspi_credssp.specs.Client.{ClientView}
+use Rattle.sspi_credssp.specs.Acts.{no_acts, is_waiting_in, left_in}
+use Rattle.sspi_credssp.specs.Ends.{ClientView}
 use Rattle.sspi_credssp.specs.ClientCause.{ClientCause, ResumeCause, status_of}
-use Rattle.sspi_credssp.specs.ClientStep.{Asked, HasStepped, StepsTo, OnSuspended}
-use Rattle.sspi_credssp.specs.ClientTurn.{ClientGoes, IsUnderway}
+use Rattle.sspi_credssp.specs.ClientTurn.{Asked, HasStepped, StepsTo, OnSuspended, ClientGoes, IsUnderway}
 use Rattle.sspi_credssp.specs.Context.{ContextSetting}
-use Rattle.sspi_credssp.specs.Counts.{is_waiting_in, left_in}
-use Rattle.sspi_credssp.specs.Heeded.{ClientHeeds}
-use Rattle.sspi_credssp.specs.Noted.{is_altered_in}
+use Rattle.sspi_credssp.specs.Noted.{ClientHeeds, is_altered_in}
 use Rattle.sspi_credssp.specs.Refusal.{IsRefusedBy}
 use Rattle.sspi_credssp.specs.Requests.{is_code}
 

@@ -14,16 +14,12 @@ use Rattle.sspi_mech.specs.Meaning.{Meaning}
 use Rattle.sspi_credssp.specs.declared.public_key.EndpointType.TheVariants.{Client, Server}
 use Rattle.sspi_credssp.specs.declared.state.CredSspState.{CredSspState}
 use Rattle.sspi_credssp.specs.declared.state.CredSspState.TheVariants.{NegoToken, PubKeyInfo, AuthInfo, Final}
-use Rattle.sspi_credssp.specs.Begun.{BeginCause, MadeOr}
-use Rattle.sspi_credssp.specs.Client.{ClientView}
-use Rattle.sspi_credssp.specs.Context.{ContextSetting, ForClient}
-use Rattle.sspi_credssp.specs.Counts.{is_waiting_in}
-use Rattle.sspi_credssp.specs.Credentials.{delegated_text}
-use Rattle.sspi_credssp.specs.Exchange.{BlobStops, ProofCause}
-use Rattle.sspi_credssp.specs.Noted.{is_altered_in, is_old_in}
-use Rattle.sspi_credssp.specs.PublicKey.{prescribed}
+use Rattle.sspi_credssp.specs.Context.{BeginCause, MadeOr, ContextSetting, ForClient}
+use Rattle.sspi_credssp.specs.Ends.{ClientView}
+use Rattle.sspi_credssp.specs.Acts.{is_waiting_in}
+use Rattle.sspi_credssp.specs.Exchange.{delegated_text, BlobStops, ProofCause, prescribed}
+use Rattle.sspi_credssp.specs.Noted.{is_altered_in, is_old_in, StopsIf}
 use Rattle.sspi_credssp.specs.Requests.{is_code}
-use Rattle.sspi_credssp.specs.Stops.{StopsIf}
 
 module _ {C : Type 0} (c : Meaning ContextSetting C) where
   -- the NTSTATUS code of a refusal: the peer's error code, where that is the reason

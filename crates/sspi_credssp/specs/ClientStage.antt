@@ -6,17 +6,15 @@ use Rattle.sspi_tsreq.specs.declared.request.TsRequest.{TsRequest}
 use Rattle.sspi_mech.specs.declared.step.Progressing.{Progressing}
 use Rattle.sspi_mech.specs.Meaning.{Meaning}
 use Rattle.sspi_credssp.specs.declared.acts.Acts.{Acts}
-use Rattle.sspi_credssp.specs.Client.{ClientView}
+use Rattle.sspi_credssp.specs.Ends.{ClientView}
 use Rattle.sspi_credssp.specs.Context.{ContextSetting}
-use Rattle.sspi_credssp.specs.Counts.{SameBut, is_waiting_in, sealings_in, SealsIn, unsealings_in, OpensIn}
+use Rattle.sspi_credssp.specs.Acts.{SameBut, is_waiting_in, sealings_in, SealsIn, unsealings_in, OpensIn, no_acts, count_of}
 use Rattle.sspi_credssp.specs.declared.client_state.ClientState.{ClientState}
-use Rattle.sspi_credssp.specs.Credentials.{delegated_text, IfText}
+use Rattle.sspi_credssp.specs.Exchange.{delegated_text, IfText, prescribed}
 use Rattle.sspi_credssp.specs.declared.turn.Outcome.TheVariants as outcome
 use Rattle.sspi_credssp.specs.ClientTurn.{ClientTurn, CompletedTurn}
 use Rattle.sspi_credssp.specs.Requests.{IsLong}
-use Rattle.sspi_credssp.specs.Acts.{no_acts, count_of}
 use Rattle.sspi_credssp.specs.declared.public_key.EndpointType.TheVariants.{Client, Server}
-use Rattle.sspi_credssp.specs.PublicKey.{prescribed}
 use Rattle.sspi_credssp.specs.Turn.{AtNoted}
 
 module _ {C : Type 0} (c : Meaning ContextSetting C) where

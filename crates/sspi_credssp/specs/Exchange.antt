@@ -1,12 +1,86 @@
--- What is opened of a peer, and what an end answers to it.
-use Rattle.std.specs.Prelude.{◌≢◌, ◌≡◌, ℕ, ◌-◌, List, length, Bool, Option, None, Some, Ok, true, nat_lt, false}
+-- What the ends seal for each other: the proofs that bind the delegation to the TLS channel, over the server's public key
+-- (MS-CSSP 3.1.5, pubKeyAuth), and the credentials; and what comes of opening them.
+use Rattle.std.specs.Prelude.{ℕ, zero, suc, ◌+◌, ◌-◌, ◌*◌, ◌/◌, ◌%◌, ◌^◌, List, [], ◌∷◌, ◌++◌, length, codes, nat_lt, if◌then◌else◌, Option}
+use Rattle.std.specs.Prelude.{None, Some, Result, Ok, Err, ◌≢◌, ◌≡◌, Bool, true, false}
+use Rattle.sha2.specs.Sha256.{sha256}
+use Rattle.sspi_types.specs.declared.error.Error.{Error}
 use Rattle.sspi_types.specs.declared.error_kind.ErrorKind.{ErrorKind}
 use Rattle.sspi_types.specs.declared.error_kind.ErrorKind.TheVariants.{InvalidToken, MessageAltered}
+use Rattle.sspi_names.specs.declared.credentials.Credentials.{Credentials}
+use Rattle.sspi_names.specs.declared.credentials.CredentialsBuffers.{CredentialsBuffers}
+use Rattle.sspi_names.specs.declared.credentials.CredentialsBuffers.TheVariants as buffered
 use Rattle.sspi_names.specs.declared.identity.AuthIdentity.{AuthIdentity}
-use Rattle.sspi_mech.specs.Meaning.{Meaning}
+use Rattle.sspi_names.specs.Identity.{credentials_buffers_of, identity_of}
+use Rattle.sspi_names.specs.Name.{bad_name}
+use Rattle.sspi_tsreq.specs.declared.mode.CredSspMode.{CredSspMode}
+use Rattle.sspi_tsreq.specs.Creds.{creds_text, creds_of, malformed}
 use Rattle.sspi_mech.specs.Calls.{ToUnseal}
-use Rattle.sspi_credssp.specs.Credentials.{delegated_identity}
-use Rattle.sspi_credssp.specs.Stops.{StopsIf}
+use Rattle.sspi_mech.specs.Meaning.{Meaning}
+use Rattle.sspi_credssp.specs.declared.public_key.EndpointType.{EndpointType}
+use Rattle.sspi_credssp.specs.declared.public_key.EndpointType.TheVariants.{Client, Server}
+use Rattle.sspi_credssp.specs.Noted.{StopsIf}
+
+-- ---- the proofs
+
+-- the number that the bytes spell, the first byte the lowest
+abbrev pub little_endian : List ℕ → ℕ
+little_endian [] = 0
+little_endian (b ∷ bs) = b + 256 * little_endian bs
+
+-- the bytes, as many as the first number says, that spell the second number modulo 256 to the first
+abbrev pub bytes_of : ℕ → ℕ → List ℕ
+bytes_of zero number = []
+bytes_of (suc n) number = (number % 256) ∷ bytes_of n (number / 256)
+
+-- the bytes of the next number, modulo 256 to their count
+unfoldable pub incremented : List ℕ → List ℕ
+incremented bytes = bytes_of (length bytes) (little_endian bytes + 1)
+
+-- the bytes of the number before, modulo 256 to their count
+unfoldable pub decremented : List ℕ → List ℕ
+decremented bytes = bytes_of (length bytes) (little_endian bytes + (256 ^ length bytes - 1))
+
+-- the text that begins what an end hashes from version 5 on, its final zero byte included
+abbrev pub magic : EndpointType → List ℕ
+magic Client = codes "CredSSP Client-To-Server Binding Hash" ++ 0 ∷ []
+magic Server = codes "CredSSP Server-To-Client Binding Hash" ++ 0 ∷ []
+
+-- what an end sends of the key below version 5: the client the key itself, the server the next number
+abbrev pub echo : EndpointType → List ℕ → List ℕ
+echo Client key = key
+echo Server key = incremented key
+
+-- the text that an end seals as its proof, by the version that its peer speaks
+unfoldable pub prescribed : EndpointType → ℕ → List ℕ → List ℕ → List ℕ
+prescribed end version nonce key =
+    if nat_lt version 5 then echo end key else sha256 (magic end ++ nonce ++ key)
+
+-- ---- the credentials
+
+-- the text of these credentials in this mode, or their refusal
+unfoldable pub delegated_text : Credentials → CredSspMode → Result (List ℕ) Error
+delegated_text credentials mode = creds_text (credentials_buffers_of credentials) mode
+
+-- the identity of buffers; those of a text are never a keytab's
+abbrev pub named_or_refused : Option AuthIdentity → Result AuthIdentity Error
+named_or_refused (Some identity) = Ok identity
+named_or_refused None = Err bad_name
+
+abbrev pub identity_in : Result CredentialsBuffers Error → Result AuthIdentity Error
+identity_in (Ok (buffered.AuthIdentity buffers)) = named_or_refused (identity_of buffers)
+identity_in (Ok (buffered.Keytab identity)) = Err malformed
+identity_in (Err error) = Err error
+
+-- the identity that a text delegates, or its refusal
+unfoldable pub delegated_identity : List ℕ → Result AuthIdentity Error
+delegated_identity text = identity_in (creds_of text)
+
+-- a fact of the text, where there is one
+abbrev pub IfText : Result (List ℕ) Error → (List ℕ → Type 0) → Type 0
+IfText (Ok text) P = P text
+IfText (Err error) P = ⊥
+
+-- ---- what is opened of a peer, and what an end answers to it
 
 -- a field that is absent, or too short to hold a seal, is refused; else it goes on
 abbrev pub BlobStops : Option (List ℕ) → ErrorKind → (List ℕ → Type 0) → Type 0

@@ -1,13 +1,24 @@
 -- The version that an end notes of its peer: the first that it looks at, unless that is too old. Both ends look at a version
 -- in the same way. A client looks at that of each request but its first, which it makes itself; a server once it has a context.
-use Rattle.std.specs.Prelude.{ℕ, ◌==◌, Option, None, Some, Bool, false, not, nat_lt, if◌then◌else◌}
+use Rattle.std.specs.Prelude.{◌≡◌, Bool, true, false, ℕ, ◌==◌, Option, None, Some, not, nat_lt, if◌then◌else◌, [], Result}
+use Rattle.std.specs.Prelude.{IsErrAnd, IsSome}
+use Rattle.sspi_types.specs.declared.error.Error.{Error}
 use Rattle.sspi_types.specs.declared.error_kind.ErrorKind.{ErrorKind}
 use Rattle.sspi_types.specs.declared.error_kind.ErrorKind.TheVariants.{DowngradeDetected, MessageAltered}
-use Rattle.sspi_credssp.specs.Stops.{StopsIf}
+use Rattle.sspi_tsreq.specs.declared.request.TsRequest.{TsRequest}
+use Rattle.sspi_mech.specs.Meaning.{Meaning}
+use Rattle.sspi_credssp.specs.declared.client_state.Progress.{Progress}
+use Rattle.sspi_credssp.specs.declared.server_state.ServerError.{ServerError}
+use Rattle.sspi_credssp.specs.declared.server_state.ServerState.{ServerState}
+use Rattle.sspi_credssp.specs.Acts.{no_acts, is_waiting_in}
+use Rattle.sspi_credssp.specs.Context.{ContextSetting, NeverRefuses}
+use Rattle.sspi_credssp.specs.Ends.{ClientView, ServerView}
+use Rattle.sspi_credssp.specs.Requests.{is_code}
 
--- the least version of a peer that an end takes unless it is told another: below it the proof of the key is no hash of it
-abbrev pub default_least : ℕ
-default_least = 5
+-- where the test holds a turn stops with this kind, else it goes on
+abbrev pub StopsIf : Bool → ErrorKind → ErrorKind → Type 0 → Type 0
+StopsIf true here kind Later = kind ≡ here
+StopsIf false here kind Later = Later
 
 -- no version is noted yet, and this one is below the least that the end takes
 abbrev pub is_old : ℕ → Option ℕ → ℕ → Bool
@@ -41,3 +52,33 @@ is_altered_in (Some m) noted version = differs noted version
 abbrev pub noted_in : {C : Type 0} → Option C → ℕ → Option ℕ → ℕ → Option ℕ
 noted_in None least noted version = noted
 noted_in (Some m) least noted version = noted_with least noted version
+
+-- ---- Where a call refuses its peer's version for its age. A context may itself refuse with that kind; the plain mechanisms never do.
+
+module _ {C : Type 0} (c : Meaning ContextSetting C) where
+  -- the client comes to look at a version, has noted none, and would note one below its least
+  pub record ClientMeetsOld (client : ClientView C) (d : TsRequest) : Type 0 where
+    pub idle : is_waiting_in c client.context ≡ false
+    pub code : is_code d.error_code ≡ false
+    pub old : is_old_in client.context client.settings.least client.noted d.version ≡ true
+
+  -- exactly there it refuses with that kind, and then only forgets its last call
+  pub record ClientHeeds (client : ClientView C) (d : TsRequest) (result : Result Progress Error) (new : ClientView C) : Type 0 where
+    pub refuses : ClientMeetsOld client d →
+        IsErrAnd result (λ error. error.error_type ≡ DowngradeDetected) × (new ≡ record client { acts = no_acts; output = [] })
+    pub only : NeverRefuses c DowngradeDetected → IsErrAnd result (λ error. error.error_type ≡ DowngradeDetected) → ClientMeetsOld client d
+
+  module _ {P : Type 0} where
+    -- the server has a context, or has made one, has noted no version, and would note one below its least
+    pub record ServerMeetsOld (server : ServerView C P) (d : TsRequest) (new : ServerView C P) : Type 0 where
+      pub begun : IsSome new.context
+      pub old : is_old server.settings.least server.noted d.version ≡ true
+
+    -- exactly there it refuses with that kind, and then has at most a new context
+    pub record ServerHeeds (server : ServerView C P) (d : TsRequest) (result : Result ServerState ServerError)
+        (new : ServerView C P) : Type 0 where
+      pub refuses : ServerMeetsOld server d new →
+          IsErrAnd result (λ refusal. refusal.error.error_type ≡ DowngradeDetected)
+          × (new ≡ record server { proxy = new.proxy; context = new.context; handle = new.handle; acts = no_acts; output = [] })
+      pub only : NeverRefuses c DowngradeDetected →
+          IsErrAnd result (λ refusal. refusal.error.error_type ≡ DowngradeDetected) → ServerMeetsOld server d new

@@ -3,8 +3,7 @@ use Rattle.std.specs.Prelude.{◌≡◌, ℕ, ◌-◌, ◌+◌, ◌≤◌, List,
 use Rattle.sspi_mech.specs.Calls.{one_unsealing}
 use Rattle.sspi_mech.specs.Meaning.{Meaning}
 use Rattle.sspi_credssp.specs.declared.acts.Acts.{Acts}
-use Rattle.sspi_credssp.specs.Acts.{count_of}
-use Rattle.sspi_credssp.specs.Counts.{cleared}
+use Rattle.sspi_credssp.specs.Acts.{count_of, cleared}
 use Rattle.sspi_credssp.specs.Exchange.{OpensOther}
 
 -- the field holds this blob, which is long enough to hold a seal

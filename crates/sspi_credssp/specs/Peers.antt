@@ -1,12 +1,10 @@
 -- The peers that a server knows when its context is made: what a negotiation is made with lists them by the proxy.
-use Rattle.std.specs.Prelude.{ℕ, List, [], Option, None, Some}
+use Rattle.std.specs.Prelude.{List, [], Option}
 use Rattle.sspi_names.specs.declared.identity.AuthIdentity.{AuthIdentity}
 use Rattle.sspi_mech.specs.Meaning.{Meaning}
 use Rattle.sspi_negotiate.specs.declared.negotiate_config.NegotiateConfig.{NegotiateConfig}
 use Rattle.sspi_negotiate.specs.New.{NegotiateSetting, ForClient, ForServer}
 use Rattle.sspi_negotiate.specs.Values.{Negotiation}
-use Rattle.sspi_credssp.specs.declared.mode.ServerMode.{ServerMode}
-use Rattle.sspi_credssp.specs.declared.mode.ServerMode.TheVariants as modes
 use Rattle.sspi_credssp.specs.Proxy.{IsTold}
 
 -- what a negotiation is made of: on a server also the entries of its proxy, where it tells them
@@ -51,13 +49,3 @@ knowing c = record {
   entry = c.entry;
   sizes = c.sizes;
 }
-
--- how often making a server's context asks the proxy for its list, and how often a turn does, which makes the context only
--- where there is none
-abbrev pub list_calls : ServerMode → ℕ
-list_calls (modes.Negotiate config) = 1
-list_calls (modes.Ntlm config) = 0
-
-abbrev pub lists_in : {C : Type 0} → Option C → ServerMode → ℕ
-lists_in None mode = list_calls mode
-lists_in (Some m) mode = 0

@@ -1,12 +1,17 @@
--- What a proxy tells of itself, and what a call of it does.
-use Rattle.std.specs.Prelude.{◌≡◌, ℕ, zero, suc, ◌+◌, ◌<◌, ◌≤◌, ◌==◌, List, [], find, filter, Option, None, Some}
-use Rattle.std.specs.Prelude.{Result, Ok, Err, Bool, true, false}
+-- What a proxy tells of itself, what a call of it does, and how often a server asks it.
+use Rattle.std.specs.Prelude.{◌≡◌, ℕ, zero, suc, ◌+◌, ◌<◌, ◌≤◌, ◌==◌, List, [], find, filter, Option, None, Some, Result, Ok}
+use Rattle.std.specs.Prelude.{Err, Bool, true, false, OnOk}
 use Rattle.std.specs.List.{list_any}
+use Rattle.sspi_types.specs.declared.security_status.SecurityStatus.{SecurityStatus}
+use Rattle.sspi_types.specs.declared.security_status.SecurityStatus.TheVariants as statuses
 use Rattle.sspi_types.specs.Counting.{counted_on}
 use Rattle.sspi_names.specs.declared.identity.AuthIdentity.{AuthIdentity}
 use Rattle.sspi_names.specs.Name.{Name, equals_ignoring_case}
+use Rattle.sspi_credssp.specs.declared.mode.ServerMode.{ServerMode}
+use Rattle.sspi_credssp.specs.declared.mode.ServerMode.TheVariants as modes
 use Rattle.sspi_credssp.specs.declared.proxy.ProxyError.{ProxyError}
 use Rattle.sspi_credssp.specs.declared.proxy.ProxyError.TheVariants.{NotFound, Failed, InsufficientMemory}
+use Rattle.sspi_credssp.specs.Ends.{ServerView}
 
 -- what a proxy tells of itself; no call changes that
 pub record ProxyTells : Type 0 where
@@ -120,3 +125,30 @@ module _ {P : Type 0} (p : ProxyMeaning P) where
   pub record HasAsked (n : ℕ) (before now : P) : Type 0 where
     pub counted : p.calls now ≡ counted_after n (p.calls before)
     pub unfailing : (i : ℕ) → i < n → FailsAfter i before → ⊥
+
+-- ---- How often a server's turn asks its proxy.
+
+-- how often making a server's context asks the proxy for its list, and how often a turn does, which makes the context only
+-- where there is none
+abbrev pub list_calls : ServerMode → ℕ
+list_calls (modes.Negotiate config) = 1
+list_calls (modes.Ntlm config) = 0
+
+abbrev pub lists_in : {C : Type 0} → Option C → ServerMode → ℕ
+lists_in None mode = list_calls mode
+lists_in (Some m) mode = 0
+
+-- the peer is looked up once the step has ended the authentication, and at no other status
+abbrev pub look_ups_at : Option SecurityStatus → ℕ
+look_ups_at (Some statuses.Ok) = 1
+look_ups_at (Some statuses.CompleteNeeded) = 1
+look_ups_at other = 0
+
+-- all calls of a turn
+abbrev pub calls_in : {C P : Type 0} → ServerView C P → Option SecurityStatus → ℕ
+calls_in old status = lists_in old.context old.settings.mode + look_ups_at status
+
+-- a call asks at most so often, and exactly so often where it is not refused
+pub record Asks {P : Type 0} (p : ProxyMeaning P) {T E : Type 0} (n : ℕ) (result : Result T E) (before now : P) : Type 0 where
+  pub at_most : IsAsked p n before now
+  pub exactly : OnOk result (HasAsked p n before now)

@@ -5,17 +5,13 @@ use Rattle.sspi_tsreq.specs.declared.request.TsRequest.{TsRequest}
 use Rattle.sspi_credssp.specs.declared.server_state.ServerError.{ServerError}
 use Rattle.sspi_credssp.specs.declared.server_state.ServerState.{ServerState}
 use Rattle.sspi_credssp.specs.Acts.{no_acts}
-use Rattle.sspi_credssp.specs.Asks.{Asks}
+use Rattle.sspi_credssp.specs.Proxy.{Asks, ProxyMeaning, calls_in}
 use Rattle.sspi_credssp.specs.Context.{ContextSetting}
-use Rattle.sspi_credssp.specs.Heeded.{ServerHeeds}
-use Rattle.sspi_credssp.specs.Noted.{differs}
-use Rattle.sspi_credssp.specs.Proxy.{ProxyMeaning}
+use Rattle.sspi_credssp.specs.Noted.{ServerHeeds, differs}
 use Rattle.sspi_credssp.specs.Refusal.{IsTurnRefusedBy}
-use Rattle.sspi_credssp.specs.Server.{ServerView}
-use Rattle.sspi_credssp.specs.ServerAsks.{calls_in}
+use Rattle.sspi_credssp.specs.Ends.{ServerView}
 use Rattle.sspi_credssp.specs.ServerCause.{ServerCause}
-use Rattle.sspi_credssp.specs.ServerStep.{HasAcceptedTurn, MakesAlone}
-use Rattle.sspi_credssp.specs.ServerTurn.{ServerGoes}
+use Rattle.sspi_credssp.specs.ServerTurn.{HasAcceptedTurn, MakesAlone, ServerGoes}
 
 module _ {C P : Type 0} (c : Meaning ContextSetting C) (p : ProxyMeaning P) where
   -- what a call leaves alone: a client that changes its version moves nothing, a call that takes no step makes a context at

@@ -18,18 +18,14 @@ use Rattle.sspi_credssp.specs.declared.mode.ServerMode.TheVariants as modes
 use Rattle.sspi_credssp.specs.declared.public_key.EndpointType.TheVariants.{Client, Server}
 use Rattle.sspi_credssp.specs.declared.state.CredSspState.{CredSspState}
 use Rattle.sspi_credssp.specs.declared.state.CredSspState.TheVariants.{NegoToken, PubKeyInfo, AuthInfo, Final}
-use Rattle.sspi_credssp.specs.Begun.{BeginCause, IfContext, MadeOr}
-use Rattle.sspi_credssp.specs.Context.{ContextSetting, ForServer}
-use Rattle.sspi_credssp.specs.Credentials.{delegated_identity}
-use Rattle.sspi_credssp.specs.Exchange.{BlobStops, ProofCause}
-use Rattle.sspi_credssp.specs.Noted.{VersionStops}
+use Rattle.sspi_credssp.specs.Context.{BeginCause, IfContext, MadeOr, ContextSetting, ForServer}
+use Rattle.sspi_credssp.specs.Exchange.{delegated_identity, BlobStops, ProofCause, prescribed}
+use Rattle.sspi_credssp.specs.Noted.{VersionStops, StopsIf}
 use Rattle.sspi_types.specs.Counting.{counted_on}
 use Rattle.sspi_credssp.specs.Proxy.{ProxyMeaning, ProxyTells, AreFound}
-use Rattle.sspi_credssp.specs.PublicKey.{prescribed}
 use Rattle.sspi_credssp.specs.Requests.{nonce_of}
-use Rattle.sspi_credssp.specs.Server.{ServerView}
-use Rattle.sspi_credssp.specs.ServerStep.{Unknown, Identified, Completed, HasCome}
-use Rattle.sspi_credssp.specs.Stops.{StopsIf}
+use Rattle.sspi_credssp.specs.Ends.{ServerView}
+use Rattle.sspi_credssp.specs.ServerTurn.{Unknown, Identified, Completed, HasCome}
 
 -- from version 5 on the nonce must be there
 abbrev pub lacks_nonce : Bool → Option (List ℕ) → Bool

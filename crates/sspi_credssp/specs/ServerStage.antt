@@ -13,27 +13,22 @@ use Rattle.sspi_mech.specs.Meaning.{Meaning}
 use Rattle.sspi_mech.specs.declared.step.Step.{Step}
 use Rattle.sspi_credssp.specs.declared.acts.Acts.{Acts}
 use Rattle.sspi_credssp.specs.declared.state.CredSspState.TheVariants.{NegoToken}
-use Rattle.sspi_credssp.specs.Begun.{Begun, IfContext, OnContext}
-use Rattle.sspi_credssp.specs.Context.{ContextSetting}
+use Rattle.sspi_credssp.specs.Context.{Begun, IfContext, OnContext, ContextSetting}
 use Rattle.sspi_credssp.specs.Noted.{differs, is_old, noted_with}
 use Rattle.sspi_credssp.specs.Proxy.{ProxyMeaning, IsTold}
-use Rattle.sspi_credssp.specs.Server.{ServerView}
-use Rattle.sspi_credssp.specs.ServerStep.{server_setting, Completed, Accepted, AcceptedSoFar}
+use Rattle.sspi_credssp.specs.Ends.{ServerView}
+use Rattle.sspi_credssp.specs.ServerTurn.{server_setting, Completed, Accepted, AcceptedSoFar, HoldsIdentity, KeepsHandle, StartsUnused}
+use Rattle.sspi_credssp.specs.ServerTurn.{ServerTurn, IsUnstepped}
 use Rattle.sspi_credssp.specs.declared.mode.ServerMode.{ServerMode}
 use Rattle.sspi_credssp.specs.declared.mode.ServerMode.TheVariants as modes
 use Rattle.sspi_credssp.specs.declared.public_key.EndpointType.TheVariants.{Server}
 use Rattle.sspi_credssp.specs.declared.server_negotiation.Answer.{Answer}
 use Rattle.sspi_credssp.specs.declared.server_negotiation.Answer.TheVariants as answers
-use Rattle.sspi_credssp.specs.Acts.{no_acts, count_of}
-use Rattle.sspi_credssp.specs.Counts.{sealings_in, unsealings_in, SameBut, SealsIn}
-use Rattle.sspi_credssp.specs.ErrorRequest.{error_request, version_back}
-use Rattle.sspi_credssp.specs.PublicKey.{prescribed}
-use Rattle.sspi_credssp.specs.Requests.{IsLong, nonce_of}
-use Rattle.sspi_credssp.specs.Turn.{AtNoted, IsUnspent, OnceNegotiated}
+use Rattle.sspi_credssp.specs.Acts.{no_acts, count_of, sealings_in, unsealings_in, SameBut, SealsIn}
+use Rattle.sspi_credssp.specs.Requests.{error_request, version_back, IsLong, nonce_of}
+use Rattle.sspi_credssp.specs.Exchange.{prescribed}
+use Rattle.sspi_credssp.specs.Turn.{AtNoted, IsUnspent, OnceNegotiated, HasNonce, Proven}
 use Rattle.sspi_credssp.specs.declared.turn.Outcome.TheVariants as outcome
-use Rattle.sspi_credssp.specs.ServerTurn.{HoldsIdentity, KeepsHandle, StartsUnused, ServerTurn, IsUnstepped}
-use Rattle.sspi_credssp.specs.Shown.{HasNonce}
-use Rattle.sspi_credssp.specs.Held.{Proven}
 
 module _ {C : Type 0} (c : Meaning ContextSetting C) where
   module _ {P : Type 0} (p : ProxyMeaning P) where

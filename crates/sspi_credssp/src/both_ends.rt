@@ -2,11 +2,9 @@
 ghost use Rattle.std.specs.Prelude.{◌≡◌, ◌≢◌, [], OnOk, OnErr, IfErr};
 ghost use Rattle.std.specs.Option.{option_copied};
 ghost use Rattle.sspi_mech.specs.Calls.{ToAcquire};
-ghost use Rattle.sspi_mech.specs.Context.{IsUnused};
-ghost use Rattle.sspi_credssp.specs.Acts.{no_acts};
-ghost use Rattle.sspi_credssp.specs.Begun.{IfContext};
-ghost use Rattle.sspi_credssp.specs.Context.{either};
-ghost use Rattle.sspi_credssp.specs.Counts.{IsUnusedIn};
+ghost use Rattle.sspi_mech.specs.Calls.{IsUnused};
+ghost use Rattle.sspi_credssp.specs.Acts.{no_acts, IsUnusedIn};
+ghost use Rattle.sspi_credssp.specs.Context.{IfContext, either};
 
 use crate::acts::Acts;
 use crate::context::SspiContext;

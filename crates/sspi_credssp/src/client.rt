@@ -1,14 +1,12 @@
 ghost use Rattle.std.specs.Prelude.{◌≡◌, ◌≢◌, [], None, Some, true, false, IsSome, IfErr, OnOk, OnErr};
 ghost use Rattle.std.specs.Prelude.{length, string_bytes};
 ghost use Rattle.sspi_types.specs.declared.credential_use.CredentialUse.TheVariants as purposes;
-ghost use Rattle.sspi_credssp.specs.Acts.{no_acts};
-ghost use Rattle.sspi_credssp.specs.Client.{ClientView};
+ghost use Rattle.sspi_credssp.specs.Acts.{no_acts, IsUnusedIn, is_waiting_in, left_in};
+ghost use Rattle.sspi_credssp.specs.Ends.{ClientView};
 ghost use Rattle.sspi_credssp.specs.Context.{either, ForClient};
-ghost use Rattle.sspi_credssp.specs.Counts.{IsUnusedIn, is_waiting_in, left_in};
-ghost use Rattle.sspi_credssp.specs.Noted.{is_altered_in, is_old_in, noted_in};
+ghost use Rattle.sspi_credssp.specs.Noted.{is_altered_in, is_old_in, noted_in, StopsIf};
 ghost use Rattle.sspi_credssp.specs.Refused.{IsRefusedFor};
 ghost use Rattle.sspi_credssp.specs.Requests.{is_code};
-ghost use Rattle.sspi_credssp.specs.Stops.{StopsIf};
 ghost use Rattle.sspi_mech.specs.Answered.{answered};
 
 use crate::acts::Acts;
@@ -51,7 +49,7 @@ pub struct CredSspClient<N, K> {
 
 impl<N, K> Model for CredSspClient<N, K> {
     ghost use Rattle.sspi_credssp.specs.declared.context.SspiContext.{SspiContext};
-    ghost use Rattle.sspi_credssp.specs.Client.{ClientView, IsClientState};
+    ghost use Rattle.sspi_credssp.specs.Ends.{ClientView, IsClientState};
 
     ghost Value = { ClientView (SspiContext N K) };
 
@@ -79,7 +77,7 @@ impl<N, K> Model for CredSspClient<N, K> {
 }
 
 impl<N, K> CredSspClient<N, K> {
-    ghost use Rattle.sspi_credssp.specs.Client.{IsFreshClient, new_client};
+    ghost use Rattle.sspi_credssp.specs.Ends.{IsFreshClient, new_client};
 
     /// A client of version 6; else as `new_with_version`.
     pub fn new(
@@ -183,11 +181,10 @@ impl<N, K> CredSspClient<N, K> {
 }
 
 impl<N: Mechanism, K: Mechanism> CredSspClient<N, K> {
-    ghost use Rattle.sspi_credssp.specs.Begun.{Begun, BeginCause, IfContext, MadeOr};
+    ghost use Rattle.sspi_credssp.specs.Context.{Begun, BeginCause, IfContext, MadeOr};
     ghost use Rattle.sspi_credssp.specs.ClientCall.{ClientCall, ResumeCall};
     ghost use Rattle.sspi_credssp.specs.ClientCause.{StateCause};
-    ghost use Rattle.sspi_credssp.specs.ClientStep.{HasStepped};
-    ghost use Rattle.sspi_credssp.specs.ClientTurn.{ClientGoes, IsReady};
+    ghost use Rattle.sspi_credssp.specs.ClientTurn.{HasStepped, ClientGoes, IsReady};
 
     /// Whether a turn is suspended.
     pub fn waiting(&self) -> bool

@@ -4,10 +4,8 @@ ghost use Rattle.sspi_mech.specs.Calls.{one_sealing};
 ghost use Rattle.sspi_credssp.specs.Acts.{no_acts};
 ghost use Rattle.sspi_credssp.specs.ClientCause.{SealsCause, DeliverCause};
 ghost use Rattle.sspi_credssp.specs.Context.{either};
-ghost use Rattle.sspi_credssp.specs.Credentials.{delegated_text, IfText};
+ghost use Rattle.sspi_credssp.specs.Exchange.{delegated_text, IfText, ProofCause, prescribed};
 ghost use Rattle.sspi_credssp.specs.Opened.{Exchanges};
-ghost use Rattle.sspi_credssp.specs.Exchange.{ProofCause};
-ghost use Rattle.sspi_credssp.specs.PublicKey.{prescribed};
 ghost use Rattle.sspi_mech.specs.Answered.{answered};
 
 use crate::acts::Acts;
@@ -87,7 +85,7 @@ fn deliver<N: Mechanism, K: Mechanism>(
 }
 
 impl<N: Mechanism, K: Mechanism> CredSspClient<N, K> {
-    ghost use Rattle.sspi_credssp.specs.Client.{ClientView};
+    ghost use Rattle.sspi_credssp.specs.Ends.{ClientView};
     ghost use Rattle.sspi_credssp.specs.ClientTurn.{IsReady};
     ghost use Rattle.sspi_credssp.specs.ClientStage.{ClientAnswers, ClientDelivers};
 

@@ -3,12 +3,10 @@ ghost use Rattle.std.specs.Prelude.{◌≡◌, ◌≢◌, ◌<◌, ◌+◌, ℕ,
 ghost use Rattle.sspi_names.specs.declared.network.NetworkRequest.{NetworkRequest};
 ghost use Rattle.sspi_mech.specs.Answers.{answer_of, OnAsk};
 ghost use Rattle.sspi_mech.specs.declared.step.Answer.TheVariants as answers;
-ghost use Rattle.sspi_credssp.specs.Acts.{no_acts};
-ghost use Rattle.sspi_credssp.specs.Begun.{Begun, IfContext};
+ghost use Rattle.sspi_credssp.specs.Acts.{no_acts, SameBut, is_waiting_in, left_in};
+ghost use Rattle.sspi_credssp.specs.Context.{Begun, IfContext, either, ForClient};
 ghost use Rattle.sspi_credssp.specs.ClientCause.{NegoCause, ProveCause};
-ghost use Rattle.sspi_credssp.specs.ClientStep.{Asked, StepsTo, HasStepped, OnSuspended, client_requirements, client_args};
-ghost use Rattle.sspi_credssp.specs.Context.{either, ForClient};
-ghost use Rattle.sspi_credssp.specs.Counts.{SameBut, is_waiting_in, left_in};
+ghost use Rattle.sspi_credssp.specs.ClientTurn.{Asked, StepsTo, HasStepped, OnSuspended, client_requirements, client_args};
 ghost use Rattle.sspi_credssp.specs.Refused.{IsRefusedFor};
 ghost use Rattle.sspi_mech.specs.Answered.{answered};
 ghost use Rattle.sspi_types.specs.declared.credential_use.CredentialUse.TheVariants as purposes;
@@ -66,7 +64,7 @@ fn resume<N: Mechanism, K: Mechanism>(
 }
 
 impl<N: Mechanism, K: Mechanism> CredSspClient<N, K> {
-    ghost use Rattle.sspi_credssp.specs.Client.{ClientView};
+    ghost use Rattle.sspi_credssp.specs.Ends.{ClientView};
     ghost use Rattle.sspi_credssp.specs.ClientCall.{Awaits};
     ghost use Rattle.sspi_credssp.specs.ClientStage.{HasDone, HasGoneOn, KeepsStep, KeepsRequest, ClientAnswers, ClientProves};
     ghost use Rattle.sspi_credssp.specs.ClientTurn.{ClientGoes, IsReady};

@@ -7,7 +7,8 @@ ghost use Rattle.sspi_names.specs.declared.identity.AuthIdentity.{AuthIdentity};
 ghost use Rattle.sspi_credssp.specs.Refusal.{IsRefusedBy};
 ghost use Rattle.sspi_credssp.specs.Context.{either, has_password, ForClient, ForServer};
 ghost use Rattle.sspi_credssp.specs.ServerStage.{IsListed};
-ghost use Rattle.sspi_mech.specs.Context.{IsUnused, IsContext};
+ghost use Rattle.sspi_mech.specs.Context.{IsContext};
+ghost use Rattle.sspi_mech.specs.Calls.{IsUnused};
 ghost use Rattle.sspi_negotiate.specs.Identity.{is_refused_identity};
 ghost use Rattle.sspi_credssp.specs.PackageName.{package_name_of, protocol_of};
 

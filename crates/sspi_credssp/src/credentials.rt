@@ -1,6 +1,6 @@
 // The credentials inside authInfo (TSCredentials, MS-CSSP 2.2.1.2).
 ghost use Rattle.std.specs.Prelude.{◌≡◌, ◌≢◌, Ok, Err, IfOk, IfErr};
-ghost use Rattle.sspi_credssp.specs.Credentials.{delegated_text, delegated_identity};
+ghost use Rattle.sspi_credssp.specs.Exchange.{delegated_text, delegated_identity};
 ghost use Rattle.sspi_mech.specs.Refusals.{error_of};
 
 use sspi_mech::Refusal;

@@ -1,6 +1,6 @@
 ghost use Rattle.std.specs.Prelude.{◌≡◌, ◌≢◌};
 ghost use Rattle.sspi_types.specs.declared.error_kind.ErrorKind.{ErrorKind};
-ghost use Rattle.sspi_credssp.specs.ErrorRequest.{error_code_of};
+ghost use Rattle.sspi_credssp.specs.Requests.{error_code_of};
 
 use sspi_types::{Error, NStatusCode};
 

@@ -1,9 +1,8 @@
 // The identities that a negotiating server is made with.
 ghost use Rattle.std.specs.Prelude.{◌≡◌, ◌≢◌, ◌≤◌, IfOk, IfErr, OnOk};
-ghost use Rattle.sspi_credssp.specs.Peers.{list_calls};
+ghost use Rattle.sspi_credssp.specs.Proxy.{list_calls, IsTold, IsAsked, HasAsked};
 ghost use Rattle.sspi_credssp.specs.ServerStage.{IsListed};
 ghost use Rattle.sspi_types.specs.Counting.{counted_on};
-ghost use Rattle.sspi_credssp.specs.Proxy.{IsTold, IsAsked, HasAsked};
 ghost use Rattle.sspi_credssp.specs.ServerCause.{ListRefused};
 
 use crate::mode::ServerMode;

@@ -1,5 +1,5 @@
 ghost use Rattle.std.specs.Prelude.{◌≡◌, ◌<◌, ℕ, List, All, IfOk};
-ghost use Rattle.sspi_credssp.specs.PublicKey.{magic, echo, incremented, decremented, prescribed};
+ghost use Rattle.sspi_credssp.specs.Exchange.{magic, echo, incremented, decremented, prescribed};
 
 use sha2::{Digest, Sha256};
 use sspi_types::Bytes;
@@ -63,7 +63,7 @@ fn hash_magic(endpoint: EndpointType) -> [u8; 38]
 /// The text that `endpoint` seals as its proof of the channel's key, by the version that its peer speaks
 /// (MS-CSSP 3.1.5): from version 5 on the hash of its magic, the client's nonce and the key; below 5 the
 /// key from the client, and from the server the key with one added.
-#[tactic(auto, unfolding(crate::specs::PublicKey::prescribed))]
+#[tactic(auto, unfolding(crate::specs::Exchange::prescribed))]
 pub(crate) fn prescribed_proof(
     alloc: Global,
     endpoint: EndpointType,

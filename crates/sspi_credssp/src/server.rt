@@ -1,12 +1,9 @@
 ghost use Rattle.std.specs.Prelude.{◌≡◌, ◌≢◌, [], None, true, false, IsSome, IfErr, OnOk, OnErr};
 ghost use Rattle.sspi_types.specs.declared.credential_use.CredentialUse.TheVariants as purposes;
-ghost use Rattle.sspi_credssp.specs.Acts.{no_acts};
-ghost use Rattle.sspi_credssp.specs.Asks.{Asks};
-ghost use Rattle.sspi_credssp.specs.Begun.{Begun, IfContext, MadeOr};
-ghost use Rattle.sspi_credssp.specs.Context.{either};
-ghost use Rattle.sspi_credssp.specs.Counts.{IsUnusedIn};
+ghost use Rattle.sspi_credssp.specs.Acts.{no_acts, IsUnusedIn};
+ghost use Rattle.sspi_credssp.specs.Proxy.{Asks, list_calls, lists_in};
+ghost use Rattle.sspi_credssp.specs.Context.{Begun, IfContext, MadeOr, either};
 ghost use Rattle.sspi_credssp.specs.Noted.{differs, is_old, VersionStops};
-ghost use Rattle.sspi_credssp.specs.Peers.{list_calls, lists_in};
 ghost use Rattle.sspi_credssp.specs.Refused.{IsRefusedFor};
 ghost use Rattle.sspi_mech.specs.Answered.{answered};
 
@@ -48,7 +45,7 @@ pub struct CredSspServer<N, K, C> {
 
 impl<N, K, C> Model for CredSspServer<N, K, C> {
     ghost use Rattle.sspi_credssp.specs.declared.context.SspiContext.{SspiContext};
-    ghost use Rattle.sspi_credssp.specs.Server.{ServerView, IsOrderly};
+    ghost use Rattle.sspi_credssp.specs.Ends.{ServerView, IsOrderlyServer};
 
     ghost Value = { ServerView (SspiContext N K) C };
 
@@ -68,11 +65,11 @@ impl<N, K, C> Model for CredSspServer<N, K, C> {
       output = a.output;
     } };
 
-    ghost invariant = { λ a. IsOrderly a.context a.credentials_handle a.peer_version a.state };
+    ghost invariant = { λ a. IsOrderlyServer a.context a.credentials_handle a.peer_version a.state };
 }
 
 impl<N, K, C> CredSspServer<N, K, C> {
-    ghost use Rattle.sspi_credssp.specs.Server.{IsFreshServer, new_server};
+    ghost use Rattle.sspi_credssp.specs.Ends.{IsFreshServer, new_server};
 
     /// A server of version 6; else as `new_with_version`.
     pub fn new(
@@ -147,13 +144,12 @@ impl<N, K, C> CredSspServer<N, K, C> {
 }
 
 impl<N: Mechanism, K: Mechanism, C: CredentialsProxy> CredSspServer<N, K, C> {
-    ghost use Rattle.sspi_credssp.specs.Server.{ServerView};
-    ghost use Rattle.sspi_credssp.specs.ServerAsks.{look_ups_at};
+    ghost use Rattle.sspi_credssp.specs.Ends.{ServerView};
+    ghost use Rattle.sspi_credssp.specs.Proxy.{look_ups_at};
     ghost use Rattle.sspi_credssp.specs.ServerCall.{ServerCall};
     ghost use Rattle.sspi_credssp.specs.ServerCause.{MakeCause, StateCause};
     ghost use Rattle.sspi_credssp.specs.ServerStage.{HasDone, IsAtStep, LooksAt, MakesContext, BeginRefused, IsReady};
-    ghost use Rattle.sspi_credssp.specs.ServerStep.{HasAcceptedTurn, server_setting};
-    ghost use Rattle.sspi_credssp.specs.ServerTurn.{ServerGoes};
+    ghost use Rattle.sspi_credssp.specs.ServerTurn.{HasAcceptedTurn, server_setting, ServerGoes};
 
     /// Takes the client's message and makes the server's next one, or reads the credentials that end the exchange.
     ///

@@ -7,7 +7,7 @@ ghost use Rattle.sspi_credssp.specs.Exchange.{BlobStops, OpensIdentity, ProofCau
 ghost use Rattle.sspi_credssp.specs.Opened.{Exchanges, Opens};
 ghost use Rattle.sspi_credssp.specs.Requests.{nonce_of};
 ghost use Rattle.sspi_credssp.specs.ServerCause.{OpenedCause, lacks_nonce};
-ghost use Rattle.sspi_credssp.specs.Shown.{HasNonce};
+ghost use Rattle.sspi_credssp.specs.Turn.{HasNonce};
 ghost use Rattle.sspi_mech.specs.Answered.{answered};
 
 use crate::acts::Acts;
@@ -98,7 +98,7 @@ fn open_credentials<N: Mechanism, K: Mechanism>(
 }
 
 impl<N: Mechanism, K: Mechanism, C: CredentialsProxy> CredSspServer<N, K, C> {
-    ghost use Rattle.sspi_credssp.specs.Server.{ServerView};
+    ghost use Rattle.sspi_credssp.specs.Ends.{ServerView};
     ghost use Rattle.sspi_credssp.specs.ServerCause.{ExchangeCause};
     ghost use Rattle.sspi_credssp.specs.ServerTurn.{ServerGoes};
     ghost use Rattle.sspi_credssp.specs.ServerStage.{ServerExchanges, ServerOpens, IsReady};

@@ -2,15 +2,13 @@
 ghost use Rattle.std.specs.Prelude.{ℕ, List, Option, Result, Ok, ◌≡◌, ◌≢◌, [], map, None, Some, true, false, IsTrue, OnOk};
 ghost use Rattle.std.specs.Prelude.{OnErr, IfOk, IfErr};
 ghost use Rattle.sspi_names.specs.declared.credentials.Credentials.TheVariants as credentials;
-ghost use Rattle.sspi_credssp.specs.Acts.{no_acts};
-ghost use Rattle.sspi_credssp.specs.Begun.{IfContext};
-ghost use Rattle.sspi_credssp.specs.Context.{either};
-ghost use Rattle.sspi_credssp.specs.Counts.{SameBut};
+ghost use Rattle.sspi_credssp.specs.Acts.{no_acts, SameBut};
+ghost use Rattle.sspi_credssp.specs.Context.{IfContext, either};
 ghost use Rattle.sspi_credssp.specs.Proxy.{IsAsked, HasAsked, AreFound};
 ghost use Rattle.sspi_credssp.specs.ServerStage.{IsLater, answered_by};
 ghost use Rattle.sspi_credssp.specs.ServerCause.{IdentifyCause, LookUpRefused};
-ghost use Rattle.sspi_credssp.specs.Shown.{IsOver};
-ghost use Rattle.sspi_credssp.specs.ServerStep.{IsIdentified, server_requirements, server_args};
+ghost use Rattle.sspi_credssp.specs.Turn.{IsOver};
+ghost use Rattle.sspi_credssp.specs.ServerTurn.{IsIdentified, server_requirements, server_args};
 ghost use Rattle.sspi_mech.specs.Answered.{answered};
 
 use crate::context::SspiContext;
@@ -152,13 +150,11 @@ fn identify<N: Mechanism, K: Mechanism, C: CredentialsProxy>(
 }
 
 impl<N: Mechanism, K: Mechanism, C: CredentialsProxy> CredSspServer<N, K, C> {
-    ghost use Rattle.sspi_credssp.specs.Asks.{Asks};
-    ghost use Rattle.sspi_credssp.specs.Server.{ServerView};
-    ghost use Rattle.sspi_credssp.specs.ServerAsks.{look_ups_at};
+    ghost use Rattle.sspi_credssp.specs.Proxy.{Asks, look_ups_at};
+    ghost use Rattle.sspi_credssp.specs.Ends.{ServerView};
     ghost use Rattle.sspi_credssp.specs.ServerCause.{NegoCause, OverCause, AfterCause};
     ghost use Rattle.sspi_credssp.specs.ServerStage.{HasDone, HasReached, IsAtStep, KeepsStep, CompletedStep, Answered, IsReady};
-    ghost use Rattle.sspi_credssp.specs.ServerStep.{Unknown, Accepted, HasCome, HasAccepted, HasAcceptedTurn};
-    ghost use Rattle.sspi_credssp.specs.ServerTurn.{ServerGoes};
+    ghost use Rattle.sspi_credssp.specs.ServerTurn.{Unknown, Accepted, HasCome, HasAccepted, HasAcceptedTurn, ServerGoes};
 
     pub(crate) fn negotiate(&mut self, request: TsRequest) -> Result<ServerState, ServerError>
         // What must hold before.

@@ -1,7 +1,7 @@
 // What a server's refusal hands back.
 ghost use Rattle.std.specs.Prelude.{◌≡◌, Some};
 ghost use Rattle.sspi_mech.specs.Refusals.{error_of};
-ghost use Rattle.sspi_credssp.specs.ErrorRequest.{error_request};
+ghost use Rattle.sspi_credssp.specs.Requests.{error_request};
 
 use crate::error_code::construct_error;
 use crate::server_state::ServerError;

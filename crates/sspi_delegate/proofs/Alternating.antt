@@ -5,8 +5,8 @@ use Rattle.sspi_credssp.specs.declared.turn.End.TheVariants.{Client, Server}
 use Rattle.sspi_credssp.specs.declared.turn.Outcome.{Outcome}
 use Rattle.sspi_credssp.specs.declared.turn.Outcome.TheVariants as outcome
 use Rattle.sspi_credssp.specs.declared.turn.Turn.{Turn}
-use Rattle.sspi_delegate.specs.EndTurns.{onto_client, onto_server, client_turns, server_turns, OthersGoOn, OthersUnrefused}
-use Rattle.sspi_delegate.specs.Turns.{GoesOn, AllGoOn, IsUnrefused, NoneRefused, Alternates}
+use Rattle.sspi_delegate.specs.Turns.{onto_client, onto_server, client_turns, server_turns, OthersGoOn, OthersUnrefused, GoesOn, AllGoOn}
+use Rattle.sspi_delegate.specs.Turns.{IsUnrefused, NoneRefused, Alternates}
 
 pub others_go : (past : List Turn) → AllGoOn past → OthersGoOn past
 others_go [] going = tt

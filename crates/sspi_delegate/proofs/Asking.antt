@@ -7,8 +7,8 @@ use Rattle.sspi_mech.specs.Asking.{IsTold}
 use Rattle.sspi_names.specs.declared.network.NetworkRequest.{NetworkRequest}
 use Rattle.sspi_credssp.specs.declared.client_state.Progress.{Progress}
 use Rattle.sspi_credssp.specs.declared.client_state.Progress.TheVariants.{Suspended, Completed}
-use Rattle.sspi_delegate.specs.Asking.{RepliesAsTold, CountsReply, IsCalmWhereTold, HasReplied, HasNoReply}
-use Rattle.sspi_delegate.specs.Refusals.{KdcStays}
+use Rattle.sspi_delegate.specs.Chain.{RepliesAsTold, CountsReply, IsCalmWhereTold, HasReplied, HasNoReply}
+use Rattle.sspi_delegate.specs.History.{KdcStays}
 
 abbrev pub rounds_left : Progress → ℕ → ℕ
 rounds_left (Suspended question) left = left + 1

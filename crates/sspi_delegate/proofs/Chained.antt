@@ -15,25 +15,21 @@ use Rattle.sspi_credssp.specs.declared.state.CredSspState.{CredSspState}
 use Rattle.sspi_credssp.specs.declared.turn.Outcome.{Outcome}
 use Rattle.sspi_credssp.specs.declared.turn.Outcome.TheVariants as outcome
 use Rattle.sspi_credssp.specs.declared.turn.Turn.{Turn}
-use Rattle.sspi_credssp.specs.Begun.{Begun, IfContext, OnContext}
-use Rattle.sspi_credssp.specs.Client.{ClientView, IsFreshClient}
-use Rattle.sspi_credssp.specs.ClientStep.{Asked, Walked, stepped, resumed, still_asked, recounted, OnStep, StepsTo, DoneStep}
-use Rattle.sspi_credssp.specs.ClientStep.{refused_answer}
-use Rattle.sspi_credssp.specs.ClientTurn.{ClientTurn, client_frame, client_turn}
-use Rattle.sspi_credssp.specs.Context.{ContextSetting}
+use Rattle.sspi_credssp.specs.Context.{Begun, IfContext, OnContext, ContextSetting}
+use Rattle.sspi_credssp.specs.Ends.{ClientView, IsFreshClient, ServerView, IsFreshServer}
+use Rattle.sspi_credssp.specs.ClientTurn.{Asked, Walked, stepped, resumed, still_asked, recounted, OnStep, StepsTo, DoneStep}
+use Rattle.sspi_credssp.specs.ClientTurn.{refused_answer, ClientTurn, client_frame, client_turn}
 use Rattle.sspi_credssp.specs.Proxy.{ProxyMeaning}
-use Rattle.sspi_credssp.specs.Server.{ServerView, IsFreshServer}
-use Rattle.sspi_credssp.specs.ServerStep as accept
+use Rattle.sspi_credssp.specs.ServerTurn as accept
 use Rattle.sspi_credssp.specs.ServerTurn.{UnlessMade, IsNew, ServerTurn, server_frame, server_turn}
-use Rattle.sspi_credssp.specs.Shown.{ShowsNego, ShowsNegoBack, ShowsStateBack, client_shown, server_shown}
+use Rattle.sspi_credssp.specs.Turn.{ShowsNego, ShowsNegoBack, ShowsStateBack, client_shown, server_shown}
 use Rattle.sspi_delegate.specs.declared.answer.Delegation.{Delegation}
 use Rattle.sspi_delegate.specs.declared.answer.DelegateError.{DelegateError}
 use Rattle.sspi_delegate.specs.declared.answer.DelegateError.TheVariants as errors
-use Rattle.sspi_delegate.specs.Asking.{KdcCalls}
-use Rattle.sspi_delegate.specs.Chain.{client_stage, client_at, ClientStepped, ClientRested, ClientMovedBy, ClientChain}
+use Rattle.sspi_delegate.specs.Chain.{KdcCalls, client_stage, client_at, ClientStepped, ClientRested, ClientMovedBy, ClientChain}
 use Rattle.sspi_delegate.specs.Chain.{ClientChainLeft, at_rest, waiting, ClientChained, server_stage, server_at, ServerStepped}
 use Rattle.sspi_delegate.specs.Chain.{ServerRested, ServerMovedBy, ServerChain}
-use Rattle.sspi_delegate.specs.EndTurns.{OthersGoOn, OthersUnrefused}
+use Rattle.sspi_delegate.specs.Turns.{OthersGoOn, OthersUnrefused}
 use Rattle.sspi_delegate.specs.History.{ClientMakes, ClientHistory, ClientStopped, ClientLeft, between, ClientStops, ClientPast}
 use Rattle.sspi_delegate.specs.History.{ServerMakes, ServerHistory, ServerPast}
 use Rattle.sspi_delegate.specs.History as history

@@ -8,15 +8,13 @@ use Rattle.sspi_types.specs.declared.security_status.SecurityStatus.{SecuritySta
 use Rattle.sspi_types.specs.declared.security_status.SecurityStatus.TheVariants as statuses
 use Rattle.sspi_credssp.specs.declared.public_key.EndpointType.TheVariants.{Client, Server}
 use Rattle.sspi_types.specs.declared.error.Error.{Error}
-use Rattle.sspi_credssp.specs.Client.{ClientSettings}
+use Rattle.sspi_credssp.specs.Ends.{ClientSettings}
 use Rattle.sspi_credssp.specs.ClientTurn.{IsClientTurn}
-use Rattle.sspi_credssp.specs.Credentials.{IfText, delegated_text}
+use Rattle.sspi_credssp.specs.Exchange.{IfText, delegated_text, prescribed}
 use Rattle.sspi_credssp.specs.Context.{ContextSetting}
-use Rattle.sspi_credssp.specs.Counts.{SameBut, SealsIn, OpensIn, silent, cleared}
-use Rattle.sspi_credssp.specs.Held.{HoldsNego, HoldsReply}
-use Rattle.sspi_credssp.specs.PublicKey.{prescribed}
-use Rattle.sspi_credssp.specs.Shown.{client_shown, ShowsClientActs, ShowsNego, ShowsReply}
-use Rattle.sspi_credssp.specs.Turn.{ClientFrame, UnlessRefused, FitsNoted, AtNoted}
+use Rattle.sspi_credssp.specs.Acts.{SameBut, SealsIn, OpensIn, silent, cleared}
+use Rattle.sspi_credssp.specs.Turn.{HoldsNego, HoldsReply, client_shown, ShowsClientActs, ShowsNego, ShowsReply, ClientFrame, UnlessRefused}
+use Rattle.sspi_credssp.specs.Turn.{FitsNoted, AtNoted}
 use Rattle.sspi_credssp.specs.declared.turn.Outcome.{Outcome}
 use Rattle.sspi_credssp.specs.declared.turn.Outcome.TheVariants as outcome
 use Rattle.sspi_credssp.specs.declared.turn.Turn.{Turn}

@@ -8,28 +8,23 @@ use Rattle.sspi_mech.specs.Meaning.{Meaning}
 use Rattle.sspi_tsreq.specs.declared.request.TsRequest.{TsRequest}
 use Rattle.sspi_credssp.specs.declared.state.CredSspState.{CredSspState}
 use Rattle.sspi_credssp.specs.declared.state.CredSspState.TheVariants.{NegoToken, PubKeyInfo, AuthInfo, Final}
-use Rattle.sspi_credssp.specs.Acts.{sealings_by, unsealings_by}
-use Rattle.sspi_credssp.specs.Client.{ClientSettings, ClientView, IsFreshClient}
-use Rattle.sspi_credssp.specs.ClientTurn.{ClientTurn, IsUnderway, StartsUnused, client_frame, client_turn, noted_next}
-use Rattle.sspi_credssp.specs.ClientTurn.{state_after}
+use Rattle.sspi_credssp.specs.Acts.{sealings_by, unsealings_by, sealings_in, unsealings_in, SameBut, silent, is_waiting_in}
+use Rattle.sspi_credssp.specs.Ends.{ClientSettings, ClientView, IsFreshClient}
+use Rattle.sspi_credssp.specs.ClientTurn.{ClientTurn, IsUnderway, StartsUnused, client_frame, client_turn, noted_next, state_after}
+use Rattle.sspi_credssp.specs.ClientTurn.{client_args, Asked, Walked, stepped, resumed, still_asked, recounted, DoneStep}
 use Rattle.sspi_names.specs.declared.credentials.CredentialsBuffers.{CredentialsBuffers}
 use Rattle.sspi_mech.specs.declared.step.Answer.{Answer}
 use Rattle.sspi_mech.specs.declared.step.Answer.TheVariants.{Done}
 use Rattle.sspi_mech.specs.declared.step.Step.{Step}
 use Rattle.sspi_credssp.specs.declared.client_state.ClientState.TheVariants.{ReplyNeeded}
 use Rattle.sspi_credssp.specs.declared.client_state.Progress.TheVariants.{Completed}
-use Rattle.sspi_credssp.specs.Begun.{IfContext}
-use Rattle.sspi_credssp.specs.ClientStep.{client_args, Asked, Walked, stepped, resumed, still_asked, recounted, DoneStep}
-use Rattle.sspi_credssp.specs.Context.{ContextSetting}
-use Rattle.sspi_credssp.specs.Counts.{sealings_in, unsealings_in, SameBut, silent, is_waiting_in}
+use Rattle.sspi_credssp.specs.Context.{IfContext, ContextSetting}
 use Rattle.sspi_credssp.specs.Noted.{noted_in, noted_with}
-use Rattle.sspi_credssp.specs.Turn.{ClientFrame, UnlessRefused, FitsNoted, OnceNegotiated}
-use Rattle.sspi_delegate.specs.EndRun.{ClientEnd, client_end}
-use Rattle.sspi_delegate.specs.ClientRun.{client_state, client_noted, has_turn, client_frame_at, EachClientTurn}
-use Rattle.sspi_delegate.specs.ClientRun.{ClientRan, HasBegun, ClientFollows}
-use Rattle.sspi_delegate.specs.EndTurns.{made_in, opened_in, is_replied, is_ended, any_proved, any_ended, OthersGoOn}
-use Rattle.sspi_delegate.specs.Turns.{GoesOn, AllGoOn}
-use Rattle.sspi_delegate.specs.Refusals.{StepsSo}
+use Rattle.sspi_credssp.specs.Turn.{ClientFrame, UnlessRefused, FitsNoted, OnceNegotiated, ShowsClientActs, ShowsNego, client_shown}
+use Rattle.sspi_delegate.specs.EndRun.{ClientEnd, client_end, client_state, client_noted, has_turn, client_frame_at, EachClientTurn}
+use Rattle.sspi_delegate.specs.EndRun.{ClientRan, HasBegun, ClientFollows}
+use Rattle.sspi_delegate.specs.Turns.{made_in, opened_in, is_replied, is_ended, any_proved, any_ended, OthersGoOn, GoesOn, AllGoOn}
+use Rattle.sspi_delegate.specs.History.{StepsSo}
 use Rattle.sspi_delegate.proofs.Alternating.{others_go}
 use Rattle.sspi_delegate.proofs.ClientOver.{client_over}
 use Rattle.sspi_delegate.proofs.EndSteps.{none_ran, or_false, or_not, is_false, IsQuiet, AllQuiet, quiet_made, Touched, touched, untouched}
@@ -37,7 +32,6 @@ use Rattle.sspi_delegate.proofs.EndSteps.{unless_given, unless_map, made_by_proo
 use Rattle.sspi_credssp.specs.declared.turn.Outcome.{Outcome}
 use Rattle.sspi_credssp.specs.declared.turn.Outcome.TheVariants as outcome
 use Rattle.sspi_credssp.specs.declared.turn.Turn.{Turn}
-use Rattle.sspi_credssp.specs.Shown.{ShowsClientActs, ShowsNego, client_shown}
 
 -- ---- tests
 

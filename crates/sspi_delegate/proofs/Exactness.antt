@@ -15,10 +15,8 @@ use Rattle.sspi_credssp.specs.declared.turn.Outcome.{Outcome}
 use Rattle.sspi_credssp.specs.declared.turn.Outcome.TheVariants.{Reply, Final, Finished, Refused}
 use Rattle.sspi_credssp.specs.declared.turn.Turn.{Turn}
 use Rattle.sspi_delegate.specs.Causes.{NewestIs, IsClientRefusal, IsServerRefusal, IsFinished, MessageFits, NewestFits, MayLackAfter}
-use Rattle.sspi_delegate.specs.Causes.{MayLack, TurnLeft, turns_of, RunEnds}
-use Rattle.sspi_delegate.specs.Deliveries.{is_taken}
-use Rattle.sspi_delegate.specs.Exactly.{IsOnly, IsClientError, IsServerError, IsOk, Exactly}
-use Rattle.sspi_delegate.specs.Run.{Logged, LoggedButLast, OpenFor, UnreadFor, IsUnreadable, IsFault}
+use Rattle.sspi_delegate.specs.Causes.{MayLack, TurnLeft, turns_of, RunEnds, IsOnly, IsClientError, IsServerError, IsOk, Exactly}
+use Rattle.sspi_delegate.specs.Log.{is_taken, Logged, LoggedButLast, OpenFor, UnreadFor, IsUnreadable, IsFault}
 use Rattle.sspi_delegate.specs.Turns.{other, next_end, GoesOn, AllGoOn}
 use Rattle.sspi_credssp.specs.Turn.{message_of}
 

@@ -2,13 +2,12 @@
 use Rattle.std.proofs.Common.{inl, inr, List}
 use Rattle.sspi_types.specs.declared.error.Error.{Error}
 use Rattle.sspi_mech.specs.Meaning.{Meaning}
-use Rattle.sspi_credssp.specs.Client.{ClientView}
+use Rattle.sspi_credssp.specs.Ends.{ClientView, ServerView}
 use Rattle.sspi_credssp.specs.Context.{ContextSetting}
 use Rattle.sspi_credssp.specs.Proxy.{ProxyMeaning}
-use Rattle.sspi_credssp.specs.Server.{ServerView}
 use Rattle.sspi_delegate.specs.declared.answer.DelegateError.{DelegateError}
 use Rattle.sspi_delegate.specs.declared.answer.DelegateError.TheVariants as errors
-use Rattle.sspi_delegate.specs.Asking.{KdcCalls}
+use Rattle.sspi_delegate.specs.Chain.{KdcCalls}
 use Rattle.sspi_delegate.specs.Halves.{IsAnswerTo, IsNoRefusal, ClientHalfStops, ServerHalfStops}
 use Rattle.sspi_delegate.specs.History.{ClientHistory, ClientStopped, between, ClientStops, ServerHistory, ServerStopped, ServerStops}
 use Rattle.sspi_delegate.proofs.Histories.{client_stopped_history, server_stopped_history}

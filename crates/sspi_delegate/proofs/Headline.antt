@@ -5,7 +5,7 @@ use Rattle.sspi_mech.specs.Meaning.{Meaning}
 use Rattle.sspi_credssp.specs.declared.state.CredSspState.TheVariants.{NegoToken, PubKeyInfo, AuthInfo, Final}
 use Rattle.sspi_credssp.specs.Acts.{count_of}
 use Rattle.sspi_credssp.specs.Context.{ContextSetting}
-use Rattle.sspi_credssp.specs.Turn.{ClientFrame, ServerFrame}
+use Rattle.sspi_credssp.specs.Turn.{ClientFrame, ServerFrame, ShowsAnswer, ShowsClientActs, ShowsReply, client_shown, server_shown}
 use Rattle.sspi_delegate.specs.declared.answer.Delegation.{Delegation}
 use Rattle.sspi_delegate.specs.declared.answer.DelegateError.{DelegateError}
 use Rattle.sspi_delegate.specs.declared.answer.DelegateError.TheVariants as errors
@@ -15,16 +15,13 @@ use Rattle.sspi_credssp.specs.declared.turn.End.TheVariants.{Client, Server}
 use Rattle.sspi_credssp.specs.declared.turn.Outcome.{Outcome}
 use Rattle.sspi_credssp.specs.declared.turn.Outcome.TheVariants as outcome
 use Rattle.sspi_credssp.specs.declared.turn.Turn.{Turn}
-use Rattle.sspi_credssp.specs.Shown.{ShowsAnswer, ShowsClientActs, ShowsReply, client_shown, server_shown}
 use Rattle.sspi_delegate.specs.Causes.{NewestIs, IsFinished, RunEnds}
-use Rattle.sspi_delegate.specs.EndRun.{ClientEnd, ServerEnd}
-use Rattle.sspi_delegate.specs.ClientRun.{client_frame_at, EachClientTurn}
-use Rattle.sspi_delegate.specs.EndTurns.{onto_client, onto_server, client_turns, server_turns, is_replied, is_ended, any_ended}
-use Rattle.sspi_delegate.specs.EndTurns.{any_proved, any_finished, OthersGoOn}
-use Rattle.sspi_delegate.specs.Turns.{GoesOn, AllGoOn, Alternates}
+use Rattle.sspi_delegate.specs.EndRun.{ClientEnd, ServerEnd, client_frame_at, EachClientTurn, server_state, any_over, server_frame_at}
+use Rattle.sspi_delegate.specs.EndRun.{EachServerTurn}
+use Rattle.sspi_delegate.specs.Turns.{onto_client, onto_server, client_turns, server_turns, is_replied, is_ended, any_ended, any_proved}
+use Rattle.sspi_delegate.specs.Turns.{any_finished, OthersGoOn, GoesOn, AllGoOn, Alternates}
 use Rattle.sspi_delegate.specs.Headline.{sealed_turns, NeverSeals, SealsAfterProof, any_exchange, HasExchanged}
-use Rattle.sspi_delegate.specs.Run.{HasLog}
-use Rattle.sspi_delegate.specs.ServerRun.{server_state, any_over, server_frame_at, EachServerTurn}
+use Rattle.sspi_delegate.specs.Log.{HasLog}
 use Rattle.sspi_delegate.proofs.Alternating.{others_go}
 use Rattle.sspi_delegate.proofs.ClientSteps.{state_auth, reply_state}
 use Rattle.sspi_delegate.proofs.EndSteps.{or_false, is_false}

@@ -10,28 +10,25 @@ use Rattle.sspi_credssp.specs.declared.server_state.ServerState.{ServerState}
 use Rattle.sspi_credssp.specs.declared.turn.Outcome.{Outcome}
 use Rattle.sspi_credssp.specs.declared.turn.Outcome.TheVariants as outcome
 use Rattle.sspi_credssp.specs.declared.turn.Turn.{Turn}
-use Rattle.sspi_credssp.specs.Client.{ClientSettings, ClientView, IsFreshClient}
+use Rattle.sspi_credssp.specs.Ends.{ClientSettings, ClientView, IsFreshClient, ServerSettings, ServerView, IsFreshServer}
 use Rattle.sspi_credssp.specs.ClientTurn.{client_turn}
 use Rattle.sspi_credssp.specs.Context.{ContextSetting}
 use Rattle.sspi_credssp.specs.Noted.{is_old, is_old_in, noted_with}
 use Rattle.sspi_credssp.specs.Proxy.{ProxyMeaning}
-use Rattle.sspi_credssp.specs.Server.{ServerSettings, ServerView, IsFreshServer}
 use Rattle.sspi_credssp.specs.ServerTurn.{server_turn}
 use Rattle.sspi_credssp.specs.Turn.{AtNoted}
 use Rattle.sspi_credssp.proofs.ClientHeeding.{client_met}
 use Rattle.sspi_credssp.proofs.ServerHeeding.{server_met}
 use Rattle.sspi_delegate.specs.declared.answer.Delegation.{Delegation}
 use Rattle.sspi_delegate.specs.declared.answer.DelegateError.{DelegateError}
-use Rattle.sspi_delegate.specs.Asking.{KdcCalls}
-use Rattle.sspi_delegate.specs.EndRun.{ClientEnd, client_end, ServerEnd, server_end}
-use Rattle.sspi_delegate.specs.ClientRun.{client_noted, EachClientTurn, HasBegun, ClientFollows}
-use Rattle.sspi_delegate.specs.EndTurns.{OthersGoOn, OthersUnrefused}
-use Rattle.sspi_delegate.specs.Heeded.{is_first, is_second, IsDowngrade, FindsOldServer, FindsOldClient, HeedsServer, HeedsClient}
-use Rattle.sspi_delegate.specs.Heeded.{EachHeedsServer, EachHeedsClient}
+use Rattle.sspi_delegate.specs.Chain.{KdcCalls}
+use Rattle.sspi_delegate.specs.EndRun.{ClientEnd, client_end, ServerEnd, server_end, client_noted, EachClientTurn, HasBegun, ClientFollows}
+use Rattle.sspi_delegate.specs.EndRun.{server_noted, EachServerTurn, ServerFollows}
+use Rattle.sspi_delegate.specs.Turns.{OthersGoOn, OthersUnrefused, GoesOn, AllGoOn, IsUnrefused, NoneRefused}
+use Rattle.sspi_delegate.specs.Headline.{is_first, is_second, IsDowngrade, FindsOldServer, FindsOldClient, HeedsServer, HeedsClient}
+use Rattle.sspi_delegate.specs.Headline.{EachHeedsServer, EachHeedsClient}
 use Rattle.sspi_delegate.specs.History.{ClientMakes, ClientHistory, ClientLeft, between, waiting, ClientPast, ServerMakes}
 use Rattle.sspi_delegate.specs.History.{ServerHistory, ServerPast}
-use Rattle.sspi_delegate.specs.ServerRun.{server_noted, EachServerTurn, ServerFollows}
-use Rattle.sspi_delegate.specs.Turns.{GoesOn, AllGoOn, IsUnrefused, NoneRefused}
 use Rattle.sspi_delegate.proofs.ClientSteps.{client_underway, noted_by_two}
 use Rattle.sspi_delegate.proofs.Histories.{client_past_left, server_past_history}
 use Rattle.sspi_delegate.proofs.HistoryRuns.{client_turn_of, client_went, history_follows, server_turn_of, server_went}

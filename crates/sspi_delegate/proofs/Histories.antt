@@ -4,16 +4,13 @@ use Rattle.sspi_types.specs.declared.error.Error.{Error}
 use Rattle.sspi_mech.specs.Meaning.{Meaning}
 use Rattle.sspi_names.specs.declared.identity.AuthIdentity.{AuthIdentity}
 use Rattle.sspi_tsreq.specs.declared.request.TsRequest.{TsRequest}
-use Rattle.sspi_credssp.specs.Client.{ClientView}
+use Rattle.sspi_credssp.specs.Ends.{ClientView, ServerView}
 use Rattle.sspi_credssp.specs.ClientTurn.{ClientTurn}
 use Rattle.sspi_credssp.specs.Context.{ContextSetting}
-use Rattle.sspi_credssp.specs.Proxy.{ProxyMeaning, IsAsked, HasAsked}
-use Rattle.sspi_credssp.specs.Server.{ServerView}
-use Rattle.sspi_credssp.specs.ServerAsks.{calls_in}
+use Rattle.sspi_credssp.specs.Proxy.{ProxyMeaning, IsAsked, HasAsked, calls_in}
 use Rattle.sspi_credssp.specs.declared.server_state.ServerError.{ServerError}
 use Rattle.sspi_credssp.specs.ServerCall.{ServerCall}
-use Rattle.sspi_credssp.specs.ServerStep.{DoneStep, MakesAlone}
-use Rattle.sspi_credssp.specs.ServerTurn.{ServerTurn, HoldsIdentity}
+use Rattle.sspi_credssp.specs.ServerTurn.{DoneStep, MakesAlone, ServerTurn, HoldsIdentity}
 use Rattle.sspi_credssp.specs.Turn.{UnlessRefused}
 use Rattle.sspi_delegate.specs.declared.answer.Delegation.{Delegation}
 use Rattle.sspi_delegate.specs.declared.answer.DelegateError.{DelegateError}
@@ -22,11 +19,10 @@ use Rattle.sspi_credssp.specs.declared.turn.End.TheVariants.{Client, Server}
 use Rattle.sspi_credssp.specs.declared.turn.Outcome.{Outcome}
 use Rattle.sspi_credssp.specs.declared.turn.Outcome.TheVariants as outcome
 use Rattle.sspi_credssp.specs.declared.turn.Turn.{Turn}
-use Rattle.sspi_delegate.specs.Asking.{KdcCalls}
-use Rattle.sspi_delegate.specs.EndTurns.{client_turns, server_turns}
+use Rattle.sspi_delegate.specs.Chain.{KdcCalls}
+use Rattle.sspi_delegate.specs.Turns.{client_turns, server_turns}
 use Rattle.sspi_delegate.specs.History.{ClientMakes, ClientHistory, ClientStopped, ClientLeft, between, ClientPast, ServerMakes}
-use Rattle.sspi_delegate.specs.History.{ServerRefuses, ServerHistory, ServerGave, ServerStopped, ServerPast}
-use Rattle.sspi_delegate.specs.Refusals.{ClientRefuses}
+use Rattle.sspi_delegate.specs.History.{ServerRefuses, ServerHistory, ServerGave, ServerStopped, ServerPast, ClientRefuses}
 use Rattle.sspi_delegate.specs.Rounds.{newest_alone}
 use Rattle.sspi_delegate.specs.LogKeeping.{recorded}
 

@@ -3,23 +3,18 @@ use Rattle.std.proofs.Common.{sym, refl, subst, arith, List, [], ◌∷◌, None
 use Rattle.sspi_mech.specs.Context.{IsContext}
 use Rattle.sspi_mech.specs.Meaning.{Meaning}
 use Rattle.sspi_tsreq.specs.declared.request.TsRequest.{TsRequest}
-use Rattle.sspi_credssp.specs.Client.{ClientView, IsFreshClient}
+use Rattle.sspi_credssp.specs.Ends.{ClientView, IsFreshClient, ServerView, IsFreshServer}
 use Rattle.sspi_credssp.specs.ClientTurn.{ClientTurn, client_turn}
 use Rattle.sspi_credssp.specs.Context.{ContextSetting}
 use Rattle.sspi_credssp.specs.Proxy.{ProxyMeaning}
-use Rattle.sspi_credssp.specs.Server.{ServerView, IsFreshServer}
 use Rattle.sspi_credssp.specs.ServerTurn.{ServerTurn, server_turn}
 use Rattle.sspi_delegate.specs.declared.answer.Delegation.{Delegation}
 use Rattle.sspi_delegate.specs.declared.answer.DelegateError.{DelegateError}
-use Rattle.sspi_delegate.specs.Asking.{KdcCalls}
-use Rattle.sspi_delegate.specs.ClientRun.{ClientRan, ClientFollows}
-use Rattle.sspi_delegate.specs.EndTurns.{OthersGoOn, OthersUnrefused}
-use Rattle.sspi_delegate.specs.Turns.{GoesOn, AllGoOn, IsUnrefused, NoneRefused}
-use Rattle.sspi_delegate.specs.History.{ClientMakes, ClientHistory, ClientLeft, between, waiting, ClientPast, ServerMakes}
-use Rattle.sspi_delegate.specs.History.{ServerHistory, ServerPast}
-use Rattle.sspi_delegate.specs.Refusals.{ProxyStays}
-use Rattle.sspi_delegate.specs.EndRun.{server_end}
-use Rattle.sspi_delegate.specs.ServerRun.{ServerRan, ServerFollows, GivesNewest}
+use Rattle.sspi_delegate.specs.Chain.{KdcCalls}
+use Rattle.sspi_delegate.specs.EndRun.{ClientRan, ClientFollows, server_end, ServerRan, ServerFollows, GivesNewest}
+use Rattle.sspi_delegate.specs.Turns.{OthersGoOn, OthersUnrefused, GoesOn, AllGoOn, IsUnrefused, NoneRefused}
+use Rattle.sspi_delegate.specs.History.{ClientMakes, ClientHistory, ClientLeft, between, waiting, ClientPast, ServerMakes, ServerHistory}
+use Rattle.sspi_delegate.specs.History.{ServerPast, ProxyStays}
 use Rattle.sspi_delegate.proofs.ClientSteps.{client_fresh, client_turned, client_replied, client_ended, client_underway}
 use Rattle.sspi_delegate.proofs.Histories.{client_past_left, server_past_history}
 use Rattle.sspi_delegate.proofs.Refusing.{proxy_on, proxy_asked}

@@ -24,10 +24,10 @@ use Rattle.sspi_delegate.specs.Causes.{Finishes, Stopped, NewestIs, IsClientRefu
 use Rattle.sspi_delegate.specs.Halves.{Between, Asked, Turned, IsAnswerTo, HasMessage}
 use Rattle.sspi_delegate.specs.Causes.{IsFinished, MayLackAfter, MayLack, TurnLeft, Given, carried, too_long}
 use Rattle.sspi_delegate.specs.Causes.{link_failed, no_memory, turns_of}
-use Rattle.sspi_delegate.specs.Deliveries.{delivery_limit, IsUnread, HeadWithin}
+use Rattle.sspi_delegate.specs.Log.{delivery_limit, IsUnread, HeadWithin, Logged, LoggedButLast, HasLog, IsDelivered, IsRead, IsSent}
+use Rattle.sspi_delegate.specs.Log.{IsFault, IsUnreadable}
 use Rattle.sspi_delegate.specs.Readers.{Fed, HeadTaken, TakesIn}
 use Rattle.sspi_delegate.specs.Recorded.{PushedSuch}
-use Rattle.sspi_delegate.specs.Run.{Logged, LoggedButLast, HasLog, IsDelivered, IsRead, IsSent, IsFault, IsUnreadable}
 use Rattle.sspi_delegate.specs.Turns.{next_end, GoesOn, AllGoOn, Alternates}
 use Rattle.sspi_credssp.specs.Turn.{message_of}
 

@@ -14,21 +14,17 @@ use Rattle.sspi_credssp.specs.declared.turn.Outcome.{Outcome}
 use Rattle.sspi_credssp.specs.declared.turn.Outcome.TheVariants as outcome
 use Rattle.sspi_credssp.specs.declared.turn.Turn.{Turn}
 use Rattle.sspi_credssp.specs.Context.{ContextSetting}
-use Rattle.sspi_credssp.specs.Peers.{list_calls, lists_in}
-use Rattle.sspi_credssp.specs.Proxy.{ProxyMeaning, HasAsked}
-use Rattle.sspi_credssp.specs.Server.{ServerSettings, ServerView, IsFreshServer}
-use Rattle.sspi_credssp.specs.ServerAsks.{look_ups_at}
+use Rattle.sspi_credssp.specs.Proxy.{list_calls, lists_in, ProxyMeaning, HasAsked, look_ups_at}
+use Rattle.sspi_credssp.specs.Ends.{ServerSettings, ServerView, IsFreshServer}
 use Rattle.sspi_credssp.specs.ServerTurn.{ServerTurn, after_reply, after_status, server_state_after, server_frame, server_turn}
-use Rattle.sspi_credssp.specs.Turn.{UnlessRefused, ServerFrame}
+use Rattle.sspi_credssp.specs.Turn.{UnlessRefused, ServerFrame, ShowsAnswer, ShowsNegoBack, ShowsOver, ShowsStateBack, server_shown}
 use Rattle.sspi_credssp.proofs.Asked.{has_not_asked, has_asked_on, has_asked_as}
-use Rattle.sspi_credssp.specs.Shown.{ShowsAnswer, ShowsNegoBack, ShowsOver, ShowsStateBack, server_shown}
 use Rattle.sspi_delegate.specs.declared.answer.Delegation.{Delegation}
 use Rattle.sspi_delegate.specs.declared.answer.DelegateError.{DelegateError}
 use Rattle.sspi_delegate.specs.declared.carried.Carried.{Carried}
 use Rattle.sspi_delegate.specs.Causes.{RunEnds, IsFinished}
-use Rattle.sspi_delegate.specs.EndTurns.{onto_server, server_turns, OthersGoOn}
+use Rattle.sspi_delegate.specs.Turns.{onto_server, server_turns, OthersGoOn, AllGoOn, IsUnrefused}
 use Rattle.sspi_delegate.specs.History.{ServerMakes, ServerHistory, ServerMade, ServerPast}
-use Rattle.sspi_delegate.specs.Turns.{AllGoOn, IsUnrefused}
 use Rattle.sspi_delegate.proofs.Alternating.{went_unrefused}
 use Rattle.sspi_delegate.proofs.Histories.{server_past_history}
 

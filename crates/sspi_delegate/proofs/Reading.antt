@@ -7,9 +7,8 @@ use Rattle.sspi_delegate.specs.declared.carried.Carried.{Carried}
 use Rattle.sspi_delegate.specs.declared.answer.DelegateError.{DelegateError}
 use Rattle.sspi_delegate.specs.declared.answer.DelegateError.TheVariants as errors
 use Rattle.sspi_delegate.specs.declared.edit.Edit.{Edit}
-use Rattle.sspi_delegate.specs.Link.{StaysTold}
+use Rattle.sspi_delegate.specs.Link.{StaysTold, CarryFails, HasFailed, AnswerTold}
 use Rattle.sspi_delegate.specs.Halves.{IsAnswerTo}
-use Rattle.sspi_delegate.specs.Messages.{CarryFails, HasFailed, AnswerTold}
 use Rattle.sspi_delegate.specs.Sending.{GiveTold, RequestTold}
 use Rattle.sspi_tsreq.specs.declared.reader.TsReader.{TsReader}
 use Rattle.sspi_tsreq.specs.declared.request.TsRequest.{TsRequest}

@@ -4,13 +4,12 @@ use Rattle.sspi_types.specs.declared.error_kind.ErrorKind.{ErrorKind}
 use Rattle.sspi_mech.specs.Meaning.{Meaning}
 use Rattle.sspi_tsreq.specs.declared.request.TsRequest.{TsRequest}
 use Rattle.sspi_credssp.specs.Context.{ContextSetting}
-use Rattle.sspi_credssp.specs.Server.{ServerView}
+use Rattle.sspi_credssp.specs.Ends.{ServerView}
 use Rattle.sspi_credssp.specs.ServerTurn.{ServerTurn, server_frame, server_turn}
-use Rattle.sspi_credssp.specs.Turn.{ServerFrame}
+use Rattle.sspi_credssp.specs.Turn.{ServerFrame, ShowsAnswer, server_shown}
 use Rattle.sspi_credssp.specs.declared.turn.End.TheVariants.{Server}
 use Rattle.sspi_credssp.specs.declared.turn.Outcome.TheVariants as outcome
 use Rattle.sspi_credssp.specs.declared.turn.Turn.{Turn}
-use Rattle.sspi_credssp.specs.Shown.{ShowsAnswer, server_shown}
 use Rattle.sspi_delegate.specs.Causes.{IsServerRefusal}
 use Rattle.sspi_delegate.specs.LogKeeping.{recorded}
 use Rattle.sspi_delegate.specs.Recorded.{PushedSuch}

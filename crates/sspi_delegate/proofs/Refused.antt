@@ -4,18 +4,15 @@ use Rattle.sspi_types.specs.declared.error.Error.{Error}
 use Rattle.sspi_mech.specs.Context.{IsContext}
 use Rattle.sspi_mech.specs.Meaning.{Meaning}
 use Rattle.sspi_credssp.specs.declared.turn.Turn.{Turn}
-use Rattle.sspi_credssp.specs.Client.{ClientView, IsFreshClient}
+use Rattle.sspi_credssp.specs.Ends.{ClientView, IsFreshClient, ServerView, IsFreshServer}
 use Rattle.sspi_credssp.specs.Context.{ContextSetting}
 use Rattle.sspi_credssp.specs.Proxy.{ProxyMeaning}
-use Rattle.sspi_credssp.specs.Server.{ServerView, IsFreshServer}
 use Rattle.sspi_delegate.specs.declared.answer.Delegation.{Delegation}
 use Rattle.sspi_delegate.specs.declared.answer.DelegateError.{DelegateError}
 use Rattle.sspi_delegate.specs.declared.answer.DelegateError.TheVariants as errors
-use Rattle.sspi_delegate.specs.Asking.{KdcCalls}
-use Rattle.sspi_delegate.specs.EndTurns.{OthersGoOn}
-use Rattle.sspi_delegate.specs.History.{ClientStopped, ClientPast, ServerStopped, ServerPast}
-use Rattle.sspi_delegate.specs.Refusals.{ClientRefused, ServerRefused, RefusedBy}
-use Rattle.sspi_delegate.specs.Turns.{AllGoOn}
+use Rattle.sspi_delegate.specs.Chain.{KdcCalls}
+use Rattle.sspi_delegate.specs.Turns.{OthersGoOn, AllGoOn}
+use Rattle.sspi_delegate.specs.History.{ClientStopped, ClientPast, ServerStopped, ServerPast, ClientRefused, ServerRefused, RefusedBy}
 use Rattle.sspi_delegate.proofs.Chained.{client_chained, server_chained}
 use Rattle.sspi_delegate.proofs.Alternating.{others_go, all_unrefused, rest_unrefused}
 use Rattle.sspi_delegate.proofs.HistoryRuns.{history_follows, history_proxy, server_history_follows}

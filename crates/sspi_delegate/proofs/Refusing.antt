@@ -11,17 +11,14 @@ use Rattle.sspi_mech.specs.Meaning.{Meaning}
 use Rattle.sspi_tsreq.specs.declared.request.TsRequest.{TsRequest}
 use Rattle.sspi_credssp.specs.declared.state.CredSspState.{CredSspState}
 use Rattle.sspi_credssp.specs.declared.state.CredSspState.TheVariants.{NegoToken}
-use Rattle.sspi_credssp.specs.Begun.{IfContext, MadeOr}
-use Rattle.sspi_credssp.specs.Client.{ClientView}
+use Rattle.sspi_credssp.specs.Context.{IfContext, MadeOr, ContextSetting}
+use Rattle.sspi_credssp.specs.Ends.{ClientView}
 use Rattle.sspi_credssp.specs.ClientCause.{ClientCause, ResumeCause, KeptCause, NegoCause, StateCause}
-use Rattle.sspi_credssp.specs.ClientStep.{Asked, HasStepped, OnStep}
-use Rattle.sspi_credssp.specs.ClientTurn.{ClientTurn, IsUnderway}
-use Rattle.sspi_credssp.specs.Context.{ContextSetting}
-use Rattle.sspi_credssp.specs.Counts.{is_waiting_in}
-use Rattle.sspi_credssp.specs.Noted.{is_altered_in, is_old_in}
+use Rattle.sspi_credssp.specs.ClientTurn.{Asked, HasStepped, OnStep, ClientTurn, IsUnderway}
+use Rattle.sspi_credssp.specs.Acts.{is_waiting_in}
+use Rattle.sspi_credssp.specs.Noted.{is_altered_in, is_old_in, StopsIf}
 use Rattle.sspi_credssp.specs.Proxy.{ProxyMeaning, ProxyTells, IsAsked}
-use Rattle.sspi_credssp.specs.Stops.{StopsIf}
-use Rattle.sspi_delegate.specs.Refusals.{ClientRefuses, ProxyStays}
+use Rattle.sspi_delegate.specs.History.{ClientRefuses, ProxyStays}
 use Rattle.sspi_credssp.specs.declared.turn.Outcome.TheVariants as outcome
 
 stops_past : (test : Bool) (here kind : ErrorKind) (Later : Type 0) → test ≡ false → Later → StopsIf test here kind Later

@@ -10,16 +10,13 @@ use Rattle.sspi_credssp.specs.declared.public_key.EndpointType.TheVariants.{Clie
 use Rattle.sspi_credssp.specs.declared.state.CredSspState.{CredSspState}
 use Rattle.sspi_credssp.specs.declared.state.CredSspState.TheVariants.{NegoToken, PubKeyInfo, AuthInfo, Final}
 use Rattle.sspi_credssp.specs.Context.{ContextSetting}
-use Rattle.sspi_credssp.specs.Counts.{SameBut}
-use Rattle.sspi_credssp.specs.ErrorRequest.{version_back, error_request}
-use Rattle.sspi_credssp.specs.PublicKey.{prescribed}
-use Rattle.sspi_credssp.specs.Requests.{nonce_of}
-use Rattle.sspi_credssp.specs.Server.{ServerSettings}
+use Rattle.sspi_credssp.specs.Acts.{SameBut}
+use Rattle.sspi_credssp.specs.Requests.{version_back, error_request, nonce_of}
+use Rattle.sspi_credssp.specs.Exchange.{prescribed}
+use Rattle.sspi_credssp.specs.Ends.{ServerSettings}
 use Rattle.sspi_credssp.specs.ServerTurn.{IsServerTurn}
-use Rattle.sspi_credssp.specs.Held.{Proven, HoldsAnswer}
-use Rattle.sspi_credssp.specs.Shown.{server_shown, MayCheck, ShowsServerActs, ShowsTokenBack, ShowsProofBack, ShowsOver, ShowsNegoBack}
-use Rattle.sspi_credssp.specs.Shown.{ShowsStateBack, ShowsAnswer}
-use Rattle.sspi_credssp.specs.Turn.{ServerFrame, UnlessRefused, FitsNoted}
+use Rattle.sspi_credssp.specs.Turn.{Proven, HoldsAnswer, server_shown, MayCheck, ShowsServerActs, ShowsTokenBack, ShowsProofBack, ShowsOver}
+use Rattle.sspi_credssp.specs.Turn.{ShowsNegoBack, ShowsStateBack, ShowsAnswer, ServerFrame, UnlessRefused, FitsNoted}
 use Rattle.sspi_delegate.proofs.ClientOver.{seals_still, opens_still, at_noted}
 use Rattle.sspi_credssp.specs.declared.turn.Outcome.{Outcome}
 use Rattle.sspi_credssp.specs.declared.turn.Outcome.TheVariants as outcome

@@ -8,19 +8,17 @@ use Rattle.sspi_mech.specs.Meaning.{Meaning}
 use Rattle.sspi_tsreq.specs.declared.request.TsRequest.{TsRequest}
 use Rattle.sspi_credssp.specs.declared.state.CredSspState.{CredSspState}
 use Rattle.sspi_credssp.specs.declared.state.CredSspState.TheVariants.{NegoToken, PubKeyInfo, AuthInfo, Final}
-use Rattle.sspi_credssp.specs.Acts.{sealings_by, unsealings_by}
+use Rattle.sspi_credssp.specs.Acts.{sealings_by, unsealings_by, sealings_in, unsealings_in, SameBut}
 use Rattle.sspi_credssp.specs.Context.{ContextSetting}
-use Rattle.sspi_credssp.specs.Counts.{sealings_in, unsealings_in, SameBut}
 use Rattle.sspi_credssp.specs.Noted.{noted_with}
-use Rattle.sspi_credssp.specs.Server.{ServerSettings, ServerView, IsFreshServer}
+use Rattle.sspi_credssp.specs.Ends.{ServerSettings, ServerView, IsFreshServer}
 use Rattle.sspi_credssp.specs.ServerTurn.{ServerTurn, StartsUnused, server_frame, server_turn, after_reply}
-use Rattle.sspi_credssp.specs.Shown.{IsOver, MayCheck, ShowsAnswer, ShowsNegoBack, ShowsServerActs, ShowsStateBack, server_shown}
+use Rattle.sspi_credssp.specs.Turn.{IsOver, MayCheck, ShowsAnswer, ShowsNegoBack, ShowsServerActs, ShowsStateBack, server_shown}
 use Rattle.sspi_credssp.specs.Turn.{ServerFrame, UnlessRefused, FitsNoted, OnceNegotiated}
-use Rattle.sspi_delegate.specs.EndTurns.{made_in, opened_in, is_replied, is_finished, any_proved, any_finished, OthersUnrefused}
-use Rattle.sspi_delegate.specs.Turns.{IsUnrefused, NoneRefused}
-use Rattle.sspi_delegate.specs.EndRun.{ServerEnd, server_end}
-use Rattle.sspi_delegate.specs.ServerRun.{is_over, any_over, server_state, server_noted, server_frame_at}
-use Rattle.sspi_delegate.specs.ServerRun.{EachServerTurn, ServerRan, ServerFollows}
+use Rattle.sspi_delegate.specs.Turns.{made_in, opened_in, is_replied, is_finished, any_proved, any_finished, OthersUnrefused, IsUnrefused}
+use Rattle.sspi_delegate.specs.Turns.{NoneRefused}
+use Rattle.sspi_delegate.specs.EndRun.{ServerEnd, server_end, is_over, any_over, server_state, server_noted, server_frame_at}
+use Rattle.sspi_delegate.specs.EndRun.{EachServerTurn, ServerRan, ServerFollows}
 use Rattle.sspi_delegate.proofs.EndSteps.{none_ran, IsQuiet, AllQuiet, or_false, or_not, is_false, quiet_made, unused_in, same_but, Touched}
 use Rattle.sspi_delegate.proofs.EndSteps.{touched, untouched, unless_given, unless_map, made_by_proof, opened_by_check}
 use Rattle.sspi_delegate.proofs.ServerOver.{OnceRefused, server_over}

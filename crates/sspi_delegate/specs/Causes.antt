@@ -1,23 +1,23 @@
--- What the turns and the log of an exchange show of its answer.
+-- What the turns and the log of an exchange show of its answer, and where each answer must come.
 use Rattle.std.specs.Prelude.{◌≡◌, ◌≢◌, ℕ, ◌+◌, ◌<◌, ◌⊎◌, Bool, true, false, List, [], ◌∷◌, Option, None, Some, Result, Ok, Err}
 use Rattle.sspi_types.specs.declared.error_kind.ErrorKind.{ErrorKind}
 use Rattle.sspi_types.specs.declared.error_kind.ErrorKind.TheVariants as kinds
 use Rattle.sspi_types.specs.Counting.{Counts}
+use Rattle.sspi_ber.specs.declared.wire_kind.WireKind.{WireKind}
 use Rattle.sspi_tsreq.specs.declared.request.TsRequest.{TsRequest}
 use Rattle.sspi_tsreq.specs.Spelling.{fits}
-use Rattle.sspi_delegate.specs.declared.answer.Delegation.{Delegation}
-use Rattle.sspi_delegate.specs.declared.answer.DelegateError.{DelegateError}
-use Rattle.sspi_delegate.specs.declared.answer.DelegateError.TheVariants as errors
-use Rattle.sspi_delegate.specs.declared.carried.Carried.{Carried}
 use Rattle.sspi_credssp.specs.declared.turn.End.{End}
 use Rattle.sspi_credssp.specs.declared.turn.End.TheVariants.{Client, Server}
 use Rattle.sspi_credssp.specs.declared.turn.Outcome.{Outcome}
 use Rattle.sspi_credssp.specs.declared.turn.Outcome.TheVariants.{Reply, Final, Finished, Refused}
 use Rattle.sspi_credssp.specs.declared.turn.Turn.{Turn}
-use Rattle.sspi_delegate.specs.Deliveries.{HeadWithin}
-use Rattle.sspi_delegate.specs.Run.{Logged, LoggedButLast, HasLog, UnreadFor, OpenFor, IsUnreadable}
-use Rattle.sspi_delegate.specs.Turns.{other, next_end, AllGoOn, Alternates}
 use Rattle.sspi_credssp.specs.Turn.{message_of}
+use Rattle.sspi_delegate.specs.declared.answer.DelegateError.{DelegateError}
+use Rattle.sspi_delegate.specs.declared.answer.DelegateError.TheVariants as errors
+use Rattle.sspi_delegate.specs.declared.answer.Delegation.{Delegation}
+use Rattle.sspi_delegate.specs.declared.carried.Carried.{Carried}
+use Rattle.sspi_delegate.specs.Log.{HeadWithin, Logged, LoggedButLast, HasLog, UnreadFor, OpenFor, IsUnreadable}
+use Rattle.sspi_delegate.specs.Turns.{other, next_end, AllGoOn, Alternates}
 
 -- how many turns an end has made
 abbrev pub one_of : End → End → ℕ
@@ -120,3 +120,41 @@ module _ (base : List Carried) (start : ℕ) where
   abbrev pub RunEnds : ℕ → Result Delegation DelegateError → List Turn → List Carried → ℕ → Type 0
   RunEnds limit (Ok delegation) turns log now = Finishes turns log now × (delegation.rounds ≡ turns_of Client turns)
   RunEnds limit (Err error) turns log now = Stopped limit error turns log now
+
+-- ---- Where each answer of an exchange must come: what the turns and the log show leaves no other, but for want of memory, whose
+-- place `Cause` has.
+
+-- the answer is an error of which this holds, or there was no memory
+abbrev pub IsOnly : (DelegateError → Type 0) → Result Delegation DelegateError → Type 0
+IsOnly P (Ok delegation) = ⊥
+IsOnly P (Err errors.InsufficientMemory) = Unit {0}
+IsOnly P (Err error) = P error
+
+abbrev pub IsClientError : ErrorKind → DelegateError → Type 0
+IsClientError kind (errors.Client error) = error.error_type ≡ kind
+IsClientError kind error = ⊥
+
+abbrev pub IsServerError : ErrorKind → DelegateError → Type 0
+IsServerError kind (errors.Server error) = error.error_type ≡ kind
+IsServerError kind error = ⊥
+
+abbrev pub IsOk : Result Delegation DelegateError → Type 0
+IsOk (Ok delegation) = Unit {0}
+IsOk (Err error) = ⊥
+
+-- base: the log before the exchange; limit: how many turns the client may make
+pub record Exactly (base : List Carried) (limit : ℕ) (result : Result Delegation DelegateError) (turns : List Turn)
+    (log : List Carried) : Type 0 where
+  pub ok : NewestIs Server IsFinished turns → IsOk result
+  pub client : (kind : ErrorKind) → NewestIs Client (IsClientRefusal kind) turns → IsOnly (IsClientError kind) result
+  pub server : (kind : ErrorKind) → NewestIs Server (IsServerRefusal kind) turns → IsOnly (IsServerError kind) result
+  pub read : (kind : WireKind) → AllGoOn turns → Logged base turns log → IsUnreadable turns log kind →
+      IsOnly (λ error. error ≡ errors.Read (next_end turns) kind) result
+  pub write : (end : End) → NewestIs end (λ outcome. Unit {0}) turns → AllGoOn turns → LoggedButLast base turns log →
+      NewestFits turns false →
+      IsOnly (λ error. error ≡ errors.Write end) result
+  pub carry : AllGoOn turns → LoggedButLast base turns log → NewestFits turns true → IsOnly (λ error. error ≡ errors.LinkFault) result
+  pub piece : AllGoOn turns → Logged base turns log → OpenFor turns log → TurnLeft limit turns →
+      IsOnly (λ error. error ≡ errors.LinkFault) result
+  pub spent : AllGoOn turns → Logged base turns log → next_end turns ≡ Client → turns_of Client turns ≡ limit →
+      IsOnly (λ error. error ≡ errors.TurnsSpent) result

@@ -1,34 +1,80 @@
--- The contexts of an end's turns, as a chain: each negotiating turn is one step of the context that the turns before have left, on
--- the token that was delivered in that turn, and nothing else moves a context but sealing and opening. A chain speaks of the end as it was
--- made, of its turns, of what its KDC replied and its proxy told, and of no state of the end in between.
-use Rattle.std.specs.Prelude.{◌≡◌, ℕ, List, [], ◌∷◌, Option, None, Some, IsSome, Result, Ok, Err, Bool, true, false}
+-- The contexts of each end's turns as a chain, and what the client's KDC was asked in them.
+use Rattle.std.specs.Prelude.{◌≡◌, ℕ, ◌≤◌, List, [], ◌∷◌, Option, None, Some, IsSome, Result, Ok, Err, Bool, true, false}
 use Rattle.sspi_types.specs.declared.credential_use.CredentialUse.TheVariants.{Inbound}
 use Rattle.sspi_types.specs.declared.error.Error.{Error}
 use Rattle.sspi_types.specs.declared.security_status.SecurityStatus.{SecurityStatus}
-use Rattle.sspi_mech.specs.Meaning.{Meaning}
-use Rattle.sspi_mech.specs.declared.step.Answer.{Answer}
-use Rattle.sspi_mech.specs.declared.step.Answer.TheVariants.{Done, Ask, Refused}
-use Rattle.sspi_mech.specs.declared.step.Step.{Step}
+use Rattle.sspi_types.specs.Counting.{counted_on}
 use Rattle.sspi_names.specs.declared.credentials.CredentialsBuffers.{CredentialsBuffers}
 use Rattle.sspi_names.specs.declared.network.NetworkRequest.{NetworkRequest}
+use Rattle.sspi_mech.specs.declared.step.Answer.{Answer}
+use Rattle.sspi_mech.specs.declared.step.Answer.TheVariants.{Done, Ask, Refused}
+use Rattle.sspi_mech.specs.declared.step.Reply.{Reply}
+use Rattle.sspi_mech.specs.declared.step.Reply.TheVariants.{Answered, Failed}
+use Rattle.sspi_mech.specs.declared.step.Step.{Step}
+use Rattle.sspi_mech.specs.Meaning.{Meaning}
 use Rattle.sspi_credssp.specs.declared.turn.Outcome.{Outcome}
 use Rattle.sspi_credssp.specs.declared.turn.Outcome.TheVariants as outcome
 use Rattle.sspi_credssp.specs.declared.turn.Turn.{Turn}
-use Rattle.sspi_credssp.specs.Begun.{Begun, IfContext}
-use Rattle.sspi_credssp.specs.Client.{ClientView}
-use Rattle.sspi_credssp.specs.ClientStep.{Asked, Walked}
-use Rattle.sspi_credssp.specs.Context.{ContextSetting}
-use Rattle.sspi_credssp.specs.Counts.{sealings_in, unsealings_in, SameBut}
+use Rattle.sspi_credssp.specs.Acts.{sealings_in, unsealings_in, SameBut}
+use Rattle.sspi_credssp.specs.ClientTurn.{Asked, Walked}
+use Rattle.sspi_credssp.specs.Context.{Begun, IfContext, ContextSetting}
+use Rattle.sspi_credssp.specs.Ends.{ClientView, ServerView}
 use Rattle.sspi_credssp.specs.Proxy.{ProxyMeaning}
-use Rattle.sspi_credssp.specs.Server.{ServerView}
-use Rattle.sspi_credssp.specs.ServerStep.{Knowing, Unknown, Accepted, RefusedAt, known_at, server_setting}
-use Rattle.sspi_credssp.specs.ServerTurn.{UnlessMade}
-use Rattle.sspi_delegate.specs.declared.answer.Delegation.{Delegation}
+use Rattle.sspi_credssp.specs.ServerTurn.{Knowing, Unknown, Accepted, RefusedAt, known_at, server_setting, UnlessMade}
 use Rattle.sspi_delegate.specs.declared.answer.DelegateError.{DelegateError}
 use Rattle.sspi_delegate.specs.declared.answer.DelegateError.TheVariants as errors
-use Rattle.sspi_delegate.specs.Asking.{KdcCalls}
-use Rattle.sspi_delegate.specs.EndTurns.{made_in, opened_in}
-use Rattle.sspi_delegate.specs.Turns.{AllGoOn}
+use Rattle.sspi_delegate.specs.declared.answer.Delegation.{Delegation}
+use Rattle.sspi_delegate.specs.Turns.{made_in, opened_in, AllGoOn}
+
+-- ---- What a KDC was asked in an exchange, and what it replied.
+
+-- how calls move a KDC: those with these questions and replies, the newest first; and one that had no memory for its reply
+pub record KdcCalls (D : Type 0) : Type 1 where
+  pub replies : D → List Asked → D → Type 0
+  pub lost : D → D → Type 0
+
+-- where the replies are told, this is the one that is told of the question as the call of that number, and the count of faults
+-- rises only with a failure
+abbrev pub RepliesAsTold : Option (ℕ → NetworkRequest → Reply) → ℕ → NetworkRequest → Reply → ℕ → ℕ → Type 0
+RepliesAsTold None call question reply before now = Unit {0}
+RepliesAsTold (Some told) call question (Answered bytes) before now = (told call question ≡ Answered bytes) × (now ≡ before)
+RepliesAsTold (Some told) call question Failed before now = told call question ≡ Failed
+
+-- a failure is counted, or finds the count at its last value; the count never falls
+abbrev pub CountsReply : Reply → ℕ → ℕ → Type 0
+CountsReply (Answered bytes) before now = before ≤ now
+CountsReply Failed before now = (before ≤ now) × (counted_on before ≤ now)
+
+-- where the replies are told, no fault is counted
+abbrev pub IsCalmWhereTold : Option (ℕ → NetworkRequest → Reply) → ℕ → ℕ → Type 0
+IsCalmWhereTold None before now = before ≤ now
+IsCalmWhereTold (Some told) before now = now ≡ before
+
+module _ {D : Type 0} (told : D → Option (ℕ → NetworkRequest → Reply)) (calls faults : D → ℕ) where
+  -- one call, and its reply
+  pub record HasReplied (before : D) (question : NetworkRequest) (reply : Reply) (now : D) : Type 0 where
+    pub told_same : told now ≡ told before
+    pub called : calls now ≡ counted_on (calls before)
+    pub as_told : RepliesAsTold (told before) (calls before) question reply (faults before) (faults now)
+    pub counted : CountsReply reply (faults before) (faults now)
+
+  -- one call that had no memory for its reply
+  pub record HasNoReply (before now : D) : Type 0 where
+    pub told_same : told now ≡ told before
+    pub called : calls now ≡ counted_on (calls before)
+    pub calm : IsCalmWhereTold (told before) (faults before) (faults now)
+
+  -- from a KDC that was `first` these calls, the newest first, lead to one that is `now`; nothing else moves it
+  abbrev pub HasAnswered : D → List Asked → D → Type 0
+  HasAnswered first [] now = now ≡ first
+  HasAnswered first (asked ∷ log) now = (before : D) × HasAnswered first log before × HasReplied before asked.question asked.reply now
+
+  abbrev pub kdc_calls : KdcCalls D
+  kdc_calls = record { replies = HasAnswered; lost = HasNoReply }
+
+-- ---- The contexts of an end's turns, as a chain: each negotiating turn is one step of the context that the turns before have left, on
+-- the token that was delivered in that turn, and nothing else moves a context but sealing and opening. A chain speaks of the end as it was
+-- made, of its turns, of what its KDC replied and its proxy told, and of no state of the end in between.
 
 -- what a client has between two of its turns: its context, the credentials that it acquired, and its KDC
 pub record ClientStage (C D : Type 0) : Type 0 where

@@ -3,29 +3,22 @@ use Rattle.std.specs.Prelude.{◌≡◌, ℕ, ◌+◌, ◌≤◌, List, Option, 
 use Rattle.sspi_names.specs.declared.network.NetworkRequest.{NetworkRequest}
 use Rattle.sspi_mech.specs.Meaning.{Meaning}
 use Rattle.sspi_mech.specs.declared.step.Reply.{Reply}
-use Rattle.sspi_credssp.specs.Client.{ClientView}
+use Rattle.sspi_credssp.specs.Ends.{ClientView, ServerView}
 use Rattle.sspi_credssp.specs.Context.{ContextSetting}
-use Rattle.sspi_credssp.specs.Peers.{list_calls}
-use Rattle.sspi_credssp.specs.Proxy.{ProxyMeaning, HasAsked}
-use Rattle.sspi_credssp.specs.Server.{ServerView}
+use Rattle.sspi_credssp.specs.Proxy.{list_calls, ProxyMeaning, HasAsked}
 use Rattle.sspi_delegate.specs.declared.answer.Delegation.{Delegation}
 use Rattle.sspi_delegate.specs.declared.answer.DelegateError.{DelegateError}
 use Rattle.sspi_delegate.specs.declared.answer.DelegateError.TheVariants.{TurnsSpent}
 use Rattle.sspi_delegate.specs.declared.carried.Carried.{Carried}
 use Rattle.sspi_delegate.specs.declared.edit.Edit.{Edit}
 use Rattle.sspi_credssp.specs.declared.turn.Turn.{Turn}
-use Rattle.sspi_delegate.specs.Asking.{KdcCalls, kdc_calls}
-use Rattle.sspi_delegate.specs.Causes.{RunEnds}
-use Rattle.sspi_delegate.specs.Chain.{client_stage, ClientChained, server_stage, ServerChain}
-use Rattle.sspi_delegate.specs.EndRun.{client_end, server_end}
-use Rattle.sspi_delegate.specs.EndTurns.{client_turns, server_turns}
-use Rattle.sspi_delegate.specs.Exactly.{Exactly}
+use Rattle.sspi_delegate.specs.Chain.{KdcCalls, kdc_calls, client_stage, ClientChained, server_stage, ServerChain}
+use Rattle.sspi_delegate.specs.Causes.{RunEnds, Exactly}
+use Rattle.sspi_delegate.specs.EndRun.{client_end, server_end, GivesNewest}
+use Rattle.sspi_delegate.specs.Turns.{client_turns, server_turns}
 use Rattle.sspi_delegate.specs.Headline.{IsRun, sealed_turns, SealsAfterProof, NeverSeals, HasExchanged}
-use Rattle.sspi_delegate.specs.History.{ClientPast, ServerPast}
-use Rattle.sspi_delegate.specs.Link.{StaysTold}
-use Rattle.sspi_delegate.specs.Messages.{newest_message, AnswerTold}
-use Rattle.sspi_delegate.specs.Refusals.{RefusedBy, KdcStays, ProxyStays}
-use Rattle.sspi_delegate.specs.ServerRun.{GivesNewest}
+use Rattle.sspi_delegate.specs.History.{ClientPast, ServerPast, RefusedBy, KdcStays, ProxyStays}
+use Rattle.sspi_delegate.specs.Link.{StaysTold, newest_message, AnswerTold}
 
 -- what is told by the three round the ends: the proxy, the link and the KDC
 pub record Around (P L D : Type 0) : Type 0 where

@@ -10,24 +10,23 @@ use Rattle.sspi_credssp.specs.declared.turn.Turn.{Turn}
 use Rattle.sspi_credssp.specs.Turn.{message_of}
 use Rattle.sspi_credssp.specs.declared.client_state.ClientState.{ClientState}
 use Rattle.sspi_credssp.specs.declared.client_state.ClientState.TheVariants.{ReplyNeeded, FinalMessage}
-use Rattle.sspi_credssp.specs.Client.{ClientView}
+use Rattle.sspi_credssp.specs.Ends.{ClientView, ServerView}
 use Rattle.sspi_credssp.specs.ClientTurn.{ClientTurn, IsUnderway}
 use Rattle.sspi_credssp.specs.Context.{ContextSetting}
 use Rattle.sspi_credssp.specs.Proxy.{ProxyMeaning}
-use Rattle.sspi_credssp.specs.Server.{ServerView}
 use Rattle.sspi_credssp.specs.declared.client_state.Progress.TheVariants.{Completed}
 use Rattle.sspi_credssp.specs.declared.turn.Outcome.TheVariants as outcome
 use Rattle.sspi_delegate.specs.declared.answer.DelegateError.{DelegateError}
 use Rattle.sspi_delegate.specs.declared.answer.DelegateError.TheVariants as errors
 use Rattle.sspi_delegate.specs.declared.carried.Carried.{Carried}
-use Rattle.sspi_delegate.specs.Run.{Logged, LoggedButLast, IsDelivered, UnreadFor}
+use Rattle.sspi_delegate.specs.Log.{Logged, LoggedButLast, IsDelivered, UnreadFor}
 use Rattle.sspi_delegate.specs.Turns.{AllGoOn, Alternates}
 use Rattle.sspi_delegate.specs.Causes.{Finishes, Stopped}
 use Rattle.sspi_delegate.specs.declared.ends.Round.{Round}
 use Rattle.sspi_delegate.specs.declared.ends.Round.TheVariants as round
-use Rattle.sspi_delegate.specs.Asking.{KdcCalls}
-use Rattle.sspi_delegate.specs.History.{ClientHistory, IsWaiting, ClientStops, ServerHistory, ServerGave, ServerStops}
-use Rattle.sspi_delegate.specs.Refusals.{StepsSo, ClientRefuses}
+use Rattle.sspi_delegate.specs.Chain.{KdcCalls}
+use Rattle.sspi_delegate.specs.History.{ClientHistory, IsWaiting, ClientStops, ServerHistory, ServerGave, ServerStops, StepsSo}
+use Rattle.sspi_delegate.specs.History.{ClientRefuses}
 
 module _ (base : List Carried) (start : ℕ) where
   -- between two turns: all went on, each has its entry, and the newest delivery is still to be read

@@ -1,24 +1,71 @@
 -- What holds of each exchange between two fresh ends, whatever its link delivers.
-use Rattle.std.specs.Prelude.{◌≡◌, ℕ, ◌+◌, ◌&&◌, ◌||◌, Bool, true, false, List, [], ◌∷◌}
+use Rattle.std.specs.Prelude.{◌≡◌, ℕ, ◌<◌, List, [], ◌∷◌, Option, IsSome, Bool, true, false, ◌+◌, ◌&&◌, ◌||◌}
+use Rattle.sspi_types.specs.declared.error_kind.ErrorKind.TheVariants.{DowngradeDetected}
 use Rattle.sspi_mech.specs.Meaning.{Meaning}
 use Rattle.sspi_credssp.specs.declared.public_key.EndpointType.TheVariants as endpoint
 use Rattle.sspi_credssp.specs.declared.state.CredSspState.TheVariants.{AuthInfo}
-use Rattle.sspi_credssp.specs.Acts.{count_of}
-use Rattle.sspi_credssp.specs.Client.{ClientView, IsFreshClient}
-use Rattle.sspi_credssp.specs.Context.{ContextSetting}
-use Rattle.sspi_credssp.specs.Counts.{OpensIn}
-use Rattle.sspi_credssp.specs.PublicKey.{prescribed}
-use Rattle.sspi_credssp.specs.Server.{ServerView, IsFreshServer}
+use Rattle.sspi_credssp.specs.declared.turn.Outcome.{Outcome}
+use Rattle.sspi_credssp.specs.declared.turn.Outcome.TheVariants as outcome
+use Rattle.sspi_credssp.specs.declared.turn.Turn.{Turn}
+use Rattle.sspi_credssp.specs.Acts.{count_of, OpensIn}
+use Rattle.sspi_credssp.specs.Context.{ContextSetting, NeverRefuses}
+use Rattle.sspi_credssp.specs.Ends.{ClientView, IsFreshClient, ServerView, IsFreshServer}
+use Rattle.sspi_credssp.specs.Exchange.{prescribed}
+use Rattle.sspi_credssp.specs.Requests.{is_code}
 use Rattle.sspi_credssp.specs.Turn.{AtNoted}
 use Rattle.sspi_delegate.specs.declared.carried.Carried.{Carried}
-use Rattle.sspi_credssp.specs.declared.turn.Turn.{Turn}
-use Rattle.sspi_delegate.specs.EndRun.{ClientEnd}
-use Rattle.sspi_delegate.specs.ClientRun.{client_state, client_noted, ClientRan}
-use Rattle.sspi_delegate.specs.EndTurns.{client_turns, server_turns, opened_in}
-use Rattle.sspi_delegate.specs.Heeded.{EachHeedsServer, EachHeedsClient}
-use Rattle.sspi_delegate.specs.Run.{HasLog}
-use Rattle.sspi_delegate.specs.ServerRun.{ServerRan}
-use Rattle.sspi_delegate.specs.Turns.{Alternates}
+use Rattle.sspi_delegate.specs.EndRun.{ClientEnd, client_state, client_noted, ClientRan, ServerRan}
+use Rattle.sspi_delegate.specs.Log.{HasLog}
+use Rattle.sspi_delegate.specs.Turns.{client_turns, server_turns, opened_in, Alternates}
+
+-- ---- Where a turn is refused for the age of its peer's version: in the turn that would note it, which is a client's second, since
+-- it makes its first request itself, and a server's first. A context may itself refuse with that kind; the plain ones never do.
+
+-- after these turns the next one is the end's first, or its second
+abbrev pub is_first : List Turn → Bool
+is_first [] = true
+is_first (t ∷ past) = false
+
+abbrev pub is_second : List Turn → Bool
+is_second [] = false
+is_second (t ∷ past) = is_first past
+
+abbrev pub IsDowngrade : Outcome → Type 0
+IsDowngrade (outcome.Refused kind reply) = kind ≡ DowngradeDetected
+IsDowngrade other = ⊥
+
+-- a client's turn after these finds its server below the least version, and looks so far: the server reports no error
+pub record FindsOldServer (least : ℕ) (past : List Turn) (t : Turn) : Type 0 where
+  pub second : is_second past ≡ true
+  pub code : is_code t.delivered.error_code ≡ false
+  pub old : t.delivered.version < least
+
+-- a server's turn after these finds its client below the least version, and looks so far: it has made its context
+pub record FindsOldClient {C : Type 0} (context : Option C) (least : ℕ) (past : List Turn) (t : Turn) : Type 0 where
+  pub first : is_first past ≡ true
+  pub begun : IsSome context
+  pub old : t.delivered.version < least
+
+module _ {C : Type 0} (c : Meaning ContextSetting C) where
+  pub record HeedsServer (least : ℕ) (past : List Turn) (t : Turn) : Type 0 where
+    pub refuses : FindsOldServer least past t → IsDowngrade t.outcome
+    pub only : NeverRefuses c DowngradeDetected → IsDowngrade t.outcome → FindsOldServer least past t
+
+  pub record HeedsClient (context : Option C) (least : ℕ) (past : List Turn) (t : Turn) : Type 0 where
+    pub refuses : FindsOldClient context least past t → IsDowngrade t.outcome
+    pub only : NeverRefuses c DowngradeDetected → IsDowngrade t.outcome → FindsOldClient context least past t
+
+  -- each of these turns of a client, whose least version it is
+  abbrev pub EachHeedsServer : ℕ → List Turn → Type 0
+  EachHeedsServer least [] = Unit {0}
+  EachHeedsServer least (t ∷ past) = HeedsServer least past t × EachHeedsServer least past
+
+  -- each of these turns of a server, whose least version and context they are
+  abbrev pub EachHeedsClient : Option C → ℕ → List Turn → Type 0
+  EachHeedsClient context least [] = Unit {0}
+  EachHeedsClient context least (t ∷ past) = HeedsClient context least past t × EachHeedsClient context least past
+
+-- ---- what holds
 
 -- both ends as they were made, and a transcript without turns
 pub record IsFresh {C P : Type 0} (client : ClientView C) (server : ServerView C P) (turns : List Turn) : Type 0 where

@@ -1,12 +1,80 @@
--- What the calls of a link answer.
-use Rattle.std.specs.Prelude.{◌≡◌, ℕ, ◌≤◌, Bool, true, false, List, [], ◌∷◌, length, Option, Some, None, Result, Ok, Err, IfOk, reverse}
+-- What the calls of a link answer, and what its edits give of what was sent, where it tells them.
+use Rattle.std.specs.Prelude.{◌≡◌, ℕ, ◌==◌, true, if◌then◌else◌, List, [], ◌∷◌, ◌++◌, map, reverse, length, take, slice_get, slice_set}
+use Rattle.std.specs.Prelude.{Option, Some, None, option_and_then, unwrap_or, ◌≤◌, Bool, false, Result, Ok, Err, IfOk, ◌⊎◌}
+use Rattle.sspi_types.specs.Counting.{Counts}
+use Rattle.sspi_tsreq.specs.declared.request.TsRequest.{TsRequest}
+use Rattle.sspi_tsreq.specs.Spelling.{spelled}
+use Rattle.sspi_credssp.specs.declared.turn.Turn.{Turn}
+use Rattle.sspi_credssp.specs.Turn.{message_of}
+use Rattle.sspi_delegate.specs.declared.answer.DelegateError.{DelegateError}
+use Rattle.sspi_delegate.specs.declared.answer.DelegateError.TheVariants.{Client, Server, Read, Write, LinkFault, TurnsSpent}
+use Rattle.sspi_delegate.specs.declared.answer.DelegateError.TheVariants.{InsufficientMemory}
 use Rattle.sspi_delegate.specs.declared.carried.Carried.{Carried}
 use Rattle.sspi_delegate.specs.declared.edit.Edit.{Edit}
+use Rattle.sspi_delegate.specs.declared.edit.EditKind.{EditKind}
+use Rattle.sspi_delegate.specs.declared.edit.EditKind.TheVariants.{Drop, Cut, Set, Add, Give, Again, Fail}
 use Rattle.sspi_delegate.specs.declared.link.LinkError.{LinkError}
 use Rattle.sspi_delegate.specs.declared.link.LinkError.TheVariants.{Failed, InsufficientMemory}
-use Rattle.sspi_delegate.specs.Edits.{edited, sent_texts, FollowsEdits}
-use Rattle.sspi_types.specs.Counting.{Counts}
 use Rattle.sspi_delegate.specs.Log.{Grows}
+
+-- ---- the edits
+
+-- what entries sent, in their order
+abbrev pub sent_texts : List Carried → List (List ℕ)
+sent_texts entries = map (λ e. e.sent) entries
+
+-- the text at a place, or nothing past the end
+abbrev pub text_at : List (List ℕ) → ℕ → List ℕ
+text_at texts place = unwrap_or (slice_get texts place) []
+
+-- what one edit makes of a text, where the earlier entries sent these texts, the first entry first; None: the carry fails
+abbrev pub edited_once : EditKind → List (List ℕ) → List ℕ → Option (List ℕ)
+edited_once Drop earlier text = Some []
+edited_once (Cut count) earlier text = Some (take count text)
+edited_once (Set place byte) earlier text = Some (slice_set text place byte)
+edited_once (Add more) earlier text = Some (text ++ more)
+edited_once (Give bytes) earlier text = Some bytes
+edited_once (Again entry) earlier text = Some (text_at earlier entry)
+edited_once Fail earlier text = None
+
+-- what the edits of the entry after the earlier ones give of what it sent: each in its order, of what the one before gives
+abbrev pub edited : List Edit → List (List ℕ) → List ℕ → Option (List ℕ)
+edited [] earlier text = Some text
+edited (edit ∷ edits) earlier text =
+    option_and_then (edited edits earlier)
+    (if edit.entry == length earlier then edited_once edit.kind earlier text else Some text)
+
+-- the delivery is a beginning of this text, and it has ended only once it is the whole; None: there is no such entry
+abbrev pub Delivers : Option (List ℕ) → Carried → Type 0
+Delivers None e = ⊥
+Delivers (Some text) e =
+    (e.delivered ≡ take (length e.delivered) text) × (e.ended ≡ true → e.delivered ≡ text)
+
+-- each entry of a log, the newest first, delivers what the edits give
+abbrev pub FollowsEdits : List Edit → List Carried → Type 0
+FollowsEdits edits [] = Unit {0}
+FollowsEdits edits (e ∷ log) =
+    Delivers (edited edits (sent_texts (reverse log)) e.sent) e × FollowsEdits edits log
+
+-- this text is what the edits give of the newest entry
+abbrev pub IsNewestText : List Edit → List Carried → List ℕ → Type 0
+IsNewestText edits [] text = Unit {0}
+IsNewestText edits (e ∷ log) text = edited edits (sent_texts (reverse log)) e.sent ≡ Some text
+
+-- a link in memory: its log, the newest entry first, its edits, how often it failed, and how many bytes a piece may have
+pub record MemoryLinkView : Type 0 where
+  pub log : List Carried
+  pub edits : List Edit
+  pub faults : ℕ
+  -- None: any number
+  pub most : Option ℕ
+
+-- what a link in memory keeps: its log follows its edits, and the text that is served is that of the newest entry
+pub record IsServed (edits : List Edit) (log : List Carried) (text : List ℕ) : Type 0 where
+  pub follows : FollowsEdits edits log
+  pub newest : IsNewestText edits log text
+
+-- ---- What the calls of a link answer.
 
 -- a failure counts one fault, and no other answer counts any
 abbrev pub LinkCause : {X : Type 0} → ℕ → ℕ → Result X LinkError → Type 0
@@ -65,3 +133,32 @@ IsReceivedOf receives false before count into now = receives before count into n
 abbrev pub IsReceived : {R : Type 0} → (R → ℕ → List ℕ → R → Type 0) → List Carried → R → ℕ → List ℕ → R → Type 0
 IsReceived receives [] before count into now = now ≡ before
 IsReceived receives (e ∷ log) before count into now = IsReceivedOf receives e.ended before count into now
+
+-- ---- How the message of a turn is sent.
+
+-- the message of the newest turn
+abbrev pub newest_message : List Turn → Option TsRequest
+newest_message [] = None
+newest_message (t ∷ past) = message_of t.outcome
+
+-- the edits of the next entry fail the carry of this message
+abbrev pub CarryFails : List Edit → List Carried → Option TsRequest → Type 0
+CarryFails edits log None = ⊥
+CarryFails edits log (Some message) = edited edits (sent_texts (reverse log)) (spelled message) ≡ None
+
+-- the edits failed the carry of this message, and one fault was counted
+abbrev pub HasFailed : List Edit → ℕ → ℕ → List Carried → Option TsRequest → Type 0
+HasFailed edits before now log message = CarryFails edits log message × Counts before now
+
+-- Where the edits are told, the link fails only in a carry that they fail, that of the newest turn's message, and then one
+-- fault is counted. A refusing server's message may have failed so, which changes no answer; elsewhere no fault is counted.
+abbrev pub AnswerTold : {X : Type 0} → Option (List Edit) → ℕ → ℕ → Result X DelegateError → List Carried → Option TsRequest → Type 0
+AnswerTold None before now result log message = Unit {0}
+AnswerTold (Some edits) before now (Ok x) log message = now ≡ before
+AnswerTold (Some edits) before now (Err (Client error)) log message = now ≡ before
+AnswerTold (Some edits) before now (Err (Server error)) log message = (now ≡ before) ⊎ HasFailed edits before now log message
+AnswerTold (Some edits) before now (Err (Read end kind)) log message = now ≡ before
+AnswerTold (Some edits) before now (Err (Write end)) log message = now ≡ before
+AnswerTold (Some edits) before now (Err LinkFault) log message = HasFailed edits before now log message
+AnswerTold (Some edits) before now (Err TurnsSpent) log message = now ≡ before
+AnswerTold (Some edits) before now (Err InsufficientMemory) log message = (now ≡ before) ⊎ HasFailed edits before now log message

@@ -6,7 +6,7 @@ use Rattle.sspi_credssp.specs.declared.turn.End.{End}
 use Rattle.sspi_credssp.specs.declared.turn.Outcome.{Outcome}
 use Rattle.sspi_credssp.specs.declared.turn.Turn.{Turn}
 use Rattle.sspi_delegate.specs.declared.carried.Carried.{Carried}
-use Rattle.sspi_delegate.specs.Edits.{Delivers}
+use Rattle.sspi_delegate.specs.Link.{Delivers}
 
 -- the newest entry delivers this text
 abbrev pub NewestDelivers : List ℕ → List Carried → Type 0

@@ -4,7 +4,7 @@ use Rattle.sspi_tsreq.specs.declared.reader.TsReader.{TsReader}
 use Rattle.sspi_tsreq.specs.Feeding.{Stands}
 use Rattle.sspi_delegate.specs.declared.carried.Carried.{Carried}
 use Rattle.sspi_delegate.specs.declared.link.LinkError.{LinkError}
-use Rattle.sspi_delegate.specs.Deliveries.{delivery_limit, is_taken, HeadOpen}
+use Rattle.sspi_delegate.specs.Log.{delivery_limit, is_taken, HeadOpen}
 use Rattle.sspi_delegate.specs.declared.link.LinkError.TheVariants.{Failed, InsufficientMemory}
 
 -- only what was delivered of the newest entry, and whether it ended, may differ

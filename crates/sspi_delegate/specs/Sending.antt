@@ -11,7 +11,7 @@ use Rattle.sspi_delegate.specs.declared.answer.DelegateError.TheVariants.{Client
 use Rattle.sspi_delegate.specs.declared.answer.DelegateError.TheVariants.{InsufficientMemory}
 use Rattle.sspi_delegate.specs.declared.carried.Carried.{Carried}
 use Rattle.sspi_delegate.specs.declared.edit.Edit.{Edit}
-use Rattle.sspi_delegate.specs.Edits.{edited, sent_texts}
+use Rattle.sspi_delegate.specs.Link.{edited, sent_texts}
 use Rattle.sspi_delegate.specs.Log.{begun}
 
 -- a message is spelled, or it is too long

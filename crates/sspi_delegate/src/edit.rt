@@ -1,5 +1,5 @@
 ghost use Rattle.std.specs.Prelude.{◌≡◌, IfOk, slice_set};
-ghost use Rattle.sspi_delegate.specs.Edits.{edited_once, edited, sent_texts, text_at};
+ghost use Rattle.sspi_delegate.specs.Link.{edited_once, edited, sent_texts, text_at};
 
 use crate::carried::Carried;
 use sspi_types::Bytes;

@@ -1,14 +1,11 @@
 ghost use Rattle.std.specs.Prelude.{◌≡◌, ◌<◌, [], ◌∷◌, None, IfSome};
-ghost use Rattle.sspi_credssp.specs.Client.{ClientView};
+ghost use Rattle.sspi_credssp.specs.Ends.{ClientView, ServerView};
 ghost use Rattle.sspi_credssp.specs.Context.{either};
-ghost use Rattle.sspi_credssp.specs.Server.{ServerView};
-ghost use Rattle.sspi_delegate.specs.Asking.{HasReplied, HasNoReply, kdc_calls};
-ghost use Rattle.sspi_delegate.specs.EndTurns.{client_turns, server_turns};
+ghost use Rattle.sspi_delegate.specs.Chain.{HasReplied, HasNoReply, kdc_calls};
+ghost use Rattle.sspi_delegate.specs.Turns.{client_turns, server_turns, AllGoOn};
 ghost use Rattle.sspi_delegate.specs.LogKeeping.{recorded};
-ghost use Rattle.sspi_delegate.specs.Turns.{AllGoOn};
-ghost use Rattle.sspi_delegate.specs.History.{ClientHistory, ServerHistory};
+ghost use Rattle.sspi_delegate.specs.History.{ClientHistory, ServerHistory, KdcStays, ProxyStays};
 ghost use Rattle.sspi_delegate.specs.Recorded.{ClientPushed, ServerPushed};
-ghost use Rattle.sspi_delegate.specs.Refusals.{KdcStays, ProxyStays};
 ghost use Rattle.sspi_delegate.specs.Rounds.{added_by_client, added_by_server, ClientRoundPast, ServerRoundPast};
 ghost use Rattle.sspi_delegate.specs.Halves.{ClientConcludes, WaitsWhereLost};
 

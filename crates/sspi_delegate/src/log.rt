@@ -1,6 +1,5 @@
 ghost use Rattle.std.specs.Prelude.{◌≡◌, ◌<◌, ◌≤◌, [], ◌∷◌, length, reverse, true, IfOk, IfErr, OnOk, OnErr};
-ghost use Rattle.sspi_delegate.specs.Link.{IsReceived, IsReceivedOf, LinkCause, PieceGives};
-ghost use Rattle.sspi_delegate.specs.Edits.{Delivers};
+ghost use Rattle.sspi_delegate.specs.Link.{IsReceived, IsReceivedOf, LinkCause, PieceGives, Delivers};
 ghost use Rattle.sspi_delegate.specs.LogKeeping.{NewestDelivers};
 ghost use Rattle.sspi_delegate.specs.Log.{grown};
 

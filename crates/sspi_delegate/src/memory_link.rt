@@ -27,7 +27,7 @@ pub struct MemoryLink {
 impl Model for MemoryLink {
     ghost use Rattle.std.specs.Prelude.{max};
     ghost use Rattle.std.specs.Option.{option_map};
-    ghost use Rattle.sspi_delegate.specs.Edits.{MemoryLinkView, IsServed};
+    ghost use Rattle.sspi_delegate.specs.Link.{MemoryLinkView, IsServed};
 
     ghost Value = { MemoryLinkView };
 

@@ -8,8 +8,7 @@ use Rattle.sspi_names.specs.Name.{Name}
 use Rattle.sspi_completeness.specs.Matching.{IsCalm}
 use Rattle.sspi_delegate.specs.declared.carried.Carried.{Carried}
 use Rattle.sspi_delegate.specs.declared.edit.Edit.{Edit}
-use Rattle.sspi_delegate.specs.Edits.{Delivers, FollowsEdits}
-use Rattle.sspi_delegate.specs.Link.{FollowsTold}
+use Rattle.sspi_delegate.specs.Link.{Delivers, FollowsEdits, FollowsTold}
 use Rattle.sspi_tsreq.specs.declared.early.EarlyUserAuthResult.{EarlyUserAuthResult}
 use Rattle.sspi_early.specs.declared.answer.Authorized.{Authorized}
 use Rattle.sspi_early.specs.declared.answer.EarlyError.{EarlyError}

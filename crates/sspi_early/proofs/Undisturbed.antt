@@ -9,8 +9,7 @@ use Rattle.sspi_delegate.specs.declared.answer.DelegateError.TheVariants as erro
 use Rattle.sspi_delegate.specs.declared.carried.Carried.{Carried}
 use Rattle.sspi_delegate.specs.declared.edit.Edit.{Edit}
 use Rattle.sspi_delegate.specs.Causes.{RunEnds}
-use Rattle.sspi_delegate.specs.Edits.{Delivers}
-use Rattle.sspi_delegate.specs.Link.{StaysTold, FollowsTold}
+use Rattle.sspi_delegate.specs.Link.{Delivers, StaysTold, FollowsTold}
 use Rattle.sspi_tsreq.specs.declared.early.EarlyUserAuthResult.{EarlyUserAuthResult}
 use Rattle.sspi_completeness.specs.Matching.{AreWhole, ComesToOkIn, IsCalm, IsUndisturbed, unedited, shown}
 use Rattle.sspi_early.specs.declared.answer.Authorized.{Authorized}

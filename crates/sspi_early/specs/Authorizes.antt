@@ -5,8 +5,7 @@ use Rattle.sspi_ber.specs.declared.wire_kind.WireKind.TheVariants as kinds
 use Rattle.sspi_names.specs.declared.identity.AuthIdentity.{AuthIdentity}
 use Rattle.sspi_delegate.specs.declared.carried.Carried.{Carried}
 use Rattle.sspi_delegate.specs.declared.edit.Edit.{Edit}
-use Rattle.sspi_delegate.specs.Edits.{Delivers, edited, sent_texts}
-use Rattle.sspi_delegate.specs.Link.{StaysTold}
+use Rattle.sspi_delegate.specs.Link.{Delivers, edited, sent_texts, StaysTold}
 use Rattle.sspi_tsreq.specs.declared.early.EarlyUserAuthResult.{EarlyUserAuthResult}
 use Rattle.sspi_tsreq.specs.declared.early.EarlyUserAuthResult.TheVariants.{Success, AccessDenied}
 use Rattle.sspi_tsreq.specs.Early.{early_result_text}

@@ -1,5 +1,5 @@
 ghost use Rattle.std.specs.Prelude.{◌≡◌, Err};
-ghost use Rattle.sspi_delegate.specs.Deliveries.{IsUnread};
+ghost use Rattle.sspi_delegate.specs.Log.{IsUnread};
 ghost use Rattle.sspi_early.specs.Authorizes.{Authorizes, Carries, link_at, told_of};
 ghost use Rattle.sspi_early.specs.Hearing.{Hears};
 ghost use Rattle.sspi_tsreq.specs.Early.{early_result_text};

@@ -1,4 +1,4 @@
-ghost use Rattle.sspi_delegate.specs.Deliveries.{IsUnread};
+ghost use Rattle.sspi_delegate.specs.Log.{IsUnread};
 ghost use Rattle.sspi_delegate.specs.Link.{LinkCause, NeverFails, StaysTold};
 ghost use Rattle.sspi_early.specs.Hearing.{IsResultIn, Takes};
 

@@ -5,12 +5,11 @@ use Rattle.std.proofs.lemmas.Bool.{lt-ltb}
 use Rattle.std.proofs.lemmas.List.{append-nil, length-append, length-take}
 use Rattle.std.proofs.KnownBytes.{Consumes-kept, Consumes-trans}
 use Rattle.std.specs.Io.KnownBytes.{Consumes, IsAtEnd, Keeps}
-use Rattle.sspi_ber.specs.Fault.{Ended}
-use Rattle.sspi_ber.specs.Pieces.{bytes_at, header_at}
+use Rattle.sspi_ber.specs.Pieces.{Ended, bytes_at, header_at}
 use Rattle.sspi_ber.specs.declared.wire_kind.WireKind.{WireKind}
 use Rattle.sspi_ber.specs.declared.wire_kind.WireKind.TheVariants.{UnexpectedEof, InvalidData, ReadFault, WriteFault, InsufficientMemory}
 use Rattle.sspi_ber.proofs.PiecesMatch.{header_match}
-use Rattle.sspi_tsreq.specs.Answer.{fault}
+use Rattle.sspi_tsreq.specs.Reading.{fault}
 use Rattle.sspi_tsreq.specs.Reading.{request_at}
 use Rattle.sspi_gate.specs.Next.{IsBad, IsWhole, TakesToFault, TakesWanted}
 use Rattle.sspi_gate.specs.Taking.{IsHeaderOf, TakesBytes, TakesBody, TakesCut, TakesPart, TakesRequest}

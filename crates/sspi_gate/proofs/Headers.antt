@@ -5,15 +5,13 @@ use Rattle.std.proofs.lemmas.Bool.{le-ltb}
 use Rattle.std.proofs.lemmas.List.{append-nil, length-append, length_push, take-append-drop, take-append-le, take_at}
 use Rattle.std.proofs.KnownBytes.{Consumes-kept, Consumes-trans}
 use Rattle.std.specs.Io.KnownBytes.{Consumes, IsAtEnd, Keeps}
-use Rattle.sspi_ber.specs.Fault.{Fault, Ended, Invalid, Read}
-use Rattle.sspi_ber.specs.Limit.{max_content}
-use Rattle.sspi_ber.specs.Forms.{IsHeader, big_endian}
-use Rattle.sspi_ber.specs.Pieces.{bytes_at, header_at, is_octet_count, length_at, limited_at, number_at}
+use Rattle.sspi_ber.specs.Pieces.{Fault, Ended, Invalid, Read, bytes_at, header_at, is_octet_count, length_at, limited_at, number_at}
+use Rattle.sspi_ber.specs.Forms.{max_content, IsHeader, big_endian}
 use Rattle.sspi_ber.specs.declared.wire_kind.WireKind.{WireKind}
 use Rattle.sspi_ber.specs.declared.wire_kind.WireKind.TheVariants.{UnexpectedEof, InvalidData, ReadFault, WriteFault, InsufficientMemory}
 use Rattle.sspi_ber.proofs.PiecesMatch.{chosen, header_match}
 use Rattle.sspi_ber.proofs.Steady.{header_steady}
-use Rattle.sspi_tsreq.specs.Answer.{fault}
+use Rattle.sspi_tsreq.specs.Reading.{fault}
 use Rattle.sspi_tsreq.specs.Reading.{request_at}
 use Rattle.sspi_gate.specs.Next.{AreWanted, IsBad, TakesToFault, TakesWanted}
 use Rattle.sspi_gate.specs.Taking.{Announces, IsHeaderOf, TakesHeader}

@@ -2,9 +2,8 @@
 use Rattle.std.proofs.Common.{◌≡◌, ℕ, ◌-◌, ◌≤◌, List, [], ◌∷◌, ◌++◌, length, take, drop}
 use Rattle.std.proofs.Common.{Ok, Err, refl, sym, ap, ◌∙◌, subst, append_assoc, arith}
 use Rattle.std.proofs.lemmas.List.{append-nil, length-append, length-replicate, take-append-drop, take-append-le, take_at}
-use Rattle.sspi_ber.specs.Fault.{Ended, Invalid, Read, zeros}
+use Rattle.sspi_ber.specs.Pieces.{Ended, Invalid, Read, zeros, element_at, header_at}
 use Rattle.sspi_ber.specs.Forms.{IsLength}
-use Rattle.sspi_ber.specs.Pieces.{element_at, header_at}
 use Rattle.sspi_ber.proofs.Match.{both_are}
 use Rattle.sspi_ber.proofs.PiecesMatch.{element_match}
 use Rattle.sspi_ber.proofs.Steady.{element_steady}

@@ -1,16 +1,15 @@
 -- Why the next request of a way is not handed on, and what is taken and written then.
 use Rattle.std.specs.Prelude.{◌≡◌, ◌⊎◌, ◌≤◌, ℕ, List, [], ◌∷◌, ◌++◌, length, Option, Some, IfSome, Err}
 use Rattle.std.specs.Io.KnownBytes.{Consumes, IsAtEnd, Keeps}
-use Rattle.sspi_ber.specs.Fault.{Ended, Invalid}
+use Rattle.sspi_ber.specs.Pieces.{Ended, Invalid, element_at}
 use Rattle.sspi_ber.specs.Forms.{IsLength}
 use Rattle.sspi_ber.specs.Outside.{Rose, WroteFront}
-use Rattle.sspi_ber.specs.Pieces.{element_at}
 use Rattle.sspi_ber.specs.declared.wire_kind.WireKind.{WireKind}
 use Rattle.sspi_ber.specs.declared.wire_kind.WireKind.TheVariants as kinds
 use Rattle.sspi_credssp.specs.declared.turn.End.{End}
 use Rattle.sspi_credssp.specs.declared.turn.End.TheVariants.{Client, Server}
 use Rattle.sspi_tsreq.specs.declared.request.TsRequest.{TsRequest}
-use Rattle.sspi_tsreq.specs.Answer.{fault}
+use Rattle.sspi_tsreq.specs.Reading.{fault}
 use Rattle.sspi_gate.specs.declared.answer.GateFault.{GateFault}
 use Rattle.sspi_gate.specs.declared.answer.GateFault.TheVariants.{Bad, Version, ReadFault, WriteFault, TurnsSpent, InsufficientMemory}
 use Rattle.sspi_gate.specs.Front.{IsText, MaySend}

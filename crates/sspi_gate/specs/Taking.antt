@@ -1,10 +1,9 @@
 -- How the bytes of one request are taken from a source: its header byte by byte, and then its content.
 use Rattle.std.specs.Prelude.{◌≡◌, ◌<◌, ◌≤◌, ℕ, List, [], ◌∷◌, ◌++◌, length, Option, None, Some, Result, Ok, Err}
 use Rattle.std.specs.Io.KnownBytes.{Consumes, IsAtEnd}
-use Rattle.sspi_ber.specs.Fault.{Ended, Invalid}
+use Rattle.sspi_ber.specs.Pieces.{Ended, Invalid, header_at}
 use Rattle.sspi_ber.specs.Forms.{IsLength}
 use Rattle.sspi_ber.specs.Outside.{Rose}
-use Rattle.sspi_ber.specs.Pieces.{header_at}
 use Rattle.sspi_ber.specs.declared.wire_kind.WireKind.{WireKind}
 use Rattle.sspi_ber.specs.declared.wire_kind.WireKind.TheVariants.{UnexpectedEof, InvalidData, ReadFault, WriteFault, InsufficientMemory}
 use Rattle.sspi_gate.specs.Next.{IsBad, IsWhole, TakesToFault, TakesWanted}

@@ -1,7 +1,8 @@
 -- A mechanism is a context.
 use Rattle.std.proofs.Common.{◌≡◌, ℕ}
 use Rattle.sspi_mech.specs.Calls.{Counts}
-use Rattle.sspi_mech.specs.Context.{IsUnused, IsContext}
+use Rattle.sspi_mech.specs.Context.{IsContext}
+use Rattle.sspi_mech.specs.Calls.{IsUnused}
 use Rattle.sspi_mech.specs.Laws.{IsMechanism}
 use Rattle.sspi_mech.specs.Meaning.{Meaning}
 

@@ -1,5 +1,5 @@
 -- What the calls of a mechanism are given, as values without references.
-use Rattle.std.specs.Prelude.{ℕ, ◌+◌, List, Option}
+use Rattle.std.specs.Prelude.{◌≡◌, ℕ, ◌+◌, List, Option}
 use Rattle.std.specs.Option.{option_copied}
 use Rattle.sspi_types.specs.declared.client_request_flags.ClientRequestFlags.{ClientRequestFlags}
 use Rattle.sspi_types.specs.declared.credential_use.CredentialUse.{CredentialUse}
@@ -58,6 +58,11 @@ one_signing n = record n { signings = n.signings + 1 }
 
 abbrev pub one_verification : Counts → Counts
 one_verification n = record n { verifications = n.verifications + 1 }
+
+-- nothing was sealed or opened
+pub record IsUnused (n : Counts) : Type 0 where
+  pub sealings : n.sealings ≡ 0
+  pub unsealings : n.unsealings ≡ 0
 
 -- a call that is no step, with what it is given
 pub data Call : Type 0 where

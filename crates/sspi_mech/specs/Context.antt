@@ -8,13 +8,8 @@ use Rattle.sspi_mech.specs.declared.step.Answer.{Answer}
 use Rattle.sspi_mech.specs.declared.step.Answer.TheVariants.{Done, Ask}
 use Rattle.sspi_mech.specs.declared.step.Reply.{Reply}
 use Rattle.sspi_mech.specs.declared.step.Step.{Step}
-use Rattle.sspi_mech.specs.Calls.{StepArgs, AcceptArgs, Counts, no_counts}
+use Rattle.sspi_mech.specs.Calls.{StepArgs, AcceptArgs, Counts, no_counts, IsUnused}
 use Rattle.sspi_mech.specs.Meaning.{Meaning}
-
--- nothing was sealed or opened
-pub record IsUnused (n : Counts) : Type 0 where
-  pub sealings : n.sealings ≡ 0
-  pub unsealings : n.unsealings ≡ 0
 
 -- What holds of every context, also of one that chooses among mechanisms: there a refused step may move the context,
 -- a step may sign and check MICs, and another mechanism may take the place of the first, also where credentials are acquired.

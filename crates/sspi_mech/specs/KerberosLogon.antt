@@ -6,7 +6,7 @@ use Rattle.sspi_types.specs.declared.credential_use.CredentialUse.TheVariants.{I
 use Rattle.sspi_types.specs.declared.error_kind.ErrorKind.{ErrorKind}
 use Rattle.sspi_types.specs.declared.error_kind.ErrorKind.TheVariants.{UnknownCredentials, NoCredentials, NoAuthenticatingAuthority}
 use Rattle.sspi_types.specs.declared.error_kind.ErrorKind.TheVariants.{InternalError}
-use Rattle.sspi_names.specs.Credentials.{credentials_buffers_of}
+use Rattle.sspi_names.specs.Identity.{credentials_buffers_of}
 use Rattle.sspi_names.specs.Kdcs.{url_of}
 use Rattle.sspi_names.specs.Name.{Name, inner_of, new_name, domain_of}
 use Rattle.sspi_names.specs.Utf16.{text_of}

@@ -4,7 +4,7 @@ use Rattle.sspi_types.specs.declared.credential_use.CredentialUse.{CredentialUse
 use Rattle.sspi_types.specs.declared.credential_use.CredentialUse.TheVariants.{Inbound, Outbound, Both, Default}
 use Rattle.sspi_types.specs.declared.error_kind.ErrorKind.{ErrorKind}
 use Rattle.sspi_types.specs.declared.error_kind.ErrorKind.TheVariants.{UnknownCredentials, NoCredentials}
-use Rattle.sspi_names.specs.Credentials.{credentials_buffers_of}
+use Rattle.sspi_names.specs.Identity.{credentials_buffers_of}
 use Rattle.sspi_names.specs.declared.credentials.Credentials.{Credentials}
 use Rattle.sspi_names.specs.declared.credentials.Credentials.TheVariants.{AuthIdentity, Keytab}
 use Rattle.sspi_names.specs.declared.credentials.CredentialsBuffers.{CredentialsBuffers}

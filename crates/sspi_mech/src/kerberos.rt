@@ -80,7 +80,7 @@ impl Model for Kerberos {
 
 impl Kerberos {
     ghost use Rattle.std.specs.Prelude.{IfOk};
-    ghost use Rattle.sspi_types.specs.Memory.{memory_error};
+    ghost use Rattle.sspi_types.specs.Errors.{memory_error};
     ghost use Rattle.sspi_mech.specs.Kerberos.{kerberos_with};
     ghost use Rattle.sspi_mech.specs.KerberosLogon.{logon_of};
     ghost use Rattle.sspi_mech.specs.KerberosMessages.{read_ticket};

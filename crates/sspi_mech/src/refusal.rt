@@ -1,6 +1,7 @@
 ghost use Rattle.std.specs.Prelude.{◌≡◌};
-ghost use Rattle.sspi_types.specs.Memory.{memory_error};
-ghost use Rattle.sspi_names.specs.Refusals.{username_refusal, utf16_refusal};
+ghost use Rattle.sspi_types.specs.Errors.{memory_error};
+ghost use Rattle.sspi_names.specs.Utf16.{utf16_refusal};
+ghost use Rattle.sspi_names.specs.Name.{username_refusal};
 ghost use Rattle.sspi_mech.specs.Refusals.{error_of, refusal_of};
 
 use sspi_names::{UsernameError, Utf16Error};

@@ -2,9 +2,8 @@
 use Rattle.std.proofs.Common.{◌≡◌, true, false, refl, sym, ap, ◌∙◌}
 use Rattle.std.proofs.lemmas.Bool.{and_parts, and_from, false≢true}
 use Rattle.std.proofs.lemmas.Slice.Eq.{bytes_eq-Decides}
-use Rattle.sspi_names.specs.Format.{same_format}
+use Rattle.sspi_names.specs.Name.{same_format, Name, folded, equals_ignoring_case, name_eq}
 use Rattle.sspi_names.specs.Grammar.{IsSameName}
-use Rattle.sspi_names.specs.Name.{Name, folded, equals_ignoring_case, name_eq}
 use Rattle.sspi_names.specs.declared.format.UserNameFormat.{UserNameFormat}
 use Rattle.sspi_names.specs.declared.format.UserNameFormat.TheVariants.{UserPrincipalName, DownLevelLogonName}
 

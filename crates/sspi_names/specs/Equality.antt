@@ -4,8 +4,7 @@ use Rattle.std.proofs.lemmas.Bool.{and_parts, and_from, false≢true}
 use Rattle.std.specs.Cmp.{IsEquivalence, IsPartialEquivalence, partial_equiv_from_equiv}
 use Rattle.std.specs.Cmp.Lexicographic.{nat_list_eq_equiv}
 use Rattle.std.specs.Str.{bytes_eq}
-use Rattle.sspi_names.specs.Format.{same_format}
-use Rattle.sspi_names.specs.Name.{folded, same_text, by_parts, name_eq, equals_ignoring_case}
+use Rattle.sspi_names.specs.Name.{same_format, folded, same_text, by_parts, name_eq, equals_ignoring_case}
 use Rattle.sspi_names.specs.declared.format.UserNameFormat.{UserNameFormat}
 use Rattle.sspi_names.specs.declared.format.UserNameFormat.TheVariants.{UserPrincipalName, DownLevelLogonName}
 

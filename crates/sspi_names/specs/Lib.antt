@@ -1,14 +1,11 @@
-pub mod Credentials
-pub mod Equality
-pub mod Format
-pub mod Grammar
 pub mod Identity
+pub mod Equality
+pub mod Name
+pub mod Grammar
 pub mod Splits
 pub mod Kdcs
-pub mod Name
 pub mod Named
 pub mod Places
-pub mod Refusals
 pub mod Same
 pub mod Username
 pub mod Utf16

@@ -3,11 +3,16 @@
 --     name       = principal / down-level
 --     principal  = account "@" domain         the last "@" splits it; no "\"
 --     down-level = [ domain "\" ] account     no "@" and no further "\"
-use Rattle.std.specs.Prelude.{◌≡◌, ◌++◌, ◌==◌, ◌&&◌, ◌||◌, ℕ, List, [], ◌∷◌, Bool, false, Option, Some, None, map, if◌then◌else◌}
-use Rattle.std.specs.Str.{IsUtf8, bytes_eq}
+use Rattle.std.specs.Prelude.{◌≡◌, ◌++◌, ◌==◌, ◌&&◌, ◌||◌, ℕ, List, [], ◌∷◌, Bool, false, Option, Some, None, map, if◌then◌else◌, true}
 use Rattle.std.specs.Char.{to_ascii_lowercase}
 use Rattle.std.specs.List.{list_any, before_first, after_first, before_last, after_last}
-use Rattle.sspi_names.specs.Format.{same_format}
+use Rattle.std.specs.Str.{IsUtf8, bytes_eq}
+use Rattle.sspi_types.specs.declared.error.Error.{Error}
+use Rattle.sspi_types.specs.declared.error_kind.ErrorKind.TheVariants.{UnknownCredentials, InvalidParameter}
+use Rattle.sspi_types.specs.declared.reason.Reason.TheVariants.{UserName}
+use Rattle.sspi_types.specs.Errors.{memory_error}
+use Rattle.sspi_names.specs.declared.error.UsernameError.{UsernameError}
+use Rattle.sspi_names.specs.declared.error.UsernameError.TheVariants as username
 use Rattle.sspi_names.specs.declared.format.UserNameFormat.{UserNameFormat}
 use Rattle.sspi_names.specs.declared.format.UserNameFormat.TheVariants.{UserPrincipalName, DownLevelLogonName}
 
@@ -99,6 +104,13 @@ folded text = map to_ascii_lowercase text
 abbrev pub same_text : List ℕ → List ℕ → Bool
 same_text a b = bytes_eq (folded a) (folded b)
 
+-- the equality of the two forms of a name
+abbrev pub same_format : UserNameFormat → UserNameFormat → Bool
+same_format UserPrincipalName UserPrincipalName = true
+same_format UserPrincipalName DownLevelLogonName = false
+same_format DownLevelLogonName UserPrincipalName = false
+same_format DownLevelLogonName DownLevelLogonName = true
+
 -- whether two names have one form, and their texts are the same
 abbrev pub by_parts : (List ℕ → List ℕ → Bool) → Name → Name → Bool
 by_parts same a b = same_format a.format b.format && (same a.account b.account && same a.domain b.domain)
@@ -110,3 +122,16 @@ name_eq = by_parts bytes_eq
 -- whether two names are equal but for the case of ASCII letters
 unfoldable pub equals_ignoring_case : Name → Name → Bool
 equals_ignoring_case = by_parts same_text
+
+-- ---- what a refused name becomes
+
+abbrev pub mixed_format : Error
+mixed_format = record { error_type = UnknownCredentials; description = UserName; nstatus = None }
+
+-- a name of mixed format in credentials that were delegated
+abbrev pub bad_name : Error
+bad_name = record { error_type = InvalidParameter; description = UserName; nstatus = None }
+
+abbrev pub username_refusal : UsernameError → Error
+username_refusal username.MixedFormat = mixed_format
+username_refusal username.InsufficientMemory = memory_error

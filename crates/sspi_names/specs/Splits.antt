@@ -1,9 +1,9 @@
 -- How a name is parted, and put together again.
 use Rattle.std.specs.Prelude.{◌≡◌, ◌⊎◌, List, ℕ, Option, Some, None, Result, Ok, Err}
 use Rattle.sspi_types.specs.declared.error.Error.{Error}
-use Rattle.sspi_types.specs.Memory.{memory_error}
+use Rattle.sspi_types.specs.Errors.{memory_error}
 use Rattle.sspi_names.specs.Name.{Name, parse_name}
-use Rattle.sspi_names.specs.Refusals.{bad_name}
+use Rattle.sspi_names.specs.Name.{bad_name}
 use Rattle.sspi_names.specs.declared.shape.Shape.{Shape}
 use Rattle.sspi_names.specs.Username.{name_at, IsHeld}
 

@@ -1,10 +1,14 @@
 -- UTF-16 (The Unicode Standard 3.9, D91; RFC 2781 2): the code units of a text, the text of code units, and
 -- their bytes with the low byte first.
-use Rattle.std.specs.Prelude.{◌≡◌, ◌≢◌, ◌+◌, ◌*◌, ◌/◌, ◌%◌, ◌==◌, ℕ, List, [], ◌∷◌, length, true, Result, Ok, Err, if◌then◌else◌}
+use Rattle.std.specs.Prelude.{◌≡◌, ◌≢◌, ◌+◌, ◌*◌, ◌/◌, ◌%◌, ◌==◌, ℕ, List, [], ◌∷◌, length, true, Result, Ok, Err, None, if◌then◌else◌}
 use Rattle.std.specs.List.{flat_map}
 use Rattle.std.specs.Str.{chars, all_scalars, encode_utf8_all}
 use Rattle.std.specs.Char.Escape.{encode_utf16}
 use Rattle.std.specs.Char.Utf16.{has_unpaired_surrogate, utf16_lossy_chars}
+use Rattle.sspi_types.specs.declared.error.Error.{Error}
+use Rattle.sspi_types.specs.declared.error_kind.ErrorKind.TheVariants.{InvalidParameter}
+use Rattle.sspi_types.specs.declared.reason.Reason.TheVariants.{Utf}
+use Rattle.sspi_types.specs.Errors.{memory_error}
 use Rattle.sspi_names.specs.declared.error.Utf16Error.{Utf16Error}
 use Rattle.sspi_names.specs.declared.error.Utf16Error.TheVariants.{OddLength, UnpairedSurrogate, InsufficientMemory}
 
@@ -48,3 +52,13 @@ IsDecoded (Ok units) decoded = decoded ≡ Ok units
 IsDecoded (Err OddLength) decoded = decoded ≡ Err OddLength
 IsDecoded (Err UnpairedSurrogate) decoded = decoded ≡ Err UnpairedSurrogate
 IsDecoded (Err InsufficientMemory) decoded = decoded ≢ Err OddLength
+
+-- ---- what a refused text becomes
+
+abbrev pub bad_text : Error
+bad_text = record { error_type = InvalidParameter; description = Utf; nstatus = None }
+
+abbrev pub utf16_refusal : Utf16Error → Error
+utf16_refusal OddLength = bad_text
+utf16_refusal UnpairedSurrogate = bad_text
+utf16_refusal InsufficientMemory = memory_error

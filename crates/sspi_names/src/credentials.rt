@@ -33,7 +33,7 @@ impl From<AuthIdentity> for Credentials {
 }
 
 impl Credentials {
-    ghost use Rattle.sspi_names.specs.Credentials.{AreCredentials, credentials_buffers_of, password_identity};
+    ghost use Rattle.sspi_names.specs.Identity.{AreCredentials, credentials_buffers_of, password_identity};
 
     /// The credentials with the texts as UTF-16. A keytab stays as it is.
     pub fn to_buffers(&self, alloc: Global) -> Result<CredentialsBuffers, AllocError>
@@ -72,7 +72,7 @@ impl Credentials {
 }
 
 impl CredentialsBuffers {
-    ghost use Rattle.sspi_names.specs.Credentials.{password_buffers};
+    ghost use Rattle.sspi_names.specs.Identity.{password_buffers};
 
     /// The buffers of a name and a password; none exactly for a keytab.
     pub fn as_auth_identity(&self) -> Option<&AuthIdentityBuffers>

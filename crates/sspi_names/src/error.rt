@@ -57,7 +57,7 @@ impl<T: Drop> From<AllocFailed<T>> for Utf16Error {
 /// `MixedFormat` is UnknownCredentials.
 impl From<UsernameError> for Error {
     ghost use Rattle.std.specs.Prelude.{◌≡◌};
-    ghost use Rattle.sspi_names.specs.Refusals.{username_refusal};
+    ghost use Rattle.sspi_names.specs.Name.{username_refusal};
 
     ghost from_gives = { λ error refusal. refusal ≡ username_refusal error };
 
@@ -78,7 +78,7 @@ impl From<UsernameError> for Error {
 /// An odd length and an unpaired surrogate are InvalidParameter.
 impl From<Utf16Error> for Error {
     ghost use Rattle.std.specs.Prelude.{◌≡◌};
-    ghost use Rattle.sspi_names.specs.Refusals.{utf16_refusal};
+    ghost use Rattle.sspi_names.specs.Utf16.{utf16_refusal};
 
     ghost from_gives = { λ error refusal. refusal ≡ utf16_refusal error };
 

@@ -10,7 +10,7 @@ pub enum UserNameFormat {
 }
 
 impl UserNameFormat {
-    ghost use Rattle.sspi_names.specs.Format.{same_format};
+    ghost use Rattle.sspi_names.specs.Name.{same_format};
 
     /// Whether both are the same form.
     pub(crate) fn is(self, other: UserNameFormat) -> bool

@@ -63,7 +63,7 @@ impl Eq for KdcTable {
 }
 
 impl KdcTable {
-    ghost use Rattle.sspi_types.specs.Memory.{memory_error};
+    ghost use Rattle.sspi_types.specs.Errors.{memory_error};
     ghost use Rattle.sspi_names.specs.Kdcs.{url_of};
 
     /// A table without entries.

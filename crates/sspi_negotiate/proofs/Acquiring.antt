@@ -3,7 +3,7 @@ use Rattle.std.proofs.Common.{◌≡◌, ◌≢◌, ◌&&◌, false, Option, opt
 use Rattle.sspi_types.specs.declared.credential_use.CredentialUse.{CredentialUse}
 use Rattle.sspi_types.specs.declared.error.Error.{Error}
 use Rattle.sspi_types.specs.declared.error_kind.ErrorKind.TheVariants.{InsufficientMemory}
-use Rattle.sspi_names.specs.Credentials.{credentials_buffers_of}
+use Rattle.sspi_names.specs.Identity.{credentials_buffers_of}
 use Rattle.sspi_names.specs.declared.credentials.Credentials.{Credentials}
 use Rattle.sspi_names.specs.declared.credentials.CredentialsBuffers.{CredentialsBuffers}
 use Rattle.sspi_mech.specs.Calls.{ToAcquire}

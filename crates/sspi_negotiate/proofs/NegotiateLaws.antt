@@ -4,7 +4,8 @@ use Rattle.sspi_types.specs.declared.error_kind.ErrorKind.{ErrorKind}
 use Rattle.sspi_names.specs.declared.kdc_table.KdcEntry.{KdcEntry}
 use Rattle.sspi_mech.specs.declared.step.Answer.TheVariants.{Done, Ask}
 use Rattle.sspi_mech.specs.Calls.{Counts, no_counts}
-use Rattle.sspi_mech.specs.Context.{IsUnused, IsContext}
+use Rattle.sspi_mech.specs.Context.{IsContext}
+use Rattle.sspi_mech.specs.Calls.{IsUnused}
 use Rattle.sspi_mech.specs.Laws.{IsMechanism}
 use Rattle.sspi_mech.specs.Meaning.{Meaning}
 use Rattle.sspi_mech.specs.Settings.{Setting}

@@ -4,8 +4,7 @@ use Rattle.sspi_types.specs.declared.error_kind.ErrorKind.{ErrorKind}
 use Rattle.sspi_types.specs.declared.error_kind.ErrorKind.TheVariants.{InvalidToken, OutOfSequence, InvalidParameter, InternalError}
 use Rattle.sspi_types.specs.declared.security_status.SecurityStatus.{SecurityStatus}
 use Rattle.sspi_types.specs.declared.security_status.SecurityStatus.TheVariants as statuses
-use Rattle.sspi_names.specs.Credentials.{password_buffers}
-use Rattle.sspi_names.specs.Identity.{buffers_of, identity_of}
+use Rattle.sspi_names.specs.Identity.{password_buffers, buffers_of, identity_of}
 use Rattle.sspi_names.specs.Utf16.{text_of}
 use Rattle.sspi_names.specs.declared.credentials.CredentialsBuffers.{CredentialsBuffers}
 use Rattle.sspi_names.specs.declared.credentials.CredentialsBuffers.TheVariants.{AuthIdentity, Keytab}

@@ -1,5 +1,5 @@
 ghost use Rattle.std.specs.Prelude.{◌≡◌, ◌≢◌, ◌&&◌, Option, None, Some, true, false, IfOk, IfErr, OnOk, OnErr, option_map, option_copied};
-ghost use Rattle.sspi_names.specs.Credentials.{credentials_buffers_of};
+ghost use Rattle.sspi_names.specs.Identity.{credentials_buffers_of};
 ghost use Rattle.sspi_mech.specs.Calls.{ToAcquire};
 ghost use Rattle.sspi_negotiate.specs.Acquire.{is_outbound, lacks, acquired_url, Acquires, RefusesToAcquire};
 ghost use Rattle.sspi_negotiate.specs.Does.{Stays, StaysUnused};

@@ -1,11 +1,11 @@
 // The calls of the mechanism in hand.
 ghost use Rattle.std.specs.Prelude.{◌≡◌, ◌≢◌, ◌<◌, IsTrue, IfOk, IfErr};
 ghost use Rattle.std.specs.Prelude.{OnOk, OnErr, Some, None, option_copied, filter, take};
-ghost use Rattle.sspi_types.specs.Memory.{memory_error};
+ghost use Rattle.sspi_types.specs.Errors.{memory_error};
 ghost use Rattle.sspi_mech.specs.Answers.{IfRefused};
 ghost use Rattle.sspi_mech.specs.Calls.{step_args, accept_args, no_counts, one_sealing, one_unsealing, one_signing, one_verification};
 ghost use Rattle.sspi_mech.specs.Calls.{ToAcquire, ToName, ToIdentify, ToComplete, ToSeal, ToUnseal, ToSign, ToVerify};
-ghost use Rattle.sspi_mech.specs.Context.{IsUnused};
+ghost use Rattle.sspi_mech.specs.Calls.{IsUnused};
 ghost use Rattle.sspi_mech.specs.Refusals.{refusal_of};
 ghost use Rattle.sspi_mech.specs.Answered.{answered};
 ghost use Rattle.sspi_negotiate.specs.declared.protocol.Protocol.TheVariants as protocols;

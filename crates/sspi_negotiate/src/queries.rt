@@ -1,6 +1,6 @@
 // What a negotiation tells of itself: what the mechanism in hand tells, but for the entry of its own package.
 ghost use Rattle.std.specs.Prelude.{◌≡◌, ◌≢◌, Some, None, IfOk, IfErr};
-ghost use Rattle.sspi_types.specs.Memory.{memory_error};
+ghost use Rattle.sspi_types.specs.Errors.{memory_error};
 ghost use Rattle.sspi_types.specs.Packages.{negotiate_entry};
 ghost use Rattle.sspi_mech.specs.Calls.{ToDescribe, ToShowKey};
 ghost use Rattle.sspi_messages.specs.Unsupported.{unsupported};

@@ -1,7 +1,7 @@
 // The steps of a server, and its first one: the offer is read and a mechanism is picked, in the order of `specs/Server.antt`.
 ghost use Rattle.std.specs.Prelude.{◌≡◌, ◌≢◌, [], None, Some, IfOk, IfErr, OnErr, if◌then◌else◌};
 ghost use Rattle.sspi_mech.specs.Calls.{accept_args};
-ghost use Rattle.sspi_mech.specs.Context.{IsUnused};
+ghost use Rattle.sspi_mech.specs.Calls.{IsUnused};
 ghost use Rattle.sspi_mech.specs.Answered.{answered};
 ghost use Rattle.sspi_tokens.specs.Reading.{init_of};
 ghost use Rattle.sspi_negotiate.specs.Does.{Does, Stays, StaysPicked, StaysUnmarked, StaysUnused, told};

@@ -13,24 +13,17 @@ use Rattle.sspi_credssp.specs.declared.turn.Outcome.{Outcome}
 use Rattle.sspi_credssp.specs.declared.turn.Outcome.TheVariants as outcome
 use Rattle.sspi_credssp.specs.declared.turn.Turn.{Turn}
 use Rattle.sspi_credssp.specs.Context.{ContextSetting}
-use Rattle.sspi_credssp.specs.Counts.{OpensIn}
-use Rattle.sspi_credssp.specs.Credentials.{delegated_identity}
-use Rattle.sspi_credssp.specs.Exchange.{opens_identity}
-use Rattle.sspi_credssp.specs.Held.{Proven}
+use Rattle.sspi_credssp.specs.Acts.{OpensIn}
+use Rattle.sspi_credssp.specs.Exchange.{delegated_identity, opens_identity, prescribed}
+use Rattle.sspi_credssp.specs.Turn.{Proven, ShowsAnswer, server_shown, ServerFrame}
 use Rattle.sspi_credssp.specs.Proxy.{ProxyMeaning}
-use Rattle.sspi_credssp.specs.PublicKey.{prescribed}
 use Rattle.sspi_credssp.specs.Requests.{nonce_of}
-use Rattle.sspi_credssp.specs.Server.{ServerView}
+use Rattle.sspi_credssp.specs.Ends.{ServerView}
 use Rattle.sspi_credssp.specs.ServerTurn.{HoldsIdentity}
-use Rattle.sspi_credssp.specs.Shown.{ShowsAnswer, server_shown}
-use Rattle.sspi_credssp.specs.Turn.{ServerFrame}
 use Rattle.sspi_delegate.specs.Causes.{IsFinished}
-use Rattle.sspi_delegate.specs.EndRun.{ClientEnd, ServerEnd}
-use Rattle.sspi_delegate.specs.ClientRun.{client_noted, EachClientTurn}
-use Rattle.sspi_delegate.specs.EndTurns.{onto_client, onto_server, client_turns, server_turns, opened_in, OthersGoOn}
-use Rattle.sspi_delegate.specs.EndTurns.{OthersUnrefused}
-use Rattle.sspi_delegate.specs.ServerRun.{server_noted, server_frame_at, EachServerTurn}
-use Rattle.sspi_delegate.specs.Turns.{AllGoOn, NoneRefused}
+use Rattle.sspi_delegate.specs.EndRun.{ClientEnd, ServerEnd, client_noted, EachClientTurn, server_noted, server_frame_at, EachServerTurn}
+use Rattle.sspi_delegate.specs.Turns.{onto_client, onto_server, client_turns, server_turns, opened_in, OthersGoOn, OthersUnrefused, AllGoOn}
+use Rattle.sspi_delegate.specs.Turns.{NoneRefused}
 use Rattle.sspi_play.specs.Agreement.{OpensBehindTag, NoEcho, AreAlike, Agrees}
 use Rattle.sspi_play.specs.Agreement.{HoldsSealed, Agreement}
 use Rattle.sspi_play.specs.Faithful.{behind_tag, client_sealed, server_sealed, opened_texts, AreFirstOf, by_client}

@@ -39,14 +39,11 @@ use Rattle.sspi_credssp.specs.declared.mode.ClientMode.TheVariants as modes
 use Rattle.sspi_credssp.specs.declared.turn.Outcome.{Outcome}
 use Rattle.sspi_credssp.specs.declared.turn.Outcome.TheVariants as outcome
 use Rattle.sspi_credssp.specs.declared.turn.Turn.{Turn}
-use Rattle.sspi_credssp.specs.Begun.{Begun, IfContext, goes_on, is_new}
-use Rattle.sspi_credssp.specs.Client.{ClientView}
-use Rattle.sspi_credssp.specs.ClientStep.{Asked, Walked, stepped, resumed, still_asked, recounted}
-use Rattle.sspi_credssp.specs.Context.{either, ForClient}
-use Rattle.sspi_delegate.specs.Asking.{KdcCalls}
-use Rattle.sspi_delegate.specs.Chain.{ClientStage, client_at, ClientMovedBy, ClientChain, ClientChainLeft, at_rest, waiting}
-use Rattle.sspi_delegate.specs.EndTurns.{OthersGoOn}
-use Rattle.sspi_delegate.specs.Turns.{GoesOn, AllGoOn}
+use Rattle.sspi_credssp.specs.Context.{Begun, IfContext, goes_on, is_new, either, ForClient}
+use Rattle.sspi_credssp.specs.Ends.{ClientView}
+use Rattle.sspi_credssp.specs.ClientTurn.{Asked, Walked, stepped, resumed, still_asked, recounted}
+use Rattle.sspi_delegate.specs.Chain.{KdcCalls, ClientStage, client_at, ClientMovedBy, ClientChain, ClientChainLeft, at_rest, waiting}
+use Rattle.sspi_delegate.specs.Turns.{OthersGoOn, GoesOn, AllGoOn}
 use Rattle.sspi_play.specs.Negotiated.{IsOffer, HasOffered}
 use Rattle.sspi_play.proofs.Contexts.{HoldsOf, holds_map, IsOfMics, holds_recounted, holds_same_but, holds_stepped, holds_resumed}
 use Rattle.sspi_play.proofs.Marks.{is_marked, marks_before, hand_keeps, QuietEnds, quiet_all, quiet_marks}

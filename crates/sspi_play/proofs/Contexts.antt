@@ -20,7 +20,7 @@ use Rattle.sspi_negotiate.specs.Values.{Negotiation}
 use Rattle.sspi_credssp.specs.declared.context.SspiContext.{SspiContext}
 use Rattle.sspi_credssp.specs.declared.context.SspiContext.TheVariants as contexts
 use Rattle.sspi_credssp.specs.Context.{either}
-use Rattle.sspi_credssp.specs.Counts.{silent, cleared, SameBut}
+use Rattle.sspi_credssp.specs.Acts.{silent, cleared, SameBut}
 use Rattle.sspi_credssp.proofs.ContextLaws.{lawful}
 use Rattle.sspi_play.proofs.Marks.{is_marked, marked_same, hand_keeps}
 

@@ -4,15 +4,14 @@ use Rattle.sspi_mech.specs.Meaning.{Meaning}
 use Rattle.sspi_names.specs.declared.identity.AuthIdentity.{AuthIdentity}
 use Rattle.sspi_credssp.specs.Context.{ContextSetting}
 use Rattle.sspi_credssp.specs.Proxy.{ProxyMeaning}
-use Rattle.sspi_credssp.specs.Server.{ServerView}
+use Rattle.sspi_credssp.specs.Ends.{ServerView}
 use Rattle.sspi_credssp.specs.declared.turn.End.TheVariants.{Server}
 use Rattle.sspi_credssp.specs.declared.turn.Outcome.{Outcome}
 use Rattle.sspi_credssp.specs.declared.turn.Outcome.TheVariants as outcome
 use Rattle.sspi_credssp.specs.declared.turn.Turn.{Turn}
 use Rattle.sspi_delegate.specs.Causes.{IsServerRefusal, IsFinished}
-use Rattle.sspi_delegate.specs.EndTurns.{server_turns, is_finished}
+use Rattle.sspi_delegate.specs.Turns.{server_turns, is_finished, GoesOn}
 use Rattle.sspi_delegate.specs.History.{ServerGave}
-use Rattle.sspi_delegate.specs.Turns.{GoesOn}
 use Rattle.sspi_play.specs.declared.played.Ending.{Ending}
 use Rattle.sspi_play.specs.declared.played.Ending.TheVariants.{Running, Refused, Unread}
 use Rattle.sspi_play.specs.Hands.{TurnsSo, EndsSo}

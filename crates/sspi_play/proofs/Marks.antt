@@ -25,7 +25,7 @@ use Rattle.sspi_negotiate.specs.Values.{Values}
 use Rattle.sspi_negotiate.specs.Verified.{HasNoMic}
 use Rattle.sspi_negotiate.proofs.Ends.{AtRefusal, AllEnds}
 use Rattle.sspi_negotiate.proofs.HandLaws.{hand_lawful}
-use Rattle.sspi_credssp.specs.Counts.{silent}
+use Rattle.sspi_credssp.specs.Acts.{silent}
 
 -- a MIC was made or taken
 abbrev pub is_marked : Counts → Bool

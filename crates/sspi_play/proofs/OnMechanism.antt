@@ -12,17 +12,15 @@ use Rattle.sspi_credssp.specs.declared.context.SspiContext.{SspiContext}
 use Rattle.sspi_credssp.specs.declared.context.SspiContext.TheVariants as contexts
 use Rattle.sspi_credssp.specs.declared.mode.ServerMode.{ServerMode}
 use Rattle.sspi_credssp.specs.declared.turn.Turn.{Turn}
-use Rattle.sspi_credssp.specs.Client.{IsFreshClient}
+use Rattle.sspi_credssp.specs.Ends.{IsFreshClient, IsFreshServer}
 use Rattle.sspi_credssp.specs.Context.{either}
 use Rattle.sspi_credssp.specs.Proxy.{ProxyMeaning}
-use Rattle.sspi_credssp.specs.Server.{IsFreshServer}
 use Rattle.sspi_credssp.proofs.ContextLaws.{lawful}
 use Rattle.sspi_delegate.specs.declared.answer.DelegateError.{DelegateError}
 use Rattle.sspi_delegate.specs.declared.answer.DelegateError.TheVariants as errors
-use Rattle.sspi_delegate.specs.Asking.{KdcCalls}
-use Rattle.sspi_delegate.specs.Chain.{client_stage, server_stage}
+use Rattle.sspi_delegate.specs.Chain.{KdcCalls, client_stage, server_stage}
 use Rattle.sspi_delegate.specs.EndRun.{client_end, server_end}
-use Rattle.sspi_delegate.specs.EndTurns.{client_turns, server_turns}
+use Rattle.sspi_delegate.specs.Turns.{client_turns, server_turns}
 use Rattle.sspi_delegate.proofs.Chained.{client_past_chained, server_chained}
 use Rattle.sspi_play.specs.declared.played.Delivery.{Delivery}
 use Rattle.sspi_play.specs.declared.played.Played.{Played}

@@ -9,8 +9,7 @@ use Rattle.sspi_credssp.specs.declared.turn.End.TheVariants.{Client, Server}
 use Rattle.sspi_credssp.specs.declared.turn.Outcome.{Outcome}
 use Rattle.sspi_credssp.specs.declared.turn.Outcome.TheVariants as outcome
 use Rattle.sspi_credssp.specs.declared.turn.Turn.{Turn}
-use Rattle.sspi_delegate.specs.EndTurns.{onto_client, onto_server, client_turns, server_turns, OthersUnrefused}
-use Rattle.sspi_delegate.specs.Turns.{IsUnrefused, NoneRefused}
+use Rattle.sspi_delegate.specs.Turns.{onto_client, onto_server, client_turns, server_turns, OthersUnrefused, IsUnrefused, NoneRefused}
 use Rattle.sspi_play.specs.declared.played.Delivery.{Delivery}
 use Rattle.sspi_play.specs.declared.played.Ending.{Ending}
 use Rattle.sspi_play.specs.declared.played.Ending.TheVariants.{Running, Unread}

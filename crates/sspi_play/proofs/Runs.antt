@@ -4,19 +4,17 @@ use Rattle.std.proofs.Common.{subst}
 use Rattle.sspi_mech.specs.Context.{IsContext}
 use Rattle.sspi_mech.specs.Meaning.{Meaning}
 use Rattle.sspi_names.specs.declared.identity.AuthIdentity.{AuthIdentity}
-use Rattle.sspi_credssp.specs.Client.{ClientSettings, ClientView, IsFreshClient}
+use Rattle.sspi_credssp.specs.Ends.{ClientSettings, ClientView, IsFreshClient, ServerView, IsFreshServer}
 use Rattle.sspi_credssp.specs.Context.{ContextSetting}
 use Rattle.sspi_credssp.specs.Proxy.{ProxyMeaning}
-use Rattle.sspi_credssp.specs.Server.{ServerView, IsFreshServer}
 use Rattle.sspi_credssp.specs.declared.turn.End.TheVariants.{Client, Server}
 use Rattle.sspi_credssp.specs.declared.turn.Turn.{Turn}
 use Rattle.sspi_delegate.specs.declared.answer.DelegateError.{DelegateError}
 use Rattle.sspi_delegate.specs.declared.answer.DelegateError.TheVariants as errors
-use Rattle.sspi_delegate.specs.Asking.{KdcCalls}
+use Rattle.sspi_delegate.specs.Chain.{KdcCalls}
 use Rattle.sspi_delegate.specs.EndRun.{client_end, server_end}
-use Rattle.sspi_delegate.specs.EndTurns.{client_turns, server_turns, OthersGoOn, OthersUnrefused}
+use Rattle.sspi_delegate.specs.Turns.{client_turns, server_turns, OthersGoOn, OthersUnrefused, AllGoOn}
 use Rattle.sspi_delegate.specs.History.{ClientHistory, ClientLeft, between, waiting}
-use Rattle.sspi_delegate.specs.Turns.{AllGoOn}
 use Rattle.sspi_delegate.proofs.Headline.{sealed_once}
 use Rattle.sspi_delegate.proofs.Heeding.{client_past_heeds, server_past_heeds}
 use Rattle.sspi_delegate.proofs.HistoryRuns.{client_past_ran, server_past_ran}

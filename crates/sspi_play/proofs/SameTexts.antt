@@ -6,10 +6,8 @@ use Rattle.std.proofs.lemmas.List.{append_cancel_left}
 use Rattle.sha2.proofs.Facts256.{length-sha256}
 use Rattle.sha2.specs.Sha256.{sha256}
 use Rattle.sspi_credssp.specs.declared.public_key.EndpointType.TheVariants as whose
-use Rattle.sspi_credssp.specs.PublicKey.{magic, prescribed}
-use Rattle.sspi_delegate.specs.EndRun.{ClientEnd, ServerEnd}
-use Rattle.sspi_delegate.specs.ClientRun.{client_noted}
-use Rattle.sspi_delegate.specs.ServerRun.{server_noted}
+use Rattle.sspi_credssp.specs.Exchange.{magic, prescribed}
+use Rattle.sspi_delegate.specs.EndRun.{ClientEnd, ServerEnd, client_noted, server_noted}
 use Rattle.sspi_credssp.specs.declared.turn.Turn.{Turn}
 use Rattle.sspi_play.specs.Agreement.{NoEcho, by_length, by_least_versions}
 use Rattle.sspi_play.proofs.Lists.{fronts_same, rests_same}

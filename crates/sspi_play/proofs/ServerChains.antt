@@ -16,16 +16,14 @@ use Rattle.sspi_credssp.specs.declared.context.SspiContext.{SspiContext}
 use Rattle.sspi_credssp.specs.declared.turn.Outcome.{Outcome}
 use Rattle.sspi_credssp.specs.declared.turn.Outcome.TheVariants as outcome
 use Rattle.sspi_credssp.specs.declared.turn.Turn.{Turn}
-use Rattle.sspi_credssp.specs.Begun.{Begun, IfContext}
-use Rattle.sspi_credssp.specs.Context.{either}
+use Rattle.sspi_credssp.specs.Context.{Begun, IfContext, either}
 use Rattle.sspi_credssp.specs.Proxy.{ProxyMeaning}
 use Rattle.sspi_credssp.specs.Requests.{token_of}
-use Rattle.sspi_credssp.specs.Server.{ServerView}
-use Rattle.sspi_credssp.specs.ServerStep as accept
+use Rattle.sspi_credssp.specs.Ends.{ServerView}
+use Rattle.sspi_credssp.specs.ServerTurn as accept
 use Rattle.sspi_credssp.specs.ServerTurn.{UnlessMade}
 use Rattle.sspi_delegate.specs.Chain.{ServerStage, server_at, ServerMovedBy, ServerChain}
-use Rattle.sspi_delegate.specs.EndTurns.{OthersUnrefused}
-use Rattle.sspi_delegate.specs.Turns.{IsUnrefused, NoneRefused}
+use Rattle.sspi_delegate.specs.Turns.{OthersUnrefused, IsUnrefused, NoneRefused}
 use Rattle.sspi_play.proofs.Contexts.{holds_map, holds_cleared}
 use Rattle.sspi_play.proofs.ServerPicks.{KeepsPick, keeps_of_mics, keeps_more, Keeps, Shows, After, full_shows, stepped, after_recounted}
 use Rattle.sspi_play.proofs.ServerPicks.{after_identified, begun_keeps}

@@ -40,9 +40,8 @@ use Rattle.sspi_credssp.specs.declared.context.SspiContext.TheVariants as contex
 use Rattle.sspi_credssp.specs.declared.mode.ServerMode.{ServerMode}
 use Rattle.sspi_credssp.specs.declared.mode.ServerMode.TheVariants as modes
 use Rattle.sspi_credssp.specs.declared.turn.Turn.{Turn}
-use Rattle.sspi_credssp.specs.Begun.{Begun, goes_on, is_new}
-use Rattle.sspi_credssp.specs.Context.{either, ForServer}
-use Rattle.sspi_credssp.specs.Counts.{silent}
+use Rattle.sspi_credssp.specs.Context.{Begun, goes_on, is_new, either, ForServer}
+use Rattle.sspi_credssp.specs.Acts.{silent}
 use Rattle.sspi_credssp.specs.Requests.{token_of}
 use Rattle.sspi_play.specs.Negotiated.{HasRead, IsReadAs, protocol_of, protocol_from, picks_with, picked_by}
 use Rattle.sspi_play.proofs.Contexts.{HoldsOf, holds_map, IsOfMics, acquired_hand, holds_recounted, holds_identified}

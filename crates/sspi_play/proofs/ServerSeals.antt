@@ -15,16 +15,14 @@ use Rattle.sspi_credssp.specs.declared.turn.Outcome.{Outcome}
 use Rattle.sspi_credssp.specs.declared.turn.Outcome.TheVariants as outcome
 use Rattle.sspi_credssp.specs.declared.turn.Turn.{Turn}
 use Rattle.sspi_credssp.specs.Context.{ContextSetting}
-use Rattle.sspi_credssp.specs.Counts.{OpensIn}
-use Rattle.sspi_credssp.specs.PublicKey.{prescribed}
+use Rattle.sspi_credssp.specs.Acts.{OpensIn}
+use Rattle.sspi_credssp.specs.Exchange.{prescribed}
 use Rattle.sspi_credssp.specs.Requests.{nonce_of, IsLong}
-use Rattle.sspi_credssp.specs.Shown.{server_shown, IsOver, MayCheck, HasNonce, ShowsServerActs, ShowsOver, ShowsNegoBack}
-use Rattle.sspi_credssp.specs.Shown.{ShowsStateBack, ShowsAnswer}
-use Rattle.sspi_credssp.specs.Turn.{ServerFrame, AtNoted}
-use Rattle.sspi_delegate.specs.EndTurns.{onto_server, server_turns, is_replied, is_finished, any_proved, any_finished}
-use Rattle.sspi_delegate.specs.EndRun.{ServerEnd}
-use Rattle.sspi_delegate.specs.ServerRun.{any_over, server_state, server_noted, server_frame_at, EachServerTurn}
-use Rattle.sspi_delegate.specs.Turns.{IsUnrefused, NoneRefused}
+use Rattle.sspi_credssp.specs.Turn.{server_shown, IsOver, MayCheck, HasNonce, ShowsServerActs, ShowsOver, ShowsNegoBack, ShowsStateBack}
+use Rattle.sspi_credssp.specs.Turn.{ShowsAnswer, ServerFrame, AtNoted}
+use Rattle.sspi_delegate.specs.Turns.{onto_server, server_turns, is_replied, is_finished, any_proved, any_finished, IsUnrefused}
+use Rattle.sspi_delegate.specs.Turns.{NoneRefused}
+use Rattle.sspi_delegate.specs.EndRun.{ServerEnd, any_over, server_state, server_noted, server_frame_at, EachServerTurn}
 use Rattle.sspi_play.specs.Agreement.{TurnOf, OpensBehindTag}
 use Rattle.sspi_play.specs.Faithful.{behind_tag, server_texts, server_sealed, opened_texts}
 use Rattle.sspi_play.proofs.ClientSeals.{is_false, or_false, and_not}

@@ -13,13 +13,11 @@ use Rattle.sspi_tsreq.specs.declared.mode.CredSspMode.TheVariants.{WithCredentia
 use Rattle.sspi_credssp.specs.declared.turn.End.TheVariants.{Client, Server}
 use Rattle.sspi_credssp.specs.declared.turn.Turn.{Turn}
 use Rattle.sspi_credssp.specs.Context.{ContextSetting}
-use Rattle.sspi_credssp.specs.Credentials.{delegated_text, delegated_identity}
+use Rattle.sspi_credssp.specs.Exchange.{delegated_text, delegated_identity}
 use Rattle.sspi_credssp.specs.Requests.{nonce_of}
 use Rattle.sspi_delegate.specs.Causes.{IsFinished}
-use Rattle.sspi_delegate.specs.EndRun.{ClientEnd, ServerEnd}
-use Rattle.sspi_delegate.specs.ClientRun.{client_noted}
-use Rattle.sspi_delegate.specs.EndTurns.{client_turns, server_turns}
-use Rattle.sspi_delegate.specs.ServerRun.{server_noted}
+use Rattle.sspi_delegate.specs.EndRun.{ClientEnd, ServerEnd, client_noted, server_noted}
+use Rattle.sspi_delegate.specs.Turns.{client_turns, server_turns}
 use Rattle.sspi_play.specs.Faithful.{IsFaithful}
 
 -- one of these turns, the newest first: the turns after it, and those before

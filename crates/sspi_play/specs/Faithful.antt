@@ -7,13 +7,10 @@ use Rattle.sspi_credssp.specs.declared.public_key.EndpointType.{EndpointType}
 use Rattle.sspi_credssp.specs.declared.public_key.EndpointType.TheVariants as whose
 use Rattle.sspi_credssp.specs.declared.turn.Turn.{Turn}
 use Rattle.sspi_credssp.specs.Context.{ContextSetting}
-use Rattle.sspi_credssp.specs.Credentials.{delegated_text}
-use Rattle.sspi_credssp.specs.PublicKey.{magic, prescribed}
+use Rattle.sspi_credssp.specs.Exchange.{delegated_text, magic, prescribed}
 use Rattle.sspi_credssp.specs.Requests.{nonce_of}
-use Rattle.sspi_delegate.specs.EndRun.{ClientEnd, ServerEnd}
-use Rattle.sspi_delegate.specs.ClientRun.{client_noted}
-use Rattle.sspi_delegate.specs.EndTurns.{client_turns, server_turns}
-use Rattle.sspi_delegate.specs.ServerRun.{server_noted}
+use Rattle.sspi_delegate.specs.EndRun.{ClientEnd, ServerEnd, client_noted, server_noted}
+use Rattle.sspi_delegate.specs.Turns.{client_turns, server_turns}
 
 -- ---- the texts that an end sealed and opened
 

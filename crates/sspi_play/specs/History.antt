@@ -2,15 +2,14 @@
 use Rattle.std.specs.Prelude.{◌≡◌, false, List, ◌∷◌, ◌++◌, Option, None, Some, Result, Ok, Err}
 use Rattle.sspi_mech.specs.Meaning.{Meaning}
 use Rattle.sspi_names.specs.declared.identity.AuthIdentity.{AuthIdentity}
-use Rattle.sspi_credssp.specs.Client.{ClientView}
+use Rattle.sspi_credssp.specs.Ends.{ClientView, ServerView}
 use Rattle.sspi_credssp.specs.Context.{ContextSetting}
 use Rattle.sspi_credssp.specs.Proxy.{ProxyMeaning}
-use Rattle.sspi_credssp.specs.Server.{ServerView}
 use Rattle.sspi_credssp.specs.declared.turn.Turn.{Turn}
 use Rattle.sspi_delegate.specs.declared.answer.DelegateError.{DelegateError}
-use Rattle.sspi_delegate.specs.Asking.{KdcCalls}
+use Rattle.sspi_delegate.specs.Chain.{KdcCalls}
 use Rattle.sspi_delegate.specs.Causes.{IsFinished}
-use Rattle.sspi_delegate.specs.EndTurns.{any_finished}
+use Rattle.sspi_delegate.specs.Turns.{any_finished}
 use Rattle.sspi_delegate.specs.History.{ClientHistory, ClientLeft, ServerGave}
 
 module _ {C D : Type 0} (c : Meaning ContextSetting C) (k : KdcCalls D) where

@@ -1,20 +1,17 @@
 -- What holds of every play, whatever is delivered to whom.
 use Rattle.std.specs.Prelude.{◌≡◌, ◌≤◌, ℕ, List, reverse, take, length, Result, Ok, Err, IfOk}
 use Rattle.sspi_mech.specs.Meaning.{Meaning}
-use Rattle.sspi_credssp.specs.Client.{ClientView}
+use Rattle.sspi_credssp.specs.Ends.{ClientView, ServerView}
 use Rattle.sspi_credssp.specs.Context.{ContextSetting}
 use Rattle.sspi_credssp.specs.Proxy.{ProxyMeaning}
-use Rattle.sspi_credssp.specs.Server.{ServerView}
 use Rattle.sspi_credssp.specs.declared.turn.End.TheVariants.{Client, Server}
 use Rattle.sspi_credssp.specs.declared.turn.Turn.{Turn}
 use Rattle.sspi_delegate.specs.declared.answer.DelegateError.{DelegateError}
-use Rattle.sspi_delegate.specs.Asking.{KdcCalls}
-use Rattle.sspi_delegate.specs.ClientRun.{ClientRan}
-use Rattle.sspi_delegate.specs.EndTurns.{client_turns, server_turns}
-use Rattle.sspi_delegate.specs.Headline.{sealed_turns}
-use Rattle.sspi_delegate.specs.Heeded.{EachHeedsServer, EachHeedsClient}
+use Rattle.sspi_delegate.specs.Chain.{KdcCalls}
+use Rattle.sspi_delegate.specs.EndRun.{ClientRan, ServerRan}
+use Rattle.sspi_delegate.specs.Turns.{client_turns, server_turns}
+use Rattle.sspi_delegate.specs.Headline.{sealed_turns, EachHeedsServer, EachHeedsClient}
 use Rattle.sspi_delegate.specs.History.{ServerHistory}
-use Rattle.sspi_delegate.specs.ServerRun.{ServerRan}
 use Rattle.sspi_play.specs.declared.played.Delivery.{Delivery}
 use Rattle.sspi_play.specs.declared.played.Played.{Played}
 use Rattle.sspi_play.specs.Plays.{IsNoWant, ending_of, Plays}

@@ -1,12 +1,9 @@
 ghost use Rattle.std.specs.Prelude.{◌≡◌, List, ◌∷◌, OnOk, OnErr, IfErr};
-ghost use Rattle.sspi_credssp.specs.Client.{ClientView};
+ghost use Rattle.sspi_credssp.specs.Ends.{ClientView, ServerView};
 ghost use Rattle.sspi_credssp.specs.Context.{either};
-ghost use Rattle.sspi_credssp.specs.Server.{ServerView};
-ghost use Rattle.sspi_delegate.specs.Asking.{kdc_calls};
-ghost use Rattle.sspi_delegate.specs.EndTurns.{client_turns, server_turns};
-ghost use Rattle.sspi_delegate.specs.History.{ClientHistory, ServerHistory};
-ghost use Rattle.sspi_delegate.specs.Refusals.{KdcStays, ProxyStays};
-ghost use Rattle.sspi_delegate.specs.Turns.{AllGoOn};
+ghost use Rattle.sspi_delegate.specs.Chain.{kdc_calls};
+ghost use Rattle.sspi_delegate.specs.Turns.{client_turns, server_turns, AllGoOn};
+ghost use Rattle.sspi_delegate.specs.History.{ClientHistory, ServerHistory, KdcStays, ProxyStays};
 ghost use Rattle.sspi_play.specs.declared.played.Delivery.{Delivery};
 ghost use Rattle.sspi_play.specs.Hands.{RequestIs, EndsBy, ClientHands, ServerHands, Stands, StopsAt, ServerHandPast};
 ghost use Rattle.sspi_play.specs.History.{ClientPlayed, Gave};

@@ -1,8 +1,8 @@
 ghost use Rattle.std.specs.Prelude.{◌≡◌, [], IfErr};
 ghost use Rattle.sspi_credssp.specs.Context.{either};
-ghost use Rattle.sspi_delegate.specs.Asking.{kdc_calls};
+ghost use Rattle.sspi_delegate.specs.Chain.{kdc_calls};
 ghost use Rattle.sspi_delegate.specs.Headline.{IsFresh};
-ghost use Rattle.sspi_delegate.specs.Refusals.{KdcStays, ProxyStays};
+ghost use Rattle.sspi_delegate.specs.History.{KdcStays, ProxyStays};
 ghost use Rattle.sspi_delegate.specs.EndRun.{client_end, server_end};
 ghost use Rattle.sspi_play.specs.Agreement.{AgreesIfFaithful};
 ghost use Rattle.sspi_play.specs.Kept.{kept_list, identity_of};

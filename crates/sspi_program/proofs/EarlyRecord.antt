@@ -6,7 +6,7 @@ use Rattle.std.specs.Result.{IsOkAnd}
 use Rattle.sspi_names.specs.Name.{Name}
 use Rattle.sspi_delegate.specs.declared.answer.Delegation.{Delegation}
 use Rattle.sspi_delegate.specs.declared.answer.DelegateError.{DelegateError}
-use Rattle.sspi_delegate.specs.Edits.{MemoryLinkView}
+use Rattle.sspi_delegate.specs.Link.{MemoryLinkView}
 use Rattle.sspi_early.specs.declared.answer.Early.{Early}
 use Rattle.sspi_early.specs.declared.answer.EarlyError.{EarlyError}
 use Rattle.sspi_early.specs.Authorizes.{LinkAt}

@@ -7,8 +7,7 @@ use Rattle.sspi_delegate.specs.declared.answer.Delegation.{Delegation}
 use Rattle.sspi_delegate.specs.declared.answer.DelegateError.{DelegateError}
 use Rattle.sspi_delegate.specs.declared.answer.DelegateError.TheVariants as errors
 use Rattle.sspi_delegate.specs.declared.edit.Edit.{Edit}
-use Rattle.sspi_delegate.specs.Edits.{MemoryLinkView, FollowsEdits}
-use Rattle.sspi_delegate.specs.Link.{FollowsTold}
+use Rattle.sspi_delegate.specs.Link.{MemoryLinkView, FollowsEdits, FollowsTold}
 use Rattle.sspi_completeness.specs.Matching.{ComesToOkIn, IsCalm, IsCutShort, delegated_as}
 use Rattle.sspi_early.specs.declared.answer.Early.{Early}
 use Rattle.sspi_early.specs.declared.answer.EarlyError.{EarlyError}

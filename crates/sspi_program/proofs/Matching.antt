@@ -5,10 +5,9 @@ use Rattle.sspi_mech.specs.declared.step.Reply.{Reply}
 use Rattle.sspi_mech.specs.PlainKdc.{PlainKdcState, told_by}
 use Rattle.sspi_credssp.specs.declared.mode.ClientMode.{ClientMode}
 use Rattle.sspi_credssp.specs.declared.mode.ServerMode.{ServerMode}
-use Rattle.sspi_credssp.specs.Client.{ClientSettings, ClientView}
-use Rattle.sspi_credssp.specs.Server.{ServerSettings, ServerView}
+use Rattle.sspi_credssp.specs.Ends.{ClientSettings, ClientView, ServerSettings, ServerView}
 use Rattle.sspi_credssp.specs.Table.{TableView, table_meaning}
-use Rattle.sspi_delegate.specs.Edits.{MemoryLinkView}
+use Rattle.sspi_delegate.specs.Link.{MemoryLinkView}
 use Rattle.sspi_delegate.specs.declared.carried.Carried.{Carried}
 use Rattle.sspi_completeness.specs.Matching.{IsNtlmServer, MatchModes, messages_of, AreMatching, IsUndisturbed, unedited, NoneFailed}
 use Rattle.sspi_completeness.specs.Matching.{none_told, messages_in as matching_messages}

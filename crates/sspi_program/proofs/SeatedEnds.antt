@@ -3,8 +3,7 @@ use Rattle.std.proofs.Common.{◌≡◌, ℕ, ◌+◌, List, [], ◌∷◌, ◌+
 use Rattle.std.specs.Prelude.{OnOk}
 use Rattle.std.proofs.lemmas.List.{replicate_more}
 use Rattle.sspi_mech.specs.PlainKdc.{PlainKdcState}
-use Rattle.sspi_credssp.specs.Client.{ClientView, IsFreshClient}
-use Rattle.sspi_credssp.specs.Server.{ServerView, IsFreshServer}
+use Rattle.sspi_credssp.specs.Ends.{ClientView, IsFreshClient, ServerView, IsFreshServer}
 use Rattle.sspi_credssp.specs.Table.{TableView, table_meaning}
 use Rattle.sspi_delegate.specs.Delegates.{calls_of_kdc}
 use Rattle.sspi_scenario.specs.declared.scenario.Scenario.{Scenario}

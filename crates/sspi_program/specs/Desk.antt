@@ -3,8 +3,7 @@ use Rattle.std.specs.Prelude.{◌≡◌, ℕ, List, [], replicate, Bool, true, f
 use Rattle.std.specs.List.{list_all}
 use Rattle.sspi_mech.specs.PlainKdc.{PlainKdcState}
 use Rattle.sspi_credssp.specs.Acts.{no_acts}
-use Rattle.sspi_credssp.specs.Client.{ClientView}
-use Rattle.sspi_credssp.specs.Server.{ServerView}
+use Rattle.sspi_credssp.specs.Ends.{ClientView, ServerView}
 use Rattle.sspi_credssp.specs.Table.{TableView, table_meaning}
 use Rattle.sspi_credssp.specs.declared.state.CredSspState.TheVariants.{NegoToken}
 use Rattle.sspi_delegate.specs.Delegates.{calls_of_kdc}

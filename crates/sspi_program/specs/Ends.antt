@@ -16,10 +16,9 @@ use Rattle.sspi_credssp.specs.declared.mode.ClientMode.{ClientMode}
 use Rattle.sspi_credssp.specs.declared.mode.ClientMode.TheVariants as client
 use Rattle.sspi_credssp.specs.declared.mode.ServerMode.{ServerMode}
 use Rattle.sspi_credssp.specs.declared.mode.ServerMode.TheVariants as server
-use Rattle.sspi_credssp.specs.Client.{ClientSettings, ClientView}
-use Rattle.sspi_credssp.specs.Server.{ServerSettings, ServerView}
+use Rattle.sspi_credssp.specs.Ends.{ClientSettings, ClientView, ServerSettings, ServerView}
 use Rattle.sspi_credssp.specs.Table.{TableView}
-use Rattle.sspi_delegate.specs.Edits.{MemoryLinkView}
+use Rattle.sspi_delegate.specs.Link.{MemoryLinkView}
 use Rattle.sspi_scenario.specs.declared.scenario.Mode.{Mode}
 use Rattle.sspi_scenario.specs.declared.scenario.Mode.TheVariants as mode
 use Rattle.sspi_scenario.specs.declared.scenario.Package.{Package}

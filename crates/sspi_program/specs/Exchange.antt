@@ -6,16 +6,15 @@ use Rattle.sspi_mech.specs.Kerberos.{kerberos_meaning}
 use Rattle.sspi_mech.specs.Ntlm.{ntlm_meaning}
 use Rattle.sspi_mech.specs.PlainKdc.{PlainKdcState, told_by}
 use Rattle.sspi_mech.specs.declared.step.Reply.{Reply}
-use Rattle.sspi_credssp.specs.Client.{ClientView}
+use Rattle.sspi_credssp.specs.Ends.{ClientView, ServerView}
 use Rattle.sspi_credssp.specs.Context.{ContextSetting, either}
-use Rattle.sspi_credssp.specs.Server.{ServerView}
 use Rattle.sspi_credssp.specs.Table.{TableView, table_meaning}
 use Rattle.sspi_delegate.specs.declared.answer.Delegation.{Delegation}
 use Rattle.sspi_delegate.specs.declared.answer.DelegateError.{DelegateError}
 use Rattle.sspi_delegate.specs.declared.carried.Carried.{Carried}
 use Rattle.sspi_delegate.specs.declared.edit.Edit.{Edit}
 use Rattle.sspi_delegate.specs.Delegates.{Around, around_by, parties, Delegates}
-use Rattle.sspi_delegate.specs.Edits.{MemoryLinkView, FollowsEdits}
+use Rattle.sspi_delegate.specs.Link.{MemoryLinkView, FollowsEdits}
 use Rattle.sspi_delegate.specs.Headline.{IsFresh}
 use Rattle.sspi_program.specs.Ends.{PlainContext, IsClientOf, IsServerOf, link_in, kdc_in}
 use Rattle.sspi_program.specs.declared.record.Record.{Record}

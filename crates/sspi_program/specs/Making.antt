@@ -1,7 +1,6 @@
 -- The two ends that are made of a scenario, and their KDC, before they meet.
 use Rattle.std.specs.Prelude.{◌≡◌}
-use Rattle.sspi_credssp.specs.Client.{IsFreshClient}
-use Rattle.sspi_credssp.specs.Server.{IsFreshServer}
+use Rattle.sspi_credssp.specs.Ends.{IsFreshClient, IsFreshServer}
 use Rattle.sspi_scenario.specs.declared.scenario.Scenario.{Scenario}
 use Rattle.sspi_program.specs.Ends.{IsServerOf, IsClientOf, kdc_in}
 use Rattle.sspi_program.specs.declared.ends.Ends.{Ends}

@@ -2,15 +2,14 @@
 use Rattle.std.specs.Prelude.{◌≡◌, ℕ, List, [], None, Result, Ok}
 use Rattle.sspi_mech.specs.Kerberos.{kerberos_meaning}
 use Rattle.sspi_mech.specs.Ntlm.{ntlm_meaning}
-use Rattle.sspi_credssp.specs.Client.{ClientView}
-use Rattle.sspi_credssp.specs.Server.{ServerView}
+use Rattle.sspi_credssp.specs.Ends.{ClientView, ServerView}
 use Rattle.sspi_credssp.specs.Table.{TableView, table_meaning}
 use Rattle.sspi_delegate.specs.declared.answer.DelegateError.{DelegateError}
 use Rattle.sspi_delegate.specs.EndRun.{client_end, server_end}
 use Rattle.sspi_delegate.specs.Delegates.{calls_of_kdc}
-use Rattle.sspi_delegate.specs.Edits.{MemoryLinkView}
+use Rattle.sspi_delegate.specs.Link.{MemoryLinkView}
 use Rattle.sspi_delegate.specs.Headline.{IsFresh}
-use Rattle.sspi_delegate.specs.Refusals.{KdcStays, ProxyStays}
+use Rattle.sspi_delegate.specs.History.{KdcStays, ProxyStays}
 use Rattle.sspi_play.specs.Agreement.{AgreesIfFaithful}
 use Rattle.sspi_play.specs.Kept.{kept_list, identity_of}
 use Rattle.sspi_play.specs.Negotiated.{NegotiatesIfFaithful}

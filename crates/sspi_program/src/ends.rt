@@ -1,6 +1,5 @@
 ghost use Rattle.std.specs.Prelude.{◌≡◌, IfOk};
-ghost use Rattle.sspi_credssp.specs.Client.{IsFreshClient};
-ghost use Rattle.sspi_credssp.specs.Server.{IsFreshServer};
+ghost use Rattle.sspi_credssp.specs.Ends.{IsFreshClient, IsFreshServer};
 ghost use Rattle.sspi_program.specs.Ends.{credentials_in, IsClientOf, IsServerOf, link_in, kdc_in};
 ghost use Rattle.sspi_program.specs.Making.{AreEndsOf};
 

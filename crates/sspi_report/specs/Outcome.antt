@@ -10,7 +10,7 @@ use Rattle.sspi_names.specs.declared.identity.AuthIdentity.{AuthIdentity}
 use Rattle.sspi_names.specs.Name.{inner_of}
 use Rattle.sspi_types.specs.declared.error.Error.{Error}
 use Rattle.sspi_types.specs.declared.nstatus.NStatusCode.{NStatusCode}
-use Rattle.sspi_types.specs.ErrorKinds.{error_kind_name}
+use Rattle.sspi_types.specs.Errors.{error_kind_name}
 use Rattle.sspi_types.specs.StatusCodes.{hex_text}
 use Rattle.sspi_report.specs.Entries.{line}
 use Rattle.sspi_report.specs.Names.{end_name, fault_name}

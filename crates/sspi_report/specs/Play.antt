@@ -2,7 +2,7 @@
 use Rattle.std.specs.Prelude.{ℕ, List, [], ◌++◌, Option, None, Some, codes, if◌then◌else◌}
 use Rattle.std.specs.List.{flat_map}
 use Rattle.hex.specs.Hex.{encode_lower}
-use Rattle.sspi_types.specs.ErrorKinds.{error_kind_name}
+use Rattle.sspi_types.specs.Errors.{error_kind_name}
 use Rattle.sspi_names.specs.declared.identity.AuthIdentity.{AuthIdentity}
 use Rattle.sspi_names.specs.Name.{inner_of}
 use Rattle.sspi_tsreq.specs.declared.request.TsRequest.{TsRequest}

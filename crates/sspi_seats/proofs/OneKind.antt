@@ -4,18 +4,18 @@ use Rattle.std.specs.Prelude.{◌==◌, if◌then◌else◌}
 use Rattle.std.proofs.lemmas.Bool.{eq-eqb, ne_eqb}
 use Rattle.sspi_types.specs.declared.error.Error.{Error}
 use Rattle.sspi_types.specs.declared.error_kind.ErrorKind.{ErrorKind}
-use Rattle.sspi_ber.specs.Fault.{Fault, Read, fault_of}
+use Rattle.sspi_ber.specs.Pieces.{Fault, Read, fault_of}
 use Rattle.sspi_ber.specs.declared.wire_kind.WireKind.{WireKind}
 use Rattle.sspi_ber.specs.declared.wire_kind.WireKind.TheVariants as wire
 use Rattle.sspi_tsreq.proofs.RequestMatch.{request_again}
-use Rattle.sspi_tsreq.specs.Answer.{fault}
+use Rattle.sspi_tsreq.specs.Reading.{fault}
 use Rattle.sspi_tsreq.specs.declared.request.TsRequest.{TsRequest}
 use Rattle.sspi_credssp.specs.declared.turn.End.TheVariants.{Client, Server}
 use Rattle.sspi_credssp.specs.declared.turn.Outcome.{Outcome}
 use Rattle.sspi_credssp.specs.declared.turn.Outcome.TheVariants as outcome
 use Rattle.sspi_credssp.specs.declared.turn.Turn.{Turn}
 use Rattle.sspi_delegate.specs.Causes.{IsClientRefusal, NewestIs}
-use Rattle.sspi_delegate.specs.Run.{IsRead}
+use Rattle.sspi_delegate.specs.Log.{IsRead}
 use Rattle.sspi_delegate.specs.Turns.{GoesOn}
 use Rattle.sspi_desk.specs.Call.{HasFault}
 use Rattle.sspi_desk.specs.declared.answer.DeskError.{DeskError}

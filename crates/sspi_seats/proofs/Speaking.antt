@@ -9,17 +9,15 @@ use Rattle.sspi_credssp.specs.declared.turn.End.TheVariants.{Client, Server}
 use Rattle.sspi_credssp.specs.declared.turn.Outcome.{Outcome}
 use Rattle.sspi_credssp.specs.declared.turn.Outcome.TheVariants as outcome
 use Rattle.sspi_credssp.specs.declared.turn.Turn.{Turn}
-use Rattle.sspi_credssp.specs.Client.{ClientView}
+use Rattle.sspi_credssp.specs.Ends.{ClientView, ServerView}
 use Rattle.sspi_credssp.specs.Context.{ContextSetting}
 use Rattle.sspi_credssp.specs.Proxy.{ProxyMeaning}
-use Rattle.sspi_credssp.specs.Server.{ServerView}
 use Rattle.sspi_credssp.specs.Turn.{message_of}
-use Rattle.sspi_delegate.specs.Asking.{KdcCalls}
+use Rattle.sspi_delegate.specs.Chain.{KdcCalls}
 use Rattle.sspi_delegate.specs.Causes.{NewestFits, NewestIs, MessageFits}
-use Rattle.sspi_delegate.specs.EndTurns.{onto_server, server_turns, OthersGoOn}
+use Rattle.sspi_delegate.specs.Turns.{onto_server, server_turns, OthersGoOn, AllGoOn, GoesOn}
 use Rattle.sspi_delegate.specs.History.{ClientHistory}
-use Rattle.sspi_delegate.specs.Run.{IsSent}
-use Rattle.sspi_delegate.specs.Turns.{AllGoOn, GoesOn}
+use Rattle.sspi_delegate.specs.Log.{IsSent}
 use Rattle.sspi_desk.specs.Alone.{Alone}
 use Rattle.sspi_desk.specs.Call.{IsServed, Spells}
 use Rattle.sspi_desk.specs.Desk.{DeskView, session, Serves, ServesAt}

@@ -10,19 +10,17 @@ use Rattle.sspi_credssp.specs.declared.turn.End.{End}
 use Rattle.sspi_credssp.specs.declared.turn.End.TheVariants.{Client}
 use Rattle.sspi_credssp.specs.declared.turn.Outcome.{Outcome}
 use Rattle.sspi_credssp.specs.declared.turn.Turn.{Turn}
-use Rattle.sspi_credssp.specs.Client.{ClientView}
+use Rattle.sspi_credssp.specs.Ends.{ClientView, ServerView}
 use Rattle.sspi_credssp.specs.Context.{ContextSetting}
 use Rattle.sspi_credssp.specs.Proxy.{ProxyMeaning}
-use Rattle.sspi_credssp.specs.Server.{ServerView}
-use Rattle.sspi_delegate.specs.Asking.{KdcCalls}
+use Rattle.sspi_delegate.specs.Chain.{KdcCalls}
 use Rattle.sspi_delegate.specs.Causes.{IsClientRefusal, NewestIs}
-use Rattle.sspi_delegate.specs.EndTurns.{client_turns, server_turns, onto_client, onto_server, OthersGoOn}
+use Rattle.sspi_delegate.specs.Turns.{client_turns, server_turns, onto_client, onto_server, OthersGoOn, AllGoOn, GoesOn, TranscriptView}
 use Rattle.sspi_desk.specs.Alone.{Alone}
 use Rattle.sspi_desk.specs.declared.answer.DeskError.{DeskError}
 use Rattle.sspi_desk.specs.declared.answer.Served.{Served}
 use Rattle.sspi_delegate.specs.History.{ClientHistory, ClientStopped}
 use Rattle.sspi_delegate.specs.Recorded.{PushedSuch}
-use Rattle.sspi_delegate.specs.Turns.{AllGoOn, GoesOn, TranscriptView}
 use Rattle.sspi_seats.specs.Guest.{AreClients, Runs, HasEnded, IsVisited, StandsBy}
 use Rattle.sspi_seats.specs.Keeping.{IsNew}
 use Rattle.sspi_seats.specs.Hearing.{IsSpeaking}

@@ -6,11 +6,10 @@ use Rattle.sspi_credssp.specs.declared.context.SspiContext.{SspiContext}
 use Rattle.sspi_credssp.specs.declared.turn.Turn.{Turn}
 use Rattle.sspi_credssp.specs.Context.{ContextSetting}
 use Rattle.sspi_credssp.specs.Proxy.{ProxyMeaning}
-use Rattle.sspi_credssp.specs.Server.{ServerView}
-use Rattle.sspi_delegate.specs.Asking.{KdcCalls}
-use Rattle.sspi_delegate.specs.EndTurns.{client_turns, server_turns, OthersGoOn}
+use Rattle.sspi_credssp.specs.Ends.{ServerView}
+use Rattle.sspi_delegate.specs.Chain.{KdcCalls}
+use Rattle.sspi_delegate.specs.Turns.{client_turns, server_turns, OthersGoOn, AllGoOn}
 use Rattle.sspi_delegate.specs.History.{ClientHistory}
-use Rattle.sspi_delegate.specs.Turns.{AllGoOn}
 use Rattle.sspi_desk.specs.Alone.{Alone}
 use Rattle.sspi_seats.specs.Messages.{IsNext, AreServed}
 use Rattle.sspi_seats.specs.Outcomes.{Shows}

@@ -1,13 +1,13 @@
 -- What a guest keeps of a call, and what a table keeps of its guests.
 use Rattle.std.specs.Prelude.{◌≡◌, ◌≢◌, ◌++◌, ◌∷◌, List, ℕ, Ok, Some, Err, Result, [], length}
 use Rattle.std.specs.List.{slice_get}
-use Rattle.sspi_tsreq.specs.Value.{first_request}
+use Rattle.sspi_tsreq.specs.Grammar.{first_request}
 use Rattle.sspi_mech.specs.Meaning.{Meaning}
-use Rattle.sspi_credssp.specs.Client.{ClientView}
+use Rattle.sspi_credssp.specs.Ends.{ClientView}
 use Rattle.sspi_credssp.specs.declared.context.SspiContext.{SspiContext}
 use Rattle.sspi_credssp.specs.Proxy.{ProxyMeaning}
 use Rattle.sspi_credssp.specs.Context.{ContextSetting}
-use Rattle.sspi_delegate.specs.Asking.{KdcCalls}
+use Rattle.sspi_delegate.specs.Chain.{KdcCalls}
 use Rattle.sspi_desk.specs.declared.answer.DeskError.{DeskError}
 use Rattle.sspi_desk.specs.Desk.{DeskView, session}
 use Rattle.sspi_desk.specs.declared.answer.Served.{Served}

@@ -1,10 +1,10 @@
 -- How a client's turns, the calls on its session and their answers belong together; each is a list, the newest first.
 use Rattle.std.specs.Prelude.{◌≡◌, ℕ, List, [], ◌∷◌, Result, Ok, Err}
 use Rattle.sspi_tsreq.specs.declared.request.TsRequest.{TsRequest}
-use Rattle.sspi_tsreq.specs.Value.{first_request}
+use Rattle.sspi_tsreq.specs.Grammar.{first_request}
 use Rattle.sspi_credssp.specs.declared.turn.Turn.{Turn}
 use Rattle.sspi_credssp.specs.Turn.{message_of}
-use Rattle.sspi_delegate.specs.Run.{IsRead, IsSent}
+use Rattle.sspi_delegate.specs.Log.{IsRead, IsSent}
 use Rattle.sspi_desk.specs.declared.answer.DeskError.{DeskError}
 use Rattle.sspi_desk.specs.declared.answer.Served.{Served}
 use Rattle.sspi_desk.specs.declared.answer.Served.TheVariants as served

@@ -3,15 +3,12 @@ use Rattle.std.specs.Prelude.{ℕ, ◌≤◌, List, length, reverse}
 use Rattle.sspi_mech.specs.Meaning.{Meaning}
 use Rattle.sspi_credssp.specs.declared.context.SspiContext.{SspiContext}
 use Rattle.sspi_credssp.specs.declared.turn.Turn.{Turn}
-use Rattle.sspi_credssp.specs.Client.{ClientView, IsFreshClient}
+use Rattle.sspi_credssp.specs.Ends.{ClientView, IsFreshClient, ServerView}
 use Rattle.sspi_credssp.specs.Context.{ContextSetting}
 use Rattle.sspi_credssp.specs.Proxy.{ProxyMeaning}
-use Rattle.sspi_credssp.specs.Server.{ServerView}
-use Rattle.sspi_delegate.specs.Asking.{KdcCalls}
-use Rattle.sspi_delegate.specs.EndRun.{client_end}
-use Rattle.sspi_delegate.specs.ClientRun.{ClientRan}
-use Rattle.sspi_delegate.specs.Headline.{sealed_turns, SealsAfterProof}
-use Rattle.sspi_delegate.specs.Heeded.{EachHeedsServer}
+use Rattle.sspi_delegate.specs.Chain.{KdcCalls}
+use Rattle.sspi_delegate.specs.EndRun.{client_end, ClientRan}
+use Rattle.sspi_delegate.specs.Headline.{sealed_turns, SealsAfterProof, EachHeedsServer}
 use Rattle.sspi_delegate.specs.History.{ClientHistory, ClientStopped}
 use Rattle.sspi_desk.specs.Alone.{Alone}
 use Rattle.sspi_seats.specs.Outcomes.{Shows}

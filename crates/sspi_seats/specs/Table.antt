@@ -5,8 +5,8 @@ use Rattle.sspi_mech.specs.Meaning.{Meaning}
 use Rattle.sspi_credssp.specs.declared.context.SspiContext.{SspiContext}
 use Rattle.sspi_credssp.specs.Context.{ContextSetting}
 use Rattle.sspi_credssp.specs.Proxy.{ProxyMeaning}
-use Rattle.sspi_credssp.specs.Server.{ServerView}
-use Rattle.sspi_delegate.specs.Asking.{KdcCalls}
+use Rattle.sspi_credssp.specs.Ends.{ServerView}
+use Rattle.sspi_delegate.specs.Chain.{KdcCalls}
 use Rattle.sspi_desk.specs.Desk.{session}
 use Rattle.sspi_seats.specs.Guest.{IsVisited}
 use Rattle.sspi_seats.specs.Seat.{Place, IsSeat}

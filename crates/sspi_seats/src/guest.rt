@@ -1,8 +1,8 @@
 ghost use Rattle.std.specs.Prelude.{◌≡◌, ◌+◌, ◌++◌, ℕ, [], ◌∷◌, None, Some, IsErr, OnOk, is_some};
 ghost use Rattle.sspi_credssp.specs.Context.{either};
 ghost use Rattle.sspi_credssp.specs.declared.context.SspiContext.{SspiContext};
-ghost use Rattle.sspi_credssp.specs.Server.{ServerView};
-ghost use Rattle.sspi_delegate.specs.Asking.{kdc_calls};
+ghost use Rattle.sspi_credssp.specs.Ends.{ServerView};
+ghost use Rattle.sspi_delegate.specs.Chain.{kdc_calls};
 ghost use Rattle.sspi_desk.specs.Alone.{Alone};
 ghost use Rattle.sspi_desk.specs.Desk.{session, Serves};
 ghost use Rattle.sspi_seats.specs.Keeping.{IsNew, KeepsCall, OthersStay};

@@ -2,7 +2,7 @@ ghost use Rattle.std.specs.Prelude.{◌≡◌, ◌+◌, ◌++◌, ◌<◌, ℕ, 
 ghost use Rattle.std.specs.List.{list_any};
 ghost use Rattle.sspi_credssp.specs.Context.{either};
 ghost use Rattle.sspi_credssp.specs.declared.context.SspiContext.{SspiContext};
-ghost use Rattle.sspi_delegate.specs.Asking.{kdc_calls};
+ghost use Rattle.sspi_delegate.specs.Chain.{kdc_calls};
 ghost use Rattle.sspi_desk.specs.Desk.{session};
 ghost use Rattle.sspi_seats.specs.Keeping.{OthersStay, AreKept, HasLeft};
 ghost use Rattle.sspi_seats.specs.Seat.{Place, place};

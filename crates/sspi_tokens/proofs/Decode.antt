@@ -1,10 +1,10 @@
 -- What a reader over the bytes of a token gave, as the answer of `decode`.
 use Rattle.std.proofs.Common.{◌≡◌, List, ℕ, Option, None, Some, Ok, Err, refl, sym, ap, ◌∙◌}
-use Rattle.sspi_ber.specs.Fault.{Read}
+use Rattle.sspi_ber.specs.Pieces.{Read}
 use Rattle.sspi_ber.specs.Outside.{Gives, NeedsNoMemory}
 use Rattle.sspi_ber.specs.declared.wire_kind.WireKind.{WireKind}
 use Rattle.sspi_ber.specs.declared.wire_kind.WireKind.TheVariants.{UnexpectedEof, InvalidData, ReadFault, WriteFault, InsufficientMemory}
-use Rattle.sspi_types.specs.Memory.{memory_error}
+use Rattle.sspi_types.specs.Errors.{memory_error}
 use Rattle.sspi_tokens.specs.Answers.{ReadsAs, malformed}
 use Rattle.sspi_tokens.specs.Reading.{value_of}
 

@@ -2,8 +2,8 @@
 use Rattle.std.proofs.Common.{◌≡◌, ℕ, ◌<◌, ◌≤◌, true, false, cond, leb, List, length, None, Some, Ok, Err, refl, sym, subst}
 use Rattle.std.specs.Global.{Vec}
 use Rattle.std.proofs.lemmas.Bool.{le-leb, lt-leb, leb-true}
-use Rattle.sspi_types.specs.Memory.{memory_error}
-use Rattle.sspi_ber.specs.Limit.{max_content}
+use Rattle.sspi_types.specs.Errors.{memory_error}
+use Rattle.sspi_ber.specs.Forms.{max_content}
 use Rattle.sspi_ber.specs.Short.{element}
 use Rattle.sspi_tokens.specs.Answers.{WritesAs, too_long}
 use Rattle.sspi_tokens.specs.Spelling.{whole}

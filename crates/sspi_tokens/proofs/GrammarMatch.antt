@@ -2,9 +2,8 @@
 use Rattle.std.proofs.Common.{◌≡◌, ℕ, true, cond, List, ◌++◌, Option, Some, Ok, Err, refl, sym, ap, ◌∙◌, subst, append_assoc}
 use lib.Pointwise.{bytes_decides}
 use Rattle.std.specs.Str.{bytes_eq}
-use Rattle.sspi_ber.specs.Fault.{Invalid, Read, ◌>>=◌}
+use Rattle.sspi_ber.specs.Pieces.{Invalid, Read, ◌>>=◌, element_at}
 use Rattle.sspi_ber.specs.Forms.{IsElement}
-use Rattle.sspi_ber.specs.Pieces.{element_at}
 use Rattle.sspi_ber.proofs.Match.{Matches, Matches-then, Matches-map, Matches-if, Matches-same, Then, Mapped, read_of, changed}
 use Rattle.sspi_ber.proofs.PiecesMatch.{element_match}
 use Rattle.sspi_tokens.specs.Oids.{spnego}

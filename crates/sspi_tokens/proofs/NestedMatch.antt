@@ -4,9 +4,8 @@ use Rattle.std.proofs.Common.{Some, Ok, refl, sym, ap, ◌∙◌, subst, append_
 use Prim.Native.Nat.{zero, suc}
 use Rattle.std.proofs.lemmas.Bool.{eqb-false, eq-eqb, ne_eqb}
 use Rattle.std.proofs.lemmas.List.{length-append}
-use Rattle.sspi_ber.specs.Fault.{Read, ◌>>=◌}
+use Rattle.sspi_ber.specs.Pieces.{Read, ◌>>=◌, element_at}
 use Rattle.sspi_ber.specs.Forms.{IsElement, IsNotNext}
-use Rattle.sspi_ber.specs.Pieces.{element_at}
 use Rattle.sspi_ber.proofs.Match.{Matches, bind_ok, both_are, read_of}
 use Rattle.sspi_ber.proofs.PiecesMatch.{chosen, element_match}
 use Rattle.sspi_tokens.specs.Nested.{IsAround, IsWhole, IsOptional}

@@ -3,9 +3,8 @@ use Rattle.std.proofs.Common.{◌≡◌, ℕ, ◌<◌, ◌≤◌, Bool, true, fa
 use Rattle.std.proofs.Common.{length, Ok, Err, refl, sym, ap, ◌∙◌, append_assoc, arith}
 use Prim.Native.Nat.{zero, suc}
 use Rattle.std.proofs.lemmas.List.{append-nil, length-append}
-use Rattle.sspi_ber.specs.Fault.{Fault, Ended, Invalid, Read, ◌>>=◌}
+use Rattle.sspi_ber.specs.Pieces.{Fault, Ended, Invalid, Read, ◌>>=◌, element_at}
 use Rattle.sspi_ber.specs.Outside.{Gives}
-use Rattle.sspi_ber.specs.Pieces.{element_at}
 use Rattle.sspi_ber.specs.declared.wire_kind.WireKind.{WireKind}
 use Rattle.sspi_ber.specs.declared.wire_kind.WireKind.TheVariants.{UnexpectedEof, InvalidData, ReadFault, WriteFault, InsufficientMemory}
 use Rattle.sspi_ber.proofs.PiecesMatch.{element_match}

@@ -2,8 +2,7 @@
 use Rattle.std.proofs.Common.{◌≡◌, ℕ, ◌+◌, ◌≤◌, List, [], ◌∷◌, ◌++◌, length, Option, None, Some, Ok, refl, sym, ap, subst, lit≤, arith}
 use Rattle.std.specs.Option.{option_map}
 use Rattle.std.proofs.lemmas.List.{append-nil, length-append}
-use Rattle.sspi_ber.specs.Limit.{max_content}
-use Rattle.sspi_ber.specs.Forms.{IsNotNext}
+use Rattle.sspi_ber.specs.Forms.{max_content, IsNotNext}
 use Rattle.sspi_ber.specs.Short.{header, element}
 use Rattle.sspi_ber.proofs.Short.{short_element}
 use Rattle.sspi_ber.proofs.Written.{length-element}

@@ -1,7 +1,7 @@
 -- What the calls on tokens answer.
 use Rattle.std.specs.Prelude.{◌≡◌, ℕ, List, Option, None, Some, Result, Ok, Err}
 use Rattle.std.specs.Global.{Vec}
-use Rattle.sspi_types.specs.Memory.{memory_error}
+use Rattle.sspi_types.specs.Errors.{memory_error}
 use Rattle.sspi_types.specs.declared.error.Error.{Error}
 use Rattle.sspi_types.specs.declared.error_kind.ErrorKind.TheVariants.{InvalidToken, InternalError}
 use Rattle.sspi_types.specs.declared.reason.Reason.TheVariants.{TokenForm, TooLong}

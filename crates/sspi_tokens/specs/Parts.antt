@@ -1,7 +1,7 @@
 -- The token that the parts of its bytes stand for.
 use Rattle.std.specs.Prelude.{ℕ, List, [], Ok, Err}
 use Rattle.std.specs.Option.{option_copied, option_map}
-use Rattle.sspi_ber.specs.Fault.{Read}
+use Rattle.sspi_ber.specs.Pieces.{Read}
 use Rattle.sspi_tokens.specs.Reading.{oids_at}
 use Rattle.sspi_tokens.specs.declared.neg_token_init.NegTokenInit.{NegTokenInit}
 use Rattle.sspi_tokens.specs.declared.neg_token_targ.NegTokenTarg.{NegTokenTarg}

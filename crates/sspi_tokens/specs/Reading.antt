@@ -2,8 +2,7 @@
 use Rattle.std.specs.Prelude.{ℕ, Bool, false, ◌==◌, List, [], ◌∷◌, length, Option, None, Some, Ok, Err, if◌then◌else◌}
 use Rattle.std.specs.Str.{bytes_eq}
 use Prim.Native.Nat.{zero, suc}
-use Rattle.sspi_ber.specs.Fault.{Invalid, Read, ◌>>=◌}
-use Rattle.sspi_ber.specs.Pieces.{element_at}
+use Rattle.sspi_ber.specs.Pieces.{Invalid, Read, ◌>>=◌, element_at}
 use Rattle.sspi_tokens.specs.Oids.{spnego}
 use Rattle.sspi_tokens.specs.Grammar.{result_of}
 use Rattle.sspi_tokens.specs.declared.neg_result.NegResult.{NegResult}

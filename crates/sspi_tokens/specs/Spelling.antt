@@ -1,7 +1,7 @@
 -- The shortest spelling of the tokens. There is none where a length passes the limit.
 use Rattle.std.specs.Prelude.{ℕ, nat_le, List, [], ◌∷◌, ◌++◌, length, Option, None, Some, if◌then◌else◌}
 use Rattle.std.specs.Option.{option_map}
-use Rattle.sspi_ber.specs.Limit.{max_content}
+use Rattle.sspi_ber.specs.Forms.{max_content}
 use Rattle.sspi_ber.specs.Short.{element}
 use Rattle.sspi_tokens.specs.Oids.{spnego}
 use Rattle.sspi_tokens.specs.declared.neg_result.NegResult.{NegResult}

@@ -2,7 +2,7 @@
 use Rattle.std.specs.Prelude.{◌≡◌, ℕ, ◌≤◌, List, ◌++◌, length, Option, Result, Ok, Err}
 use Rattle.std.specs.Option.{option_map_or, SomeIff}
 use Rattle.std.specs.declared.alloc.AllocError.{AllocError}
-use Rattle.sspi_ber.specs.Limit.{max_content}
+use Rattle.sspi_ber.specs.Forms.{max_content}
 use Rattle.sspi_tokens.specs.Spelling.{oids_text, init_fields, init_content}
 use Rattle.sspi_tokens.specs.declared.neg_token_init.NegTokenInit.{NegTokenInit}
 use Rattle.sspi_tokens.specs.declared.sizes.InitLengths.{InitLengths}

@@ -1,5 +1,5 @@
 ghost use Rattle.std.specs.Prelude.{◌≡◌, ◌≤◌, length, IfOk};
-ghost use Rattle.sspi_ber.specs.Limit.{max_content};
+ghost use Rattle.sspi_ber.specs.Forms.{max_content};
 ghost use Rattle.sspi_ber.specs.Short.{element};
 ghost use Rattle.sspi_tokens.specs.Answers.{WritesAs};
 ghost use Rattle.sspi_tokens.specs.Spelling.{oids_text, spelled_list};

@@ -1,6 +1,6 @@
 ghost use Rattle.std.specs.Prelude.{◌≡◌, ℕ, ◌<◌, ◌≤◌, length, MatchOption};
 ghost use Rattle.std.specs.Option.{option_map, SomeIff};
-ghost use Rattle.sspi_ber.specs.Limit.{max_content};
+ghost use Rattle.sspi_ber.specs.Forms.{max_content};
 ghost use Rattle.sspi_ber.specs.Short.{element, element_size};
 ghost use Rattle.sspi_tokens.specs.Spelling.{field, oids_text, mech_types_text, result_text};
 ghost use Rattle.sspi_tokens.specs.Spelling.{init_fields, init_content, targ_fields, targ_content};

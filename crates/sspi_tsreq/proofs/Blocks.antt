@@ -6,9 +6,8 @@ use Rattle.std.specs.Io.KnownBytes.{Consumes, Keeps, IsAtEnd}
 use Rattle.std.proofs.lemmas.Bool.{lt-ltb, le-ltb}
 use Rattle.std.proofs.lemmas.List.{append_assoc, length-append, length-take-le, take-append-le, take_all, take_at, drop_at}
 use Rattle.sspi_ber.specs.declared.wire_kind.WireKind.TheVariants.{UnexpectedEof, ReadFault}
-use Rattle.sspi_ber.specs.Fault.{Ended, Read}
+use Rattle.sspi_ber.specs.Pieces.{Ended, Read, bytes_at}
 use Rattle.sspi_ber.specs.Outside.{Reads, LeavesRest}
-use Rattle.sspi_ber.specs.Pieces.{bytes_at}
 
 -- the first n bytes of the buffer are those that the source gave
 pub record Filling (before now : Option (List ℕ)) (n : ℕ) (into : List ℕ) : Type 0 where

@@ -6,8 +6,7 @@ use Rattle.sspi_ber.specs.Pieces.{field_at}
 use Rattle.sspi_ber.proofs.Match.{Matches, Matches-then, Matches-map, Then, Mapped}
 use Rattle.sspi_ber.proofs.PiecesMatch.{field_match}
 use Rattle.sspi_tsreq.specs.declared.request.TsRequest.{TsRequest}
-use Rattle.sspi_tsreq.specs.Value.{bare}
-use Rattle.sspi_tsreq.specs.Grammar.{IsLow, IsOctets, IsToken, IsCode, IsNonce, IsLookedFor, IsBody}
+use Rattle.sspi_tsreq.specs.Grammar.{bare, IsLow, IsOctets, IsToken, IsCode, IsNonce, IsLookedFor, IsBody}
 use Rattle.sspi_tsreq.specs.Reading.{version_at, octets_at, token_at, code_at, nonce_at, looked_at, after_code, after_key, after_auth}
 use Rattle.sspi_tsreq.specs.Reading.{after_nego, after_version, body_at}
 use Rattle.sspi_tsreq.proofs.FieldsMatch.{Bare, version_match, octets_match, token_match, code_match, nonce_match, looked_match}

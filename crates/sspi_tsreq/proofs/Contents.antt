@@ -6,9 +6,8 @@ use Rattle.std.proofs.lemmas.Bool.{cases_lt}
 use Rattle.std.proofs.lemmas.List.{append_assoc, length-append, take_at, drop_at}
 use Rattle.sspi_ber.specs.declared.wire_kind.WireKind.{WireKind}
 use Rattle.sspi_ber.specs.declared.wire_kind.WireKind.TheVariants.{UnexpectedEof, InvalidData, ReadFault, WriteFault, InsufficientMemory}
-use Rattle.sspi_ber.specs.Fault.{Ended, Invalid, Read}
+use Rattle.sspi_ber.specs.Pieces.{Ended, Invalid, Read, bytes_at}
 use Rattle.sspi_ber.specs.Outside.{Answers, Reads, LeavesRest}
-use Rattle.sspi_ber.specs.Pieces.{bytes_at}
 use Rattle.sspi_ber.proofs.PiecesMatch.{bytes_match}
 use Rattle.sspi_ber.proofs.Rest.{rest_then}
 use Rattle.sspi_tsreq.specs.Filled.{WantsForContent}

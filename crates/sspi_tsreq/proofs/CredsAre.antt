@@ -5,10 +5,9 @@ use Rattle.std.proofs.lemmas.Bool.{cases_eq, ne_eqb}
 use Rattle.std.specs.Char.Utf16.{has_unpaired_surrogate}
 use Rattle.std.specs.Result.{IsErr, is_err}
 use Rattle.sspi_types.specs.declared.error.Error.{Error}
-use Rattle.sspi_ber.specs.Fault.{Fault, Read}
-use Rattle.sspi_ber.specs.Pieces.{element_at}
+use Rattle.sspi_ber.specs.Pieces.{Fault, Read, element_at}
 use Rattle.sspi_ber.proofs.Match.{both_are}
-use Rattle.sspi_names.specs.Refusals.{bad_text, utf16_refusal}
+use Rattle.sspi_names.specs.Utf16.{bad_text, utf16_refusal}
 use Rattle.sspi_names.specs.Utf16.{decode_le, units_le}
 use Rattle.sspi_names.specs.declared.error.Utf16Error.{Utf16Error}
 use Rattle.sspi_names.specs.declared.error.Utf16Error.TheVariants.{OddLength, UnpairedSurrogate}

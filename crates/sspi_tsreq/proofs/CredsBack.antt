@@ -4,14 +4,13 @@ use Rattle.std.proofs.Common.{◌∙◌, subst, arith, lit≤}
 use Rattle.std.proofs.lemmas.List.{append-nil}
 use Rattle.std.proofs.lemmas.Bool.{leb-true}
 use Rattle.sspi_types.specs.declared.error.Error.{Error}
-use Rattle.sspi_ber.specs.Limit.{max_content}
+use Rattle.sspi_ber.specs.Forms.{max_content}
 use Rattle.sspi_ber.specs.Pieces.{element_at}
 use Rattle.sspi_ber.specs.Short.{element, element_size, header, len_short, int_short, int_content}
 use Rattle.sspi_ber.proofs.Agreement.{short_element_again}
 use Rattle.sspi_ber.proofs.Written.{length-element}
 use Rattle.sspi_names.specs.Utf16.{IsUtf16, bytes_le}
-use Rattle.sspi_names.specs.Identity.{AreBuffers}
-use Rattle.sspi_names.specs.Credentials.{AreCredentials}
+use Rattle.sspi_names.specs.Identity.{AreBuffers, AreCredentials}
 use Rattle.sspi_names.specs.declared.identity.AuthIdentityBuffers.{AuthIdentityBuffers}
 use Rattle.sspi_names.specs.declared.credentials.CredentialsBuffers.{CredentialsBuffers}
 use Rattle.sspi_names.specs.declared.credentials.CredentialsBuffers.TheVariants as credentials

@@ -1,8 +1,7 @@
 -- Each reader of credentials and its form say the same.
 use Rattle.std.proofs.Common.{◌≡◌, ℕ, List, ◌++◌, Ok, ap, ◌∙◌, subst}
-use Rattle.sspi_ber.specs.Fault.{Read, ◌>>=◌}
+use Rattle.sspi_ber.specs.Pieces.{Read, ◌>>=◌, element_at}
 use Rattle.sspi_ber.specs.Forms.{IsElement}
-use Rattle.sspi_ber.specs.Pieces.{element_at}
 use Rattle.sspi_ber.proofs.Match.{Matches, bind_ok, both_are}
 use Rattle.sspi_ber.proofs.PiecesMatch.{element_match}
 use Rattle.sspi_tsreq.specs.Creds.{Fields, Passwords, octets_in, fields_at, passwords_at}

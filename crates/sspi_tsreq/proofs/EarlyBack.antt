@@ -1,7 +1,6 @@
 -- An early user authorization result that is written is read back.
 use Rattle.std.proofs.Common.{◌≡◌, ℕ, List, ◌++◌, length, Some, Ok, refl, ap}
-use Rattle.sspi_ber.specs.Fault.{Read, ◌>>=◌}
-use Rattle.sspi_ber.specs.Pieces.{bytes_at}
+use Rattle.sspi_ber.specs.Pieces.{Read, ◌>>=◌, bytes_at}
 use Rattle.sspi_ber.proofs.PiecesMatch.{bytes_match}
 use Rattle.sspi_tsreq.specs.declared.early.EarlyUserAuthResult.{EarlyUserAuthResult}
 use Rattle.sspi_tsreq.specs.declared.early.EarlyUserAuthResult.TheVariants.{Success, AccessDenied}

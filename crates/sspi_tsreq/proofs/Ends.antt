@@ -1,7 +1,7 @@
 -- A content that ends here.
 use Rattle.std.proofs.Common.{◌≡◌, ℕ, ◌+◌, ◌-◌, ◌<◌, Bool, true, false, leb, List, [], None, Ok, Err, refl, ap, ◌∙◌, arith}
-use Rattle.sspi_ber.specs.Fault.{Ended, Read, ◌>>=◌}
-use Rattle.sspi_ber.specs.Pieces.{bytes_at, length_at, header_at, integer_at, element_at, tag_or_absent_at, field_at, tagged_at}
+use Rattle.sspi_ber.specs.Pieces.{Ended, Read, ◌>>=◌, bytes_at, length_at, header_at, integer_at, element_at, tag_or_absent_at, field_at}
+use Rattle.sspi_ber.specs.Pieces.{tagged_at}
 use Rattle.sspi_tsreq.specs.declared.request.TsRequest.{TsRequest}
 use Rattle.sspi_tsreq.specs.declared.place.LengthPart.{LengthPart}
 use Rattle.sspi_tsreq.specs.declared.place.LengthPart.TheVariants.{First, Three, Two, One}

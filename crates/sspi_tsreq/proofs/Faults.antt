@@ -2,16 +2,16 @@
 use Rattle.std.proofs.Common.{◌≡◌, ℕ, ◌%◌, ◌^◌, Bool, true, false, cond, eqb, leb, ltb, inl, inr, take, drop, List, ◌∷◌, ◌++◌, length}
 use Rattle.std.proofs.Common.{Option, Some, Ok, Err, refl, sym, ap, ◌∙◌, subst}
 use Rattle.sspi_types.specs.declared.nstatus.NStatusCode.{NStatusCode}
-use Rattle.sspi_ber.specs.Fault.{Fault, Ended, Invalid, Read, ◌>>=◌, as_ended, fault_of, zeros}
+use Rattle.sspi_ber.specs.Pieces.{Fault, Ended, Invalid, Read, ◌>>=◌, as_ended, fault_of, zeros, bytes_at, header_at, integer_at, field_at}
+use Rattle.sspi_ber.specs.Pieces.{tagged_at}
 use Rattle.sspi_ber.specs.Forms.{IsLength, IsHeader}
-use Rattle.sspi_ber.specs.Pieces.{bytes_at, header_at, integer_at, field_at, tagged_at}
 use Rattle.sspi_ber.proofs.PiecesMatch.{chosen, bytes_match, header_match}
 use Rattle.sspi_ber.proofs.Steady.{Steady, Steady-then, Steady-map, Steady-cond, Steady-refused, Optional, field_optional}
 use Rattle.sspi_ber.proofs.Steady.{nothing_optional, Settled, Settled-map, Settled-then, Begun, Begun-then, bytes_steady}
 use Rattle.sspi_ber.proofs.Steady.{header_steady, element_steady, integer_steady, tagged_steady}
 use Rattle.sspi_tsreq.specs.declared.request.TsRequest.{TsRequest}
-use Rattle.sspi_tsreq.specs.Value.{bare}
-use Rattle.sspi_tsreq.specs.Answer.{fault, body_fault}
+use Rattle.sspi_tsreq.specs.Grammar.{bare}
+use Rattle.sspi_tsreq.specs.Reading.{fault, body_fault}
 use Rattle.sspi_tsreq.specs.Reading.{low_at, version_at, octets_at, token_at, code_at, nonce_at, looked_at, after_code, after_key}
 use Rattle.sspi_tsreq.specs.Reading.{after_auth, after_nego, after_version, body_at, request_at}
 

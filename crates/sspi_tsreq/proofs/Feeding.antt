@@ -7,8 +7,7 @@ use Rattle.std.proofs.lemmas.List.{length-take-le, take_all, take_more, take_min
 use Rattle.std.proofs.Math.Seq.{take-nil, take-append-add}
 use Rattle.sspi_ber.specs.declared.wire_kind.WireKind.{WireKind}
 use Rattle.sspi_ber.specs.declared.wire_kind.WireKind.TheVariants.{UnexpectedEof, InvalidData, ReadFault, WriteFault, InsufficientMemory}
-use Rattle.sspi_ber.specs.Fault.{Fault, Ended, Invalid, Read, ◌>>=◌, as_ended, fault_of}
-use Rattle.sspi_ber.specs.Pieces.{bytes_at, length_at, header_at}
+use Rattle.sspi_ber.specs.Pieces.{Fault, Ended, Invalid, Read, ◌>>=◌, as_ended, fault_of, bytes_at, length_at, header_at}
 use Rattle.sspi_ber.proofs.Match.{both_are}
 use Rattle.sspi_ber.proofs.Steady.{header_steady}
 use Rattle.sspi_tsreq.specs.declared.request.TsRequest.{TsRequest}

@@ -2,9 +2,8 @@
 use Rattle.std.proofs.Common.{◌≡◌, ℕ, ◌%◌, ◌^◌, Bool, true, false, cond, eqb, List, ◌∷◌, ◌++◌, length, None, Err, refl, sym, ap, ◌∙◌, subst}
 use Rattle.std.proofs.lemmas.Bool.{eqb-true, eq-eqb}
 use Rattle.sspi_types.specs.declared.nstatus.NStatusCode.{NStatusCode}
-use Rattle.sspi_ber.specs.Fault.{Invalid, Read}
+use Rattle.sspi_ber.specs.Pieces.{Invalid, Read, bytes_at, header_at, integer_at, field_at, tagged_at}
 use Rattle.sspi_ber.specs.Forms.{IsLength, IsHeader, IsInteger, IsWrapped}
-use Rattle.sspi_ber.specs.Pieces.{bytes_at, header_at, integer_at, field_at, tagged_at}
 use Rattle.sspi_ber.proofs.Match.{Matches, Matches-then, Matches-map, Matches-if, Matches-nothing, Matches-same, Then, Mapped}
 use Rattle.sspi_ber.proofs.PiecesMatch.{bytes_match, header_match, element_match, integer_match, tagged_match, field_match}
 use Rattle.sspi_tsreq.specs.Grammar.{IsLow, IsOctets, IsToken, IsCode, IsNonce, IsLookedFor}

@@ -2,10 +2,11 @@
 use Rattle.std.proofs.Common.{◌≡◌, ℕ, List, Ok, Err, sym, ap, ◌∙◌, drop}
 use Rattle.sspi_ber.specs.declared.wire_kind.WireKind.{WireKind}
 use Rattle.sspi_ber.specs.declared.wire_kind.WireKind.TheVariants.{UnexpectedEof, InvalidData, ReadFault, WriteFault, InsufficientMemory}
-use Rattle.sspi_ber.specs.Fault.{Fault, Ended, Invalid, Read, fault_of}
+use Rattle.sspi_ber.specs.Pieces.{Fault, Ended, Invalid, Read, fault_of}
 use Rattle.sspi_ber.specs.Outside.{Gives, NeedsNoMemory}
 use Rattle.sspi_tsreq.specs.declared.request.TsRequest.{TsRequest}
-use Rattle.sspi_tsreq.specs.Answer.{fault, IsAnswer, IsUnlessMemory}
+use Rattle.sspi_tsreq.specs.Answer.{IsAnswer, IsUnlessMemory}
+use Rattle.sspi_tsreq.specs.Reading.{fault}
 use Rattle.sspi_tsreq.specs.Quiet.{HasOctets}
 use Rattle.sspi_tsreq.specs.Grammar.{IsRequest}
 use Rattle.sspi_tsreq.specs.Reading.{request_at}

@@ -1,13 +1,12 @@
 -- What is left of a request that is cut short, and what follows one.
 use Rattle.std.proofs.Common.{◌≡◌, ℕ, ◌+◌, ◌<◌, List, [], ◌∷◌, ◌++◌, length, take, drop, Some, Ok, refl, sym, ap, ◌∙◌, append_assoc, arith}
 use Rattle.std.proofs.lemmas.List.{append-nil, length-append, length-take, take-append-drop, take_at}
-use Rattle.sspi_ber.specs.Fault.{Ended}
+use Rattle.sspi_ber.specs.Pieces.{Ended, header_at}
 use Rattle.sspi_ber.specs.Forms.{IsLength}
-use Rattle.sspi_ber.specs.Pieces.{header_at}
 use Rattle.sspi_ber.proofs.Match.{both_are}
 use Rattle.sspi_ber.proofs.PiecesMatch.{header_match}
 use Rattle.sspi_tsreq.specs.declared.request.TsRequest.{TsRequest}
-use Rattle.sspi_tsreq.specs.Answer.{fault}
+use Rattle.sspi_tsreq.specs.Reading.{fault}
 use Rattle.sspi_tsreq.specs.Grammar.{IsRequest}
 use Rattle.sspi_tsreq.proofs.Faults.{unframed}
 

@@ -4,10 +4,8 @@ use Rattle.std.proofs.Common.{length, take, drop, fold, Ok, Err, refl, sym, ap, 
 use Rattle.std.proofs.lemmas.Bool.{cases_lt, lt-ltb, le-ltb, le-leb, lt-leb}
 use Rattle.std.proofs.lemmas.List.{length-append}
 use Rattle.std.proofs.Math.Seq.{take-append-add, drop-append-add}
-use Rattle.sspi_ber.specs.Fault.{Ended, Invalid, Read, ◌>>=◌}
-use Rattle.sspi_ber.specs.Forms.{big_endian, is_integer_size}
-use Rattle.sspi_ber.specs.Limit.{max_content}
-use Rattle.sspi_ber.specs.Pieces.{bytes_at, is_octet_count, limited_at, length_at, number_at}
+use Rattle.sspi_ber.specs.Pieces.{Ended, Invalid, Read, ◌>>=◌, bytes_at, is_octet_count, limited_at, length_at, number_at}
+use Rattle.sspi_ber.specs.Forms.{big_endian, is_integer_size, max_content}
 use Rattle.sspi_ber.proofs.Match.{read_of}
 use Rattle.sspi_tsreq.specs.declared.place.LengthStep.{LengthStep}
 use Rattle.sspi_tsreq.specs.declared.place.LengthStep.TheVariants.{Part, Known, Bad}

@@ -3,8 +3,7 @@ use Rattle.std.proofs.Common.{◌≡◌, ℕ, ◌^◌, ◌<◌, Bool, true, fals
 use Rattle.std.specs.Prelude.{IfSome}
 use Rattle.sspi_types.specs.declared.nstatus.NStatusCode.{NStatusCode}
 use Rattle.sspi_tsreq.specs.declared.request.TsRequest.{TsRequest}
-use Rattle.sspi_tsreq.specs.Value.{IsRequestValue}
-use Rattle.sspi_tsreq.specs.Grammar.{IsLow, IsCode, IsNonce, IsLookedFor, IsRequest}
+use Rattle.sspi_tsreq.specs.Grammar.{IsRequestValue, IsLow, IsCode, IsNonce, IsLookedFor, IsRequest}
 
 low_small : (text : List ℕ) (v : ℕ) → IsLow text v → v < 2 ^ 32
 low_small text v t = let e = t.low in omega arith

@@ -2,15 +2,14 @@
 use Rattle.std.proofs.Common.{◌≡◌, inl, inr, ℕ, ◌≤◌, [], ◌∷◌, Bool, true, false, cond, eqb, List, Option, None, Some, Result, Ok, Err}
 use Rattle.std.proofs.Common.{refl, sym, ap, ◌∙◌, subst, arith, Vec, Global}
 use Rattle.sspi_types.specs.declared.error.Error.{Error}
-use Rattle.sspi_types.specs.Memory.{memory_error}
+use Rattle.sspi_types.specs.Errors.{memory_error}
 use Rattle.sspi_ber.specs.declared.wire_kind.WireKind.{WireKind}
 use Rattle.sspi_ber.specs.declared.wire_kind.WireKind.TheVariants.{UnexpectedEof, InvalidData, ReadFault, WriteFault, InsufficientMemory}
-use Rattle.sspi_ber.specs.Fault.{Fault, Ended, Invalid, Read, ◌>>=◌}
+use Rattle.sspi_ber.specs.Pieces.{Fault, Ended, Invalid, Read, ◌>>=◌, header_at, bytes_at, element_at}
 use Rattle.sspi_ber.specs.Outside.{Answers, Gives, NeedsNoMemory, Reads, ReadCause}
 use Rattle.sspi_types.specs.declared.error_kind.ErrorKind.TheVariants.{InternalError}
-use Rattle.sspi_ber.specs.Pieces.{header_at, bytes_at, element_at}
 use Rattle.std.specs.Result.{IfErr}
-use Rattle.sspi_names.specs.Refusals.{bad_text, utf16_refusal}
+use Rattle.sspi_names.specs.Utf16.{bad_text, utf16_refusal}
 use Rattle.sspi_names.specs.Utf16.{decode_le}
 use Rattle.sspi_names.specs.declared.error.Utf16Error.{Utf16Error}
 use Rattle.sspi_names.specs.declared.error.Utf16Error.TheVariants as utf16

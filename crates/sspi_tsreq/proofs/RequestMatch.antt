@@ -1,9 +1,8 @@
 -- The request's reader and the grammar say the same.
 use Rattle.std.proofs.Common.{◌≡◌, ℕ, List, ◌∷◌, ◌++◌, length, drop, Result, Ok, Err, refl, sym, ap, ◌∙◌, subst, append_assoc}
 use Rattle.std.proofs.lemmas.List.{drop_at}
-use Rattle.sspi_ber.specs.Fault.{Fault, Read, ◌>>=◌, as_ended}
+use Rattle.sspi_ber.specs.Pieces.{Fault, Read, ◌>>=◌, as_ended, bytes_at, header_at}
 use Rattle.sspi_ber.specs.Forms.{IsLength}
-use Rattle.sspi_ber.specs.Pieces.{bytes_at, header_at}
 use Rattle.sspi_ber.proofs.Match.{bind_ok, both_are}
 use Rattle.sspi_ber.proofs.PiecesMatch.{bytes_match, header_match}
 use Rattle.sspi_tsreq.specs.declared.request.TsRequest.{TsRequest}

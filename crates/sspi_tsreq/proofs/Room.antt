@@ -2,7 +2,7 @@
 use Rattle.std.proofs.Common.{◌≡◌, ℕ, ◌+◌, ◌<◌, ◌≤◌, List, [], ◌∷◌, ◌++◌, true, false, leb, Ok, Err, length, refl, sym, ap, ◌∙◌, arith}
 use Rattle.std.proofs.lemmas.Bool.{le-leb, lt-leb}
 use Rattle.std.proofs.lemmas.List.{length-append}
-use Rattle.sspi_ber.specs.Limit.{max_content}
+use Rattle.sspi_ber.specs.Forms.{max_content}
 use Rattle.sspi_ber.specs.Short.{element, element_size, header, len_short, int_short, int_content}
 use Rattle.sspi_ber.proofs.Written.{length-header, length-element, size_above, wrote_then, front_then, front_more, wrote_nothing}
 use Rattle.sspi_tsreq.specs.Creds.{wrapped_octets, password_fields, password_type_field, creds_body, spelled_if_fits, too_long}

@@ -5,15 +5,13 @@ use Rattle.std.specs.Prelude.{IfSome, IsTrue}
 use Rattle.std.proofs.lemmas.Bool.{leb-true}
 use Rattle.std.proofs.lemmas.List.{append-nil, length-append, take-append-drop, length-take, length-drop}
 use Rattle.sspi_types.specs.declared.nstatus.NStatusCode.{NStatusCode}
-use Rattle.sspi_ber.specs.Limit.{max_content}
-use Rattle.sspi_ber.specs.Forms.{IsNotNext, IsWrapped, IsField}
+use Rattle.sspi_ber.specs.Forms.{max_content, IsNotNext, IsWrapped, IsField}
 use Rattle.sspi_ber.specs.Short.{len_short, header, element, int_short}
 use Rattle.sspi_ber.proofs.Match.{both_are}
 use Rattle.sspi_ber.proofs.Short.{short_length, short_element, short_tagged, short_integer}
 use Rattle.sspi_ber.proofs.Written.{length-element, size_above}
 use Rattle.sspi_tsreq.specs.declared.request.TsRequest.{TsRequest}
-use Rattle.sspi_tsreq.specs.Value.{IsRequestValue}
-use Rattle.sspi_tsreq.specs.Grammar.{IsLow, IsOctets, IsToken, IsCode, IsNonce, IsLookedFor, IsBody, IsRequest}
+use Rattle.sspi_tsreq.specs.Grammar.{IsRequestValue, IsLow, IsOctets, IsToken, IsCode, IsNonce, IsLookedFor, IsBody, IsRequest}
 use Rattle.sspi_tsreq.specs.Spelling.{carries_code, carries_nonce, carried, version_field, token_item, token_list, nego_field}
 use Rattle.sspi_tsreq.specs.Spelling.{octets_field, code_field, last_fields, later_fields, fields, fits, spelled}
 use Rattle.sspi_tsreq.proofs.RequestMatch.{request_again}

@@ -2,9 +2,8 @@
 use Rattle.std.proofs.Common.{◌≡◌, ℕ, ◌%◌, ◌^◌, Bool, true, false, cond, eqb, leb, ◌&&◌, List, ◌∷◌, Option, None, Some, Ok, Err, refl}
 use Rattle.std.proofs.Common.{ap, ◌∙◌}
 use Rattle.std.proofs.lemmas.Bool.{eq-eqb, ne_eqb}
-use Rattle.sspi_ber.specs.Fault.{Invalid, Read, ◌>>=◌}
-use Rattle.sspi_ber.specs.Pieces.{bytes_at, length_at, header_at, number_at, integer_at, element_at, tag_or_absent_at, present_at}
-use Rattle.sspi_ber.specs.Pieces.{field_at, tagged_at}
+use Rattle.sspi_ber.specs.Pieces.{Invalid, Read, ◌>>=◌, bytes_at, length_at, header_at, number_at, integer_at, element_at, tag_or_absent_at}
+use Rattle.sspi_ber.specs.Pieces.{present_at, field_at, tagged_at}
 use Rattle.sspi_types.specs.declared.nstatus.NStatusCode.{NStatusCode}
 use Rattle.sspi_ber.specs.Forms.{is_integer_size}
 use Rattle.sspi_tsreq.specs.declared.request.TsRequest.{TsRequest}

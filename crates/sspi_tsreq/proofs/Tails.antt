@@ -2,7 +2,7 @@
 use Rattle.std.proofs.Common.{◌≡◌, ℕ, ◌+◌, ◌≤◌, inl, inr, Bool, true, false, leb, List, [], ◌∷◌, ◌++◌, Option, None, Some, Ok, Err}
 use Rattle.std.proofs.Common.{refl, sym, ap, ◌∙◌, subst, append_assoc, arith, lit<}
 use Rattle.std.proofs.lemmas.List.{replicate-append-replicate}
-use Rattle.sspi_ber.specs.Fault.{Ended, Invalid, Read, fault_of, zeros}
+use Rattle.sspi_ber.specs.Pieces.{Ended, Invalid, Read, fault_of, zeros}
 use Rattle.sspi_ber.specs.Forms.{IsNotNext, IsField}
 use Rattle.sspi_tsreq.specs.declared.request.TsRequest.{TsRequest}
 use Rattle.sspi_tsreq.specs.Grammar.{IsToken, IsOctets, IsCode, IsNonce, IsLookedFor, IsBody}

@@ -3,14 +3,13 @@ use Rattle.std.proofs.Common.{◌≡◌, inl, inr, ℕ, Bool, true, false, cond,
 use Rattle.std.proofs.Common.{refl, sym, ap, ◌∙◌, subst}
 use Rattle.std.specs.Option.{IfSome}
 use Rattle.sspi_types.specs.declared.error.Error.{Error}
-use Rattle.sspi_types.specs.Memory.{memory_error}
+use Rattle.sspi_types.specs.Errors.{memory_error}
 use Rattle.sspi_ber.specs.declared.wire_kind.WireKind.{WireKind}
 use Rattle.sspi_ber.specs.declared.wire_kind.WireKind.TheVariants.{UnexpectedEof, InvalidData, ReadFault, WriteFault, InsufficientMemory}
-use Rattle.sspi_ber.specs.Fault.{Read}
+use Rattle.sspi_ber.specs.Pieces.{Read, header_at}
 use Rattle.sspi_ber.specs.Outside.{Answers, Reads, ReadCause}
-use Rattle.sspi_ber.specs.Pieces.{header_at}
 use Rattle.sspi_ber.proofs.PiecesMatch.{header_match}
-use Rattle.sspi_names.specs.Refusals.{bad_text}
+use Rattle.sspi_names.specs.Utf16.{bad_text}
 use Rattle.std.specs.Result.{IfErr}
 use Rattle.sspi_names.specs.declared.credentials.CredentialsBuffers.{CredentialsBuffers}
 use Rattle.sspi_tsreq.specs.Creds.{Fields, Passwords, malformed, unknown_type, smart_card, spelled_or_malformed, password_type}

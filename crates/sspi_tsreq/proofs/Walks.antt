@@ -5,8 +5,7 @@ use Rattle.std.specs.Prelude.{◌==◌, if◌then◌else◌}
 use Rattle.std.proofs.lemmas.Bool.{lt-ltb, le-ltb}
 use Rattle.std.proofs.lemmas.List.{length-append, take-append-le, drop-append-le, append-nil, take_more_set, length-set}
 use Rattle.std.proofs.Math.Seq.{take-length}
-use Rattle.sspi_ber.specs.Fault.{Invalid, Read, ◌>>=◌}
-use Rattle.sspi_ber.specs.Pieces.{bytes_at}
+use Rattle.sspi_ber.specs.Pieces.{Invalid, Read, ◌>>=◌, bytes_at}
 use Rattle.sspi_ber.proofs.Match.{read_of}
 use Rattle.sspi_tsreq.specs.declared.request.TsRequest.{TsRequest}
 use Rattle.sspi_tsreq.specs.declared.place.Text.{Text}

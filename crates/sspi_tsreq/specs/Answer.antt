@@ -1,20 +1,12 @@
 -- What reading a request answers: the request that the bytes begin with, or their first fault.
-use Rattle.std.specs.Prelude.{◌≡◌, ℕ, List, Option, None, Some, Result, Ok, Err}
+use Rattle.std.specs.Prelude.{◌≡◌, ℕ, List, None, Some, Result, Ok, Err}
 use Rattle.sspi_ber.specs.declared.wire_kind.WireKind.{WireKind}
 use Rattle.sspi_ber.specs.declared.wire_kind.WireKind.TheVariants.{UnexpectedEof, InvalidData, ReadFault, WriteFault, InsufficientMemory}
-use Rattle.sspi_ber.specs.Fault.{Fault, Ended, Invalid, fault_of}
+use Rattle.sspi_ber.specs.Pieces.{Ended, Invalid}
 use Rattle.sspi_tsreq.specs.declared.request.TsRequest.{TsRequest}
 use Rattle.sspi_tsreq.specs.Grammar.{IsRequest}
 use Rattle.sspi_tsreq.specs.Quiet.{HasOctets}
-use Rattle.sspi_tsreq.specs.Reading.{request_at, body_at}
-
--- the first fault of bytes that begin with no request
-abbrev pub fault : List ℕ → Option Fault
-fault bytes = fault_of (request_at bytes)
-
--- the first fault of the fields alone
-abbrev pub body_fault : List ℕ → Option Fault
-body_fault body = fault_of (body_at body)
+use Rattle.sspi_tsreq.specs.Reading.{fault}
 
 -- The answer has its cause. Memory is wanted only for a request that the bytes do begin with, and only for its OCTET STRINGs.
 abbrev pub IsAnswer : List ℕ → Result TsRequest WireKind → Type 0

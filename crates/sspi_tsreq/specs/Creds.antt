@@ -9,12 +9,11 @@ use Rattle.std.specs.Prelude.{◌++◌, ◌==◌, nat_le, ℕ, List, [], ◌∷�
 use Rattle.sspi_types.specs.declared.error.Error.{Error}
 use Rattle.sspi_types.specs.declared.error_kind.ErrorKind.TheVariants.{InvalidToken, UnsupportedFunction, UnsupportedPreAuth, InternalError}
 use Rattle.sspi_types.specs.declared.reason.Reason.TheVariants.{TokenForm, CredType, SmartCard, Keytab, TooLong}
-use Rattle.sspi_ber.specs.Fault.{Read, ◌>>=◌}
-use Rattle.sspi_ber.specs.Limit.{max_content}
-use Rattle.sspi_ber.specs.Pieces.{element_at}
+use Rattle.sspi_ber.specs.Pieces.{Read, ◌>>=◌, element_at}
+use Rattle.sspi_ber.specs.Forms.{max_content}
 use Rattle.sspi_ber.specs.Short.{element, int_short}
 use Rattle.sspi_names.specs.Utf16.{bytes_le, decode_le}
-use Rattle.sspi_names.specs.Refusals.{utf16_refusal}
+use Rattle.sspi_names.specs.Utf16.{utf16_refusal}
 use Rattle.sspi_names.specs.declared.error.Utf16Error.{Utf16Error}
 use Rattle.sspi_names.specs.declared.identity.AuthIdentityBuffers.{AuthIdentityBuffers}
 use Rattle.sspi_names.specs.declared.credentials.CredentialsBuffers.{CredentialsBuffers}

@@ -1,11 +1,11 @@
 -- What the calls on TSCredentials answer.
 use Rattle.std.specs.Prelude.{◌≡◌, ◌⊎◌, ◌≤◌, ℕ, List, Option, None, Some, Result, Ok, Err}
-use Rattle.sspi_types.specs.Memory.{memory_error}
+use Rattle.sspi_types.specs.Errors.{memory_error}
 use Rattle.sspi_types.specs.declared.error.Error.{Error}
 use Rattle.sspi_types.specs.declared.error_kind.ErrorKind.TheVariants.{InternalError}
 use Rattle.sspi_ber.specs.Kinds.{io_error}
 use Rattle.sspi_ber.specs.Outside.{Rose}
-use Rattle.sspi_names.specs.Refusals.{bad_text}
+use Rattle.sspi_names.specs.Utf16.{bad_text}
 use Rattle.sspi_names.specs.declared.credentials.CredentialsBuffers.{CredentialsBuffers}
 use Rattle.sspi_names.specs.declared.credentials.CredentialsBuffers.TheVariants as buffered
 use Rattle.sspi_tsreq.specs.Creds.{creds_of, keytab_refused, malformed, smart_card, unknown_type}

@@ -1,7 +1,7 @@
 -- What the steps of reading TSCredentials promise each other.
 use Rattle.std.specs.Prelude.{◌≡◌, Result, Ok, Err}
 use Rattle.sspi_types.specs.declared.error.Error.{Error}
-use Rattle.sspi_names.specs.Refusals.{bad_text}
+use Rattle.sspi_names.specs.Utf16.{bad_text}
 use Rattle.sspi_names.specs.declared.credentials.CredentialsBuffers.{CredentialsBuffers}
 use Rattle.sspi_ber.specs.Kinds.{error_of}
 use Rattle.sspi_ber.specs.declared.wire_kind.WireKind.{WireKind}

@@ -1,6 +1,6 @@
 -- How many bytes TSCredentials take whose texts have so many.
 use Rattle.std.specs.Prelude.{ℕ, ◌+◌, ◌≤◌}
-use Rattle.sspi_ber.specs.Limit.{max_content}
+use Rattle.sspi_ber.specs.Forms.{max_content}
 use Rattle.sspi_ber.specs.Short.{element_size}
 
 -- the content of TSPasswordCreds

@@ -1,7 +1,6 @@
 -- The Early User Authorization Result PDU (MS-RDPBCGR 2.2.10.2): four bytes, the low one first.
 use Rattle.std.specs.Prelude.{ℕ, ◌+◌, ◌*◌, ◌==◌, List, [], ◌∷◌, Option, None, Some, Ok, Err, if◌then◌else◌, slice_index}
-use Rattle.sspi_ber.specs.Fault.{Invalid, Read, ◌>>=◌}
-use Rattle.sspi_ber.specs.Pieces.{bytes_at}
+use Rattle.sspi_ber.specs.Pieces.{Invalid, Read, ◌>>=◌, bytes_at}
 use Rattle.sspi_tsreq.specs.declared.early.EarlyUserAuthResult.{EarlyUserAuthResult}
 use Rattle.sspi_tsreq.specs.declared.early.EarlyUserAuthResult.TheVariants.{Success, AccessDenied}
 

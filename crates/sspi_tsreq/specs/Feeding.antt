@@ -1,7 +1,6 @@
 -- A reader that is fed with pieces, and the bytes that it stands for.
 use Rattle.std.specs.Prelude.{◌≡◌, ◌≤◌, ◌⊎◌, ℕ, ◌-◌, List, [], ◌++◌, length, take, Ok, Err}
-use Rattle.sspi_ber.specs.Fault.{Invalid}
-use Rattle.sspi_ber.specs.Pieces.{header_at}
+use Rattle.sspi_ber.specs.Pieces.{Invalid, header_at}
 use Rattle.sspi_tsreq.specs.declared.place.Place.{Place}
 use Rattle.sspi_tsreq.specs.declared.place.Stage.{Stage}
 use Rattle.sspi_tsreq.specs.declared.place.Stage.TheVariants.{OuterTag, OuterLength, Content, Refused}

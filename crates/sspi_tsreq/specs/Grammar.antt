@@ -1,9 +1,25 @@
--- What a TSRequest is, as a concatenation of its pieces (MS-CSSP 2.2.1). Lengths of tags are judged by their form alone;
--- only those of OCTET STRINGs and INTEGERs are compared with what they announce.
-use Rattle.std.specs.Prelude.{◌≡◌, ℕ, ◌%◌, ◌^◌, nat_le, Bool, true, false, List, [], ◌∷◌, ◌++◌, length, Option, None}
+-- What a TSRequest is: the values that it may have, and its bytes as a concatenation of its pieces (MS-CSSP 2.2.1). Lengths of tags
+-- are judged by their form alone; only those of OCTET STRINGs and INTEGERs are compared with what they announce.
+use Rattle.std.specs.Prelude.{◌≡◌, ℕ, ◌<◌, ◌^◌, length, None, IfSome, ◌%◌, nat_le, Bool, true, false, List, [], ◌∷◌, ◌++◌, Option}
 use Rattle.sspi_types.specs.declared.nstatus.NStatusCode.{NStatusCode}
 use Rattle.sspi_ber.specs.Forms.{IsLength, IsElement, IsInteger, IsWrapped, IsField}
 use Rattle.sspi_tsreq.specs.declared.request.TsRequest.{TsRequest}
+
+-- a request of this version and nothing else
+abbrev pub bare : ℕ → TsRequest
+bare v = record { version = v; nego_tokens = None; auth_info = None; pub_key_auth = None; error_code = None; client_nonce = None }
+
+-- the request that a client begins with
+abbrev pub first_request : TsRequest
+first_request = bare 6
+
+-- the ranges of a request's numbers, and the length of its nonce
+pub record IsRequestValue (r : TsRequest) : Type 0 where
+  pub version : r.version < 2 ^ 32
+  pub code : IfSome r.error_code (λ code. code.0 < 2 ^ 32)
+  pub nonce : IfSome r.client_nonce (λ nonce. length nonce ≡ 32)
+
+-- ---- its bytes
 
 -- an INTEGER of which the low 32 bits count
 pub record IsLow (text : List ℕ) (value : ℕ) : Type 0 where

@@ -1,7 +1,6 @@
 -- How many bytes a whole request takes, from its header alone.
 use Rattle.std.specs.Prelude.{ℕ, ◌+◌, List, Ok}
-use Rattle.sspi_ber.specs.Fault.{Read, ◌>>=◌, as_ended}
-use Rattle.sspi_ber.specs.Pieces.{sized_header_at}
+use Rattle.sspi_ber.specs.Pieces.{Read, ◌>>=◌, as_ended, sized_header_at}
 
 -- the bytes of the header and of the content that it announces; each fault counts as the end
 unfoldable pub request_size_at : List ℕ → Read ℕ

@@ -5,10 +5,9 @@ pub mod CredsReading
 pub mod CredsSizes
 pub mod Early
 pub mod Filled
-pub mod Value
+pub mod Grammar
 pub mod Parts
 pub mod Reading
-pub mod Grammar
 pub mod Answer
 pub mod Settled
 pub mod Spelling

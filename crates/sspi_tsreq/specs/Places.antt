@@ -1,10 +1,8 @@
 -- What a reader that is fed with pieces answers from each place of the grammar, if these bytes still come.
 use Rattle.std.specs.Prelude.{ℕ, ◌+◌, ◌-◌, ◌*◌, ◌%◌, ◌^◌, nat_lt, nat_le, ◌==◌, List, [], ◌++◌, take, fold, Option}
 use Rattle.std.specs.Prelude.{None, Some, Result, Ok, Err, if◌then◌else◌}
-use Rattle.sspi_ber.specs.Fault.{Fault, Invalid, Read, ◌>>=◌}
-use Rattle.sspi_ber.specs.Forms.{is_integer_size}
-use Rattle.sspi_ber.specs.Limit.{max_content}
-use Rattle.sspi_ber.specs.Pieces.{bytes_at, number_at, length_at, tagged_at}
+use Rattle.sspi_ber.specs.Pieces.{Fault, Invalid, Read, ◌>>=◌, bytes_at, number_at, length_at, tagged_at}
+use Rattle.sspi_ber.specs.Forms.{is_integer_size, max_content}
 use Rattle.sspi_tsreq.specs.declared.request.TsRequest.{TsRequest}
 use Rattle.sspi_tsreq.specs.declared.place.LengthPart.{LengthPart}
 use Rattle.sspi_tsreq.specs.declared.place.LengthPart.TheVariants.{First, Three, Two, One}
@@ -17,7 +15,7 @@ use Rattle.sspi_tsreq.specs.declared.place.Inner.TheVariants.{Version, VersionNu
 use Rattle.sspi_tsreq.specs.declared.place.Inner.TheVariants.{NonceOctets}
 use Rattle.sspi_tsreq.specs.declared.place.Place.{Place}
 use Rattle.sspi_tsreq.specs.declared.place.Place.TheVariants.{AtTag, InLength, InVersion, InCode, InText, InNonce, Whole, Faulty}
-use Rattle.sspi_tsreq.specs.Value.{bare}
+use Rattle.sspi_tsreq.specs.Grammar.{bare}
 use Rattle.sspi_tsreq.specs.Reading.{low_at, octets_at, nonce_at, after_code, after_key, after_auth, after_nego, after_version, body_at}
 
 -- ---- numbers, of which some octets were read

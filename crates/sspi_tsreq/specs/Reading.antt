@@ -2,10 +2,10 @@
 -- own, over the fields read so far.
 use Rattle.std.specs.Prelude.{ℕ, ◌%◌, ◌^◌, nat_le, ◌==◌, Bool, List, Option, None, Ok, Err, if◌then◌else◌}
 use Rattle.sspi_types.specs.declared.nstatus.NStatusCode.{NStatusCode}
-use Rattle.sspi_ber.specs.Fault.{Invalid, Read, ◌>>=◌, as_ended}
-use Rattle.sspi_ber.specs.Pieces.{bytes_at, header_at, element_at, integer_at, field_at, tagged_at}
+use Rattle.sspi_ber.specs.Pieces.{Fault, Invalid, Read, ◌>>=◌, as_ended, fault_of, bytes_at, header_at, element_at, integer_at, field_at}
+use Rattle.sspi_ber.specs.Pieces.{tagged_at}
 use Rattle.sspi_tsreq.specs.declared.request.TsRequest.{TsRequest}
-use Rattle.sspi_tsreq.specs.Value.{bare}
+use Rattle.sspi_tsreq.specs.Grammar.{bare}
 
 -- the low 32 bits of an INTEGER
 unfoldable pub low_at : List ℕ → Read ℕ
@@ -78,3 +78,11 @@ request_at bytes = do
   body ← bytes_at n.0 n.1
   request ← body_at body.0
   Ok (request.0, body.1)
+
+-- the first fault of bytes that begin with no request
+abbrev pub fault : List ℕ → Option Fault
+fault bytes = fault_of (request_at bytes)
+
+-- the first fault of the fields alone
+abbrev pub body_fault : List ℕ → Option Fault
+body_fault body = fault_of (body_at body)

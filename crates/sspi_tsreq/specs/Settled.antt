@@ -1,8 +1,8 @@
 -- What of a request's content no longer depends on the bytes that follow.
 use Rattle.std.specs.Prelude.{◌≡◌, ◌⊎◌, ◌<◌, ℕ, List, ◌++◌, Some}
-use Rattle.sspi_ber.specs.Fault.{Invalid}
+use Rattle.sspi_ber.specs.Pieces.{Invalid}
 use Rattle.sspi_tsreq.specs.declared.request.TsRequest.{TsRequest}
-use Rattle.sspi_tsreq.specs.Answer.{body_fault}
+use Rattle.sspi_tsreq.specs.Reading.{body_fault}
 use Rattle.sspi_tsreq.specs.Grammar.{IsBody}
 
 -- a byte with which no optional field begins

@@ -1,6 +1,6 @@
 -- Sizes that are exact up to the limit, and past it where the exact size is.
 use Rattle.std.specs.Prelude.{◌≡◌, ℕ, ◌<◌, ◌≤◌}
-use Rattle.sspi_ber.specs.Limit.{max_content}
+use Rattle.sspi_ber.specs.Forms.{max_content}
 use Rattle.sspi_ber.specs.Short.{element_size}
 
 pub record IsCapped (size exact : ℕ) : Type 0 where

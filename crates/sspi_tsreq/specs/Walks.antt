@@ -1,7 +1,7 @@
 -- A reader on its way through a piece, over the request that it has from the pieces before.
 use Rattle.std.specs.Prelude.{◌≡◌, ℕ, List, Option, None, Some, Result, ◌<◌, ◌≤◌, ◌++◌, Ok, Err}
-use Rattle.sspi_ber.specs.Fault.{Fault, Read, Invalid, Ended}
-use Rattle.sspi_ber.specs.Limit.{max_content}
+use Rattle.sspi_ber.specs.Pieces.{Fault, Read, Invalid, Ended}
+use Rattle.sspi_ber.specs.Forms.{max_content}
 use Rattle.sspi_ber.specs.declared.wire_kind.WireKind.{WireKind}
 use Rattle.sspi_ber.specs.declared.wire_kind.WireKind.TheVariants.{UnexpectedEof, InvalidData, ReadFault, WriteFault, InsufficientMemory}
 use Rattle.sspi_tsreq.specs.declared.place.Element.TheVariants.{Optional, Required}

@@ -2,8 +2,8 @@
 
 ghost use Rattle.std.specs.Prelude.{◌≡◌, ◌++◌, ◌↔◌, ◌⊎◌, ℕ, List, Ok, Err};
 ghost use Rattle.sspi_types.specs.declared.error.Error.{Error};
-ghost use Rattle.sspi_names.specs.Credentials.{AreCredentials};
-ghost use Rattle.sspi_names.specs.Refusals.{bad_text};
+ghost use Rattle.sspi_names.specs.Identity.{AreCredentials};
+ghost use Rattle.sspi_names.specs.Utf16.{bad_text};
 ghost use Rattle.sspi_names.specs.declared.credentials.CredentialsBuffers.{CredentialsBuffers};
 ghost use Rattle.sspi_names.specs.declared.credentials.CredentialsBuffers.TheVariants as buffered;
 ghost use Rattle.sspi_names.specs.declared.identity.AuthIdentityBuffers.{AuthIdentityBuffers};

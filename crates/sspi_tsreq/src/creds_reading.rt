@@ -4,7 +4,7 @@ ghost use Rattle.sspi_names.specs.Utf16.{decode_le};
 ghost use Rattle.sspi_tsreq.specs.CredsAnswers.{CredsCause, IsCredsRefusal, IsOrMemory, ReadsCreds};
 ghost use Rattle.sspi_tsreq.specs.CredsReading.{refusal_by, Is, IsLate};
 ghost use Rattle.sspi_tsreq.specs.CredsGrammar.{BeginsSequence, HasPasswords};
-ghost use Rattle.sspi_types.specs.Memory.{memory_error};
+ghost use Rattle.sspi_types.specs.Errors.{memory_error};
 ghost use Rattle.sspi_tsreq.specs.Creds.{creds_in, creds_of, fields_at, malformed, octets_in, password_type, passwords_at};
 ghost use Rattle.sspi_tsreq.specs.Creds.{spelled_or_malformed, text_or_refused, texts_of};
 

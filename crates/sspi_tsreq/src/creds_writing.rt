@@ -1,5 +1,5 @@
 ghost use Rattle.std.specs.Prelude.{◌≡◌, ◌+◌, ◌*◌, ◌≤◌, Ok, IfOk, length};
-ghost use Rattle.sspi_ber.specs.Limit.{max_content};
+ghost use Rattle.sspi_ber.specs.Forms.{max_content};
 ghost use Rattle.sspi_ber.specs.Outside.{Writes, WriteCause};
 ghost use Rattle.sspi_ber.specs.Short.{element, element_size};
 ghost use Rattle.sspi_names.specs.Identity.{AreBuffers};

@@ -1,13 +1,12 @@
 //! Laws about requests, each on a function that does nothing.
 
 ghost use Rattle.std.specs.Prelude.{◌≡◌, ℕ, ◌<◌, List, ◌∷◌, ◌++◌, length, take, Some, IsTrue};
-ghost use Rattle.sspi_ber.specs.Fault.{Ended, Invalid, zeros};
+ghost use Rattle.sspi_ber.specs.Pieces.{Ended, Invalid, zeros};
 ghost use Rattle.sspi_ber.specs.Forms.{IsLength};
-ghost use Rattle.sspi_tsreq.specs.Answer.{fault, body_fault};
-ghost use Rattle.sspi_tsreq.specs.Grammar.{IsBody, IsRequest};
+ghost use Rattle.sspi_tsreq.specs.Reading.{fault, body_fault};
+ghost use Rattle.sspi_tsreq.specs.Grammar.{IsBody, IsRequest, IsRequestValue};
 ghost use Rattle.sspi_tsreq.specs.Settled.{IsNoTag, IsSettled};
 ghost use Rattle.sspi_tsreq.specs.Spelling.{carried, fits, spelled};
-ghost use Rattle.sspi_tsreq.specs.Value.{IsRequestValue};
 ghost use Rattle.sspi_tsreq.specs.declared.request.TsRequest.{TsRequest};
 
 /// What begins with the spelling of a request that fits is read as what is carried of it, and exactly the spelling is taken,

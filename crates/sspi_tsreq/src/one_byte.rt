@@ -3,7 +3,7 @@
 ghost use Rattle.std.specs.Prelude.{◌≡◌, ◌<◌, [], ◌∷◌, ◌++◌, Some, IsOk, OnOk, OnErr, slice_set};
 ghost use Rattle.sspi_tsreq.specs.Walks.{WentOn, with_text};
 ghost use Rattle.sspi_tsreq.specs.Places.{octets_of, text_of};
-ghost use Rattle.sspi_tsreq.specs.Value.{bare};
+ghost use Rattle.sspi_tsreq.specs.Grammar.{bare};
 ghost use Rattle.sspi_tsreq.specs.Quiet.{Opened};
 
 use crate::next::{next_place, text_place};

@@ -2,11 +2,10 @@
 
 ghost use Rattle.std.specs.Prelude.{◌≡◌};
 ghost use Rattle.std.specs.Option.{option_copied};
-ghost use Rattle.sspi_ber.specs.Fault.{as_ended};
+ghost use Rattle.sspi_ber.specs.Pieces.{as_ended, element_at, field_at, header_at, tagged_at};
 ghost use Rattle.sspi_ber.specs.Outside.{Gives, NeedsNoMemory};
-ghost use Rattle.sspi_ber.specs.Pieces.{element_at, field_at, header_at, tagged_at};
 ghost use Rattle.sspi_tsreq.specs.Parts.{seen};
-ghost use Rattle.sspi_tsreq.specs.Value.{bare};
+ghost use Rattle.sspi_tsreq.specs.Grammar.{bare};
 ghost use Rattle.sspi_tsreq.specs.Reading.{low_at, version_at, octets_at, token_at, code_at, nonce_at, after_code, after_key};
 ghost use Rattle.sspi_tsreq.specs.Reading.{after_auth, after_nego, after_version, body_at, request_at};
 

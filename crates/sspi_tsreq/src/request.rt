@@ -3,11 +3,10 @@ ghost use Rattle.sspi_ber.specs.Outside.{Reads, ReadCause, LeavesRest, WritesIf,
 ghost use Rattle.sspi_ber.specs.Short.{IsSizeIf};
 ghost use Rattle.sspi_tsreq.specs.Spelling.{fits, spelled};
 ghost use Rattle.sspi_tsreq.specs.Answer.{IsAnswer, IsUnlessMemory};
-ghost use Rattle.sspi_tsreq.specs.Grammar.{IsRequest};
+ghost use Rattle.sspi_tsreq.specs.Grammar.{IsRequest, bare, first_request};
 ghost use Rattle.sspi_tsreq.specs.Header.{request_size_at};
 ghost use Rattle.sspi_tsreq.specs.Status.{ChecksCode};
 ghost use Rattle.sspi_tsreq.specs.declared.request.TsRequest.{TsRequest};
-ghost use Rattle.sspi_tsreq.specs.Value.{bare, first_request};
 
 use crate::reader::TsReader;
 use crate::sizes::fields_size;

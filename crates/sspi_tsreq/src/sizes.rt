@@ -1,5 +1,5 @@
 ghost use Rattle.std.specs.Prelude.{◌≡◌, ℕ, ◌+◌, ◌≤◌, length, Option};
-ghost use Rattle.sspi_ber.specs.Limit.{max_content};
+ghost use Rattle.sspi_ber.specs.Forms.{max_content};
 ghost use Rattle.sspi_ber.specs.Short.{element_size};
 ghost use Rattle.sspi_tsreq.specs.Size.{IsCapped};
 ghost use Rattle.sspi_tsreq.specs.Spelling.{carried, version_field, nego_field, octets_field, code_field, fields};

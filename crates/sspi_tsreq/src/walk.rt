@@ -3,7 +3,7 @@
 ghost use Rattle.std.specs.Prelude.{◌≡◌, ℕ, ◌+◌, ◌*◌, ◌%◌, ◌^◌, ◌<◌, ◌≤◌, nat_le, ◌&&◌, ◌==◌, List, [], ◌∷◌, ◌++◌, length, slice_set};
 ghost use Rattle.std.specs.Prelude.{MatchOption};
 ghost use Rattle.sspi_tsreq.specs.declared.request.TsRequest.{TsRequest};
-ghost use Rattle.sspi_tsreq.specs.Value.{bare};
+ghost use Rattle.sspi_tsreq.specs.Grammar.{bare};
 ghost use Rattle.sspi_tsreq.specs.Places.{answered, behind, code_from, length_from, nonce_from, rest_at, text_then, version_from};
 ghost use Rattle.sspi_tsreq.specs.Walks.{inner_tag, with_text, filled, goes_on, from_field, from_inner, IsInText, IsQuiet};
 ghost use Rattle.sspi_tsreq.specs.Reading.{after_code, after_key, after_auth, after_nego, after_version};

@@ -1,5 +1,5 @@
 ghost use Rattle.std.specs.Prelude.{◌≡◌, ◌≤◌, length};
-ghost use Rattle.sspi_ber.specs.Limit.{max_content};
+ghost use Rattle.sspi_ber.specs.Forms.{max_content};
 ghost use Rattle.sspi_ber.specs.Short.{element, int_short};
 ghost use Rattle.sspi_tsreq.specs.Size.{IsTokenSize};
 ghost use Rattle.sspi_ber.specs.Outside.{Writes, WritesIf, WriteCause};

@@ -21,7 +21,7 @@ use Rattle.sspi_types.specs.declared.connection.ConnectionKeyExchange.{Connectio
 use Rattle.sspi_types.specs.contracts.connection.ConnectionKeyExchange as the-connection_key_exchange
 use Rattle.sspi_types.specs.declared.certificate.CertEncodingType.{CertEncodingType}
 use Rattle.sspi_types.specs.contracts.certificate.CertEncodingType as the-cert_encoding_type
-use Rattle.sspi_types.specs.ErrorKinds.{error_kind_number}
+use Rattle.sspi_types.specs.Errors.{error_kind_number}
 use Rattle.sspi_types.specs.SecurityStatuses.{security_status_number}
 use Rattle.sspi_types.specs.BufferTypes.{buffer_type_number}
 use Rattle.sspi_types.specs.DataRepresentations.{data_representation_number}

@@ -8,9 +8,7 @@ pub mod Connections
 pub mod Counting
 pub mod CredentialUses
 pub mod DataRepresentations
-pub mod ErrorKinds
 pub mod Errors
-pub mod Memory
 pub mod NamedConstants
 pub mod Numbers
 pub mod PackageNames

@@ -69,7 +69,7 @@ impl fmt::Display for Error {
 
 /// Want of memory is `InsufficientMemory`, wherever it comes.
 impl From<AllocError> for Error {
-    ghost use Rattle.sspi_types.specs.Memory.{memory_error};
+    ghost use Rattle.sspi_types.specs.Errors.{memory_error};
 
     ghost from_gives = { λ _ error. error ≡ memory_error };
 
@@ -79,7 +79,7 @@ impl From<AllocError> for Error {
 }
 
 impl<T: Drop> From<AllocFailed<T>> for Error {
-    ghost use Rattle.sspi_types.specs.Memory.{memory_error};
+    ghost use Rattle.sspi_types.specs.Errors.{memory_error};
 
     ghost from_gives = { λ _ error. error ≡ memory_error };
 

@@ -1,5 +1,5 @@
 ghost use Rattle.std.specs.Prelude.{◌≡◌};
-ghost use Rattle.sspi_types.specs.ErrorKinds.{error_kind_name, error_kind_number};
+ghost use Rattle.sspi_types.specs.Errors.{error_kind_name, error_kind_number};
 ghost use Rattle.sspi_types.specs.Numbers.{ReadsNumber};
 
 /// Why a call was refused: the SECURITY_STATUS codes of winerror.h that SSPI names as errors.

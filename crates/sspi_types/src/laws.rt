@@ -8,7 +8,7 @@ ghost use Rattle.sspi_types.specs.declared.error.Error.{Error};
 ghost use Rattle.sspi_types.specs.declared.security_buffer_type.SecurityBufferType.{SecurityBufferType};
 ghost use Rattle.sspi_types.specs.Numbers.{AreDistinct, AreReadBack, ComparesNumbers, numbers_of};
 ghost use Rattle.sspi_types.specs.SecurityBufferTypes.{ReadsBufferType, packed_buffer_type};
-ghost use Rattle.sspi_types.specs.ErrorKinds.{error_kind_number};
+ghost use Rattle.sspi_types.specs.Errors.{error_kind_number};
 ghost use Rattle.sspi_types.specs.SecurityStatuses.{security_status_number};
 ghost use Rattle.sspi_types.specs.BufferTypes.{buffer_type_number};
 ghost use Rattle.sspi_types.specs.DataRepresentations.{data_representation_number};

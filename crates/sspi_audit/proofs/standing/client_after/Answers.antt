@@ -1,5 +1,5 @@
 use Rattle.std.proofs.Common.{◌∙◌, ap}
-use Rattle.sspi_credssp.specs.Shown.{ShownFrame}
+use Rattle.sspi_credssp.specs.Turn.{ShownFrame}
 use Rattle.sspi_audit.proofs.Frames.{client_leaves}
 use Rattle.sspi_audit.proofs.standing.client_after.Goals as goal
 

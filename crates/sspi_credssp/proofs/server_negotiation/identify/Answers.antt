@@ -3,7 +3,7 @@ use Rattle.std.proofs.lemmas.Result.{err_from_is_err_and}
 use Rattle.sspi_mech.specs.Calls.{ToIdentify}
 use Rattle.sspi_credssp.specs.Context.{either}
 use Rattle.sspi_credssp.specs.ServerCause.{looked, unset}
-use Rattle.sspi_credssp.specs.ServerStep.{is_identified}
+use Rattle.sspi_credssp.specs.ServerTurn.{is_identified}
 use Rattle.sspi_credssp.proofs.server_negotiation.identify.Goals as goal
 
 pub returns-in_err-candidates-clause-cause : goal.returns-in_err-candidates-clause-cause

@@ -1,5 +1,5 @@
 use Rattle.std.proofs.Common.{◌≡◌, drop}
-use Rattle.sspi_delegate.specs.Edits.{edited, sent_texts}
+use Rattle.sspi_delegate.specs.Link.{edited, sent_texts}
 use Rattle.sspi_delegate.proofs.edit.deliver_edited.Given as goal
 
 abbrev pub invariant-loop-edit : goal.invariant-loop-edit

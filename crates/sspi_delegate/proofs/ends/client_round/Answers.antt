@@ -1,6 +1,6 @@
 use Rattle.std.proofs.Common.{refl}
 use Rattle.sspi_credssp.specs.Context.{either}
-use Rattle.sspi_delegate.specs.Asking.{kdc_calls}
+use Rattle.sspi_delegate.specs.Chain.{kdc_calls}
 use Rattle.sspi_credssp.specs.declared.turn.Outcome.TheVariants as outcome
 use Rattle.sspi_delegate.specs.History.{waiting}
 use Rattle.sspi_delegate.proofs.Histories.{client_made, client_stopped, client_alone, client_stopped_alone}

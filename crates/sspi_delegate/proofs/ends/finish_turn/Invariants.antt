@@ -1,9 +1,9 @@
 use Rattle.std.proofs.Common.{Ok}
 use Rattle.sspi_credssp.specs.ClientTurn.{ClientGoes}
 use Rattle.sspi_credssp.specs.Context.{either}
-use Rattle.sspi_credssp.specs.Counts.{left_in}
-use Rattle.sspi_delegate.specs.Asking.{HasAnswered}
-use Rattle.sspi_delegate.specs.Refusals.{StepsSo, KdcStays}
+use Rattle.sspi_credssp.specs.Acts.{left_in}
+use Rattle.sspi_delegate.specs.Chain.{HasAnswered}
+use Rattle.sspi_delegate.specs.History.{StepsSo, KdcStays}
 use Rattle.sspi_delegate.proofs.Asking.{rounds_left}
 use Rattle.sspi_delegate.proofs.ends.finish_turn.Given as goal
 

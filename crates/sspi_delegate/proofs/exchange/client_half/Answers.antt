@@ -4,7 +4,7 @@ use Rattle.sspi_credssp.specs.Context.{either}
 use Rattle.sspi_delegate.proofs.Alternating.{clients_go}
 use Rattle.sspi_delegate.proofs.Halves.{client_half_stopped, client_half_refused}
 use Rattle.sspi_delegate.proofs.LogSteps.{turned, lost, client_refused}
-use Rattle.sspi_delegate.specs.Asking.{kdc_calls}
+use Rattle.sspi_delegate.specs.Chain.{kdc_calls}
 use Rattle.sspi_delegate.proofs.exchange.client_half.Goals as goal
 
 pub returns-in_ok-give-in-Answered-clause-half : goal.returns-in_ok-give-in-Answered-clause-half

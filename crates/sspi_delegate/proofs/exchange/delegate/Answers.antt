@@ -1,6 +1,6 @@
 use Rattle.sspi_credssp.proofs.ContextLaws.{lawful}
 use Rattle.sspi_credssp.specs.Context.{either}
-use Rattle.sspi_delegate.specs.Asking.{kdc_calls}
+use Rattle.sspi_delegate.specs.Chain.{kdc_calls}
 use Rattle.sspi_delegate.proofs.Alternating.{clients_others, servers_others, others_unrefused}
 use Rattle.sspi_delegate.proofs.Chained.{client_past_chained, server_past_chained}
 use Rattle.sspi_delegate.proofs.Exactness.{exactly}

@@ -6,7 +6,7 @@ use Rattle.sspi_delegate.specs.Halves.{Between}
 use Rattle.sspi_delegate.proofs.LogSteps.{at_first, left_at, spent}
 use Rattle.sspi_credssp.specs.Context.{either}
 use Rattle.sspi_delegate.proofs.Halves.{client_half_past, server_beside, client_beside, server_half_past}
-use Rattle.sspi_delegate.specs.Asking.{kdc_calls}
+use Rattle.sspi_delegate.specs.Chain.{kdc_calls}
 use Rattle.sspi_delegate.proofs.Asking.{kdc_on}
 use Rattle.sspi_delegate.proofs.Refusing.{proxy_on}
 use Rattle.sspi_delegate.proofs.Reading.{stays_on, still_first, still_on, still_spent, still_stopped}

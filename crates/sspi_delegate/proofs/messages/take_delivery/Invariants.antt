@@ -1,6 +1,6 @@
 use Rattle.std.proofs.Common.{◌≡◌, ◌≤◌, ◌-◌, length}
 use Rattle.sspi_delegate.specs.declared.messages.TheConstants.{DELIVERY_LIMIT, PIECE_LENGTH}
-use Rattle.sspi_delegate.specs.Deliveries.{IsUnread}
+use Rattle.sspi_delegate.specs.Log.{IsUnread}
 use Rattle.sspi_delegate.specs.Link.{StaysTold}
 use Rattle.sspi_delegate.proofs.Reading.{IsFedSoFar, IsStill}
 use Rattle.sspi_delegate.proofs.messages.take_delivery.Given as goal

@@ -1,5 +1,5 @@
 use Rattle.std.proofs.Common.{◌≡◌, ◌≤◌, ◌-◌, length, take}
-use Rattle.sspi_delegate.specs.Deliveries.{IsUnread}
+use Rattle.sspi_delegate.specs.Log.{IsUnread}
 use Rattle.sspi_delegate.specs.Link.{StaysTold}
 use Rattle.sspi_early.proofs.Taking.{IsSoFar, IsStill}
 use Rattle.sspi_early.proofs.hearing.take_result.Given as goal

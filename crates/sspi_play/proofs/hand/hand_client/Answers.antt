@@ -1,7 +1,7 @@
 use Rattle.std.proofs.Common.{refl, rules}
 use Rattle.sspi_credssp.specs.Context.{either}
 use Rattle.sspi_credssp.specs.declared.turn.End.TheVariants.{Client}
-use Rattle.sspi_delegate.specs.Asking.{kdc_calls}
+use Rattle.sspi_delegate.specs.Chain.{kdc_calls}
 use Rattle.sspi_delegate.specs.Causes.{IsClientRefusal}
 use Rattle.sspi_delegate.specs.Turns.{GoesOn}
 use Rattle.sspi_play.proofs.Histories.{stopped_played}

@@ -1,9 +1,8 @@
 use Rattle.std.proofs.Common.{◌≡◌, [], take, reverse}
 use Rattle.sspi_credssp.specs.Context.{either}
-use Rattle.sspi_delegate.specs.Asking.{kdc_calls}
-use Rattle.sspi_delegate.specs.EndTurns.{client_turns, server_turns}
-use Rattle.sspi_delegate.specs.History.{ClientHistory, ServerHistory}
-use Rattle.sspi_delegate.specs.Refusals.{KdcStays, ProxyStays}
+use Rattle.sspi_delegate.specs.Chain.{kdc_calls}
+use Rattle.sspi_delegate.specs.Turns.{client_turns, server_turns}
+use Rattle.sspi_delegate.specs.History.{ClientHistory, ServerHistory, KdcStays, ProxyStays}
 use Rattle.sspi_play.specs.Hands.{Stands}
 use Rattle.sspi_play.specs.History.{Gave}
 use Rattle.sspi_play.proofs.schedule.hand_all.Given as goal

@@ -1,6 +1,6 @@
 use Rattle.sspi_credssp.proofs.ContextLaws.{lawful}
 use Rattle.sspi_credssp.specs.Context.{either}
-use Rattle.sspi_delegate.specs.Asking.{kdc_calls}
+use Rattle.sspi_delegate.specs.Chain.{kdc_calls}
 use Rattle.sspi_play.proofs.OnMechanism.{negotiates_if_faithful}
 use Rattle.sspi_play.proofs.Runs.{is_play, agrees_if_faithful}
 use Rattle.sspi_play.specs.Kept.{kept_list}

@@ -1,8 +1,7 @@
 use Rattle.std.proofs.Common.{◌≡◌, ℕ, List, [], Some, refl, ap, subst, sym}
-use Rattle.sspi_delegate.specs.Edits.{MemoryLinkView, FollowsEdits}
+use Rattle.sspi_delegate.specs.Link.{MemoryLinkView, FollowsEdits, StaysTold}
 use Rattle.sspi_delegate.specs.declared.edit.Edit.{Edit}
 use Rattle.sspi_delegate.specs.Headline.{IsFresh}
-use Rattle.sspi_delegate.specs.Link.{StaysTold}
 use Rattle.sspi_delegate.proofs.Alternating.{servers_others}
 use Rattle.sspi_delegate.proofs.Histories.{server_past_history}
 use Rattle.sspi_mech.specs.Kerberos.{kerberos_meaning}
@@ -11,8 +10,7 @@ use Rattle.sspi_mech.specs.Ntlm.{ntlm_meaning}
 use Rattle.sspi_mech.specs.NtlmLaws.{ntlm_laws}
 use Rattle.sspi_credssp.proofs.ContextLaws.{lawful}
 use Rattle.sspi_tsreq.specs.declared.mode.CredSspMode.{CredSspMode}
-use Rattle.sspi_credssp.specs.Client.{ClientSettings, ClientView, IsFreshClient}
-use Rattle.sspi_credssp.specs.Server.{ServerView, IsFreshServer}
+use Rattle.sspi_credssp.specs.Ends.{ClientSettings, ClientView, IsFreshClient, ServerView, IsFreshServer}
 use Rattle.sspi_credssp.specs.Table.{TableView, table_meaning}
 use Rattle.sspi_completeness.specs.Matching.{delegated_as, ComesToOkIn}
 use Rattle.sspi_completeness.proofs.ThreeTurns.{ok_three}

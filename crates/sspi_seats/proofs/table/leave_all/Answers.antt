@@ -1,7 +1,7 @@
 use Rattle.std.proofs.Common.{◌≡◌, ◌∷◌, [], ◌++◌, List, length, refl, sym, ap, subst, ◌∙◌, append_assoc, append-nil, arith, rules}
 use Rattle.std.specs.Vec.Iter.{into_iter_items}
 use Rattle.sspi_credssp.specs.Context.{either}
-use Rattle.sspi_delegate.specs.Asking.{kdc_calls}
+use Rattle.sspi_delegate.specs.Chain.{kdc_calls}
 use Rattle.sspi_seats.proofs.Leaving.{HaveLeft, none_left, all_left, next_place, next_kept, more_left}
 use Rattle.sspi_seats.proofs.table.leave_all.Goals as goal
 

@@ -1,7 +1,7 @@
 use Rattle.std.proofs.Common.{Some, length}
 use Rattle.sspi_credssp.proofs.ContextLaws.{lawful}
 use Rattle.sspi_credssp.specs.Context.{either}
-use Rattle.sspi_delegate.specs.Asking.{kdc_calls}
+use Rattle.sspi_delegate.specs.Chain.{kdc_calls}
 use Rattle.sspi_desk.specs.Desk.{IsClosed}
 use Rattle.sspi_seats.proofs.Leaving.{kept_at, seat_of}
 use Rattle.sspi_seats.proofs.Speaking.{kept_done}

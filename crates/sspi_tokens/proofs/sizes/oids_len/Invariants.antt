@@ -1,5 +1,5 @@
 use Rattle.std.proofs.Common.{◌≡◌, ◌≤◌, length, take}
-use Rattle.sspi_ber.specs.Limit.{max_content}
+use Rattle.sspi_ber.specs.Forms.{max_content}
 use Rattle.sspi_tokens.specs.Spelling.{oids_text}
 use Rattle.sspi_tokens.proofs.sizes.oids_len.Given as goal
 

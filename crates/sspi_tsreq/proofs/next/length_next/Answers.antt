@@ -1,5 +1,5 @@
 use Rattle.std.proofs.Common.{ℕ, ◌∷◌, subst, sym}
-use Rattle.sspi_ber.specs.Fault.{Read, ◌>>=◌}
+use Rattle.sspi_ber.specs.Pieces.{Read, ◌>>=◌}
 use Rattle.sspi_tsreq.specs.declared.place.LengthStep.{LengthStep}
 use Rattle.sspi_tsreq.specs.Places.{behind, length_rest}
 use Rattle.sspi_tsreq.specs.Walks.{LengthSteps, LeadsTo}

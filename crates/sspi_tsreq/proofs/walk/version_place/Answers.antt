@@ -1,5 +1,5 @@
 use Rattle.std.proofs.Common.{ℕ, ap, ◌∙◌, sym}
-use Rattle.sspi_ber.specs.Fault.{Read, ◌>>=◌}
+use Rattle.sspi_ber.specs.Pieces.{Read, ◌>>=◌}
 use Rattle.sspi_tsreq.specs.Places.{version_then}
 use Rattle.sspi_tsreq.proofs.Numbers.{sized_begun}
 use Rattle.sspi_tsreq.proofs.walk.version_place.Goals as goal

@@ -3,7 +3,7 @@ use Rattle.std.proofs.lemmas.Result.{err_from_is_err_and}
 use Rattle.sspi_mech.specs.declared.step.Answer.TheVariants.{Done}
 use Rattle.sspi_mech.specs.Answers.{answer_of}
 use Rattle.sspi_mech.specs.Answered.{answered}
-use Rattle.sspi_credssp.specs.ClientStep.{StepsTo}
+use Rattle.sspi_credssp.specs.ClientTurn.{StepsTo}
 use Rattle.sspi_credssp.specs.Context.{either}
 use Rattle.sspi_credssp.proofs.ContextLaws.{lawful}
 use Rattle.sspi_credssp.proofs.Walks.{walked_on}

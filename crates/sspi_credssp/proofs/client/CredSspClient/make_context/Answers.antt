@@ -3,8 +3,7 @@ use Rattle.std.specs.Prelude.{◌≢◌, Some, OnOk, IfErr}
 use Rattle.sspi_types.specs.declared.credential_use.CredentialUse.TheVariants.{Outbound}
 use Rattle.sspi_types.specs.declared.error_kind.ErrorKind.TheVariants.{InsufficientMemory}
 use Rattle.sspi_mech.specs.Calls.{ToAcquire}
-use Rattle.sspi_credssp.specs.Begun.{IfContext}
-use Rattle.sspi_credssp.specs.Context.{either, ForClient}
+use Rattle.sspi_credssp.specs.Context.{IfContext, either, ForClient}
 use Rattle.sspi_credssp.proofs.Adopting.{adopted, unadopted}
 use Rattle.sspi_credssp.proofs.client.CredSspClient.make_context.Goals as goal
 

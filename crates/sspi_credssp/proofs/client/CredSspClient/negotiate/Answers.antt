@@ -1,9 +1,7 @@
 use Rattle.std.proofs.Common.{◌≡◌, Some, true, sym, subst, rules}
 use Rattle.sspi_types.specs.declared.credential_use.CredentialUse.TheVariants.{Outbound}
-use Rattle.sspi_credssp.specs.Begun.{Begun, IfContext}
-use Rattle.sspi_credssp.specs.ClientStep.{stepped}
-use Rattle.sspi_credssp.specs.ClientTurn.{IsReady}
-use Rattle.sspi_credssp.specs.Context.{either, ForClient}
+use Rattle.sspi_credssp.specs.Context.{Begun, IfContext, either, ForClient}
+use Rattle.sspi_credssp.specs.ClientTurn.{stepped, IsReady}
 use Rattle.sspi_credssp.proofs.ClientReady.{after_step, context_here}
 use Rattle.sspi_credssp.proofs.ContextLaws.{lawful}
 use Rattle.sspi_credssp.proofs.client.CredSspClient.negotiate.Goals as goal

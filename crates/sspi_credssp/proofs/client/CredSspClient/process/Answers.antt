@@ -2,16 +2,14 @@ use Rattle.std.proofs.Common.{◌≡◌, ◌≢◌, [], Some, Err, IfErr, true, 
 use Rattle.std.proofs.lemmas.Result.{err_from_is_err_and}
 use Rattle.sspi_types.specs.declared.credential_use.CredentialUse.TheVariants.{Outbound}
 use Rattle.sspi_types.specs.declared.error_kind.ErrorKind.TheVariants.{DowngradeDetected, MessageAltered, InsufficientMemory}
-use Rattle.sspi_credssp.specs.Begun.{Begun, BeginCause, IfContext, MadeOr}
+use Rattle.sspi_credssp.specs.Context.{Begun, BeginCause, IfContext, MadeOr, either, ForClient}
 use Rattle.sspi_mech.specs.Refusals.{error_of}
 use Rattle.sspi_mech.specs.Answered.{answered}
 use Rattle.sspi_credssp.specs.ClientCause.{ClientCause, StateCause}
-use Rattle.sspi_credssp.specs.ClientStep.{HasStepped}
-use Rattle.sspi_credssp.specs.Context.{either, ForClient}
-use Rattle.sspi_credssp.specs.Counts.{is_waiting_in}
-use Rattle.sspi_credssp.specs.Noted.{is_altered_in, is_old_in}
+use Rattle.sspi_credssp.specs.ClientTurn.{HasStepped}
+use Rattle.sspi_credssp.specs.Acts.{is_waiting_in}
+use Rattle.sspi_credssp.specs.Noted.{is_altered_in, is_old_in, StopsIf}
 use Rattle.sspi_credssp.specs.Refusal.{IsRefusedBy}
-use Rattle.sspi_credssp.specs.Stops.{StopsIf}
 use Rattle.sspi_credssp.proofs.CodelessErrors.{caused}
 use Rattle.sspi_credssp.proofs.ClientHeeding.{client_only, no_step}
 use Rattle.sspi_credssp.proofs.Causes.{client_cause_past, client_cause_begun}

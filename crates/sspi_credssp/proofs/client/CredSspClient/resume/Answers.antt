@@ -1,7 +1,6 @@
 use Rattle.std.proofs.Common.{sym, ◌∙◌, ◌∷◌, subst, rules}
 use Rattle.sspi_mech.specs.declared.step.Answer.TheVariants.{Ask}
-use Rattle.sspi_credssp.specs.ClientStep.{HasStepped, StepsTo}
-use Rattle.sspi_credssp.specs.ClientTurn.{IsReady}
+use Rattle.sspi_credssp.specs.ClientTurn.{HasStepped, StepsTo, IsReady}
 use Rattle.sspi_mech.specs.Answered.{answered}
 use Rattle.sspi_credssp.specs.Context.{either}
 use Rattle.sspi_credssp.proofs.CodelessErrors.{caused, on_err_answered}

@@ -1,7 +1,6 @@
 use Rattle.std.proofs.Common.{◌≡◌, Some, true, refl, sym, subst, rules}
 use Rattle.sspi_mech.specs.declared.step.Answer.TheVariants.{Ask}
-use Rattle.sspi_credssp.specs.ClientStep.{StepsTo, resumed}
-use Rattle.sspi_credssp.specs.ClientTurn.{IsReady}
+use Rattle.sspi_credssp.specs.ClientTurn.{StepsTo, resumed, IsReady}
 use Rattle.sspi_credssp.specs.Context.{either}
 use Rattle.sspi_credssp.proofs.ClientReady.{after_resume, falls_on, context_here}
 use Rattle.sspi_credssp.proofs.StillWaits.{still_waits}

@@ -5,10 +5,9 @@ use Rattle.sspi_types.specs.declared.error_kind.ErrorKind.TheVariants.{Insuffici
 use Rattle.sspi_credssp.specs.declared.state.CredSspState.TheVariants.{NegoToken}
 use Rattle.sspi_tsreq.specs.declared.request.TsRequest.{TsRequest}
 use Rattle.sspi_mech.specs.Refusals.{error_of}
-use Rattle.sspi_credssp.specs.Begun.{Begun, IfContext}
-use Rattle.sspi_credssp.specs.Context.{either}
+use Rattle.sspi_credssp.specs.Context.{Begun, IfContext, either}
 use Rattle.sspi_credssp.specs.ServerCause.{NegoCause}
-use Rattle.sspi_credssp.specs.ServerStep.{RefusedAt, accepted, refused_step, server_args, server_setting}
+use Rattle.sspi_credssp.specs.ServerTurn.{RefusedAt, accepted, refused_step, server_args, server_setting}
 use Rattle.sspi_credssp.specs.ServerStage.{IsReady}
 use Rattle.sspi_credssp.proofs.ClientReady.{context_here}
 use Rattle.sspi_credssp.proofs.ContextLaws.{lawful}

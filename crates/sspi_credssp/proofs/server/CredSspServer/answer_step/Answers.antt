@@ -2,8 +2,8 @@ use Rattle.std.proofs.Common.{◌≡◌, ◌∙◌, Some, true, ap, sym, rules}
 use Rattle.sspi_mech.specs.Refusals.{error_of}
 use Rattle.sspi_mech.specs.Answered.{answered}
 use Rattle.sspi_credssp.specs.Context.{either}
-use Rattle.sspi_credssp.specs.ServerAsks.{look_ups_at}
-use Rattle.sspi_credssp.specs.Shown.{IsOver}
+use Rattle.sspi_credssp.specs.Proxy.{look_ups_at}
+use Rattle.sspi_credssp.specs.Turn.{IsOver}
 use Rattle.sspi_credssp.proofs.Asked.{asked_as, on_ok_asked_as}
 use Rattle.sspi_credssp.proofs.ContextLaws.{lawful}
 use Rattle.sspi_credssp.proofs.ServerAsking.{over_looks}

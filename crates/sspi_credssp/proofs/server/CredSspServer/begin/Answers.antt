@@ -1,9 +1,8 @@
 use Rattle.std.proofs.Common.{◌≡◌, None, sym, subst, rules}
 use Rattle.std.proofs.lemmas.Result.{err_from_is_err_and}
 use Rattle.sspi_types.specs.declared.credential_use.CredentialUse.TheVariants.{Inbound}
-use Rattle.sspi_credssp.specs.Begun.{Begun, IfContext, OnContext}
-use Rattle.sspi_credssp.specs.Context.{either}
-use Rattle.sspi_credssp.specs.ServerStep.{server_setting}
+use Rattle.sspi_credssp.specs.Context.{Begun, IfContext, OnContext, either}
+use Rattle.sspi_credssp.specs.ServerTurn.{server_setting}
 use Rattle.sspi_credssp.proofs.ServerBeginning.{new_refused, there_or_not, refused_both}
 use Rattle.sspi_credssp.proofs.server.CredSspServer.begin.Goals as goal
 

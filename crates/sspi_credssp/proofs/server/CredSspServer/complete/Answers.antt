@@ -8,8 +8,8 @@ use Rattle.sspi_credssp.specs.declared.server_negotiation.Answer.{Answer}
 use Rattle.sspi_credssp.specs.Context.{either}
 use Rattle.sspi_credssp.specs.ServerStage.{IsLater, CompletedStep}
 use Rattle.sspi_credssp.specs.ServerCause.{IdentifyCause, unknown, incomplete}
-use Rattle.sspi_credssp.specs.ServerStep.{AcceptedSoFar, Unknown, Identified, Completed}
-use Rattle.sspi_credssp.specs.ServerStep.{Accepted, HasCome, IsIdentified, identified, completed, so_far}
+use Rattle.sspi_credssp.specs.ServerTurn.{AcceptedSoFar, Unknown, Identified, Completed, Accepted, HasCome, IsIdentified, identified}
+use Rattle.sspi_credssp.specs.ServerTurn.{completed, so_far}
 use Rattle.sspi_credssp.proofs.ClientReady.{context_here}
 use Rattle.sspi_credssp.proofs.ContextLaws.{lawful}
 use Rattle.sspi_credssp.proofs.ServerCauses.{known_causes, identified_since}

@@ -1,7 +1,7 @@
 use Rattle.std.proofs.Common.{subst}
 use Rattle.sspi_credssp.specs.Context.{either}
 use Rattle.sspi_credssp.specs.ServerCause.{unbegun}
-use Rattle.sspi_credssp.specs.ServerStep.{server_setting}
+use Rattle.sspi_credssp.specs.ServerTurn.{server_setting}
 use Rattle.sspi_credssp.proofs.Adopting.{adopted, unadopted}
 use Rattle.sspi_credssp.proofs.server.CredSspServer.make_context.Goals as goal
 

@@ -3,10 +3,9 @@ use Rattle.sspi_types.specs.declared.error.Error.{Error}
 use Rattle.sspi_types.specs.declared.error_kind.ErrorKind.TheVariants.{InsufficientMemory}
 use Rattle.sspi_mech.specs.Refusals.{error_of}
 use Rattle.sspi_credssp.specs.Context.{either}
-use Rattle.sspi_credssp.specs.Proxy.{HasAsked}
-use Rattle.sspi_credssp.specs.ServerAsks.{look_ups_at}
+use Rattle.sspi_credssp.specs.Proxy.{HasAsked, look_ups_at}
 use Rattle.sspi_credssp.specs.ServerCause.{NegoCause}
-use Rattle.sspi_credssp.specs.ServerStep.{HasAcceptedTurn}
+use Rattle.sspi_credssp.specs.ServerTurn.{HasAcceptedTurn}
 use Rattle.sspi_credssp.proofs.ContextLaws.{lawful}
 use Rattle.sspi_credssp.proofs.ServerRefusals.{halted_as, went_on}
 use Rattle.sspi_credssp.proofs.ServerWalks.{refused_as}

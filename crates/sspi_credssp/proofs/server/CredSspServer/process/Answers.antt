@@ -5,14 +5,12 @@ use Rattle.sspi_types.specs.declared.error.Error.{Error}
 use Rattle.sspi_types.specs.declared.error_kind.ErrorKind.TheVariants.{InsufficientMemory}
 use Rattle.sspi_credssp.specs.declared.state.CredSspState.TheVariants.{NegoToken}
 use Rattle.sspi_mech.specs.Refusals.{error_of}
-use Rattle.sspi_credssp.specs.Begun.{Begun, OnContext, MadeOr}
-use Rattle.sspi_credssp.specs.Context.{either}
+use Rattle.sspi_credssp.specs.Context.{Begun, OnContext, MadeOr, either}
 use Rattle.sspi_credssp.specs.Noted.{VersionStops, is_old}
-use Rattle.sspi_credssp.specs.Peers.{lists_in}
-use Rattle.sspi_credssp.specs.Proxy.{IsAsked, HasAsked}
+use Rattle.sspi_credssp.specs.Proxy.{lists_in, IsAsked, HasAsked}
 use Rattle.sspi_credssp.specs.ServerCause.{MakeCause, ServerCause}
 use Rattle.sspi_credssp.specs.ServerStage.{IsAtStep, BeginRefused}
-use Rattle.sspi_credssp.specs.ServerStep.{HasAcceptedTurn, server_setting}
+use Rattle.sspi_credssp.specs.ServerTurn.{HasAcceptedTurn, server_setting}
 use Rattle.sspi_credssp.proofs.Asked.{later, asked_on, turn_asked}
 use Rattle.sspi_credssp.proofs.ServerBeginning.{begin_halted, context_there, no_step}
 use Rattle.sspi_credssp.proofs.ServerHeeding.{server_only}

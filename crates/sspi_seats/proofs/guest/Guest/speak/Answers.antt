@@ -1,6 +1,6 @@
 use Rattle.std.proofs.Common.{Ok, ◌∙◌, ap}
 use Rattle.sspi_credssp.specs.Context.{either}
-use Rattle.sspi_delegate.specs.Asking.{kdc_calls}
+use Rattle.sspi_delegate.specs.Chain.{kdc_calls}
 use Rattle.sspi_seats.proofs.Speaking.{kept_done, speaks_on, long_ends}
 use Rattle.sspi_seats.proofs.guest.Guest.speak.Goals as goal
 

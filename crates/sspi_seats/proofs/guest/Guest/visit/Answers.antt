@@ -1,6 +1,6 @@
 use Rattle.std.proofs.Common.{ℕ, sym, subst}
 use Rattle.sspi_credssp.specs.Context.{either}
-use Rattle.sspi_delegate.specs.Asking.{kdc_calls}
+use Rattle.sspi_delegate.specs.Chain.{kdc_calls}
 use Rattle.sspi_delegate.proofs.Alternating.{clients_go}
 use Rattle.sspi_seats.specs.Hearing.{IsSpeaking}
 use Rattle.sspi_seats.proofs.Turning.{kept_runs, kept_ended, turn_speaks, turn_ends}

@@ -1,5 +1,5 @@
 use Rattle.sspi_credssp.specs.Context.{either}
-use Rattle.sspi_delegate.specs.Asking.{kdc_calls}
+use Rattle.sspi_delegate.specs.Chain.{kdc_calls}
 use Rattle.sspi_seats.specs.Seat.{place}
 use Rattle.sspi_seats.proofs.Speaking.{kept_done}
 use Rattle.sspi_seats.proofs.Seating.{joined}

@@ -2,7 +2,7 @@ use Rattle.std.proofs.Common.{◌≡◌, ℕ, refl, arith, rules, subst}
 use Rattle.std.specs.List.{list_any}
 use Rattle.std.specs.Prelude.{false, is_some}
 use Rattle.sspi_credssp.specs.Context.{either}
-use Rattle.sspi_delegate.specs.Asking.{kdc_calls}
+use Rattle.sspi_delegate.specs.Chain.{kdc_calls}
 use Rattle.sspi_seats.specs.Table.{AreVisited}
 use Rattle.sspi_seats.proofs.Seating.{rest_over}
 use Rattle.sspi_seats.proofs.table.Table.serve.Goals as goal

@@ -1,7 +1,7 @@
 use Rattle.std.proofs.Common.{◌≡◌, ℕ, ◌+◌, List}
 use Rattle.sspi_credssp.specs.Context.{either}
 use Rattle.sspi_credssp.specs.declared.context.SspiContext.{SspiContext}
-use Rattle.sspi_delegate.specs.Asking.{kdc_calls}
+use Rattle.sspi_delegate.specs.Chain.{kdc_calls}
 use Rattle.sspi_seats.specs.Seat.{Place}
 use Rattle.sspi_seats.specs.Table.{AreVisited}
 use Rattle.sspi_seats.proofs.table.Table.serve_round.Given as goal
