@@ -2,10 +2,13 @@
 use Rattle.std.proofs.Common.{Bool, refl, sym, ap, ◌∙◌}
 use Rattle.std.proofs.lemmas.Bool.{false≢true}
 use Rattle.sspi_mech.specs.declared.step.Answer.{Answer}
+use Rattle.sspi_mech.specs.declared.step.Answer.TheVariants.{Done, Ask, Refused}
 use Rattle.sspi_mech.specs.declared.step.Reply.{Reply}
+use Rattle.sspi_mech.specs.Answers.{OnRefused}
 use Rattle.sspi_mech.specs.Calls.{StepArgs, AcceptArgs}
 use Rattle.sspi_negotiate.specs.Client.{spnego_client, spnego_resumed}
-use Rattle.sspi_negotiate.specs.Keeps.{Keeps, HasList, is_opening}
+use Rattle.sspi_negotiate.specs.Does.{Stays, UnlessMemory}
+use Rattle.sspi_negotiate.specs.Keeps.{Keeps, KeepsPackages, HasList, is_opening}
 use Rattle.sspi_negotiate.specs.Server.{spnego_server}
 use Rattle.sspi_negotiate.specs.Values.{Values}
 use Rattle.sspi_negotiate.proofs.ClientEnds.{client_ends, resumed_ends}
@@ -13,28 +16,46 @@ use Rattle.sspi_negotiate.proofs.Ends.{AllEnds}
 use Rattle.sspi_negotiate.proofs.Kept.{IsKept}
 use Rattle.sspi_negotiate.proofs.ServerEnds.{server_ends}
 
+pub packages_kept : (r : Answer) (v v2 : Values) → UnlessMemory r (Keeps v v2) → OnRefused r (Stays v v2) →
+    KeepsPackages v.packages v.hand v2.packages v2.hand
+packages_kept (Done step) v v2 keeps stays = keeps.packages
+packages_kept (Ask request) v v2 keeps stays = keeps.packages
+packages_kept (Refused error) v v2 keeps stays = stays.packages
+
 abbrev pub KeptFrom : Values → Answer → Values → Type 0
 KeptFrom v r v2 = Keeps v v2
 
 same : (v : Values) → Keeps v v
-same v = record { ntlm = λ h. h; kerberos = λ h. h; in_hand = λ h. h; list = λ h. refl }
+same v = record { packages = record { ntlm = λ h. h; kerberos = λ h. h; in_hand = λ h. h }; list = λ h. refl }
 
 kept_from : (v0 : Values) → IsKept (KeptFrom v0) (Keeps v0) (HasList v0 → ⊥)
 kept_from v0 = record {
   done = λ v step g. g;
   stop = λ v error g. g;
-  opening = λ v first q g. record { ntlm = g.ntlm; kerberos = g.kerberos; in_hand = g.in_hand; list = g.list };
-  answering = λ v token q g. record { ntlm = g.ntlm; kerberos = g.kerberos; in_hand = g.in_hand; list = g.list };
-  opening_stop = λ v first error g. record { ntlm = g.ntlm; kerberos = g.kerberos; in_hand = g.in_hand; list = g.list };
-  answering_stop = λ v token error g. record { ntlm = g.ntlm; kerberos = g.kerberos; in_hand = g.in_hand; list = g.list };
-  state = λ v state g. record { ntlm = g.ntlm; kerberos = g.kerberos; in_hand = g.in_hand; list = g.list };
-  need = λ v need g. record { ntlm = g.ntlm; kerberos = g.kerberos; in_hand = g.in_hand; list = g.list };
-  kept = λ v kept g. record { ntlm = g.ntlm; kerberos = g.kerberos; in_hand = g.in_hand; list = g.list };
-  list = λ v list first g. record { ntlm = g.ntlm; kerberos = g.kerberos; in_hand = g.in_hand; list = λ has. absurd (first has) };
-  to_ntlm = λ v usable g. record { ntlm = g.ntlm; kerberos = λ h. absurd (false≢true h); in_hand = λ h. usable; list = g.list };
-  pick_ntlm = λ v usable g. record { ntlm = g.ntlm; kerberos = g.kerberos; in_hand = λ h. usable; list = g.list };
-  to_kerberos = λ v usable g. record { ntlm = λ h. absurd (false≢true h); kerberos = g.kerberos; in_hand = λ h. usable; list = g.list };
-  rule_kerberos = λ v usable g. record { ntlm = g.ntlm; kerberos = g.kerberos; in_hand = λ h. usable; list = g.list };
+  opening = λ v first q g. record { packages = g.packages; list = g.list };
+  answering = λ v token q g. record { packages = g.packages; list = g.list };
+  opening_stop = λ v first error g. record { packages = g.packages; list = g.list };
+  answering_stop = λ v token error g. record { packages = g.packages; list = g.list };
+  state = λ v state g. record { packages = g.packages; list = g.list };
+  need = λ v need g. record { packages = g.packages; list = g.list };
+  kept = λ v kept g. record { packages = g.packages; list = g.list };
+  list = λ v list first g. record { packages = g.packages; list = λ has. absurd (first has) };
+  to_ntlm = λ v usable g. record {
+    packages = record { ntlm = g.packages.ntlm; kerberos = λ h. absurd (false≢true h); in_hand = λ h. usable };
+    list = g.list;
+  };
+  pick_ntlm = λ v usable g. record {
+    packages = record { ntlm = g.packages.ntlm; kerberos = g.packages.kerberos; in_hand = λ h. usable };
+    list = g.list;
+  };
+  to_kerberos = λ v usable g. record {
+    packages = record { ntlm = λ h. absurd (false≢true h); kerberos = g.packages.kerberos; in_hand = λ h. usable };
+    list = g.list;
+  };
+  rule_kerberos = λ v usable g. record {
+    packages = record { ntlm = g.packages.ntlm; kerberos = g.packages.kerberos; in_hand = λ h. usable };
+    list = g.list;
+  };
 }
 
 pub client_keeps : (ip : Bool) (v : Values) (args : StepArgs) → AllEnds (KeptFrom v) (spnego_client ip v args)
@@ -44,7 +65,7 @@ client_keeps ip v args = client_ends (KeptFrom v) (Keeps v) (HasList v → ⊥) 
 pub resumed_keeps : (v : Values) (reply : Reply) → AllEnds (KeptFrom v) (spnego_resumed v reply)
 resumed_keeps v reply = resumed_ends (KeptFrom v) (Keeps v) (HasList v → ⊥) (kept_from v) v reply
     (λ opening h has. false≢true (sym has.made ∙ ap is_opening h)) (λ error. same v)
-    (record { ntlm = λ h. h; kerberos = λ h. h; in_hand = λ h. h; list = λ h. refl })
+    (record { packages = record { ntlm = λ h. h; kerberos = λ h. h; in_hand = λ h. h }; list = λ h. refl })
 
 pub server_keeps : (v : Values) (args : AcceptArgs) → AllEnds (KeptFrom v) (spnego_server v args)
 server_keeps v args = server_ends (KeptFrom v) (Keeps v) (HasList v → ⊥) (kept_from v) v args (λ h has. has.begun h) (same v)

@@ -23,20 +23,11 @@ use Rattle.sspi_negotiate.specs.Rows.{is_over, is_complete, is_guest_text, compl
 use Rattle.sspi_negotiate.specs.Server.{drops, waits_for_token, goes_on, awaits_mic, ends_at_once, opens, needs_mic}
 use Rattle.sspi_negotiate.specs.Server.{first_token, placed, takes_pick, picks, reads_list, at_initial, without_mic}
 use Rattle.sspi_negotiate.specs.Server.{settles, at_progress, last_mic, at_verify_mic, server_at, spnego_server}
+use Rattle.sspi_negotiate.specs.Usable.{OnNtlm, IsUsable}
 use Rattle.sspi_negotiate.specs.Values.{Values}
 use Rattle.sspi_negotiate.proofs.Ends.{AtRefusal, AllEnds, either_ends}
 use Rattle.sspi_negotiate.proofs.Kept.{IsKept}
 use Rattle.sspi_negotiate.proofs.RowEnds.{writes_ends, in_ntlm_ends, checks_ends, completes_ends, answers_signed_ends, carries_on_ends}
-
--- a pick of NTLM may be used
-abbrev OnNtlm : Choice → Type 0 → Type 0
-OnNtlm choices.MsKerberos P = Unit {0}
-OnNtlm choices.Kerberos P = Unit {0}
-OnNtlm choices.Ntlm P = P
-
-abbrev IsUsable : PackageListConfig → Option Picked → Type 0
-IsUsable packages None = Unit {0}
-IsUsable packages (Some p) = OnNtlm p.choice (packages.ntlm ≡ true)
 
 found_usable : (packages : PackageListConfig) (choice : Choice) (o : Option ℕ) (other : Option Picked) →
     OnNtlm choice (packages.ntlm ≡ true) → IsUsable packages other →
@@ -49,7 +40,7 @@ picked_usable : (packages : PackageListConfig) (b : Bool) (choice : Choice) (lis
 picked_usable packages true choice list other h k = found_usable packages choice (place_of choice list) other (h refl) k
 picked_usable packages false choice list other h k = k
 
-pick_usable : (list : List (List ℕ)) (packages : PackageListConfig) (protocol : Protocol) → IsUsable packages (pick list packages protocol)
+pub pick_usable : (list : List (List ℕ)) (packages : PackageListConfig) (protocol : Protocol) → IsUsable packages (pick list packages protocol)
 pick_usable list packages protocol =
     picked_usable packages (packages.kerberos && is_kerberos_hand protocol) choices.MsKerberos list _ (λ h. tt)
     (picked_usable packages (packages.kerberos && is_kerberos_hand protocol) choices.Kerberos list _ (λ h. tt)

@@ -145,6 +145,9 @@ answers token v args =
     Steps (record (step_of v args) { input = or_empty token.response_token }) (record v { branch = Answering token })
     (stepped token v) (λ kind. Stops v kind)
 
+abbrev pub without_ntlm : Values → Values
+without_ntlm v = record v { packages = record v.packages { ntlm = false } }
+
 -- a choice of Kerberos: a new one is taken where NTLM was in hand, and then MICs are needed
 abbrev pub in_kerberos : Protocol → NegTokenTarg → Values → StepArgs → Plan
 in_kerberos protocols.Kerberos token v args = answers token v args
@@ -152,10 +155,7 @@ in_kerberos protocols.Ntlm token v args =
     Takes (InPlaceOfNtlm None v.kdcs v.computer) (answers token (record v { hand = protocols.Kerberos; need = true }) args)
 
 unfoldable pub chooses_kerberos : NegTokenTarg → Values → StepArgs → Plan
-chooses_kerberos token v args =
-    if v.packages.kerberos
-    then in_kerberos v.hand token (record v { packages = record v.packages { ntlm = false } }) args
-    else Stops v InvalidToken
+chooses_kerberos token v args = if v.packages.kerberos then in_kerberos v.hand token (without_ntlm v) args else Stops v InvalidToken
 
 -- a choice of NTLM: MICs are needed but for a guest
 unfoldable pub chooses_ntlm : NegTokenTarg → Values → StepArgs → Plan

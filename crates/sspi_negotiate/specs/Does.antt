@@ -1,5 +1,5 @@
 -- That a call does what a plan says.
-use Rattle.std.specs.Prelude.{◌≡◌, ◌≢◌, true, Result, Ok, Err}
+use Rattle.std.specs.Prelude.{◌≡◌, ◌≢◌, Result, Ok, Err}
 use Rattle.sspi_types.specs.declared.error.Error.{Error}
 use Rattle.sspi_types.specs.declared.error_kind.ErrorKind.TheVariants.{InsufficientMemory}
 use Rattle.sspi_mech.specs.declared.step.Answer.{Answer}
@@ -12,6 +12,7 @@ use Rattle.sspi_negotiate.specs.declared.protocol.NegotiatedProtocol.{Negotiated
 use Rattle.sspi_negotiate.specs.declared.state.Role.TheVariants.{Client}
 use Rattle.sspi_negotiate.specs.Follows.{Follows}
 use Rattle.sspi_negotiate.specs.Hand.{Origin, hand}
+use Rattle.sspi_negotiate.specs.Keeps.{KeepsPackages}
 use Rattle.sspi_negotiate.specs.Plan.{Plan}
 use Rattle.sspi_negotiate.specs.Values.{Values, Negotiation, values_of}
 use Rattle.sspi_negotiate.specs.Verified.{HasNoMic}
@@ -43,13 +44,12 @@ module _ {N K : Type 0} (n : Meaning Setting N) (k : Meaning Setting K) where
   abbrev pub StaysUnmarked : Negotiation (NegotiatedProtocol N K) → Negotiation (NegotiatedProtocol N K) → Type 0
   StaysUnmarked old new = HasNoMic ((hand n k).counts old.mech) → HasNoMic ((hand n k).counts new.mech)
 
--- what a refused call leaves as it was: all but the mechanism in hand, the kept credentials and the need, the list that a server
--- keeps, and packages, which never grow
+-- what a refused call leaves as it was: all but the mechanism in hand and the packages, which stay in agreement, the kept
+-- credentials and the need, and the list that a server keeps
 pub record Stays (old new : Values) : Type 0 where
   pub role : new.role ≡ old.role
   pub state : new.state ≡ old.state
-  pub ntlm : new.packages.ntlm ≡ true → old.packages.ntlm ≡ true
-  pub kerberos : new.packages.kerberos ≡ true → old.packages.kerberos ≡ true
+  pub packages : KeepsPackages old.packages old.hand new.packages new.hand
   pub list : old.role ≡ Client → new.list ≡ old.list
   pub known : new.known ≡ old.known
   pub computer : new.computer ≡ old.computer

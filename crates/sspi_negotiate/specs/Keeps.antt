@@ -27,9 +27,13 @@ pub record HasList (v : Values) : Type 0 where
   pub begun : v.state ≢ Initial
   pub made : is_opening v.branch ≡ false
 
--- No package is enabled again, the mechanism in hand may be used, and the list of mechanisms stays once it is there.
+-- no package is enabled again, and the mechanism in hand may be used
+pub record KeepsPackages (old : PackageListConfig) (held : Protocol) (new : PackageListConfig) (hand : Protocol) : Type 0 where
+  pub ntlm : new.ntlm ≡ true → old.ntlm ≡ true
+  pub kerberos : new.kerberos ≡ true → old.kerberos ≡ true
+  pub in_hand : may_use old held ≡ true → may_use new hand ≡ true
+
+-- besides, the list of mechanisms stays once it is there
 pub record Keeps (old new : Values) : Type 0 where
-  pub ntlm : new.packages.ntlm ≡ true → old.packages.ntlm ≡ true
-  pub kerberos : new.packages.kerberos ≡ true → old.packages.kerberos ≡ true
-  pub in_hand : may_use old.packages old.hand ≡ true → may_use new.packages new.hand ≡ true
+  pub packages : KeepsPackages old.packages old.hand new.packages new.hand
   pub list : HasList old → new.list ≡ old.list

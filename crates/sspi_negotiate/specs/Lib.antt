@@ -21,5 +21,6 @@ pub mod Rule
 pub mod Server
 pub mod Spelled
 pub mod Target
+pub mod Usable
 pub mod Values
 pub mod Verified

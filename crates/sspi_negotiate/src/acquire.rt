@@ -1,14 +1,15 @@
-ghost use Rattle.std.specs.Prelude.{◌≡◌, ◌≢◌, ◌&&◌, Option, None, Some, true, false, IfOk, IfErr, OnOk, OnErr, option_map, option_copied};
+ghost use Rattle.std.specs.Prelude.{◌≡◌, ◌≢◌, ◌&&◌, Option, None, Some, true, false, IfOk, IfErr, IfSome, OnOk, OnErr, option_map, option_copied};
 ghost use Rattle.sspi_names.specs.Identity.{credentials_buffers_of};
-ghost use Rattle.sspi_mech.specs.Calls.{ToAcquire};
+ghost use Rattle.std.specs.Option.{unwrap_or};
+ghost use Rattle.sspi_mech.specs.Calls.{ToAcquire, IsUnused, no_counts};
 ghost use Rattle.sspi_negotiate.specs.Acquire.{is_outbound, lacks, acquired_url, Acquires, RefusesToAcquire};
-ghost use Rattle.sspi_negotiate.specs.Does.{Stays, StaysUnused};
+ghost use Rattle.sspi_negotiate.specs.Does.{StaysUnused};
 ghost use Rattle.sspi_negotiate.specs.Hand.{hand, hand_of};
 ghost use Rattle.sspi_negotiate.specs.Rule.{TakenBy};
 ghost use Rattle.sspi_negotiate.specs.Values.{values_of};
 
 use crate::negotiate::Negotiate;
-use crate::protocol::Protocol;
+use crate::protocol::{NegotiatedProtocol, Protocol};
 use crate::state::Role;
 use sspi_mech::{Mechanism, Refusal};
 use sspi_names::{Credentials, CredentialsBuffers};
@@ -59,6 +60,7 @@ impl<N: Mechanism, K: Mechanism> Negotiate<N, K> {
     ///
     /// `NoCredentials` for an outbound use without credentials, or with a keytab while NTLM is in hand. Else a client in whose
     /// table a KDC serves the domain of the name takes Kerberos, where that may be used, and the mechanism in hand answers.
+    /// A refusal leaves all as it was, the mechanism in hand too.
     pub fn acquire_credentials_handle(
         &mut self,
         credential_use: CredentialUse,
@@ -67,7 +69,7 @@ impl<N: Mechanism, K: Mechanism> Negotiate<N, K> {
         // What was acquired, and what a refusal leaves.
         ensures acquired { IfOk result (λ buffers.
             Acquires N.meaning K.meaning self.old credential_use (option_copied auth_data.entry) buffers self.new) }
-        ensures stays { OnErr result (Stays (values_of self.old) (values_of self.new)) }
+        ensures err { OnErr result (self.new ≡ self.old) }
         // What holds of every answer.
         ensures unused { StaysUnused N.meaning K.meaning self.old self.new }
         // What a refusal says.
@@ -79,30 +81,61 @@ impl<N: Mechanism, K: Mechanism> Negotiate<N, K> {
             return Err(Error::new(ErrorKind::NoCredentials, Reason::NoAuthData));
         }
         let kept = buffers_of(self.alloc, auth_data)?;
-        self.rule_for(auth_data)?;
-        Ok(self.acquire_in_hand(credential_use, auth_data, kept)?)
+        match self.kerberos_for(auth_data)? {
+            None => Ok(self.acquire_in_hand(credential_use, auth_data, kept)?),
+            Some(kerberos) => Ok(self.acquire_in(kerberos, credential_use, auth_data, kept)?),
+        }
     }
 
-    /// Takes Kerberos in the place of NTLM on a client, where a KDC serves the domain of a name with a password.
-    fn rule_for(&mut self, auth_data: Option<&Credentials>) -> Result<(), Refusal>
+    /// A Kerberos for the place of NTLM on a client, where a KDC serves the domain of a name with a password.
+    fn kerberos_for(
+        &self,
+        auth_data: Option<&Credentials>,
+    ) -> Result<Option<NegotiatedProtocol<N, K>>, Refusal>
         // What `Ok` holds.
-        ensures taken { OnOk result (TakenBy (hand N.meaning K.meaning)
-            (acquired_url self.old.role (values_of self.old) (option_copied auth_data.entry))
-            self.old.kdcs self.old.computer self.old.mech self.new.mech) }
-        // What holds of every answer.
-        ensures rest { self.new ≡ record self.old { mech = self.new.mech } }
-        ensures unused { StaysUnused N.meaning K.meaning self.old self.new }
+        ensures taken { IfOk result (λ kerberos. TakenBy (hand N.meaning K.meaning)
+            (acquired_url self.now.role (values_of self.now) (option_copied auth_data.entry))
+            self.now.kdcs self.now.computer self.now.mech (unwrap_or kerberos self.now.mech)) }
+        ensures fresh { IfOk result (λ kerberos. IfSome kerberos (λ it. (hand N.meaning K.meaning).counts it ≡ no_counts)) }
         // What a refusal says.
         ensures err { IfErr result (λ error. error.error_type ≡ ErrorKind.InsufficientMemory) }
     {
         match self.role {
-            Role::Server => Ok(()),
+            Role::Server => Ok(None),
             Role::Client => match auth_data {
-                None => Ok(()),
-                Some(Credentials::Keytab(_)) => Ok(()),
-                Some(Credentials::AuthIdentity(identity)) => self.take_by_rule(&identity.username),
+                None => Ok(None),
+                Some(Credentials::Keytab(_)) => Ok(None),
+                Some(Credentials::AuthIdentity(identity)) => {
+                    self.kerberos_by_rule(&identity.username)
+                }
             },
         }
+    }
+
+    /// Acquires with this mechanism, which is then in hand.
+    fn acquire_in(
+        &mut self,
+        mechanism: NegotiatedProtocol<N, K>,
+        credential_use: CredentialUse,
+        auth_data: Option<&Credentials>,
+        kept: Option<CredentialsBuffers>,
+    ) -> Result<Option<CredentialsBuffers>, Refusal>
+        // What was acquired, and what a refusal leaves.
+        ensures acquired { IfOk result (λ buffers.
+            (hand N.meaning K.meaning).acquires mechanism credential_use (option_copied auth_data.entry) buffers self.new.mech) }
+        ensures kept { OnOk result (self.new ≡ record self.old { kept = kept; mech = self.new.mech }) }
+        ensures err { OnErr result (self.new ≡ self.old) }
+        // What holds of every answer.
+        ensures unused { IsUnused ((hand N.meaning K.meaning).counts mechanism) → StaysUnused N.meaning K.meaning self.old self.new }
+        // What a refusal says.
+        ensures cause { IfErr result (λ error. error.error_type ≢ ErrorKind.InsufficientMemory →
+            (hand N.meaning K.meaning).refuses mechanism (ToAcquire credential_use (option_copied auth_data.entry)) error.error_type) }
+    {
+        let mut mechanism = mechanism;
+        let buffers = mechanism.acquire(credential_use, auth_data)?;
+        self.protocol = mechanism;
+        self.auth_identity = kept;
+        Ok(buffers)
     }
 
     fn acquire_in_hand(

@@ -9,7 +9,7 @@ ghost use Rattle.sspi_tokens.specs.Reading.{targ_of};
 ghost use Rattle.sspi_negotiate.specs.declared.protocol.Protocol.TheVariants as protocols;
 ghost use Rattle.sspi_negotiate.specs.declared.state.NegotiateState.TheVariants as states;
 ghost use Rattle.sspi_types.specs.declared.security_status.SecurityStatus.TheVariants as statuses;
-ghost use Rattle.sspi_negotiate.specs.Client.{at_progress, chosen, chooses_kerberos, chooses_ntlm, in_kerberos, answers};
+ghost use Rattle.sspi_negotiate.specs.Client.{at_progress, chosen, chooses_kerberos, chooses_ntlm, in_kerberos, answers, without_ntlm};
 ghost use Rattle.sspi_negotiate.specs.Client.{stepped, settles, verified, at_verify_mic, confirmed};
 ghost use Rattle.sspi_negotiate.specs.Client.{last_mic, is_guest, handle_for, resumes_answering, spnego_resumed};
 ghost use Rattle.sspi_negotiate.specs.Does.{Does, Stays, StaysUnmarked, StaysUnused, told};
@@ -120,7 +120,6 @@ impl<N: Mechanism, K: Mechanism> Negotiate<N, K> {
         ensures unused { StaysUnused N.meaning K.meaning self.old self.new }
     {
         if self.packages.kerberos {
-            self.packages.ntlm = false;
             self.go_to_kerberos(token, args)
         } else {
             Err(invalid_token(Reason::Disabled))
@@ -132,25 +131,28 @@ impl<N: Mechanism, K: Mechanism> Negotiate<N, K> {
         token: NegTokenTarg,
         args: &InitializeSecurityContext<'_>,
     ) -> Result<Progressing, Refusal>
-        ensures step { Does N.meaning K.meaning (in_kerberos (hand_of self.old.mech) token (values_of self.old) (step_args args.now))
+        ensures step { Does N.meaning K.meaning
+            (in_kerberos (hand_of self.old.mech) token (without_ntlm (values_of self.old)) (step_args args.now))
             self.old (answer_of (answered result)) self.new }
-        ensures stays { OnErr result (Stays (values_of self.old) (values_of self.new)) }
+        ensures stays { self.old.packages.kerberos ≡ true → OnErr result (Stays (values_of self.old) (values_of self.new)) }
         ensures unused { StaysUnused N.meaning K.meaning self.old self.new }
     {
         match self.protocol.protocol() {
-            Protocol::Kerberos => self.answer(token, args),
+            Protocol::Kerberos => self.answer_in_kerberos(token, args),
             Protocol::Ntlm => self.replace_ntlm(token, args),
         }
     }
 
+    /// NTLM is disabled only once Kerberos is in hand, so that want of memory leaves no disabled mechanism in hand.
     fn replace_ntlm(
         &mut self,
         token: NegTokenTarg,
         args: &InitializeSecurityContext<'_>,
     ) -> Result<Progressing, Refusal>
-        ensures step { Does N.meaning K.meaning (in_kerberos protocols.Ntlm token (values_of self.old) (step_args args.now))
+        ensures step { Does N.meaning K.meaning
+            (in_kerberos protocols.Ntlm token (without_ntlm (values_of self.old)) (step_args args.now))
             self.old (answer_of (answered result)) self.new }
-        ensures stays { OnErr result (Stays (values_of self.old) (values_of self.new)) }
+        ensures stays { self.old.packages.kerberos ≡ true → OnErr result (Stays (values_of self.old) (values_of self.new)) }
         ensures unused { StaysUnused N.meaning K.meaning self.old self.new }
     {
         self.protocol = NegotiatedProtocol::new_kerberos(
@@ -160,6 +162,20 @@ impl<N: Mechanism, K: Mechanism> Negotiate<N, K> {
             &self.client_computer_name,
         )?;
         self.mic_needed = true;
+        self.answer_in_kerberos(token, args)
+    }
+
+    fn answer_in_kerberos(
+        &mut self,
+        token: NegTokenTarg,
+        args: &InitializeSecurityContext<'_>,
+    ) -> Result<Progressing, Refusal>
+        ensures step { Does N.meaning K.meaning (answers token (without_ntlm (values_of self.old)) (step_args args.now))
+            self.old (answer_of (answered result)) self.new }
+        ensures stays { hand_of self.old.mech ≡ protocols.Kerberos → OnErr result (Stays (values_of self.old) (values_of self.new)) }
+        ensures unused { StaysUnused N.meaning K.meaning self.old self.new }
+    {
+        self.packages.ntlm = false;
         self.answer(token, args)
     }
 
@@ -195,7 +211,7 @@ impl<N: Mechanism, K: Mechanism> Negotiate<N, K> {
               need = not guest;
             }) (step_args args.now)))
             self.old (answer_of (answered result)) self.new }
-        ensures stays { OnErr result (Stays (values_of self.old) (values_of self.new)) }
+        ensures stays { self.old.packages.ntlm ≡ true → OnErr result (Stays (values_of self.old) (values_of self.new)) }
         ensures unused { StaysUnused N.meaning K.meaning self.old self.new }
     {
         self.take_ntlm()?;
@@ -214,7 +230,7 @@ impl<N: Mechanism, K: Mechanism> Negotiate<N, K> {
               need = not guest;
             }) (step_args args.now))
             self.old (answer_of (answered result)) self.new }
-        ensures stays { OnErr result (Stays (values_of self.old) (values_of self.new)) }
+        ensures stays { hand_of self.old.mech ≡ protocols.Ntlm → OnErr result (Stays (values_of self.old) (values_of self.new)) }
         ensures unused { StaysUnused N.meaning K.meaning self.old self.new }
     {
         self.packages.kerberos = false;
@@ -356,8 +372,8 @@ impl<N: Mechanism, K: Mechanism> Negotiate<N, K> {
 
     /// Goes on with the step that was suspended, once it is known what came of its request.
     ///
-    /// `OutOfSequence` where no step is suspended. Else as the step that was suspended; refused, it stays suspended, but where
-    /// NTLM took the place of Kerberos.
+    /// `OutOfSequence` where no step is suspended. Else as the step that was suspended. Refused by its mechanism, it stays
+    /// suspended, but where NTLM took the place of Kerberos; refused for what comes after the mechanism's step, it does not.
     pub fn resume(&mut self, reply: &Reply) -> Result<Progressing, Error>
         ensures step { (negotiate N.REQUESTS N.meaning K.meaning).resumes self.old reply.now (answer_of result) self.new }
         ensures falls { let c = negotiate N.REQUESTS N.meaning K.meaning in OnAsk (answer_of result) (c.left self.new < c.left self.old) }

@@ -44,8 +44,9 @@ impl<N: Mechanism, K: Mechanism> Negotiate<N, K> {
     ///
     /// `OutOfSequence` while a step waits for a KDC, on a server, and after the end. `InvalidParameter` where the handle's user
     /// and domain mix the forms of a name. `InvalidToken` for a token of another form than the state has, for a choice of a
-    /// mechanism that may not be used, and in the last state for one that is not complete. Else the refusals of the mechanism in
-    /// hand, which may have moved then; the state stays.
+    /// mechanism that may not be used, and in the last state for one that is not complete. `InternalError` where the first step
+    /// of the mechanism ends with another status than `Ok` and `ContinueNeeded`, and for a token past the limit of all lengths.
+    /// Else the refusals of the mechanism in hand, which may have moved then; the state stays.
     pub fn initialize_security_context(
         &mut self,
         args: &InitializeSecurityContext<'_>,
@@ -109,7 +110,7 @@ impl<N: Mechanism, K: Mechanism> Negotiate<N, K> {
               packages = record self.old.packages { kerberos = false };
             }) (step_args args.now)))
             self.old (answer_of (answered result)) self.new }
-        ensures stays { OnErr result (Stays (values_of self.old) (values_of self.new)) }
+        ensures stays { self.old.packages.ntlm ≡ true → OnErr result (Stays (values_of self.old) (values_of self.new)) }
         // What every answer keeps.
         ensures unused { StaysUnused N.meaning K.meaning self.old self.new }
         ensures first { self.old.state ≡ states.Initial → StaysUnmarked N.meaning K.meaning self.old self.new }
@@ -126,7 +127,7 @@ impl<N: Mechanism, K: Mechanism> Negotiate<N, K> {
         ensures step { Does N.meaning K.meaning
             (with_handle (record (values_of self.old) { packages = record self.old.packages { kerberos = false } }) (step_args args.now))
             self.old (answer_of (answered result)) self.new }
-        ensures stays { OnErr result (Stays (values_of self.old) (values_of self.new)) }
+        ensures stays { hand_of self.old.mech ≡ protocols.Ntlm → OnErr result (Stays (values_of self.old) (values_of self.new)) }
         // What every answer keeps.
         ensures unused { StaysUnused N.meaning K.meaning self.old self.new }
         ensures first { self.old.state ≡ states.Initial → StaysUnmarked N.meaning K.meaning self.old self.new }

@@ -23,27 +23,6 @@ use sspi_names::{Credentials, Username};
 use sspi_tokens::{NegResult, NegTokenTarg};
 use sspi_types::{Bytes, ErrorKind, Reason, SecurityStatus};
 
-fn verify_with<N: Mechanism, K: Mechanism>(
-    protocol: &mut NegotiatedProtocol<N, K>,
-    mic: &Bytes,
-    text: &Bytes,
-) -> Result<(), Refusal>
-    // What `Ok` holds, and that the mechanism is the same.
-    ensures mic { let c = hand N.meaning K.meaning in
-        OnOk result (c.verifies protocol.new (c.counts protocol.old).verifications mic.now text.now) }
-    ensures ok { let c = hand N.meaning K.meaning in
-        OnOk result (protocol.new ≡ c.counted protocol.old (one_verification (c.counts protocol.old))) }
-    ensures count { let c = hand N.meaning K.meaning in OnOk result (c.counts protocol.new ≡ one_verification (c.counts protocol.old)) }
-    ensures named { hand_of protocol.new ≡ hand_of protocol.old }
-    ensures permitted { OnOk result ((hand N.meaning K.meaning).permits protocol.old (ToVerify mic.now text.now)) }
-    // What a refusal says, and what it leaves.
-    ensures err { OnErr result (protocol.new ≡ protocol.old) }
-    ensures cause { IfErr result (λ error.
-        (hand N.meaning K.meaning).refuses protocol.old (ToVerify mic.now text.now) error.error_type) }
-{
-    Ok(protocol.verify_mic_token(mic.as_slice(), text.as_slice())?)
-}
-
 fn sign_with<N: Mechanism, K: Mechanism>(
     protocol: &mut NegotiatedProtocol<N, K>,
     text: &Bytes,

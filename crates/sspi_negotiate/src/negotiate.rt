@@ -1,4 +1,4 @@
-ghost use Rattle.std.specs.Prelude.{◌≡◌, ◌≢◌, [], None, OnErr};
+ghost use Rattle.std.specs.Prelude.{◌≡◌, ◌≢◌, [], true, None, OnErr};
 ghost use Rattle.sspi_mech.specs.Answered.{answered};
 ghost use Rattle.sspi_negotiate.specs.Does.{Does, Stays, StaysPicked, StaysUnmarked, StaysUnused, told};
 ghost use Rattle.sspi_negotiate.specs.Passes.{Passes};
@@ -104,7 +104,7 @@ impl<N: Mechanism, K: Mechanism> Negotiate<N, K> {
         ensures step { Passes N.meaning K.meaning (in_ntlm (hand_of self.old.mech) self.old.computer)
             (record (values_of self.old) { hand = protocols.Ntlm }) self.old (answered result) self.new }
         // What every answer keeps.
-        ensures stays { Stays (values_of self.old) (values_of self.new) }
+        ensures stays { self.old.packages.ntlm ≡ true → Stays (values_of self.old) (values_of self.new) }
         ensures unused { StaysUnused N.meaning K.meaning self.old self.new }
         ensures unmarked { StaysUnmarked N.meaning K.meaning self.old self.new }
     {
@@ -119,7 +119,7 @@ impl<N: Mechanism, K: Mechanism> Negotiate<N, K> {
         ensures step { Passes N.meaning K.meaning (in_ntlm protocols.Kerberos self.old.computer)
             (record (values_of self.old) { hand = protocols.Ntlm }) self.old (answered result) self.new }
         // What every answer keeps.
-        ensures stays { Stays (values_of self.old) (values_of self.new) }
+        ensures stays { self.old.packages.ntlm ≡ true → Stays (values_of self.old) (values_of self.new) }
         ensures unused { StaysUnused N.meaning K.meaning self.old self.new }
         ensures unmarked { StaysUnmarked N.meaning K.meaning self.old self.new }
     {

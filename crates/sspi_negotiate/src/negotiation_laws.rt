@@ -11,9 +11,9 @@ ghost use Rattle.sspi_negotiate.specs.declared.protocol.NegotiatedProtocol.{Nego
 ghost use Rattle.sspi_negotiate.specs.Does.{UnlessMemory, told};
 ghost use Rattle.sspi_mech.specs.declared.step.Answer.TheVariants as answers;
 ghost use Rattle.sspi_negotiate.specs.declared.state.NegotiateState.TheVariants as states;
-ghost use Rattle.sspi_negotiate.specs.Hand.{hand};
+ghost use Rattle.sspi_negotiate.specs.Hand.{hand, hand_of};
 ghost use Rattle.sspi_negotiate.specs.Verified.{IsVerified};
-ghost use Rattle.sspi_negotiate.specs.Keeps.{Keeps};
+ghost use Rattle.sspi_negotiate.specs.Keeps.{Keeps, KeepsPackages};
 ghost use Rattle.sspi_negotiate.specs.Values.{Negotiation, values_of};
 ghost use Rattle.sspi_negotiate.specs.Negotiate.{negotiate};
 
@@ -25,8 +25,21 @@ pub fn negotiation_is_context<N: Mechanism, K: Mechanism>()
     ensures { IsContext (negotiate N.REQUESTS N.meaning K.meaning) }
 {}
 
-/// No step enables a package again, leaves a mechanism in hand that may not be used, or replaces the list of mechanisms
-/// that the client once offered; want of memory apart, in which `Stays` says what stays.
+/// No step enables a package again or leaves a mechanism in hand that may not be used, whatever it answers, want of memory too.
+pub fn packages_are_kept<N: Mechanism, K: Mechanism>()
+    ensures client { (old new : Negotiation (NegotiatedProtocol N K)) (args : StepArgs) (answer : Answer) →
+        (negotiate N.REQUESTS N.meaning K.meaning).steps old args answer new →
+        KeepsPackages old.packages (hand_of old.mech) new.packages (hand_of new.mech) }
+    ensures resumed { (old new : Negotiation (NegotiatedProtocol N K)) (reply : Reply) (answer : Answer) →
+        (negotiate N.REQUESTS N.meaning K.meaning).resumes old reply answer new →
+        KeepsPackages old.packages (hand_of old.mech) new.packages (hand_of new.mech) }
+    ensures server { (old new : Negotiation (NegotiatedProtocol N K)) (args : AcceptArgs) (result : Result Step Error) →
+        (negotiate N.REQUESTS N.meaning K.meaning).accepts old args result new →
+        KeepsPackages old.packages (hand_of old.mech) new.packages (hand_of new.mech) }
+{}
+
+/// No step replaces the list of mechanisms that the client once offered, beside what `packages_are_kept` says; want of memory
+/// apart, in which `Stays` says what stays.
 pub fn steps_keep<N: Mechanism, K: Mechanism>()
     ensures client { (old new : Negotiation (NegotiatedProtocol N K)) (args : StepArgs) (answer : Answer) →
         (negotiate N.REQUESTS N.meaning K.meaning).steps old args answer new → UnlessMemory answer (Keeps (values_of old) (values_of new)) }

@@ -1,5 +1,5 @@
 // A client's first step, and what comes of it where it is refused (state Initial).
-ghost use Rattle.std.specs.Prelude.{◌≡◌, ◌≢◌, ◌&&◌, None, Some, OnErr, option_copied};
+ghost use Rattle.std.specs.Prelude.{◌≡◌, ◌≢◌, ◌&&◌, true, None, Some, OnErr, option_copied};
 ghost use Rattle.sspi_mech.specs.Answers.{answer_of, IfRefused};
 ghost use Rattle.sspi_mech.specs.Calls.{step_args};
 ghost use Rattle.sspi_mech.specs.Calls.{IsUnused};
@@ -225,7 +225,7 @@ impl<N: Mechanism, K: Mechanism> Negotiate<N, K> {
     fn fall_back(&mut self, first: Opening, waited: bool) -> Result<Progressing, Refusal>
         // The step, and what a refused one leaves.
         ensures step { Does N.meaning K.meaning (falls_back (values_of self.old) first) self.old (answer_of (answered result)) self.new }
-        ensures stays { OnErr result (Stays (values_of self.old) (values_of self.new)) }
+        ensures stays { self.old.packages.ntlm ≡ true → OnErr result (Stays (values_of self.old) (values_of self.new)) }
         // What every answer keeps.
         ensures unused { StaysUnused N.meaning K.meaning self.old self.new }
         ensures unmarked { StaysUnmarked N.meaning K.meaning self.old self.new }

@@ -1,9 +1,11 @@
-ghost use Rattle.std.specs.Prelude.{◌≡◌, ◌≢◌, None, IfErr, OnOk, option_copied};
+ghost use Rattle.std.specs.Prelude.{◌≡◌, ◌≢◌, None, IfOk, IfErr, IfSome, OnOk, OnErr, option_copied};
+ghost use Rattle.std.specs.Option.{unwrap_or};
+ghost use Rattle.sspi_mech.specs.Calls.{no_counts};
 ghost use Rattle.sspi_types.specs.declared.error_kind.ErrorKind.TheVariants as kinds;
 ghost use Rattle.sspi_names.specs.Name.{domain_of};
 ghost use Rattle.sspi_negotiate.specs.Does.{StaysUnmarked, StaysUnused};
 ghost use Rattle.sspi_negotiate.specs.Rule.{url_for, rule_url, ruled_values, TakenBy};
-ghost use Rattle.sspi_negotiate.specs.Hand.{hand};
+ghost use Rattle.sspi_negotiate.specs.Hand.{hand, hand_of};
 ghost use Rattle.sspi_negotiate.specs.Values.{values_of};
 
 use crate::negotiate::Negotiate;
@@ -32,6 +34,34 @@ impl<N: Mechanism, K: Mechanism> Negotiate<N, K> {
         }
     }
 
+    /// A Kerberos for the place of NTLM, where a KDC serves the name's domain.
+    pub(crate) fn kerberos_by_rule(
+        &self,
+        name: &Username,
+    ) -> Result<Option<NegotiatedProtocol<N, K>>, Refusal>
+        // What `Ok` holds.
+        ensures taken { IfOk result (λ kerberos. TakenBy (hand N.meaning K.meaning) (rule_url (values_of self.now) name.now)
+            self.now.kdcs self.now.computer self.now.mech (unwrap_or kerberos self.now.mech)) }
+        ensures named { IfOk result (λ kerberos. hand_of (unwrap_or kerberos self.now.mech) ≡
+            (ruled_values (rule_url (values_of self.now) name.now) (values_of self.now)).hand) }
+        ensures fresh { IfOk result (λ kerberos. IfSome kerberos (λ it. (hand N.meaning K.meaning).counts it ≡ no_counts)) }
+        // What a refusal says.
+        ensures err { IfErr result (λ error. error.error_type ≡ kinds.InsufficientMemory) }
+    {
+        match self.rule_url(name) {
+            None => Ok(None),
+            Some(url) => {
+                let kerberos = NegotiatedProtocol::new_kerberos(
+                    self.alloc,
+                    Some(url),
+                    &self.kdcs,
+                    &self.client_computer_name,
+                )?;
+                Ok(Some(kerberos))
+            }
+        }
+    }
+
     /// Takes Kerberos in the place of NTLM, where a KDC serves the name's domain.
     pub(crate) fn take_by_rule(&mut self, name: &Username) -> Result<(), Refusal>
         // What `Ok` holds.
@@ -42,20 +72,13 @@ impl<N: Mechanism, K: Mechanism> Negotiate<N, K> {
         ensures rest { self.new ≡ record self.old { mech = self.new.mech } }
         ensures unused { StaysUnused N.meaning K.meaning self.old self.new }
         ensures unmarked { StaysUnmarked N.meaning K.meaning self.old self.new }
-        // What a refusal says.
-        ensures err { IfErr result (λ error. error.error_type ≡ kinds.InsufficientMemory) }
+        // What a refusal says, and what it leaves.
+        ensures err { OnErr result (self.new ≡ self.old) }
+        ensures memory { IfErr result (λ error. error.error_type ≡ kinds.InsufficientMemory) }
     {
-        match self.rule_url(name) {
-            None => Ok(()),
-            Some(url) => {
-                self.protocol = NegotiatedProtocol::new_kerberos(
-                    self.alloc,
-                    Some(url),
-                    &self.kdcs,
-                    &self.client_computer_name,
-                )?;
-                Ok(())
-            }
+        if let Some(kerberos) = self.kerberos_by_rule(name)? {
+            self.protocol = kerberos;
         }
+        Ok(())
     }
 }

@@ -1,5 +1,5 @@
 // The steps of a server, and its first one: the offer is read and a mechanism is picked, in the order of `specs/Server.antt`.
-ghost use Rattle.std.specs.Prelude.{◌≡◌, ◌≢◌, [], None, Some, IfOk, IfErr, OnErr, if◌then◌else◌};
+ghost use Rattle.std.specs.Prelude.{◌≡◌, ◌≢◌, [], true, None, Some, IfOk, IfErr, OnErr, if◌then◌else◌};
 ghost use Rattle.sspi_mech.specs.Calls.{accept_args};
 ghost use Rattle.sspi_mech.specs.Calls.{IsUnused};
 ghost use Rattle.sspi_mech.specs.Answered.{answered};
@@ -13,6 +13,7 @@ ghost use Rattle.sspi_negotiate.specs.Plan.{Accepts, Pairs};
 ghost use Rattle.sspi_negotiate.specs.Rows.{targ, or_empty, in_ntlm};
 ghost use Rattle.sspi_negotiate.specs.Server.{drops, goes_on_with, waits_for_token, goes_on, awaits_mic, ends_at_once, opens, needs_mic};
 ghost use Rattle.sspi_negotiate.specs.Server.{first_token, placed, takes_pick, picks, reads_list, at_initial, spnego_server};
+ghost use Rattle.sspi_negotiate.specs.Usable.{OnNtlm, IsUsable};
 ghost use Rattle.sspi_negotiate.specs.Values.{values_of};
 ghost use Rattle.sspi_negotiate.specs.declared.state.NegotiateState.TheVariants as states;
 ghost use Rattle.sspi_negotiate.specs.declared.state.Role.TheVariants as roles;
@@ -79,7 +80,8 @@ impl<N: Mechanism, K: Mechanism> Negotiate<N, K> {
     ///
     /// `OutOfSequence` on a client and after the end. `InvalidToken` for a token of another form than the state has, for a
     /// list that is absent or has nothing to pick, and where a MIC is missing that is needed. `NoCredentials` where no known
-    /// identity has the peer's name. Else the refusals of the mechanism in hand, which may have moved then; the state stays.
+    /// identity has the peer's name. `InternalError` for a token past the limit of all lengths. Else the refusals of the
+    /// mechanism in hand, which may have moved then; the state stays.
     pub fn accept_security_context(
         &mut self,
         args: &AcceptSecurityContext<'_>,
@@ -165,7 +167,7 @@ impl<N: Mechanism, K: Mechanism> Negotiate<N, K> {
         // The step, and what a refused one leaves.
         ensures step { Does N.meaning K.meaning (picks picked list token (values_of self.old) (accept_args args.now))
             self.old (told (answered result)) self.new }
-        ensures stays { OnErr result (Stays (values_of self.old) (values_of self.new)) }
+        ensures stays { IsUsable self.old.packages picked → OnErr result (Stays (values_of self.old) (values_of self.new)) }
         // What every answer keeps.
         ensures unused { StaysUnused N.meaning K.meaning self.old self.new }
         ensures unmarked { StaysUnmarked N.meaning K.meaning self.old self.new }
@@ -188,7 +190,7 @@ impl<N: Mechanism, K: Mechanism> Negotiate<N, K> {
         // The step, and what a refused one leaves.
         ensures step { Does N.meaning K.meaning (takes_pick picked.choice token picked (values_of self.old) (accept_args args.now))
             self.old (told (answered result)) self.new }
-        ensures stays { OnErr result (Stays (values_of self.old) (values_of self.new)) }
+        ensures stays { OnNtlm picked.choice (self.old.packages.ntlm ≡ true) → OnErr result (Stays (values_of self.old) (values_of self.new)) }
         // What every answer keeps.
         ensures unused { StaysUnused N.meaning K.meaning self.old self.new }
         ensures unmarked { StaysUnmarked N.meaning K.meaning self.old self.new }
@@ -210,7 +212,7 @@ impl<N: Mechanism, K: Mechanism> Negotiate<N, K> {
         ensures step { Does N.meaning K.meaning (in_ntlm (hand_of self.old.mech) self.old.computer
             (placed token picked (record (values_of self.old) { hand = protocols.Ntlm }) (accept_args args.now)))
             self.old (told (answered result)) self.new }
-        ensures stays { OnErr result (Stays (values_of self.old) (values_of self.new)) }
+        ensures stays { self.old.packages.ntlm ≡ true → OnErr result (Stays (values_of self.old) (values_of self.new)) }
         // What every answer keeps.
         ensures unused { StaysUnused N.meaning K.meaning self.old self.new }
         ensures unmarked { StaysUnmarked N.meaning K.meaning self.old self.new }
