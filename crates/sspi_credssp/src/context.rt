@@ -112,7 +112,7 @@ impl<N: Mechanism, K: Mechanism> SspiContext<N, K> {
     /// The buffers for the handle of these credentials, or none without credentials (AcquireCredentialsHandle).
     ///
     /// Plain NTLM refuses a keytab as `UnknownCredentials`, and an outbound use without credentials as `NoCredentials`. A
-    /// negotiation refuses both as `NoCredentials` while NTLM is in hand.
+    /// negotiation refuses both as `NoCredentials` while NTLM is in hand. Refused, the context is as it was.
     pub fn acquire_credentials_handle(
         &mut self,
         credential_use: CredentialUse,
@@ -121,6 +121,7 @@ impl<N: Mechanism, K: Mechanism> SspiContext<N, K> {
         ensures acquired { IfOk result (λ buffers.
             (either N.REQUESTS N.meaning K.meaning).acquires self.old credential_use (option_copied auth_data.entry) buffers self.new) }
         ensures unused { let c = either N.REQUESTS N.meaning K.meaning in IsUnused (c.counts self.old) → IsUnused (c.counts self.new) }
+        ensures err { OnErr result (self.new ≡ self.old) }
         ensures cause { IsRefusedBy result ((either N.REQUESTS N.meaning K.meaning).refuses self.old
             (ToAcquire credential_use (option_copied auth_data.entry))) }
     {

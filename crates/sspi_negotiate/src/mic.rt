@@ -1,6 +1,6 @@
 // The MICs over the mechanism list (RFC 4178, section 5).
 ghost use Rattle.std.specs.Prelude.{◌≡◌, ◌≢◌, None, Some, IfOk, IfErr, OnOk, OnErr, map, ◌==◌};
-ghost use Rattle.sspi_mech.specs.Calls.{one_signing, one_verification, ToSign, ToVerify};
+ghost use Rattle.sspi_mech.specs.Calls.{one_signing, ToSign};
 ghost use Rattle.sspi_mech.specs.Answered.{answered};
 ghost use Rattle.sspi_negotiate.specs.Hand.{hand, hand_of};
 ghost use Rattle.sspi_names.specs.declared.credentials.Credentials.TheVariants as credentials;
