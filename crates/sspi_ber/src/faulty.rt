@@ -1,7 +1,7 @@
-ghost use Rattle.std.specs.Prelude.{◌≡◌, ◌↔◌, ◌<◌, ◌≤◌, [], length, IfOk, IsErrOf};
+ghost use Rattle.std.specs.Prelude.{◌≡◌, ◌↔◌, ◌<◌, ◌≤◌, [], length, IfOk, OnOk, IsErrOf};
 ghost use Rattle.std.specs.Io.KnownBytes.{ReadConsumes, WriteAppends};
 ghost use Rattle.sspi_types.specs.Counting.{Counts};
-ghost use Rattle.sspi_ber.specs.Outside.{SourceCause, SinkCause};
+ghost use Rattle.sspi_ber.specs.Outside.{NextConsumes, SourceCause, SinkCause};
 
 use crate::sink::{Sink, SinkError};
 use crate::slice_source::SliceSource;
@@ -49,8 +49,9 @@ impl Source for FaultySource<'_> {
         ensures bound { IfOk result (λ count. count ≤ length into.new) }
         ensures bytes { ReadConsumes (Some self.old.source) (Some self.new.source) result into.new }
         ensures cause { SourceCause self.old.faults self.new.faults result }
-        // Which call fails.
+        // Which call fails, and that no other counts a fault.
         ensures fails { IsErrOf result SourceError.Failed ↔ (self.old.calls ≡ self.old.failing) }
+        ensures quiet { OnOk result (self.new.faults ≡ self.old.faults) }
         ensures calls { Counts self.old.calls self.new.calls }
         ensures failing { self.new.failing ≡ self.old.failing }
     {
@@ -61,6 +62,24 @@ impl Source for FaultySource<'_> {
             return Err(SourceError::Failed);
         }
         self.source.read(into)
+    }
+
+    /// A call like `read`, of one byte.
+    fn next_byte(&mut self) -> Result<Option<u8>, SourceError>
+        // What a source promises.
+        ensures bytes { NextConsumes (Some self.old.source) (Some self.new.source) result }
+        ensures cause { SourceCause self.old.faults self.new.faults result }
+        // Which call fails, and that no other counts a fault.
+        ensures fails { IsErrOf result SourceError.Failed ↔ (self.old.calls ≡ self.old.failing) }
+        ensures quiet { OnOk result (self.new.faults ≡ self.old.faults) }
+        ensures calls { Counts self.old.calls self.new.calls }
+        ensures failing { self.new.failing ≡ self.old.failing }
+    {
+        let mut byte = [0u8];
+        if self.read(&mut byte)? == 0 {
+            return Ok(None);
+        }
+        Ok(Some(byte[0]))
     }
 }
 

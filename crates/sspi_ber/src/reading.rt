@@ -79,7 +79,10 @@ fn read_sized_length<S: Source>(source: &mut S) -> Result<(u32, usize), WireKind
     Ok((len, 1 + count as usize))
 }
 
-/// A length in one of its four forms, shortest or not.
+/// A length in one of its four forms, shortest or not (X.690 8.1.3).
+///
+/// `UnexpectedEof` where the input ends, `InvalidData` for a first octet of 0x80 or above 0x83 and for a length past the limit,
+/// `ReadFault` only where the source failed.
 #[tactic(auto, using(crate::proofs::Sized::length_half, crate::proofs::Sized::length_fault))]
 pub fn read_length<S: Source>(source: &mut S) -> Result<u32, WireKind>
     ensures read { Reads (λ n. n) (S.left source.old) (S.left source.new) result length_at }
@@ -92,7 +95,8 @@ pub fn read_length<S: Source>(source: &mut S) -> Result<u32, WireKind>
     }
 }
 
-/// This identifier octet and a length, which is the answer. `InvalidData` where another byte comes first.
+/// This identifier octet and a length, which is the answer. `InvalidData` where another byte comes first; else refused as
+/// `read_length`.
 #[tactic(auto, unfolding(crate::specs::Pieces::header_at))]
 pub fn read_header<S: Source>(source: &mut S, tag: u8) -> Result<u32, WireKind>
     ensures read { Reads (λ n. n) (S.left source.old) (S.left source.new) result (header_at tag) }
@@ -105,7 +109,7 @@ pub fn read_header<S: Source>(source: &mut S, tag: u8) -> Result<u32, WireKind>
     read_length(source)
 }
 
-/// The same with how many bytes the header took.
+/// The same as `read_header`, with how many bytes the header took.
 #[tactic(auto, unfolding(crate::specs::Pieces::sized_header_at, crate::specs::Pieces::header_at, crate::specs::Sized::sized_length_at))]
 pub fn read_sized_header<S: Source>(source: &mut S, tag: u8) -> Result<(u32, usize), WireKind>
     ensures read { Reads (λ sized. (sized.0, sized.1)) (S.left source.old) (S.left source.new) result (sized_header_at tag) }
@@ -120,7 +124,7 @@ pub fn read_sized_header<S: Source>(source: &mut S, tag: u8) -> Result<(u32, usi
     Ok((len, 1 + size))
 }
 
-/// The header of a SEQUENCE: its identifier octet and a length, which is the answer.
+/// The header of a SEQUENCE: its identifier octet and a length, which is the answer. Refused as `read_header`.
 pub fn read_sequence_tag<S: Source>(source: &mut S) -> Result<u32, WireKind>
     ensures read { Reads (λ n. n) (S.left source.old) (S.left source.new) result (header_at 0x30) }
     ensures cause { ReadCause (S.faults source.old) (S.faults source.new) result }
@@ -129,7 +133,7 @@ pub fn read_sequence_tag<S: Source>(source: &mut S) -> Result<u32, WireKind>
     read_header(source, SEQUENCE)
 }
 
-/// The header of a context-specific element. Of `tagnum` the low five bits count.
+/// The header of a context-specific element. Of `tagnum` the low five bits count. Refused as `read_header`.
 pub fn read_contextual_tag<S: Source>(source: &mut S, tagnum: u8, pc: Pc) -> Result<u32, WireKind>
     ensures read { Reads (λ n. n) (S.left source.old) (S.left source.new) result (header_at (contextual_identifier tagnum pc)) }
     ensures cause { ReadCause (S.faults source.old) (S.faults source.new) result }
@@ -138,7 +142,7 @@ pub fn read_contextual_tag<S: Source>(source: &mut S, tagnum: u8, pc: Pc) -> Res
     read_header(source, contextual_identifier(tagnum, pc))
 }
 
-/// The header of an OCTET STRING.
+/// The header of an OCTET STRING. Refused as `read_header`.
 pub fn read_octet_string_tag<S: Source>(source: &mut S) -> Result<u32, WireKind>
     ensures read { Reads (λ n. n) (S.left source.old) (S.left source.new) result (header_at 0x04) }
     ensures cause { ReadCause (S.faults source.old) (S.faults source.new) result }
