@@ -1,7 +1,6 @@
 -- What the status of a run says, by what was said and how it was written.
 use Rattle.std.proofs.Common.{◌≡◌, ◌≢◌, ℕ, ◌<◌, ◌≤◌, ◌⊎◌, inl, inr, List, [], append-nil, Option, None, Some, Result, Ok, Err, refl, sym}
 use Rattle.std.proofs.Common.{◌∙◌, ap, subst, arith}
-use Rattle.std.specs.Io.KnownBytes.{Appends}
 use Rattle.std.specs.Option.{option_map}
 use Rattle.std.specs.List.{list_all}
 use Rattle.std.specs.Prelude.{IsSome, IsSomeAnd, Bool, true, false, if◌then◌else◌}
@@ -39,14 +38,6 @@ use Rattle.sspi_program.specs.Said.{heard_status, status_of, report_of, record_d
 use Rattle.sspi_program.specs.Said.{said_text, conducted_as, words_text, read_text}
 use Rattle.sspi_program.specs.Seats.{PlainSeat}
 use Rattle.sspi_program.specs.Status.{IsUnlessWrite, IsUnlessFault}
-
-appends_none : (w : Option (List ℕ)) → Appends w w []
-appends_none None = tt
-appends_none (Some bytes) = sym (append-nil bytes)
-
--- nothing was written
-front_none : (w : Option (List ℕ)) (text : List ℕ) → WroteFront w w text
-front_none w text = record { front = []; rest = text; appended = appends_none w; parts = refl }
 
 front_all : (w w2 : Option (List ℕ)) (text : List ℕ) → Wrote w w2 text → WroteFront w w2 text
 front_all w w2 text wrote = record { front = text; rest = []; appended = wrote.appended; parts = sym (append-nil text) }

@@ -129,9 +129,6 @@ body_of text r tail t0 =
     } in
     subst (λ (z : TsRequest). IsBody (text ++ tail) z) (sym t5.2) is_made
 
-assoc_two : (a b t : List ℕ) → (a ++ b) ++ t ≡ a ++ (b ++ t)
-assoc_two a b t = append_assoc a b t
-
 pub body_takes : (body : List ℕ) (r : TsRequest) (tail : List ℕ) → body_at body ≡ Ok (r, tail) → IsBody body r
 body_takes body r tail e =
     let t = body_step.takes body r tail e in
