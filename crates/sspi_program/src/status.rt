@@ -3,17 +3,20 @@
 /// What the words ask for was done; in an exchange the server has the credentials.
 pub const DONE: u8 = 0;
 
-/// The exchange was refused.
+/// The exchange was refused; of `gate` the relay had to stop, of `early` the client did not hear success, of `desk` a session has no
+/// credentials.
 pub const REFUSED: u8 = 1;
 
 /// The text of the source is no scenario, or too long.
 pub const NO_SCENARIO: u8 = 2;
 
+/// The text could not be read.
 pub const READ_FAULT: u8 = 3;
 
 /// The output could not be written. It hides the status that was due.
 pub const WRITE_FAULT: u8 = 4;
 
+/// Memory was wanting.
 pub const NO_MEMORY: u8 = 5;
 
 /// The words are no command.
