@@ -28,7 +28,7 @@ use Rattle.sspi_delegate.specs.Chain.{kdc_calls}
 use Rattle.sspi_delegate.specs.Causes.{RunEnds}
 use Rattle.sspi_delegate.specs.Turns.{client_turns, server_turns}
 use Rattle.sspi_delegate.specs.History.{ClientPast, ServerHistory}
-use Rattle.sspi_delegate.specs.Link.{StaysTold, newest_message, AnswerTold}
+use Rattle.sspi_delegate.specs.Link.{StaysTold, AnswerTold}
 use Rattle.sspi_delegate.specs.EndRun.{server_end, GivesNewest}
 use Rattle.sspi_completeness.specs.Matching.{MatchModes, messages_of, messages_in, AreMatching, IsUndisturbed, IsCalm, delegated_as}
 use Rattle.sspi_completeness.specs.Matching.{ComesToOkIn}
@@ -165,7 +165,7 @@ module _ {D P : Type 0} (told : D → Option (ℕ → NetworkRequest → Reply))
       (edits edits2 : Option (List Edit))
       (result : Result Delegation DelegateError) (turns : List Turn) (log : List Carried) → IsUndisturbed edits base log start now →
       RunEnds base start limit result turns log now → StaysTold edits edits2 base log →
-      AnswerTold edits start now result log (newest_message turns) →
+      AnswerTold edits start now result log turns →
       ClientPast c (kdc_calls told calls faults) a kdc result (client_turns turns) x kdc2 → ServerHistory c p b (server_turns turns) y →
       IsCalm (p.faults b.proxy) (p.faults y.proxy) →
       IfOk result (λ delegation. GivesNewest c (server_end y) (server_turns turns) delegation.credentials) →

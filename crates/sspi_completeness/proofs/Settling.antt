@@ -68,16 +68,16 @@ NoLinkFault (Err errors.LinkFault) = ⊥
 NoLinkFault (Err errors.TurnsSpent) = Unit {0}
 NoLinkFault (Err errors.InsufficientMemory) = Unit {0}
 
-told_calm : (result : Result Delegation DelegateError) (start now : ℕ) (log : List Carried) (message : Option TsRequest) →
-    AnswerTold (Some []) start now result log message → NoLinkFault result
-told_calm (Ok delegation) start now log message told = tt
-told_calm (Err (errors.Client error)) start now log message told = tt
-told_calm (Err (errors.Server error)) start now log message told = tt
-told_calm (Err (errors.Read to kind)) start now log message told = tt
-told_calm (Err (errors.Write from)) start now log message told = tt
-told_calm (Err errors.LinkFault) start now log message told = carry_never log message told.0
-told_calm (Err errors.TurnsSpent) start now log message told = tt
-told_calm (Err errors.InsufficientMemory) start now log message told = tt
+told_calm : (result : Result Delegation DelegateError) (start now : ℕ) (log : List Carried) (turns : List Turn) →
+    AnswerTold (Some []) start now result log turns → NoLinkFault result
+told_calm (Ok delegation) start now log turns told = tt
+told_calm (Err (errors.Client error)) start now log turns told = tt
+told_calm (Err (errors.Server error)) start now log turns told = tt
+told_calm (Err (errors.Read to kind)) start now log turns told = tt
+told_calm (Err (errors.Write from)) start now log turns told = tt
+told_calm (Err errors.LinkFault) start now log turns told = carry_never log (newest_message turns) told.0
+told_calm (Err errors.TurnsSpent) start now log turns told = tt
+told_calm (Err errors.InsufficientMemory) start now log turns told = tt
 
 ends_calm : (base log : List Carried) (limit start now : ℕ) (result : Result Delegation DelegateError) (turns : List Turn) →
     IsCalm start now →
@@ -106,11 +106,10 @@ unedited_log edits edits2 log log2 none empty stays =
 pub undisturbed_is : (edits edits2 : Option (List Edit)) (log log2 : List Carried) (limit start now : ℕ)
     (result : Result Delegation DelegateError) (turns : List Turn) →
     IsUndisturbed edits log log2 start now → RunEnds log start limit result turns log2 now → StaysTold edits edits2 log log2 →
-    AnswerTold edits start now result log2 (newest_message turns) → FollowsEdits [] log2 × NoLinkFault result
+    AnswerTold edits start now result log2 turns → FollowsEdits [] log2 × NoLinkFault result
 undisturbed_is edits edits2 log log2 limit start now result turns (unedited none empty) ends stays still = (
   unedited_log edits edits2 log log2 none empty stays,
-  told_calm result start now log2 (newest_message turns)
-      (subst (λ (e : Option (List Edit)). AnswerTold e start now result log2 (newest_message turns)) none still),
+  told_calm result start now log2 turns (subst (λ (e : Option (List Edit)). AnswerTold e start now result log2 turns) none still),
 )
 undisturbed_is edits edits2 log log2 limit start now result turns (shown whole calm) ends stays still =
     (whole_log log2 whole, ends_calm log log2 limit start now result turns calm ends)
@@ -226,7 +225,7 @@ module _ {C D P : Type 0} (c : Meaning ContextSetting C) (k : KdcCalls D) (p : P
     server_entries t past (e ∷ log) follows (carried entries unread still) = (log, (entries.1, entries.2), follows.1)
     server_entries t past log follows (too_long entries unfit still) = (log, entries, follows)
     server_entries t past log follows (link_failed entries fit counted) = (log, entries, follows)
-    server_entries t past log follows (no_memory entries still) = (log, entries, follows)
+    server_entries t past log follows (no_memory entries fit still) = (log, entries, follows)
 
     settle_server : (error : Error) (turns : List Turn) (log : List Carried) → Alternates turns →
         Cause base start limit (errors.Server error) turns log now → FollowsEdits [] log →
@@ -295,7 +294,7 @@ module _ {C D P : Type 0} (c : Meaning ContextSetting C) (k : KdcCalls D) (p : P
       (result : Result Delegation DelegateError)
       (turns : List Turn) (log : List Carried) → IsUndisturbed edits base log start now → RunEnds base start limit result turns log now →
       StaysTold edits edits2 base log →
-      AnswerTold edits start now result log (newest_message turns) → ClientPast c k a kdc_first result (client_turns turns) x kdc →
+      AnswerTold edits start now result log turns → ClientPast c k a kdc_first result (client_turns turns) x kdc →
       ServerHistory c p b (server_turns turns) y → IsCalm (p.faults b.proxy) (p.faults y.proxy) →
       IfOk result (λ delegation. GivesNewest c (server_end y) (server_turns turns) delegation.credentials) →
       Settled (suc last) limit identity result

@@ -2,6 +2,7 @@
 use Rattle.std.proofs.Common.{◌≡◌, ℕ, ◌+◌, inl, inr, true, false, List, [], ◌∷◌, length, sym, ◌∙◌, ap, refl, arith, Option, None, Some}
 use Rattle.std.proofs.Common.{Result, Ok, Err}
 use Rattle.sspi_types.specs.declared.error_kind.ErrorKind.{ErrorKind}
+use Rattle.sspi_types.specs.declared.error_kind.ErrorKind.TheVariants as kinds
 use Rattle.sspi_ber.specs.declared.wire_kind.WireKind.{WireKind}
 use Rattle.sspi_ber.specs.declared.wire_kind.WireKind.TheVariants.{UnexpectedEof, InvalidData, ReadFault, WriteFault, InsufficientMemory}
 use Rattle.sspi_tsreq.specs.declared.request.TsRequest.{TsRequest}
@@ -14,8 +15,9 @@ use Rattle.sspi_credssp.specs.declared.turn.End.TheVariants.{Client, Server}
 use Rattle.sspi_credssp.specs.declared.turn.Outcome.{Outcome}
 use Rattle.sspi_credssp.specs.declared.turn.Outcome.TheVariants.{Reply, Final, Finished, Refused}
 use Rattle.sspi_credssp.specs.declared.turn.Turn.{Turn}
-use Rattle.sspi_delegate.specs.Causes.{NewestIs, IsClientRefusal, IsServerRefusal, IsFinished, MessageFits, NewestFits, MayLackAfter}
-use Rattle.sspi_delegate.specs.Causes.{MayLack, TurnLeft, turns_of, RunEnds, IsOnly, IsClientError, IsServerError, IsOk, Exactly}
+use Rattle.sspi_delegate.specs.Causes.{NewestIs, IsClientRefusal, IsServerRefusal, IsFinished, MessageFits, NewestFits, TurnLeft, turns_of}
+use Rattle.sspi_delegate.specs.Causes.{for_a_turn, for_a_message, by_the_client, by_the_server}
+use Rattle.sspi_delegate.specs.Causes.{RunEnds, IsOnly, IsAnswerOf, IsClientError, IsServerError, IsOk, Exactly}
 use Rattle.sspi_delegate.specs.Log.{is_taken, Logged, LoggedButLast, OpenFor, UnreadFor, IsUnreadable, IsFault}
 use Rattle.sspi_delegate.specs.Turns.{other, next_end, GoesOn, AllGoOn}
 use Rattle.sspi_credssp.specs.Turn.{message_of}
@@ -96,16 +98,6 @@ newest_one : (end : End) (P Q : Outcome → Type 0) (A : Type 0) → ((outcome :
 newest_one end P Q A both [] a b = absurd a
 newest_one end P Q A both (t ∷ past) a b = both t.outcome a.1 b.1
 
-finished_may_lack : (outcome : Outcome) → IsFinished outcome → MayLackAfter outcome → ⊥
-finished_may_lack (Reply reply) finished lacks = finished
-finished_may_lack (Final reply) finished lacks = finished
-finished_may_lack Finished finished lacks = lacks
-finished_may_lack (Refused refused reply) finished lacks = finished
-
-newest_may_lack : (turns : List Turn) → NewestIs Server IsFinished turns → MayLack turns → ⊥
-newest_may_lack [] a b = a
-newest_may_lack (t ∷ past) a b = finished_may_lack t.outcome a.1 b
-
 message_apart : (message : Option TsRequest) → MessageFits message true → MessageFits message false → ⊥
 message_apart None a b = a
 message_apart (Some message) a b = absurd (cc (a, b))
@@ -178,14 +170,22 @@ module _ (base : List Carried) (start limit : ℕ) where
   only_ok (Err (errors.Write end)) turns log now ends newest = newest_goes_apart Server IsFinished finished_goes turns newest ends.cause.0
   only_ok (Err errors.LinkFault) turns log now ends newest = newest_goes_apart Server IsFinished finished_goes turns newest ends.cause.0
   only_ok (Err errors.TurnsSpent) turns log now ends newest = newest_goes_apart Server IsFinished finished_goes turns newest ends.cause.0
-  only_ok (Err errors.InsufficientMemory) turns log now ends newest = newest_may_lack turns newest ends.cause.0
+  only_ok (Err errors.InsufficientMemory) turns log now ends newest = elim ends.cause [
+    | for_a_turn going left entries calm ↦ newest_goes_apart Server IsFinished finished_goes turns newest going
+    | for_a_message going entries fit calm ↦ newest_goes_apart Server IsFinished finished_goes turns newest going
+    | by_the_client refusal entries calm ↦ newest_ends (IsClientRefusal kinds.InsufficientMemory) IsFinished turns refusal newest
+    | by_the_server refusal given ↦
+        newest_apart Server (IsServerRefusal kinds.InsufficientMemory) IsFinished (server_refusal_finished kinds.InsufficientMemory) turns
+        refusal newest
+  ]
 
   refused_client_goes : (kind : ErrorKind) (turns : List Turn) → NewestIs Client (IsClientRefusal kind) turns → AllGoOn turns → ⊥
   refused_client_goes kind turns newest going = newest_goes_apart Client (IsClientRefusal kind) (client_refusal_goes kind) turns
       newest going
 
   only_client : (kind : ErrorKind) (result : Result Delegation DelegateError) (turns : List Turn) (log : List Carried) (now : ℕ) →
-      RunEnds base start limit result turns log now → NewestIs Client (IsClientRefusal kind) turns → IsOnly (IsClientError kind) result
+      RunEnds base start limit result turns log now → NewestIs Client (IsClientRefusal kind) turns →
+      IsAnswerOf kind (IsClientError kind) result
   only_client kind (Ok delegation) turns log now ends newest = newest_ends (IsClientRefusal kind) IsFinished turns newest ends.0.newest
   only_client kind (Err (errors.Client error)) turns log now ends newest =
       newest_one Client (IsClientRefusal error.error_type) (IsClientRefusal kind) (error.error_type ≡ kind)
@@ -196,14 +196,23 @@ module _ (base : List Carried) (start limit : ℕ) where
   only_client kind (Err (errors.Write end)) turns log now ends newest = refused_client_goes kind turns newest ends.cause.0
   only_client kind (Err errors.LinkFault) turns log now ends newest = refused_client_goes kind turns newest ends.cause.0
   only_client kind (Err errors.TurnsSpent) turns log now ends newest = refused_client_goes kind turns newest ends.cause.0
-  only_client kind (Err errors.InsufficientMemory) turns log now ends newest = tt
+  only_client kind (Err errors.InsufficientMemory) turns log now ends newest = elim ends.cause [
+    | for_a_turn going left entries calm ↦ absurd (refused_client_goes kind turns newest going)
+    | for_a_message going entries fit calm ↦ absurd (refused_client_goes kind turns newest going)
+    | by_the_client refusal entries calm ↦
+        newest_one Client (IsClientRefusal kind) (IsClientRefusal kinds.InsufficientMemory) (kind ≡ kinds.InsufficientMemory)
+        (one_client_refusal kind kinds.InsufficientMemory) turns newest refusal
+    | by_the_server refusal given ↦
+        absurd (newest_ends (IsClientRefusal kind) (IsServerRefusal kinds.InsufficientMemory) turns newest refusal)
+  ]
 
   refused_server_goes : (kind : ErrorKind) (turns : List Turn) → NewestIs Server (IsServerRefusal kind) turns → AllGoOn turns → ⊥
   refused_server_goes kind turns newest going = newest_goes_apart Server (IsServerRefusal kind) (server_refusal_goes kind) turns
       newest going
 
   only_server : (kind : ErrorKind) (result : Result Delegation DelegateError) (turns : List Turn) (log : List Carried) (now : ℕ) →
-      RunEnds base start limit result turns log now → NewestIs Server (IsServerRefusal kind) turns → IsOnly (IsServerError kind) result
+      RunEnds base start limit result turns log now → NewestIs Server (IsServerRefusal kind) turns →
+      IsAnswerOf kind (IsServerError kind) result
   only_server kind (Ok delegation) turns log now ends newest =
       newest_apart Server (IsServerRefusal kind) IsFinished (server_refusal_finished kind) turns newest ends.0.newest
   only_server kind (Err (errors.Client error)) turns log now ends newest =
@@ -215,7 +224,15 @@ module _ (base : List Carried) (start limit : ℕ) where
   only_server kind (Err (errors.Write end)) turns log now ends newest = refused_server_goes kind turns newest ends.cause.0
   only_server kind (Err errors.LinkFault) turns log now ends newest = refused_server_goes kind turns newest ends.cause.0
   only_server kind (Err errors.TurnsSpent) turns log now ends newest = refused_server_goes kind turns newest ends.cause.0
-  only_server kind (Err errors.InsufficientMemory) turns log now ends newest = tt
+  only_server kind (Err errors.InsufficientMemory) turns log now ends newest = elim ends.cause [
+    | for_a_turn going left entries calm ↦ absurd (refused_server_goes kind turns newest going)
+    | for_a_message going entries fit calm ↦ absurd (refused_server_goes kind turns newest going)
+    | by_the_client refusal entries calm ↦
+        absurd (newest_ends (IsClientRefusal kinds.InsufficientMemory) (IsServerRefusal kind) turns refusal newest)
+    | by_the_server refusal given ↦
+        newest_one Server (IsServerRefusal kind) (IsServerRefusal kinds.InsufficientMemory) (kind ≡ kinds.InsufficientMemory)
+        (one_server_refusal kind kinds.InsufficientMemory) turns newest refusal
+  ]
 
   only_read : (kind : WireKind) (result : Result Delegation DelegateError) (turns : List Turn) (log : List Carried) (now : ℕ) →
       RunEnds base start limit result turns log now → AllGoOn turns → Logged base turns log → IsUnreadable turns log kind →
@@ -241,7 +258,7 @@ module _ (base : List Carried) (start limit : ℕ) where
   only_write : (end : End) (result : Result Delegation DelegateError) (turns : List Turn) (log : List Carried) (now : ℕ) →
       RunEnds base start limit result turns log now → NewestIs end (λ outcome. Unit {0}) turns → AllGoOn turns →
       LoggedButLast base turns log →
-      NewestFits turns false → IsOnly (λ error. error ≡ errors.Write end) result
+      NewestFits turns false → result ≡ Err (errors.Write end)
   only_write end (Ok delegation) turns log now ends newest going entries long =
       absurd (newest_goes_apart Server IsFinished finished_goes turns ends.0.newest going)
   only_write end (Err (errors.Client error)) turns log now ends newest going entries long =
@@ -251,14 +268,19 @@ module _ (base : List Carried) (start limit : ℕ) where
   only_write end (Err (errors.Read other_end wire)) turns log now ends newest going entries long =
       absurd (logged_apart base turns log ends.cause.3 entries)
   only_write end (Err (errors.Write named)) turns log now ends newest going entries long =
-      ap errors.Write (written_by end named turns newest ends.cause.1)
+      ap (λ (from : End). Err (errors.Write from)) (written_by end named turns newest ends.cause.1)
   only_write end (Err errors.LinkFault) turns log now ends newest going entries long = elim ends.cause.2 [
     | inl unread ↦ absurd (logged_apart base turns log unread.0 entries)
     | inr unsent ↦ absurd (fits_apart turns unsent.1 long)
   ]
   only_write end (Err errors.TurnsSpent) turns log now ends newest going entries long =
       absurd (logged_apart base turns log ends.cause.3 entries)
-  only_write end (Err errors.InsufficientMemory) turns log now ends newest going entries long = tt
+  only_write end (Err errors.InsufficientMemory) turns log now ends newest going entries long = elim ends.cause [
+    | for_a_turn _ left whole calm ↦ absurd (logged_apart base turns log whole entries)
+    | for_a_message _ rest fit calm ↦ absurd (fits_apart turns fit long)
+    | by_the_client refusal rest calm ↦ absurd (refused_client_goes kinds.InsufficientMemory turns refusal going)
+    | by_the_server refusal given ↦ absurd (refused_server_goes kinds.InsufficientMemory turns refusal going)
+  ]
 
   only_carry : (result : Result Delegation DelegateError) (turns : List Turn) (log : List Carried) (now : ℕ) →
       RunEnds base start limit result turns log now → AllGoOn turns → LoggedButLast base turns log → NewestFits turns true →
@@ -292,8 +314,7 @@ module _ (base : List Carried) (start limit : ℕ) where
 
   only_spent : (result : Result Delegation DelegateError) (turns : List Turn) (log : List Carried) (now : ℕ) →
       RunEnds base start limit result turns log now → AllGoOn turns → Logged base turns log → next_end turns ≡ Client →
-      turns_of Client turns ≡ limit →
-      IsOnly (λ error. error ≡ errors.TurnsSpent) result
+      turns_of Client turns ≡ limit → result ≡ Err errors.TurnsSpent
   only_spent (Ok delegation) turns log now ends going entries next spent = absurd (logged_apart base turns log entries ends.0.entries)
   only_spent (Err (errors.Client error)) turns log now ends going entries next spent =
       absurd (logged_apart base turns log entries ends.cause.2)
@@ -308,7 +329,12 @@ module _ (base : List Carried) (start limit : ℕ) where
     | inr unsent ↦ absurd (logged_apart base turns log entries unsent.0)
   ]
   only_spent (Err errors.TurnsSpent) turns log now ends going entries next spent = refl
-  only_spent (Err errors.InsufficientMemory) turns log now ends going entries next spent = tt
+  only_spent (Err errors.InsufficientMemory) turns log now ends going entries next spent = elim ends.cause [
+    | for_a_turn _ left whole calm ↦ absurd (spent_apart limit turns next spent left)
+    | for_a_message _ rest fit calm ↦ absurd (logged_apart base turns log entries rest)
+    | by_the_client refusal rest calm ↦ absurd (refused_client_goes kinds.InsufficientMemory turns refusal going)
+    | by_the_server refusal given ↦ absurd (refused_server_goes kinds.InsufficientMemory turns refusal going)
+  ]
 
   pub exactly : (result : Result Delegation DelegateError) (turns : List Turn) (log : List Carried) (now : ℕ) →
       RunEnds base start limit result turns log now → Exactly base limit result turns log

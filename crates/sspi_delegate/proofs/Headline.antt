@@ -25,7 +25,7 @@ use Rattle.sspi_delegate.specs.Log.{HasLog}
 use Rattle.sspi_delegate.proofs.Alternating.{others_go}
 use Rattle.sspi_delegate.proofs.ClientSteps.{state_auth, reply_state}
 use Rattle.sspi_delegate.proofs.EndSteps.{or_false, is_false}
-use Rattle.sspi_delegate.proofs.LogSteps.{given_log}
+use Rattle.sspi_delegate.proofs.LogSteps.{given_log, lacking_log}
 
 -- ---- how often the credentials were sealed
 
@@ -175,7 +175,7 @@ module _ (base : List Carried) (start limit : ℕ) where
   run_log (Err (errors.Write from)) turns log now ends = inr ends.cause.2
   run_log (Err errors.LinkFault) turns log now ends = elim ends.cause.2 [ inl part ↦ inl part.0 | inr unsent ↦ inr unsent.0 ]
   run_log (Err errors.TurnsSpent) turns log now ends = inl ends.cause.3
-  run_log (Err errors.InsufficientMemory) turns log now ends = ends.cause.1
+  run_log (Err errors.InsufficientMemory) turns log now ends = lacking_log base start limit turns log now ends.cause
 
   pub run_order : (result : Result Delegation DelegateError) (turns : List Turn) (log : List Carried) (now : ℕ) →
       RunEnds base start limit result turns log now → Alternates turns

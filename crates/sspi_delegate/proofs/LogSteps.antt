@@ -1,12 +1,11 @@
 -- One more turn, and what it makes of the log of an exchange.
-use Rattle.std.proofs.Common.{◌≡◌, ℕ, ◌≤◌, ◌<◌, ◌⊎◌, inl, inr, List, [], ◌∷◌, length, sym, ◌∙◌, ap, subst, refl, None, Some, IsSome}
+use Rattle.std.proofs.Common.{◌≡◌, ℕ, ◌≤◌, ◌<◌, inl, inr, List, [], ◌∷◌, length, sym, ◌∙◌, ap, subst, refl, None, Some, IsSome}
 use Rattle.std.proofs.Common.{Ok, Err, slice_get}
 use Rattle.sspi_types.specs.declared.error.Error.{Error}
 use Rattle.sspi_types.specs.declared.error_kind.ErrorKind.{ErrorKind}
 use Rattle.sspi_types.specs.declared.error_kind.ErrorKind.TheVariants as kinds
 use Rattle.sspi_ber.specs.declared.wire_kind.WireKind.{WireKind}
 use Rattle.sspi_ber.specs.declared.wire_kind.WireKind.TheVariants.{UnexpectedEof, InvalidData, ReadFault, WriteFault, InsufficientMemory}
-use Rattle.sspi_types.specs.Counting.{Counts}
 use Rattle.sspi_ber.specs.Outside.{NeedsNoMemory}
 use Rattle.sspi_tsreq.specs.declared.reader.TsReader.{TsReader}
 use Rattle.sspi_tsreq.specs.declared.request.TsRequest.{TsRequest}
@@ -22,50 +21,24 @@ use Rattle.sspi_credssp.specs.declared.turn.Outcome.TheVariants.{Reply, Final, F
 use Rattle.sspi_credssp.specs.declared.turn.Turn.{Turn}
 use Rattle.sspi_delegate.specs.Causes.{Finishes, Stopped, NewestIs, IsClientRefusal, IsServerRefusal}
 use Rattle.sspi_delegate.specs.Halves.{Between, Asked, Turned, IsAnswerTo, HasMessage}
-use Rattle.sspi_delegate.specs.Causes.{IsFinished, MayLackAfter, MayLack, TurnLeft, Given, carried, too_long}
-use Rattle.sspi_delegate.specs.Causes.{link_failed, no_memory, turns_of}
+use Rattle.sspi_delegate.specs.Causes.{IsFinished, TurnLeft, Given, carried, too_long, link_failed, no_memory, turns_of}
+use Rattle.sspi_delegate.specs.Causes.{Lacks, for_a_turn, for_a_message, by_the_client, by_the_server}
 use Rattle.sspi_delegate.specs.Log.{delivery_limit, IsUnread, HeadWithin, Logged, LoggedButLast, HasLog, IsDelivered, IsRead, IsSent}
 use Rattle.sspi_delegate.specs.Log.{IsFault, IsUnreadable}
 use Rattle.sspi_delegate.specs.Readers.{Fed, HeadTaken, TakesIn}
 use Rattle.sspi_delegate.specs.Recorded.{PushedSuch}
-use Rattle.sspi_delegate.specs.Turns.{next_end, GoesOn, AllGoOn, Alternates}
+use Rattle.sspi_delegate.specs.Turns.{next_end, GoesOn, Alternates}
 use Rattle.sspi_credssp.specs.Turn.{message_of}
 
-goes_may_lack : (outcome : Outcome) → GoesOn outcome → MayLackAfter outcome
-goes_may_lack (Reply reply) goes = tt
-goes_may_lack (Final reply) goes = tt
-goes_may_lack Finished goes = goes
-goes_may_lack (Refused kind reply) goes = absurd goes
+pub newest_such : (end : End) (d : TsRequest) (P : Outcome → Type 0) (old new : List Turn) →
+    PushedSuch end d P old new → NewestIs end P new
+newest_such end d P old [] pushed = absurd pushed
+newest_such end d P old (t ∷ past) pushed = (pushed.1, pushed.3)
 
-pub going_may_lack : (turns : List Turn) → AllGoOn turns → MayLack turns
-going_may_lack [] going = tt
-going_may_lack (t ∷ past) going = goes_may_lack t.outcome going.0
-
-client_refusal_lacks : (kind : ErrorKind) (outcome : Outcome) → kind ≡ kinds.InsufficientMemory → IsClientRefusal kind outcome →
-    MayLackAfter outcome
-client_refusal_lacks kind (Reply reply) memory refusal = tt
-client_refusal_lacks kind (Final reply) memory refusal = tt
-client_refusal_lacks kind Finished memory refusal = refusal
-client_refusal_lacks kind (Refused refused None) memory refusal = refusal ∙ memory
-client_refusal_lacks kind (Refused refused (Some reply)) memory refusal = absurd refusal
-
-client_lacks : (kind : ErrorKind) (turns : List Turn) → kind ≡ kinds.InsufficientMemory → NewestIs Client (IsClientRefusal kind) turns →
-    MayLack turns
-client_lacks kind [] memory newest = tt
-client_lacks kind (t ∷ past) memory newest = client_refusal_lacks kind t.outcome memory newest.1
-
-server_refusal_lacks : (kind : ErrorKind) (outcome : Outcome) → kind ≡ kinds.InsufficientMemory → IsServerRefusal kind outcome →
-    MayLackAfter outcome
-server_refusal_lacks kind (Reply reply) memory refusal = tt
-server_refusal_lacks kind (Final reply) memory refusal = tt
-server_refusal_lacks kind Finished memory refusal = refusal
-server_refusal_lacks kind (Refused refused None) memory refusal = absurd refusal
-server_refusal_lacks kind (Refused refused (Some reply)) memory refusal = refusal ∙ memory
-
-server_lacks : (kind : ErrorKind) (turns : List Turn) → kind ≡ kinds.InsufficientMemory → NewestIs Server (IsServerRefusal kind) turns →
-    MayLack turns
-server_lacks kind [] memory newest = tt
-server_lacks kind (t ∷ past) memory newest = server_refusal_lacks kind t.outcome memory newest.1
+-- a newest turn that was refused with a kind was refused with one that is equal to it
+pub refused_as : (end : End) (P : ErrorKind → Outcome → Type 0) (kind other : ErrorKind) (turns : List Turn) → kind ≡ other →
+    NewestIs end (P kind) turns → NewestIs end (P other) turns
+refused_as end P kind other turns same newest = subst (λ (k : ErrorKind). NewestIs end (P k) turns) same newest
 
 refusal_message : (kind : ErrorKind) (outcome : Outcome) → IsServerRefusal kind outcome → IsSome (message_of outcome)
 refusal_message kind (Reply reply) refusal = absurd refusal
@@ -131,11 +104,6 @@ module _ (base : List Carried) (start : ℕ) where
     calm = w.calm;
   }
 
-  newest_such : (end : End) (d : TsRequest) (P : Outcome → Type 0) (old new : List Turn) →
-      PushedSuch end d P old new → NewestIs end P new
-  newest_such end d P old [] pushed = absurd pushed
-  newest_such end d P old (t ∷ past) pushed = (pushed.1, pushed.3)
-
   pub finishes : (d : TsRequest) (old new : List Turn) (log : List Carried) (now : ℕ) →
       next_end old ≡ Server → Asked base start old log now d → PushedSuch Server d IsFinished old new → Finishes base start new log now
   finishes d old new log now next w pushed = record {
@@ -145,11 +113,12 @@ module _ (base : List Carried) (start : ℕ) where
     calm = w.calm;
   }
 
-  pub lost : (limit : ℕ) (d : TsRequest) (old new : List Turn) (log : List Carried) (now : ℕ) →
+  pub lost : (limit : ℕ) (d : TsRequest) (old new : List Turn) (log : List Carried) (now : ℕ) → TurnLeft limit old →
       Asked base start old log now d → new ≡ old → Stopped base start limit errors.InsufficientMemory new log now
-  lost limit d old new log now w same =
+  lost limit d old new log now left w same =
       let v = asked_by d old new log now same w in
-      record { order = v.order; cause = (going_may_lack new v.going, inl v.entries, inl v.calm) }
+      let left_now = subst (λ (turns : List Turn). TurnLeft limit turns) (sym same) left in
+      record { order = v.order; cause = for_a_turn v.going left_now v.entries v.calm }
 
   pub client_refused : (limit : ℕ) (error : Error) (answer : DelegateError) (d : TsRequest) (old new : List Turn) (log : List Carried)
       (now : ℕ) →
@@ -157,11 +126,11 @@ module _ (base : List Carried) (start : ℕ) where
       IsAnswerTo error.error_type (errors.Client error) answer → Stopped base start limit answer new log now
   client_refused limit error answer d old new log now next w pushed (inl memory) = rw memory.1 (record {
     order = in_order Client d (IsClientRefusal error.error_type) old new log now next w pushed;
-    cause = (
-      client_lacks error.error_type new memory.0 (newest_such Client d (IsClientRefusal error.error_type) old new pushed),
-      inr (but_last Client d (IsClientRefusal error.error_type) old new log now w pushed),
-      inl w.calm,
-    );
+    cause = by_the_client
+        (refused_as Client IsClientRefusal error.error_type kinds.InsufficientMemory new memory.0
+        (newest_such Client d (IsClientRefusal error.error_type) old new pushed))
+        (but_last Client d (IsClientRefusal error.error_type) old new log now w pushed)
+        w.calm;
   })
   client_refused limit error answer d old new log now next w pushed (inr refusal) = rw refusal.1 (record {
     order = in_order Client d (IsClientRefusal error.error_type) old new log now next w pushed;
@@ -177,13 +146,14 @@ module _ (base : List Carried) (start : ℕ) where
   given_log turns log now (carried entries unread calm) = inl entries
   given_log turns log now (too_long entries long calm) = inr entries
   given_log turns log now (link_failed entries fit counted) = inr entries
-  given_log turns log now (no_memory entries calm) = inr entries
+  given_log turns log now (no_memory entries fit calm) = inr entries
 
-  given_counted : (turns : List Turn) (log : List Carried) (now : ℕ) → Given base start turns log now → (now ≡ start) ⊎ Counts start now
-  given_counted turns log now (carried entries unread calm) = inl calm
-  given_counted turns log now (too_long entries long calm) = inl calm
-  given_counted turns log now (link_failed entries fit counted) = inr counted
-  given_counted turns log now (no_memory entries calm) = inl calm
+  pub lacking_log : (limit : ℕ) (turns : List Turn) (log : List Carried) (now : ℕ) → Lacks base start limit turns log now →
+      HasLog base turns log
+  lacking_log limit turns log now (for_a_turn going left entries calm) = inl entries
+  lacking_log limit turns log now (for_a_message going entries fit calm) = inr entries
+  lacking_log limit turns log now (by_the_client newest entries calm) = inr entries
+  lacking_log limit turns log now (by_the_server newest given) = given_log turns log now given
 
   pub server_refused : (limit : ℕ) (error : Error) (answer : DelegateError) (d : TsRequest) (old new : List Turn)
       (log log2 : List Carried) (now now2 : ℕ) →
@@ -192,11 +162,10 @@ module _ (base : List Carried) (start : ℕ) where
       Stopped base start limit answer new log2 now2
   server_refused limit error answer d old new log log2 now now2 next w pushed (inl memory) sent = rw memory.1 (record {
     order = in_order Server d (IsServerRefusal error.error_type) old new log now next w pushed;
-    cause = (
-      server_lacks error.error_type new memory.0 (newest_such Server d (IsServerRefusal error.error_type) old new pushed),
-      given_log new log2 now2 sent,
-      given_counted new log2 now2 sent,
-    );
+    cause = by_the_server
+        (refused_as Server IsServerRefusal error.error_type kinds.InsufficientMemory new memory.0
+        (newest_such Server d (IsServerRefusal error.error_type) old new pushed))
+        sent;
   })
   server_refused limit error answer d old new log log2 now now2 next w pushed (inr refusal) sent = rw refusal.1 (record {
     order = in_order Server d (IsServerRefusal error.error_type) old new log now next w pushed;

@@ -9,14 +9,14 @@ use Rattle.sspi_tsreq.specs.Spelling.{fits}
 use Rattle.sspi_credssp.specs.declared.turn.End.{End}
 use Rattle.sspi_credssp.specs.declared.turn.End.TheVariants.{Client, Server}
 use Rattle.sspi_credssp.specs.declared.turn.Outcome.{Outcome}
-use Rattle.sspi_credssp.specs.declared.turn.Outcome.TheVariants.{Reply, Final, Finished, Refused}
+use Rattle.sspi_credssp.specs.declared.turn.Outcome.TheVariants.{Finished, Refused}
 use Rattle.sspi_credssp.specs.declared.turn.Turn.{Turn}
 use Rattle.sspi_credssp.specs.Turn.{message_of}
 use Rattle.sspi_delegate.specs.declared.answer.DelegateError.{DelegateError}
 use Rattle.sspi_delegate.specs.declared.answer.DelegateError.TheVariants as errors
 use Rattle.sspi_delegate.specs.declared.answer.Delegation.{Delegation}
 use Rattle.sspi_delegate.specs.declared.carried.Carried.{Carried}
-use Rattle.sspi_delegate.specs.Log.{HeadWithin, Logged, LoggedButLast, HasLog, UnreadFor, OpenFor, IsUnreadable}
+use Rattle.sspi_delegate.specs.Log.{HeadWithin, Logged, LoggedButLast, UnreadFor, OpenFor, IsUnreadable}
 use Rattle.sspi_delegate.specs.Turns.{other, next_end, AllGoOn, Alternates}
 
 -- how many turns an end has made
@@ -48,18 +48,6 @@ abbrev pub IsFinished : Outcome → Type 0
 IsFinished Finished = Unit {0}
 IsFinished outcome = ⊥
 
--- want of memory may be the answer after this outcome: it went on, or it was itself refused for want of memory
-abbrev pub MayLackAfter : Outcome → Type 0
-MayLackAfter (Reply reply) = Unit {0}
-MayLackAfter (Final reply) = Unit {0}
-MayLackAfter Finished = ⊥
-MayLackAfter (Refused kind reply) = kind ≡ kinds.InsufficientMemory
-
--- the same of the newest turn, where there is one
-abbrev pub MayLack : List Turn → Type 0
-MayLack [] = Unit {0}
-MayLack (t ∷ past) = MayLackAfter t.outcome
-
 -- the newest turn has a message, of which it is so that it fits
 abbrev pub MessageFits : Option TsRequest → Bool → Type 0
 MessageFits None fit = ⊥
@@ -84,12 +72,21 @@ module _ (base : List Carried) (start : ℕ) where
     pub calm : now ≡ start
 
   -- What came of giving the newest turn's message to the link: an entry, whose delivery was not asked for, or none, since it
-  -- does not fit, since the link failed, or for want of memory.
+  -- does not fit, since the link failed, or for want of memory. It is measured before memory is taken.
   pub data Given (turns : List Turn) (log : List Carried) (now : ℕ) : Type 0 where
     carried : Logged base turns log → UnreadFor turns log → now ≡ start → Given turns log now
     too_long : LoggedButLast base turns log → NewestFits turns false → now ≡ start → Given turns log now
     link_failed : LoggedButLast base turns log → NewestFits turns true → Counts start now → Given turns log now
-    no_memory : LoggedButLast base turns log → now ≡ start → Given turns log now
+    no_memory : LoggedButLast base turns log → NewestFits turns true → now ≡ start → Given turns log now
+
+  -- Where memory was wanting: for a turn that was due, for the message of a turn that went on, or in an end's turn, which was
+  -- refused for it. The link may have failed to carry the message of a server that was so refused; else it never failed.
+  pub data Lacks (limit : ℕ) (turns : List Turn) (log : List Carried) (now : ℕ) : Type 0 where
+    for_a_turn : AllGoOn turns → TurnLeft limit turns → Logged base turns log → now ≡ start → Lacks limit turns log now
+    for_a_message : AllGoOn turns → LoggedButLast base turns log → NewestFits turns true → now ≡ start → Lacks limit turns log now
+    by_the_client : NewestIs Client (IsClientRefusal kinds.InsufficientMemory) turns → LoggedButLast base turns log → now ≡ start →
+        Lacks limit turns log now
+    by_the_server : NewestIs Server (IsServerRefusal kinds.InsufficientMemory) turns → Given turns log now → Lacks limit turns log now
 
   -- what an error shows; limit: how many turns the client may make
   abbrev pub Cause : ℕ → DelegateError → List Turn → List Carried → ℕ → Type 0
@@ -109,8 +106,7 @@ module _ (base : List Carried) (start : ℕ) where
   Cause limit errors.TurnsSpent turns log now =
       AllGoOn turns × (next_end turns ≡ Client) × (turns_of Client turns ≡ limit) × Logged base turns log
       × UnreadFor turns log × (now ≡ start)
-  -- the link may have failed to carry the message of a server that was refused for want of memory
-  Cause limit errors.InsufficientMemory turns log now = MayLack turns × HasLog base turns log × ((now ≡ start) ⊎ Counts start now)
+  Cause limit errors.InsufficientMemory turns log now = Lacks limit turns log now
 
   pub record Stopped (limit : ℕ) (error : DelegateError) (turns : List Turn) (log : List Carried) (now : ℕ) : Type 0 where
     pub order : Alternates turns
@@ -130,6 +126,12 @@ IsOnly P (Ok delegation) = ⊥
 IsOnly P (Err errors.InsufficientMemory) = Unit {0}
 IsOnly P (Err error) = P error
 
+-- the answer to a refusal of this kind is an error of which this holds, and want of memory only where that is the kind
+abbrev pub IsAnswerOf : ErrorKind → (DelegateError → Type 0) → Result Delegation DelegateError → Type 0
+IsAnswerOf kind P (Ok delegation) = ⊥
+IsAnswerOf kind P (Err errors.InsufficientMemory) = kind ≡ kinds.InsufficientMemory
+IsAnswerOf kind P (Err error) = P error
+
 abbrev pub IsClientError : ErrorKind → DelegateError → Type 0
 IsClientError kind (errors.Client error) = error.error_type ≡ kind
 IsClientError kind error = ⊥
@@ -146,15 +148,14 @@ IsOk (Err error) = ⊥
 pub record Exactly (base : List Carried) (limit : ℕ) (result : Result Delegation DelegateError) (turns : List Turn)
     (log : List Carried) : Type 0 where
   pub ok : NewestIs Server IsFinished turns → IsOk result
-  pub client : (kind : ErrorKind) → NewestIs Client (IsClientRefusal kind) turns → IsOnly (IsClientError kind) result
-  pub server : (kind : ErrorKind) → NewestIs Server (IsServerRefusal kind) turns → IsOnly (IsServerError kind) result
+  pub client : (kind : ErrorKind) → NewestIs Client (IsClientRefusal kind) turns → IsAnswerOf kind (IsClientError kind) result
+  pub server : (kind : ErrorKind) → NewestIs Server (IsServerRefusal kind) turns → IsAnswerOf kind (IsServerError kind) result
   pub read : (kind : WireKind) → AllGoOn turns → Logged base turns log → IsUnreadable turns log kind →
       IsOnly (λ error. error ≡ errors.Read (next_end turns) kind) result
   pub write : (end : End) → NewestIs end (λ outcome. Unit {0}) turns → AllGoOn turns → LoggedButLast base turns log →
-      NewestFits turns false →
-      IsOnly (λ error. error ≡ errors.Write end) result
+      NewestFits turns false → result ≡ Err (errors.Write end)
   pub carry : AllGoOn turns → LoggedButLast base turns log → NewestFits turns true → IsOnly (λ error. error ≡ errors.LinkFault) result
   pub piece : AllGoOn turns → Logged base turns log → OpenFor turns log → TurnLeft limit turns →
       IsOnly (λ error. error ≡ errors.LinkFault) result
   pub spent : AllGoOn turns → Logged base turns log → next_end turns ≡ Client → turns_of Client turns ≡ limit →
-      IsOnly (λ error. error ≡ errors.TurnsSpent) result
+      result ≡ Err errors.TurnsSpent

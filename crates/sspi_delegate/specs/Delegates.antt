@@ -18,7 +18,7 @@ use Rattle.sspi_delegate.specs.EndRun.{client_end, server_end, GivesNewest}
 use Rattle.sspi_delegate.specs.Turns.{client_turns, server_turns}
 use Rattle.sspi_delegate.specs.Headline.{IsRun, sealed_turns, SealsAfterProof, NeverSeals, HasExchanged}
 use Rattle.sspi_delegate.specs.History.{ClientPast, ServerPast, RefusedBy, KdcStays, ProxyStays}
-use Rattle.sspi_delegate.specs.Link.{StaysTold, newest_message, AnswerTold}
+use Rattle.sspi_delegate.specs.Link.{StaysTold, AnswerTold}
 
 -- what is told by the three round the ends: the proxy, the link and the KDC
 pub record Around (P L D : Type 0) : Type 0 where
@@ -68,7 +68,7 @@ module _ {P L D : Type 0} (around : Around P L D) where
     pub the_link_tells_what_it_told : StaysTold (around.edits old.link) (around.edits new.link) (around.log old.link) (around.log new.link)
     pub the_link_fails_where_its_edits_say_so : AnswerTold (around.edits old.link) (around.link_faults old.link)
         (around.link_faults new.link)
-        result (around.log new.link) (newest_message new.turns)
+        result (around.log new.link) new.turns
     pub no_turns_are_spent_at_once : limit ≡ 0 → result ≡ Err TurnsSpent
     pub ok_comes_within_the_limit : IfOk result (λ delegation. delegation.rounds ≤ limit)
 

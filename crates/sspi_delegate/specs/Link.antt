@@ -1,9 +1,12 @@
 -- What the calls of a link answer, and what its edits give of what was sent, where it tells them.
 use Rattle.std.specs.Prelude.{◌≡◌, ℕ, ◌==◌, true, if◌then◌else◌, List, [], ◌∷◌, ◌++◌, map, reverse, length, take, slice_get, slice_set}
 use Rattle.std.specs.Prelude.{Option, Some, None, option_and_then, unwrap_or, ◌≤◌, Bool, false, Result, Ok, Err, IfOk, ◌⊎◌}
+use Rattle.sspi_types.specs.declared.error_kind.ErrorKind.{ErrorKind}
+use Rattle.sspi_types.specs.declared.error_kind.ErrorKind.TheVariants as kinds
 use Rattle.sspi_types.specs.Counting.{Counts}
 use Rattle.sspi_tsreq.specs.declared.request.TsRequest.{TsRequest}
 use Rattle.sspi_tsreq.specs.Spelling.{spelled}
+use Rattle.sspi_credssp.specs.declared.turn.End.TheVariants as ends
 use Rattle.sspi_credssp.specs.declared.turn.Turn.{Turn}
 use Rattle.sspi_credssp.specs.Turn.{message_of}
 use Rattle.sspi_delegate.specs.declared.answer.DelegateError.{DelegateError}
@@ -15,6 +18,7 @@ use Rattle.sspi_delegate.specs.declared.edit.EditKind.{EditKind}
 use Rattle.sspi_delegate.specs.declared.edit.EditKind.TheVariants.{Drop, Cut, Set, Add, Give, Again, Fail}
 use Rattle.sspi_delegate.specs.declared.link.LinkError.{LinkError}
 use Rattle.sspi_delegate.specs.declared.link.LinkError.TheVariants.{Failed, InsufficientMemory}
+use Rattle.sspi_delegate.specs.Causes.{NewestIs, IsServerRefusal}
 use Rattle.sspi_delegate.specs.Log.{Grows}
 
 -- ---- the edits
@@ -146,19 +150,26 @@ abbrev pub CarryFails : List Edit → List Carried → Option TsRequest → Type
 CarryFails edits log None = ⊥
 CarryFails edits log (Some message) = edited edits (sent_texts (reverse log)) (spelled message) ≡ None
 
--- the edits failed the carry of this message, and one fault was counted
-abbrev pub HasFailed : List Edit → ℕ → ℕ → List Carried → Option TsRequest → Type 0
-HasFailed edits before now log message = CarryFails edits log message × Counts before now
+-- the edits failed the carry of the newest turn's message, and one fault was counted
+abbrev pub HasFailed : List Edit → ℕ → ℕ → List Carried → List Turn → Type 0
+HasFailed edits before now log turns = CarryFails edits log (newest_message turns) × Counts before now
+
+-- that turn is a server's that was refused so, and the message was to tell its client
+abbrev pub HasFailedToTell : ErrorKind → List Edit → ℕ → ℕ → List Carried → List Turn → Type 0
+HasFailedToTell kind edits before now log turns =
+    NewestIs ends.Server (IsServerRefusal kind) turns × HasFailed edits before now log turns
 
 -- Where the edits are told, the link fails only in a carry that they fail, that of the newest turn's message, and then one
 -- fault is counted. A refusing server's message may have failed so, which changes no answer; elsewhere no fault is counted.
-abbrev pub AnswerTold : {X : Type 0} → Option (List Edit) → ℕ → ℕ → Result X DelegateError → List Carried → Option TsRequest → Type 0
-AnswerTold None before now result log message = Unit {0}
-AnswerTold (Some edits) before now (Ok x) log message = now ≡ before
-AnswerTold (Some edits) before now (Err (Client error)) log message = now ≡ before
-AnswerTold (Some edits) before now (Err (Server error)) log message = (now ≡ before) ⊎ HasFailed edits before now log message
-AnswerTold (Some edits) before now (Err (Read end kind)) log message = now ≡ before
-AnswerTold (Some edits) before now (Err (Write end)) log message = now ≡ before
-AnswerTold (Some edits) before now (Err LinkFault) log message = HasFailed edits before now log message
-AnswerTold (Some edits) before now (Err TurnsSpent) log message = now ≡ before
-AnswerTold (Some edits) before now (Err InsufficientMemory) log message = (now ≡ before) ⊎ HasFailed edits before now log message
+abbrev pub AnswerTold : {X : Type 0} → Option (List Edit) → ℕ → ℕ → Result X DelegateError → List Carried → List Turn → Type 0
+AnswerTold None before now result log turns = Unit {0}
+AnswerTold (Some edits) before now (Ok x) log turns = now ≡ before
+AnswerTold (Some edits) before now (Err (Client error)) log turns = now ≡ before
+AnswerTold (Some edits) before now (Err (Server error)) log turns =
+    (now ≡ before) ⊎ HasFailedToTell error.error_type edits before now log turns
+AnswerTold (Some edits) before now (Err (Read end kind)) log turns = now ≡ before
+AnswerTold (Some edits) before now (Err (Write end)) log turns = now ≡ before
+AnswerTold (Some edits) before now (Err LinkFault) log turns = HasFailed edits before now log turns
+AnswerTold (Some edits) before now (Err TurnsSpent) log turns = now ≡ before
+AnswerTold (Some edits) before now (Err InsufficientMemory) log turns =
+    (now ≡ before) ⊎ HasFailedToTell kinds.InsufficientMemory edits before now log turns

@@ -14,11 +14,11 @@ use Rattle.sspi_delegate.specs.declared.edit.Edit.{Edit}
 use Rattle.sspi_delegate.specs.Link.{edited, sent_texts}
 use Rattle.sspi_delegate.specs.Log.{begun}
 
--- a message is spelled, or it is too long
+-- a message is spelled, or it is too long, which is found before memory is taken
 abbrev pub Encodes : TsRequest → Result (List ℕ) WireKind → Type 0
 Encodes message (Ok text) = (fits message ≡ true) × (text ≡ spelled message)
 Encodes message (Err wire.InvalidData) = fits message ≡ false
-Encodes message (Err wire.InsufficientMemory) = Unit {0}
+Encodes message (Err wire.InsufficientMemory) = fits message ≡ true
 Encodes message (Err wire.UnexpectedEof) = ⊥
 Encodes message (Err wire.ReadFault) = ⊥
 Encodes message (Err wire.WriteFault) = ⊥
@@ -29,7 +29,7 @@ Sends from message old new before now (Ok done) =
     (fits message ≡ true) × (new ≡ begun from (spelled message) ∷ old) × (now ≡ before)
 Sends from message old new before now (Err (Write end)) = (end ≡ from) × (fits message ≡ false) × (new ≡ old) × (now ≡ before)
 Sends from message old new before now (Err LinkFault) = (fits message ≡ true) × (new ≡ old) × Counts before now
-Sends from message old new before now (Err InsufficientMemory) = (new ≡ old) × (now ≡ before)
+Sends from message old new before now (Err InsufficientMemory) = (fits message ≡ true) × (new ≡ old) × (now ≡ before)
 Sends from message old new before now (Err (Client error)) = ⊥
 Sends from message old new before now (Err (Server error)) = ⊥
 Sends from message old new before now (Err (Read end kind)) = ⊥

@@ -43,7 +43,7 @@ use std::alloc::Global;
 /// - `LinkFault`: a call on the link failed.
 /// - `TurnsSpent`: the client made `limit` turns, each was answered, and none of them ended the exchange; at once where
 ///   `limit` is 0.
-/// - `InsufficientMemory`, that of an end or of the KDC among it.
+/// - `InsufficientMemory`, that of an end or of the KDC among it; never where a message is too long or the turns are spent.
 ///
 /// Whatever the answer, the transcript has got each turn that was made, a refused one too, and the log of the link each
 /// message that it took. Both ends are as their last turn left them. Where there was no memory for a reply of the KDC, the
@@ -91,7 +91,7 @@ fn rounds<N: Mechanism, K: Mechanism, C: CredentialsProxy, L: Link, D: Kdc>(
         (L.log link.new) (L.faults link.new) }
     ensures told { StaysTold (L.edits link.old) (L.edits link.new) (L.log link.old) (L.log link.new) }
     ensures failing { AnswerTold (L.edits link.old) (L.faults link.old) (L.faults link.new) result (L.log link.new)
-        (newest_message transcript.new.turns) }
+        transcript.new.turns }
     ensures within { (limit ≡ 0 → result ≡ Err DelegateError.TurnsSpent) × IfOk result (λ delegation. delegation.rounds ≤ limit) }
     // What both ends did.
     ensures client_history { transcript.old.turns ≡ [] →
@@ -132,7 +132,7 @@ fn client_half<N: Mechanism, K: Mechanism, L: Link, D: Kdc>(
     // What the answer says of the link.
     ensures told { StaysTold (L.edits link.old) (L.edits link.new) (L.log link.old) (L.log link.new) }
     ensures failing { AnswerTold (L.edits link.old) (L.faults link.old) (L.faults link.new) result (L.log link.new)
-        (newest_message transcript.new.turns) }
+        transcript.new.turns }
     // What the ends did.
     ensures client_history { let c = either N.REQUESTS N.meaning K.meaning in let k = kdc_calls D.told D.asked D.faults in
         (first : ClientView (SspiContext N K)) (kdc_first : D) → AllGoOn transcript.old.turns →
@@ -168,7 +168,7 @@ fn server_half<N: Mechanism, K: Mechanism, C: CredentialsProxy, L: Link>(
     // What the answer says of the link.
     ensures told { StaysTold (L.edits link.old) (L.edits link.new) (L.log link.old) (L.log link.new) }
     ensures failing { AnswerTold (L.edits link.old) (L.faults link.old) (L.faults link.new) result (L.log link.new)
-        (newest_message transcript.new.turns) }
+        transcript.new.turns }
     // What the ends did.
     ensures server_history { let c = either N.REQUESTS N.meaning K.meaning in (first : ServerView (SspiContext N K) C) →
         ServerHistory c C.meaning first (server_turns transcript.old.turns) server.old →

@@ -26,7 +26,7 @@ returns-in-Refused-clause-half g c base start limit next left w =
 
 pub returns-in-Lost-clause-half : goal.returns-in-Lost-clause-half
 returns-in-Lost-clause-half g c base start limit next left w =
-    lost base start limit c.in_ok-request.request _ _ _ _ (c.in_ok-request.ensures.ok base start w) c.in-Lost.ensures.turn
+    lost base start limit c.in_ok-request.request _ _ _ _ left (c.in_ok-request.ensures.ok base start w) c.in-Lost.ensures.turn
 
 pub returns-in_ok-give-in-Answered-clause-client_history : goal.returns-in_ok-give-in-Answered-clause-client_history
 returns-in_ok-give-in-Answered-clause-client_history g c first kdc_first going history =

@@ -5,7 +5,8 @@ use Rattle.sspi_credssp.specs.declared.turn.End.TheVariants.{Server}
 use Rattle.sspi_delegate.specs.Causes.{IsServerRefusal}
 use Rattle.sspi_credssp.specs.Context.{either}
 use Rattle.sspi_delegate.proofs.Halves.{server_half_stopped, server_half_refused}
-use Rattle.sspi_delegate.proofs.LogSteps.{but_last, turned, finishes, lost, refusal_has_message, server_refused, server_left}
+use Rattle.sspi_delegate.proofs.LogSteps.{but_last, turned, finishes, lost, newest_such, refusal_has_message, server_refused}
+use Rattle.sspi_delegate.proofs.LogSteps.{server_left}
 use Rattle.sspi_delegate.proofs.Reading.{read_still, refused_still}
 use Rattle.sspi_delegate.proofs.exchange.server_half.Goals as goal
 
@@ -46,7 +47,8 @@ returns-in-Refused-clause-half g c base start limit next w =
 
 pub returns-in-Lost-clause-half : goal.returns-in-Lost-clause-half
 returns-in-Lost-clause-half g c base start limit next w =
-    lost base start limit c.in_ok-request.request _ _ _ _ (c.in_ok-request.ensures.ok base start w) c.in-Lost.ensures.turn
+    lost base start limit c.in_ok-request.request _ _ _ _ (server_left limit _ next) (c.in_ok-request.ensures.ok base start w)
+    c.in-Lost.ensures.turn
 
 pub returns-in_ok-give-in-Answered-None-clause-server_history : goal.returns-in_ok-give-in-Answered-None-clause-server_history
 returns-in_ok-give-in-Answered-None-clause-server_history g c first history =
@@ -86,4 +88,5 @@ returns-in-Refused-clause-failing g c =
     refused_still (Option AuthIdentity) _ _ _ _ _ c.give-given.result c.in-Refused.error c.server_error.result _ _ _
     c.in_ok-request.ensures.told.same (read_still _ _ _ c.in_ok-request.request c.in_ok-request.ensures.failing)
     c.give-given.ensures.failing c.give-given.ensures.same
+    (newest_such Server c.in_ok-request.request (IsServerRefusal c.in-Refused.error.error_type) _ _ c.in-Refused.ensures.turn)
     c.server_error.ensures
