@@ -79,8 +79,7 @@ module _ (base : List Carried) (start : ℕ) where
     link_failed : LoggedButLast base turns log → NewestFits turns true → Counts start now → Given turns log now
     no_memory : LoggedButLast base turns log → NewestFits turns true → now ≡ start → Given turns log now
 
-  -- Where memory was wanting: for a turn that was due, for the message of a turn that went on, or in an end's turn, which was
-  -- refused for it. The link may have failed to carry the message of a server that was so refused; else it never failed.
+  -- Where memory was wanting. The link may have failed to carry the message of a server that was refused for it; else it did not.
   pub data Lacks (limit : ℕ) (turns : List Turn) (log : List Carried) (now : ℕ) : Type 0 where
     for_a_turn : AllGoOn turns → TurnLeft limit turns → Logged base turns log → now ≡ start → Lacks limit turns log now
     for_a_message : AllGoOn turns → LoggedButLast base turns log → NewestFits turns true → now ≡ start → Lacks limit turns log now

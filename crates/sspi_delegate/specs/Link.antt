@@ -156,8 +156,7 @@ HasFailed edits before now log turns = CarryFails edits log (newest_message turn
 
 -- that turn is a server's that was refused so, and the message was to tell its client
 abbrev pub HasFailedToTell : ErrorKind → List Edit → ℕ → ℕ → List Carried → List Turn → Type 0
-HasFailedToTell kind edits before now log turns =
-    NewestIs ends.Server (IsServerRefusal kind) turns × HasFailed edits before now log turns
+HasFailedToTell kind edits before now log turns = NewestIs ends.Server (IsServerRefusal kind) turns × HasFailed edits before now log turns
 
 -- Where the edits are told, the link fails only in a carry that they fail, that of the newest turn's message, and then one
 -- fault is counted. A refusing server's message may have failed so, which changes no answer; elsewhere no fault is counted.
