@@ -229,9 +229,9 @@ impl<N: Mechanism, K: Mechanism> CredSspClient<N, K> {
     /// Goes on with the suspended turn, once it is known what came of its request.
     ///
     /// Where no turn is suspended that is `OutOfSequence`, and the client only forgets what its last call did (`last_acts`,
-    /// `take_output`). Else it is refused with the kinds of the context's step; with `InternalError` where the authentication ends before a version was noted; with the kinds of
-    /// sealing the proof; and for want of memory. A refused client is suspended still where its context is, and nowhere else:
-    /// the request stays in it, and a later call goes on from there.
+    /// `take_output`). Else it is refused with the kinds of the context's step; with `InternalError` where the authentication
+    /// ends before a version was noted; with the kinds of sealing the proof; and for want of memory. A refused client is
+    /// suspended still where its context is, and nowhere else: the request stays in it, and a later call goes on from there.
     pub fn resume(&mut self, reply: &Reply) -> Result<Progress, Error>
         ensures { ResumeCall (either N.REQUESTS N.meaning K.meaning) self.old reply.now result self.new }
     {

@@ -21,8 +21,8 @@ use std::alloc::Global;
 /// A security mechanism: one end of one authentication, and the protection of messages once it has a key.
 ///
 /// Every call that can refuse, but `verify`, may answer `InsufficientMemory`. A refused call leaves the object as it was, and
-/// no refusal has an NTSTATUS code. `meaning` says what each call does, in the words of `specs/Meaning.antt`; `specs/Laws.antt` has what holds of
-/// every mechanism.
+/// no refusal has an NTSTATUS code. `meaning` says what each call does, in the words of `specs/Meaning.antt`;
+/// `specs/Laws.antt` has what holds of every mechanism.
 pub trait Mechanism: Sized + Drop {
     /// At most how often one object asks a KDC, whatever its calls (`laws::object_asks_at_most`).
     const REQUESTS: u32;

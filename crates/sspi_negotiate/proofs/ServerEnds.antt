@@ -40,7 +40,8 @@ picked_usable : (packages : PackageListConfig) (b : Bool) (choice : Choice) (lis
 picked_usable packages true choice list other h k = found_usable packages choice (place_of choice list) other (h refl) k
 picked_usable packages false choice list other h k = k
 
-pub pick_usable : (list : List (List ℕ)) (packages : PackageListConfig) (protocol : Protocol) → IsUsable packages (pick list packages protocol)
+pub pick_usable : (list : List (List ℕ)) (packages : PackageListConfig) (protocol : Protocol) →
+    IsUsable packages (pick list packages protocol)
 pick_usable list packages protocol =
     picked_usable packages (packages.kerberos && is_kerberos_hand protocol) choices.MsKerberos list _ (λ h. tt)
     (picked_usable packages (packages.kerberos && is_kerberos_hand protocol) choices.Kerberos list _ (λ h. tt)

@@ -1,4 +1,5 @@
-ghost use Rattle.std.specs.Prelude.{◌≡◌, ◌≢◌, ◌&&◌, Option, None, Some, true, false, IfOk, IfErr, IfSome, OnOk, OnErr, option_map, option_copied};
+ghost use Rattle.std.specs.Prelude.{◌≡◌, ◌≢◌, ◌&&◌, None, Some, true, false, IfOk, IfErr, IfSome, OnOk, OnErr};
+ghost use Rattle.std.specs.Prelude.{option_map, option_copied};
 ghost use Rattle.sspi_names.specs.Identity.{credentials_buffers_of};
 ghost use Rattle.std.specs.Option.{unwrap_or};
 ghost use Rattle.sspi_mech.specs.Calls.{ToAcquire, IsUnused, no_counts};

@@ -190,7 +190,8 @@ impl<N: Mechanism, K: Mechanism> Negotiate<N, K> {
         // The step, and what a refused one leaves.
         ensures step { Does N.meaning K.meaning (takes_pick picked.choice token picked (values_of self.old) (accept_args args.now))
             self.old (told (answered result)) self.new }
-        ensures stays { OnNtlm picked.choice (self.old.packages.ntlm ≡ true) → OnErr result (Stays (values_of self.old) (values_of self.new)) }
+        ensures stays { OnNtlm picked.choice (self.old.packages.ntlm ≡ true) →
+            OnErr result (Stays (values_of self.old) (values_of self.new)) }
         // What every answer keeps.
         ensures unused { StaysUnused N.meaning K.meaning self.old self.new }
         ensures unmarked { StaysUnmarked N.meaning K.meaning self.old self.new }

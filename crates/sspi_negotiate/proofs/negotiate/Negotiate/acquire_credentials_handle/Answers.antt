@@ -27,5 +27,5 @@ returns-in_err-acquire_in-in-Some-clause-cause g c =
     let p = err_from_is_err_and c.from_residual-in_err-acquire_in-in-Some.result
     c.from_residual-in_err-acquire_in-in-Some.ensures.1 in rw (p.1, p.2)
     (refused_in_hand g.N.Mechanism.meaning g.K.Mechanism.meaning c.args.self.now (record c.args.self.now { mech = c.in-Some.kerberos })
-    c.args.credential_use (option_copied c.args.auth_data) (Err (error_of c.in_err-acquire_in-in-Some.field-0.0)) (search rules) (search rules)
-    c.in_err-acquire_in-in-Some.ensures.cause)
+    c.args.credential_use (option_copied c.args.auth_data) (Err (error_of c.in_err-acquire_in-in-Some.field-0.0))
+    (search rules) (search rules) c.in_err-acquire_in-in-Some.ensures.cause)
