@@ -13,6 +13,7 @@ pub mod Points
 pub mod Settling
 pub mod Negotiation
 pub mod NeverRefusing
+pub mod KerberosRefusals
 pub mod NegotiationRefusals
 pub mod Runs
 pub mod Rounds

@@ -41,11 +41,11 @@ use Rattle.sspi_negotiate.specs.Negotiate.{negotiate}
 use Rattle.sspi_negotiate.specs.New.{NegotiateSetting}
 use Rattle.sspi_negotiate.specs.Values.{Negotiation}
 
-abbrev IsOther : Option ErrorKind → Type 0
+abbrev pub IsOther : Option ErrorKind → Type 0
 IsOther None = Unit {0}
 IsOther (Some kind) = kind ≢ DowngradeDetected
 
-abbrev IfOther : {A : Type 0} → Result A ErrorKind → Type 0
+abbrev pub IfOther : {A : Type 0} → Result A ErrorKind → Type 0
 IfOther (Ok x) = Unit {0}
 IfOther (Err kind) = kind ≢ DowngradeDetected
 
@@ -62,26 +62,26 @@ other_if false x y h k = k
 other_spent : (n : ℕ) (refusal : Option ErrorKind) → IsOther refusal → IsOther (unless_spent n refusal)
 other_spent n refusal h = other_if (n == 2 ^ 64 - 1) (Some ContextExpired) refusal (λ e. absurd (cc (e))) h
 
-other_making : (key : Option (List ℕ)) (n : ℕ) → IsOther (making_refusal key n)
+pub other_making : (key : Option (List ℕ)) (n : ℕ) → IsOther (making_refusal key n)
 other_making None n = λ e. absurd (cc (e))
 other_making (Some key) n = other_spent n None tt
 
-other_unseal : (key : Option (List ℕ)) (direction : Direction) (n : ℕ) (blob : List ℕ) → IsOther (unseal_refusal key direction n blob)
+pub other_unseal : (key : Option (List ℕ)) (direction : Direction) (n : ℕ) (blob : List ℕ) → IsOther (unseal_refusal key direction n blob)
 other_unseal None direction n blob = λ e. absurd (cc (e))
 other_unseal (Some key) direction n blob =
     other_spent n _ (other_if (nat_lt (length blob) 16) (Some InvalidToken) _ (λ e. absurd (cc (e)))
     (other_if _ None (Some MessageAltered) tt (λ e. absurd (cc (e)))))
 
-other_verify : (key : Option (List ℕ)) (direction : Direction) (n : ℕ) (mic text : List ℕ) →
+pub other_verify : (key : Option (List ℕ)) (direction : Direction) (n : ℕ) (mic text : List ℕ) →
     IsOther (verify_refusal key direction n mic text)
 other_verify None direction n mic text = λ e. absurd (cc (e))
 other_verify (Some key) direction n mic text = other_spent n _ (other_if _ None (Some MessageAltered) tt (λ e. absurd (cc (e))))
 
-other_absence : {X : Type 0} (o : Option X) → IsOther (absence o)
+pub other_absence : {X : Type 0} (o : Option X) → IsOther (absence o)
 other_absence None = λ e. absurd (cc (e))
 other_absence (Some x) = tt
 
-other_result : {A : Type 0} (r : Result A ErrorKind) → IfOther r → IsOther (result_err r)
+pub other_result : {A : Type 0} (r : Result A ErrorKind) → IfOther r → IsOther (result_err r)
 other_result (Ok x) h = tt
 other_result (Err kind) h = h
 
@@ -192,7 +192,7 @@ stopped_other : (out : Outcome) (kind : ErrorKind) → StopsOther out → (kind 
 stopped_other out kind other stops = λ is.
     subst StopsOther (stops (λ memory. absurd (cc (is, memory)))) other is
 
-refused_other : (refusal : Option ErrorKind) → IsOther refusal → refusal ≡ Some DowngradeDetected → ⊥
+pub refused_other : (refusal : Option ErrorKind) → IsOther refusal → refusal ≡ Some DowngradeDetected → ⊥
 refused_other refusal other is = subst IsOther is other refl
 
 pub ntlm_never : NeverRefuses ntlm_meaning DowngradeDetected

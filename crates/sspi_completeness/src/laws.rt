@@ -1,4 +1,4 @@
-//! What holds of a context of plain NTLM, and of one that negotiates it; and that ends which negotiate can match.
+//! What holds of a context of plain NTLM or plain Kerberos, and of one that negotiates; and that ends which negotiate can match.
 ghost use Rattle.std.specs.Prelude.{◌≡◌, ℕ, List, Option, length, false};
 ghost use Rattle.sspi_names.specs.declared.identity.AuthIdentity.{AuthIdentity};
 ghost use Rattle.sspi_names.specs.declared.network.NetworkRequest.{NetworkRequest};
@@ -9,16 +9,21 @@ ghost use Rattle.sspi_negotiate.specs.Rows.{is_guest_text};
 ghost use Rattle.sspi_completeness.specs.Examples.{example_target, example_ntlm, example_kerberos, example_ticket, example_kdc};
 ghost use Rattle.sspi_completeness.specs.Negotiating.{AreNegotiating, messages_by};
 ghost use Rattle.sspi_credssp.specs.Context.{either, NeverRefuses};
+ghost use Rattle.sspi_mech.specs.Kerberos.{kerberos_meaning};
 ghost use Rattle.sspi_mech.specs.Ntlm.{ntlm_meaning};
 ghost use Rattle.sspi_negotiate.specs.Negotiate.{negotiate};
 ghost use Rattle.sspi_types.specs.declared.error_kind.ErrorKind.TheVariants.{DowngradeDetected};
 
 use sspi_mech::Mechanism;
 
-/// A context of plain NTLM or of a negotiation refuses nothing as `DowngradeDetected`, if the other mechanism does not: so an end
-/// of it refuses so exactly where its peer is below the least version.
+/// A context of plain NTLM or of plain Kerberos refuses nothing as `DowngradeDetected`, nor does a negotiation of NTLM and a mechanism
+/// that does not: so an end of it refuses so exactly where its peer is below the least version.
 pub fn contexts_refuse_no_version<K: Mechanism>()
+    // Of the plain mechanisms, and of a context that has either or negotiates them.
     ensures ntlm { NeverRefuses ntlm_meaning DowngradeDetected }
+    ensures kerberos { NeverRefuses kerberos_meaning DowngradeDetected }
+    ensures plain { NeverRefuses (either 0 ntlm_meaning kerberos_meaning) DowngradeDetected }
+    // Of plain NTLM beside any other.
     ensures negotiation { NeverRefuses K.meaning DowngradeDetected → NeverRefuses (negotiate 0 ntlm_meaning K.meaning) DowngradeDetected }
     ensures either { NeverRefuses K.meaning DowngradeDetected → NeverRefuses (either 0 ntlm_meaning K.meaning) DowngradeDetected }
 {}
