@@ -1,4 +1,4 @@
-ghost use Rattle.std.specs.Prelude.{◌≡◌, ℕ, ◌+◌, ◌^◌, ◌<◌, ◌≤◌, [], length, IsSome, MatchResult};
+ghost use Rattle.std.specs.Prelude.{◌≡◌, ◌==◌, ℕ, ◌+◌, ◌^◌, ◌<◌, ◌≤◌, [], length, IsSome, MatchResult};
 ghost use Rattle.sspi_credssp.specs.Context.{either};
 ghost use Rattle.sspi_desk.specs.Desk.{session, IsAdmitted, IsRefusedFor, IsClosed, Serves};
 
@@ -66,6 +66,13 @@ impl<N, K, C> Desk<N, K, C> {
         self.sessions.len()
     }
 
+    /// Whether as many sessions are kept as may be.
+    pub fn is_full(&self) -> bool
+        ensures { result ≡ (length self.now.kept == self.now.limit) }
+    {
+        self.sessions.len() == self.limit as usize
+    }
+
     /// How many sessions were admitted so far; their numbers are those below.
     pub fn admitted(&self) -> u64
         ensures count { result ≡ self.now.admitted }
@@ -85,7 +92,7 @@ impl<N: Mechanism, K: Mechanism, C: CredentialsProxy> Desk<N, K, C> {
             (λ number. IsAdmitted server number self.old self.new)
             (λ turned. (turned.server ≡ server) × IsRefusedFor turned.why self.old × (self.new ≡ self.old)) }
     {
-        if self.sessions.len() >= self.limit as usize {
+        if self.is_full() {
             return Err(Turned {
                 server,
                 why: Why::Full,

@@ -1,4 +1,4 @@
-ghost use Rattle.std.specs.Prelude.{◌≡◌, ◌+◌, ◌++◌, ◌<◌, ℕ, List, [], ◌∷◌, IfOk, OnOk, is_some, length};
+ghost use Rattle.std.specs.Prelude.{◌≡◌, ◌==◌, ◌+◌, ◌++◌, ◌<◌, ℕ, List, [], ◌∷◌, IfOk, OnErr, OnOk, is_some, length};
 ghost use Rattle.std.specs.List.{list_any};
 ghost use Rattle.sspi_credssp.specs.Context.{either};
 ghost use Rattle.sspi_credssp.specs.declared.context.SspiContext.{SspiContext};
@@ -36,11 +36,18 @@ impl<N, K, C, D> Table<N, K, C, D> {
             guests: Vec::new(alloc),
         }
     }
+
+    /// Whether as many clients are seated as may be.
+    pub fn is_full(&self) -> bool
+        ensures { result ≡ (length self.now.desk.kept == self.now.desk.limit) }
+    {
+        self.desk.is_full()
+    }
 }
 
 impl<N: Mechanism, K: Mechanism, C: CredentialsProxy, D: Kdc + Drop> Table<N, K, C, D> {
-    /// Seats a client with its KDC, and admits its server to the desk. Fails where there was no memory, and where as many clients are
-    /// seated as may be; then nothing changes.
+    /// Seats a client with its KDC, and admits its server to the desk. Fails where as many clients are seated as may be, which `is_full`
+    /// tells, where there was no memory, and where 2^64 - 1 were seated; then all seats and sessions stay as they were.
     pub fn join(
         &mut self,
         client: CredSspClient<N, K>,
@@ -52,13 +59,22 @@ impl<N: Mechanism, K: Mechanism, C: CredentialsProxy, D: Kdc + Drop> Table<N, K,
             OnOk result (AreSeated c C.meaning k (cames ++ place client kdc server ∷ []) self.new) }
         ensures room { OnOk result (length self.old.desk.kept < self.old.desk.limit) }
         ensures full { length self.old.desk.kept ≡ self.old.desk.limit → self.new ≡ self.old }
+        ensures err { OnErr result ((self.new.guests.items ≡ self.old.guests.items) × (self.new.desk ≡ self.old.desk)) }
         ensures limit { self.new.desk.limit ≡ self.old.desk.limit }
     {
-        if self.desk.admitted() == u64::MAX {
+        if self.is_full() || self.desk.admitted() == u64::MAX {
             return lost(client, (kdc, server), AllocError);
         }
+        // A session that is admitted cannot be taken back, since its number is used.
+        if let Err(error) = self.guests.reserve(1) {
+            return lost(client, (kdc, server), error);
+        }
         match self.desk.admit(server) {
-            Ok(_) => push_one(&mut self.guests, Guest::new(self.alloc, client, kdc)),
+            Ok(_) => {
+                let guest = Guest::new(self.alloc, client, kdc);
+                self.guests.push_reserved(guest);
+                Ok(())
+            }
             Err(turned) => lost(client, (kdc, turned), AllocError),
         }
     }
@@ -155,14 +171,6 @@ fn leave<N: Mechanism, K: Mechanism, C: CredentialsProxy, D: Kdc + Drop>(
     let mut seats = Rows::new(alloc);
     leave_all(&mut desk, guests, &mut seats)?;
     Ok(seats)
-}
-
-/// Adds one more. Generic, since to drop a value of a type parameter is one step.
-fn push_one<T: Drop>(all: &mut Vec<T>, one: T) -> Result<(), AllocError>
-    ensures { OnOk result (all.new.items ≡ all.old.items ++ one ∷ []) }
-{
-    all.push(one)?;
-    Ok(())
 }
 
 /// Closes all sessions, the first one first, and adds their seats.

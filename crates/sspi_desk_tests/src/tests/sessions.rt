@@ -76,6 +76,7 @@ fn admit(rt: &impl Test, desk: &mut NtlmDesk, wanted: &str) {
     if desk.admitted() == u64::MAX {
         rt.abort()
     }
+    assert_eq!(rt; desk.is_full(), wanted == "full");
     match desk.admit(server(rt, true)) {
         Ok(number) => assert_eq!(rt; wanted.parse::<u64>(), Ok(number)),
         Err(Turned { server, why }) => {

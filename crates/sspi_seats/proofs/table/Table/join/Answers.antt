@@ -1,7 +1,7 @@
+use Rattle.std.proofs.Common.{◌∙◌, ap, List, [], ◌∷◌, ◌++◌}
 use Rattle.sspi_credssp.specs.Context.{either}
 use Rattle.sspi_delegate.specs.Chain.{kdc_calls}
 use Rattle.sspi_seats.specs.Seat.{place}
-use Rattle.sspi_seats.proofs.Speaking.{kept_done}
 use Rattle.sspi_seats.proofs.Seating.{joined}
 use Rattle.sspi_seats.proofs.table.Table.join.Goals as goal
 
@@ -10,7 +10,7 @@ returns-in-Ok-clause-seated g c cames seated =
     let m = either g.N.Mechanism.REQUESTS g.N.Mechanism.meaning g.K.Mechanism.meaning in
     let p = g.C.CredentialsProxy.meaning in
     let k = kdc_calls g.D.Kdc.told g.D.Kdc.asked g.D.Kdc.faults in
-    kept_done c.push_one.result (λ added. joined m p k cames (place c.args.client c.args.kdc c.args.server) c.in-Ok.field-0 c.new.result
-    c.args.self.now (record c.args.self.now { desk = c.admit.new.self; guests = c.push_one.new.all }) seated c.new.ensures
-    c.in-Ok.ensures added)
-    c.push_one.ensures
+    joined m p k cames (place c.args.client c.args.kdc c.args.server) c.in-Ok.field-0 c.new-guest.result
+    c.args.self.now (record c.args.self.now { desk = c.admit.new.self; guests = c.push_reserved.new.self }) seated c.new-guest.ensures
+    c.in-Ok.ensures
+    (c.push_reserved.ensures.items ∙ ap (λ l. l ++ c.new-guest.result ∷ []) c.reserve.ensures.items)
