@@ -27,7 +27,7 @@ use Rattle.sspi_delegate.specs.Turns.{NoneRefused}
 use Rattle.sspi_play.specs.Agreement.{OpensBehindTag, NoEcho, AreAlike, Agrees}
 use Rattle.sspi_play.specs.Agreement.{HoldsSealed, Agreement}
 use Rattle.sspi_play.specs.Faithful.{behind_tag, client_sealed, server_sealed, opened_texts, AreFirstOf, by_client}
-use Rattle.sspi_play.specs.Faithful.{by_server, IsFaithful}
+use Rattle.sspi_play.specs.Faithful.{by_server, NoCollision}
 use Rattle.sspi_play.specs.History.{GaveIn}
 use Rattle.sspi_play.proofs.ClientSeals.{ClientProof, ClientProofIn, client_proof, seals_once_opened, sealings_in, second_seal}
 use Rattle.sspi_play.proofs.Lists.{last_same, none_last}
@@ -45,10 +45,10 @@ alike noted other version other_version is other_is same = rw (is, other_is) sam
 some_one : (a b : ℕ) → Some a ≡ Some b → a ≡ b
 some_one a b e = cc (e)
 
-module _ {C : Type 0} (c : Meaning ContextSetting C) (kept : Option C → List (List ℕ)) (client : ClientEnd C) (server : ServerEnd C) where
+module _ {C : Type 0} (c : Meaning ContextSetting C) (client : ClientEnd C) (server : ServerEnd C) where
   -- ---- the turns of one end, at one of its turns
 
-  client_at : (t : Turn) (past : List Turn) → t.end ≡ Client → AllTurns c kept client server (t ∷ past) →
+  client_at : (t : Turn) (past : List Turn) → t.end ≡ Client → AllTurns c client server (t ∷ past) →
       EachClientTurn c client (t ∷ client_turns past) × AllGoOn (client_turns past)
       × AreFirstOf (opened_texts (t ∷ client_turns past)) (server_sealed server (server_turns past))
   client_at t past is all = (
@@ -62,7 +62,7 @@ module _ {C : Type 0} (c : Meaning ContextSetting C) (kept : Option C → List (
         (server_sealed server (onto_server e t (server_turns past)))) is all.opens.0 in first,
   )
 
-  server_at : (t : Turn) (past : List Turn) → t.end ≡ Server → AllTurns c kept client server (t ∷ past) →
+  server_at : (t : Turn) (past : List Turn) → t.end ≡ Server → AllTurns c client server (t ∷ past) →
       EachServerTurn c server (t ∷ server_turns past) × NoneRefused (server_turns past)
       × AreFirstOf (opened_texts (t ∷ server_turns past)) (client_sealed client (client_turns past))
   server_at t past is all = (
@@ -131,19 +131,19 @@ module _ {C : Type 0} (c : Meaning ContextSetting C) (kept : Option C → List (
 
     agreed_by : (turns later past : List Turn) (t : Turn) → turns ≡ later ++ (t ∷ past) → t.end ≡ Client → (seen : ℕ) →
         client_noted client.settings.least (t ∷ client_turns past) ≡ Some seen →
-        AllTurns c kept client server turns → IsFaithful c kept client server turns → NoEcho client server →
+        AllTurns c client server turns → NoCollision client server turns → NoEcho client server →
         length client.settings.nonce ≡ 32 →
-        AllTurns c kept client server past → ServerProof c server past → Agrees client server turns past
-    agreed_by turns later past t parts is seen noted all faithful echo long before s =
+        AllTurns c client server past → ServerProof c server past → Agrees client server turns past
+    agreed_by turns later past t parts is seen noted all no_collision echo long before s =
         let u = s.at.turn in
-        let there = all_before c kept client server s.at.later (u ∷ s.at.before)
-        (subst (λ (l : List Turn). AllTurns c kept client server l) s.at.parts before) in
+        let there = all_before c client server s.at.later (u ∷ s.at.before)
+        (subst (λ (l : List Turn). AllTurns c client server l) s.at.parts before) in
         let peer = server_at u s.at.before s.end there in
         let opened : opened_texts (u ∷ server_turns s.at.before) ≡ prescribed whose.Client s.version
         (nonce_of u.delivered.client_nonce) server.settings.public_key ∷ [] =
         opened_by_proof c server (server_turns s.at.before) u peer.0 peer.1 s.none s.proved
         ∙ proven_text u (server_turns s.at.before) s.version peer.0 s.proved s.noted in
-        let first = all_before c kept client server (u ∷ []) s.at.before there in
+        let first = all_before c client server (u ∷ []) s.at.before there in
         let p = client_proved s.at.before _ (opened_texts (u ∷ server_turns s.at.before)) opened peer.2
         (client_proof c client s.at.before first.client_each) in
         let whole : turns ≡ (later ++ (t ∷ s.at.later)) ++ (u ∷ s.at.before) =
@@ -162,7 +162,7 @@ module _ {C : Type 0} (c : Meaning ContextSetting C) (kept : Option C → List (
         (sym (server_more u s.at.before s.end)) s.noted)) in
         let same = same_texts client.settings.public_key server.settings.public_key client.settings.nonce
         (nonce_of u.delivered.client_nonce) p.0.version s.version
-        (faithful.no_collision _ _ (by_client whose.Client)
+        (no_collision _ _ (by_client whose.Client)
         (by_server whose.Client (server_turns (later ++ (t ∷ s.at.later))) (server_turns s.at.before) u servers))
         long (proven_nonce u (server_turns s.at.before) s.version peer.0 s.proved s.noted)
         (λ young old. no_client_echo client server (client_turns turns) p.0.version echo client_seen young)
@@ -184,20 +184,20 @@ module _ {C : Type 0} (c : Meaning ContextSetting C) (kept : Option C → List (
 
     -- of a client that sealed in one of its turns
     pub agreed : (turns later past : List Turn) (t : Turn) → turns ≡ later ++ (t ∷ past) → t.end ≡ Client → t.acts.sealed ≡ true →
-        AllTurns c kept client server turns → IsFaithful c kept client server turns → NoEcho client server →
+        AllTurns c client server turns → NoCollision client server turns → NoEcho client server →
         length client.settings.nonce ≡ 32 →
         Agrees client server turns past
-    agreed turns later past t parts is was all faithful echo long =
-        let here = all_before c kept client server later (t ∷ past)
-        (subst (λ (l : List Turn). AllTurns c kept client server l) parts all) in
+    agreed turns later past t parts is was all no_collision echo long =
+        let here = all_before c client server later (t ∷ past)
+        (subst (λ (l : List Turn). AllTurns c client server l) parts all) in
         let own = client_at t past is here in
         let seen = at_some (client_noted client.settings.least (t ∷ client_turns past)) _ (own.0.0.held.sealed was) in
         let opened : opened_texts (t ∷ client_turns past)
         ≡ prescribed whose.Server seen.0 client.settings.nonce client.settings.public_key ∷ [] =
         seals_once_opened c client (client_turns past) t own.0 own.1 was ∙ sealing_text t (client_turns past) seen.0 own.0 was seen.1 in
-        let before = all_before c kept client server (t ∷ []) past here in
+        let before = all_before c client server (t ∷ []) past here in
         let s = server_proved past _ (opened_texts (t ∷ client_turns past)) opened own.2 (server_proof c server past before.server_each) in
-        agreed_by turns later past t parts is seen.0 seen.1 all faithful echo long before s
+        agreed_by turns later past t parts is seen.0 seen.1 all no_collision echo long before s
 
     -- ---- a server that finished
 
@@ -216,12 +216,12 @@ module _ {C : Type 0} (c : Meaning ContextSetting C) (kept : Option C → List (
     finished_shows f t (outcome.Refused kind reply) is h = absurd is
 
     pub held : {P : Type 0} (p : ProxyMeaning P) (first : ServerView C P) (identity : AuthIdentity) (turns : List Turn) →
-        GaveIn c p first identity (server_turns turns) → AllTurns c kept client server turns → HoldsSealed client server turns identity
+        GaveIn c p first identity (server_turns turns) → AllTurns c client server turns → HoldsSealed client server turns identity
     held p first identity turns gave all =
         let t = gave.turn in
         let place = server_place turns gave.later t gave.before gave.parts in
-        let here = all_before c kept client server place.later (t ∷ place.past)
-        (subst (λ (l : List Turn). AllTurns c kept client server l) place.parts all) in
+        let here = all_before c client server place.later (t ∷ place.past)
+        (subst (λ (l : List Turn). AllTurns c client server l) place.parts all) in
         let turn = server_at t place.past place.end here in
         let shows = finished_shows (server_frame_at server (server_turns place.past) t) t t.outcome gave.finished turn.0.0.shown.reply in
         let one = one_opened c server (server_turns place.past) turn.0.1 turn.1 shows.0 in
@@ -230,7 +230,7 @@ module _ {C : Type 0} (c : Meaning ContextSetting C) (kept : Option C → List (
         opened_at_end c server (server_turns place.past) t turn.0 shows.1
         ∙ ap (λ (l : List (List ℕ)). l ++ opened_texts (server_turns place.past)) text.1
         ∙ ap (λ (l : List (List ℕ)). text.0 ∷ l) one.1 in
-        let before = all_before c kept client server (t ∷ []) place.past here in
+        let before = all_before c client server (t ∷ []) place.past here in
         let sealed = second_seal c client place.past text.0 one.0 turn.2.0
         (sealings_in c client place.past before.client_each before.client_others)
         (turn.2.1 ∙ ap (λ (l : List (List ℕ)). turn.2.0 ++ l) opened) in
@@ -250,10 +250,9 @@ module _ {C : Type 0} (c : Meaning ContextSetting C) (kept : Option C → List (
 
     pub agreement : {P : Type 0} (p : ProxyMeaning P) (first : ServerView C P) (turns : List Turn) (identity : Option AuthIdentity) →
         ((given : AuthIdentity) → identity ≡ Some given → GaveIn c p first given (server_turns turns)) →
-        AllTurns c kept client server turns →
-        length client.settings.nonce ≡ 32 → IsFaithful c kept client server turns → NoEcho client server →
-        Agreement client server turns identity
-    agreement p first turns identity gave all long faithful echo = record {
-      a_client_that_sealed = λ at end sealed. agreed turns at.later at.before at.turn at.parts end sealed all faithful echo long;
+        AllTurns c client server turns → length client.settings.nonce ≡ 32 → Agreement client server turns identity
+    agreement p first turns identity gave all long = record {
+      a_client_that_sealed = λ no_collision echo at end sealed.
+          agreed turns at.later at.before at.turn at.parts end sealed all no_collision echo long;
       a_server_that_finished = λ given is. held p first given turns (gave given is) all;
     }

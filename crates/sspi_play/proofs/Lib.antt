@@ -1,4 +1,5 @@
 pub mod Agreed
+pub mod BehindTags
 pub mod ClientOffers
 pub mod ClientSeals
 pub mod Contexts

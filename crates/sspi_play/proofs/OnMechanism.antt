@@ -96,7 +96,7 @@ module _ {N K : Type 0} (r q : ℕ) (n : Meaning Setting N) (k : Meaning Setting
         (result : Result Played DelegateError) → IsFreshClient old.client → IsFreshServer old.server →
         IsPlay (either r n k) old new → Accounts (either r n k) p kdcs schedule old result new →
         NegotiatesIfFaithful r n k (client_end new.client) (server_end new.server) old.server.settings.mode new.turns
-    negotiates_if_faithful schedule old new result client_fresh server_fresh play accounts faithful =
+    negotiates_if_faithful schedule old new result client_fresh server_fresh play accounts =
         let law = lawful r q n k ln lk in
         let offers : ShowsOffered n k (client_turns new.turns) new.client.context =
         left_offers r q n k ln lk kdcs old.client old.kdc (client_turns new.turns) (client_stage new.client new.kdc) client_fresh.context
@@ -111,16 +111,15 @@ module _ {N K : Type 0} (r q : ℕ) (n : Meaning Setting N) (k : Meaning Setting
         (server_chained (either r n k) p old.server law server_fresh new.server (server_turns new.turns) play.server_ran.others
         accounts.server_turns_are_its_calls) in
         record {
-          a_server_that_verified = λ some.
-              let lists = faithful.server_verifies.lists some in
-              let signed : 1 ≤ signings_in (either r n k) new.client.context = omega (arith, some, faithful.server_verifies.count) in (
-                subst (λ (l : List (List ℕ)). IsPickOf new.server.context old.server.settings.mode l) lists
+          a_server_that_verified = λ faithful some.
+              (
+                subst (λ (l : List (List ℕ)). IsPickOf new.server.context old.server.settings.mode l) (faithful.lists some)
                     (picked_mechanism old.server.settings.mode (server_turns new.turns) new.server.context
                     (verified_is new.server.context some) shows),
-                offered_list (client_turns new.turns) new.client.context (signed_is new.client.context signed) offers,
+                offered_list (client_turns new.turns) new.client.context (signed_is new.client.context (faithful.signed some)) offers,
               );
-          a_client_that_verified = λ some.
-              let signed : 1 ≤ signings_in (either r n k) new.server.context = omega (arith, some, faithful.client_verifies.count) in
-              subst (λ (l : List (List ℕ)). HasRead (server_turns new.turns) l) (sym (faithful.client_verifies.lists some))
-              (read_list old.server.settings.mode (server_turns new.turns) new.server.context (signed_is new.server.context signed) shows);
+          a_client_that_verified = λ faithful some.
+              subst (λ (l : List (List ℕ)). HasRead (server_turns new.turns) l) (sym (faithful.lists some))
+              (read_list old.server.settings.mode (server_turns new.turns) new.server.context
+              (signed_is new.server.context (faithful.signed some)) shows);
         }

@@ -126,13 +126,13 @@ server_noted_least least (t ∷ u ∷ past) version e = server_noted_least least
 
 -- ---- what holds of all turns, and so of those before one
 
-module _ {C : Type 0} (c : Meaning ContextSetting C) (kept : Option C → List (List ℕ)) (client : ClientEnd C) (server : ServerEnd C) where
+module _ {C : Type 0} (c : Meaning ContextSetting C) (client : ClientEnd C) (server : ServerEnd C) where
   pub record AllTurns (turns : List Turn) : Type 0 where
     pub client_each : EachClientTurn c client (client_turns turns)
     pub client_others : OthersGoOn (client_turns turns)
     pub server_each : EachServerTurn c server (server_turns turns)
     pub server_others : OthersUnrefused (server_turns turns)
-    pub opens : OpensWhatWasSealed c kept client server turns
+    pub opens : OpensWhatWasSealed client server turns
 
   client_each_before : (end : End) (t : Turn) (past : List Turn) → EachClientTurn c client (onto_client end t past) →
       EachClientTurn c client past

@@ -20,7 +20,7 @@ use Rattle.sspi_delegate.proofs.Heeding.{client_past_heeds, server_past_heeds}
 use Rattle.sspi_delegate.proofs.HistoryRuns.{client_past_ran, server_past_ran}
 use Rattle.sspi_play.specs.declared.played.Delivery.{Delivery}
 use Rattle.sspi_play.specs.declared.played.Played.{Played}
-use Rattle.sspi_play.specs.Agreement.{AgreesIfFaithful}
+use Rattle.sspi_play.specs.Agreement.{OpensBehindTag, AgreesIfFaithful}
 use Rattle.sspi_play.specs.History.{ClientPlayed, Gave, GaveIn}
 use Rattle.sspi_play.specs.Kept.{identity_of}
 use Rattle.sspi_play.specs.Played.{Both, PlaysBy, Accounts, IsPlay}
@@ -94,17 +94,17 @@ module _ {C P D : Type 0} (c : Meaning ContextSetting C) (law : IsContext c) (p 
       given_in old.server played.identity given (server_turns new.turns) is accounts.the_identity_is_that_of_the_turn_that_finished
   identity_gave schedule old new (Err error) accounts given is = absurd (cc (is))
 
-  pub agrees_if_faithful : (kept : Option C → List (List ℕ)) (schedule : List Delivery) (old new : Both C P D)
+  pub agrees_if_faithful : (schedule : List Delivery) (old new : Both C P D)
       (result : Result Played DelegateError) → length old.client.settings.nonce ≡ 32 →
-      IsPlay c old new → Accounts c p k schedule old result new →
-      AgreesIfFaithful c kept (client_end new.client) (server_end new.server) new.turns (identity_of result)
-  agrees_if_faithful kept schedule old new result long play accounts = λ faithful tags echo.
-      agreement c kept (client_end new.client) (server_end new.server) tags p old.server new.turns (identity_of result)
+      IsPlay c old new → Accounts c p k schedule old result new → OpensBehindTag c →
+      AgreesIfFaithful (client_end new.client) (server_end new.server) new.turns (identity_of result)
+  agrees_if_faithful schedule old new result long play accounts tags = λ opens.
+      agreement c (client_end new.client) (server_end new.server) tags p old.server new.turns (identity_of result)
       (identity_gave schedule old new result accounts)
       (record {
         client_each = play.client_ran.each;
         client_others = play.client_ran.others;
         server_each = play.server_ran.each;
         server_others = play.server_ran.others;
-        opens = faithful.opens;
-      }) (ap (λ (s : ClientSettings). length s.nonce) play.client_ran.same ∙ long) faithful echo
+        opens = opens;
+      }) (ap (λ (s : ClientSettings). length s.nonce) play.client_ran.same ∙ long)

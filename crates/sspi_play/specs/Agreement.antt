@@ -12,13 +12,12 @@ use Rattle.sspi_tsreq.specs.declared.mode.CredSspMode.{CredSspMode}
 use Rattle.sspi_tsreq.specs.declared.mode.CredSspMode.TheVariants.{WithCredentials, CredentialLess}
 use Rattle.sspi_credssp.specs.declared.turn.End.TheVariants.{Client, Server}
 use Rattle.sspi_credssp.specs.declared.turn.Turn.{Turn}
-use Rattle.sspi_credssp.specs.Context.{ContextSetting}
 use Rattle.sspi_credssp.specs.Exchange.{delegated_text, delegated_identity}
 use Rattle.sspi_credssp.specs.Requests.{nonce_of}
 use Rattle.sspi_delegate.specs.Causes.{IsFinished}
 use Rattle.sspi_delegate.specs.EndRun.{ClientEnd, ServerEnd, client_noted, server_noted}
 use Rattle.sspi_delegate.specs.Turns.{client_turns, server_turns}
-use Rattle.sspi_play.specs.Faithful.{IsFaithful}
+use Rattle.sspi_play.specs.Faithful.{OpensWhatWasSealed, NoCollision}
 
 -- one of these turns, the newest first: the turns after it, and those before
 pub record TurnOf (turns : List Turn) : Type 0 where
@@ -30,8 +29,8 @@ pub record TurnOf (turns : List Turn) : Type 0 where
 -- ---- the premises
 
 -- what a blob opens to stands behind its tag of 16 octets
-abbrev pub OpensBehindTag : {C : Type 0} → Meaning ContextSetting C → Type 0
-OpensBehindTag {C} c = (m : C) (n : ℕ) (blob text : List ℕ) → c.opens m n blob text → text ≡ drop 16 blob
+abbrev pub OpensBehindTag : {S C : Type 0} → Meaning S C → Type 0
+OpensBehindTag {S} {C} c = (m : C) (n : ℕ) (blob text : List ℕ) → c.opens m n blob text → text ≡ drop 16 blob
 
 -- no hash, which has 32 octets, is taken for the echo of a key, which is what a peer below version 5 proves with
 pub data NoEcho {C : Type 0} (client : ClientEnd C) (server : ServerEnd C) : Type 0 where
@@ -104,11 +103,10 @@ module _ {C : Type 0} (client : ClientEnd C) (server : ServerEnd C) where
     pub identity_is : IsIdentity own → identity ≡ delegated_as client.settings.delegation own
 
   pub record Agreement (turns : List Turn) (identity : Option AuthIdentity) : Type 0 where
-    pub a_client_that_sealed : (at : TurnOf turns) → at.turn.end ≡ Client → at.turn.acts.sealed ≡ true → Agrees turns at.before
+    pub a_client_that_sealed : NoCollision client server turns → NoEcho client server → (at : TurnOf turns) → at.turn.end ≡ Client →
+        at.turn.acts.sealed ≡ true → Agrees turns at.before
     pub a_server_that_finished : (given : AuthIdentity) → identity ≡ Some given → HoldsSealed turns given
 
--- The theorem, of the ends as the play left them.
-abbrev pub AgreesIfFaithful : {C : Type 0} → Meaning ContextSetting C → (Option C → List (List ℕ)) → ClientEnd C → ServerEnd C → List Turn →
-    Option AuthIdentity → Type 0
-AgreesIfFaithful c kept client server turns identity =
-    IsFaithful c kept client server turns → OpensBehindTag c → NoEcho client server → Agreement client server turns identity
+-- The theorem, of the ends as the play left them, whose context opens what stands behind a tag.
+abbrev pub AgreesIfFaithful : {C : Type 0} → ClientEnd C → ServerEnd C → List Turn → Option AuthIdentity → Type 0
+AgreesIfFaithful client server turns identity = OpensWhatWasSealed client server turns → Agreement client server turns identity

@@ -1,8 +1,10 @@
--- What agreement rests on: that the mechanism under both ends is faithful in this play. Lists are the newest first.
+-- What agreement rests on: that in this play the mechanism under both ends is faithful, in what it seals and in what it signs; and that
+-- no two texts have one hash. Lists are the newest first.
 use Rattle.std.specs.Prelude.{◌≡◌, ◌≤◌, ℕ, List, [], ◌∷◌, ◌++◌, drop, Option, None, Some, Result, Ok, Err, Bool, true, false}
 use Rattle.sha2.specs.Sha256.{sha256}
 use Rattle.sspi_types.specs.declared.error.Error.{Error}
 use Rattle.sspi_mech.specs.Meaning.{Meaning}
+use Rattle.sspi_credssp.specs.declared.context.SspiContext.{SspiContext}
 use Rattle.sspi_credssp.specs.declared.public_key.EndpointType.{EndpointType}
 use Rattle.sspi_credssp.specs.declared.public_key.EndpointType.TheVariants as whose
 use Rattle.sspi_credssp.specs.declared.turn.Turn.{Turn}
@@ -11,6 +13,7 @@ use Rattle.sspi_credssp.specs.Exchange.{delegated_text, magic, prescribed}
 use Rattle.sspi_credssp.specs.Requests.{nonce_of}
 use Rattle.sspi_delegate.specs.EndRun.{ClientEnd, ServerEnd, client_noted, server_noted}
 use Rattle.sspi_delegate.specs.Turns.{client_turns, server_turns}
+use Rattle.sspi_play.specs.Kept.{kept_list}
 
 -- ---- the texts that an end sealed and opened
 
@@ -63,17 +66,22 @@ abbrev pub opened_texts : List Turn → List (List ℕ)
 opened_texts [] = []
 opened_texts (t ∷ past) = texts_opened t ++ opened_texts past
 
--- ---- faithful
+-- ---- faithful in what is sealed
 
 -- these texts are the first of those
 abbrev pub AreFirstOf : List (List ℕ) → List (List ℕ) → Type 0
 AreFirstOf texts all = (later : List (List ℕ)) × (all ≡ later ++ texts)
 
--- so is one of the run's hashes made: an end's magic, a nonce and its own key, joined; a server's nonce is a delivered one
-pub data IsHashed {C : Type 0} (client : ClientEnd C) (server : ServerEnd C) (turns : List Turn) : List ℕ → Type 0 where
-  by_client : (end : EndpointType) → IsHashed client server turns (magic end ++ client.settings.nonce ++ client.settings.public_key)
-  by_server : (end : EndpointType) (later before : List Turn) (t : Turn) → server_turns turns ≡ later ++ (t ∷ before) →
-      IsHashed client server turns (magic end ++ nonce_of t.delivered.client_nonce ++ server.settings.public_key)
+module _ {C : Type 0} (client : ClientEnd C) (server : ServerEnd C) where
+  -- after each turn what an end has opened so far is what its peer sealed first
+  abbrev pub OpensWhatWasSealed : List Turn → Type 0
+  OpensWhatWasSealed [] = Unit {0}
+  OpensWhatWasSealed (t ∷ past) =
+      AreFirstOf (opened_texts (client_turns (t ∷ past))) (server_sealed server (server_turns (t ∷ past)))
+      × AreFirstOf (opened_texts (server_turns (t ∷ past))) (client_sealed client (client_turns (t ∷ past)))
+      × OpensWhatWasSealed past
+
+-- ---- faithful in what is signed
 
 -- how many MICs a context made and verified
 module _ {C : Type 0} (c : Meaning ContextSetting C) where
@@ -85,24 +93,21 @@ module _ {C : Type 0} (c : Meaning ContextSetting C) where
   verifications_in None = 0
   verifications_in (Some m) = (c.counts m).verifications
 
-module _ {C : Type 0} (c : Meaning ContextSetting C) (kept : Option C → List (List ℕ)) where
-  -- after each turn what an end has opened so far is what its peer sealed first
-  abbrev pub OpensWhatWasSealed : ClientEnd C → ServerEnd C → List Turn → Type 0
-  OpensWhatWasSealed client server [] = Unit {0}
-  OpensWhatWasSealed client server (t ∷ past) =
-      AreFirstOf (opened_texts (client_turns (t ∷ past))) (server_sealed server (server_turns (t ∷ past)))
-      × AreFirstOf (opened_texts (server_turns (t ∷ past))) (client_sealed client (client_turns (t ∷ past)))
-      × OpensWhatWasSealed client server past
+-- where an end verified a MIC, its peer made one, and both keep the same list of mechanisms
+pub record VerifiesWhatWasSigned {N K : Type 0} (c : Meaning ContextSetting (SspiContext N K)) (own peer : Option (SspiContext N K)) :
+    Type 0 where
+  pub signed : 1 ≤ verifications_in c own → 1 ≤ signings_in c peer
+  pub lists : 1 ≤ verifications_in c own → kept_list own ≡ kept_list peer
 
-  -- an end verified no more than its peer signed, and where it did both keep the same list of mechanisms
-  pub record VerifiesWhatWasSigned (own peer : Option C) : Type 0 where
-    pub count : verifications_in c own ≤ signings_in c peer
-    pub lists : 1 ≤ verifications_in c own → kept own ≡ kept peer
+-- ---- what is hashed
 
-  -- `kept` is the list that a context keeps
-  pub record IsFaithful (client : ClientEnd C) (server : ServerEnd C) (turns : List Turn) : Type 0 where
-    pub opens : OpensWhatWasSealed client server turns
-    pub client_verifies : VerifiesWhatWasSigned client.context server.context
-    pub server_verifies : VerifiesWhatWasSigned server.context client.context
-    pub no_collision : (text other : List ℕ) → IsHashed client server turns text → IsHashed client server turns other →
-        sha256 text ≡ sha256 other → text ≡ other
+module _ {C : Type 0} (client : ClientEnd C) (server : ServerEnd C) (turns : List Turn) where
+  -- so is one of the run's hashes made: an end's magic, a nonce and its own key, joined; a server's nonce is a delivered one
+  pub data IsHashed : List ℕ → Type 0 where
+    by_client : (end : EndpointType) → IsHashed (magic end ++ client.settings.nonce ++ client.settings.public_key)
+    by_server : (end : EndpointType) (later before : List Turn) (t : Turn) → server_turns turns ≡ later ++ (t ∷ before) →
+        IsHashed (magic end ++ nonce_of t.delivered.client_nonce ++ server.settings.public_key)
+
+  -- no two of these texts have one hash
+  abbrev pub NoCollision : Type 0
+  NoCollision = (text other : List ℕ) → IsHashed text → IsHashed other → sha256 text ≡ sha256 other → text ≡ other

@@ -1,5 +1,5 @@
 -- Agreement on the mechanism that a negotiation chose, between a client and a server whose messages an attacker carries, if the
--- mechanism is faithful (RFC 4178, section 5).
+-- mechanism is faithful in what it signs (RFC 4178, section 5). It supposes nothing of what is sealed, and nothing of hashes.
 --
 -- A server that verified a MIC of the client has the mechanism in hand that it picks, by its own configuration, of the list that
 -- the client offered; and a client that verified a MIC of the server keeps the list that the server read.
@@ -31,7 +31,7 @@ use Rattle.sspi_credssp.specs.Requests.{token_of}
 use Rattle.sspi_delegate.specs.EndRun.{ClientEnd, ServerEnd}
 use Rattle.sspi_delegate.specs.Turns.{client_turns, server_turns}
 use Rattle.sspi_play.specs.Agreement.{TurnOf}
-use Rattle.sspi_play.specs.Faithful.{verifications_in, IsFaithful}
+use Rattle.sspi_play.specs.Faithful.{verifications_in, VerifiesWhatWasSigned}
 use Rattle.sspi_play.specs.Kept.{kept_list}
 
 -- ---- the list on its way
@@ -99,15 +99,12 @@ pub record IsPickOf {N K : Type 0} (context : Option (SspiContext N K)) (mode : 
 -- ---- what both agree on
 
 module _ {N K : Type 0} (requests : ℕ) (n : Meaning Setting N) (k : Meaning Setting K) where
-  -- of a server that was made in this mode
-  pub record AgreesOnMechanism (client : ClientEnd (SspiContext N K)) (server : ServerEnd (SspiContext N K)) (mode : ServerMode)
+  -- The theorem, of the ends as the play left them, of which the server was made in this mode. What either end knows rests on its own
+  -- verifications alone.
+  pub record NegotiatesIfFaithful (client : ClientEnd (SspiContext N K)) (server : ServerEnd (SspiContext N K)) (mode : ServerMode)
       (turns : List Turn) : Type 0 where
-    pub a_server_that_verified : 1 ≤ verifications_in (either requests n k) server.context →
+    pub a_server_that_verified : VerifiesWhatWasSigned (either requests n k) server.context client.context →
+        1 ≤ verifications_in (either requests n k) server.context →
         IsPickOf server.context mode (kept_list client.context) × HasOffered (client_turns turns) (kept_list client.context)
-    pub a_client_that_verified : 1 ≤ verifications_in (either requests n k) client.context →
-        HasRead (server_turns turns) (kept_list client.context)
-
-  -- The theorem, of the ends as the play left them.
-  abbrev pub NegotiatesIfFaithful : ClientEnd (SspiContext N K) → ServerEnd (SspiContext N K) → ServerMode → List Turn → Type 0
-  NegotiatesIfFaithful client server mode turns =
-      IsFaithful (either requests n k) kept_list client server turns → AgreesOnMechanism client server mode turns
+    pub a_client_that_verified : VerifiesWhatWasSigned (either requests n k) client.context server.context →
+        1 ≤ verifications_in (either requests n k) client.context → HasRead (server_turns turns) (kept_list client.context)

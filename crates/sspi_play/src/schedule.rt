@@ -4,8 +4,8 @@ ghost use Rattle.sspi_delegate.specs.Chain.{kdc_calls};
 ghost use Rattle.sspi_delegate.specs.Headline.{IsFresh};
 ghost use Rattle.sspi_delegate.specs.History.{KdcStays, ProxyStays};
 ghost use Rattle.sspi_delegate.specs.EndRun.{client_end, server_end};
-ghost use Rattle.sspi_play.specs.Agreement.{AgreesIfFaithful};
-ghost use Rattle.sspi_play.specs.Kept.{kept_list, identity_of};
+ghost use Rattle.sspi_play.specs.Agreement.{OpensBehindTag, AgreesIfFaithful};
+ghost use Rattle.sspi_play.specs.Kept.{identity_of};
 ghost use Rattle.sspi_play.specs.Negotiated.{NegotiatesIfFaithful};
 ghost use Rattle.sspi_play.specs.Played.{both, Accounts, IsPlay};
 
@@ -47,8 +47,8 @@ pub fn play<N: Mechanism, K: Mechanism, C: CredentialsProxy, D: Kdc>(
     // Of ends that were just made.
     ensures plays { IsFresh client.old server.old transcript.old.turns → IsPlay (either N.REQUESTS N.meaning K.meaning)
         (both client.old server.old kdc.old transcript.old.turns) (both client.new server.new kdc.new transcript.new.turns) }
-    ensures agrees { IsFresh client.old server.old transcript.old.turns → AgreesIfFaithful (either N.REQUESTS N.meaning K.meaning) kept_list
-        (client_end client.new) (server_end server.new) transcript.new.turns (identity_of result) }
+    ensures agrees { IsFresh client.old server.old transcript.old.turns → OpensBehindTag (either N.REQUESTS N.meaning K.meaning) →
+        AgreesIfFaithful (client_end client.new) (server_end server.new) transcript.new.turns (identity_of result) }
     ensures negotiates { IsFresh client.old server.old transcript.old.turns → NegotiatesIfFaithful N.REQUESTS N.meaning K.meaning
         (client_end client.new) (server_end server.new) server.old.settings.mode transcript.new.turns }
     // What stays.

@@ -11,7 +11,7 @@ use Rattle.sspi_delegate.specs.Link.{MemoryLinkView}
 use Rattle.sspi_delegate.specs.Headline.{IsFresh}
 use Rattle.sspi_delegate.specs.History.{KdcStays, ProxyStays}
 use Rattle.sspi_play.specs.Agreement.{AgreesIfFaithful}
-use Rattle.sspi_play.specs.Kept.{kept_list, identity_of}
+use Rattle.sspi_play.specs.Kept.{identity_of}
 use Rattle.sspi_play.specs.Negotiated.{NegotiatesIfFaithful}
 use Rattle.sspi_play.specs.Played.{both, Accounts, IsPlay}
 use Rattle.sspi_play.specs.declared.played.Played.{Played}
@@ -46,8 +46,8 @@ pub record HasPlay (r : Record) : Type 0 where
   pub accounts : Accounts plain_meaning table_meaning (calls_of_kdc around) r.scenario.deliver
       (both client server (kdc_in r.scenario) []) answer (both r.client.value r.server.value r.kdc r.transcript.turns)
   pub plays : IsPlay plain_meaning (both client server (kdc_in r.scenario) []) (both r.client.value r.server.value r.kdc r.transcript.turns)
-  pub agrees : AgreesIfFaithful plain_meaning kept_list (client_end r.client.value) (server_end r.server.value) r.transcript.turns
-      (identity_of answer)
+  -- the plain mechanisms open what stands behind a tag, so that is no premise
+  pub agrees : AgreesIfFaithful (client_end r.client.value) (server_end r.server.value) r.transcript.turns (identity_of answer)
   pub negotiates : NegotiatesIfFaithful 0 ntlm_meaning kerberos_meaning (client_end r.client.value) (server_end r.server.value)
       server.settings.mode r.transcript.turns
   pub kdc : KdcStays told_replies kdc_faults (kdc_in r.scenario) r.kdc

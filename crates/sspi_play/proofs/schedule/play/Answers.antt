@@ -3,7 +3,6 @@ use Rattle.sspi_credssp.specs.Context.{either}
 use Rattle.sspi_delegate.specs.Chain.{kdc_calls}
 use Rattle.sspi_play.proofs.OnMechanism.{negotiates_if_faithful}
 use Rattle.sspi_play.proofs.Runs.{is_play, agrees_if_faithful}
-use Rattle.sspi_play.specs.Kept.{kept_list}
 use Rattle.sspi_play.proofs.schedule.play.Goals as goal
 
 pub returns-clause-plays : goal.returns-clause-plays
@@ -14,14 +13,14 @@ returns-clause-plays g c fresh =
     fresh.client_is fresh.server_is (c.hand_all.ensures.accounts fresh.empty)
 
 pub returns-clause-agrees : goal.returns-clause-agrees
-returns-clause-agrees g c fresh =
+returns-clause-agrees g c fresh tags =
     let m = either g.N.Mechanism.REQUESTS g.N.Mechanism.meaning g.K.Mechanism.meaning in
     let law = lawful _ _ g.N.Mechanism.meaning g.K.Mechanism.meaning g.met.N.Mechanism.laws g.met.K.Mechanism.laws in
     let accounts = c.hand_all.ensures.accounts fresh.empty in
-    agrees_if_faithful m law g.C.CredentialsProxy.meaning (kdc_calls g.D.Kdc.told g.D.Kdc.asked g.D.Kdc.faults) kept_list _ _ _
+    agrees_if_faithful m law g.C.CredentialsProxy.meaning (kdc_calls g.D.Kdc.told g.D.Kdc.asked g.D.Kdc.faults) _ _ _
     c.hand_all.result c.client_nonce-nonce.ensures.size
     (is_play m law g.C.CredentialsProxy.meaning (kdc_calls g.D.Kdc.told g.D.Kdc.asked g.D.Kdc.faults) _ _ _ c.hand_all.result
-    fresh.client_is fresh.server_is accounts) accounts
+    fresh.client_is fresh.server_is accounts) accounts tags
 
 pub returns-clause-negotiates : goal.returns-clause-negotiates
 returns-clause-negotiates g c fresh =
