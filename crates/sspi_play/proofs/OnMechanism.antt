@@ -111,13 +111,12 @@ module _ {N K : Type 0} (r q : ℕ) (n : Meaning Setting N) (k : Meaning Setting
         (server_chained (either r n k) p old.server law server_fresh new.server (server_turns new.turns) play.server_ran.others
         accounts.server_turns_are_its_calls) in
         record {
-          a_server_that_verified = λ faithful some.
-              (
-                subst (λ (l : List (List ℕ)). IsPickOf new.server.context old.server.settings.mode l) (faithful.lists some)
-                    (picked_mechanism old.server.settings.mode (server_turns new.turns) new.server.context
-                    (verified_is new.server.context some) shows),
-                offered_list (client_turns new.turns) new.client.context (signed_is new.client.context (faithful.signed some)) offers,
-              );
+          a_server_that_verified = λ faithful some. (
+            subst (λ (l : List (List ℕ)). IsPickOf new.server.context old.server.settings.mode l) (faithful.lists some)
+                (picked_mechanism old.server.settings.mode (server_turns new.turns) new.server.context
+                (verified_is new.server.context some) shows),
+            offered_list (client_turns new.turns) new.client.context (signed_is new.client.context (faithful.signed some)) offers,
+          );
           a_client_that_verified = λ faithful some.
               subst (λ (l : List (List ℕ)). HasRead (server_turns new.turns) l) (sym (faithful.lists some))
               (read_list old.server.settings.mode (server_turns new.turns) new.server.context

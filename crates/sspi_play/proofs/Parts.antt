@@ -1,5 +1,5 @@
 -- The turns of both ends among all turns, and what holds of the turns before one of them.
-use Rattle.std.proofs.Common.{◌≡◌, ℕ, Bool, true, false, List, [], ◌∷◌, ◌++◌, Option, None, Some}
+use Rattle.std.proofs.Common.{◌≡◌, ℕ, Bool, true, false, List, [], ◌∷◌, ◌++◌, None, Some}
 use Rattle.std.proofs.Common.{◌∙◌, ap, subst, refl, nat_lt, if◌then◌else◌}
 use Rattle.sspi_mech.specs.Meaning.{Meaning}
 use Rattle.sspi_credssp.specs.Context.{ContextSetting}

@@ -10,7 +10,6 @@ ghost use Rattle.sspi_play.specs.Agreement.{OpensBehindTag};
 use sspi_mech::Mechanism;
 
 /// A context over two mechanisms does, also one that negotiates, where both of them do.
-#[tactic(auto, using(crate::proofs::BehindTags::context_opens))]
 pub fn a_context_opens_as_its_mechanisms<N: Mechanism, K: Mechanism>()
     ensures { OpensBehindTag N.meaning → OpensBehindTag K.meaning → OpensBehindTag (either N.REQUESTS N.meaning K.meaning) }
 {}
