@@ -3,6 +3,7 @@ pub mod Asking
 pub mod Chained
 mod ClientOver
 mod ClientSteps
+pub mod Edits
 mod EndSteps
 mod Exactness
 mod Halves

@@ -1,6 +1,7 @@
 pub mod Chain
 pub mod Causes
 pub mod Halves
+pub mod Edits
 pub mod EndRun
 pub mod Delegates
 pub mod Log

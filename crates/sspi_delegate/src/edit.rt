@@ -1,4 +1,5 @@
-ghost use Rattle.std.specs.Prelude.{◌≡◌, IfOk, slice_set};
+ghost use Rattle.std.specs.Prelude.{◌≡◌, ℕ, List, IfOk, false, length, slice_set};
+ghost use Rattle.sspi_delegate.specs.Edits.{fails, gives_whole, is_failing};
 ghost use Rattle.sspi_delegate.specs.Link.{edited_once, edited, sent_texts, text_at};
 
 use crate::carried::Carried;
@@ -43,6 +44,22 @@ impl Edit {
             kind: self.kind.clone(alloc)?,
         })
     }
+
+    fn fails(&self, entry: usize) -> bool
+        ensures { result ≡ is_failing entry self.now }
+    {
+        self.entry as usize == entry && matches!(self.kind, EditKind::Fail)
+    }
+
+    fn gives_whole(&self, entry: usize) -> bool
+        ensures { result ≡ gives_whole entry self.now }
+    {
+        self.entry as usize == entry
+            && matches!(
+                self.kind,
+                EditKind::Drop | EditKind::Give(_) | EditKind::Again(_)
+            )
+    }
 }
 
 impl EditKind {
@@ -64,6 +81,42 @@ impl EditKind {
 
 /// What the edits of the next entry give of `sent`; `None` where one of them fails the carry.
 pub fn deliver_edited(
+    alloc: Global,
+    edits: &[Edit],
+    entries: &[Carried],
+    sent: &[u8],
+) -> Result<Option<Bytes>, AllocError>
+    ensures { IfOk result (λ text. text ≡ edited edits.now (sent_texts entries.now) sent.now) }
+{
+    if fails(edits, entries.len()) {
+        return Ok(None);
+    }
+    apply_all(alloc, since_whole(edits, entries.len()), entries, sent)
+}
+
+/// Whether one of them fails the carry of this entry.
+fn fails(edits: &[Edit], entry: usize) -> bool
+    ensures { result ≡ fails entry edits.now }
+{
+    edits.iter().any(|edit| edit.fails(entry))
+}
+
+/// The edits from the last one that gives this entry a text of its own, or all. What stands before it comes to nothing, so no text is
+/// copied for an edit that a later one replaces.
+fn since_whole(edits: &[Edit], entry: usize) -> &[Edit]
+    ensures { (earlier : List (List ℕ)) (sent : List ℕ) → length earlier ≡ entry → fails entry edits.now ≡ false →
+        edited result.now earlier sent ≡ edited edits.now earlier sent }
+{
+    let mut start = 0;
+    for (place, edit) in edits.iter().enumerate() {
+        if edit.gives_whole(entry) {
+            start = place;
+        }
+    }
+    &edits[start..]
+}
+
+fn apply_all(
     alloc: Global,
     edits: &[Edit],
     entries: &[Carried],

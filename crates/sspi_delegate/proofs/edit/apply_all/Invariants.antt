@@ -1,6 +1,6 @@
 use Rattle.std.proofs.Common.{◌≡◌, drop}
 use Rattle.sspi_delegate.specs.Link.{edited, sent_texts}
-use Rattle.sspi_delegate.proofs.edit.deliver_edited.Given as goal
+use Rattle.sspi_delegate.proofs.edit.apply_all.Given as goal
 
 abbrev pub invariant-loop-edit : goal.invariant-loop-edit
 invariant-loop-edit l =
