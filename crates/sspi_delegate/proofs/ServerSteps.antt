@@ -146,9 +146,6 @@ module _ {C : Type 0} (c : Meaning ContextSetting C) where
   checked_alone f t acts was = is_false t.acts.opened (λ opened.
       subst (λ (s : CredSspState). MayCheck s t.acts.status) (acts.opened opened).0 (acts.checked was).0)
 
-  opened_alone : (f : ServerFrame C) (t : Turn) → ShowsServerActs (server_shown f) t → t.acts.opened ≡ true → t.acts.checked ≡ false
-  opened_alone f t acts was = is_false t.acts.checked (λ checked. let s = checked_alone f t acts checked in absurd (cc (s, was)))
-
   once : (out : Outcome) (Q : Type 0) → Q → OnceRefused out Q
   once (outcome.Reply reply) Q h = tt
   once (outcome.Final reply) Q h = tt

@@ -53,10 +53,6 @@ state_nego true proved h = absurd (cc (h))
 state_nego false true h = absurd (cc (h))
 state_nego false false h = (refl, refl)
 
-where_few : (done : Bool) (texts : List (List ℕ)) → length texts ≤ 1 → length (where_done done texts) ≤ 1
-where_few true texts few = few
-where_few false texts few = omega arith
-
 proof_few : (end : _) (noted : Option ℕ) (nonce key : List ℕ) → length (proof_text end noted nonce key) ≤ 1
 proof_few end None nonce key = omega arith
 proof_few end (Some version) nonce key = omega arith
