@@ -74,7 +74,7 @@ fn same_texts(found: &[Bytes], wanted: &[&[u8]]) -> bool {
 
 #[test]
 fn edits_change_what_is_delivered(rt: HostRuntime) -> Result<(), Fail> {
-    let rows: [(&[(u32, Kind)], &[&[u8]]); 16] = [
+    let rows: [(&[(u32, Kind)], &[&[u8]]); 17] = [
         (&[], &[b"abc", b"de", b"f"]),
         (&[(7, Kind::Fail)], &[b"abc", b"de", b"f"]),
         (&[(0, Kind::Drop)], &[b"", b"de", b"f"]),
@@ -102,6 +102,16 @@ fn edits_change_what_is_delivered(rt: HostRuntime) -> Result<(), Fail> {
         (
             &[(2, Kind::Drop), (1, Kind::Drop), (2, Kind::Add(b"i"))],
             &[b"abc", b"", b"i"],
+        ),
+        (
+            &[
+                (2, Kind::Cut(0)),
+                (2, Kind::Again(0)),
+                (2, Kind::Set(0, b'x')),
+                (2, Kind::Again(1)),
+                (2, Kind::Add(b"i")),
+            ],
+            &[b"abc", b"de", b"dei"],
         ),
     ];
     for (edits, expected) in rows {
