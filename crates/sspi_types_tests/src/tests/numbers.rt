@@ -6,12 +6,19 @@ use sspi_types::{
     ErrorKind, NStatusCode, PackageCapabilities, SECBUFFER_ATTRMASK, SecurityBufferFlags,
     SecurityStatus, ServerRequestFlags, ServerResponseFlags,
 };
+use std::process::Abort;
 
-/// Numbers as the headers of the Windows SDK define them.
+/// Each number is the one that the header has under its name.
+fn are_of_the_header(rt: &impl Abort, table: &[(u32, u32, &str)]) {
+    for (number, header, name) in table {
+        assert_eq!(rt; number, header, "{name}");
+    }
+}
+
+/// The error codes of `winerror.h`.
 #[test]
-fn enums_have_the_numbers_of_the_headers(rt: HostRuntime) {
+fn kinds_have_the_numbers_of_winerror(rt: HostRuntime) {
     let table = [
-        // winerror.h
         (
             ErrorKind::InsufficientMemory.to_u32(),
             0x80090300,
@@ -62,6 +69,14 @@ fn enums_have_the_numbers_of_the_headers(rt: HostRuntime) {
             0x80090367,
             "SEC_E_APPLICATION_PROTOCOL_MISMATCH",
         ),
+    ];
+    are_of_the_header(&rt, &table);
+}
+
+/// The statuses of `winerror.h`.
+#[test]
+fn statuses_have_the_numbers_of_winerror(rt: HostRuntime) {
+    let table = [
         (
             SecurityStatus::ContinueNeeded.to_u32(),
             0x00090312,
@@ -77,7 +92,14 @@ fn enums_have_the_numbers_of_the_headers(rt: HostRuntime) {
             0x00090321,
             "SEC_I_RENEGOTIATE",
         ),
-        // sspi.h
+    ];
+    are_of_the_header(&rt, &table);
+}
+
+/// The constants of `sspi.h`.
+#[test]
+fn constants_have_the_numbers_of_sspi(rt: HostRuntime) {
+    let table = [
         (BufferType::Token.to_u32(), 2, "SECBUFFER_TOKEN"),
         (
             BufferType::ChannelBindings.to_u32(),
@@ -101,7 +123,14 @@ fn enums_have_the_numbers_of_the_headers(rt: HostRuntime) {
             "SECURITY_NATIVE_DREP",
         ),
         (CredentialUse::Outbound.to_u32(), 2, "SECPKG_CRED_OUTBOUND"),
-        // schannel.h
+    ];
+    are_of_the_header(&rt, &table);
+}
+
+/// The constants of `schannel.h` and `wincrypt.h`.
+#[test]
+fn constants_have_the_numbers_of_schannel_and_wincrypt(rt: HostRuntime) {
+    let table = [
         (
             ConnectionProtocol::SpProtTls1_2Client.to_u32(),
             0x800,
@@ -112,7 +141,6 @@ fn enums_have_the_numbers_of_the_headers(rt: HostRuntime) {
             0x1000,
             "SP_PROT_TLS1_3_SERVER",
         ),
-        // wincrypt.h
         (
             ConnectionCipher::CalgAes256.to_u32(),
             0x6610,
@@ -130,7 +158,14 @@ fn enums_have_the_numbers_of_the_headers(rt: HostRuntime) {
             1,
             "X509_ASN_ENCODING",
         ),
-        // ntstatus.h
+    ];
+    are_of_the_header(&rt, &table);
+}
+
+/// The status codes of `ntstatus.h`.
+#[test]
+fn status_codes_have_the_numbers_of_ntstatus(rt: HostRuntime) {
+    let table = [
         (
             NStatusCode::WRONG_PASSWORD.0,
             0xC000006A,
@@ -157,16 +192,13 @@ fn enums_have_the_numbers_of_the_headers(rt: HostRuntime) {
             "STATUS_CTX_LOGON_DISABLED",
         ),
     ];
-    for (number, header, name) in table {
-        assert_eq!(rt; number, header, "{name}");
-    }
+    are_of_the_header(&rt, &table);
 }
 
-/// Flags as the headers of the Windows SDK define them.
+/// The flags of `sspi.h` that a context is asked for or answers.
 #[test]
-fn flags_have_the_bits_of_the_headers(rt: HostRuntime) {
+fn context_flags_have_the_bits_of_sspi(rt: HostRuntime) {
     let table = [
-        // sspi.h
         (
             ClientRequestFlags::MUTUAL_AUTH.bits(),
             0x00000002,
@@ -207,6 +239,14 @@ fn flags_have_the_bits_of_the_headers(rt: HostRuntime) {
             0x00004000,
             "ASC_RET_THIRD_LEG_FAILED",
         ),
+    ];
+    are_of_the_header(&rt, &table);
+}
+
+/// The other flags of `sspi.h`.
+#[test]
+fn other_flags_have_the_bits_of_sspi(rt: HostRuntime) {
+    let table = [
         (
             PackageCapabilities::NEGOTIABLE.bits(),
             0x00000800,
@@ -232,7 +272,14 @@ fn flags_have_the_bits_of_the_headers(rt: HostRuntime) {
             0x10000000,
             "SECBUFFER_READONLY_WITH_CHECKSUM",
         ),
-        // wincrypt.h
+    ];
+    are_of_the_header(&rt, &table);
+}
+
+/// The flags of `wincrypt.h`.
+#[test]
+fn flags_have_the_bits_of_wincrypt(rt: HostRuntime) {
+    let table = [
         (
             CertTrustErrorStatus::IS_REVOKED.bits(),
             0x00000004,
@@ -254,9 +301,12 @@ fn flags_have_the_bits_of_the_headers(rt: HostRuntime) {
             "CERT_TRUST_IS_COMPLEX_CHAIN",
         ),
     ];
-    for (bits, header, name) in table {
-        assert_eq!(rt; bits, header, "{name}");
-    }
+    are_of_the_header(&rt, &table);
+}
+
+/// A union has the bits of both.
+#[test]
+fn a_union_has_the_bits_of_both(rt: HostRuntime) {
     let both = ClientRequestFlags::STREAM | ClientRequestFlags::DELEGATE;
     assert_eq!(rt; both.bits(), 0x00008001);
 }
