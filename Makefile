@@ -36,6 +36,6 @@ hostile:
 fuzz:
 	@tools/hostile/fuzz 100000 1
 
-# The wrong bodies that the gate does not try, each of which must be refused. They take about an hour.
+# The wrong bodies that the gate does not try, each of which must be refused. They take some hours.
 wrong-bodies:
 	@tools/wrong-bodies
