@@ -33,26 +33,28 @@ pub(crate) fn ntlm_config(alloc: Global) -> Result<NtlmConfig, AllocError> {
 
 /// The nonce is the client's own: take fresh random bytes for each.
 fn client<M: Mechanism>(alloc: Global) -> Result<CredSspClient<M, M>, Error> {
-    let mode = ClientMode::Ntlm(ntlm_config(alloc)?);
-    let target = String::from_str(alloc, "TERMSRV/host")?;
     let key = key(alloc)?;
+    let target = String::from_str(alloc, "TERMSRV/host")?;
+    let ann = ann(alloc)?;
+    let config = ntlm_config(alloc)?;
     Ok(CredSspClient::new(
         alloc,
         key,
-        Credentials::AuthIdentity(ann(alloc)?),
+        Credentials::AuthIdentity(ann),
         CredSspMode::WithCredentials,
-        mode,
+        ClientMode::Ntlm(config),
         target,
         [7; 32],
     ))
 }
 
 fn server<M: Mechanism>(alloc: Global) -> Result<CredSspServer<M, M, TableProxy>, Error> {
+    let key = key(alloc)?;
     let mut known = Vec::new(alloc);
     known.push(ann(alloc)?)?;
+    let config = ntlm_config(alloc)?;
     let proxy = TableProxy::new(alloc, known, Vec::new(alloc));
-    let mode = ServerMode::Ntlm(ntlm_config(alloc)?);
-    Ok(CredSspServer::new(alloc, key(alloc)?, proxy, mode))
+    Ok(CredSspServer::new(alloc, key, proxy, ServerMode::Ntlm(config)))
 }
 
 /// What the peer reads of a message, once its bytes went over the channel.

@@ -56,15 +56,31 @@ fn accept(server: &mut Context, input: &Bytes) -> Result<Bytes, Error> {
     Ok(step.output)
 }
 
-/// A token each way, and the client's last one. Then the server learns who its peer may be, and both have a key.
-fn authenticate(alloc: Global, client: &mut Context, server: &mut Context) -> Result<(), Error> {
-    let handle = acquire(alloc, client)?;
+/// A token each way, and the client's last one.
+fn exchange(
+    alloc: Global,
+    client: &mut Context,
+    server: &mut Context,
+    handle: &Option<CredentialsBuffers>,
+) -> Result<(), Error> {
     let mut token = Bytes::new(alloc);
     for _ in 0..2 {
-        token = initialize(client, &handle, &token)?;
+        token = initialize(client, handle, &token)?;
         token = accept(server, &token)?;
     }
+    Ok(())
+}
+
+/// The server learns who its peer may be.
+fn identify(alloc: Global, server: &mut Context) -> Result<(), Error> {
     server.custom_set_auth_identity(Credentials::AuthIdentity(ann(alloc)?))
+}
+
+/// Both have a key then.
+fn authenticate(alloc: Global, client: &mut Context, server: &mut Context) -> Result<(), Error> {
+    let handle = acquire(alloc, client)?;
+    exchange(alloc, client, server, &handle)?;
+    identify(alloc, server)
 }
 
 /// The buffers of a message: Token takes the tag, Data has the text.

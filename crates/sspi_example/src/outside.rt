@@ -124,16 +124,17 @@ fn negotiation(alloc: Global, begins_with: ProtocolConfig) -> Result<NegotiateCo
 
 /// A client that negotiates, and begins with Kerberos.
 fn client(alloc: Global) -> Result<CredSspClient<Ntlm, Kerberos>, Error> {
-    let begins_with = ProtocolConfig::Kerberos(kerberos_config(alloc)?);
-    let mode = ClientMode::Negotiate(negotiation(alloc, begins_with)?);
     let key = key(alloc)?;
     let target = String::from_str(alloc, "TERMSRV/host")?;
+    let ann = ann(alloc)?;
+    let begins_with = ProtocolConfig::Kerberos(kerberos_config(alloc)?);
+    let config = negotiation(alloc, begins_with)?;
     Ok(CredSspClient::new(
         alloc,
         key,
-        Credentials::AuthIdentity(ann(alloc)?),
+        Credentials::AuthIdentity(ann),
         CredSspMode::WithCredentials,
-        mode,
+        ClientMode::Negotiate(config),
         target,
         [7; 32],
     ))
@@ -144,10 +145,11 @@ fn server(alloc: Global) -> Result<CredSspServer<Ntlm, Kerberos, Directory>, Err
     let ticket = KerberosServerConfig {
         ticket: Some([9; 32]),
     };
+    let key = key(alloc)?;
     let begins_with = ProtocolConfig::KerberosServer(kerberos_config(alloc)?, ticket);
-    let mode = ServerMode::Negotiate(negotiation(alloc, begins_with)?);
+    let config = negotiation(alloc, begins_with)?;
     let directory = Directory { alloc, calls: 0 };
-    Ok(CredSspServer::new(alloc, key(alloc)?, directory, mode))
+    Ok(CredSspServer::new(alloc, key, directory, ServerMode::Negotiate(config)))
 }
 
 fn remote_kdc(alloc: Global) -> Result<RemoteKdc, Error> {
