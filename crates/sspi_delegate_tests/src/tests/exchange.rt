@@ -1,6 +1,6 @@
 //! Whole exchanges between two ends of plain NTLM. What they send was computed apart.
 
-use crate::tests::links::{Kind, echoing, edit};
+use crate::tests::links::{Kind, echoing, edit, given};
 use sspi_ber::WireKind;
 use sspi_credssp::{
     ClientMode, CredSspClient, CredSspServer, CredentialsProxy, ServerMode, TableProxy,
@@ -13,7 +13,7 @@ use sspi_names::{AuthIdentity, Credentials, Username};
 use sspi_tsreq::CredSspMode;
 use sspi_types::{Error, ErrorKind, NStatusCode, Secret, Text};
 use std::alloc::{AllocError, Global};
-use std::test::Fail;
+use std::process::Abort;
 
 /// The five messages of `DOM\ann` with the password `pw` and the key 010203: two tokens, two proofs and the credentials.
 fn plain_messages() -> [&'static str; 5] {
@@ -107,24 +107,27 @@ fn key(alloc: Global, (first, end): (usize, usize)) -> Result<Vec<u8>, AllocErro
     Ok(bytes)
 }
 
-fn identity(alloc: Global, setting: &Setting) -> Result<AuthIdentity, Fail> {
+fn identity(alloc: Global, setting: &Setting) -> Result<AuthIdentity, Error> {
     let (user, count) = setting.user;
     let name = repeated(alloc, user, count)?;
-    let username = Username::parse(alloc, name.as_str()).ok().ok_or("a name")?;
+    let username = Username::parse(alloc, name.as_str())?;
     let password = Secret::from(Text::from_text(alloc, "pw")?);
     Ok(AuthIdentity { username, password })
 }
 
-fn client_of(alloc: Global, setting: &Setting) -> Result<CredSspClient<Ntlm, Ntlm>, Fail> {
+fn client_of(alloc: Global, setting: &Setting) -> Result<CredSspClient<Ntlm, Ntlm>, Error> {
+    let key = key(alloc, setting.key)?;
+    let target = repeated(alloc, "TERMSRV/host.example.com", 1)?;
+    let identity = identity(alloc, setting)?;
     let config = NtlmConfig::new(Text::from_text(alloc, "CLIENT")?);
     let client = CredSspClient::new_with_version(
         alloc,
-        key(alloc, setting.key)?,
-        Credentials::AuthIdentity(identity(alloc, setting)?),
+        key,
+        Credentials::AuthIdentity(identity),
         CredSspMode::WithCredentials,
         setting.versions.0,
         ClientMode::Ntlm(config),
-        repeated(alloc, "TERMSRV/host.example.com", 1)?,
+        target,
         [0; 32],
     );
     Ok(client.with_least_version(setting.least))
@@ -134,13 +137,14 @@ fn client_of(alloc: Global, setting: &Setting) -> Result<CredSspClient<Ntlm, Ntl
 fn server_of(
     alloc: Global,
     setting: &Setting,
-) -> Result<CredSspServer<Ntlm, Ntlm, TableProxy>, Fail> {
+) -> Result<CredSspServer<Ntlm, Ntlm, TableProxy>, Error> {
+    let key = key(alloc, setting.key)?;
     let config = NtlmConfig::new(Text::from_text(alloc, "SERVER")?);
     let mut known = Vec::new(alloc);
     known.push(identity(alloc, setting)?)?;
     let server = CredSspServer::new_with_version(
         alloc,
-        key(alloc, setting.key)?,
+        key,
         TableProxy::new(alloc, known, Vec::new(alloc)),
         setting.versions.1,
         ServerMode::Ntlm(config),
@@ -159,10 +163,10 @@ fn memory_link(alloc: Global, setting: &Setting) -> Result<MemoryLink, AllocErro
 }
 
 /// Both, where there are both. Generic, since to drop a value of a type parameter is one step.
-fn both<A: Drop, B>(first: A, second: Result<B, Fail>) -> Result<(A, B), Fail> {
+fn both<A: Drop, B>(first: A, second: Result<B, Error>) -> Result<(A, B), Error> {
     match second {
         Ok(second) => Ok((first, second)),
-        Err(fail) => Err(fail),
+        Err(error) => Err(error),
     }
 }
 
@@ -198,7 +202,7 @@ fn between<A: Drop, B: Drop, R, F: FnOnce(&mut A, &mut B) -> R>(first: A, second
     act(&mut first, &mut second)
 }
 
-fn exchange<L: Link>(alloc: Global, setting: &Setting, link: &mut L) -> Result<Exchanged, Fail> {
+fn exchange<L: Link>(alloc: Global, setting: &Setting, link: &mut L) -> Result<Exchanged, Error> {
     let (client, server) = both(client_of(alloc, setting)?, server_of(alloc, setting))?;
     Ok(between(client, server, |client, server| {
         carry(alloc, client, server, link, setting.turns)
@@ -274,7 +278,7 @@ fn is_whole(entry: &Carried) -> bool {
     entry.ended && entry.delivered.as_slice() == entry.sent.as_slice()
 }
 
-fn assert_log(rt: &impl std::process::Abort, log: &[Carried], sent: &[&str], delivered: usize) {
+fn assert_log(rt: &impl Abort, log: &[Carried], sent: &[&str], delivered: usize) {
     assert!(rt; is_log(log, sent));
     if let Some(last) = log.last() {
         assert_eq!(rt; last.delivered.len(), delivered);
@@ -383,44 +387,42 @@ fn error_code() -> Kind {
 }
 
 #[test]
-fn exchanges_over_edited_links(rt: HostRuntime) -> Result<(), Fail> {
+fn exchanges_over_edited_links(rt: HostRuntime) {
     let messages = plain_messages();
     for row in rows() {
-        let mut link = memory_link(rt.alloc(), &row.setting)?;
-        let exchanged = exchange(rt.alloc(), &row.setting, &mut link)?;
+        let mut link = given(&rt, memory_link(rt.alloc(), &row.setting));
+        let exchanged = given(&rt, exchange(rt.alloc(), &row.setting, &mut link));
         assert!(rt; is_wanted(&exchanged.answer, row.wanted));
         assert_eq!(rt; exchanged.turns, row.turns);
-        let sent = messages.get(..row.sent).ok_or("messages")?;
+        let sent = messages.get(..row.sent).unwrap_or(&[]);
         assert_log(&rt, link.log(), sent, row.delivered);
     }
-    Ok(())
 }
 
 #[test]
-fn an_altered_proof_is_told_to_the_client(rt: HostRuntime) -> Result<(), Fail> {
+fn an_altered_proof_is_told_to_the_client(rt: HostRuntime) {
     let setting = Setting {
         key: (0, 270),
         versions: (4, 6),
         least: 4,
         ..USUAL
     };
-    let mut link = memory_link(rt.alloc(), &setting)?;
-    let exchanged = exchange(rt.alloc(), &setting, &mut link)?;
+    let mut link = given(&rt, memory_link(rt.alloc(), &setting));
+    let exchanged = given(&rt, exchange(rt.alloc(), &setting, &mut link));
     let wanted = Wanted::Server(ErrorKind::MessageAltered);
     assert!(rt; is_wanted(&exchanged.answer, wanted));
     assert_log(&rt, link.log(), &mixed_messages(), 0);
-    Ok(())
 }
 
 /// The server tells its client that its version is too old, and the client's own least version is not asked.
 #[test]
-fn an_old_client_is_told_so(rt: HostRuntime) -> Result<(), Fail> {
+fn an_old_client_is_told_so(rt: HostRuntime) {
     let setting = Setting {
         versions: (4, 6),
         ..USUAL
     };
-    let mut link = memory_link(rt.alloc(), &setting)?;
-    let exchanged = exchange(rt.alloc(), &setting, &mut link)?;
+    let mut link = given(&rt, memory_link(rt.alloc(), &setting));
+    let exchanged = given(&rt, exchange(rt.alloc(), &setting, &mut link));
     let wanted = Wanted::Server(ErrorKind::DowngradeDetected);
     assert!(rt; is_wanted(&exchanged.answer, wanted));
     let messages = [
@@ -428,30 +430,27 @@ fn an_old_client_is_told_so(rt: HostRuntime) -> Result<(), Fail> {
         "300da003020104a4060204c0070350",
     ];
     assert_log(&rt, link.log(), &messages, 0);
-    Ok(())
 }
 
 #[test]
-fn exchange_over_a_carrier(rt: HostRuntime) -> Result<(), Fail> {
+fn exchange_over_a_carrier(rt: HostRuntime) {
     let mut link = KeptLink::new(rt.alloc(), echoing(rt.alloc(), Some(5), None));
-    let exchanged = exchange(rt.alloc(), &USUAL, &mut link)?;
+    let exchanged = given(&rt, exchange(rt.alloc(), &USUAL, &mut link));
     assert!(rt; is_wanted(&exchanged.answer, Wanted::Credentials(3)));
     assert_log(&rt, link.log(), &plain_messages(), 104);
     assert!(rt; link.log().iter().all(|entry| is_whole(entry)));
-    Ok(())
 }
 
 /// The second message is not sent, or nothing of the first one is received: a call that is tried again would succeed.
 #[test]
-fn a_fault_of_the_carrier_ends_the_exchange(rt: HostRuntime) -> Result<(), Fail> {
+fn a_fault_of_the_carrier_ends_the_exchange(rt: HostRuntime) {
     for (sends_left, receives_left, turns) in [(Some(1), None, 2), (None, Some(0), 1)] {
         let carrier = echoing(rt.alloc(), sends_left, receives_left);
         let mut link = KeptLink::new(rt.alloc(), carrier);
-        let exchanged = exchange(rt.alloc(), &USUAL, &mut link)?;
+        let exchanged = given(&rt, exchange(rt.alloc(), &USUAL, &mut link));
         let wanted = Wanted::Other(DelegateError::LinkFault);
         assert!(rt; is_wanted(&exchanged.answer, wanted));
         assert_eq!(rt; exchanged.turns, turns);
         assert_eq!(rt; link.log().len(), 1);
     }
-    Ok(())
 }

@@ -3,7 +3,15 @@
 use sspi_delegate::{Carried, Carrier, Edit, EditKind, End, KeptLink, Link, LinkError, MemoryLink};
 use sspi_types::Bytes;
 use std::alloc::{AllocError, Global};
-use std::test::Fail;
+use std::process::Abort;
+
+/// What was made. Generic, since to drop a value of a type parameter is one step.
+pub fn given<T, E: Drop>(rt: &impl Abort, made: Result<T, E>) -> T {
+    match made {
+        Ok(value) => value,
+        Err(_) => rt.abort(),
+    }
+}
 
 /// An edit whose bytes are borrowed.
 #[derive(Clone, Copy)]
@@ -73,7 +81,7 @@ fn same_texts(found: &[Bytes], wanted: &[&[u8]]) -> bool {
 }
 
 #[test]
-fn edits_change_what_is_delivered(rt: HostRuntime) -> Result<(), Fail> {
+fn edits_change_what_is_delivered(rt: HostRuntime) {
     let rows: [(&[(u32, Kind)], &[&[u8]]); 17] = [
         (&[], &[b"abc", b"de", b"f"]),
         (&[(7, Kind::Fail)], &[b"abc", b"de", b"f"]),
@@ -115,10 +123,9 @@ fn edits_change_what_is_delivered(rt: HostRuntime) -> Result<(), Fail> {
         ),
     ];
     for (edits, expected) in rows {
-        let delivered = deliveries(rt.alloc(), edits).ok().ok_or("delivered")?;
+        let delivered = given(&rt, deliveries(rt.alloc(), edits));
         assert!(rt; same_texts(&delivered, expected));
     }
-    Ok(())
 }
 
 /// The lengths of the pieces in which `abc` comes where four bytes are asked for at once.
@@ -147,16 +154,21 @@ fn pieces_are_limited(rt: HostRuntime) {
     }
 }
 
+fn has_failed(rt: &impl Abort, answer: Result<Vec<Bytes>, LinkError>) {
+    match answer {
+        Ok(_) => assert!(rt; false),
+        Err(error) => assert_eq!(rt; error, LinkError::Failed),
+    }
+}
+
 #[test]
-fn an_edit_fails_the_carry(rt: HostRuntime) -> Result<(), Fail> {
+fn an_edit_fails_the_carry(rt: HostRuntime) {
     for edits in [
         [(0, Kind::Fail), (0, Kind::Drop)],
         [(2, Kind::Give(b"x")), (2, Kind::Fail)],
     ] {
-        let refused = deliveries(rt.alloc(), &edits).err().ok_or("refused")?;
-        assert_eq!(rt; refused, LinkError::Failed);
+        has_failed(&rt, deliveries(rt.alloc(), &edits));
     }
-    Ok(())
 }
 
 /// Hands back what it was sent.
@@ -222,7 +234,7 @@ impl Carrier for Echo {
     }
 }
 
-fn assert_entry(rt: &impl std::process::Abort, entry: &Carried, from: End, text: &[u8]) {
+fn assert_entry(rt: &impl Abort, entry: &Carried, from: End, text: &[u8]) {
     assert_eq!(rt; entry.from, from);
     assert_eq!(rt; entry.sent.as_slice(), text);
     assert_eq!(rt; entry.delivered.as_slice(), text);
@@ -230,20 +242,25 @@ fn assert_entry(rt: &impl std::process::Abort, entry: &Carried, from: End, text:
 }
 
 #[test]
-fn kept_link_keeps_the_log(rt: HostRuntime) -> Result<(), Fail> {
+fn kept_link_keeps_the_log(rt: HostRuntime) {
     let mut link = KeptLink::new(rt.alloc(), echoing(rt.alloc(), Some(2), None));
     assert_eq!(rt; link.piece(&mut [0u8; 4]), Ok(0));
     for (from, text) in [(End::Client, b"abc"), (End::Server, b"def")] {
         assert_eq!(rt; link.carry(from, text), Ok(()));
-        let delivered = read_to_end(rt.alloc(), &mut link).ok().ok_or("read")?;
+        let delivered = given(&rt, read_to_end(rt.alloc(), &mut link));
         assert_eq!(rt; delivered.as_slice(), text.as_slice());
         assert_eq!(rt; link.piece(&mut [0u8; 4]), Ok(0));
     }
     assert_eq!(rt; link.carry(End::Client, b"g"), Err(LinkError::Failed));
-    let [first, second] = link.log() else {
-        return Err(Fail::from("two entries"));
-    };
-    assert_entry(&rt, first, End::Client, b"abc");
-    assert_entry(&rt, second, End::Server, b"def");
-    Ok(())
+    has_two_entries(&rt, link.log());
+}
+
+fn has_two_entries(rt: &impl Abort, log: &[Carried]) {
+    match log {
+        [first, second] => {
+            assert_entry(rt, first, End::Client, b"abc");
+            assert_entry(rt, second, End::Server, b"def");
+        }
+        _ => assert!(rt; false),
+    }
 }
