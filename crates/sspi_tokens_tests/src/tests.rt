@@ -1,8 +1,9 @@
+use crate::tests::checks::{given, holds, is, refusal};
 use sspi_tokens::{NegTokenInit, NegTokenTarg};
 use sspi_types::{Bytes, Error, ErrorKind, Reason};
-use std::alloc::{AllocError, Global};
 use std::process::Abort;
 
+mod checks;
 mod fields;
 mod identifiers;
 mod lenient;
@@ -42,53 +43,39 @@ const SMB_HINTS: [u8; 96] = [
     0x37, 0x38, 0x40, 0x70, 0x6c, 0x65, 0x61, 0x73, 0x65, 0x5f, 0x69, 0x67, 0x6e, 0x6f, 0x72, 0x65,
 ];
 
-/// What the test stands on could not be made.
-fn unmade(rt: &impl Abort) {
-    assert!(rt; false, "want of memory, or a text of digits that is none");
-}
-
 fn is_spelled(rt: &impl Abort, encoded: Result<Vec<u8>, Error>, text: &[u8]) {
-    match encoded {
-        Ok(bytes) => assert!(rt; bytes.as_slice() == text),
-        Err(_) => unmade(rt),
-    }
+    let bytes = given(rt, encoded);
+    holds(rt, bytes.as_slice() == text, "spelled otherwise");
 }
 
 fn is_too_long(rt: &impl Abort, encoded: Result<Vec<u8>, Error>) {
-    match encoded {
-        Ok(_) => assert!(rt; false, "spelled"),
-        Err(error) => {
-            assert_eq!(rt; error.error_type, ErrorKind::InternalError);
-            assert_eq!(rt; error.description, Reason::TooLong);
-            assert!(rt; error.nstatus.is_none());
-        }
-    }
+    holds(rt, encoded.is_err(), "spelled");
+    let error = refusal(rt, encoded);
+    is_codeless(rt, &error, ErrorKind::InternalError, Reason::TooLong);
 }
 
-fn is_malformed(rt: &impl Abort, error: &Error) {
-    assert_eq!(rt; error.error_type, ErrorKind::InvalidToken);
-    assert_eq!(rt; error.description, Reason::TokenForm);
-    assert!(rt; error.nstatus.is_none());
-}
-
-fn octets(alloc: Global, content: &[u8]) -> Result<Option<Bytes>, AllocError> {
-    Ok(Some(Bytes::from_slice(alloc, content)?))
+/// The error is of this kind and for this reason, without a code.
+fn is_codeless(rt: &impl Abort, error: &Error, kind: ErrorKind, reason: Reason) {
+    is(rt, error.error_type, kind);
+    is(rt, error.description, reason);
+    holds(rt, error.nstatus.is_none(), "an error with a code");
 }
 
 fn same(rt: &impl Abort, found: &Option<Bytes>, wanted: Option<&[u8]>) {
-    match found {
-        None => assert!(rt; wanted.is_none()),
-        Some(found) => assert!(rt; wanted == Some(found.as_slice())),
-    }
+    let is_same = match found {
+        None => wanted.is_none(),
+        Some(found) => wanted == Some(found.as_slice()),
+    };
+    holds(rt, is_same, "other octets");
 }
 
 fn lists(rt: &impl Abort, token: &NegTokenInit, oids: &[&[u8]]) {
     match &token.mech_types {
-        None => assert!(rt; oids.is_empty()),
+        None => holds(rt, oids.is_empty(), "no list"),
         Some(list) => {
-            assert_eq!(rt; list.as_slice().len(), oids.len());
+            is(rt, list.as_slice().len(), oids.len());
             for (oid, wanted) in list.as_slice().iter().zip(oids) {
-                assert!(rt; oid.content() == *wanted);
+                holds(rt, oid.content() == *wanted, "another identifier");
             }
         }
     }

@@ -1,3 +1,4 @@
+use crate::tests::checks::{holds, is};
 use sspi_ber::{
     Sink, SinkError, Source, SourceError, StdSink, StdSource, WireKind, read_integer, read_length,
     write_integer, write_octet_string,
@@ -43,7 +44,7 @@ fn flaky(text: &[u8], failing: usize) -> StdSource<FlakyReader<'_>> {
 }
 
 fn reads(rt: &impl Abort, read: Result<u64, WireKind>, expected: Result<u64, WireKind>) {
-    assert_eq!(rt; read, expected);
+    is(rt, read, expected);
 }
 
 // A reader that fails before the first byte, inside an element, and where nothing is left: no failure is an end.
@@ -55,7 +56,7 @@ fn a_reader_that_fails(rt: HostRuntime) {
     reads(&rt, read_integer(&mut first), Ok(42));
     let mut inside = flaky(&text, 2);
     reads(&rt, read_integer(&mut inside), Err(WireKind::ReadFault));
-    assert_eq!(rt; read_length(&mut inside), Ok(42));
+    is(&rt, read_length(&mut inside), Ok(42));
     let mut behind = flaky(&text, 3);
     reads(&rt, read_integer(&mut behind), Ok(42));
     reads(&rt, read_integer(&mut behind), Err(WireKind::ReadFault));
@@ -67,11 +68,11 @@ fn a_reader_that_fails(rt: HostRuntime) {
 fn a_source_over_a_reader_that_fails(rt: HostRuntime) {
     let mut source = flaky(&[7, 9], 1);
     let mut into = [0; 4];
-    assert_eq!(rt; source.read(&mut into), Ok(1));
-    assert_eq!(rt; source.read(&mut into), Err(SourceError::Failed));
-    assert_eq!(rt; source.next_byte(), Ok(Some(9)));
-    assert_eq!(rt; source.next_byte(), Ok(None));
-    assert_eq!(rt; source.read(&mut into), Ok(0));
+    is(&rt, source.read(&mut into), Ok(1));
+    is(&rt, source.read(&mut into), Err(SourceError::Failed));
+    is(&rt, source.next_byte(), Ok(Some(9)));
+    is(&rt, source.next_byte(), Ok(None));
+    is(&rt, source.read(&mut into), Ok(0));
 }
 
 /// Takes so many bytes a call, fails at one call, and keeps what it took.
@@ -110,11 +111,11 @@ fn choppy(alloc: Global, most: usize, failing: usize) -> ChoppyWriter {
 }
 
 fn took(rt: &impl Abort, writer: &ChoppyWriter, expected: &[u8]) {
-    assert!(rt; writer.taken.as_slice() == expected);
+    holds(rt, writer.taken.as_slice() == expected, "it took others");
 }
 
 fn wrote(rt: &impl Abort, size: Result<usize, WireKind>, expected: Result<usize, WireKind>) {
-    assert_eq!(rt; size, expected);
+    is(rt, size, expected);
 }
 
 const HELLO: [u8; 7] = [0x04, 0x05, 0x68, 0x65, 0x6c, 0x6c, 0x6f];
@@ -129,7 +130,7 @@ fn a_writer_that_takes_one_byte(rt: HostRuntime) {
         Ok(7),
     );
     took(&rt, &writer, &HELLO);
-    assert_eq!(rt; writer.calls, 7);
+    is(&rt, writer.calls, 7);
 }
 
 // So does one that takes more, whatever its pieces.
@@ -154,12 +155,13 @@ fn a_writer_that_takes_nothing(rt: HostRuntime) {
         Err(WireKind::WriteFault),
     );
     took(&rt, &writer, &[]);
-    assert_eq!(rt; writer.calls, 1);
-    assert_eq!(rt;
+    is(&rt, writer.calls, 1);
+    is(
+        &rt,
         StdSink::new(&mut writer).write(&[1]),
-        Err(SinkError::Failed)
+        Err(SinkError::Failed),
     );
-    assert_eq!(rt; StdSink::new(&mut writer).write(&[]), Ok(0));
+    is(&rt, StdSink::new(&mut writer).write(&[]), Ok(0));
 }
 
 // A writer that fails inside an element: what it took is a front of the element.
@@ -188,5 +190,9 @@ fn readers_and_writers_of_std(rt: HostRuntime) {
     reads(&rt, read_integer(&mut source), Err(WireKind::UnexpectedEof));
     let mut bytes = Vec::new(rt.alloc());
     wrote(&rt, write_integer(&mut StdSink::new(&mut bytes), 42), Ok(3));
-    assert!(rt; bytes.as_slice() == [0x02, 0x01, 0x2a].as_slice());
+    holds(
+        &rt,
+        bytes.as_slice() == [0x02, 0x01, 0x2a].as_slice(),
+        "another text",
+    );
 }

@@ -1,3 +1,4 @@
+use crate::tests::checks::{holds, is};
 use sspi_ber::{
     Pc, SliceSource, Tag, VecSink, WireKind, read_contextual_tag, read_contextual_tag_or_absent,
     read_octet_string_tag, read_sequence_tag, write_contextual_tag, write_octet_string,
@@ -13,7 +14,7 @@ const ELEMENTS: [u8; 26] = [
 ];
 
 fn wrote(rt: &impl Abort, size: Result<usize, WireKind>, expected: usize) {
-    assert_eq!(rt; size, Ok(expected));
+    is(rt, size, Ok(expected));
 }
 
 // Of a tag's number the low five bits count.
@@ -39,15 +40,15 @@ fn elements_are_written(rt: HostRuntime) {
         write_contextual_tag(&mut sink, 0x21, 0, Pc::Construct),
         2,
     );
-    assert!(rt; sink.written() == ELEMENTS.as_slice());
+    holds(&rt, sink.written() == ELEMENTS.as_slice(), "other elements");
 }
 
 fn read(rt: &impl Abort, len: Result<u32, WireKind>, expected: Result<u32, WireKind>) {
-    assert_eq!(rt; len, expected);
+    is(rt, len, expected);
 }
 
 fn read_or_absent(rt: &impl Abort, len: Result<Option<u32>, WireKind>, expected: Option<u32>) {
-    assert_eq!(rt; len, Ok(expected));
+    is(rt, len, Ok(expected));
 }
 
 #[test]
@@ -70,7 +71,7 @@ fn elements_are_read(rt: HostRuntime) {
         Some(7),
     );
     read(&rt, read_octet_string_tag(&mut source), Ok(5));
-    assert_eq!(rt; source.take(6).map(|bytes| bytes.len()), Ok(6));
+    is(&rt, source.take(6).map(|bytes| bytes.len()), Ok(6));
     read(&rt, read_octet_string_tag(&mut source), Ok(2));
     read(
         &rt,

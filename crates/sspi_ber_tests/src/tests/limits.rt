@@ -1,3 +1,4 @@
+use crate::tests::checks::{gives, halves, holds, is};
 use sspi_ber::{
     VecSink, WireKind, sizeof_contextual_tag, sizeof_octet_string, sizeof_sequence,
     sizeof_sequence_octet_string, sizeof_sequence_tag, write_octet_string_tag,
@@ -28,30 +29,22 @@ const SIZES: &str = "\
 #[test]
 fn sizes_of_elements(rt: HostRuntime) {
     for line in SIZES.lines() {
-        match line.split_once(' ') {
-            None => assert!(rt; false, "{line}"),
-            Some((len, sizes)) => match sizes.split_once(' ') {
-                None => assert!(rt; false, "{line}"),
-                Some((size, nested)) => has_sizes(
-                    &rt,
-                    number(len),
-                    expected(size),
-                    expected(nested),
-                ),
-            },
-        }
+        has_sizes(&rt, line);
     }
 }
 
-fn has_sizes(
-    rt: &impl Abort,
-    len: usize,
-    size: Result<usize, WireKind>,
-    nested: Result<usize, WireKind>,
-) {
-    is(rt, sizeof_sequence(len), size);
-    is(rt, sizeof_octet_string(len), size);
-    is(rt, sizeof_sequence_octet_string(len), nested);
+fn has_sizes(rt: &impl Abort, line: &str) {
+    let (len, sizes) = halves(rt, line);
+    let (size, nested) = halves(rt, sizes);
+    let len = number(len);
+    gives(rt, line, sizeof_sequence(len), expected(size));
+    gives(rt, line, sizeof_octet_string(len), expected(size));
+    gives(
+        rt,
+        line,
+        sizeof_sequence_octet_string(len),
+        expected(nested),
+    );
 }
 
 fn expected(text: &str) -> Result<usize, WireKind> {
@@ -79,12 +72,8 @@ fn headers_at_the_limit(rt: HostRuntime) {
     writes_nothing(&rt, rt.alloc(), 1048577);
 }
 
-fn is(rt: &impl Abort, size: Result<usize, WireKind>, expected: Result<usize, WireKind>) {
-    assert_eq!(rt; size, expected);
-}
-
 fn writes_nothing(rt: &impl Abort, alloc: Global, len: usize) {
     let mut sink = VecSink::new(alloc);
     is(rt, write_octet_string_tag(&mut sink, len), TOO_LONG);
-    assert_eq!(rt; sink.written().len(), 0);
+    holds(rt, sink.written().is_empty(), "a byte is written");
 }

@@ -1,3 +1,4 @@
+use crate::tests::checks::{given, gives, halves, holds};
 use sspi_ber::{
     SliceSource, VecSink, WireKind, read_integer, read_length, read_sequence_tag, sizeof_integer,
     sizeof_length, write_integer, write_length, write_sequence_tag,
@@ -77,29 +78,23 @@ fn spellings_are_written_and_read(rt: HostRuntime) {
 }
 
 fn try_line(rt: &impl Abort, alloc: Global, line: &str) {
-    match line.split_once(' ') {
-        None => assert!(rt; false, "{line}"),
-        Some((verb, rest)) => match rest.split_once(' ') {
-            None => assert!(rt; false, "{line}"),
-            Some((value, digits)) => try_digits(rt, alloc, verb, value, digits),
-        },
-    }
+    let (verb, rest) = halves(rt, line);
+    let (value, digits) = halves(rt, rest);
+    let digits = if digits == "." { "" } else { digits };
+    let bytes = given(rt, hex::decode(alloc, digits));
+    try_bytes(rt, alloc, line, verb, value, &bytes);
 }
 
-fn try_digits(rt: &impl Abort, alloc: Global, verb: &str, value: &str, digits: &str) {
-    let digits = if digits == "." { "" } else { digits };
-    match hex::decode(alloc, digits) {
-        Err(_) => assert!(rt; false, "{digits}"),
-        Ok(bytes) => match verb {
-            "length" => spells_length(rt, alloc, number(value) as usize, &bytes),
-            "sequence" => spells_sequence(rt, alloc, number32(value), &bytes),
-            "long-length" => reads_length(rt, number(value), &bytes),
-            "bad-length" => refuses_length(rt, kind(value), &bytes),
-            "integer" => spells_integer(rt, alloc, number32(value), &bytes),
-            "long-integer" => reads_integer(rt, number(value), &bytes),
-            "bad-integer" => refuses_integer(rt, kind(value), &bytes),
-            _ => assert!(rt; false, "{verb}"),
-        },
+fn try_bytes(rt: &impl Abort, alloc: Global, line: &str, verb: &str, value: &str, bytes: &[u8]) {
+    match verb {
+        "length" => spells_length(rt, alloc, line, number(value) as usize, bytes),
+        "sequence" => spells_sequence(rt, alloc, line, number32(value), bytes),
+        "long-length" => reads_length(rt, line, number(value), bytes),
+        "bad-length" => refuses_length(rt, line, kind(value), bytes),
+        "integer" => spells_integer(rt, alloc, line, number32(value), bytes),
+        "long-integer" => reads_integer(rt, line, number(value), bytes),
+        "bad-integer" => refuses_integer(rt, line, kind(value), bytes),
+        _ => holds(rt, false, line),
     }
 }
 
@@ -119,71 +114,49 @@ fn kind(text: &str) -> WireKind {
     }
 }
 
-fn spells_length(rt: &impl Abort, alloc: Global, len: usize, spelled: &[u8]) {
+fn spells_length(rt: &impl Abort, alloc: Global, line: &str, len: usize, spelled: &[u8]) {
     let mut sink = VecSink::new(alloc);
-    assert_eq!(rt; write_length(&mut sink, len), Ok(spelled.len()), "{len}");
-    assert!(rt; sink.written() == spelled, "{len}");
-    assert_eq!(rt; sizeof_length(len), Ok(spelled.len()), "{len}");
-    reads_length(rt, len as u64, spelled);
+    gives(rt, line, write_length(&mut sink, len), Ok(spelled.len()));
+    holds(rt, sink.written() == spelled, line);
+    gives(rt, line, sizeof_length(len), Ok(spelled.len()));
+    reads_length(rt, line, len as u64, spelled);
 }
 
-fn reads_length(rt: &impl Abort, len: u64, bytes: &[u8]) {
+fn reads_length(rt: &impl Abort, line: &str, len: u64, bytes: &[u8]) {
     let mut source = SliceSource::new(bytes);
-    assert_eq!(rt;
-        read_length(&mut source).map(|read| u64::from(read)),
-        Ok(len),
-        "{len}"
-    );
-    assert_eq!(rt; source.rest().len(), 0, "{len}");
+    let read = read_length(&mut source);
+    gives(rt, line, read.map(|read| u64::from(read)), Ok(len));
+    holds(rt, source.rest().is_empty(), line);
 }
 
-fn spells_sequence(rt: &impl Abort, alloc: Global, len: u32, spelled: &[u8]) {
+fn spells_sequence(rt: &impl Abort, alloc: Global, line: &str, len: u32, spelled: &[u8]) {
     let mut sink = VecSink::new(alloc);
-    assert_eq!(rt;
-        write_sequence_tag(&mut sink, len as usize),
-        Ok(spelled.len()),
-        "{len}"
-    );
-    assert!(rt; sink.written() == spelled, "{len}");
-    assert_eq!(rt;
-        read_sequence_tag(&mut SliceSource::new(spelled)),
-        Ok(len),
-        "{len}"
-    );
+    let size = write_sequence_tag(&mut sink, len as usize);
+    gives(rt, line, size, Ok(spelled.len()));
+    holds(rt, sink.written() == spelled, line);
+    let mut source = SliceSource::new(spelled);
+    gives(rt, line, read_sequence_tag(&mut source), Ok(len));
 }
 
-fn refuses_length(rt: &impl Abort, kind: WireKind, bytes: &[u8]) {
-    assert_eq!(rt;
-        read_length(&mut SliceSource::new(bytes)),
-        Err(kind),
-        "{bytes:?}"
-    );
+fn refuses_length(rt: &impl Abort, line: &str, kind: WireKind, bytes: &[u8]) {
+    let mut source = SliceSource::new(bytes);
+    gives(rt, line, read_length(&mut source), Err(kind));
 }
 
-fn spells_integer(rt: &impl Abort, alloc: Global, value: u32, spelled: &[u8]) {
+fn spells_integer(rt: &impl Abort, alloc: Global, line: &str, value: u32, spelled: &[u8]) {
     let mut sink = VecSink::new(alloc);
-    assert_eq!(rt;
-        write_integer(&mut sink, value),
-        Ok(spelled.len()),
-        "{value}"
-    );
-    assert!(rt; sink.written() == spelled, "{value}");
-    assert_eq!(rt; sizeof_integer(value), spelled.len(), "{value}");
-    reads_integer(rt, u64::from(value), spelled);
+    gives(rt, line, write_integer(&mut sink, value), Ok(spelled.len()));
+    holds(rt, sink.written() == spelled, line);
+    gives(rt, line, sizeof_integer(value), spelled.len());
+    reads_integer(rt, line, u64::from(value), spelled);
 }
 
-fn reads_integer(rt: &impl Abort, value: u64, bytes: &[u8]) {
-    assert_eq!(rt;
-        read_integer(&mut SliceSource::new(bytes)),
-        Ok(value),
-        "{value}"
-    );
+fn reads_integer(rt: &impl Abort, line: &str, value: u64, bytes: &[u8]) {
+    let mut source = SliceSource::new(bytes);
+    gives(rt, line, read_integer(&mut source), Ok(value));
 }
 
-fn refuses_integer(rt: &impl Abort, kind: WireKind, bytes: &[u8]) {
-    assert_eq!(rt;
-        read_integer(&mut SliceSource::new(bytes)),
-        Err(kind),
-        "{bytes:?}"
-    );
+fn refuses_integer(rt: &impl Abort, line: &str, kind: WireKind, bytes: &[u8]) {
+    let mut source = SliceSource::new(bytes);
+    gives(rt, line, read_integer(&mut source), Err(kind));
 }

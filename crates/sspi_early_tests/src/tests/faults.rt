@@ -1,7 +1,7 @@
 //! Policies and links that fail.
 
-use crate::tests::words::{answer, identity, same, unmade};
-use sspi_delegate::{Carrier, End, KeptLink, LinkError, MemoryLink};
+use crate::tests::words::{answered, identity, unmade};
+use sspi_delegate::{Carried, Carrier, End, KeptLink, LinkError, MemoryLink};
 use sspi_early::{FailingPolicy, ListPolicy, Policy, PolicyError, authorize};
 use sspi_names::AuthIdentity;
 use std::alloc::Global;
@@ -54,9 +54,14 @@ fn over_failing(rt: &impl Abort, alloc: Global, identity: &AuthIdentity, from: u
     let mut link = KeptLink::new(alloc, carrier);
     let mut policy = ListPolicy::new(alloc, Vec::new(alloc));
     let found = authorize(&mut link, &mut policy, identity);
-    match (answer(words), link.log()) {
-        (Some(wanted), [entry]) => {
-            assert!(rt; same(&found, &wanted));
+    answered(rt, &found, words);
+    is_carried(rt, link.log(), from);
+}
+
+/// The one entry is a refusal, of which so many bytes were delivered, all four at most.
+fn is_carried(rt: &impl Abort, log: &[Carried], from: u64) {
+    match log {
+        [entry] => {
             assert_eq!(rt; entry.sent.as_slice(), [5, 0, 0, 0].as_slice());
             assert_eq!(rt; entry.delivered.len() as u64, from.min(4));
             assert!(rt; !entry.ended);
@@ -68,38 +73,37 @@ fn over_failing(rt: &impl Abort, alloc: Global, identity: &AuthIdentity, from: u
 #[test]
 fn a_delivery_that_fails_is_a_fault_of_the_link(rt: HostRuntime) {
     let alloc = rt.alloc();
-    match identity(alloc, "DOM\\ann") {
-        Some(identity) => {
-            for from in [0, 1, 2, 3] {
-                over_failing(&rt, alloc, &identity, from, "link");
-            }
-            over_failing(&rt, alloc, &identity, 4, "denied success");
-        }
-        None => unmade(&rt),
+    let identity = identity(&rt, alloc, "DOM\\ann");
+    for from in [0, 1, 2, 3] {
+        over_failing(&rt, alloc, &identity, from, "link");
     }
+    over_failing(&rt, alloc, &identity, 4, "denied success");
 }
 
-fn asked<P: Policy>(policy: &mut P, identity: &AuthIdentity) -> Result<bool, PolicyError> {
-    policy.admits(identity)
+/// A policy that fails is told, and nothing goes over the link.
+fn is_unheard(rt: &impl Abort, alloc: Global, identity: &AuthIdentity) {
+    let mut policy = FailingPolicy::new();
+    let mut link = MemoryLink::new(alloc, Vec::new(alloc));
+    let found = authorize(&mut link, &mut policy, identity);
+    answered(rt, &found, "policy");
+    assert_eq!(rt; link.log().len(), 0);
+    asked(rt, &mut policy, identity, Err(PolicyError::Failed));
+}
+
+fn asked<P: Policy>(
+    rt: &impl Abort,
+    policy: &mut P,
+    identity: &AuthIdentity,
+    answer: Result<bool, PolicyError>,
+) {
+    assert_eq!(rt; policy.admits(identity), answer);
 }
 
 #[test]
 fn a_policy_that_fails_tells_nothing(rt: HostRuntime) {
     let alloc = rt.alloc();
-    match identity(alloc, "DOM\\ann") {
-        Some(identity) => {
-            let mut policy = FailingPolicy::new();
-            let mut link = MemoryLink::new(alloc, Vec::new(alloc));
-            let found = authorize(&mut link, &mut policy, &identity);
-            match answer("policy") {
-                Some(wanted) => assert!(rt; same(&found, &wanted)),
-                None => unmade(&rt),
-            }
-            assert_eq!(rt; link.log().len(), 0);
-            assert_eq!(rt; asked(&mut policy, &identity), Err(PolicyError::Failed));
-            let mut listed = ListPolicy::new(alloc, Vec::new(alloc));
-            assert_eq!(rt; asked(&mut listed, &identity), Ok(false));
-        }
-        None => unmade(&rt),
-    }
+    let identity = identity(&rt, alloc, "DOM\\ann");
+    is_unheard(&rt, alloc, &identity);
+    let mut listed = ListPolicy::new(alloc, Vec::new(alloc));
+    asked(&rt, &mut listed, &identity, Ok(false));
 }

@@ -1,6 +1,8 @@
 //! One line an early result over a link in memory: what its list of names decides, and what comes of what the link delivers.
 
-use crate::tests::words::{Answer, answer, edits, identity, names, number, same, unmade};
+use crate::tests::words::{
+    Answer, answered, edits, given, identity, names, number, parted, unmade,
+};
 use sspi_delegate::{Carried, Edit, End, MemoryLink};
 use sspi_early::{ListPolicy, authorize};
 use sspi_names::{AuthIdentity, Username};
@@ -53,33 +55,20 @@ DOM\\ann, / DOM\\ann / give 0000000500 / data / 00000000 / 4";
 const UNCARRIED: &str = "DOM\\ann, / DOM\\ann / fail / link";
 
 fn line(rt: &impl Abort, alloc: Global, line: &str, piece: usize) {
-    if let Some((admit, rest)) = line.split_once(" / ") {
-        if let Some((user, rest)) = rest.split_once(" / ") {
-            if let Some((edit, rest)) = rest.split_once(" / ") {
-                made(rt, alloc, admit, user, edit, rest, piece);
-                return;
-            }
-        }
-    }
-    unmade(rt);
-}
-
-fn made(
-    rt: &impl Abort,
-    alloc: Global,
-    admit: &str,
-    user: &str,
-    edit: &str,
-    rest: &str,
-    piece: usize,
-) {
-    match (names(alloc, admit), edits(alloc, 0, edit)) {
-        (Some(names), Some(edits)) => match identity(alloc, user) {
-            Some(identity) => case(rt, alloc, names, edits, &identity, rest, piece),
-            None => unmade(rt),
-        },
-        _ => unmade(rt),
-    }
+    let (admit, rest) = parted(rt, line, " / ");
+    let (user, rest) = parted(rt, rest, " / ");
+    let (edit, rest) = parted(rt, rest, " / ");
+    let identity = identity(rt, alloc, user);
+    let names = names(rt, alloc, admit);
+    case(
+        rt,
+        alloc,
+        names,
+        edits(rt, alloc, 0, edit),
+        &identity,
+        rest,
+        piece,
+    );
 }
 
 fn case(
@@ -95,19 +84,17 @@ fn case(
     let mut link = MemoryLink::new(alloc, edits);
     link.set_piece(piece);
     let found = authorize(&mut link, &mut policy, identity);
-    match rest.split_once(" / ") {
-        Some((words, entry)) => carried(rt, alloc, &found, words, link.log(), entry),
-        None => {
-            answered(rt, &found, rest);
-            assert_eq!(rt; link.log().len(), 0);
-        }
-    }
+    comes(rt, alloc, &found, link.log(), rest);
 }
 
-fn answered(rt: &impl Abort, found: &Answer, words: &str) {
-    match answer(words) {
-        Some(wanted) => assert!(rt; same(found, &wanted)),
-        None => unmade(rt),
+/// The answer and the log are those of these words.
+fn comes(rt: &impl Abort, alloc: Global, found: &Answer, log: &[Carried], rest: &str) {
+    match rest.split_once(" / ") {
+        Some((words, entry)) => carried(rt, alloc, found, words, log, entry),
+        None => {
+            answered(rt, found, rest);
+            assert_eq!(rt; log.len(), 0);
+        }
     }
 }
 
@@ -120,8 +107,9 @@ fn carried(
     entry: &str,
 ) {
     answered(rt, found, words);
-    match (log, entry.split_once(" / ")) {
-        ([carried], Some((sent, taken))) => told(rt, alloc, carried, sent, taken, words == "eof"),
+    let (sent, taken) = parted(rt, entry, " / ");
+    match log {
+        [carried] => told(rt, alloc, carried, sent, taken, words == "eof"),
         _ => unmade(rt),
     }
 }
@@ -129,12 +117,10 @@ fn carried(
 /// The one entry is the server's, and sent these digits; so many bytes were taken of it.
 fn told(rt: &impl Abort, alloc: Global, carried: &Carried, sent: &str, taken: &str, ended: bool) {
     assert!(rt; carried.from == End::Server);
-    assert_eq!(rt; Some(carried.delivered.len()), number(taken));
+    assert_eq!(rt; carried.delivered.len(), number(rt, taken));
     assert_eq!(rt; carried.ended, ended);
-    match hex::decode(alloc, sent) {
-        Ok(sent) => assert!(rt; carried.sent.as_slice() == sent.as_slice()),
-        Err(_) => unmade(rt),
-    }
+    let sent = given(rt, hex::decode(alloc, sent));
+    assert!(rt; carried.sent.as_slice() == sent.as_slice());
 }
 
 #[test]

@@ -15,86 +15,107 @@ pub(crate) fn unmade(rt: &impl Abort) {
     assert!(rt; false);
 }
 
+/// The value of a call that is not to be refused.
+pub(crate) fn given<T, E: Drop>(rt: &impl Abort, answer: Result<T, E>) -> T {
+    match answer {
+        Ok(value) => value,
+        Err(_) => rt.abort(),
+    }
+}
+
+/// What stands before this mark, and what after it.
+pub(crate) fn parted<'a>(rt: &impl Abort, text: &'a str, mark: &str) -> (&'a str, &'a str) {
+    match text.split_once(mark) {
+        Some(parts) => parts,
+        None => rt.abort(),
+    }
+}
+
 /// Names with a comma behind each.
-pub(crate) fn names(alloc: Global, words: &str) -> Option<Vec<Username>> {
+pub(crate) fn names(rt: &impl Abort, alloc: Global, words: &str) -> Vec<Username> {
     let mut names = Vec::new(alloc);
     for word in words.split_terminator(',') {
-        let name = Username::parse(alloc, word).ok()?;
-        names.push(name).ok()?;
+        let name = given(rt, Username::parse(alloc, word));
+        given(rt, names.push(name));
     }
-    Some(names)
+    names
 }
 
 /// The identity of this user, with the password `pw`.
-pub(crate) fn identity(alloc: Global, user: &str) -> Option<AuthIdentity> {
-    let username = Username::parse(alloc, user).ok()?;
-    let password = Text::from_text(alloc, "pw").ok()?;
-    Some(AuthIdentity {
+pub(crate) fn identity(rt: &impl Abort, alloc: Global, user: &str) -> AuthIdentity {
+    let username = given(rt, Username::parse(alloc, user));
+    let password = given(rt, Text::from_text(alloc, "pw"));
+    AuthIdentity {
         username,
         password: Secret::from(password),
-    })
+    }
 }
 
 /// `none`, `drop`, `fail`, `cut K`, `set K HH`, `add HEX`, `give HEX`, of this entry.
-pub(crate) fn edits(alloc: Global, entry: u32, words: &str) -> Option<Vec<Edit>> {
+pub(crate) fn edits(rt: &impl Abort, alloc: Global, entry: u32, words: &str) -> Vec<Edit> {
     let mut edits = Vec::new(alloc);
     if words != "none" {
-        let kind = kind(alloc, words)?;
-        edits.push(Edit { entry, kind }).ok()?;
+        let kind = kind(rt, alloc, words);
+        given(rt, edits.push(Edit { entry, kind }));
     }
-    Some(edits)
+    edits
 }
 
-fn kind(alloc: Global, words: &str) -> Option<EditKind> {
+fn kind(rt: &impl Abort, alloc: Global, words: &str) -> EditKind {
     let (word, rest) = words.split_once(' ').unwrap_or((words, ""));
     match word {
-        "drop" => Some(EditKind::Drop),
-        "fail" => Some(EditKind::Fail),
-        "cut" => Some(EditKind::Cut(number(rest)?)),
+        "drop" => EditKind::Drop,
+        "fail" => EditKind::Fail,
+        "cut" => EditKind::Cut(number(rt, rest)),
         "set" => {
-            let (at, byte) = rest.split_once(' ')?;
-            Some(EditKind::Set(number(at)?, u8::from_str_radix(byte, 16).ok()?))
+            let (at, byte) = parted(rt, rest, " ");
+            EditKind::Set(number(rt, at), given(rt, u8::from_str_radix(byte, 16)))
         }
-        "add" => Some(EditKind::Add(bytes(alloc, rest)?)),
-        "give" => Some(EditKind::Give(bytes(alloc, rest)?)),
-        _ => None,
+        "add" => EditKind::Add(bytes(rt, alloc, rest)),
+        "give" => EditKind::Give(bytes(rt, alloc, rest)),
+        _ => rt.abort(),
     }
 }
 
-pub(crate) fn number(digits: &str) -> Option<usize> {
-    digits.parse::<usize>().ok()
+pub(crate) fn number(rt: &impl Abort, digits: &str) -> usize {
+    given(rt, digits.parse::<usize>())
 }
 
-fn bytes(alloc: Global, digits: &str) -> Option<Bytes> {
-    let bytes = hex::decode(alloc, digits).ok()?;
-    Some(Bytes::from_vec(bytes))
+fn bytes(rt: &impl Abort, alloc: Global, digits: &str) -> Bytes {
+    Bytes::from_vec(given(rt, hex::decode(alloc, digits)))
 }
 
-fn result(word: &str) -> Option<EarlyUserAuthResult> {
+fn result(rt: &impl Abort, word: &str) -> EarlyUserAuthResult {
     match word {
-        "success" => Some(EarlyUserAuthResult::Success),
-        "denied" => Some(EarlyUserAuthResult::AccessDenied),
-        _ => None,
+        "success" => EarlyUserAuthResult::Success,
+        "denied" => EarlyUserAuthResult::AccessDenied,
+        _ => rt.abort(),
     }
 }
 
 /// `TOLD HEARD`, each `success` or `denied`; `eof`, `data`, `link` or `policy`.
-pub(crate) fn answer(words: &str) -> Option<Answer> {
+fn answer(rt: &impl Abort, words: &str) -> Answer {
     match words {
-        "eof" => Some(Err(EarlyError::Read(WireKind::UnexpectedEof))),
-        "data" => Some(Err(EarlyError::Read(WireKind::InvalidData))),
-        "link" => Some(Err(EarlyError::LinkFault)),
-        "policy" => Some(Err(EarlyError::Policy)),
+        "eof" => Err(EarlyError::Read(WireKind::UnexpectedEof)),
+        "data" => Err(EarlyError::Read(WireKind::InvalidData)),
+        "link" => Err(EarlyError::LinkFault),
+        "policy" => Err(EarlyError::Policy),
         _ => {
-            let (told, heard) = words.split_once(' ')?;
-            let told = result(told)?;
-            let heard = result(heard)?;
-            Some(Ok(Authorized { told, heard }))
+            let (told, heard) = parted(rt, words, " ");
+            Ok(Authorized {
+                told: result(rt, told),
+                heard: result(rt, heard),
+            })
         }
     }
 }
 
-pub(crate) fn same(found: &Answer, wanted: &Answer) -> bool {
+/// The answer is that of these words.
+pub(crate) fn answered(rt: &impl Abort, found: &Answer, words: &str) {
+    assert!(rt; same(found, &answer(rt, words)), "{words}");
+}
+
+fn same(found: &Answer, wanted: &Answer) -> bool {
     match (found, wanted) {
         (Ok(found), Ok(wanted)) => *found == *wanted,
         (Err(found), Err(wanted)) => *found == *wanted,

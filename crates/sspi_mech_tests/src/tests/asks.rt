@@ -65,6 +65,16 @@ fn spent() -> Error
     Error::new(ErrorKind::ContextExpired, Reason::Spent)
 }
 
+/// What stands behind the sixteen zeros of a blob.
+fn text_in(alloc: Global, blob: &[u8]) -> Result<Vec<u8>, Error>
+    ensures codeless { IfErr result (λ error. error.nstatus ≡ None) }
+{
+    match blob.get(16..) {
+        Some(text) => Ok(Vec::from_slice(alloc, text)?),
+        None => Err(out_of_sequence()),
+    }
+}
+
 impl<const TIMES: u32> Mechanism for Asks<TIMES> {
     const REQUESTS: u32 = TIMES;
 
@@ -200,10 +210,7 @@ impl<const TIMES: u32> Mechanism for Asks<TIMES> {
         let Some(count) = self.unsealings.checked_add(1) else {
             return Err(spent());
         };
-        if blob.len() < 16 {
-            return Err(out_of_sequence());
-        }
-        let text = Vec::from_slice(self.alloc, &blob[16..])?;
+        let text = text_in(self.alloc, blob)?;
         self.unsealings = count;
         Ok(text)
     }

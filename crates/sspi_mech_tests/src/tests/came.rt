@@ -32,10 +32,16 @@ fn step(rt: &impl Test, step: &Step) -> String {
     with_octets(rt, &status(rt, step.status), step.output.as_slice())
 }
 
+fn progress(rt: &impl Test, progress: &Progressing) -> String {
+    match progress {
+        Progressing::Done(done) => step(rt, done),
+        Progressing::Suspended(request) => question(rt, request),
+    }
+}
+
 pub fn of_progress(rt: &impl Test, answer: Result<Progressing, Error>) -> String {
     match answer {
-        Ok(Progressing::Done(done)) => step(rt, &done),
-        Ok(Progressing::Suspended(request)) => question(rt, &request),
+        Ok(made) => progress(rt, &made),
         Err(error) => refusal(rt, error),
     }
 }
@@ -83,12 +89,14 @@ pub fn of_done(rt: &impl Test, answer: Result<(), Error>) -> String {
 }
 
 /// The name and the most bytes of a token.
+fn package(rt: &impl Test, package: &PackageInfo) -> String {
+    let (name, most) = (&package.name, package.max_token_len);
+    given(rt, format!(in rt.alloc(); "{name} {most}"))
+}
+
 pub fn of_package(rt: &impl Test, answer: Result<PackageInfo, Error>) -> String {
     match answer {
-        Ok(package) => {
-            let (name, most) = (package.name, package.max_token_len);
-            given(rt, format!(in rt.alloc(); "{name} {most}"))
-        }
+        Ok(found) => package(rt, &found),
         Err(error) => refusal(rt, error),
     }
 }
@@ -104,23 +112,36 @@ pub fn of_sizes(rt: &impl Test, sizes: ContextSizes) -> String {
 }
 
 /// The buffers are those of the handle, others, or none.
+fn buffers(
+    handle: &Option<CredentialsBuffers>,
+    buffers: &Option<CredentialsBuffers>,
+) -> &'static str {
+    if buffers.is_none() {
+        "gives-none"
+    } else if *buffers == *handle {
+        "gives-handle"
+    } else {
+        "gives-others"
+    }
+}
+
 pub fn of_buffers(
     rt: &impl Test,
     handle: &Option<CredentialsBuffers>,
     answer: Result<Option<CredentialsBuffers>, Error>,
 ) -> String {
     match answer {
-        Ok(None) => with_octets(rt, "gives-none", b""),
-        Ok(buffers) => {
-            let word = if buffers == *handle {
-                "gives-handle"
-            } else {
-                "gives-others"
-            };
-            with_octets(rt, word, b"")
-        }
+        Ok(given) => with_octets(rt, buffers(handle, &given), b""),
         Err(error) => refusal(rt, error),
     }
+}
+
+/// A question that is wanted: the request stands in the words of `octets`.
+fn wanted_question(rt: &impl Test, tokens: &str, words: &str) -> String {
+    let (protocol, words) = halves(words);
+    let (url, words) = halves(words);
+    let word = given(rt, format!(in rt.alloc(); "asks {protocol} {url}"));
+    with_octets(rt, &word, &octets(rt, tokens, words))
 }
 
 /// What is wanted, in the same words.
@@ -128,12 +149,7 @@ pub fn wanted(rt: &impl Test, tokens: &str, text: &str) -> String {
     let (word, rest) = halves(text);
     match word {
         "refuses" => given(rt, String::from_str(rt.alloc(), text)),
-        "asks" => {
-            let (protocol, rest) = halves(rest);
-            let (url, words) = halves(rest);
-            let word = given(rt, format!(in rt.alloc(); "asks {protocol} {url}"));
-            with_octets(rt, &word, &octets(rt, tokens, words))
-        }
+        "asks" => wanted_question(rt, tokens, rest),
         _ => with_octets(rt, word, &octets(rt, tokens, rest)),
     }
 }

@@ -22,6 +22,11 @@ pub fn given<T, E: Drop>(rt: &impl Abort, answer: Result<T, E>) -> T {
     }
 }
 
+/// Puts a value in the place of another. Generic: to drop a value of a type parameter is one step of a proof.
+pub fn put<T: Drop>(place: &mut T, value: T) {
+    *place = value;
+}
+
 pub fn text(rt: &impl Test, text: &str) -> Text {
     given(rt, Text::from_text(rt.alloc(), text))
 }

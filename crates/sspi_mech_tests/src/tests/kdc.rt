@@ -74,6 +74,12 @@ fn seal_first<M: Mechanism>(
     })
 }
 
+/// The text `text` was sealed after so many questions.
+fn is_sealed<M>(first: &FirstBlob<M>, questions: u32) -> bool {
+    first.questions == questions
+        && first.blob.strip_prefix([0; 16].as_slice()) == Some(b"text".as_slice())
+}
+
 /// Whether a new client seals after so many questions, each answered by `reply`.
 fn seals_after<M: Mechanism>(
     alloc: Global,
@@ -82,10 +88,7 @@ fn seals_after<M: Mechanism>(
     questions: u32,
 ) -> bool {
     match seal_first::<M>(alloc, config, reply, b"text") {
-        Ok(first) => {
-            first.questions == questions
-                && first.blob.strip_prefix([0; 16].as_slice()) == Some(b"text".as_slice())
-        }
+        Ok(first) => is_sealed(&first, questions),
         Err(_) => false,
     }
 }
@@ -102,22 +105,22 @@ fn is_refused<M: Mechanism>(
     }
 }
 
+/// A client that asks so often seals after its questions.
+fn seals<const TIMES: u32>(
+    rt: &impl Abort,
+    alloc: Global,
+    config: &NtlmConfig,
+    reply: &Reply,
+    what: &str,
+) {
+    let sealed = seals_after::<Asks<TIMES>>(alloc, config, reply, TIMES);
+    holds(rt, sealed, what);
+}
+
 fn seal(rt: &impl Abort, alloc: Global, config: &NtlmConfig, reply: &Reply) {
-    holds(
-        rt,
-        seals_after::<Asks<0>>(alloc, config, &Reply::Failed, 0),
-        "of no question",
-    );
-    holds(
-        rt,
-        seals_after::<Asks<1>>(alloc, config, reply, 1),
-        "of one question",
-    );
-    holds(
-        rt,
-        seals_after::<Asks<3>>(alloc, config, reply, 3),
-        "of three questions",
-    );
+    seals::<0>(rt, alloc, config, &Reply::Failed, "of no question");
+    seals::<1>(rt, alloc, config, reply, "of one question");
+    seals::<3>(rt, alloc, config, reply, "of three questions");
 }
 
 fn do_not_seal(rt: &impl Abort, alloc: Global, config: &NtlmConfig, reply: &Reply) {

@@ -38,18 +38,13 @@ fn push_token(rt: &impl Test, tokens: &str, name: &str, octets: &mut Vec<u8>) {
     let before = octets.len();
     let mut inside = false;
     for line in tokens.lines() {
-        match line.split_once(" = ") {
-            Some((defined, words)) => {
-                inside = defined == name;
-                if inside {
-                    push_words(rt, words, octets);
-                }
-            }
-            None => {
-                if inside {
-                    push_words(rt, line, octets);
-                }
-            }
+        let mut words = line;
+        if let Some((defined, behind)) = line.split_once(" = ") {
+            inside = defined == name;
+            words = behind;
+        }
+        if inside {
+            push_words(rt, words, octets);
         }
     }
     holds(rt, octets.len() != before, name);

@@ -1,6 +1,6 @@
 //! What the lines of a case say before its calls: what an object is made of, the object, and what its next step is handed.
 
-use crate::tests::checks::{Test, given, halves, text};
+use crate::tests::checks::{Test, given, halves, put, text};
 use crate::tests::object::Object;
 use bitflags::Flags;
 use sspi_mech::{
@@ -158,6 +158,11 @@ impl<M: Object> Scene<M> {
         self.object = Some(given(rt, M::made(rt.alloc(), config)));
     }
 
+    fn make_ntlm(&mut self, rt: &impl Test) {
+        let config = ntlm_config(rt);
+        self.make_of(rt, &MechConfig::Ntlm(&config));
+    }
+
     fn make_kerberos(&mut self, rt: &impl Test, ticket: Option<[u8; 32]>) {
         let kdcs = mem::replace(&mut self.kdcs, KdcTable::new(rt.alloc()));
         let config = kerberos_config(rt, self.kdc_url, kdcs);
@@ -172,7 +177,7 @@ impl<M: Object> Scene<M> {
 
     fn make(&mut self, rt: &impl Test, word: &str) {
         match word {
-            "ntlm" => self.make_of(rt, &MechConfig::Ntlm(&ntlm_config(rt))),
+            "ntlm" => self.make_ntlm(rt),
             "kerberos" => self.make_kerberos(rt, None),
             "kerberos+ticket" => self.make_kerberos(rt, Some(*TICKET)),
             _ => rt.abort(),
@@ -185,7 +190,7 @@ impl<M: Object> Scene<M> {
             "kdc" => self.serve(rt, words),
             "kdc-url" => self.kdc_url = Some(words),
             "make" => self.make(rt, words),
-            "handle" => self.handle = buffers(rt, words),
+            "handle" => put(&mut self.handle, buffers(rt, words)),
             "flags" => self.flags = flags(rt, words),
             _ => rt.abort(),
         }

@@ -27,12 +27,12 @@ use crate::tests::came::{
     of_buffers, of_done, of_key, of_name, of_octets, of_package, of_progress, of_sizes, of_status,
     of_step, wanted,
 };
-use crate::tests::checks::{Test, given, halves};
+use crate::tests::checks::{Test, given, halves, put};
 use crate::tests::object::Object;
 use crate::tests::octets::octets;
 use crate::tests::scene::{Scene, credentials};
 use sspi_mech::{Kerberos, Ntlm, Reply};
-use sspi_names::CredentialsBuffers;
+use sspi_names::{Credentials, CredentialsBuffers};
 use sspi_types::{Bytes, CredentialUse};
 
 fn state(rt: &impl Test, object: &impl Object) -> String {
@@ -58,6 +58,13 @@ fn credential_use(rt: &impl Test, word: &str) -> CredentialUse {
     }
 }
 
+fn credentials_or_none(rt: &impl Test, words: &str) -> Option<Credentials> {
+    match words {
+        "none" => None,
+        _ => Some(credentials(rt, words)),
+    }
+}
+
 fn acquire(
     rt: &impl Test,
     object: &mut impl Object,
@@ -65,16 +72,9 @@ fn acquire(
     words: &str,
 ) -> String {
     let (word, words) = halves(words);
-    let credential_use = credential_use(rt, word);
-    if words == "none" {
-        return of_buffers(rt, handle, object.acquires(credential_use, None));
-    }
-    let credentials = credentials(rt, words);
-    of_buffers(
-        rt,
-        handle,
-        object.acquires(credential_use, Some(&credentials)),
-    )
+    let credentials = credentials_or_none(rt, words);
+    let answer = object.acquires(credential_use(rt, word), credentials.as_ref());
+    of_buffers(rt, handle, answer)
 }
 
 fn identify(rt: &impl Test, object: &mut impl Object, words: &str) -> String {
@@ -97,6 +97,23 @@ fn verify(rt: &impl Test, tokens: &str, object: &mut impl Object, words: &str) -
     }
 }
 
+/// What comes of a text that is sealed, opened or signed.
+fn protect(
+    rt: &impl Test,
+    tokens: &str,
+    object: &mut impl Object,
+    word: &str,
+    words: &str,
+) -> String {
+    let text = octets(rt, tokens, words);
+    let answer = match word {
+        "seal" => object.seals(&text),
+        "unseal" => object.opens(&text),
+        _ => object.signs(&text),
+    };
+    of_octets(rt, answer)
+}
+
 /// What comes of a call that is no step.
 fn call(
     rt: &impl Test,
@@ -114,9 +131,7 @@ fn call(
         "key" => of_key(rt, object.key()),
         "complete" => of_status(rt, object.completes()),
         "identify" => identify(rt, object, words),
-        "seal" => of_octets(rt, object.seals(&octets(rt, tokens, words))),
-        "unseal" => of_octets(rt, object.opens(&octets(rt, tokens, words))),
-        "sign" => of_octets(rt, object.signs(&octets(rt, tokens, words))),
+        "seal" | "unseal" | "sign" => protect(rt, tokens, object, word, words),
         "verify" => verify(rt, tokens, object, words),
         _ => rt.abort(),
     }
@@ -167,20 +182,24 @@ fn says<M: Object>(rt: &impl Test, scene: &mut Scene<M>, line: &'static str) {
     }
     match word {
         "#" => (),
-        "" => *scene = Scene::new(rt.alloc()),
+        "" => put(scene, Scene::new(rt.alloc())),
         _ => scene.set(rt, word, words),
+    }
+}
+
+fn lines<M: Object>(rt: &impl Test, tokens: &str, scene: &mut Scene<M>, script: &'static str) {
+    for line in script.lines() {
+        match line.split_once(" -> ") {
+            Some((told, text)) => calls(rt, tokens, scene, told, text),
+            None => says(rt, scene, line),
+        }
     }
 }
 
 /// Each line of the script comes true of objects of this type; a text of tokens defines the names in it.
 fn run<M: Object>(rt: &impl Test, tokens: &str, script: &'static str) {
     let mut scene: Scene<M> = Scene::new(rt.alloc());
-    for line in script.lines() {
-        match line.split_once(" -> ") {
-            Some((told, text)) => calls(rt, tokens, &mut scene, told, text),
-            None => says(rt, &mut scene, line),
-        }
-    }
+    lines(rt, tokens, &mut scene, script);
 }
 
 pub fn run_ntlm(rt: &impl Test, tokens: &str, script: &'static str) {

@@ -1,3 +1,4 @@
+use crate::tests::checks::{compares, given, holds, is, refusal};
 use sspi_names::{UserNameFormat, Username, UsernameError};
 use std::alloc::Global;
 use std::process::Abort;
@@ -57,61 +58,35 @@ fn try_line(rt: &impl Abort, alloc: Global, line: &str) {
     let (second, rest) = field(rest);
     let (third, fourth) = field(rest);
     match verb {
-        "parsed" => parses(
-            rt,
-            Username::parse(alloc, first),
-            second,
-            third,
-            text_of(fourth),
-        ),
+        "parsed" => {
+            let name = Username::parse(alloc, first);
+            parses(rt, given(rt, name, line), second, third, text_of(fourth));
+        }
         "mixed" => is_mixed(rt, Username::parse(alloc, first), line),
-        "made" => shows(
-            rt,
-            alloc,
-            Username::new(alloc, first, text_of(second)),
-            third,
-        ),
+        "made" => {
+            let name = Username::new(alloc, first, text_of(second));
+            shows(rt, alloc, given(rt, name, line), third);
+        }
         "unmade" => is_mixed(rt, Username::new(alloc, first, text_of(second)), line),
-        _ => assert!(rt; false, "{line}"),
+        _ => holds(rt, false, line),
     }
 }
 
-fn parses(
-    rt: &impl Abort,
-    name: Result<Username, UsernameError>,
-    form: &str,
-    account: &str,
-    domain: Option<&str>,
-) {
-    match name {
-        Ok(name) => {
-            let is_principal = name.format() == UserNameFormat::UserPrincipalName;
-            assert!(rt; is_principal == (form == "principal"), "{account}");
-            assert!(rt; name.account_name() == account, "{account}");
-            assert!(rt; name.domain_name() == domain, "{account}");
-        }
-        Err(_) => assert!(rt; false, "{account}"),
-    }
+fn parses(rt: &impl Abort, name: Username, form: &str, account: &str, domain: Option<&str>) {
+    let is_principal = name.format() == UserNameFormat::UserPrincipalName;
+    holds(rt, is_principal == (form == "principal"), account);
+    holds(rt, name.account_name() == account, account);
+    holds(rt, name.domain_name() == domain, account);
 }
 
 fn is_mixed(rt: &impl Abort, name: Result<Username, UsernameError>, line: &str) {
-    match name {
-        Err(error) => assert!(rt; error == UsernameError::MixedFormat, "{line}"),
-        Ok(_) => assert!(rt; false, "{line}"),
-    }
+    let error = refusal(rt, name, line);
+    holds(rt, error == UsernameError::MixedFormat, line);
 }
 
-fn shows(rt: &impl Abort, alloc: Global, name: Result<Username, UsernameError>, shown: &str) {
-    match name {
-        Ok(name) => {
-            assert!(rt; name.inner() == shown, "{shown}");
-            match name.clone(alloc) {
-                Ok(copy) => assert!(rt; copy == name, "{shown}"),
-                Err(_) => assert!(rt; false, "{shown}"),
-            }
-        }
-        Err(_) => assert!(rt; false, "{shown}"),
-    }
+fn shows(rt: &impl Abort, alloc: Global, name: Username, shown: &str) {
+    holds(rt, name.inner() == shown, shown);
+    is(rt, name.clone(alloc), &name, shown);
 }
 
 /// Two names, whether they are equal but for the case of ASCII letters, and whether they are equal. Only ASCII letters have a
@@ -141,16 +116,10 @@ fn try_pair(rt: &impl Abort, alloc: Global, line: &str) {
     let (first, rest) = field(line);
     let (second, rest) = field(rest);
     let (same, equal) = field(rest);
-    match (
-        Username::parse(alloc, first),
-        Username::parse(alloc, second),
-    ) {
-        (Ok(a), Ok(b)) => {
-            assert!(rt; a.eq_ignore_ascii_case(&b) == (same == "y"), "{line}");
-            assert!(rt; b.eq_ignore_ascii_case(&a) == (same == "y"), "{line}");
-            assert!(rt; a.eq_ignore_ascii_case(&a), "{line}");
-            assert!(rt; (a == b) == (equal == "y"), "{line}");
-        }
-        _ => assert!(rt; false, "{line}"),
-    }
+    let a = given(rt, Username::parse(alloc, first), line);
+    let b = given(rt, Username::parse(alloc, second), line);
+    holds(rt, a.eq_ignore_ascii_case(&b) == (same == "y"), line);
+    holds(rt, b.eq_ignore_ascii_case(&a) == (same == "y"), line);
+    holds(rt, a.eq_ignore_ascii_case(&a), line);
+    compares(rt, a, b, equal == "y", line);
 }

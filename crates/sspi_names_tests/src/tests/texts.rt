@@ -1,3 +1,4 @@
+use crate::tests::checks::{given, holds, is, refusal};
 use crate::tests::names::field;
 use sspi_names::{Utf16Error, Utf16Text};
 use std::alloc::Global;
@@ -40,67 +41,33 @@ fn texts_are_encoded_and_read(rt: HostRuntime) {
 fn try_line(rt: &impl Abort, alloc: Global, line: &str) {
     let (verb, rest) = field(line);
     let (text, digits) = field(rest);
-    match hex::decode(alloc, digits) {
-        Err(_) => assert!(rt; false, "{line}"),
-        Ok(bytes) => match verb {
-            "text" => {
-                encodes(
-                    rt,
-                    alloc,
-                    Utf16Text::from_str(alloc, text).ok(),
-                    &bytes,
-                    text,
-                );
-                encodes(
-                    rt,
-                    alloc,
-                    Utf16Text::from_bytes_le(alloc, &bytes).ok(),
-                    &bytes,
-                    text,
-                );
-            }
-            "odd" => is_refused(rt, alloc, &bytes, Utf16Error::OddLength),
-            "unpaired" => is_refused(rt, alloc, &bytes, Utf16Error::UnpairedSurrogate),
-            _ => assert!(rt; false, "{line}"),
-        },
-    }
+    let bytes = given(rt, hex::decode(alloc, digits), line);
+    tries(rt, alloc, verb, text, &bytes, line);
 }
 
-fn encodes(rt: &impl Abort, alloc: Global, units: Option<Utf16Text>, bytes: &[u8], text: &str) {
-    match units {
-        Some(units) => {
-            has_bytes(rt, alloc, &units, bytes);
-            has_text(rt, alloc, &units, text);
-            copies(rt, alloc, &units);
+fn tries(rt: &impl Abort, alloc: Global, verb: &str, text: &str, bytes: &[u8], line: &str) {
+    match verb {
+        "text" => {
+            let encoded = given(rt, Utf16Text::from_str(alloc, text), line);
+            encodes(rt, alloc, encoded, bytes, text);
+            let read = given(rt, Utf16Text::from_bytes_le(alloc, bytes), line);
+            encodes(rt, alloc, read, bytes, text);
         }
-        None => assert!(rt; false, "{text}"),
+        "odd" => is_refused(rt, alloc, bytes, Utf16Error::OddLength, line),
+        "unpaired" => is_refused(rt, alloc, bytes, Utf16Error::UnpairedSurrogate, line),
+        _ => holds(rt, false, line),
     }
 }
 
-fn has_bytes(rt: &impl Abort, alloc: Global, units: &Utf16Text, bytes: &[u8]) {
-    match units.to_bytes_le(alloc) {
-        Ok(made) => assert!(rt; made.as_slice() == bytes),
-        Err(_) => assert!(rt; false),
-    }
+fn encodes(rt: &impl Abort, alloc: Global, units: Utf16Text, bytes: &[u8], text: &str) {
+    let made = given(rt, units.to_bytes_le(alloc), text);
+    holds(rt, made.as_slice() == bytes, text);
+    let read = given(rt, units.to_string(alloc), text);
+    holds(rt, read.as_str() == text, text);
+    is(rt, units.clone(alloc), &units, text);
 }
 
-fn has_text(rt: &impl Abort, alloc: Global, units: &Utf16Text, text: &str) {
-    match units.to_string(alloc) {
-        Ok(made) => assert!(rt; made.as_str() == text, "{text}"),
-        Err(_) => assert!(rt; false, "{text}"),
-    }
-}
-
-fn copies(rt: &impl Abort, alloc: Global, units: &Utf16Text) {
-    match units.clone(alloc) {
-        Ok(copy) => assert!(rt; copy == *units),
-        Err(_) => assert!(rt; false),
-    }
-}
-
-fn is_refused(rt: &impl Abort, alloc: Global, bytes: &[u8], error: Utf16Error) {
-    match Utf16Text::from_bytes_le(alloc, bytes) {
-        Err(refusal) => assert!(rt; refusal == error, "{bytes:?}"),
-        Ok(_) => assert!(rt; false, "{bytes:?}"),
-    }
+fn is_refused(rt: &impl Abort, alloc: Global, bytes: &[u8], error: Utf16Error, line: &str) {
+    let refused = refusal(rt, Utf16Text::from_bytes_le(alloc, bytes), line);
+    holds(rt, refused == error, line);
 }

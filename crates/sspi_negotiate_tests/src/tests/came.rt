@@ -1,7 +1,7 @@
 //! What came of a call, in words: `refuses`, the kind and the reason; `asks`, the URL of a KDC and the request in hex; a word and
 //! octets in hex otherwise, as the status of a step and its token.
 
-use crate::tests::checks::{Test, given, halves, holds};
+use crate::tests::checks::{Test, given, halves, holds, joined};
 use crate::tests::octets::octets;
 use sspi_mech::{Progressing, Step};
 use sspi_names::{ContextNames, CredentialsBuffers, NetworkProtocol, NetworkRequest};
@@ -12,7 +12,7 @@ fn with_octets(rt: &impl Test, word: &str, octets: &[u8]) -> String {
     given(rt, format!(in rt.alloc(); "{word} {digits}"))
 }
 
-fn refusal(rt: &impl Test, error: Error) -> String {
+pub fn refusal(rt: &impl Test, error: Error) -> String {
     let (kind, reason) = (error.error_type, error.description);
     holds(rt, error.nstatus.is_none(), "a status of the peer");
     given(rt, format!(in rt.alloc(); "refuses {kind:?} {reason:?}"))
@@ -28,18 +28,23 @@ fn question(rt: &impl Test, request: &NetworkRequest) -> String {
 }
 
 fn asked(rt: &impl Test, url: &str, payload: &[u8]) -> String {
-    let word = given(rt, format!(in rt.alloc(); "asks {url}"));
-    with_octets(rt, &word, payload)
+    with_octets(rt, &joined(rt, "asks ", url), payload)
 }
 
 fn step(rt: &impl Test, step: &Step) -> String {
     with_octets(rt, &status(rt, step.status), step.output.as_slice())
 }
 
+fn progress(rt: &impl Test, progress: &Progressing) -> String {
+    match progress {
+        Progressing::Done(done) => step(rt, done),
+        Progressing::Suspended(request) => question(rt, request),
+    }
+}
+
 pub fn of_progress(rt: &impl Test, answer: Result<Progressing, Error>) -> String {
     match answer {
-        Ok(Progressing::Done(done)) => step(rt, &done),
-        Ok(Progressing::Suspended(request)) => question(rt, &request),
+        Ok(made) => progress(rt, &made),
         Err(error) => refusal(rt, error),
     }
 }
@@ -80,23 +85,34 @@ pub fn of_identities(rt: &impl Test, answer: Result<(), Error>) -> String {
 }
 
 /// The buffers are those of the handle, others, or none.
+fn buffers(
+    handle: &Option<CredentialsBuffers>,
+    buffers: &Option<CredentialsBuffers>,
+) -> &'static str {
+    if buffers.is_none() {
+        "gives-none"
+    } else if *buffers == *handle {
+        "gives-handle"
+    } else {
+        "gives-others"
+    }
+}
+
 pub fn of_buffers(
     rt: &impl Test,
     handle: &Option<CredentialsBuffers>,
     answer: Result<Option<CredentialsBuffers>, Error>,
 ) -> String {
     match answer {
-        Ok(None) => with_octets(rt, "gives-none", b""),
-        Ok(buffers) => {
-            let word = if buffers == *handle {
-                "gives-handle"
-            } else {
-                "gives-others"
-            };
-            with_octets(rt, word, b"")
-        }
+        Ok(found) => with_octets(rt, buffers(handle, &found), b""),
         Err(error) => refusal(rt, error),
     }
+}
+
+/// A question that is wanted: the request stands in the words of `octets`.
+fn wanted_question(rt: &impl Test, tokens: &str, words: &str) -> String {
+    let (url, words) = halves(words);
+    asked(rt, url, &octets(rt, tokens, words))
 }
 
 /// What is wanted, in the same words.
@@ -104,10 +120,7 @@ pub fn wanted(rt: &impl Test, tokens: &str, text: &str) -> String {
     let (word, rest) = halves(text);
     match word {
         "refuses" => given(rt, String::from_str(rt.alloc(), text)),
-        "asks" => {
-            let (url, words) = halves(rest);
-            asked(rt, url, &octets(rt, tokens, words))
-        }
+        "asks" => wanted_question(rt, tokens, rest),
         _ => with_octets(rt, word, &octets(rt, tokens, rest)),
     }
 }

@@ -1,6 +1,6 @@
 //! Configurations, their copies, and the mechanisms that are made of them.
 
-use crate::tests::checks::{Test, given, holds};
+use crate::tests::checks::{Test, given, holds, lend};
 use crate::tests::scene::{config, protocol_config};
 use sspi_mech::Ntlm;
 use sspi_names::KdcTable;
@@ -11,29 +11,40 @@ fn is_same(config: &NegotiateConfig, other: &NegotiateConfig) -> bool {
         && config.client_computer_name == other.client_computer_name
 }
 
-fn is_copied(rt: &impl Test, config: &NegotiateConfig) {
-    let copy = given(rt, config.clone(rt.alloc()));
-    holds(rt, is_same(&copy, config), "another copy");
-    match &copy.package_list {
+fn has_list(rt: &impl Test, config: &NegotiateConfig) {
+    match &config.package_list {
         Some(list) => holds(rt, list.as_str() == "ntlm", "another list"),
         None => holds(rt, false, "no list"),
     }
 }
 
-fn lacks_list(rt: &impl Test, config: &NegotiateConfig) {
-    let other = NegotiateConfig::from_protocol_config(
+fn is_copied(rt: &impl Test, config: &NegotiateConfig) {
+    lend(given(rt, config.clone(rt.alloc())), |copy| {
+        holds(rt, is_same(copy, config), "another copy");
+        has_list(rt, copy);
+    });
+}
+
+fn without_list(rt: &impl Test, config: &NegotiateConfig) -> NegotiateConfig {
+    NegotiateConfig::from_protocol_config(
         given(rt, config.protocol_config.clone(rt.alloc())),
         given(rt, config.client_computer_name.clone(rt.alloc())),
         given(rt, config.kdcs.clone(rt.alloc())),
-    );
-    holds(rt, is_same(&other, config), "another configuration");
-    holds(rt, other.package_list.is_none(), "a list");
+    )
+}
+
+fn lacks_list(rt: &impl Test, config: &NegotiateConfig) {
+    lend(without_list(rt, config), |other| {
+        holds(rt, is_same(other, config), "another configuration");
+        holds(rt, other.package_list.is_none(), "a list");
+    });
 }
 
 fn copies(rt: &impl Test, protocol: &str) {
-    let config = config(rt, protocol, Some("ntlm"));
-    is_copied(rt, &config);
-    lacks_list(rt, &config);
+    lend(config(rt, protocol, Some("ntlm")), |config| {
+        is_copied(rt, config);
+        lacks_list(rt, config);
+    });
 }
 
 #[test]
@@ -50,15 +61,23 @@ fn is_named(made: &NegotiatedProtocol<Ntlm, Ntlm>, name: &str) -> bool {
 }
 
 fn makes(rt: &impl Test, config: &ProtocolConfig, name: &str) {
-    let copy = given(rt, config.clone(rt.alloc()));
-    holds(rt, copy == *config, "another copy");
-    let made = given(rt, copy.new_instance(rt.alloc()));
-    holds(rt, is_named(&made, name), name);
+    lend(given(rt, config.new_instance(rt.alloc())), |made| {
+        holds(rt, is_named(made, name), name);
+    });
+}
+
+fn copy_makes(rt: &impl Test, config: &ProtocolConfig, name: &str) {
+    lend(given(rt, config.clone(rt.alloc())), |copy| {
+        holds(rt, *copy == *config, "another copy");
+        makes(rt, copy, name);
+    });
 }
 
 fn instance(rt: &impl Test, protocol: &str, name: &str) {
-    let config = protocol_config(rt, protocol, None, &KdcTable::new(rt.alloc()));
-    makes(rt, &config, name);
+    let kdcs = KdcTable::new(rt.alloc());
+    lend(protocol_config(rt, protocol, None, &kdcs), |config| {
+        copy_makes(rt, config, name);
+    });
 }
 
 #[test]

@@ -58,44 +58,28 @@ fn verifies(rt: &impl Test, protocol: &mut Protocol, mic: &str, list: &str, text
     );
 }
 
+fn lacks_key(rt: &impl Test, protocol: &mut Protocol) {
+    let refusal = "refuses OutOfSequence Sequence";
+    signs(rt, protocol, "LIST", refusal);
+    verifies(rt, protocol, "", "LIST", refusal);
+}
+
 #[test]
 fn before_a_key(rt: HostRuntime) {
-    let mut protocol = NegotiatedProtocol::Ntlm(made(&rt));
-    signs(&rt, &mut protocol, "LIST", "refuses OutOfSequence Sequence");
-    verifies(
-        &rt,
-        &mut protocol,
-        "",
-        "LIST",
-        "refuses OutOfSequence Sequence",
-    );
+    lacks_key(&rt, &mut NegotiatedProtocol::Ntlm(made(&rt)));
 }
 
 /// A MIC is verified as the next one, and once.
+fn has_key(rt: &impl Test, protocol: &mut Protocol) {
+    let refusal = "refuses MessageAltered Tag";
+    signs(rt, protocol, "LIST", "gives CLIENT-MIC");
+    verifies(rt, protocol, "SERVER-MIC", "", refusal);
+    verifies(rt, protocol, "CLIENT-MIC", "LIST", refusal);
+    verifies(rt, protocol, "SERVER-MIC", "LIST", "takes");
+    verifies(rt, protocol, "SERVER-MIC", "LIST", refusal);
+}
+
 #[test]
 fn with_a_key(rt: HostRuntime) {
-    let mut protocol = keyed(&rt);
-    signs(&rt, &mut protocol, "LIST", "gives CLIENT-MIC");
-    verifies(
-        &rt,
-        &mut protocol,
-        "SERVER-MIC",
-        "",
-        "refuses MessageAltered Tag",
-    );
-    verifies(
-        &rt,
-        &mut protocol,
-        "CLIENT-MIC",
-        "LIST",
-        "refuses MessageAltered Tag",
-    );
-    verifies(&rt, &mut protocol, "SERVER-MIC", "LIST", "takes");
-    verifies(
-        &rt,
-        &mut protocol,
-        "SERVER-MIC",
-        "LIST",
-        "refuses MessageAltered Tag",
-    );
+    has_key(&rt, &mut keyed(&rt));
 }

@@ -16,10 +16,15 @@ fn push_many(rt: &impl Test, digits: &str, times: &str, octets: &mut Vec<u8>) {
     }
 }
 
+/// What stands before the closing quote.
+fn push_text(rt: &impl Test, text: &str, octets: &mut Vec<u8>) {
+    let text = given(rt, text.strip_suffix("'").ok_or(()));
+    given(rt, octets.extend_from_slice(text.as_bytes()));
+}
+
 fn push_word(rt: &impl Test, word: &str, octets: &mut Vec<u8>) {
     if let Some(text) = word.strip_prefix("'") {
-        let text = given(rt, text.strip_suffix("'").ok_or(()));
-        given(rt, octets.extend_from_slice(text.as_bytes()));
+        push_text(rt, text, octets);
     } else if let Some((digits, times)) = word.split_once('*') {
         push_many(rt, digits, times, octets);
     } else {
@@ -33,24 +38,23 @@ fn push_words(rt: &impl Test, words: &str, octets: &mut Vec<u8>) {
     }
 }
 
+/// The words of this line for this token, where the line defines it, or goes on with it.
+fn words_for<'a>(line: &'a str, name: &str, inside: bool) -> Option<&'a str> {
+    let (belongs, words) = match line.split_once(" = ") {
+        Some((defined, words)) => (defined == name, words),
+        None => (inside, line),
+    };
+    if belongs { Some(words) } else { None }
+}
+
 /// A token that has no definition ends the test.
 fn push_token(rt: &impl Test, tokens: &str, name: &str, octets: &mut Vec<u8>) {
     let before = octets.len();
     let mut inside = false;
     for line in tokens.lines() {
-        match line.split_once(" = ") {
-            Some((defined, words)) => {
-                inside = defined == name;
-                if inside {
-                    push_words(rt, words, octets);
-                }
-            }
-            None => {
-                if inside {
-                    push_words(rt, line, octets);
-                }
-            }
-        }
+        let words = words_for(line, name, inside);
+        inside = words.is_some();
+        push_words(rt, words.unwrap_or(""), octets);
     }
     holds(rt, octets.len() != before, name);
 }

@@ -1,9 +1,10 @@
 //! Package lists, and what the ends that are made of them have in hand.
 
-use crate::tests::checks::{Test, given, halves, holds};
+use crate::tests::came::refusal;
+use crate::tests::checks::{Test, comes, halves, holds, joined, lend};
 use crate::tests::end::{End, Plain};
 use crate::tests::scene::{config, identities};
-use sspi_negotiate::{FALLBACK_ERROR_KINDS, PackageListConfig};
+use sspi_negotiate::{FALLBACK_ERROR_KINDS, NegotiateConfig, PackageListConfig};
 use sspi_types::{Error, ErrorKind};
 
 /// Which packages each list allows, and the list in quotes, or `none`.
@@ -56,22 +57,28 @@ fn lists(rt: HostRuntime) {
     }
 }
 
+fn hand(rt: &impl Test, end: &impl End) -> String {
+    let need = if end.needs_mic() { " true" } else { " false" };
+    joined(rt, end.hand(), need)
+}
+
 /// What a new end has in hand, with MICs needed, or how it is refused.
 fn begun<E: End>(rt: &impl Test, made: Result<E, Error>) -> String {
     match made {
-        Ok(end) => {
-            let (hand, need) = (end.hand(), end.needs_mic());
-            given(rt, format!(in rt.alloc(); "{hand} {need}"))
-        }
-        Err(error) => {
-            let (kind, reason) = (error.error_type, error.description);
-            given(rt, format!(in rt.alloc(); "{kind:?} {reason:?}"))
-        }
+        Ok(end) => hand(rt, &end),
+        Err(error) => refusal(rt, error),
     }
 }
 
-fn is(rt: &impl Test, line: &str, begun: String, wanted: &str) {
-    assert!(rt; begun.as_str() == wanted, "{line}: {begun}");
+fn client_begins<E: End>(rt: &impl Test, line: &str, config: &NegotiateConfig, wanted: &str) {
+    let begun = begun(rt, E::client(rt.alloc(), config));
+    comes(rt, line, &begun, wanted);
+}
+
+fn server_begins<E: End>(rt: &impl Test, line: &str, config: &NegotiateConfig, wanted: &str) {
+    let known = identities(rt, "DOM\\ann pw");
+    let begun = begun(rt, E::server(rt.alloc(), config, known));
+    comes(rt, line, &begun, wanted);
 }
 
 /// A client and a server that begin with this mechanism come to that.
@@ -82,23 +89,13 @@ fn begin<E: End>(
     list: Option<&str>,
     wanted: (&str, &str),
 ) {
-    let config = config(rt, protocol, list);
-    is(
-        rt,
-        line,
-        begun(rt, E::client(rt.alloc(), &config)),
-        wanted.0,
-    );
-    let known = identities(rt, "DOM\\ann pw");
-    is(
-        rt,
-        line,
-        begun(rt, E::server(rt.alloc(), &config, known)),
-        wanted.1,
-    );
+    lend(config(rt, protocol, list), |config| {
+        client_begins::<E>(rt, line, config, wanted.0);
+        server_begins::<E>(rt, line, config, wanted.1);
+    });
 }
 
-const NO_PACKAGE: &str = "NoCredentials NoPackage";
+const NO_PACKAGE: &str = "refuses NoCredentials NoPackage";
 
 /// An end that begins with NTLM has it in hand where its list allows it; else a client takes Kerberos, where that is allowed, and a
 /// server is not made.
@@ -106,7 +103,7 @@ fn beginning_with_ntlm(allowed: &str) -> (&'static str, &'static str) {
     match allowed {
         "both" => ("NTLM true", "NTLM true"),
         "ntlm" => ("NTLM true", "NTLM true"),
-        "kerberos" => ("Kerberos true", "InternalError Disabled"),
+        "kerberos" => ("Kerberos true", "refuses InternalError Disabled"),
         _ => (NO_PACKAGE, NO_PACKAGE),
     }
 }
@@ -121,30 +118,38 @@ fn beginning_with_kerberos(allowed: &str) -> (&'static str, &'static str) {
     }
 }
 
+fn begin_with_each(rt: &impl Test, line: &str, allowed: &str, list: Option<&str>) {
+    let wanted = beginning_with_ntlm(allowed);
+    begin::<Plain>(rt, line, "ntlm", list, wanted);
+    let wanted = beginning_with_kerberos(allowed);
+    begin::<Plain>(rt, line, "kerberos", list, wanted);
+}
+
 #[test]
 fn new_ends(rt: HostRuntime) {
     for line in LISTS.lines() {
         let (allowed, text) = halves(line);
-        let list = list_of(text);
         if !allowed.is_empty() {
-            begin::<Plain>(&rt, line, "ntlm", list, beginning_with_ntlm(allowed));
-            begin::<Plain>(
-                &rt,
-                line,
-                "kerberos",
-                list,
-                beginning_with_kerberos(allowed),
-            );
+            begin_with_each(&rt, line, allowed, list_of(text));
         }
     }
+}
+
+fn is_code(rt: &impl Test, kind: ErrorKind, code: u32, what: &str) {
+    holds(rt, kind as u32 == code, what);
 }
 
 /// SEC_E_TIME_SKEW, SEC_E_NO_AUTHENTICATING_AUTHORITY, SEC_E_CERT_UNKNOWN and SEC_E_UNKNOWN_CREDENTIALS.
 #[test]
 fn fallback_kinds(rt: HostRuntime) {
-    let codes = [0x8009_0324, 0x8009_0311, 0x8009_0327, 0x8009_030d];
-    for (kind, code) in FALLBACK_ERROR_KINDS.iter().zip(codes) {
-        assert_eq!(rt; *kind as u32, code);
-    }
-    assert!(rt; !FALLBACK_ERROR_KINDS.contains(&ErrorKind::LogonDenied));
+    let [time, authority, certificate, credentials] = FALLBACK_ERROR_KINDS;
+    is_code(&rt, time, 0x8009_0324, "time");
+    is_code(&rt, authority, 0x8009_0311, "authority");
+    is_code(&rt, certificate, 0x8009_0327, "certificate");
+    is_code(&rt, credentials, 0x8009_030d, "credentials");
+    holds(
+        &rt,
+        !FALLBACK_ERROR_KINDS.contains(&ErrorKind::LogonDenied),
+        "logon",
+    );
 }

@@ -1,6 +1,6 @@
 //! What the lines of a case say before its calls: what an end is made of, the end, and what its next step is handed.
 
-use crate::tests::checks::{Test, given, halves, text};
+use crate::tests::checks::{Test, given, halves, lend, put, text};
 use crate::tests::end::End;
 use bitflags::Flags;
 use sspi_mech::{
@@ -17,6 +17,7 @@ use sspi_types::{
 };
 use std::alloc::Global;
 use std::mem;
+use std::process::Abort;
 
 /// What a case has said so far.
 #[derive(Drop)]
@@ -32,18 +33,23 @@ pub struct Scene<E> {
 
 // ---- values in words
 
+fn push_many(rt: &impl Test, letter: &str, times: usize, name: &mut String) {
+    for _ in 0..times {
+        given(rt, name.push_str(letter));
+    }
+}
+
+fn push_name(rt: &impl Test, word: &str, name: &mut String) {
+    match word.split_once('*') {
+        None => given(rt, name.push_str(word)),
+        Some((letter, times)) => push_many(rt, letter, given(rt, times.parse()), name),
+    }
+}
+
 /// A name; `a*300` is one of 300 letters.
 fn name(rt: &impl Test, word: &str) -> String {
     let mut name = String::new(rt.alloc());
-    match word.split_once('*') {
-        None => given(rt, name.push_str(word)),
-        Some((letter, times)) => {
-            let times: usize = given(rt, times.parse());
-            for _ in 0..times {
-                given(rt, name.push_str(letter));
-            }
-        }
-    }
+    push_name(rt, word, &mut name);
     name
 }
 
@@ -171,15 +177,32 @@ pub fn protocol_config(
     }
 }
 
-/// A configuration that begins with this mechanism, may use these packages and knows no KDC.
-pub fn config(rt: &impl Test, protocol: &str, packages: Option<&str>) -> NegotiateConfig {
-    let kdcs = KdcTable::new(rt.alloc());
+fn config_with(
+    rt: &impl Test,
+    protocol: &str,
+    packages: Option<&str>,
+    kdc_url: Option<&str>,
+    kdcs: KdcTable,
+) -> NegotiateConfig {
     NegotiateConfig::new(
-        protocol_config(rt, protocol, None, &kdcs),
+        protocol_config(rt, protocol, kdc_url, &kdcs),
         packages.map(|list| text(rt, list)),
         text(rt, "CLIENT"),
         kdcs,
     )
+}
+
+/// A configuration that begins with this mechanism, may use these packages and knows no KDC.
+pub fn config(rt: &impl Test, protocol: &str, packages: Option<&str>) -> NegotiateConfig {
+    config_with(rt, protocol, packages, None, KdcTable::new(rt.alloc()))
+}
+
+/// What was made, to be called.
+pub fn made<'a, E>(rt: &impl Abort, end: &'a mut Option<E>) -> &'a mut E {
+    match end {
+        Some(end) => end,
+        None => rt.abort(),
+    }
 }
 
 impl<E: End> Scene<E> {
@@ -198,28 +221,28 @@ impl<E: End> Scene<E> {
     /// The configuration in the words of a mechanism and a package list, where there is one.
     fn config(&mut self, rt: &impl Test, words: &str) -> NegotiateConfig {
         let (protocol, packages) = halves(words);
+        let packages = if packages.is_empty() {
+            None
+        } else {
+            Some(packages)
+        };
         let kdcs = mem::replace(&mut self.kdcs, KdcTable::new(rt.alloc()));
-        NegotiateConfig::new(
-            protocol_config(rt, protocol, self.kdc_url, &kdcs),
-            if packages.is_empty() {
-                None
-            } else {
-                Some(text(rt, packages))
-            },
-            text(rt, "CLIENT"),
-            kdcs,
-        )
+        config_with(rt, protocol, packages, self.kdc_url, kdcs)
     }
 
     fn make_client(&mut self, rt: &impl Test, words: &str) {
-        let config = self.config(rt, words);
-        self.end = Some(given(rt, E::client(rt.alloc(), &config)));
+        let end = lend(self.config(rt, words), |config| {
+            E::client(rt.alloc(), config)
+        });
+        put(&mut self.end, Some(given(rt, end)));
     }
 
     fn make_server(&mut self, rt: &impl Test, words: &str) {
-        let config = self.config(rt, words);
         let known = mem::replace(&mut self.known, Vec::new(rt.alloc()));
-        self.end = Some(given(rt, E::server(rt.alloc(), &config, known)));
+        let end = lend(self.config(rt, words), |config| {
+            E::server(rt.alloc(), config, known)
+        });
+        put(&mut self.end, Some(given(rt, end)));
     }
 
     fn know(&mut self, rt: &impl Test, words: &str) {
@@ -239,7 +262,7 @@ impl<E: End> Scene<E> {
             "kdc-url" => self.kdc_url = Some(words),
             "client" => self.make_client(rt, words),
             "server" => self.make_server(rt, words),
-            "handle" => self.handle = buffers(rt, words),
+            "handle" => put(&mut self.handle, buffers(rt, words)),
             "flags" => self.flags = flags(rt, words),
             "target" => self.target = Some(words),
             _ => rt.abort(),
@@ -250,22 +273,17 @@ impl<E: End> Scene<E> {
     pub fn initialize(&mut self, rt: &impl Test, input: &[u8]) -> Result<Progressing, Error> {
         let flags = ClientRequestFlags::from_bits_retain(self.flags);
         let args = client_args(self.handle.as_ref(), flags, self.target, input);
-        match &mut self.end {
-            None => rt.abort(),
-            Some(end) => end.initialize(&args),
-        }
+        made(rt, &mut self.end).initialize(&args)
     }
 
     /// The end that was made last makes a server's step.
     pub fn accept(&mut self, rt: &impl Test, input: &[u8]) -> Result<Step, Error> {
-        match &mut self.end {
-            None => rt.abort(),
-            Some(end) => end.accept(&AcceptSecurityContext {
-                credentials_handle: None,
-                context_requirements: ServerRequestFlags::from_bits_retain(self.flags),
-                target_data_representation: DataRepresentation::Network,
-                input,
-            }),
-        }
+        let args = AcceptSecurityContext {
+            credentials_handle: None,
+            context_requirements: ServerRequestFlags::from_bits_retain(self.flags),
+            target_data_representation: DataRepresentation::Network,
+            input,
+        };
+        made(rt, &mut self.end).accept(&args)
     }
 }

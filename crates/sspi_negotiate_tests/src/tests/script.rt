@@ -26,30 +26,29 @@
 use crate::tests::came::{
     of_buffers, of_identities, of_names, of_octets, of_progress, of_status, of_step, wanted,
 };
-use crate::tests::checks::{Test, given, halves, holds};
+use crate::tests::checks::{Test, comes, given, halves, joined, put};
 use crate::tests::end::{End, Plain};
 use crate::tests::octets::octets;
-use crate::tests::scene::{Scene, credentials};
+use crate::tests::scene::{Scene, credentials, made};
 use crate::tests::told::Told;
 use sspi_mech::{Ntlm, Reply};
-use sspi_names::CredentialsBuffers;
+use sspi_names::{Credentials, CredentialsBuffers};
 use sspi_negotiate::Negotiate;
-use sspi_types::{Bytes, CredentialUse};
+use sspi_types::{Bytes, CredentialUse, Error};
 
 fn state(rt: &impl Test, end: &impl End) -> String {
-    let hand = end.hand();
     let mic = if end.needs_mic() {
-        "MIC needed"
+        ", MIC needed"
     } else {
-        "no MIC"
+        ", no MIC"
     };
-    given(rt, format!(in rt.alloc(); "{hand}, {mic}"))
+    joined(rt, end.hand(), mic)
 }
 
 fn questions(rt: &impl Test, end: &impl End) -> String {
     let left = end.questions_left();
-    let waits = if end.waits() { ", one waits" } else { "" };
-    given(rt, format!(in rt.alloc(); "{left}{waits}"))
+    let left = given(rt, format!(in rt.alloc(); "{left}"));
+    joined(rt, &left, if end.waits() { ", one waits" } else { "" })
 }
 
 fn resume(rt: &impl Test, end: &mut impl End, told: Vec<u8>) -> String {
@@ -64,6 +63,13 @@ fn credential_use(rt: &impl Test, word: &str) -> CredentialUse {
     }
 }
 
+fn credentials_or_none(rt: &impl Test, words: &str) -> Option<Credentials> {
+    match words {
+        "none" => None,
+        _ => Some(credentials(rt, words)),
+    }
+}
+
 fn acquire(
     rt: &impl Test,
     end: &mut impl End,
@@ -71,19 +77,26 @@ fn acquire(
     words: &str,
 ) -> String {
     let (word, words) = halves(words);
-    let credential_use = credential_use(rt, word);
-    if words == "none" {
-        return of_buffers(rt, handle, end.acquire(credential_use, None));
-    }
-    let credentials = credentials(rt, words);
-    of_buffers(rt, handle, end.acquire(credential_use, Some(&credentials)))
+    let credentials = credentials_or_none(rt, words);
+    let answer = end.acquire(credential_use(rt, word), credentials.as_ref());
+    of_buffers(rt, handle, answer)
 }
 
-fn identify(rt: &impl Test, end: &mut impl End, words: &str) -> String {
-    if words == "none" {
-        return of_identities(rt, end.set_identities(Vec::new(rt.alloc())));
+fn identify(rt: &impl Test, end: &mut impl End, words: &str) -> Result<(), Error> {
+    match words {
+        "none" => end.set_identities(Vec::new(rt.alloc())),
+        _ => end.set_identity(credentials(rt, words)),
     }
-    of_identities(rt, end.set_identity(credentials(rt, words)))
+}
+
+/// What comes of a text that is sealed or opened.
+fn protect(rt: &impl Test, tokens: &str, end: &mut impl End, word: &str, words: &str) -> String {
+    let text = octets(rt, tokens, words);
+    let answer = match word {
+        "seal" => end.seals(&text),
+        _ => end.opens(&text),
+    };
+    of_octets(rt, answer)
 }
 
 /// What comes of a call that is no step.
@@ -101,9 +114,8 @@ fn call(
         "acquire" => acquire(rt, end, handle, words),
         "names" => of_names(rt, end.names()),
         "complete" => of_status(rt, end.complete()),
-        "identify" => identify(rt, end, words),
-        "seal" => of_octets(rt, end.seals(&octets(rt, tokens, words))),
-        "unseal" => of_octets(rt, end.opens(&octets(rt, tokens, words))),
+        "identify" => of_identities(rt, identify(rt, end, words)),
+        "seal" | "unseal" => protect(rt, tokens, end, word, words),
         _ => rt.abort(),
     }
 }
@@ -114,34 +126,31 @@ fn came<E: End>(rt: &impl Test, tokens: &str, scene: &mut Scene<E>, told: &str) 
     match word {
         "initialize" => of_progress(rt, scene.initialize(rt, &octets(rt, tokens, words))),
         "accept" => of_step(rt, scene.accept(rt, &octets(rt, tokens, words))),
-        _ => match &mut scene.end {
-            None => rt.abort(),
-            Some(end) => call(rt, tokens, end, &scene.handle, word, words),
-        },
+        _ => {
+            let end = made(rt, &mut scene.end);
+            call(rt, tokens, end, &scene.handle, word, words)
+        }
     }
 }
 
-fn is(rt: &impl Test, line: &str, came: String, wanted: &str) {
-    assert!(rt; came.as_str() == wanted, "{line}: {came}");
+fn standing(rt: &impl Test, end: &impl End, word: &str) -> String {
+    if word == "state" {
+        state(rt, end)
+    } else {
+        questions(rt, end)
+    }
 }
 
 fn stands<E: End>(rt: &impl Test, scene: &Scene<E>, line: &str, word: &str, words: &str) {
     match &scene.end {
         None => rt.abort(),
-        Some(end) => {
-            let came = if word == "state" {
-                state(rt, end)
-            } else {
-                questions(rt, end)
-            };
-            is(rt, line, came, words);
-        }
+        Some(end) => comes(rt, line, &standing(rt, end, word), words),
     }
 }
 
 fn calls<E: End>(rt: &impl Test, tokens: &str, scene: &mut Scene<E>, told: &str, text: &str) {
     let came = came(rt, tokens, scene, told);
-    is(rt, told, came, &wanted(rt, tokens, text));
+    comes(rt, told, &came, &wanted(rt, tokens, text));
 }
 
 fn goes<E: End>(rt: &impl Test, tokens: &str, scene: &mut Scene<E>, line: &'static str) {
@@ -151,19 +160,23 @@ fn goes<E: End>(rt: &impl Test, tokens: &str, scene: &mut Scene<E>, line: &'stat
     let (word, words) = halves(line);
     match word {
         "#" => (),
-        "" => *scene = Scene::new(rt.alloc()),
+        "" => put(scene, Scene::new(rt.alloc())),
         "state" => stands(rt, scene, line, word, words),
         "questions" => stands(rt, scene, line, word, words),
         _ => scene.set(rt, word, words),
     }
 }
 
+fn go_on<E: End>(rt: &impl Test, tokens: &str, scene: &mut Scene<E>, script: &'static str) {
+    for line in script.lines() {
+        goes(rt, tokens, scene, line);
+    }
+}
+
 /// Each line of the script comes true of ends of this type; a text of tokens defines the names in it.
 fn run<E: End>(rt: &impl Test, tokens: &str, script: &'static str) {
     let mut scene: Scene<E> = Scene::new(rt.alloc());
-    for line in script.lines() {
-        goes(rt, tokens, &mut scene, line);
-    }
+    go_on(rt, tokens, &mut scene, script);
 }
 
 /// The same of ends over the two plain mechanisms.

@@ -1,3 +1,4 @@
+use crate::tests::checks::holds;
 use sspi_scenario::{Purpose, Scenario, ScenarioError};
 use std::alloc::Global;
 use std::process::Abort;
@@ -92,11 +93,17 @@ const FAULTS_OF_SESSIONS: [(&str, usize); 4] = [
     ("turns 5\nturns 5", 2),
 ];
 
-fn is_refused(rt: &impl Abort, alloc: Global, purpose: Purpose, text: &str, line: usize) {
-    match Scenario::parse(alloc, purpose, text.as_bytes()) {
-        Err(ScenarioError::Line(found)) => assert!(rt; found == line, "{line} {text}"),
-        _ => assert!(rt; false, "{line} {text}"),
+/// The line at which a text is refused; none where it is not refused for a line.
+fn line_of<T: Drop>(read: Result<T, ScenarioError>) -> Option<usize> {
+    match read {
+        Err(ScenarioError::Line(line)) => Some(line),
+        _ => None,
     }
+}
+
+fn is_refused(rt: &impl Abort, alloc: Global, purpose: Purpose, text: &str, line: usize) {
+    let read = Scenario::parse(alloc, purpose, text.as_bytes());
+    holds(rt, line_of(read) == Some(line), text);
 }
 
 #[test]

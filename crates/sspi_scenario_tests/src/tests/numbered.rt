@@ -1,3 +1,4 @@
+use crate::tests::checks::{given, holds, lend, parsed};
 use sspi_delegate::{Edit, EditKind};
 use sspi_names::AuthIdentity;
 use sspi_scenario::numbered::numbered;
@@ -112,31 +113,25 @@ fn have_same_lists(a: &Scenario, b: &Scenario) -> bool {
 }
 
 fn check_same(rt: &impl Abort, told: &Scenario, made: &Scenario, line: &str) {
-    assert!(rt; have_same_ends(told, made), "{line}");
-    assert!(rt; have_same_names(told, made), "{line}");
-    assert!(rt; have_same_lists(told, made), "{line}");
+    holds(rt, have_same_ends(told, made), line);
+    holds(rt, have_same_names(told, made), line);
+    holds(rt, have_same_lists(told, made), line);
 }
 
-/// Compares with the scenario of the number. One scenario is dropped here, and one by the caller: to drop both at once costs more.
+/// Compares with the scenario of the number.
 fn is_made(rt: &impl Abort, alloc: Global, number: u32, told: &Scenario, line: &str) {
-    match numbered(alloc, number) {
-        Ok(made) => check_same(rt, told, &made, line),
-        Err(_) => assert!(rt; false, "no memory"),
-    }
+    let made = given(rt, numbered(alloc, number));
+    lend(made, |made| check_same(rt, told, made, line));
 }
 
 fn is_told(rt: &impl Abort, alloc: Global, text: &str, number: u32, line: &str) {
-    match Scenario::parse(alloc, Purpose::Exchange, text.as_bytes()) {
-        Ok(told) => is_made(rt, alloc, number, &told, line),
-        Err(_) => assert!(rt; false, "{line}"),
-    }
+    let told = parsed(rt, alloc, Purpose::Exchange, text.as_bytes());
+    lend(told, |told| is_made(rt, alloc, number, told, line));
 }
 
 fn is_same(rt: &impl Abort, alloc: Global, line: &str) {
-    match text_of(alloc, line) {
-        Ok((text, number)) => is_told(rt, alloc, text.as_str(), number, line),
-        Err(_) => assert!(rt; false, "no memory"),
-    }
+    let (text, number) = given(rt, text_of(alloc, line));
+    is_told(rt, alloc, text.as_str(), number, line);
 }
 
 /// The scenario of a number is what its text tells.

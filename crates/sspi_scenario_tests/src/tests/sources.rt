@@ -1,55 +1,53 @@
+use crate::tests::checks::given;
 use sspi_ber::{FaultySource, SliceSource, Source};
 use sspi_scenario::{TextError, read_text};
-use std::alloc::{AllocError, Global};
+use std::alloc::Global;
 use std::process::Abort;
-use std::test::Fail;
 
 fn length_read<S: Source>(alloc: Global, source: &mut S) -> Result<usize, TextError> {
     Ok(read_text(alloc, source)?.len())
 }
 
-/// The text of a source of so many letters.
-fn reads(
-    rt: &impl Abort,
-    alloc: Global,
-    length: usize,
-    read: Result<usize, TextError>,
-) -> Result<(), AllocError> {
-    let bytes = vec![in alloc; b'a'; length]?;
-    let mut source = SliceSource::new(&bytes);
+/// So many letters.
+fn letters(rt: &impl Abort, alloc: Global, length: usize) -> Vec<u8> {
+    given(rt, vec![in alloc; b'a'; length])
+}
+
+/// The text of a source of these letters.
+fn reads(rt: &impl Abort, alloc: Global, letters: &[u8], read: Result<usize, TextError>) {
+    let mut source = SliceSource::new(letters);
     assert_eq!(rt; length_read(alloc, &mut source), read);
-    Ok(())
 }
 
 // Around a piece, and around the limit of 1 MiB.
 #[test]
-fn a_source_is_read_to_its_end(rt: HostRuntime) -> Result<(), Fail> {
+fn a_source_is_read_to_its_end(rt: HostRuntime) {
     for length in [0, 1, 1024, 1025, 1_048_576] {
-        reads(&rt, rt.alloc(), length, Ok(length))?;
+        let letters = letters(&rt, rt.alloc(), length);
+        reads(&rt, rt.alloc(), &letters, Ok(length));
     }
-    reads(&rt, rt.alloc(), 1_048_577, Err(TextError::TooLong))?;
-    Ok(())
+    let letters = letters(&rt, rt.alloc(), 1_048_577);
+    reads(&rt, rt.alloc(), &letters, Err(TextError::TooLong));
 }
 
-/// The text of a source of 10000 letters whose call of this number fails.
+/// The text of a source of these letters whose call of this number fails.
 fn reads_of_failing(
     rt: &impl Abort,
     alloc: Global,
+    letters: &[u8],
     failing: u64,
     read: Result<usize, TextError>,
-) -> Result<(), AllocError> {
-    let bytes = vec![in alloc; b'a'; 10_000]?;
-    let mut source = FaultySource::new(&bytes, failing);
+) {
+    let mut source = FaultySource::new(letters, failing);
     assert_eq!(rt; length_read(alloc, &mut source), read);
-    Ok(())
 }
 
 // The calls 0 to 9 give some, and call 10 is the end.
 #[test]
-fn a_fault_in_mid_stream_is_told(rt: HostRuntime) -> Result<(), Fail> {
+fn a_fault_in_mid_stream_is_told(rt: HostRuntime) {
+    let letters = letters(&rt, rt.alloc(), 10_000);
     for failing in [0, 9, 10] {
-        reads_of_failing(&rt, rt.alloc(), failing, Err(TextError::Failed))?;
+        reads_of_failing(&rt, rt.alloc(), &letters, failing, Err(TextError::Failed));
     }
-    reads_of_failing(&rt, rt.alloc(), 11, Ok(10_000))?;
-    Ok(())
+    reads_of_failing(&rt, rt.alloc(), &letters, 11, Ok(10_000));
 }

@@ -1,3 +1,4 @@
+use crate::tests::checks::{lend, parsed};
 use sspi_delegate::End;
 use sspi_mech::Scripted;
 use sspi_scenario::{Mode, Package, Purpose, Scenario};
@@ -80,10 +81,8 @@ fn check_told(rt: &impl Abort, told: &Scenario) {
 }
 
 fn is_told(rt: &impl Abort, alloc: Global) {
-    match Scenario::parse(alloc, Purpose::Exchange, EVERY_KEY) {
-        Ok(told) => check_told(rt, &told),
-        Err(_) => assert!(rt; false, "no scenario"),
-    }
+    let told = parsed(rt, alloc, Purpose::Exchange, EVERY_KEY);
+    lend(told, |told| check_told(rt, told));
 }
 
 #[test]
@@ -106,10 +105,8 @@ fn deliveries_are_told(told: &Scenario) -> bool {
 }
 
 fn is_told_of_a_play(rt: &impl Abort, alloc: Global) {
-    match Scenario::parse(alloc, Purpose::Play, DELIVERIES) {
-        Ok(told) => assert!(rt; deliveries_are_told(&told)),
-        Err(_) => assert!(rt; false, "no scenario"),
-    }
+    let told = parsed(rt, alloc, Purpose::Play, DELIVERIES);
+    assert!(rt; lend(told, |told| deliveries_are_told(told)));
 }
 
 #[test]
@@ -129,10 +126,8 @@ fn names_are_told(told: &Scenario) -> bool {
 }
 
 fn is_told_of_an_early(rt: &impl Abort, alloc: Global) {
-    match Scenario::parse(alloc, Purpose::Early, ADMITTED) {
-        Ok(told) => assert!(rt; names_are_told(&told)),
-        Err(_) => assert!(rt; false, "no scenario"),
-    }
+    let told = parsed(rt, alloc, Purpose::Early, ADMITTED);
+    assert!(rt; lend(told, |told| names_are_told(told)));
 }
 
 #[test]
@@ -190,10 +185,8 @@ fn check_defaults(rt: &impl Abort, given: &Scenario) {
 }
 
 fn is_the_default(rt: &impl Abort, alloc: Global) {
-    match Scenario::parse(alloc, Purpose::Exchange, FEWEST_KEYS) {
-        Ok(given) => check_defaults(rt, &given),
-        Err(_) => assert!(rt; false, "no scenario"),
-    }
+    let told = parsed(rt, alloc, Purpose::Exchange, FEWEST_KEYS);
+    lend(told, |told| check_defaults(rt, told));
 }
 
 #[test]

@@ -1,17 +1,14 @@
-use crate::tests::{KRB5, MS_KRB5, NTLM, unmade};
+use crate::tests::checks::{differ, equals, given, holds, is};
+use crate::tests::{KRB5, MS_KRB5, NTLM};
 use sspi_tokens::{MechKind, Oid};
-use std::alloc::{AllocError, Global};
+use std::alloc::AllocError;
 use std::process::Abort;
 
 /// The identifier has this content, and names this mechanism.
 fn is_named(rt: &impl Abort, oid: Result<Oid, AllocError>, content: &[u8], kind: MechKind) {
-    match oid {
-        Ok(oid) => {
-            assert!(rt; oid.content() == content);
-            assert_eq!(rt; oid.kind(), kind);
-        }
-        Err(_) => unmade(rt),
-    }
+    let oid = given(rt, oid);
+    holds(rt, oid.content() == content, "another content");
+    is(rt, oid.kind(), kind);
 }
 
 #[test]
@@ -26,10 +23,9 @@ fn of_mechanisms(rt: HostRuntime) {
 
 /// The mechanism gives this identifier, or none where no content is given.
 fn gives(rt: &impl Abort, oid: Result<Option<Oid>, AllocError>, content: Option<&[u8]>) {
-    match oid {
-        Ok(Some(oid)) => assert!(rt; content == Some(oid.content())),
-        Ok(None) => assert!(rt; content.is_none()),
-        Err(_) => unmade(rt),
+    match given(rt, oid) {
+        Some(oid) => holds(rt, content == Some(oid.content()), "another identifier"),
+        None => holds(rt, content.is_none(), "no identifier"),
     }
 }
 
@@ -42,30 +38,10 @@ fn by_mechanisms(rt: HostRuntime) {
     gives(&rt, MechKind::Other.identifier(alloc), None);
 }
 
-fn has_copy(rt: &impl Abort, alloc: Global, oid: Result<Oid, AllocError>) {
-    match oid {
-        Ok(oid) => is_copy(rt, &oid, oid.clone(alloc)),
-        Err(_) => unmade(rt),
-    }
-}
-
-fn is_copy(rt: &impl Abort, oid: &Oid, copy: Result<Oid, AllocError>) {
-    match copy {
-        Ok(copy) => assert!(rt; copy == *oid),
-        Err(_) => unmade(rt),
-    }
-}
-
-fn differ(rt: &impl Abort, one: Result<Oid, AllocError>, other: Result<Oid, AllocError>) {
-    match (one, other) {
-        (Ok(one), Ok(other)) => assert!(rt; one != other),
-        _ => unmade(rt),
-    }
-}
-
 #[test]
 fn compared(rt: HostRuntime) {
     let alloc = rt.alloc();
-    has_copy(&rt, alloc, Oid::krb5(alloc));
+    let krb5 = given(&rt, Oid::krb5(alloc));
+    equals(&rt, krb5.clone(alloc), &krb5);
     differ(&rt, Oid::krb5(alloc), Oid::ms_krb5(alloc));
 }

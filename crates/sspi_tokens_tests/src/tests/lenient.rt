@@ -1,28 +1,30 @@
-use crate::tests::{NTLM, lists, same, unmade};
+use crate::tests::checks::{given, holds, is};
+use crate::tests::{NTLM, lists, same};
 use sspi_tokens::{MechKind, NegResult, NegTokenInit, NegTokenTarg};
 use sspi_types::Error;
 use std::process::Abort;
 
 /// Accept-incomplete and NTLM, and nothing else.
 fn is_first_answer(rt: &impl Abort, decoded: Result<NegTokenTarg, Error>) {
-    match decoded {
-        Ok(token) => {
-            assert!(rt; token.neg_result == Some(NegResult::AcceptIncomplete));
-            picks_ntlm(rt, &token);
-            assert!(rt; token.response_token.is_none());
-            assert!(rt; token.mech_list_mic.is_none());
-        }
-        Err(_) => unmade(rt),
-    }
+    let token = given(rt, decoded);
+    let result = token.neg_result;
+    holds(
+        rt,
+        result == Some(NegResult::AcceptIncomplete),
+        "another result",
+    );
+    picks_ntlm(rt, &token);
+    holds(rt, token.response_token.is_none(), "a token");
+    holds(rt, token.mech_list_mic.is_none(), "a MIC");
 }
 
 fn picks_ntlm(rt: &impl Abort, token: &NegTokenTarg) {
     match &token.supported_mech {
         Some(oid) => {
-            assert!(rt; oid.content() == NTLM.as_slice());
-            assert_eq!(rt; oid.kind(), MechKind::Ntlm);
+            holds(rt, oid.content() == NTLM.as_slice(), "another content");
+            is(rt, oid.kind(), MechKind::Ntlm);
         }
-        None => unmade(rt),
+        None => holds(rt, false, "no mechanism"),
     }
 }
 
@@ -50,13 +52,9 @@ fn one_answer(rt: HostRuntime) {
 }
 
 fn has_token_alone(rt: &impl Abort, decoded: Result<NegTokenTarg, Error>, octets: &[u8]) {
-    match decoded {
-        Ok(token) => {
-            assert!(rt; token.neg_result.is_none());
-            same(rt, &token.response_token, Some(octets));
-        }
-        Err(_) => unmade(rt),
-    }
+    let token = given(rt, decoded);
+    holds(rt, token.neg_result.is_none(), "a result");
+    same(rt, &token.response_token, Some(octets));
 }
 
 // A field behind a later one is left over.
@@ -69,10 +67,8 @@ fn reversed_fields(rt: HostRuntime) {
 }
 
 fn has_list(rt: &impl Abort, decoded: Result<NegTokenInit, Error>, oids: &[&[u8]]) {
-    match decoded {
-        Ok(token) => lists(rt, &token, oids),
-        Err(_) => unmade(rt),
-    }
+    let token = given(rt, decoded);
+    lists(rt, &token, oids);
 }
 
 // A list ends before another tag, and the flags behind it are passed over.

@@ -1,5 +1,7 @@
-use crate::tests::{OFFER, is_malformed, unmade};
+use crate::tests::checks::{given, is, refusal};
+use crate::tests::{OFFER, is_codeless};
 use sspi_tokens::{NegTokenInit, NegTokenTarg};
+use sspi_types::{Error, ErrorKind, Reason};
 use std::alloc::Global;
 use std::process::Abort;
 
@@ -29,33 +31,29 @@ const NO_TARG: &str = "
 : a1 06 30 04 a3 02 80 00
 ";
 
+/// These bytes are refused, as they are no token.
+fn is_no_token<T: Drop>(rt: &impl Abort, bytes: &[u8], decoded: Result<T, Error>) {
+    assert!(rt; decoded.is_err(), "{bytes:?}");
+    let error = refusal(rt, decoded);
+    is_codeless(rt, &error, ErrorKind::InvalidToken, Reason::TokenForm);
+}
+
 fn is_no_init(rt: &impl Abort, alloc: Global, bytes: &[u8]) {
-    match NegTokenInit::decode(alloc, bytes) {
-        Ok(_) => assert!(rt; false, "{bytes:?}"),
-        Err(error) => is_malformed(rt, &error),
-    }
+    is_no_token(rt, bytes, NegTokenInit::decode(alloc, bytes));
 }
 
 fn is_no_targ(rt: &impl Abort, alloc: Global, bytes: &[u8]) {
-    match NegTokenTarg::decode(alloc, bytes) {
-        Ok(_) => assert!(rt; false, "{bytes:?}"),
-        Err(error) => is_malformed(rt, &error),
-    }
-}
-
-fn pairs(rt: &impl Abort, alloc: Global, digits: &str, is_init: bool) {
-    match hex::decode(alloc, digits) {
-        Ok(bytes) if is_init => is_no_init(rt, alloc, &bytes),
-        Ok(bytes) => is_no_targ(rt, alloc, &bytes),
-        Err(_) => unmade(rt),
-    }
+    is_no_token(rt, bytes, NegTokenTarg::decode(alloc, bytes));
 }
 
 /// The digits stand in pairs.
 fn case(rt: &impl Abort, alloc: Global, digits: &str, is_init: bool) {
-    match digits.replace(alloc, " ", "") {
-        Ok(digits) => pairs(rt, alloc, &digits, is_init),
-        Err(_) => unmade(rt),
+    let digits = given(rt, digits.replace(alloc, " ", ""));
+    let bytes = given(rt, hex::decode(alloc, &digits));
+    if is_init {
+        is_no_init(rt, alloc, &bytes);
+    } else {
+        is_no_targ(rt, alloc, &bytes);
     }
 }
 
@@ -68,7 +66,7 @@ fn cases(rt: &impl Abort, alloc: Global, text: &str, count: u32, is_init: bool) 
             seen = seen.wrapping_add(1);
         }
     }
-    assert_eq!(rt; seen, count);
+    is(rt, seen, count);
 }
 
 #[test]
