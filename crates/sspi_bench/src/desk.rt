@@ -1,6 +1,6 @@
 ghost use Rattle.std.specs.Prelude.{◌<◌};
 
-use crate::sums::sum_of_text;
+use crate::sums::{given_up, sum_of_text};
 use sspi_credssp::{CredSspServer, CredentialsProxy, ServerMode, TableProxy};
 use sspi_desk::{Desk, DeskError, Served};
 use sspi_mech::{Kerberos, Mechanism, Ntlm, NtlmConfig};
@@ -51,10 +51,12 @@ fn admit<N: Mechanism, K: Mechanism, C: CredentialsProxy>(
     server: CredSspServer<N, K, C>,
 ) -> Result<(), AllocError> {
     if desk.admitted() == u64::MAX {
-        return Err(AllocError);
+        return given_up(server, AllocError);
     }
-    desk.admit(server).map_err(|_| AllocError)?;
-    Ok(())
+    match desk.admit(server) {
+        Ok(_) => Ok(()),
+        Err(server) => given_up(server, AllocError),
+    }
 }
 
 fn sum_of_calls<N: Mechanism, K: Mechanism, C: CredentialsProxy>(

@@ -34,35 +34,56 @@ fn repeat(
     }
 }
 
+/// The words after the program's name.
+fn words_of<R: Env + Alloc<A = Global>>(rt: &R) -> Result<Vec<String>> {
+    let mut words = Vec::new(rt.alloc());
+    for word in env::args(rt)?.skip(1) {
+        words.push(word)?;
+    }
+    Ok(words)
+}
+
 /// What is done, and how many times.
-fn words<R: Env + Alloc<A = Global>>(rt: &R) -> Result<(Job, u32)> {
-    let mut args = env::args(rt)?;
-    let _ = args.next();
-    let word = args.next().context("a word is wanted")?;
-    let times = args.next().context("a number is wanted")?;
+fn job_of(alloc: Global, words: &[String]) -> Result<(Job, u32)> {
+    let [verb, times, rest @ ..] = words else {
+        bail!("a word and a number are wanted");
+    };
     let times = times.as_str().parse::<u32>()?;
-    if word.as_str() == "feed" {
-        let size = args.next().context("a size is wanted")?;
-        return Ok((Job::Feed(size.as_str().parse::<usize>()?), times));
+    if verb.as_str() == "feed" {
+        return Ok((Job::Feed(size_of(rest)?), times));
     }
-    if word.as_str() == "desk" {
-        let sessions = args.next().context("a number of sessions is wanted")?;
-        return Ok((Job::Desk(sessions.as_str().parse::<u32>()?), times));
+    if verb.as_str() == "desk" {
+        return Ok((Job::Desk(sessions_of(rest)?), times));
     }
-    let Some(work) = work_of(word.as_str()) else {
+    let Some(work) = work_of(verb.as_str()) else {
         bail!("decode, encode, both, feed or desk is wanted");
     };
-    let mut messages = Vec::new(rt.alloc());
-    for word in args {
+    Ok((Job::Repeat(work, messages_of(alloc, rest)?), times))
+}
+
+fn size_of(words: &[String]) -> Result<usize> {
+    let word = words.first().context("a size is wanted")?;
+    Ok(word.as_str().parse::<usize>()?)
+}
+
+fn sessions_of(words: &[String]) -> Result<u32> {
+    let word = words.first().context("a number of sessions is wanted")?;
+    Ok(word.as_str().parse::<u32>()?)
+}
+
+/// The messages of these words; a request where there is none.
+fn messages_of(alloc: Global, words: &[String]) -> Result<Vec<Message>> {
+    let mut messages = Vec::new(alloc);
+    if words.is_empty() {
+        messages.push(Message::Request)?;
+    }
+    for word in words {
         let Some(message) = message_of(word.as_str()) else {
             bail!("request, init or targ is wanted");
         };
         messages.push(message)?;
     }
-    if messages.is_empty() {
-        messages.push(Message::Request)?;
-    }
-    Ok((Job::Repeat(work, messages), times))
+    Ok(messages)
 }
 
 /// The bytes that the next line of standard input spells in hex.
@@ -72,14 +93,23 @@ fn next_message(rt: &HostRuntime) -> Result<Vec<u8>> {
     Ok(hex::decode(rt.alloc(), line.as_str().trim())?)
 }
 
+/// One line with this checksum, where there is one.
+fn tell(rt: &HostRuntime, sum: Option<u64>, otherwise: &'static str) -> Result<()> {
+    let sum = sum.context(otherwise)?;
+    println!(rt; "{sum}")?;
+    Ok(())
+}
+
+fn repeat_line(rt: &HostRuntime, work: Work, message: Message, times: u32) -> Result<()> {
+    let bytes = next_message(rt)?;
+    let sum = repeat(rt.alloc(), work, message, &bytes, times);
+    tell(rt, sum.ok(), "the message cannot be read or written")
+}
+
 /// One line and one checksum for each message.
 fn repeat_all(rt: &HostRuntime, work: Work, messages: &[Message], times: u32) -> Result<()> {
     for message in messages {
-        let bytes = next_message(rt)?;
-        match repeat(rt.alloc(), work, *message, &bytes, times) {
-            Ok(sum) => println!(rt; "{sum}")?,
-            Err(_) => bail!("the message cannot be read or written"),
-        }
+        repeat_line(rt, work, *message, times)?;
     }
     Ok(())
 }
@@ -89,11 +119,8 @@ fn feed(rt: &HostRuntime, size: usize, times: u32) -> Result<()> {
         bail!("a size of at least 1 is wanted");
     }
     let bytes = next_message(rt)?;
-    match request::repeat_fed(rt.alloc(), size, &bytes, times) {
-        Ok(sum) => println!(rt; "{sum}")?,
-        Err(_) => bail!("the message cannot be read"),
-    }
-    Ok(())
+    let sum = request::repeat_fed(rt.alloc(), size, &bytes, times);
+    tell(rt, sum.ok(), "the message cannot be read")
 }
 
 fn serve(rt: &HostRuntime, sessions: u32, times: u32) -> Result<()> {
@@ -101,18 +128,20 @@ fn serve(rt: &HostRuntime, sessions: u32, times: u32) -> Result<()> {
         bail!("at least 1 session is wanted");
     }
     let bytes = next_message(rt)?;
-    match desk::repeat(rt.alloc(), sessions, &bytes, times) {
-        Ok(sum) => println!(rt; "{sum}")?,
-        Err(_) => bail!("no memory"),
+    let sum = desk::repeat(rt.alloc(), sessions, &bytes, times);
+    tell(rt, sum.ok(), "no memory")
+}
+
+fn act(rt: &HostRuntime, job: &Job, times: u32) -> Result<()> {
+    match job {
+        Job::Repeat(work, messages) => repeat_all(rt, *work, messages, times),
+        Job::Feed(size) => feed(rt, *size, times),
+        Job::Desk(sessions) => serve(rt, *sessions, times),
     }
-    Ok(())
 }
 
 fn main(rt: HostRuntime) -> Result<()> {
-    let (job, times) = words(&rt)?;
-    match job {
-        Job::Repeat(work, messages) => repeat_all(&rt, work, &messages, times),
-        Job::Feed(size) => feed(&rt, size, times),
-        Job::Desk(sessions) => serve(&rt, sessions, times),
-    }
+    let words = words_of(&rt)?;
+    let (job, times) = job_of(rt.alloc(), &words)?;
+    act(&rt, &job, times)
 }

@@ -1,6 +1,6 @@
 ghost use Rattle.std.specs.Prelude.{◌<◌};
 
-use crate::sums::{len_of, sum_of_text};
+use crate::sums::{given_up, len_of, sum_of_text};
 use crate::work::Work;
 use sspi_ber::{VecSink, WireKind};
 use sspi_tsreq::{TsReader, TsRequest};
@@ -36,26 +36,46 @@ fn encode(alloc: Global, request: &TsRequest) -> Result<u64, WireKind> {
 /// The work so many times on the TSRequest that the bytes begin with.
 pub(crate) fn repeat(alloc: Global, work: Work, bytes: &[u8], times: u32) -> Result<u64, WireKind> {
     let request = TsRequest::from_buffer(alloc, bytes)?;
+    repeat_with(alloc, work, bytes, &request, times)
+}
+
+/// The same with what was decoded, which is lent, so that leaving the loop drops nothing.
+fn repeat_with(
+    alloc: Global,
+    work: Work,
+    bytes: &[u8],
+    request: &TsRequest,
+    times: u32,
+) -> Result<u64, WireKind> {
     let mut sum = 0u64;
     for _ in 0..times {
         let one = match work {
             Work::Decode => decode(alloc, bytes)?,
-            Work::Encode => encode(alloc, &request)?,
-            Work::Both => encode(alloc, &request)?.wrapping_add(decode(alloc, bytes)?),
+            Work::Encode => encode(alloc, request)?,
+            Work::Both => encode(alloc, request)?.wrapping_add(decode(alloc, bytes)?),
         };
         sum = sum.wrapping_add(one);
     }
     Ok(sum)
 }
 
+fn feed_all(reader: &mut TsReader, bytes: &[u8], size: usize) -> Result<(), WireKind>
+    requires { 0 < size }
+{
+    for piece in bytes.chunks(size) {
+        reader.feed(piece)?;
+    }
+    Ok(())
+}
+
 fn feed(alloc: Global, bytes: &[u8], size: usize) -> Result<u64, WireKind>
     requires { 0 < size }
 {
     let mut reader = TsReader::new(alloc);
-    for piece in bytes.chunks(size) {
-        reader.feed(piece)?;
+    match feed_all(&mut reader, bytes, size) {
+        Ok(()) => Ok(sum_of(&reader.finish()?)),
+        Err(kind) => given_up(reader, kind),
     }
-    Ok(sum_of(&reader.finish()?))
 }
 
 /// So many times the TSRequest that the bytes begin with, from pieces of `size` bytes.

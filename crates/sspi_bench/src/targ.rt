@@ -32,12 +32,23 @@ fn encode(alloc: Global, token: &NegTokenTarg) -> Result<u64, Error> {
 /// The work so many times on the NegTokenTarg that the bytes begin with.
 pub(crate) fn repeat(alloc: Global, work: Work, bytes: &[u8], times: u32) -> Result<u64, Error> {
     let token = NegTokenTarg::decode(alloc, bytes)?;
+    repeat_with(alloc, work, bytes, &token, times)
+}
+
+/// The same with what was decoded, which is lent, so that leaving the loop drops nothing.
+fn repeat_with(
+    alloc: Global,
+    work: Work,
+    bytes: &[u8],
+    token: &NegTokenTarg,
+    times: u32,
+) -> Result<u64, Error> {
     let mut sum = 0u64;
     for _ in 0..times {
         let one = match work {
             Work::Decode => decode(alloc, bytes)?,
-            Work::Encode => encode(alloc, &token)?,
-            Work::Both => encode(alloc, &token)?.wrapping_add(decode(alloc, bytes)?),
+            Work::Encode => encode(alloc, token)?,
+            Work::Both => encode(alloc, token)?.wrapping_add(decode(alloc, bytes)?),
         };
         sum = sum.wrapping_add(one);
     }
