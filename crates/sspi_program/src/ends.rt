@@ -1,4 +1,4 @@
-ghost use Rattle.std.specs.Prelude.{◌≡◌, IfOk};
+ghost use Rattle.std.specs.Prelude.{◌≡◌, IfOk, IsErr, Ok};
 ghost use Rattle.sspi_credssp.specs.Ends.{IsFreshClient, IsFreshServer};
 ghost use Rattle.sspi_program.specs.Ends.{credentials_in, IsClientOf, IsServerOf, link_in, kdc_in};
 ghost use Rattle.sspi_program.specs.Making.{AreEndsOf};
@@ -32,26 +32,27 @@ pub fn ends_of(alloc: Global, scenario: &Scenario) -> Result<Ends, AllocError>
     ensures { IfOk result (AreEndsOf scenario.now) }
 {
     let kdc = kdc_of(alloc, scenario)?;
-    let server = server_of(alloc, scenario)?;
-    with_client(alloc, scenario, server, kdc)
-}
-
-/// The same, where the server and the KDC are there.
-fn with_client(
-    alloc: Global,
-    scenario: &Scenario,
-    server: Box<Server>,
-    kdc: PlainKdc,
-) -> Result<Ends, AllocError>
-    ensures { IsFreshServer server.value → IsServerOf scenario.now server.value → kdc ≡ kdc_in scenario.now →
-        IfOk result (AreEndsOf scenario.now) }
-{
-    let client = client_of(alloc, scenario)?;
+    let (server, kdc) = beside(server_of(alloc, scenario), kdc)?;
+    let (client, (server, kdc)) = beside(client_of(alloc, scenario), (server, kdc))?;
     Ok(Ends {
         client,
         server,
         kdc,
     })
+}
+
+/// What was made, and what was there before. Generic, as what follows is, since to drop a value of a type parameter is one step.
+pub fn beside<T, A: Drop>(made: Result<T, AllocError>, there: A) -> Result<(T, A), AllocError>
+    ensures { IfOk result (λ both. (made ≡ Ok both.0) × (both.1 ≡ there)) }
+{
+    Ok((made?, there))
+}
+
+/// Gives up what was there before.
+pub fn given_up<A: Drop, T>(_there: A, error: AllocError) -> Result<T, AllocError>
+    ensures { IsErr result }
+{
+    Err(error)
 }
 
 /// The client that the scenario names, to which nothing was delivered.
@@ -60,9 +61,9 @@ fn client_of(alloc: Global, scenario: &Scenario) -> Result<Box<Client>, AllocErr
     ensures named { IfOk result (λ client. IsClientOf scenario.now client.value) }
 {
     let key = scenario.key.clone(alloc)?.into_inner();
-    let credentials = credentials_of(alloc, scenario)?;
-    let mode = client_mode(alloc, scenario)?;
     let target = scenario.target.clone(alloc)?.into_inner();
+    let credentials = credentials_of(alloc, scenario)?;
+    let (mode, credentials) = beside(client_mode(alloc, scenario), credentials)?;
     let client = CredSspClient::new_with_version(
         alloc,
         key,
@@ -76,7 +77,7 @@ fn client_of(alloc: Global, scenario: &Scenario) -> Result<Box<Client>, AllocErr
     boxed(alloc, client.with_least_version(scenario.client_least))
 }
 
-/// Generic, since to drop a value of a type parameter is one step.
+/// Generic, as `beside` is.
 fn boxed<T: Drop>(alloc: Global, value: T) -> Result<Box<T>, AllocError>
     ensures { IfOk result (λ made. made.value ≡ value) }
 {

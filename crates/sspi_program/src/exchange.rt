@@ -4,7 +4,7 @@ ghost use Rattle.sspi_program.specs.Ends.{link_in};
 ghost use Rattle.sspi_program.specs.Making.{AreEndsOf};
 ghost use Rattle.sspi_scenario.specs.Held.{HoldsValues};
 
-use crate::ends::{Ends, ends_of, link_of};
+use crate::ends::{Ends, beside, ends_of, given_up, link_of};
 use crate::record::{Record, RunOutcome};
 use sspi_delegate::{MemoryLink, Transcript, delegate};
 use sspi_early::ListPolicy;
@@ -16,9 +16,19 @@ pub fn exchange(alloc: Global, scenario: Scenario) -> Result<Record, AllocError>
     ensures scenario { IfOk result (λ kept. kept.scenario ≡ scenario) }
     ensures exchange { HoldsValues scenario → IfOk result HasExchange }
 {
-    let link = link_of(alloc, &scenario)?;
-    let ends = ends_of(alloc, &scenario)?;
-    Ok(meet(alloc, scenario, ends, link))
+    match ends_and_link(alloc, &scenario) {
+        Ok((ends, link)) => Ok(meet(alloc, scenario, ends, link)),
+        Err(error) => given_up(scenario, error),
+    }
+}
+
+/// The ends and the link that the scenario names.
+fn ends_and_link(alloc: Global, scenario: &Scenario) -> Result<(Ends, MemoryLink), AllocError>
+    ensures ends { IfOk result (λ both. AreEndsOf scenario.now both.0) }
+    ensures link { IfOk result (λ both. both.1 ≡ link_in scenario.now) }
+{
+    let link = link_of(alloc, scenario)?;
+    beside(ends_of(alloc, scenario), link)
 }
 
 /// The exchange of these ends over this link.

@@ -11,8 +11,10 @@ ghost use Rattle.sspi_program.specs.Ends.{
   negotiate_config_in,
 };
 
+use crate::ends::given_up;
 use sspi_credssp::{ClientMode, ServerMode};
 use sspi_mech::{KerberosConfig, KerberosServerConfig, NtlmConfig};
+use sspi_names::KdcTable;
 use sspi_negotiate::{NegotiateConfig, ProtocolConfig};
 use sspi_scenario::{Mode, Package, Scenario};
 use sspi_types::Text;
@@ -119,10 +121,26 @@ fn negotiate_config(
 ) -> Result<NegotiateConfig, AllocError>
     ensures { IfOk result (λ config. config ≡ negotiate_config_in scenario.now first packages.now) }
 {
+    match parts(alloc, scenario, packages) {
+        Ok((packages, computer, kdcs)) => {
+            Ok(NegotiateConfig::new(first, packages, computer, kdcs))
+        }
+        Err(error) => given_up(first, error),
+    }
+}
+
+/// The packages, the computer and the KDCs of a configuration.
+fn parts(
+    alloc: Global,
+    scenario: &Scenario,
+    packages: &Option<Text>,
+) -> Result<(Option<Text>, Text, KdcTable), AllocError>
+    ensures { IfOk result (λ parts. (parts.0 ≡ packages.now) × (parts.1 ≡ scenario.now.computer) × (parts.2 ≡ scenario.now.kdc)) }
+{
     let packages = copy_text(alloc, packages)?;
     let computer = scenario.computer.clone(alloc)?;
     let kdcs = scenario.kdc.clone(alloc)?;
-    Ok(NegotiateConfig::new(first, packages, computer, kdcs))
+    Ok((packages, computer, kdcs))
 }
 
 fn copy_text(alloc: Global, text: &Option<Text>) -> Result<Option<Text>, AllocError>

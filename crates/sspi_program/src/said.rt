@@ -26,7 +26,7 @@ pub fn said_of(alloc: Global, made: Record) -> Said
     ensures { SaysOf made result }
 {
     let Some(status) = status_of(&made.outcome) else {
-        return Said::NoMemory;
+        return no_memory(made, AllocError);
     };
     match report_of(alloc, &made) {
         Ok(text) => Said::Done(Conducted::keeping(status, made), text),
@@ -59,6 +59,13 @@ pub fn no_memory<R: Drop, T: Drop>(_made: R, _told: T) -> Said
     ensures { result ≡ Said.NoMemory }
 {
     Said::NoMemory
+}
+
+/// What is said, once what it was said of is dropped. Generic, as `no_memory` is.
+pub fn said_without<R: Drop>(_gone: R, said: Said) -> Said
+    ensures { result ≡ said }
+{
+    said
 }
 
 /// The report of a record with a line behind it.

@@ -9,7 +9,7 @@ ghost use Rattle.sspi_seats.specs.Table.{IsEmpty};
 use crate::command::Task;
 use crate::ends::ends_of;
 use crate::record::{Conducted, PlainSeat, Seats};
-use crate::said::{Said, no_memory};
+use crate::said::{Said, no_memory, said_without};
 use crate::status;
 use sspi_credssp::TableProxy;
 use sspi_mech::{Kerberos, Ntlm, PlainKdc};
@@ -27,8 +27,11 @@ pub fn desk(alloc: Global, count: u32, scenario: Scenario) -> Said
 {
     let mut table = PlainTable::new(alloc, count);
     match seat_all(alloc, count, &scenario, &mut table) {
-        Ok(()) => serve(alloc, scenario.turns, table),
-        Err(error) => no_memory(table, error),
+        Ok(()) => {
+            let said = serve(alloc, scenario.turns, table);
+            said_without(scenario, said)
+        }
+        Err(_) => no_memory(table, scenario),
     }
 }
 

@@ -4,7 +4,7 @@ ghost use Rattle.sspi_program.specs.Play.{HasPlay};
 ghost use Rattle.sspi_program.specs.Telling.{Conducts};
 
 use crate::command::Task;
-use crate::ends::{Ends, ends_of};
+use crate::ends::{Ends, ends_of, given_up};
 use crate::record::{Record, RunOutcome};
 use crate::said::{Said, said_of};
 use sspi_delegate::{MemoryLink, Transcript};
@@ -26,8 +26,10 @@ fn played(alloc: Global, scenario: Scenario) -> Result<Record, AllocError>
     ensures scenario { IfOk result (λ kept. kept.scenario ≡ scenario) }
     ensures play { IfOk result HasPlay }
 {
-    let ends = ends_of(alloc, &scenario)?;
-    Ok(hand_out(alloc, scenario, ends))
+    match ends_of(alloc, &scenario) {
+        Ok(ends) => Ok(hand_out(alloc, scenario, ends)),
+        Err(error) => given_up(scenario, error),
+    }
 }
 
 /// The play of these ends.

@@ -1,4 +1,4 @@
 use Rattle.sspi_program.proofs.exchange.exchange.Goals as goal
 
-pub returns-clause-exchange : goal.returns-clause-exchange
-returns-clause-exchange c held = c.meet.ensures.exchange c.in_ok-ends.ensures c.in_ok-link.ensures held
+pub returns-in-Ok-clause-exchange : goal.returns-in-Ok-clause-exchange
+returns-in-Ok-clause-exchange c held = c.meet.ensures.exchange c.in-Ok.ensures.ends c.in-Ok.ensures.link held
