@@ -7,7 +7,7 @@ use crate::lines::{is_skipped, sides};
 use crate::purpose::Purpose;
 use crate::rows::Rows;
 use crate::scenario::{Scenario, ScenarioError};
-use crate::values::Values;
+use crate::values::{Values, given_up};
 use std::alloc::{AllocError, Global};
 
 /// What the lines so far tell.
@@ -62,10 +62,11 @@ impl Draft {
         ensures { Completes result (draft_completed self) }
     {
         let Draft { values, seen } = self;
-        if !has_required(seen.as_slice()) {
-            return Err(ScenarioError::Line(0));
+        if has_required(seen.as_slice()) {
+            Ok(values.finish(alloc, seen.as_slice())?)
+        } else {
+            given_up(values, ScenarioError::Line(0))
         }
-        Ok(values.finish(alloc, seen.as_slice())?)
     }
 }
 

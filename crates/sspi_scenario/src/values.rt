@@ -1,9 +1,9 @@
-ghost use Rattle.std.specs.Prelude.{◌≡◌, Some, IfOk, if◌then◌else◌};
+ghost use Rattle.std.specs.Prelude.{◌≡◌, Some, Err, IfOk, OnOk};
 ghost use Rattle.sspi_names.specs.Name.{parse_name};
 ghost use Rattle.sspi_scenario.specs.Accounts.{account_of};
 ghost use Rattle.sspi_scenario.specs.Kdcs.{kdc_of};
 ghost use Rattle.sspi_scenario.specs.Reads.{Reads, Puts, Adds};
-ghost use Rattle.sspi_scenario.specs.Scenario.{defaults, finished, proxy_table, own_identity};
+ghost use Rattle.sspi_scenario.specs.Scenario.{defaults, finished, own_identity};
 ghost use Rattle.sspi_scenario.specs.Table.{row};
 
 use crate::deliveries::delivery;
@@ -123,54 +123,49 @@ impl Values {
             mut scenario,
             accounts,
         } = self;
-        scenario.server_key = key_or(
-            alloc,
-            has(keys, Key::ServerKey),
-            scenario.server_key,
-            &scenario.key,
-        )?;
-        scenario.account = accounts_or(
-            alloc,
-            scenario.account,
-            accounts,
-            &scenario.user,
-            &scenario.password,
-        )?;
-        Ok(scenario)
+        match complete(alloc, &mut scenario, accounts, keys) {
+            Ok(()) => Ok(scenario),
+            Err(error) => given_up(scenario, error),
+        }
     }
 }
 
-/// The key that was told, or where none was the other one.
-fn key_or(alloc: Global, is_told: bool, told: Bytes, other: &Bytes) -> Result<Bytes, AllocError>
-    ensures { IfOk result (λ key. key ≡ (if is_told then told else other.now)) }
+/// Gives up what cannot be completed. Generic, since to drop a value of a type parameter is one step.
+pub fn given_up<T: Drop, R, E>(_value: T, error: E) -> Result<R, E>
+    ensures { result ≡ Err error }
 {
-    if is_told {
-        Ok(told)
-    } else {
-        other.clone(alloc)
-    }
+    Err(error)
 }
 
-/// The table of the proxy: the accounts that lines tell, or, where none does, the user's own unless there shall be none.
-fn accounts_or(
+/// The key of the server and the table of the proxy, where lines do not tell them.
+fn complete(
     alloc: Global,
-    told: Rows<AuthIdentity>,
+    told: &mut Scenario,
     word: Accounts,
-    user: &Username,
-    password: &Text,
-) -> Result<Rows<AuthIdentity>, AllocError>
-    ensures { IfOk result (λ table. table ≡ proxy_table told word (own_identity user.now password.now)) }
+    keys: &[Key],
+) -> Result<(), AllocError>
+    ensures { OnOk result (told.new ≡ finished keys.now (record { scenario = told.old; accounts = word })) }
 {
-    let mut accounts = told;
-    if accounts.is_empty() && word == Accounts::Own {
-        accounts.push(AuthIdentity {
-            username: user.clone(alloc)?,
-            password: Secret {
-                value: password.clone(alloc)?,
-            },
-        })?;
+    if !has(keys, Key::ServerKey) {
+        told.server_key = told.key.clone(alloc)?;
     }
-    Ok(accounts)
+    if told.account.is_empty() && word == Accounts::Own {
+        let own = own_identity(alloc, &told.user, &told.password)?;
+        told.account.push(own)?;
+    }
+    Ok(())
+}
+
+/// The user's own account.
+fn own_identity(alloc: Global, user: &Username, password: &Text) -> Result<AuthIdentity, AllocError>
+    ensures { IfOk result (λ own. own ≡ own_identity user.now password.now) }
+{
+    Ok(AuthIdentity {
+        username: user.clone(alloc)?,
+        password: Secret {
+            value: password.clone(alloc)?,
+        },
+    })
 }
 
 /// A value that is there; a fault where there is none.
