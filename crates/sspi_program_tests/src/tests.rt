@@ -9,6 +9,7 @@ mod kerberos;
 mod many;
 mod negotiation;
 mod plays;
+mod report;
 mod rows;
 mod sessions;
 

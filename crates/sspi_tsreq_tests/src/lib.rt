@@ -1,5 +1,5 @@
 //! Tests of the messages of CredSSP by the calls that every caller has: worked requests, credentials and results, and each place
-//! where the first fault can be.
+//! where the first fault can be; and of the lengths in these and in the tokens of `sspi_tokens`.
 //!
 //! - `damages.rt`: the damaged requests, which tests of a relay read too.
 //!

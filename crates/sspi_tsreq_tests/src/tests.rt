@@ -6,14 +6,19 @@ use std::process::Abort;
 mod creds;
 mod early;
 mod faults;
+mod lengths;
 mod octets;
 mod pieces;
 mod requests;
 mod streams;
 
-/// What a reader answers that is fed with the bytes, `size` of them at a time.
-fn fed(alloc: Global, bytes: &[u8], size: usize) -> Result<TsRequest, WireKind> {
-    let mut reader = TsReader::new(alloc);
+/// What a reader answers at the end, or the fault that it told before.
+fn finished(reader: TsReader, fed: Result<(), WireKind>) -> Result<TsRequest, WireKind> {
+    fed?;
+    reader.finish()
+}
+
+fn feed(reader: &mut TsReader, bytes: &[u8], size: usize) -> Result<(), WireKind> {
     let mut rest = bytes;
     for _ in 0..bytes.len() {
         if rest.is_empty() {
@@ -23,16 +28,27 @@ fn fed(alloc: Global, bytes: &[u8], size: usize) -> Result<TsRequest, WireKind> 
         reader.feed(piece)?;
         rest = behind;
     }
-    reader.finish()
+    Ok(())
+}
+
+/// What a reader answers that is fed with the bytes, `size` of them at a time.
+fn fed(alloc: Global, bytes: &[u8], size: usize) -> Result<TsRequest, WireKind> {
+    let mut reader = TsReader::new(alloc);
+    let fed = feed(&mut reader, bytes, size);
+    finished(reader, fed)
+}
+
+fn feed_two(reader: &mut TsReader, front: &[u8], behind: &[u8]) -> Result<(), WireKind> {
+    reader.feed(front)?;
+    reader.feed(behind)
 }
 
 /// What a reader answers that is fed with the bytes in two pieces.
 fn fed_cut(alloc: Global, bytes: &[u8], at: usize) -> Result<TsRequest, WireKind> {
     let (front, behind) = bytes.split_at(at.min(bytes.len()));
     let mut reader = TsReader::new(alloc);
-    reader.feed(front)?;
-    reader.feed(behind)?;
-    reader.finish()
+    let fed = feed_two(&mut reader, front, behind);
+    finished(reader, fed)
 }
 
 /// Longer texts come in pieces of one size, and are cut in their header alone.
@@ -47,48 +63,74 @@ fn ways(len: usize) -> (usize, usize, usize) {
     }
 }
 
-fn is_request(rt: &impl Abort, answer: Result<TsRequest, WireKind>, request: &TsRequest) {
+/// Ends the test unless this holds.
+fn holds(rt: &impl Abort, fact: bool, what: &str) {
+    assert!(rt; fact, "{what}");
+}
+
+/// A call gives this value. Generic, as `fails` is: to drop a value of a type parameter is one step of a proof.
+fn gives<T: PartialEq + Drop, E: Drop>(
+    rt: &impl Abort,
+    answer: Result<T, E>,
+    wanted: &T,
+    what: &str,
+) {
     match answer {
-        Ok(read) => assert!(rt; read == *request),
-        Err(kind) => assert_eq!(rt; Some(kind), None),
+        Ok(value) => holds(rt, value == *wanted, what),
+        Err(_) => holds(rt, false, what),
+    }
+}
+
+/// A call has this fault.
+fn fails<T: Drop>(rt: &impl Abort, answer: Result<T, WireKind>, kind: WireKind, what: &str) {
+    match answer {
+        Ok(_) => holds(rt, false, what),
+        Err(fault) => holds(rt, fault == kind, what),
     }
 }
 
 /// The bytes begin with the request, whole or in whatever pieces.
-fn reads(rt: &impl Abort, alloc: Global, bytes: &[u8], request: &TsRequest) {
-    is_request(rt, TsRequest::from_buffer(alloc, bytes), request);
+fn reads(rt: &impl Abort, alloc: Global, bytes: &[u8], request: &TsRequest, what: &str) {
+    gives(rt, TsRequest::from_buffer(alloc, bytes), request, what);
     let (least, sizes, cuts) = ways(bytes.len());
     for size in 0..sizes {
-        is_request(rt, fed(alloc, bytes, least.saturating_add(size)), request);
+        gives(
+            rt,
+            fed(alloc, bytes, least.saturating_add(size)),
+            request,
+            what,
+        );
     }
     for at in 0..cuts {
-        is_request(rt, fed_cut(alloc, bytes, at), request);
+        gives(rt, fed_cut(alloc, bytes, at), request, what);
     }
 }
 
 /// The bytes have this fault, whole or in whatever pieces.
-fn refuses(rt: &impl Abort, alloc: Global, bytes: &[u8], kind: WireKind) {
-    assert_eq!(rt; TsRequest::from_buffer(alloc, bytes).err(), Some(kind));
+fn refuses(rt: &impl Abort, alloc: Global, bytes: &[u8], kind: WireKind, what: &str) {
+    fails(rt, TsRequest::from_buffer(alloc, bytes), kind, what);
     let (least, sizes, cuts) = ways(bytes.len());
     for size in 0..sizes {
-        assert_eq!(rt;
-            fed(alloc, bytes, least.saturating_add(size)).err(),
-            Some(kind)
+        fails(
+            rt,
+            fed(alloc, bytes, least.saturating_add(size)),
+            kind,
+            what,
         );
     }
     for at in 0..cuts {
-        assert_eq!(rt; fed_cut(alloc, bytes, at).err(), Some(kind));
+        fails(rt, fed_cut(alloc, bytes, at), kind, what);
     }
 }
 
-fn writes(rt: &impl Abort, alloc: Global, request: &TsRequest, bytes: &[u8]) {
+fn writes(rt: &impl Abort, alloc: Global, request: &TsRequest, bytes: &[u8], what: &str) {
     let mut sink = VecSink::new(alloc);
-    assert_eq!(rt; request.encode_ts_request(&mut sink), Ok(()));
-    assert!(rt; sink.written() == bytes);
-    assert_eq!(rt;
-        request.buffer_len().map(|len| len as usize),
-        Ok(bytes.len())
-    );
+    holds(rt, request.encode_ts_request(&mut sink).is_ok(), what);
+    holds(rt, sink.written() == bytes, what);
+    match request.buffer_len() {
+        Ok(len) => holds(rt, len as usize == bytes.len(), what),
+        Err(_) => holds(rt, false, what),
+    }
 }
 
 /// A SEQUENCE of this content, which has less than 256 bytes.

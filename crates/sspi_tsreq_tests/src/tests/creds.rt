@@ -4,7 +4,7 @@
 //! they stay at the client.
 
 use crate::tests::octets::octets;
-use crate::tests::{given, parted};
+use crate::tests::{given, gives, holds, parted};
 use sspi_ber::{FaultySource, SliceSource};
 use sspi_names::{AuthIdentityBuffers, CredentialsBuffers, KeytabIdentity, Username, Utf16Text};
 use sspi_tsreq::{
@@ -36,11 +36,11 @@ fn kind_of<T: Drop>(answer: Result<T, Error>) -> Option<ErrorKind> {
     }
 }
 
-fn reads(rt: &impl Abort, alloc: Global, text: &[u8], buffers: &CredentialsBuffers) {
-    let read = given(rt, read_ts_credentials(alloc, &mut SliceSource::new(text)));
-    assert!(rt; read == *buffers);
-    let read = given(rt, read_ts_credentials_from_slice(alloc, text));
-    assert!(rt; read == *buffers);
+fn reads(rt: &impl Abort, alloc: Global, text: &[u8], buffers: &CredentialsBuffers, what: &str) {
+    let read = read_ts_credentials(alloc, &mut SliceSource::new(text));
+    gives(rt, read, buffers, what);
+    let read = read_ts_credentials_from_slice(alloc, text);
+    gives(rt, read, buffers, what);
 }
 
 fn writes(
@@ -49,19 +49,27 @@ fn writes(
     buffers: &CredentialsBuffers,
     mode: CredSspMode,
     text: &[u8],
+    what: &str,
 ) {
     let written = given(rt, write_ts_credentials(alloc, buffers, mode));
-    assert!(rt; written.as_slice() == text);
+    holds(rt, written.as_slice() == text, what);
 }
 
-fn goes(rt: &impl Abort, alloc: Global, verb: &str, buffers: &CredentialsBuffers, text: &[u8]) {
+fn goes(
+    rt: &impl Abort,
+    alloc: Global,
+    line: &str,
+    verb: &str,
+    buffers: &CredentialsBuffers,
+    text: &[u8],
+) {
     match verb {
         "both" => {
-            writes(rt, alloc, buffers, CredSspMode::WithCredentials, text);
-            reads(rt, alloc, text, buffers);
+            writes(rt, alloc, buffers, CredSspMode::WithCredentials, text, line);
+            reads(rt, alloc, text, buffers, line);
         }
-        "read" => reads(rt, alloc, text, buffers),
-        "kept" => writes(rt, alloc, buffers, CredSspMode::CredentialLess, text),
+        "read" => reads(rt, alloc, text, buffers, line),
+        "kept" => writes(rt, alloc, buffers, CredSspMode::CredentialLess, text, line),
         _ => rt.abort(),
     }
 }
@@ -76,7 +84,7 @@ fn line(rt: &impl Abort, alloc: Global, line: &str) {
         utf16(rt, alloc, user),
         utf16(rt, alloc, password),
     );
-    goes(rt, alloc, verb, &buffers, &octets(rt, alloc, text));
+    goes(rt, alloc, line, verb, &buffers, &octets(rt, alloc, text));
 }
 
 /// Three texts, and empty ones, which are also what is written where credentials stay at the client. Then length forms that are
@@ -101,8 +109,8 @@ fn written_and_read(rt: HostRuntime) {
 fn leaves(rt: &impl Abort, alloc: Global, text: &[u8], rest: &[u8]) {
     let mut source = SliceSource::new(text);
     let read = given(rt, read_ts_credentials(alloc, &mut source));
-    reads(rt, alloc, text, &read);
-    assert!(rt; source.rest() == rest);
+    reads(rt, alloc, text, &read, "what was read");
+    holds(rt, source.rest() == rest, "what follows");
 }
 
 fn leaves_two(rt: &impl Abort, alloc: Global) {
@@ -114,7 +122,7 @@ fn leaves_two(rt: &impl Abort, alloc: Global) {
         utf16(rt, alloc, "a"),
         utf16(rt, alloc, "1"),
     );
-    reads(rt, alloc, &text, &buffers);
+    reads(rt, alloc, &text, &buffers, "followed by more");
 }
 
 #[test]
@@ -153,19 +161,19 @@ fn kind_named(rt: &impl Abort, word: &str) -> ErrorKind {
     }
 }
 
+fn refused(rt: &impl Abort, alloc: Global, line: &str) {
+    let (word, text) = match line.split_once(' ') {
+        Some(parts) => parts,
+        None => (line, ""),
+    };
+    let text = octets(rt, alloc, text);
+    refuses(rt, alloc, &text, kind_named(rt, word));
+}
+
 #[test]
 fn refused_texts(rt: HostRuntime) {
     for each in REFUSED.lines() {
-        let (word, text) = match each.split_once(' ') {
-            Some(parts) => parts,
-            None => (each, ""),
-        };
-        refuses(
-            &rt,
-            rt.alloc(),
-            &octets(&rt, rt.alloc(), text),
-            kind_named(&rt, word),
-        );
+        refused(&rt, rt.alloc(), each);
     }
 }
 
@@ -212,18 +220,18 @@ fn damaged(rt: &impl Abort, alloc: Global, at: usize, byte: u8) {
     refuses(rt, alloc, &text, ErrorKind::InvalidToken);
 }
 
+fn damaged_place(rt: &impl Abort, alloc: Global, line: &str) {
+    let (at, bytes) = parted(rt, line, " ");
+    let at: usize = given(rt, at.parse());
+    for byte in bytes.split(' ') {
+        damaged(rt, alloc, at, given(rt, u8::from_str_radix(byte, 16)));
+    }
+}
+
 #[test]
 fn damaged_texts(rt: HostRuntime) {
     for each in DAMAGES.lines() {
-        let (at, bytes) = parted(&rt, each, " ");
-        for byte in bytes.split(' ') {
-            damaged(
-                &rt,
-                rt.alloc(),
-                given(&rt, at.parse()),
-                given(&rt, u8::from_str_radix(byte, 16)),
-            );
-        }
+        damaged_place(&rt, rt.alloc(), each);
     }
 }
 
@@ -247,21 +255,23 @@ fn keytab(rt: &impl Abort, alloc: Global) -> CredentialsBuffers {
     })
 }
 
-fn no_text(rt: &impl Abort, alloc: Global, credentials: &CredentialsBuffers, kind: ErrorKind) {
-    for mode in [CredSspMode::WithCredentials, CredSspMode::CredentialLess] {
-        let refusal = kind_of(write_ts_credentials(alloc, credentials, mode));
-        assert!(rt; refusal == Some(kind));
-    }
+fn no_text(rt: &impl Abort, alloc: Global, credentials: &CredentialsBuffers, mode: CredSspMode) {
+    let refusal = kind_of(write_ts_credentials(alloc, credentials, mode));
+    assert!(rt; refusal == Some(ErrorKind::UnsupportedPreAuth));
 }
 
 #[test]
 fn a_key_table_has_no_text(rt: HostRuntime) {
-    no_text(
-        &rt,
-        rt.alloc(),
-        &keytab(&rt, rt.alloc()),
-        ErrorKind::UnsupportedPreAuth,
-    );
+    let keytab = keytab(&rt, rt.alloc());
+    no_text(&rt, rt.alloc(), &keytab, CredSspMode::WithCredentials);
+    no_text(&rt, rt.alloc(), &keytab, CredSspMode::CredentialLess);
+}
+
+fn length_of(answer: Result<Vec<u8>, Error>) -> Result<usize, ErrorKind> {
+    match answer {
+        Ok(text) => Ok(text.len()),
+        Err(error) => Err(error.error_type),
+    }
 }
 
 /// A password of so many bytes has a text of that length, or is too long.
@@ -271,10 +281,8 @@ fn has_length(rt: &impl Abort, alloc: Global, bytes: &str, length: Result<usize,
         Utf16Text::from_bytes_le(alloc, &octets(rt, alloc, bytes)),
     );
     let buffers = buffers(utf16(rt, alloc, ""), utf16(rt, alloc, ""), password);
-    match write_ts_credentials(alloc, &buffers, CredSspMode::WithCredentials) {
-        Ok(text) => assert!(rt; length == Ok(text.len())),
-        Err(error) => assert!(rt; length == Err(error.error_type)),
-    }
+    let text = write_ts_credentials(alloc, &buffers, CredSspMode::WithCredentials);
+    holds(rt, length_of(text) == length, bytes);
 }
 
 // A password of 524269 code units has 1048538 bytes; with what stands around it the content has 38 more.

@@ -1,6 +1,6 @@
 use crate::damages::{CODE_AND_NONCE, OCTETS, OUTER, TOKEN, VERSION};
 use crate::tests::octets::{FIRST, SECOND, octets};
-use crate::tests::{framed, given, refuses};
+use crate::tests::{framed, given, holds, refuses};
 use sspi_ber::WireKind;
 use std::alloc::Global;
 use std::process::Abort;
@@ -24,9 +24,9 @@ fn case(rt: &impl Abort, alloc: Global, fault: &str, digits: &str, is_content: b
     let bytes = pairs(rt, alloc, digits);
     let kind = kind_named(rt, fault);
     if is_content {
-        refuses(rt, alloc, &framed(rt, alloc, &bytes), kind);
+        refuses(rt, alloc, &framed(rt, alloc, &bytes), kind, digits);
     } else {
-        refuses(rt, alloc, &bytes, kind);
+        refuses(rt, alloc, &bytes, kind, digits);
     }
 }
 
@@ -39,7 +39,7 @@ fn cases(rt: &impl Abort, alloc: Global, text: &str, count: u32, is_content: boo
             seen = seen.wrapping_add(1);
         }
     }
-    assert_eq!(rt; seen, count);
+    holds(rt, seen == count, "the number of lines");
 }
 
 #[test]
@@ -71,7 +71,7 @@ fn code_and_nonce_faults(rt: HostRuntime) {
 fn cut(rt: &impl Abort, alloc: Global, digits: &str) {
     let request = octets(rt, alloc, digits);
     for len in 0..request.len() {
-        refuses(rt, alloc, &request[..len], WireKind::UnexpectedEof);
+        refuses(rt, alloc, &request[..len], WireKind::UnexpectedEof, digits);
     }
 }
 

@@ -5,7 +5,7 @@
 //! `proof=`, `code=` and `nonce=`. Each request has a copy, and its code, other than that of success, is its error.
 
 use crate::tests::octets::octets;
-use crate::tests::{given, parted, reads, writes};
+use crate::tests::{fails, given, gives, holds, parted, reads, writes};
 use sspi_ber::{VecSink, WireKind};
 use sspi_tsreq::TsRequest;
 use sspi_types::{Bytes, Error, ErrorKind, NStatusCode, Reason};
@@ -50,58 +50,56 @@ fn request(rt: &impl Abort, alloc: Global, words: &str) -> TsRequest {
 
 /// A copy is equal to the request, which is the default one only where it has no words.
 fn is_copied(rt: &impl Abort, alloc: Global, request: &TsRequest, words: &str) {
-    assert!(rt; given(rt, request.clone(alloc)) == *request, "{words}");
-    assert!(rt;
-        (*request == TsRequest::default()) == words.is_empty(),
-        "{words}"
-    );
+    gives(rt, request.clone(alloc), request, words);
+    let is_default = *request == TsRequest::default();
+    holds(rt, is_default == words.is_empty(), words);
 }
 
-fn is_error(rt: &impl Abort, answer: Result<(), Error>, code: Option<NStatusCode>) {
-    match (answer, code) {
-        (Ok(()), None) => {}
-        (Ok(()), Some(code)) => assert_eq!(rt; code, NStatusCode::SUCCESS),
-        (Err(_), None) => rt.abort(),
-        (Err(error), Some(code)) => {
-            assert!(rt; code != NStatusCode::SUCCESS);
-            assert_eq!(rt; error.error_type, ErrorKind::InvalidToken);
-            assert_eq!(rt; error.description, Reason::ErrorStatus);
-            assert_eq!(rt; error.nstatus, Some(code));
+fn is_error(rt: &impl Abort, answer: Result<(), Error>, code: Option<NStatusCode>, line: &str) {
+    let is_success = code.unwrap_or(NStatusCode::SUCCESS) == NStatusCode::SUCCESS;
+    match answer {
+        Ok(()) => holds(rt, is_success, line),
+        Err(error) => {
+            holds(rt, !is_success, line);
+            holds(rt, error.error_type == ErrorKind::InvalidToken, line);
+            holds(rt, error.description == Reason::ErrorStatus, line);
+            holds(rt, error.nstatus == code, line);
         }
     }
 }
 
 /// The request takes so many bytes, and is read from them.
-fn fits(rt: &impl Abort, alloc: Global, request: &TsRequest, size: u32) {
-    assert_eq!(rt; request.buffer_len(), Ok(size));
+fn fits(rt: &impl Abort, alloc: Global, request: &TsRequest, size: u32, line: &str) {
+    holds(rt, request.buffer_len() == Ok(size), line);
     let mut sink = VecSink::new(alloc);
-    assert_eq!(rt; request.encode_ts_request(&mut sink), Ok(()));
-    assert_eq!(rt; sink.written().len(), size as usize);
-    reads(rt, alloc, sink.written(), request);
+    holds(rt, request.encode_ts_request(&mut sink).is_ok(), line);
+    holds(rt, sink.written().len() == size as usize, line);
+    reads(rt, alloc, sink.written(), request, line);
 }
 
 /// Nothing is written.
-fn passes(rt: &impl Abort, alloc: Global, request: &TsRequest) {
+fn passes(rt: &impl Abort, alloc: Global, request: &TsRequest, line: &str) {
     let mut sink = VecSink::new(alloc);
-    assert_eq!(rt;
-        request.encode_ts_request(&mut sink),
-        Err(WireKind::InvalidData)
-    );
-    assert_eq!(rt; sink.written().len(), 0);
-    assert_eq!(rt; request.buffer_len(), Err(WireKind::InvalidData));
+    let written = request.encode_ts_request(&mut sink);
+    fails(rt, written, WireKind::InvalidData, line);
+    holds(rt, sink.written().is_empty(), line);
+    fails(rt, request.buffer_len(), WireKind::InvalidData, line);
 }
 
-fn goes(rt: &impl Abort, alloc: Global, verb: &str, request: &TsRequest, value: &str) {
+/// The request and these bytes go both ways.
+fn both(rt: &impl Abort, alloc: Global, request: &TsRequest, bytes: &[u8], line: &str) {
+    reads(rt, alloc, bytes, request, line);
+    writes(rt, alloc, request, bytes, line);
+}
+
+/// The line stands in what is said where something does not come true.
+fn goes(rt: &impl Abort, alloc: Global, verb: &str, request: &TsRequest, value: &str, line: &str) {
     match verb {
-        "both" => {
-            let bytes = octets(rt, alloc, value);
-            reads(rt, alloc, &bytes, request);
-            writes(rt, alloc, request, &bytes);
-        }
-        "read" => reads(rt, alloc, &octets(rt, alloc, value), request),
-        "written" => writes(rt, alloc, request, &octets(rt, alloc, value)),
-        "fits" => fits(rt, alloc, request, given(rt, value.parse())),
-        "passes" => passes(rt, alloc, request),
+        "both" => both(rt, alloc, request, &octets(rt, alloc, value), line),
+        "read" => reads(rt, alloc, &octets(rt, alloc, value), request, line),
+        "written" => writes(rt, alloc, request, &octets(rt, alloc, value), line),
+        "fits" => fits(rt, alloc, request, given(rt, value.parse()), line),
+        "passes" => passes(rt, alloc, request, line),
         _ => rt.abort(),
     }
 }
@@ -111,8 +109,8 @@ fn line(rt: &impl Abort, alloc: Global, line: &str) {
     let (words, value) = parted(rt, rest, "|");
     let request = request(rt, alloc, words);
     is_copied(rt, alloc, &request, words);
-    is_error(rt, request.check_error(), request.error_code);
-    goes(rt, alloc, verb, &request, value);
+    is_error(rt, request.check_error(), request.error_code, line);
+    goes(rt, alloc, verb, &request, value, line);
 }
 
 fn each_goes(rt: &impl Abort, alloc: Global, lines: &str) {

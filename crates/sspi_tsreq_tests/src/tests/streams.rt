@@ -1,46 +1,61 @@
 use crate::tests::octets::{SECOND, octets};
-use crate::tests::{given, reads};
+use crate::tests::{fails, given, gives, holds, reads};
 use sspi_ber::{FaultySink, FaultySource, SliceSource, WireKind};
 use sspi_tsreq::TsRequest;
 use std::alloc::Global;
 use std::process::Abort;
 
-fn measures(rt: &impl Abort, bytes: &[u8], size: usize, rest: &[u8]) {
-    let mut source = SliceSource::new(bytes);
-    assert_eq!(rt; TsRequest::read_length(&mut source), Ok(size));
-    assert!(rt; source.rest() == rest);
+/// The header of these bytes tells so many bytes in all, and what is behind it stays in the source.
+fn measures(rt: &impl Abort, alloc: Global, digits: &str, size: usize, rest: &str) {
+    let bytes = octets(rt, alloc, digits);
+    let mut source = SliceSource::new(&bytes);
+    gives(rt, TsRequest::read_length(&mut source), &size, digits);
+    holds(
+        rt,
+        source.rest() == octets(rt, alloc, rest).as_slice(),
+        digits,
+    );
 }
 
-fn measures_nothing(rt: &impl Abort, bytes: &[u8]) {
-    let size = TsRequest::read_length(&mut SliceSource::new(bytes));
-    assert_eq!(rt; size, Err(WireKind::UnexpectedEof));
+fn measures_nothing(rt: &impl Abort, alloc: Global, digits: &str) {
+    let bytes = octets(rt, alloc, digits);
+    let size = TsRequest::read_length(&mut SliceSource::new(&bytes));
+    fails(rt, size, WireKind::UnexpectedEof, digits);
 }
 
-// The header is taken, the content stays. Each fault of the header is the end.
+/// A content of five bytes, whose length is not in its shortest form.
+const LONGER: &str = "308105a003020106";
+
+/// Each fault of a header is the end.
+const NO_LENGTHS: &str = "
+3105
+30
+308005
+3081
+308201
+30830005
+3083100001
+308400000005";
+
+// The header is taken, the content stays.
 #[test]
 fn whole_lengths(rt: HostRuntime) {
-    let bytes = [0x30, 0x81, 0x05, 0xa0, 0x03, 0x02, 0x01, 0x06];
-    reads(&rt, rt.alloc(), &bytes, &TsRequest::default());
-    measures(&rt, &bytes, 8, &[0xa0, 0x03, 0x02, 0x01, 0x06]);
-    measures(&rt, &[0x30, 0x05], 7, &[]);
-    measures(&rt, &[0x30, 0x82, 0xff, 0xff, 0xa0], 65539, &[0xa0]);
-    measures(&rt, &[0x30, 0x83, 0x00, 0x00, 0x05], 10, &[]);
-    measures(&rt, &[0x30, 0x83, 0x10, 0x00, 0x00, 0xa0], 1048581, &[0xa0]);
-    measures_nothing(&rt, &[]);
-    measures_nothing(&rt, &[0x31, 0x05]);
-    measures_nothing(&rt, &[0x30]);
-    measures_nothing(&rt, &[0x30, 0x80, 0x05]);
-    measures_nothing(&rt, &[0x30, 0x81]);
-    measures_nothing(&rt, &[0x30, 0x82, 0x01]);
-    measures_nothing(&rt, &[0x30, 0x83, 0x00, 0x05]);
-    measures_nothing(&rt, &[0x30, 0x83, 0x10, 0x00, 0x01]);
-    measures_nothing(&rt, &[0x30, 0x84, 0x00, 0x00, 0x00, 0x05]);
+    let bytes = octets(&rt, rt.alloc(), LONGER);
+    reads(&rt, rt.alloc(), &bytes, &TsRequest::default(), LONGER);
+    measures(&rt, rt.alloc(), LONGER, 8, "a003020106");
+    measures(&rt, rt.alloc(), "3005", 7, "");
+    measures(&rt, rt.alloc(), "3082ffffa0", 65539, "a0");
+    measures(&rt, rt.alloc(), "3083000005", 10, "");
+    measures(&rt, rt.alloc(), "3083100000a0", 1048581, "a0");
+    for digits in NO_LENGTHS.lines() {
+        measures_nothing(&rt, rt.alloc(), digits);
+    }
 }
 
 fn length_fails_at(rt: &impl Abort, call: u64) {
     let mut source = FaultySource::new(&[0x30, 0x81, 0x05, 0xa0], call);
     let size = TsRequest::read_length(&mut source);
-    assert_eq!(rt; size, Err(WireKind::ReadFault));
+    fails(rt, size, WireKind::ReadFault, "a failing source");
 }
 
 // A source that fails at each byte of the header.
@@ -57,9 +72,9 @@ fn sink_fails_at(rt: &impl Abort, alloc: Global, call: u64) {
     let request = given(rt, TsRequest::from_buffer(alloc, &spelling));
     let mut sink = FaultySink::new(alloc, call);
     let written = request.encode_ts_request(&mut sink);
-    assert_eq!(rt; written, Err(WireKind::WriteFault));
-    assert!(rt; sink.written().len() < spelling.len());
-    assert!(rt; spelling.starts_with(sink.written()));
+    fails(rt, written, WireKind::WriteFault, "a failing sink");
+    holds(rt, sink.written().len() < spelling.len(), "too much");
+    holds(rt, spelling.starts_with(sink.written()), "no front");
 }
 
 #[test]

@@ -1,4 +1,4 @@
-use crate::tests::{Kind, again, unmade};
+use crate::tests::lengths::{Kind, again, unmade};
 use std::alloc::Global;
 use std::process::Abort;
 

@@ -1,9 +1,8 @@
-use super::{reports, with_status};
+use super::{given, reports, with_status};
 use sspi_delegate::{Carried, DelegateError, End};
 use sspi_types::{Bytes, ErrorKind};
-use std::alloc::{AllocError, Global};
+use std::alloc::Global;
 use std::process::Abort;
-use std::test::Fail;
 
 /// The client's first message, the server's answer, and an error request that was delivered in its place.
 const FIRST: &[u8] =
@@ -14,13 +13,13 @@ const SECOND: &[u8] =
 
 const REFUSED: &[u8] = b"\x30\x0d\xa0\x03\x02\x01\x06\xa4\x06\x02\x04\xc0\x07\x03\x08";
 
-fn entry(alloc: Global, from: End, sent: &[u8], delivered: &[u8]) -> Result<Carried, AllocError> {
-    Ok(Carried {
+fn entry(rt: &impl Abort, alloc: Global, from: End, sent: &[u8], delivered: &[u8]) -> Carried {
+    Carried {
         from,
-        sent: Bytes::from_slice(alloc, sent)?,
-        delivered: Bytes::from_slice(alloc, delivered)?,
+        sent: given(rt, Bytes::from_slice(alloc, sent)),
+        delivered: given(rt, Bytes::from_slice(alloc, delivered)),
         ended: true,
-    })
+    }
 }
 
 /// The log of one entry and of this refusal.
@@ -30,28 +29,24 @@ fn shows(
     (from, sent, delivered): (End, &[u8], &[u8]),
     error: DelegateError,
     text: &str,
-) -> Result<(), AllocError> {
-    let log = [entry(alloc, from, sent, delivered)?];
-    reports(rt, alloc, &log, &Err(error), text)
-}
-
-fn shows_two(rt: &impl Abort, alloc: Global, text: &str) -> Result<(), AllocError> {
-    let log = [
-        entry(alloc, End::Client, FIRST, FIRST)?,
-        entry(alloc, End::Server, SECOND, REFUSED)?,
-    ];
-    let error = with_status(ErrorKind::InvalidToken, 0xc0070308);
-    reports(rt, alloc, &log, &Err(DelegateError::Client(error)), text)
+) {
+    let log = [entry(rt, alloc, from, sent, delivered)];
+    reports(rt, alloc, &log, &Err(error), text);
 }
 
 #[test]
-fn an_exchange_with_an_edit(rt: HostRuntime) -> Result<(), Fail> {
+fn an_exchange_with_an_edit(rt: HostRuntime) {
+    let alloc = rt.alloc();
     let lines = "> 3011a003020106a10a30083006a00404024e31\n\
         < 3019a003020106a1123010300ea00c040a4e320000000000000000\n\
         ! 300da003020106a4060204c0070308\n\
         client InvalidToken 0xc0070308\n";
-    shows_two(&rt, rt.alloc(), lines)?;
-    Ok(())
+    let log = [
+        entry(&rt, alloc, End::Client, FIRST, FIRST),
+        entry(&rt, alloc, End::Server, SECOND, REFUSED),
+    ];
+    let error = with_status(ErrorKind::InvalidToken, 0xc0070308);
+    reports(&rt, alloc, &log, &Err(DelegateError::Client(error)), lines);
 }
 
 const LINES: [(End, &[u8], &[u8], &str); 5] = [
@@ -68,16 +63,15 @@ const LINES: [(End, &[u8], &[u8], &str); 5] = [
 ];
 
 #[test]
-fn entries(rt: HostRuntime) -> Result<(), Fail> {
+fn entries(rt: HostRuntime) {
     for (from, sent, delivered, lines) in LINES {
         let parts = (from, sent, delivered);
-        shows(&rt, rt.alloc(), parts, DelegateError::LinkFault, lines)?;
+        shows(&rt, rt.alloc(), parts, DelegateError::LinkFault, lines);
     }
-    Ok(())
 }
 
 #[test]
-fn want_of_memory_has_no_report(rt: HostRuntime) -> Result<(), Fail> {
+fn want_of_memory_has_no_report(rt: HostRuntime) {
     let parts = (End::Client, FIRST, FIRST);
     shows(
         &rt,
@@ -85,6 +79,5 @@ fn want_of_memory_has_no_report(rt: HostRuntime) -> Result<(), Fail> {
         parts,
         DelegateError::InsufficientMemory,
         "",
-    )?;
-    Ok(())
+    );
 }

@@ -1,3 +1,5 @@
+//! The report of a delegation, and the lines of seats.
+
 mod entries;
 mod outcomes;
 mod seats;
@@ -5,11 +7,19 @@ mod seats;
 use sspi_delegate::{Carried, DelegateError, Delegation};
 use sspi_report::report;
 use sspi_types::{Error, ErrorKind, NStatusCode, Reason};
-use std::alloc::{AllocError, Global};
+use std::alloc::Global;
 use std::process::Abort;
 
 fn with_status(kind: ErrorKind, status: u32) -> Error {
     Error::new_with_nstatus(kind, Reason::Io, NStatusCode(status))
+}
+
+/// The value of a call that is not to be refused.
+fn given<T, E: Drop>(rt: &impl Abort, answer: Result<T, E>) -> T {
+    match answer {
+        Ok(value) => value,
+        Err(_) => rt.abort(),
+    }
 }
 
 /// The report of this log and answer is this text.
@@ -19,8 +29,7 @@ fn reports(
     log: &[Carried],
     answer: &Result<Delegation, DelegateError>,
     text: &str,
-) -> Result<(), AllocError> {
-    let written = report(alloc, log, answer)?;
+) {
+    let written = given(rt, report(alloc, log, answer));
     assert_eq!(rt; written.as_slice(), text.as_bytes());
-    Ok(())
 }

@@ -1,3 +1,5 @@
+//! Ends that are made to match do, and their exchange ends well where there is memory.
+
 use sspi_completeness::worked::{
     by_ntlm, by_ntlm_of_old, given_up_for_ntlm, negotiated_at_version_4,
     negotiated_with_a_long_key, user_to_user, without_credentials,
