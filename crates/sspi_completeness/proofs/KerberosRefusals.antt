@@ -6,7 +6,8 @@ use Rattle.sspi_types.specs.declared.client_request_flags.ClientRequestFlags.{Cl
 use Rattle.sspi_types.specs.declared.credential_use.CredentialUse.{CredentialUse}
 use Rattle.sspi_types.specs.declared.credential_use.CredentialUse.TheVariants as purposes
 use Rattle.sspi_types.specs.declared.error_kind.ErrorKind.{ErrorKind}
-use Rattle.sspi_types.specs.declared.error_kind.ErrorKind.TheVariants.{DowngradeDetected, InsufficientMemory, MutualAuthFailed, InvalidToken}
+use Rattle.sspi_types.specs.declared.error_kind.ErrorKind.TheVariants.{DowngradeDetected, InsufficientMemory}
+use Rattle.sspi_types.specs.declared.error_kind.ErrorKind.TheVariants.{MutualAuthFailed, InvalidToken}
 use Rattle.sspi_names.specs.Name.{Name, parse_name}
 use Rattle.sspi_names.specs.declared.credentials.Credentials.{Credentials}
 use Rattle.sspi_names.specs.declared.credentials.CredentialsBuffers.{CredentialsBuffers}
