@@ -15,9 +15,9 @@ use Rattle.sspi_ber.specs.Pieces.{Ended, Invalid, Read}
 abbrev pub Rose : ℕ → ℕ → Type 0
 Rose before now = counted_on before ≤ now
 
--- what a call of `read` says of the count: it never falls, and a failure has it rise
+-- what a call of `read` says of the count: a failure has it rise, and nothing else moves it
 abbrev pub SourceCause : {X : Type 0} → ℕ → ℕ → Result X SourceError → Type 0
-SourceCause before now (Ok x) = before ≤ now
+SourceCause before now (Ok x) = now ≡ before
 SourceCause before now (Err source_errors.Failed) = (before ≤ now) × Rose before now
 
 -- what a call of `next_byte` takes: one byte, or nothing where none is left
@@ -34,14 +34,24 @@ SinkCause before now (Err sink_errors.InsufficientMemory) = now ≡ before
 
 -- ---- readers
 
--- what a reader says of the source's count: `ReadFault` only where it rose, and no other fault of the outside comes
+-- What a reader says of the source's count: `ReadFault` only where it rose, and no other fault of the outside comes; at any other
+-- answer it did not move, so no failed call was tried again.
 abbrev pub ReadCause : {X : Type 0} → ℕ → ℕ → Result X WireKind → Type 0
-ReadCause before now (Ok x) = before ≤ now
-ReadCause before now (Err UnexpectedEof) = before ≤ now
-ReadCause before now (Err InvalidData) = before ≤ now
+ReadCause before now (Ok x) = now ≡ before
+ReadCause before now (Err UnexpectedEof) = now ≡ before
+ReadCause before now (Err InvalidData) = now ≡ before
 ReadCause before now (Err ReadFault) = (before ≤ now) × Rose before now
 ReadCause before now (Err WriteFault) = ⊥
 ReadCause before now (Err InsufficientMemory) = ⊥
+
+-- the same of a reader that takes memory
+abbrev pub CopyCause : {X : Type 0} → ℕ → ℕ → Result X WireKind → Type 0
+CopyCause before now (Ok x) = now ≡ before
+CopyCause before now (Err UnexpectedEof) = now ≡ before
+CopyCause before now (Err InvalidData) = now ≡ before
+CopyCause before now (Err ReadFault) = (before ≤ now) × Rose before now
+CopyCause before now (Err WriteFault) = ⊥
+CopyCause before now (Err InsufficientMemory) = now ≡ before
 
 -- What a source has left after a call, refused or not, is a rest of what it had.
 pub record LeavesRest (before after : Option (List ℕ)) : Type 0 where

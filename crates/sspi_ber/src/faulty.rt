@@ -1,4 +1,4 @@
-ghost use Rattle.std.specs.Prelude.{◌≡◌, ◌↔◌, ◌<◌, ◌≤◌, [], length, IfOk, OnOk, IsErrOf};
+ghost use Rattle.std.specs.Prelude.{◌≡◌, ◌↔◌, ◌<◌, ◌≤◌, [], length, IfOk, IsErrOf};
 ghost use Rattle.std.specs.Io.KnownBytes.{ReadConsumes, WriteAppends};
 ghost use Rattle.sspi_types.specs.Counting.{Counts};
 ghost use Rattle.sspi_ber.specs.Outside.{NextConsumes, SourceCause, SinkCause};
@@ -49,9 +49,8 @@ impl Source for FaultySource<'_> {
         ensures bound { IfOk result (λ count. count ≤ length into.new) }
         ensures bytes { ReadConsumes (Some self.old.source) (Some self.new.source) result into.new }
         ensures cause { SourceCause self.old.faults self.new.faults result }
-        // Which call fails, and that no other counts a fault.
+        // Which call fails.
         ensures fails { IsErrOf result SourceError.Failed ↔ (self.old.calls ≡ self.old.failing) }
-        ensures quiet { OnOk result (self.new.faults ≡ self.old.faults) }
         ensures calls { Counts self.old.calls self.new.calls }
         ensures failing { self.new.failing ≡ self.old.failing }
     {
@@ -69,9 +68,8 @@ impl Source for FaultySource<'_> {
         // What a source promises.
         ensures bytes { NextConsumes (Some self.old.source) (Some self.new.source) result }
         ensures cause { SourceCause self.old.faults self.new.faults result }
-        // Which call fails, and that no other counts a fault.
+        // Which call fails.
         ensures fails { IsErrOf result SourceError.Failed ↔ (self.old.calls ≡ self.old.failing) }
-        ensures quiet { OnOk result (self.new.faults ≡ self.old.faults) }
         ensures calls { Counts self.old.calls self.new.calls }
         ensures failing { self.new.failing ≡ self.old.failing }
     {

@@ -50,10 +50,10 @@ data Verdict : Type 0 where
   Refusing : NStatusCode → Verdict
 
 abbrev IsVerdict : ℕ → List TsRequest → List TsRequest → List ℕ → List ℕ → Verdict → Type 0
-IsVerdict turns sent answered c s (Due end next) =
-    GoesOn turns end sent answered × IsNext (first_version (of end sent answered)) (of end c s) next
-IsVerdict turns sent answered c s Spent = IsSpent turns sent answered
-IsVerdict turns sent answered c s (Refusing code) = IsRefused turns code sent answered
+IsVerdict limit sent answered c s (Due end next) =
+    GoesOn limit end sent answered × IsNext (first_version (of end sent answered)) (of end c s) next
+IsVerdict limit sent answered c s Spent = IsSpent limit sent answered
+IsVerdict limit sent answered c s (Refusing code) = IsRefused limit code sent answered
 
 answer_of : ℕ → Verdict → Result Relayed GateError
 answer_of passed (Due end NoBytes) = Ok (record { passed = passed; how = closes.Ended end })
@@ -63,7 +63,7 @@ answer_of passed Spent = Err (record { passed = passed; why = TurnsSpent })
 answer_of passed (Refusing code) = Ok (record { passed = passed; how = closes.Refused code })
 
 -- a relay that stopped so, having handed these requests on
-record Stopped (turns : ℕ) (client server : List ℕ) (answer : Result Relayed GateError) : Type 0 where
+record Stopped (limit : ℕ) (client server : List ℕ) (answer : Result Relayed GateError) : Type 0 where
   sent : List TsRequest
   answered : List TsRequest
   c : List ℕ
@@ -73,7 +73,7 @@ record Stopped (turns : ℕ) (client server : List ℕ) (answer : Result Relayed
   from_server : GivesFirst server answered s
   client_version : HaveOneVersion sent
   server_version : HaveOneVersion answered
-  verdict_is : IsVerdict turns sent answered c s verdict
+  verdict_is : IsVerdict limit sent answered c s verdict
   answer_is : answer ≡ answer_of (length sent + length answered) verdict
 
 some_same : (x y : List ℕ) → Some x ≡ Some y → x ≡ y
@@ -113,26 +113,26 @@ text_told (Some x) (Some more) text bytes r e c t =
     let parts : text ++ more ≡ bytes = sym c ∙ some_same x bytes e in
     subst (λ (l : List ℕ). IsRequest l r (length text)) parts (more_request text r (length text) more t)
 
-close_verdict : (turns : ℕ) (sent answered : List TsRequest) (up down : Way) (c s : List ℕ) (how : Close) → up.left ≡ Some c →
+close_verdict : (limit : ℕ) (sent answered : List TsRequest) (up down : Way) (c s : List ℕ) (how : Close) → up.left ≡ Some c →
     down.left ≡ Some s →
-    Closes turns sent answered up down how →
-    (v : Verdict) × IsVerdict turns sent answered c s v × ((passed : ℕ) → Ok (record { passed = passed; how = how }) ≡ answer_of passed v)
+    Closes limit sent answered up down how →
+    (v : Verdict) × IsVerdict limit sent answered c s v × ((passed : ℕ) → Ok (record { passed = passed; how = how }) ≡ answer_of passed v)
 unfolding answer_of
-close_verdict turns sent answered up down c s (closes.Ended end) e f (goes, at_end) =
+close_verdict limit sent answered up down c s (closes.Ended end) e f (goes, at_end) =
     (Due end NoBytes, (goes, subst IsAtEnd (of_left end up down c s e f) at_end), λ passed. refl)
-close_verdict turns sent answered up down c s (closes.Refused code) e f is = (Refusing code, is, λ passed. refl)
+close_verdict limit sent answered up down c s (closes.Refused code) e f is = (Refusing code, is, λ passed. refl)
 
-fault_verdict : (turns : ℕ) (sent answered : List TsRequest) (up down up_after down_after : Way) (c s : List ℕ) (why : GateFault) →
+fault_verdict : (limit : ℕ) (sent answered : List TsRequest) (up down up_after down_after : Way) (c s : List ℕ) (why : GateFault) →
     up.left ≡ Some c → down.left ≡ Some s →
-    GivesUp turns sent answered up down up_after down_after why → IsOfRequests why →
-    (v : Verdict) × IsVerdict turns sent answered c s v × ((passed : ℕ) → Err (record { passed = passed; why = why }) ≡ answer_of passed v)
+    GivesUp limit sent answered up down up_after down_after why → IsOfRequests why →
+    (v : Verdict) × IsVerdict limit sent answered c s v × ((passed : ℕ) → Err (record { passed = passed; why = why }) ≡ answer_of passed v)
 unfolding answer_of
-fault_verdict turns sent answered up down up_after down_after c s (Bad end kind) e f b ok = (
+fault_verdict limit sent answered up down up_after down_after c s (Bad end kind) e f b ok = (
   Due b.end (Faulty kind),
   (b.goes_on, bad_told (of b.end up down).left (of b.end c s) kind (of_left b.end up down c s e f) b.fails.1),
   λ passed. ap (λ (who : End). Err (record { passed = passed; why = Bad who kind })) b.fails.0,
 )
-fault_verdict turns sent answered up down up_after down_after c s (Version end) e f b ok =
+fault_verdict limit sent answered up down up_after down_after c s (Version end) e f b ok =
     let t = b.fails.1 in (
       Due b.end Other,
       (
@@ -148,30 +148,30 @@ fault_verdict turns sent answered up down up_after down_after c s (Version end) 
       ),
       λ passed. ap (λ (who : End). Err (record { passed = passed; why = Version who })) b.fails.0,
     )
-fault_verdict turns sent answered up down up_after down_after c s (ReadFault end) e f b ok = absurd ok
-fault_verdict turns sent answered up down up_after down_after c s (WriteFault end) e f b ok = absurd ok
-fault_verdict turns sent answered up down up_after down_after c s TurnsSpent e f b ok = (Spent, b.0, λ passed. refl)
-fault_verdict turns sent answered up down up_after down_after c s InsufficientMemory e f b ok = absurd ok
+fault_verdict limit sent answered up down up_after down_after c s (ReadFault end) e f b ok = absurd ok
+fault_verdict limit sent answered up down up_after down_after c s (WriteFault end) e f b ok = absurd ok
+fault_verdict limit sent answered up down up_after down_after c s TurnsSpent e f b ok = (Spent, b.0, λ passed. refl)
+fault_verdict limit sent answered up down up_after down_after c s InsufficientMemory e f b ok = absurd ok
 
-judged : (turns : ℕ) (sent answered : List TsRequest) (up down up_after down_after : Way) (c s : List ℕ)
+judged : (limit : ℕ) (sent answered : List TsRequest) (up down up_after down_after : Way) (c s : List ℕ)
     (answer : Result Relayed GateError) →
     up.left ≡ Some c → down.left ≡ Some s →
-    Stops turns sent answered up down up_after down_after answer → IsDecided answer →
-    (v : Verdict) × IsVerdict turns sent answered c s v × (answer ≡ answer_of (length sent + length answered) v)
-judged turns sent answered up down up_after down_after c s (Ok relayed) e f stops ok =
-    let v = close_verdict turns sent answered up down c s relayed.how e f stops.1 in
+    Stops limit sent answered up down up_after down_after answer → IsDecided answer →
+    (v : Verdict) × IsVerdict limit sent answered c s v × (answer ≡ answer_of (length sent + length answered) v)
+judged limit sent answered up down up_after down_after c s (Ok relayed) e f stops ok =
+    let v = close_verdict limit sent answered up down c s relayed.how e f stops.1 in
     (v.0, v.1, ap (λ (n : ℕ). Ok (record { passed = n; how = relayed.how })) stops.0 ∙ v.2 (length sent + length answered))
-judged turns sent answered up down up_after down_after c s (Err error) e f stops ok =
-    let v = fault_verdict turns sent answered up down up_after down_after c s error.why e f stops.1 ok in
+judged limit sent answered up down up_after down_after c s (Err error) e f stops ok =
+    let v = fault_verdict limit sent answered up down up_after down_after c s error.why e f stops.1 ok in
     (v.0, v.1, ap (λ (n : ℕ). Err (record { passed = n; why = error.why })) stops.0 ∙ v.2 (length sent + length answered))
 
-stopped : (turns : ℕ) (up down up_after down_after : Way) (client server : List ℕ) (answer : Result Relayed GateError) →
-    up.left ≡ Some client → down.left ≡ Some server → IsRelay turns up down up_after down_after answer → IsDecided answer →
-    Stopped turns client server answer
-stopped turns up down up_after down_after client server answer e f r ok =
+stopped : (limit : ℕ) (up down up_after down_after : Way) (client server : List ℕ) (answer : Result Relayed GateError) →
+    up.left ≡ Some client → down.left ≡ Some server → IsRelay limit up down up_after down_after answer → IsDecided answer →
+    Stopped limit client server answer
+stopped limit up down up_after down_after client server answer e f r ok =
     let c = told up r.up_last client r.sent e r.passed.from_client in
     let s = told down r.down_last server r.answered f r.passed.from_server in
-    let v = judged turns r.sent r.answered r.up_last r.down_last up_after down_after c.0 s.0 answer c.1 s.1 r.stops ok in
+    let v = judged limit r.sent r.answered r.up_last r.down_last up_after down_after c.0 s.0 answer c.1 s.1 r.stops ok in
     record {
       sent = r.sent;
       answered = r.answered;
@@ -188,32 +188,32 @@ stopped turns up down up_after down_after client server answer e f r ok =
 
 -- ---- a relay that stopped cannot have gone on
 
-record Placed (turns : ℕ) (sent answered : List TsRequest) : Type 0 where
+record Placed (limit : ℕ) (sent answered : List TsRequest) : Type 0 where
   within : length answered ≤ length sent
   next : length sent ≤ length answered + 1
-  all : length sent ≤ turns
+  all : length sent ≤ limit
 
-placed : (turns : ℕ) (sent answered : List TsRequest) (c s : List ℕ) (v : Verdict) → IsVerdict turns sent answered c s v →
-    Placed turns sent answered
-placed turns sent answered c s (Due Client next) (goes, is) =
+placed : (limit : ℕ) (sent answered : List TsRequest) (c s : List ℕ) (v : Verdict) → IsVerdict limit sent answered c s v →
+    Placed limit sent answered
+placed limit sent answered c s (Due Client next) (goes, is) =
     let due = goes.due in let lt = goes.within in record {
       within = omega (arith, due);
       next = omega (arith, due);
       all = omega (arith, due, lt);
     }
-placed turns sent answered c s (Due Server next) (goes, is) =
+placed limit sent answered c s (Due Server next) (goes, is) =
     let due = goes.due in let lt = goes.within in record {
       within = omega (arith, due);
       next = omega (arith, due);
       all = omega (arith, due, lt);
     }
-placed turns sent answered c s Spent is =
+placed limit sent answered c s Spent is =
     let a = is.all_sent in let b = is.all_answered in record {
       within = omega (arith, a, b);
       next = omega (arith, a, b);
       all = omega (arith, a);
     }
-placed turns sent answered c s (Refusing code) is =
+placed limit sent answered c s (Refusing code) is =
     let a = is.all_answered in let b = is.within in record { within = omega (arith, a); next = omega (arith, a); all = omega (arith, a, b) }
 
 -- an answer that is not the last of all does not refuse
@@ -237,12 +237,12 @@ calm_early answered earlier last before r more e f lt calm =
     subst (λ (q : TsRequest). refusal q ≡ None) (sym inside ∙ at)
     (All-get_or (λ (q : TsRequest). refusal q ≡ None) earlier (length before) r short calm)
 
-calm_before : (turns : ℕ) (sent answered : List TsRequest) (c s : List ℕ) (v : Verdict) (before : List TsRequest) (r : TsRequest)
+calm_before : (limit : ℕ) (sent answered : List TsRequest) (c s : List ℕ) (v : Verdict) (before : List TsRequest) (r : TsRequest)
     (more : List TsRequest) →
-    IsVerdict turns sent answered c s v → answered ≡ before ++ r ∷ more → length before + 1 < length sent → refusal r ≡ None
-calm_before turns sent answered c s (Due end next) before r more is e lt = calm_at answered before r more e is.0.calm
-calm_before turns sent answered c s Spent before r more is e lt = calm_at answered before r more e is.calm
-calm_before turns sent answered c s (Refusing code) before r more is e lt =
+    IsVerdict limit sent answered c s v → answered ≡ before ++ r ∷ more → length before + 1 < length sent → refusal r ≡ None
+calm_before limit sent answered c s (Due end next) before r more is e lt = calm_at answered before r more e is.0.calm
+calm_before limit sent answered c s Spent before r more is e lt = calm_at answered before r more e is.calm
+calm_before limit sent answered c s (Refusing code) before r more is e lt =
     calm_early answered is.earlier is.last before r more is.parts e (omega (arith, lt, is.all_answered)) is.calm
 
 no_request : (r : TsRequest) (count : ℕ) → IsRequest [] r count → ⊥
@@ -302,15 +302,15 @@ no_more stream x y requests others next e f one is lt = refuted (beyond stream x
 not_both : (code : NStatusCode) (r : TsRequest) → refusal r ≡ None → refusal r ≡ Some code → ⊥
 not_both code r e f = let no : None ≡ Some code = sym e ∙ f in absurd cc
 
-no_later : (turns : ℕ) (client server : List ℕ) (a b : Result Relayed GateError) (x : Stopped turns client server a)
-    (y : Stopped turns client server b)
+no_later : (limit : ℕ) (client server : List ℕ) (a b : Result Relayed GateError) (x : Stopped limit client server a)
+    (y : Stopped limit client server b)
     (v : Verdict) → x.verdict ≡ v → length x.sent + length x.answered < length y.sent + length y.answered → ⊥
-no_later turns client server a b x y v e lt = stuck v (subst (IsVerdict turns x.sent x.answered x.c x.s) e x.verdict_is)
+no_later limit client server a b x y v e lt = stuck v (subst (IsVerdict limit x.sent x.answered x.c x.s) e x.verdict_is)
   where
-    q : Placed turns y.sent y.answered
-    q = placed turns y.sent y.answered y.c y.s y.verdict y.verdict_is
+    q : Placed limit y.sent y.answered
+    q = placed limit y.sent y.answered y.c y.s y.verdict y.verdict_is
 
-    stuck : (v : Verdict) → IsVerdict turns x.sent x.answered x.c x.s v → ⊥
+    stuck : (v : Verdict) → IsVerdict limit x.sent x.answered x.c x.s v → ⊥
     stuck (Due Client next) (goes, is) =
         no_more client x.c y.c x.sent y.sent next x.from_client y.from_client y.client_version is (omega (arith, goes.due, q.within, lt))
     stuck (Due Server next) (goes, is) =
@@ -324,7 +324,7 @@ no_later turns client server a b x y v e lt = stuck v (subst (IsVerdict turns x.
         more.1 ∙ ap (λ (l : List TsRequest). l ++ more.0) is.parts ∙ append_assoc is.earlier (is.last ∷ []) more.0 in
         let early : length is.earlier + 1 < length y.sent =
         omega (arith, ap length is.parts, length_push is.earlier is.last, is.all_answered, q.within, q.next, lt) in
-        not_both code is.last (calm_before turns y.sent y.answered y.c y.s y.verdict is.earlier is.last more.0 y.verdict_is parts
+        not_both code is.last (calm_before limit y.sent y.answered y.c y.s y.verdict is.earlier is.last more.0 y.verdict_is parts
         early) is.refused
 
 -- ---- relays that came equally far
@@ -357,27 +357,27 @@ next_one first bytes Other NoBytes (r, count, t, differs) also = absurd
 next_one first bytes Other (Faulty kind) (r, count, t, differs) also = absurd (unread bytes r count kind t also.1)
 next_one first bytes Other Other is also = refl
 
-one_due : (turns : ℕ) (e f : End) (sent answered : List TsRequest) → GoesOn turns e sent answered → GoesOn turns f sent answered → e ≡ f
-one_due turns Client Client sent answered g h = refl
-one_due turns Server Server sent answered g h = refl
-one_due turns Client Server sent answered g h = let no : ⊥ = omega (arith, g.due, h.due) in absurd no
-one_due turns Server Client sent answered g h = let no : ⊥ = omega (arith, g.due, h.due) in absurd no
+one_due : (limit : ℕ) (e f : End) (sent answered : List TsRequest) → GoesOn limit e sent answered → GoesOn limit f sent answered → e ≡ f
+one_due limit Client Client sent answered g h = refl
+one_due limit Server Server sent answered g h = refl
+one_due limit Client Server sent answered g h = let no : ⊥ = omega (arith, g.due, h.due) in absurd no
+one_due limit Server Client sent answered g h = let no : ⊥ = omega (arith, g.due, h.due) in absurd no
 
-calm_refused : (turns : ℕ) (code : NStatusCode) (sent answered : List TsRequest) → AreCalm answered → IsRefused turns code sent answered → ⊥
-calm_refused turns code sent answered calm is = not_both code is.last (calm_at answered is.earlier is.last [] is.parts calm) is.refused
+calm_refused : (limit : ℕ) (code : NStatusCode) (sent answered : List TsRequest) → AreCalm answered → IsRefused limit code sent answered → ⊥
+calm_refused limit code sent answered calm is = not_both code is.last (calm_at answered is.earlier is.last [] is.parts calm) is.refused
 
 same_code : (r : TsRequest) (a b : NStatusCode) → refusal r ≡ Some a → refusal r ≡ Some b → a ≡ b
 same_code r a b e f = let same : Some a ≡ Some b = sym e ∙ f in cc
 
-one_code : (turns : ℕ) (a b : NStatusCode) (sent answered : List TsRequest) → IsRefused turns a sent answered →
-    IsRefused turns b sent answered → a ≡ b
-one_code turns a b sent answered is also =
+one_code : (limit : ℕ) (a b : NStatusCode) (sent answered : List TsRequest) → IsRefused limit a sent answered →
+    IsRefused limit b sent answered → a ≡ b
+one_code limit a b sent answered is also =
     let last = same_from_push is.earlier also.earlier is.last also.last (sym is.parts ∙ also.parts) in
     same_code is.last a b is.refused (subst (λ (r : TsRequest). refusal r ≡ Some b) (sym last.1) also.refused)
 
-one_verdict : (turns : ℕ) (sent answered : List TsRequest) (c s : List ℕ) (v w : Verdict) → IsVerdict turns sent answered c s v →
-    IsVerdict turns sent answered c s w → v ≡ w
-one_verdict turns sent answered c s (Due e n) (Due f m) is also = due (one_due turns e f sent answered is.0 also.0) is.1
+one_verdict : (limit : ℕ) (sent answered : List TsRequest) (c s : List ℕ) (v w : Verdict) → IsVerdict limit sent answered c s v →
+    IsVerdict limit sent answered c s w → v ≡ w
+one_verdict limit sent answered c s (Due e n) (Due f m) is also = due (one_due limit e f sent answered is.0 also.0) is.1
   where
     due : e ≡ f → IsNext (first_version (of e sent answered)) (of e c s) n → Due e n ≡ Due f m
     due same next =
@@ -385,53 +385,53 @@ one_verdict turns sent answered c s (Due e n) (Due f m) is also = due (one_due t
         subst (λ (z : End). IsNext (first_version (of z sent answered)) (of z c s) n) same next in
         ap (λ (z : End). Due z n) same
         ∙ ap (λ (z : Next). Due f z) (next_one (first_version (of f sent answered)) (of f c s) n m moved also.1)
-one_verdict turns sent answered c s (Due e n) Spent is also = let no : ⊥ = omega (arith, is.0.within, also.all_answered) in absurd no
-one_verdict turns sent answered c s (Due e n) (Refusing code) is also = absurd (calm_refused turns code sent answered is.0.calm also)
-one_verdict turns sent answered c s Spent (Due f m) is also = let no : ⊥ = omega (arith, also.0.within, is.all_answered) in absurd no
-one_verdict turns sent answered c s Spent Spent is also = refl
-one_verdict turns sent answered c s Spent (Refusing code) is also = absurd (calm_refused turns code sent answered is.calm also)
-one_verdict turns sent answered c s (Refusing code) (Due f m) is also = absurd (calm_refused turns code sent answered also.0.calm is)
-one_verdict turns sent answered c s (Refusing code) Spent is also = absurd (calm_refused turns code sent answered also.calm is)
-one_verdict turns sent answered c s (Refusing a) (Refusing b) is also = ap (λ (z : NStatusCode). Refusing z)
-    (one_code turns a b sent answered is also)
+one_verdict limit sent answered c s (Due e n) Spent is also = let no : ⊥ = omega (arith, is.0.within, also.all_answered) in absurd no
+one_verdict limit sent answered c s (Due e n) (Refusing code) is also = absurd (calm_refused limit code sent answered is.0.calm also)
+one_verdict limit sent answered c s Spent (Due f m) is also = let no : ⊥ = omega (arith, also.0.within, is.all_answered) in absurd no
+one_verdict limit sent answered c s Spent Spent is also = refl
+one_verdict limit sent answered c s Spent (Refusing code) is also = absurd (calm_refused limit code sent answered is.calm also)
+one_verdict limit sent answered c s (Refusing code) (Due f m) is also = absurd (calm_refused limit code sent answered also.0.calm is)
+one_verdict limit sent answered c s (Refusing code) Spent is also = absurd (calm_refused limit code sent answered also.calm is)
+one_verdict limit sent answered c s (Refusing a) (Refusing b) is also = ap (λ (z : NStatusCode). Refusing z)
+    (one_code limit a b sent answered is also)
 
-same_place : (turns : ℕ) (sent answered : List TsRequest) (c s : List ℕ) (v : Verdict) (others replies : List TsRequest) (x y : List ℕ) →
-    others ≡ sent → replies ≡ answered → x ≡ c → y ≡ s → IsVerdict turns others replies x y v → IsVerdict turns sent answered c s v
-same_place turns sent answered c s v others replies x y e f g h is =
-    subst (λ (l : List TsRequest). IsVerdict turns l answered c s v) e (subst (λ (l : List TsRequest). IsVerdict turns others l c s v) f
-    (subst (λ (l : List ℕ). IsVerdict turns others replies l s v) g (subst (λ (l : List ℕ). IsVerdict turns others replies x l v) h is)))
+same_place : (limit : ℕ) (sent answered : List TsRequest) (c s : List ℕ) (v : Verdict) (others replies : List TsRequest) (x y : List ℕ) →
+    others ≡ sent → replies ≡ answered → x ≡ c → y ≡ s → IsVerdict limit others replies x y v → IsVerdict limit sent answered c s v
+same_place limit sent answered c s v others replies x y e f g h is =
+    subst (λ (l : List TsRequest). IsVerdict limit l answered c s v) e (subst (λ (l : List TsRequest). IsVerdict limit others l c s v) f
+    (subst (λ (l : List ℕ). IsVerdict limit others replies l s v) g (subst (λ (l : List ℕ). IsVerdict limit others replies x l v) h is)))
 
-equally_far : (turns : ℕ) (client server : List ℕ) (a b : Result Relayed GateError) (x : Stopped turns client server a)
-    (y : Stopped turns client server b) →
+equally_far : (limit : ℕ) (client server : List ℕ) (a b : Result Relayed GateError) (x : Stopped limit client server a)
+    (y : Stopped limit client server b) →
     length x.sent + length x.answered ≡ length y.sent + length y.answered → a ≡ b
-equally_far turns client server a b x y e =
-    let p = placed turns x.sent x.answered x.c x.s x.verdict x.verdict_is in
-    let q = placed turns y.sent y.answered y.c y.s y.verdict y.verdict_is in
+equally_far limit client server a b x y e =
+    let p = placed limit x.sent x.answered x.c x.s x.verdict x.verdict_is in
+    let q = placed limit y.sent y.answered y.c y.s y.verdict y.verdict_is in
     let sent = one_front client x.c y.c x.sent y.sent x.from_client y.from_client (omega (arith, e, p.within, p.next, q.within, q.next)) in
     let answered = one_front server x.s y.s x.answered y.answered x.from_server y.from_server
     (omega (arith, e, p.within, p.next, q.within, q.next)) in
-    let moved = same_place turns x.sent x.answered x.c x.s y.verdict y.sent y.answered y.c y.s (sym sent.0) (sym answered.0)
+    let moved = same_place limit x.sent x.answered x.c x.s y.verdict y.sent y.answered y.c y.s (sym sent.0) (sym answered.0)
     (sym sent.1) (sym answered.1)
     y.verdict_is in
-    let same = one_verdict turns x.sent x.answered x.c x.s x.verdict y.verdict x.verdict_is moved in
+    let same = one_verdict limit x.sent x.answered x.c x.s x.verdict y.verdict x.verdict_is moved in
     x.answer_is ∙ ap (λ (v : Verdict). answer_of (length x.sent + length x.answered) v) same
     ∙ ap (λ (n : ℕ). answer_of n y.verdict) e ∙ sym y.answer_is
 
-one_answer : (turns : ℕ) (client server : List ℕ) (a b : Result Relayed GateError) → Stopped turns client server a →
-    Stopped turns client server b → a ≡ b
-one_answer turns client server a b x y =
+one_answer : (limit : ℕ) (client server : List ℕ) (a b : Result Relayed GateError) → Stopped limit client server a →
+    Stopped limit client server b → a ≡ b
+one_answer limit client server a b x y =
     elim (cases_lt (length x.sent + length x.answered) (length y.sent + length y.answered)) [
-      | inl lt ↦ absurd (no_later turns client server a b x y x.verdict refl lt)
+      | inl lt ↦ absurd (no_later limit client server a b x y x.verdict refl lt)
       | inr le ↦ elim (cases_lt (length y.sent + length y.answered) (length x.sent + length x.answered)) [
-        | inl lt ↦ absurd (no_later turns client server b a y x y.verdict refl lt)
-        | inr ge ↦ equally_far turns client server a b x y (omega (arith, le, ge))
+        | inl lt ↦ absurd (no_later limit client server b a y x y.verdict refl lt)
+        | inr ge ↦ equally_far limit client server a b x y (omega (arith, le, ge))
       ]
     ]
 
-pub streams_decide : (turns : ℕ) (up down up_first down_first up_second down_second : Way) (client server : List ℕ)
+pub streams_decide : (limit : ℕ) (up down up_first down_first up_second down_second : Way) (client server : List ℕ)
     (first second : Result Relayed GateError) → up.left ≡ Some client → down.left ≡ Some server →
-    IsRelay turns up down up_first down_first first → IsRelay turns up down up_second down_second second →
+    IsRelay limit up down up_first down_first first → IsRelay limit up down up_second down_second second →
     IsDecided first → IsDecided second → first ≡ second
-streams_decide turns up down up_first down_first up_second down_second client server first second e f r q ok also =
-    one_answer turns client server first second (stopped turns up down up_first down_first client server first e f r ok)
-    (stopped turns up down up_second down_second client server second e f q also)
+streams_decide limit up down up_first down_first up_second down_second client server first second e f r q ok also =
+    one_answer limit client server first second (stopped limit up down up_first down_first client server first e f r ok)
+    (stopped limit up down up_second down_second client server second e f q also)

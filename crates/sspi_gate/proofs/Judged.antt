@@ -1,8 +1,9 @@
 -- What is made of the bytes that a header bounds.
-use Rattle.std.proofs.Common.{◌≡◌, ◌≢◌, ◌≤◌, inl, ℕ, List, [], ◌∷◌, ◌++◌, length, Option, None}
+use Rattle.std.proofs.Common.{◌≡◌, ◌≢◌, inl, ℕ, List, [], ◌∷◌, ◌++◌, length, Option, None}
 use Rattle.std.proofs.Common.{Some, Ok, Err, refl, sym, ap, ◌∙◌, subst, append_assoc, arith}
 use Rattle.std.proofs.lemmas.List.{append-nil, length-append}
 use Rattle.std.specs.Io.KnownBytes.{Consumes, Keeps}
+use Rattle.sspi_ber.specs.Outside.{CopyCause}
 use Rattle.sspi_ber.specs.Pieces.{header_at}
 use Rattle.sspi_ber.specs.declared.wire_kind.WireKind.{WireKind}
 use Rattle.sspi_ber.specs.declared.wire_kind.WireKind.TheVariants as kinds
@@ -16,9 +17,9 @@ use Rattle.sspi_tsreq.proofs.Faults.{framed}
 use Rattle.sspi_gate.specs.declared.answer.GateFault.{GateFault}
 use Rattle.sspi_gate.specs.declared.answer.GateFault.TheVariants.{Bad, Version, ReadFault, WriteFault, TurnsSpent, InsufficientMemory}
 use Rattle.sspi_credssp.specs.declared.turn.End.{End}
-use Rattle.sspi_gate.specs.Next.{Fails, IsBad, IsWhole, ShowsFault, TakesOnly, TakesToFault}
+use Rattle.sspi_gate.specs.Next.{Fails, IsBad, IsWhole, ShowsFault, TakesToFault, TakesWell}
 use Rattle.sspi_gate.specs.Step.{HasFault, Judges}
-use Rattle.sspi_gate.specs.Taking.{TakesRequest, TakingCause}
+use Rattle.sspi_gate.specs.Taking.{TakesRequest}
 use Rattle.sspi_gate.specs.Way.{Way}
 use Rattle.sspi_gate.proofs.Wanted.{whole_shown, whole_wanted}
 
@@ -89,19 +90,16 @@ to_fault before after bytes kind c w f =
     record { taken = record { text = bytes; taken = c; wanted = whole_wanted bytes w }; shows = shows bytes after kind w f }
 
 taken_only : (before after : Way) (bytes : List ℕ) → Consumes before.left after.left bytes → IsWhole bytes →
-    before.read_faults ≤ after.read_faults →
-    Keeps before.written after.written → after.write_faults ≡ before.write_faults → TakesOnly before after
-taken_only before after bytes c w reading keeps writing =
-    record {
-      taken = record { text = bytes; taken = c; wanted = whole_wanted bytes w };
-      written = keeps;
-      reading = reading;
-      writing = writing;
-    }
+    after.read_faults ≡ before.read_faults →
+    Keeps before.written after.written → after.write_faults ≡ before.write_faults → TakesWell before after
+taken_only before after bytes c w reading keeps writing = (
+  record { taken = record { text = bytes; taken = c; wanted = whole_wanted bytes w }; written = keeps; writing = writing },
+  reading,
+)
 
 -- a request that was taken whole and is not handed on
 not_handed : (end : End) (first : Option ℕ) (before after : Way) (bytes : List ℕ) (why : GateFault) →
-    Consumes before.left after.left bytes → IsWhole bytes → before.read_faults ≤ after.read_faults →
+    Consumes before.left after.left bytes → IsWhole bytes → after.read_faults ≡ before.read_faults →
     Keeps before.written after.written → after.write_faults ≡ before.write_faults → Judges end first bytes (Err why) →
     Fails end first before after why
 not_handed end first before after bytes (Bad who kind) c w reading keeps writing j = (
@@ -130,7 +128,7 @@ not_handed end first before after bytes InsufficientMemory c w reading keeps wri
     j = inl (taken_only before after bytes c w reading keeps writing)
 
 pub not_passed : (end : End) (first : Option ℕ) (before after : Way) (bytes seen : List ℕ) (why : GateFault) →
-    Consumes before.left after.left bytes → IsWhole bytes → before.read_faults ≤ after.read_faults →
+    Consumes before.left after.left bytes → IsWhole bytes → after.read_faults ≡ before.read_faults →
     Keeps before.written after.written → after.write_faults ≡ before.write_faults → seen ≡ bytes → Judges end first seen (Err why) →
     Fails end first before after why
 not_passed end first before after bytes seen why c w reading keeps writing same j =
@@ -138,11 +136,11 @@ not_passed end first before after bytes seen why c w reading keeps writing same 
 
 -- what was taken is no whole request
 pub not_whole : {X : Type 0} (view : X → List ℕ) (end : End) (first : Option ℕ) (before after : Way) (kind : WireKind) →
-    TakesRequest view before.left after.left (Err kind) → TakingCause {X = Option X} before.read_faults after.read_faults (Err kind) →
+    TakesRequest view before.left after.left (Err kind) → CopyCause {X = Option X} before.read_faults after.read_faults (Err kind) →
     Keeps before.written after.written → after.write_faults ≡ before.write_faults → kind ≢ kinds.ReadFault →
     kind ≢ kinds.InsufficientMemory → Fails end first before after (Bad end kind)
 not_whole view end first before after kinds.UnexpectedEof t reading keeps writing read memory =
-    (refl, t.0, t.1, record { taken = t.1.taken; written = keeps; reading = reading; writing = writing })
+    (refl, t.0, t.1, (record { taken = t.1.taken; written = keeps; writing = writing }, reading))
 not_whole view end first before after kinds.InvalidData t reading keeps writing read memory = absurd t
 not_whole view end first before after kinds.ReadFault t reading keeps writing read memory = absurd (read refl)
 not_whole view end first before after kinds.WriteFault t reading keeps writing read memory = absurd t

@@ -36,7 +36,7 @@ nothing_handed way = record {
   requests_are = refl;
   taken = Consumes-nil way.left;
   written = Appends-nil way.written;
-  reading = omega arith;
+  reading = refl;
   writing = refl;
 }
 
@@ -46,7 +46,7 @@ handed a b c requests others p q = record {
   requests_are = joined p.front q.front requests others p.requests_are q.requests_are;
   taken = Consumes-trans a.left b.left c.left p.front q.front p.taken q.taken;
   written = Appends-trans a.written b.written c.written p.front q.front p.written q.written;
-  reading = omega (arith, p.reading, q.reading);
+  reading = q.reading ∙ p.reading;
   writing = q.writing ∙ p.writing;
 }
 
@@ -151,13 +151,13 @@ server_passed done up down up_now down_now down_next client_version server_versi
 
 -- ---- ends
 
-pub server_refused : (turns done count : ℕ) (up down up_now down_now down_next : Way) (client_version server_version : Option ℕ)
+pub server_refused : (limit done count : ℕ) (up down up_now down_now down_next : Way) (client_version server_version : Option ℕ)
     (seen : Seen)
     (code : NStatusCode) →
     Half done up down up_now down_now client_version server_version → IsStep Server server_version down_now down_next (steps.Passed seen) →
-    seen.refusal ≡ Some code → done < turns → count ≡ done + 1 + (done + 1) →
-    IsRelay turns up down up_now down_next (Ok (record { passed = count; how = Refused code }))
-server_refused turns done count up down up_now down_now down_next client_version server_version seen code s (r, one, is, may) refuses lt e =
+    seen.refusal ≡ Some code → done < limit → count ≡ done + 1 + (done + 1) →
+    IsRelay limit up down up_now down_next (Ok (record { passed = count; how = Refused code }))
+server_refused limit done count up down up_now down_now down_next client_version server_version seen code s (r, one, is, may) refuses lt e =
     let agrees : MaySend (first_version s.answered) r.version = subst (λ (v : Option ℕ). MaySend v r.version) s.server_first may in
     let more = length_push s.answered r in
     record {
@@ -182,11 +182,11 @@ server_refused turns done count up down up_now down_now down_next client_version
       );
     }
 
-pub client_ended : (turns done count : ℕ) (up down up_now down_now up_next : Way) (client_version server_version : Option ℕ) →
+pub client_ended : (limit done count : ℕ) (up down up_now down_now up_next : Way) (client_version server_version : Option ℕ) →
     SoFar done up down up_now down_now client_version server_version → IsStep Client client_version up_now up_next steps.Ended →
-    done < turns
-    → count ≡ done + done → IsRelay turns up down up_next down_now (Ok (record { passed = count; how = Ended Client }))
-client_ended turns done count up down up_now down_now up_next client_version server_version s (end, none) lt e = record {
+    done < limit
+    → count ≡ done + done → IsRelay limit up down up_next down_now (Ok (record { passed = count; how = Ended Client }))
+client_ended limit done count up down up_now down_now up_next client_version server_version s (end, none) lt e = record {
   sent = s.sent;
   answered = s.answered;
   up_last = up_next;
@@ -205,11 +205,11 @@ client_ended turns done count up down up_now down_now up_next client_version ser
   );
 }
 
-pub server_ended : (turns done count : ℕ) (up down up_now down_now down_next : Way) (client_version server_version : Option ℕ) →
+pub server_ended : (limit done count : ℕ) (up down up_now down_now down_next : Way) (client_version server_version : Option ℕ) →
     Half done up down up_now down_now client_version server_version → IsStep Server server_version down_now down_next steps.Ended
-    → done < turns
-    → count ≡ done + done + 1 → IsRelay turns up down up_now down_next (Ok (record { passed = count; how = Ended Server }))
-server_ended turns done count up down up_now down_now down_next client_version server_version s (end, none) lt e = record {
+    → done < limit
+    → count ≡ done + done + 1 → IsRelay limit up down up_now down_next (Ok (record { passed = count; how = Ended Server }))
+server_ended limit done count up down up_now down_now down_next client_version server_version s (end, none) lt e = record {
   sent = s.sent;
   answered = s.answered;
   up_last = up_now;
@@ -228,21 +228,21 @@ server_ended turns done count up down up_now down_now down_next client_version s
   );
 }
 
-gives_up : (turns : ℕ) (sent answered : List TsRequest) (up down up_after down_after : Way) (why : GateFault) →
-    IsBroken turns sent answered up down up_after down_after why → GivesUp turns sent answered up down up_after down_after why
-gives_up turns sent answered up down up_after down_after (Bad end kind) b = b
-gives_up turns sent answered up down up_after down_after (Version end) b = b
-gives_up turns sent answered up down up_after down_after (ReadFault end) b = b
-gives_up turns sent answered up down up_after down_after (WriteFault end) b = b
-gives_up turns sent answered up down up_after down_after TurnsSpent b = absurd b.fails
-gives_up turns sent answered up down up_after down_after InsufficientMemory b = b
+gives_up : (limit : ℕ) (sent answered : List TsRequest) (up down up_after down_after : Way) (why : GateFault) →
+    IsBroken limit sent answered up down up_after down_after why → GivesUp limit sent answered up down up_after down_after why
+gives_up limit sent answered up down up_after down_after (Bad end kind) b = b
+gives_up limit sent answered up down up_after down_after (Version end) b = b
+gives_up limit sent answered up down up_after down_after (ReadFault end) b = b
+gives_up limit sent answered up down up_after down_after (WriteFault end) b = b
+gives_up limit sent answered up down up_after down_after TurnsSpent b = absurd b.fails
+gives_up limit sent answered up down up_after down_after InsufficientMemory b = b
 
-pub client_stopped : (turns done count : ℕ) (up down up_now down_now up_next : Way) (client_version server_version : Option ℕ)
+pub client_stopped : (limit done count : ℕ) (up down up_now down_now up_next : Way) (client_version server_version : Option ℕ)
     (why : GateFault) →
     SoFar done up down up_now down_now client_version server_version → IsStep Client client_version up_now up_next
-    (steps.Stopped why) → done < turns
-    → count ≡ done + done → IsRelay turns up down up_next down_now (Err (record { passed = count; why = why }))
-client_stopped turns done count up down up_now down_now up_next client_version server_version why s f lt e = record {
+    (steps.Stopped why) → done < limit
+    → count ≡ done + done → IsRelay limit up down up_next down_now (Err (record { passed = count; why = why }))
+client_stopped limit done count up down up_now down_now up_next client_version server_version why s f lt e = record {
   sent = s.sent;
   answered = s.answered;
   up_last = up_now;
@@ -250,7 +250,7 @@ client_stopped turns done count up down up_now down_now up_next client_version s
   passed = s.passed;
   stops = (
     omega (arith, e, s.all_sent, s.all_answered),
-    gives_up turns s.sent s.answered up_now down_now up_next down_now why (record {
+    gives_up limit s.sent s.answered up_now down_now up_next down_now why (record {
       end = Client;
       goes_on = record { due = omega (arith, s.all_sent, s.all_answered); within = omega (arith, s.all_answered, lt); calm = s.calm };
       fails = rw s.client_first at f;
@@ -259,11 +259,11 @@ client_stopped turns done count up down up_now down_now up_next client_version s
   );
 }
 
-pub server_stopped : (turns done count : ℕ) (up down up_now down_now down_next : Way) (client_version server_version : Option ℕ)
+pub server_stopped : (limit done count : ℕ) (up down up_now down_now down_next : Way) (client_version server_version : Option ℕ)
     (why : GateFault) →
     Half done up down up_now down_now client_version server_version → IsStep Server server_version down_now down_next (steps.Stopped why)
-    → done < turns → count ≡ done + done + 1 → IsRelay turns up down up_now down_next (Err (record { passed = count; why = why }))
-server_stopped turns done count up down up_now down_now down_next client_version server_version why s f lt e = record {
+    → done < limit → count ≡ done + done + 1 → IsRelay limit up down up_now down_next (Err (record { passed = count; why = why }))
+server_stopped limit done count up down up_now down_now down_next client_version server_version why s f lt e = record {
   sent = s.sent;
   answered = s.answered;
   up_last = up_now;
@@ -271,7 +271,7 @@ server_stopped turns done count up down up_now down_now down_next client_version
   passed = s.passed;
   stops = (
     omega (arith, e, s.all_sent, s.all_answered),
-    gives_up turns s.sent s.answered up_now down_now up_now down_next why (record {
+    gives_up limit s.sent s.answered up_now down_now up_now down_next why (record {
       end = Server;
       goes_on = record { due = omega (arith, s.all_sent, s.all_answered); within = omega (arith, s.all_answered, lt); calm = s.calm };
       fails = rw s.server_first at f;
@@ -280,10 +280,10 @@ server_stopped turns done count up down up_now down_now down_next client_version
   );
 }
 
-pub spent : (turns done count : ℕ) (up down up_now down_now : Way) (client_version server_version : Option ℕ) →
-    SoFar done up down up_now down_now client_version server_version → done ≡ turns → count ≡ done + done →
-    IsRelay turns up down up_now down_now (Err (record { passed = count; why = TurnsSpent }))
-spent turns done count up down up_now down_now client_version server_version s all e = record {
+pub spent : (limit done count : ℕ) (up down up_now down_now : Way) (client_version server_version : Option ℕ) →
+    SoFar done up down up_now down_now client_version server_version → done ≡ limit → count ≡ done + done →
+    IsRelay limit up down up_now down_now (Err (record { passed = count; why = TurnsSpent }))
+spent limit done count up down up_now down_now client_version server_version s all e = record {
   sent = s.sent;
   answered = s.answered;
   up_last = up_now;

@@ -67,8 +67,11 @@ pub record TakesToFault (kind : WireKind) (before after : Option (List ℕ)) : T
 pub record TakesOnly (before after : Way) : Type 0 where
   pub taken : TakesWanted before.left after.left
   pub written : Keeps before.written after.written
-  pub reading : before.read_faults ≤ after.read_faults
   pub writing : after.write_faults ≡ before.write_faults
+
+-- the same where no read failed
+abbrev pub TakesWell : Way → Way → Type 0
+TakesWell before after = TakesOnly before after × (after.read_faults ≡ before.read_faults)
 
 -- A request of another version than the first was taken, and not written.
 pub record TakesOtherVersion (first : Option ℕ) (before after : Way) : Type 0 where
@@ -78,7 +81,7 @@ pub record TakesOtherVersion (first : Option ℕ) (before after : Way) : Type 0 
   pub taken : Consumes before.left after.left text
   pub differs : MaySend first request.version → ⊥
   pub written : Keeps before.written after.written
-  pub reading : before.read_faults ≤ after.read_faults
+  pub reading : after.read_faults ≡ before.read_faults
   pub writing : after.write_faults ≡ before.write_faults
 
 -- A request that might be handed on was taken, and a front of it was written.
@@ -89,17 +92,17 @@ pub record WritesFront (first : Option ℕ) (before after : Way) : Type 0 where
   pub taken : Consumes before.left after.left text
   pub agrees : MaySend first request.version
   pub written : WroteFront before.written after.written text
-  pub reading : before.read_faults ≤ after.read_faults
+  pub reading : after.read_faults ≡ before.read_faults
   pub writing : before.write_faults ≤ after.write_faults
 
 -- The next request of this end, whose first version is this one if it has sent any, was not handed on.
 abbrev pub Fails : End → Option ℕ → Way → Way → GateFault → Type 0
 Fails end first before after (Bad who kind) =
-    (who ≡ end) × IsBad before.left kind × TakesToFault kind before.left after.left × TakesOnly before after
+    (who ≡ end) × IsBad before.left kind × TakesToFault kind before.left after.left × TakesWell before after
 Fails end first before after (Version who) = (who ≡ end) × TakesOtherVersion first before after
 Fails end first before after (ReadFault who) = (who ≡ end) × Rose before.read_faults after.read_faults × TakesOnly before after
 Fails end first before after (WriteFault who) =
     (who ≡ other_end end) × Rose before.write_faults after.write_faults × WritesFront first before after
 Fails end first before after TurnsSpent = ⊥
 Fails end first before after InsufficientMemory =
-    TakesOnly before after ⊎ ((after.write_faults ≡ before.write_faults) × WritesFront first before after)
+    TakesWell before after ⊎ ((after.write_faults ≡ before.write_faults) × WritesFront first before after)

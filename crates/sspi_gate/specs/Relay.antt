@@ -36,68 +36,68 @@ abbrev pub IsDue : End → ℕ → ℕ → Type 0
 IsDue Client sent answered = sent ≡ answered
 IsDue Server sent answered = sent ≡ answered + 1
 
--- No answer refused, fewer than `turns` requests were answered, and the next one is due from this end.
-pub record GoesOn (turns : ℕ) (end : End) (sent answered : List TsRequest) : Type 0 where
+-- No answer refused, fewer than `limit` requests were answered, and the next one is due from this end.
+pub record GoesOn (limit : ℕ) (end : End) (sent answered : List TsRequest) : Type 0 where
   pub due : IsDue end (length sent) (length answered)
-  pub within : length answered < turns
+  pub within : length answered < limit
   pub calm : AreCalm answered
 
--- the client sent `turns` requests, each was answered, and no answer refused
-pub record IsSpent (turns : ℕ) (sent answered : List TsRequest) : Type 0 where
-  pub all_sent : length sent ≡ turns
-  pub all_answered : length answered ≡ turns
+-- the client sent `limit` requests, each was answered, and no answer refused
+pub record IsSpent (limit : ℕ) (sent answered : List TsRequest) : Type 0 where
+  pub all_sent : length sent ≡ limit
+  pub all_answered : length answered ≡ limit
   pub calm : AreCalm answered
 
 -- the last request is an answer of the server, which refuses by this code as no earlier one did
-pub record IsRefused (turns : ℕ) (code : NStatusCode) (sent answered : List TsRequest) : Type 0 where
+pub record IsRefused (limit : ℕ) (code : NStatusCode) (sent answered : List TsRequest) : Type 0 where
   pub earlier : List TsRequest
   pub last : TsRequest
   pub parts : answered ≡ earlier ++ last ∷ []
   pub calm : AreCalm earlier
   pub refused : refusal last ≡ Some code
   pub all_answered : length sent ≡ length answered
-  pub within : length answered ≤ turns
+  pub within : length answered ≤ limit
 
 -- The next request was due from an end and was not handed on; nothing came of the other way.
-pub record IsBroken (turns : ℕ) (sent answered : List TsRequest) (up down up_after down_after : Way) (why : GateFault) : Type 0 where
+pub record IsBroken (limit : ℕ) (sent answered : List TsRequest) (up down up_after down_after : Way) (why : GateFault) : Type 0 where
   pub end : End
-  pub goes_on : GoesOn turns end sent answered
+  pub goes_on : GoesOn limit end sent answered
   pub fails : Fails end (first_version (of end sent answered)) (of end up down) (of end up_after down_after) why
   pub other : of end down_after up_after ≡ of end down up
 
 -- ---- the answers
 
 abbrev pub Closes : ℕ → List TsRequest → List TsRequest → Way → Way → Close → Type 0
-Closes turns sent answered up down (Ended end) = GoesOn turns end sent answered × IsAtEnd (of end up down).left
-Closes turns sent answered up down (Refused code) = IsRefused turns code sent answered
+Closes limit sent answered up down (Ended end) = GoesOn limit end sent answered × IsAtEnd (of end up down).left
+Closes limit sent answered up down (Refused code) = IsRefused limit code sent answered
 
 abbrev pub GivesUp : ℕ → List TsRequest → List TsRequest → Way → Way → Way → Way → GateFault → Type 0
-GivesUp turns sent answered up down up_after down_after (Bad end kind) =
-    IsBroken turns sent answered up down up_after down_after (Bad end kind)
-GivesUp turns sent answered up down up_after down_after (Version end) =
-    IsBroken turns sent answered up down up_after down_after (Version end)
-GivesUp turns sent answered up down up_after down_after (ReadFault end) =
-    IsBroken turns sent answered up down up_after down_after (ReadFault end)
-GivesUp turns sent answered up down up_after down_after (WriteFault end) =
-    IsBroken turns sent answered up down up_after down_after (WriteFault end)
-GivesUp turns sent answered up down up_after down_after TurnsSpent =
-    IsSpent turns sent answered × (up_after ≡ up) × (down_after ≡ down)
-GivesUp turns sent answered up down up_after down_after InsufficientMemory =
-    IsBroken turns sent answered up down up_after down_after InsufficientMemory
+GivesUp limit sent answered up down up_after down_after (Bad end kind) =
+    IsBroken limit sent answered up down up_after down_after (Bad end kind)
+GivesUp limit sent answered up down up_after down_after (Version end) =
+    IsBroken limit sent answered up down up_after down_after (Version end)
+GivesUp limit sent answered up down up_after down_after (ReadFault end) =
+    IsBroken limit sent answered up down up_after down_after (ReadFault end)
+GivesUp limit sent answered up down up_after down_after (WriteFault end) =
+    IsBroken limit sent answered up down up_after down_after (WriteFault end)
+GivesUp limit sent answered up down up_after down_after TurnsSpent =
+    IsSpent limit sent answered × (up_after ≡ up) × (down_after ≡ down)
+GivesUp limit sent answered up down up_after down_after InsufficientMemory =
+    IsBroken limit sent answered up down up_after down_after InsufficientMemory
 
 -- why a relay stopped that came so far, and what it had done besides
 abbrev pub Stops : ℕ → List TsRequest → List TsRequest → Way → Way → Way → Way → Result Relayed GateError → Type 0
-Stops turns sent answered up down up_after down_after (Ok relayed) =
-    (relayed.passed ≡ length sent + length answered) × Closes turns sent answered up down relayed.how
+Stops limit sent answered up down up_after down_after (Ok relayed) =
+    (relayed.passed ≡ length sent + length answered) × Closes limit sent answered up down relayed.how
     × (up_after ≡ up) × (down_after ≡ down)
-Stops turns sent answered up down up_after down_after (Err error) =
-    (error.passed ≡ length sent + length answered) × GivesUp turns sent answered up down up_after down_after error.why
+Stops limit sent answered up down up_after down_after (Err error) =
+    (error.passed ≡ length sent + length answered) × GivesUp limit sent answered up down up_after down_after error.why
 
--- A whole relay of at most `turns` turns: `up` leads from the client to the server, `down` back.
-pub record IsRelay (turns : ℕ) (up down up_after down_after : Way) (answer : Result Relayed GateError) : Type 0 where
+-- A whole relay of at most `limit` turns: `up` leads from the client to the server, `down` back.
+pub record IsRelay (limit : ℕ) (up down up_after down_after : Way) (answer : Result Relayed GateError) : Type 0 where
   pub sent : List TsRequest
   pub answered : List TsRequest
   pub up_last : Way
   pub down_last : Way
   pub passed : Passed up down up_last down_last sent answered
-  pub stops : Stops turns sent answered up_last down_last up_after down_after answer
+  pub stops : Stops limit sent answered up_last down_last up_after down_after answer

@@ -3,7 +3,6 @@ use Rattle.std.specs.Prelude.{◌≡◌, ◌<◌, ◌≤◌, ℕ, List, [], ◌�
 use Rattle.std.specs.Io.KnownBytes.{Consumes, IsAtEnd}
 use Rattle.sspi_ber.specs.Pieces.{Ended, Invalid, header_at}
 use Rattle.sspi_ber.specs.Forms.{IsLength}
-use Rattle.sspi_ber.specs.Outside.{Rose}
 use Rattle.sspi_ber.specs.declared.wire_kind.WireKind.{WireKind}
 use Rattle.sspi_ber.specs.declared.wire_kind.WireKind.TheVariants.{UnexpectedEof, InvalidData, ReadFault, WriteFault, InsufficientMemory}
 use Rattle.sspi_gate.specs.Next.{IsBad, IsWhole, TakesToFault, TakesWanted}
@@ -23,15 +22,6 @@ pub record IsHeaderOf (size : ℕ) (bytes : List ℕ) : Type 0 where
   pub len : List ℕ
   pub spelled : bytes ≡ 0x30 ∷ len
   pub measured : IsLength len size
-
--- what a reader that takes memory says of its source's count
-abbrev pub TakingCause : {X : Type 0} → ℕ → ℕ → Result X WireKind → Type 0
-TakingCause before now (Ok x) = before ≤ now
-TakingCause before now (Err UnexpectedEof) = before ≤ now
-TakingCause before now (Err InvalidData) = before ≤ now
-TakingCause before now (Err ReadFault) = (before ≤ now) × Rose before now
-TakingCause before now (Err WriteFault) = ⊥
-TakingCause before now (Err InsufficientMemory) = before ≤ now
 
 -- ---- what is taken, by the answer
 

@@ -1,5 +1,5 @@
 -- One direction of a relay: a source that requests are taken from, and a sink that their bytes are written to.
-use Rattle.std.specs.Prelude.{◌≡◌, ◌≤◌, ℕ, List, Option}
+use Rattle.std.specs.Prelude.{◌≡◌, ℕ, List, Option}
 use Rattle.std.specs.Io.KnownBytes.{Appends, Consumes}
 use Rattle.sspi_tsreq.specs.declared.request.TsRequest.{TsRequest}
 use Rattle.sspi_gate.specs.Front.{AreRequests}
@@ -21,5 +21,5 @@ pub record HandsOn (before after : Way) (requests : List TsRequest) : Type 0 whe
   pub requests_are : AreRequests front requests
   pub taken : Consumes before.left after.left front
   pub written : Appends before.written after.written front
-  pub reading : before.read_faults ≤ after.read_faults
+  pub reading : after.read_faults ≡ before.read_faults
   pub writing : after.write_faults ≡ before.write_faults

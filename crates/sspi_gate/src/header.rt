@@ -1,5 +1,6 @@
 ghost use Rattle.std.specs.Prelude.{◌≡◌, []};
-ghost use Rattle.sspi_gate.specs.Taking.{Announces, TakesHeader, TakingCause};
+ghost use Rattle.sspi_ber.specs.Outside.{CopyCause};
+ghost use Rattle.sspi_gate.specs.Taking.{Announces, TakesHeader};
 
 use sspi_ber::{MAX_LENGTH_OCTETS, SliceSource, Source, WireKind, read_sequence_tag};
 
@@ -25,7 +26,7 @@ pub(crate) fn take_header<S: Source>(
 ) -> Result<Option<u32>, WireKind>
     requires { header.old.items ≡ [] }
     ensures takes { TakesHeader (S.left source.old) (S.left source.new) header.new.items result }
-    ensures cause { TakingCause (S.faults source.old) (S.faults source.new) result }
+    ensures cause { CopyCause (S.faults source.old) (S.faults source.new) result }
 {
     for size in 0..MAX_HEADER {
         let byte = match source.next_byte()? {

@@ -32,8 +32,8 @@ pub fn each_request_takes_bytes()
 /// Where both streams are told, they and the number of turns decide the answer, faults of a stream and want of memory apart:
 /// the causes of the other answers exclude each other, and each comes wherever its cause is there.
 pub fn the_streams_decide()
-    ensures { (turns : ℕ) (up down up_first down_first up_second down_second : Way) (client server : List ℕ)
+    ensures { (limit : ℕ) (up down up_first down_first up_second down_second : Way) (client server : List ℕ)
         (first second : Result Relayed GateError) → up.left ≡ Some client → down.left ≡ Some server →
-        IsRelay turns up down up_first down_first first → IsRelay turns up down up_second down_second second →
+        IsRelay limit up down up_first down_first first → IsRelay limit up down up_second down_second second →
         IsDecided first → IsDecided second → first ≡ second }
 {}

@@ -1,4 +1,5 @@
-ghost use Rattle.sspi_gate.specs.Taking.{TakesBody, TakesRequest, TakingCause};
+ghost use Rattle.sspi_ber.specs.Outside.{CopyCause};
+ghost use Rattle.sspi_gate.specs.Taking.{TakesBody, TakesRequest};
 
 use crate::header::take_header;
 use sspi_ber::{Source, WireKind};
@@ -9,7 +10,7 @@ const PIECE_LENGTH: usize = 2048;
 /// So many bytes more, in pieces, so that memory is taken only for what came.
 fn take_body<S: Source>(source: &mut S, bytes: &mut Vec<u8>, size: usize) -> Result<(), WireKind>
     ensures takes { TakesBody size (S.left source.old) (S.left source.new) bytes.old.items bytes.new.items result }
-    ensures cause { TakingCause (S.faults source.old) (S.faults source.new) result }
+    ensures cause { CopyCause (S.faults source.old) (S.faults source.new) result }
 {
     let mut piece = [0u8; PIECE_LENGTH];
     let mut missing = size;
@@ -32,7 +33,7 @@ pub(crate) fn take_request<S: Source>(
     source: &mut S,
 ) -> Result<Option<Vec<u8>>, WireKind>
     ensures takes { TakesRequest (λ bytes. bytes.items) (S.left source.old) (S.left source.new) result }
-    ensures cause { TakingCause (S.faults source.old) (S.faults source.new) result }
+    ensures cause { CopyCause (S.faults source.old) (S.faults source.new) result }
 {
     let mut bytes = Vec::new(alloc);
     let Some(size) = take_header(source, &mut bytes)? else {

@@ -41,9 +41,9 @@ ReadsSoFar before after (Err TooLong) = TakesJust (text_limit + 1) before after
 ReadsSoFar before after (Err Failed) = Unit {0}
 ReadsSoFar before after (Err InsufficientMemory) = Unit {0}
 
--- what reading says of the source's count of faults: it never falls, and a failure has it rise
+-- what reading says of the source's count of faults: a failure has it rise, and at any other answer no call failed
 abbrev pub TextCause : ℕ → ℕ → Result (Vec ℕ) TextError → Type 0
-TextCause before now (Ok text) = before ≤ now
-TextCause before now (Err TooLong) = before ≤ now
+TextCause before now (Ok text) = now ≡ before
+TextCause before now (Err TooLong) = now ≡ before
 TextCause before now (Err Failed) = (before ≤ now) × Rose before now
-TextCause before now (Err InsufficientMemory) = before ≤ now
+TextCause before now (Err InsufficientMemory) = now ≡ before

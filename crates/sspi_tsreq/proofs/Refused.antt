@@ -1,12 +1,12 @@
 -- What a fault of reading is to a reader of credentials.
-use Rattle.std.proofs.Common.{◌≡◌, inl, inr, ℕ, ◌≤◌, [], ◌∷◌, Bool, true, false, cond, eqb, List, Option, None, Some, Result, Ok, Err}
-use Rattle.std.proofs.Common.{refl, sym, ap, ◌∙◌, subst, arith, Vec, Global}
+use Rattle.std.proofs.Common.{◌≡◌, inl, inr, ℕ, [], ◌∷◌, Bool, true, false, cond, eqb, List, Option, None, Some, Result, Ok, Err}
+use Rattle.std.proofs.Common.{refl, sym, ap, ◌∙◌, subst, Vec, Global}
 use Rattle.sspi_types.specs.declared.error.Error.{Error}
 use Rattle.sspi_types.specs.Errors.{memory_error}
 use Rattle.sspi_ber.specs.declared.wire_kind.WireKind.{WireKind}
 use Rattle.sspi_ber.specs.declared.wire_kind.WireKind.TheVariants.{UnexpectedEof, InvalidData, ReadFault, WriteFault, InsufficientMemory}
 use Rattle.sspi_ber.specs.Pieces.{Fault, Ended, Invalid, Read, ◌>>=◌, header_at, bytes_at, element_at}
-use Rattle.sspi_ber.specs.Outside.{Answers, Gives, NeedsNoMemory, Reads, ReadCause}
+use Rattle.sspi_ber.specs.Outside.{Answers, CopyCause, Gives, NeedsNoMemory, Reads, ReadCause}
 use Rattle.sspi_types.specs.declared.error_kind.ErrorKind.TheVariants.{InternalError}
 use Rattle.std.specs.Result.{IfErr}
 use Rattle.sspi_names.specs.Utf16.{bad_text, utf16_refusal}
@@ -22,7 +22,6 @@ use Rattle.sspi_tsreq.specs.Creds.{creds_in, fields_at, passwords_at, password_t
 use Rattle.sspi_tsreq.specs.CredsAnswers.{IsCredsRefusal, IsOrMemory, ReadsCreds, CredsCause}
 use Rattle.sspi_tsreq.specs.CredsReading.{refusal_by}
 use Rattle.sspi_tsreq.specs.CredsGrammar.{IsCreds}
-use Rattle.sspi_tsreq.specs.Filled.{CopyCause}
 use Rattle.sspi_tsreq.proofs.CredsAre.{password_stands, keytab_never}
 use Rattle.sspi_tsreq.proofs.CredsMatch.{whole_again}
 
@@ -41,11 +40,11 @@ refused view after InsufficientMemory read g m = absurd m
 -- the cause of a refusal by a fault of copying
 pub copy_cause : (X : Type 0) (kind : WireKind) (f g : ℕ) → CopyCause {X = X} f g (Err kind) →
     CredsCause {X = CredentialsBuffers} f g (Err (refusal_by kind))
-copy_cause X UnexpectedEof f g c = (c, λ e. absurd cc)
-copy_cause X InvalidData f g c = (c, λ e. absurd cc)
-copy_cause X ReadFault f g c = (c.0, λ e. c.1)
+copy_cause X UnexpectedEof f g c = (λ e. absurd cc, λ other. c)
+copy_cause X InvalidData f g c = (λ e. absurd cc, λ other. c)
+copy_cause X ReadFault f g c = (λ e. c.1, λ other. absurd (other refl))
 copy_cause X WriteFault f g c = absurd c
-copy_cause X InsufficientMemory f g c = (c, λ e. absurd cc)
+copy_cause X InsufficientMemory f g c = (λ e. absurd cc, λ other. c)
 
 -- ---- the whole text
 
@@ -91,9 +90,9 @@ header_refused (Some text) mid kind f g r c = header_kind text mid kind f g r c
 -- the cause of a refusal by a fault of reading
 pub refusal_cause : (X : Type 0) (kind : WireKind) (f g : ℕ) → ReadCause {X = X} f g (Err kind) →
     CredsCause {X = CredentialsBuffers} f g (Err (refusal_by kind))
-refusal_cause X UnexpectedEof f g c = (c, λ e. absurd cc)
-refusal_cause X InvalidData f g c = (c, λ e. absurd cc)
-refusal_cause X ReadFault f g c = (c.0, λ e. c.1)
+refusal_cause X UnexpectedEof f g c = (λ e. absurd cc, λ other. c)
+refusal_cause X InvalidData f g c = (λ e. absurd cc, λ other. c)
+refusal_cause X ReadFault f g c = (λ e. c.1, λ other. absurd (other refl))
 refusal_cause X WriteFault f g c = absurd c
 refusal_cause X InsufficientMemory f g c = absurd c
 
@@ -229,11 +228,12 @@ memory_external : NotInternal memory_error
 memory_external e = cc
 
 -- what was read whole was read with no fault
-pub content_cause : (f g h : ℕ) (body : List ℕ) (result : Result CredentialsBuffers Error) → f ≤ g → g ≤ h →
+pub content_cause : (f g h : ℕ) (body : List ℕ) (result : Result CredentialsBuffers Error) → g ≡ f → h ≡ g →
     IsOrMemory (λ b. b) result (creds_in body) → CredsCause f h result
-content_cause f g h body (Ok b) p q answer = omega arith
-content_cause f g h body (Err error) p q (inl answer) = (omega arith, λ e. absurd (creds_external body error answer e))
-content_cause f g h body (Err error) p q (inr answer) = (omega arith, λ e. absurd (subst NotInternal (sym answer) memory_external e))
+content_cause f g h body (Ok b) p q answer = q ∙ p
+content_cause f g h body (Err error) p q (inl answer) = (λ e. absurd (creds_external body error answer e), λ other. q ∙ p)
+content_cause f g h body (Err error) p q (inr answer) =
+    (λ e. absurd (subst NotInternal (sym answer) memory_external e), λ other. q ∙ p)
 
 -- ---- the refusals are those of the list
 

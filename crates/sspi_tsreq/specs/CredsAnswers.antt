@@ -1,5 +1,5 @@
 -- What the calls on TSCredentials answer.
-use Rattle.std.specs.Prelude.{◌≡◌, ◌⊎◌, ◌≤◌, ℕ, List, Option, None, Some, Result, Ok, Err}
+use Rattle.std.specs.Prelude.{◌≡◌, ◌≢◌, ◌⊎◌, ℕ, List, Option, None, Some, Result, Ok, Err}
 use Rattle.sspi_types.specs.Errors.{memory_error}
 use Rattle.sspi_types.specs.declared.error.Error.{Error}
 use Rattle.sspi_types.specs.declared.error_kind.ErrorKind.TheVariants.{InternalError}
@@ -29,10 +29,11 @@ ReadsCreds (Some text) after (Ok (buffered.AuthIdentity buffers)) = (rest : List
 ReadsCreds (Some text) after (Ok (buffered.Keytab identity)) = ⊥
 ReadsCreds (Some text) after (Err error) = (creds_of text ≡ Err error) ⊎ ((error ≡ memory_error) ⊎ (error ≡ io_error))
 
--- the count of faults never falls, and an internal error has it rise
+-- an internal error has the count of faults rise, and at any other answer it did not move
 abbrev pub CredsCause : {X : Type 0} → ℕ → ℕ → Result X Error → Type 0
-CredsCause before now (Ok x) = before ≤ now
-CredsCause before now (Err error) = (before ≤ now) × (error.error_type ≡ InternalError → Rose before now)
+CredsCause before now (Ok x) = now ≡ before
+CredsCause before now (Err error) =
+    (error.error_type ≡ InternalError → Rose before now) × (error.error_type ≢ InternalError → now ≡ before)
 
 -- The refusals that reading may answer: a structure that is not there, a type without meaning, a smart card, a text that is
 -- not UTF-16, want of memory, and a fault of the source. None has a status.

@@ -1,7 +1,7 @@
 ghost use Rattle.std.specs.Prelude.{◌≡◌, ◌<◌, ◌≤◌, ◌+◌, length};
-ghost use Rattle.sspi_ber.specs.Outside.{LeavesRest, ReadCause, Reads};
+ghost use Rattle.sspi_ber.specs.Outside.{CopyCause, LeavesRest, ReadCause, Reads};
 ghost use Rattle.sspi_ber.specs.Pieces.{bytes_at};
-ghost use Rattle.sspi_tsreq.specs.Filled.{CopyCause, Fills, WantsForContent};
+ghost use Rattle.sspi_tsreq.specs.Filled.{Fills, WantsForContent};
 
 use sspi_ber::{Source, WireKind};
 use std::alloc::Global;

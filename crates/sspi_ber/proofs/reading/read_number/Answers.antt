@@ -1,4 +1,4 @@
-use Rattle.std.proofs.Common.{◌≡◌, ℕ, subst, arith}
+use Rattle.std.proofs.Common.{◌≡◌, ◌∙◌, ℕ, subst, arith}
 use Rattle.std.proofs.lemmas.Result.{err_from_is_err_and}
 use Rattle.sspi_ber.proofs.Numbers.{ReadSoFar, so_far_step, so_far_stopped, so_far_done, bound_step, fits_u64}
 use Rattle.sspi_ber.proofs.Rest.{rest_then}
@@ -24,7 +24,7 @@ loop-preserved g c = record {
   bound = bound_step c.loop.value c.loop.counter c.from.result c.loop.invariant.bound (omega arith);
   so_far = rw c.from.ensures (so_far_step _ _ _ c.loop.value c.loop.counter _ c.loop.invariant.so_far c.in_ok-byte.ensures.read);
   rest = rest_then c.loop.invariant.rest c.in_ok-byte.ensures.rest;
-  cause = omega (arith, c.in_ok-byte.ensures.cause);
+  cause = c.in_ok-byte.ensures.cause ∙ c.loop.invariant.cause;
 }
 
 pub returns-clause-read : goal.returns-clause-read

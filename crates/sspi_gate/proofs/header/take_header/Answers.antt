@@ -1,4 +1,4 @@
-use Rattle.std.proofs.Common.{ap, arith, length}
+use Rattle.std.proofs.Common.{ap, arith, length, refl}
 use Rattle.std.proofs.lemmas.Result.{err_from_is_err_and}
 use Rattle.sspi_gate.proofs.Headers.{byte_rest, byte_taken, cut_header, five_decide, found_header, header_so_far}
 use Rattle.sspi_gate.proofs.Headers.{no_bytes, none_taken, not_empty, pushed_some, refused_header}
@@ -10,7 +10,7 @@ loop-size-init g c = record {
   counted = ap length c.requires;
   taken = none_taken (g.S.Source.left c.args.source.now) c.args.header.now.items c.requires;
   partial = no_bytes c.args.header.now.items c.requires;
-  cause = omega arith;
+  cause = refl;
 }
 
 pub returns-else-size-eq0-clause-takes : goal.returns-else-size-eq0-clause-takes

@@ -1,4 +1,4 @@
-use Rattle.std.proofs.Common.{◌≡◌, ◌≤◌, length, Err}
+use Rattle.std.proofs.Common.{◌≡◌, length, Err}
 use Rattle.std.specs.Io.KnownBytes.{Consumes}
 use Rattle.sspi_ber.specs.Pieces.{Ended, header_at}
 use Rattle.sspi_gate.proofs.header.take_header.Given as goal
@@ -8,5 +8,5 @@ invariant-loop-size g l = record {
   counted : length l.header.items ≡ l.size;
   taken : Consumes (g.S.Source.left l.fn.source) (g.S.Source.left l.source) l.header.items;
   partial : header_at 0x30 l.header.items ≡ Err Ended;
-  cause : g.S.Source.faults l.fn.source ≤ g.S.Source.faults l.source;
+  cause : g.S.Source.faults l.source ≡ g.S.Source.faults l.fn.source;
 }

@@ -1,4 +1,4 @@
-use Rattle.std.proofs.Common.{◌≡◌, ◌≤◌, length}
+use Rattle.std.proofs.Common.{◌≡◌, length}
 use Rattle.sspi_gate.specs.declared.taking.TheConstants.{PIECE_LENGTH}
 use Rattle.sspi_gate.proofs.Contents.{BodySoFar}
 use Rattle.sspi_gate.proofs.taking.take_body.Given as goal
@@ -7,7 +7,7 @@ abbrev pub invariant-loop-missing : goal.invariant-loop-missing
 invariant-loop-missing g l = record {
   so_far : BodySoFar l.size l.missing (g.S.Source.left l.fn.source) (g.S.Source.left l.source) l.fn.bytes.items l.bytes.items;
   room : length l.piece ≡ PIECE_LENGTH;
-  cause : g.S.Source.faults l.fn.source ≤ g.S.Source.faults l.source;
+  cause : g.S.Source.faults l.source ≡ g.S.Source.faults l.fn.source;
 }
 
 abbrev pub decreases-loop-missing : goal.decreases-loop-missing

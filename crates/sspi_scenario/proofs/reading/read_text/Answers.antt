@@ -1,4 +1,4 @@
-use Rattle.std.proofs.Common.{ℕ, arith, length-append, length-drop}
+use Rattle.std.proofs.Common.{◌∙◌, ℕ, arith, length-append, length-drop}
 use Rattle.std.proofs.lemmas.List.{length-take}
 use Rattle.sspi_scenario.proofs.SourceTexts.{takes_on, takes_kept, consumes_front, front_is_short, consumes_nothing, reads_to_end}
 use Rattle.sspi_scenario.proofs.SourceTexts.{reads_too_long}
@@ -22,7 +22,7 @@ loop-room-preserved g c = record {
       rw c.in-Ok-extend_from_slice.ensures.items
       (front_is_short _ _ _ _ _ c.in-Ok.ensures.bound (omega (arith, length-take {A = ℕ})));
   room = omega (arith, length-append {A = ℕ}, length-take {A = ℕ}, length-drop {A = ℕ});
-  faults = omega (arith, c.in-Ok.ensures.cause);
+  faults = c.in-Ok.ensures.cause ∙ c.loop-room.invariant.faults;
 }
 
 pub returns-then-count-eq0-clause-taken : goal.returns-then-count-eq0-clause-taken

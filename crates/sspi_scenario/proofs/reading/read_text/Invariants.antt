@@ -9,7 +9,7 @@ invariant-loop-room g l = record {
   read : Consumes (g.S.Source.left l.fn.source) (g.S.Source.left l.source) l.text.items;
   short : length l.text.items ≤ text_limit + 1;
   room : length l.room ≡ PIECE_LENGTH;
-  faults : g.S.Source.faults l.fn.source ≤ g.S.Source.faults l.source;
+  faults : g.S.Source.faults l.source ≡ g.S.Source.faults l.fn.source;
 }
 
 abbrev pub decreases-loop-room : goal.decreases-loop-room

@@ -1,4 +1,4 @@
-use Rattle.std.proofs.Common.{length, sym, arith}
+use Rattle.std.proofs.Common.{◌∙◌, length, sym, arith}
 use Rattle.sspi_tsreq.proofs.Blocks.{filling_step, filling_within, block_ended, block_full}
 use Rattle.sspi_tsreq.proofs.block.read_block.Goals as goal
 
@@ -8,7 +8,7 @@ loop-filled-preserved g c = record {
       c.in_ok-count.ensures.bound;
   so_far = filling_step _ _ _ c.loop-filled.filled c.in_ok-count.count c.loop-filled.into c.read.new.into c.loop-filled.invariant.within
       c.in_ok-count.ensures.bound c.loop-filled.invariant.so_far c.in_ok-count.ensures.bytes.0;
-  cause = omega (arith, c.in_ok-count.ensures.cause);
+  cause = c.in_ok-count.ensures.cause ∙ c.loop-filled.invariant.cause;
 }
 
 pub returns-then-count-eq0-clause-read : goal.returns-then-count-eq0-clause-read

@@ -1,4 +1,4 @@
-use Rattle.std.proofs.Common.{◌≡◌, ◌++◌, length, take, drop, ap, arith}
+use Rattle.std.proofs.Common.{◌≡◌, ◌∙◌, ◌++◌, length, take, drop, ap, arith}
 use Rattle.std.proofs.lemmas.List.{length-append, length-take-le, length-drop}
 use Rattle.std.proofs.lemmas.Result.{err_from_is_err_and}
 use Rattle.sspi_tsreq.proofs.Contents.{copied_step, copied_rest, copied_stopped, copied_whole, copied_wants}
@@ -36,7 +36,7 @@ loop-room-preserved g c =
         c.loop-room.invariant.room,
         c.piece_length.ensures.room,
       );
-      cause = omega (arith, c.in_ok-read_block.ensures.cause);
+      cause = c.in_ok-read_block.ensures.cause ∙ c.loop-room.invariant.cause;
     }
 
 pub returns-in_err-extend_from_slice-clause-memory : goal.returns-in_err-extend_from_slice-clause-memory

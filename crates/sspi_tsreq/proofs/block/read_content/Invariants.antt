@@ -8,7 +8,7 @@ invariant-loop-room g l = record {
   copied : Copied (g.S.Source.left l.initial.source) (g.S.Source.left l.source) l.content.items;
   within : length l.content.items ≤ l.len;
   room : length l.room ≡ PIECE_LENGTH;
-  cause : g.S.Source.faults l.initial.source ≤ g.S.Source.faults l.source;
+  cause : g.S.Source.faults l.source ≡ g.S.Source.faults l.initial.source;
 }
 
 abbrev pub decreases-loop-room : goal.decreases-loop-room
