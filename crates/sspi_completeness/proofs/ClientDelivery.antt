@@ -14,9 +14,10 @@ use Rattle.sspi_credssp.specs.declared.public_key.EndpointType.TheVariants.{Serv
 use Rattle.sspi_credssp.specs.declared.state.CredSspState.{CredSspState}
 use Rattle.sspi_credssp.specs.declared.state.CredSspState.TheVariants.{NegoToken, AuthInfo}
 use Rattle.sspi_credssp.specs.Acts.{sealings_by, unsealings_by, sealings_in, unsealings_in, SealsIn, SameBut, cleared}
-use Rattle.sspi_credssp.specs.Context.{BeginCause, ContextSetting, ForClient}
+use Rattle.sspi_credssp.specs.Context.{BeginCause, ContextSetting, ForClient, MadeOr}
 use Rattle.sspi_credssp.specs.Ends.{ClientSettings, ClientView}
 use Rattle.sspi_credssp.specs.ClientCause.{ClientCause, StateCause, DeliverCause, BlobOpens, SealsCause}
+use Rattle.sspi_credssp.specs.Refusal.{OrMemory}
 use Rattle.sspi_credssp.specs.ClientTurn.{StartsUnused, client_frame, client_turn}
 use Rattle.sspi_credssp.specs.Turn.{ClientFrame, OnceNegotiated, ShowsNego, client_shown}
 use Rattle.sspi_credssp.specs.Exchange.{delegated_text, IfText, BlobStops, opens_other, altered, unsealed, CheckedCause, ProofCause}
@@ -100,13 +101,16 @@ module _ {C D : Type 0} (c : Meaning ContextSetting C) (k : KdcCalls D) where
         given.begins kind
         (subst (λ (s : ClientSettings). BeginCause c (ForClient s.mode) Outbound (Some s.credentials) kind) given.is.same h)
 
-    deliver_cause : (mid : View) (kind : ErrorKind) → ClientCause c old d mid kind → DeliverCause c d.pub_key_auth mid kind
-    deliver_cause mid kind cause =
-        subst (λ (s : CredSspState). StateCause c s d mid kind) given.is.state_is
-        (made_past old.context mid.context _ _ (λ none. never_made kind)
-        (stops_later _ MessageAltered kind _ (rw given.version given.is.fits)
+    deliver_cause : (mid : View) (kind : ErrorKind) → ClientCause c old d mid kind → kind ≢ InsufficientMemory →
+        DeliverCause c d.pub_key_auth mid kind
+    deliver_cause mid kind cause others =
+        let past : OrMemory kind (MadeOr old.context mid.context
+        (BeginCause c (ForClient old.settings.mode) Outbound (Some old.settings.credentials) kind) (StateCause c old.state d mid kind)) =
+        stops_later _ MessageAltered kind _ (rw given.version given.is.fits)
         (stops_later _ DowngradeDetected kind _ (rw given.version given.is.young)
-        (stops_later _ InvalidToken kind _ given.code (stops_later _ OutOfSequence kind _ given.is.idle cause)))))
+        (stops_later _ InvalidToken kind _ given.code (stops_later _ OutOfSequence kind _ given.is.idle cause))) in
+        subst (λ (s : CredSspState). StateCause c s d mid kind) given.is.state_is
+        (made_past old.context mid.context _ _ (λ none. never_made kind) (past others))
 
     seals_never : (m : C) (kind : ErrorKind) (texts : Result (List ℕ) Error) → texts ≡ Ok text → cleared c m ≡ y →
         (c.counts m).sealings < 2 ^ 64 - 1 →
@@ -134,7 +138,7 @@ module _ {C D : Type 0} (c : Meaning ContextSetting C) (k : KdcCalls D) where
         let error = makes.0 in
         let turn = makes.2 in
         let others2 : error.error_type ≢ InsufficientMemory = λ memory. others (sym makes.1 ∙ memory) in
-        let cause = deliver_cause mid error.error_type (makes.3.cause others2) in
+        let cause = deliver_cause mid error.error_type makes.3.cause others2 in
         let blob = peers 0 proof_text in
         let stops = subst (λ (x : Option (List ℕ)). BlobStops x error.error_type
         (λ b. BlobOpens c mid.noted mid.context b mid error.error_type)) given.proof cause in

@@ -19,9 +19,10 @@ use Rattle.sspi_credssp.specs.declared.public_key.EndpointType.TheVariants.{Clie
 use Rattle.sspi_credssp.specs.declared.state.CredSspState.{CredSspState}
 use Rattle.sspi_credssp.specs.declared.state.CredSspState.TheVariants.{NegoToken, AuthInfo}
 use Rattle.sspi_credssp.specs.Acts.{sealings_by, unsealings_by, sealings_in, SealsIn, is_waiting_in, cleared}
-use Rattle.sspi_credssp.specs.Context.{BeginCause, ContextSetting, ForClient}
+use Rattle.sspi_credssp.specs.Context.{BeginCause, ContextSetting, ForClient, MadeOr}
 use Rattle.sspi_credssp.specs.Ends.{ClientSettings, ClientView}
 use Rattle.sspi_credssp.specs.ClientCause.{ClientCause, StateCause, NegoCause, ProveCause}
+use Rattle.sspi_credssp.specs.Refusal.{OrMemory}
 use Rattle.sspi_credssp.specs.ClientTurn.{Asked, Walked, stepped, resumed, still_asked, recounted, StepsTo, DoneStep, OnStep}
 use Rattle.sspi_credssp.specs.ClientTurn.{refused_answer, client_args, ClientTurn, StartsUnused, client_frame, client_turn, noted_next}
 use Rattle.sspi_credssp.specs.Noted.{noted_in}
@@ -135,13 +136,16 @@ module _ {C : Type 0} (c : Meaning ContextSetting C) (laws : IsContext c) where
           (subst (λ (s : ClientSettings). BeginCause c (ForClient s.mode) Outbound (Some s.credentials) kind) given.is.same h)
 
       -- a refusal is past what a turn looks at first
-      nego_cause : (mid : View) (kind : ErrorKind) → ClientCause c old d mid kind → NegoCause c mid.acts.status mid kind
-      nego_cause mid kind cause =
-          subst (λ (s : CredSspState). StateCause c s d mid kind) given.is.state_is
-          (made_past old.context mid.context _ _ (λ none. never_made kind)
-          (stops_later _ MessageAltered kind _ (rw given.version given.is.fits)
+      nego_cause : (mid : View) (kind : ErrorKind) → ClientCause c old d mid kind → kind ≢ InsufficientMemory →
+          NegoCause c mid.acts.status mid kind
+      nego_cause mid kind cause others =
+          let past : OrMemory kind (MadeOr old.context mid.context
+          (BeginCause c (ForClient old.settings.mode) Outbound (Some old.settings.credentials) kind) (StateCause c old.state d mid kind)) =
+          stops_later _ MessageAltered kind _ (rw given.version given.is.fits)
           (stops_later _ DowngradeDetected kind _ (rw given.version given.is.young)
-          (stops_later _ InvalidToken kind _ given.code (stops_later _ OutOfSequence kind _ given.is.idle cause)))))
+          (stops_later _ InvalidToken kind _ given.code (stops_later _ OutOfSequence kind _ given.is.idle cause))) in
+          subst (λ (s : CredSspState). StateCause c s d mid kind) given.is.state_is
+          (made_past old.context mid.context _ _ (λ none. never_made kind) (past others))
 
       began : (status : Option SecurityStatus) (mid : View) (kind : ErrorKind) → mid.acts.status ≡ status →
           (IsSome mid.acts.status → mid.acts.negotiated ≡ true) →
@@ -162,7 +166,7 @@ module _ {C : Type 0} (c : Meaning ContextSetting C) (laws : IsContext c) where
           let turn = makes.2 in
           let steps = makes.3.steps in
           let others2 : error.error_type ≢ InsufficientMemory = λ memory. others (sym makes.1 ∙ memory) in
-          let cause = nego_cause mid error.error_type (makes.3.cause others2) in
+          let cause = nego_cause mid error.error_type makes.3.cause others2 in
           let was = began mid.acts.status mid error.error_type refl turn.turn.shown.acts.answered cause in
           let s = refused_at mid kdc2 mid.acts.status mid.acts.negotiated steps.asked error steps.replied was others2 steps.step in
           record {

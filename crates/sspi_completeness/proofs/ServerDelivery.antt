@@ -79,7 +79,7 @@ module _ {C P : Type 0} (c : Meaning ContextSetting C) (laws : IsContext c) (p :
         let turn = makes.2 in
         let others2 : error.error_type ≢ InsufficientMemory = λ memory. others (sym makes.1 ∙ memory) in
         let cause = cause_past c laws p b old mid w d AuthInfo 1 1 error.error_type given.is given.version
-        (λ none. absurd (cc (none, given.holds.there))) (makes.3.cause others2) in
+        (λ none. absurd (cc (none, given.holds.there))) makes.3.cause others2 in
         let at_blob = subst (λ (f : Option (List ℕ)). BlobStops f error.error_type
         (λ blob. OpenedCause c mid.acts.opened mid.context blob error.error_type)) given.field cause in
         let later = stops_later _ InvalidToken error.error_type _ (given.taker.long 1 text) at_blob in

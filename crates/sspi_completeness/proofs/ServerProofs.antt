@@ -157,7 +157,7 @@ module _ {C P : Type 0} (c : Meaning ContextSetting C) (laws : IsContext c) (p :
           let turn = makes.2 in
           let others2 : makes.0.error_type ≢ InsufficientMemory = λ memory. others (sym makes.1 ∙ memory) in
           let cause = cause_past c laws p b old mid w d PubKeyInfo 0 0 makes.0.error_type is version
-          (λ none. absurd (cc (none, holds.there))) (makes.3.cause others2) in
+          (λ none. absurd (cc (none, holds.there))) makes.3.cause others2 in
           let h = held_now mid turn.moves.bare in
           let sealed = turn.moves.sealings unstarted in
           let opened = turn.moves.unsealings unstarted in

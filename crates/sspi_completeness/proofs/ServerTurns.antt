@@ -16,6 +16,7 @@ use Rattle.sspi_credssp.specs.Acts.{sealings_by, unsealings_by, sealings_in, uns
 use Rattle.sspi_credssp.specs.Context.{ContextSetting}
 use Rattle.sspi_credssp.specs.Proxy.{ProxyMeaning}
 use Rattle.sspi_credssp.specs.Ends.{ServerSettings, ServerView}
+use Rattle.sspi_credssp.specs.Refusal.{OrMemory}
 use Rattle.sspi_credssp.specs.ServerCause.{ServerCause, MakeCause, StateCause, NegoCause, OverCause}
 use Rattle.sspi_credssp.specs.ServerTurn.{Knowing, Unknown, Completed, DoneStep, HasCome, known_at, ServerTurn, StartsUnused, server_frame}
 use Rattle.sspi_credssp.specs.ServerTurn.{server_turn}
@@ -56,13 +57,14 @@ module _ {C P : Type 0} (c : Meaning ContextSetting C) (laws : IsContext c) (p :
   pub cause_past : (b old mid : View) (w : ℕ) (d : TsRequest) (state : CredSspState) (sealed unsealed : ℕ) (kind : ErrorKind) →
       ServerIs c b old w state sealed unsealed → d.version ≡ w →
       (old.context ≡ None → MakeCause c p b.settings.mode old.proxy mid.proxy kind → ⊥) →
-      ServerCause c p old d mid kind → StateCause c p state old d mid kind
-  cause_past b old mid w d state sealed unsealed kind is version begins cause =
-      let never : old.context ≡ None → MakeCause c p old.settings.mode old.proxy mid.proxy kind → ⊥ =
-      λ none h. begins none (subst (λ (s : ServerSettings). MakeCause c p s.mode old.proxy mid.proxy kind) is.same h) in
-      subst (λ (s : CredSspState). StateCause c p s old d mid kind) is.state_is
-      (stops_later _ MessageAltered kind _ (rw version is.fits)
-      (stops_later _ DowngradeDetected kind _ (rw version is.young) (made_past old.context mid.context _ _ never cause)))
+      ServerCause c p old d mid kind → kind ≢ InsufficientMemory → StateCause c p state old d mid kind
+  cause_past b old mid w d state sealed unsealed kind is version begins cause others =
+      let never : old.context ≡ None → OrMemory kind (MakeCause c p old.settings.mode old.proxy mid.proxy kind) → ⊥ =
+      λ none h. begins none (subst (λ (s : ServerSettings). MakeCause c p s.mode old.proxy mid.proxy kind) is.same (h others)) in
+      let past : OrMemory kind (StateCause c p old.state old d mid kind) =
+      stops_later _ MessageAltered kind _ (rw version is.fits)
+      (stops_later _ DowngradeDetected kind _ (rw version is.young) (made_past old.context mid.context _ _ never cause)) in
+      subst (λ (s : CredSspState). StateCause c p s old d mid kind) is.state_is (past others)
 
   over_done : (st : SecurityStatus) (old : View) (d : TsRequest) (mid : View) → IsOver (Some st) → DoneStep c p (Some st) old d mid →
       HasCome c p Completed st old d mid
@@ -170,7 +172,7 @@ module _ {C P : Type 0} (c : Meaning ContextSetting C) (laws : IsContext c) (p :
         let turn = makes.2 in
         let others2 : error.error_type ≢ InsufficientMemory = λ memory. others (sym makes.1 ∙ memory) in
         let cause = cause_past b old mid w d NegoToken 0 0 error.error_type given.is given.version
-        (λ none h. given.begins old.proxy mid.proxy error.error_type still calm h) (makes.3.cause others2) in
+        (λ none h. given.begins old.proxy mid.proxy error.error_type still calm h) makes.3.cause others2 in
         let was = began mid.acts.status mid error.error_type refl turn.turn.shown.acts.answered cause in
         let status = refused_at c laws p old d.nego_tokens step y handle given.takes mid mid.acts.status mid.acts.negotiated error was
         others2 makes.3.step in

@@ -1,9 +1,9 @@
 -- The causes of refusals, put together from those of the calls inside.
-use Rattle.std.proofs.Common.{◌≡◌, ◌≢◌, ℕ, Option, None, Some, IsSome, Result, Ok, Err, IfErr, Bool, true, false, subst}
+use Rattle.std.proofs.Common.{◌≡◌, ℕ, Option, None, Some, IsSome, Result, Ok, Err, IfErr, Bool, true, false, subst}
 use Rattle.sspi_types.specs.declared.credential_use.CredentialUse.TheVariants.{Outbound}
 use Rattle.sspi_types.specs.declared.error.Error.{Error}
 use Rattle.sspi_types.specs.declared.error_kind.ErrorKind.{ErrorKind}
-use Rattle.sspi_types.specs.declared.error_kind.ErrorKind.TheVariants.{InsufficientMemory, MessageAltered, DowngradeDetected}
+use Rattle.sspi_types.specs.declared.error_kind.ErrorKind.TheVariants.{MessageAltered, DowngradeDetected}
 use Rattle.sspi_tsreq.specs.declared.request.TsRequest.{TsRequest}
 use Rattle.sspi_mech.specs.Meaning.{Meaning}
 use Rattle.sspi_credssp.specs.declared.state.CredSspState.{CredSspState}
@@ -12,7 +12,8 @@ use Rattle.sspi_credssp.specs.Context.{BeginCause, MadeOr, ContextSetting, ForCl
 use Rattle.sspi_credssp.specs.Ends.{ClientView}
 use Rattle.sspi_credssp.specs.ClientCause.{ClientCause, StateCause}
 use Rattle.sspi_credssp.specs.Acts.{is_waiting_in}
-use Rattle.sspi_credssp.specs.Noted.{is_altered_in, is_old_in, StopsIf}
+use Rattle.sspi_credssp.specs.Noted.{is_altered_in, is_old_in, StopsIf, VersionStopsIn}
+use Rattle.sspi_credssp.specs.Refusal.{OrMemory}
 use Rattle.sspi_credssp.specs.Requests.{is_code}
 
 pub stops_map : (b : Bool) (here kind : ErrorKind) (Later Later2 : Type 0) → (Later → Later2) → StopsIf b here kind Later →
@@ -46,24 +47,30 @@ module _ {C : Type 0} (c : Meaning ContextSetting C) where
       is_waiting_in c old.context ≡ false → is_code d.error_code ≡ false →
       is_old_in old.context old.settings.least old.noted d.version ≡ false → is_altered_in old.context old.noted d.version ≡ false →
       IsSome new.context → state ≡ old.state → request ≡ record d { version = v } →
-      IfErr r (λ e. e.error_type ≢ InsufficientMemory → StateCause c state request new e.error_type) →
-      IfErr r (λ e. e.error_type ≢ InsufficientMemory → ClientCause c old d new e.error_type)
+      IfErr r (λ e. OrMemory e.error_type (StateCause c state request new e.error_type)) →
+      IfErr r (λ e. ClientCause c old d new e.error_type)
   client_cause_past old new d request state v (Ok x) idle code young altered begun same_state same h = h
-  client_cause_past old new d request state v (Err e) idle code young altered begun same_state same h = λ memory.
-      let later : StateCause c old.state d new e.error_type =
+  client_cause_past old new d request state v (Err e) idle code young altered begun same_state same h =
+      let later : OrMemory e.error_type (StateCause c old.state d new e.error_type) = λ memory.
       subst (λ s. StateCause c s d new e.error_type) same_state
       (state_cause_same state d v new e.error_type (subst (λ x. StateCause c state x new e.error_type) same (h memory))) in
-      rw (idle, code, young, altered) (made_later old.context new.context _ _ begun later)
+      rw (idle, code, young, altered) (λ memory. made_later old.context new.context _ _ begun (later memory))
+
+  -- a turn that met a version that is too old was refused for that
+  pub too_old : (old : ClientView C) (d : TsRequest) (kind : ErrorKind) (new : ClientView C) →
+      is_waiting_in c old.context ≡ false → is_code d.error_code ≡ false →
+      is_old_in old.context old.settings.least old.noted d.version ≡ true → ClientCause c old d new kind → kind ≡ DowngradeDetected
+  too_old old d kind new idle code is h = rw (idle, code, is) at h
 
   -- a turn that was refused as it began
   pub client_cause_begun : (old new : ClientView C) (d : TsRequest) (kind : ErrorKind) →
       is_waiting_in c old.context ≡ false → is_code d.error_code ≡ false →
-      StopsIf (is_old_in old.context old.settings.least old.noted d.version) DowngradeDetected kind
-      (StopsIf (is_altered_in old.context old.noted d.version) MessageAltered kind
+      VersionStopsIn old.context old.settings.least old.noted d.version kind
+      (OrMemory kind
       (MadeOr old.context new.context (BeginCause c (ForClient old.settings.mode) Outbound (Some old.settings.credentials) kind) ⊥)) →
       ClientCause c old d new kind
   client_cause_begun old new d kind idle code h =
       rw (idle, code)
       (stops_map (is_old_in old.context old.settings.least old.noted d.version) DowngradeDetected kind _ _
       (stops_map (is_altered_in old.context old.noted d.version) MessageAltered kind _ _
-      (made_map old.context new.context _ _ _ (λ none. absurd none))) h)
+      (λ given memory. made_map old.context new.context _ _ _ (λ none. absurd none) (given memory))) h)

@@ -3,7 +3,6 @@ use Rattle.std.proofs.Common.{◌≡◌, ◌≢◌, ℕ, List, Option, None, Som
 use Rattle.sspi_types.specs.declared.error.Error.{Error}
 use Rattle.sspi_types.specs.declared.error_kind.ErrorKind.{ErrorKind}
 use Rattle.sspi_types.specs.declared.error_kind.ErrorKind.TheVariants.{DowngradeDetected, OutOfSequence, InvalidToken, MessageAltered}
-use Rattle.sspi_types.specs.declared.error_kind.ErrorKind.TheVariants.{InsufficientMemory}
 use Rattle.sspi_types.specs.declared.credential_use.CredentialUse.TheVariants.{Outbound}
 use Rattle.sspi_types.specs.declared.security_status.SecurityStatus.{SecurityStatus}
 use Rattle.sspi_types.specs.declared.security_status.SecurityStatus.TheVariants as statuses
@@ -25,6 +24,7 @@ use Rattle.sspi_credssp.specs.ClientTurn.{refused_answer}
 use Rattle.sspi_credssp.specs.Acts.{is_waiting_in}
 use Rattle.sspi_credssp.specs.Exchange.{delegated_text, BlobStops, altered, unsealed, CheckedCause, ProofCause, prescribed}
 use Rattle.sspi_credssp.specs.Noted.{ClientMeetsOld, is_old_in, is_altered_in, StopsIf}
+use Rattle.sspi_credssp.specs.Refusal.{OrMemory}
 use Rattle.sspi_credssp.specs.Requests.{is_code}
 use Rattle.sspi_credssp.proofs.CredentialRefusals.{IfRefused, OfEach, so_delegated}
 
@@ -139,11 +139,11 @@ module _ {C : Type 0} (c : Meaning ContextSetting C) (never : NeverRefuses c Dow
 
   -- a refusal of that kind shows where the client stopped
   pub client_met : (old : ClientView C) (d : TsRequest) (tries : ℕ) (log : List Asked) (error : Error) (new : ClientView C) →
-      (error.error_type ≢ InsufficientMemory → ClientCause c old d new error.error_type) → HasStepped c old d tries log (Err error) new →
+      ClientCause c old d new error.error_type → HasStepped c old d tries log (Err error) new →
       error.error_type ≡ DowngradeDetected → ClientMeetsOld c old d
   client_met old d tries log error new cause step is =
       let why : ClientCause c old d new DowngradeDetected =
-      subst (λ (k : ErrorKind). ClientCause c old d new k) is (cause (λ memory. absurd (cc (is, memory)))) in
+      subst (λ (k : ErrorKind). ClientCause c old d new k) is cause in
       let unanswered : new.acts.status ≡ None → new.acts.negotiated ≡ true → ⊥ = λ none was.
       stepped_other new.acts.status new.acts.negotiated old new.handle d.nego_tokens tries log new.output error new.context none was step
       is in
@@ -153,16 +153,19 @@ module _ {C : Type 0} (c : Meaning ContextSetting C) (never : NeverRefuses c Dow
         idle = idle.0;
         code = code.0;
         old = here (is_old_in old.context old.settings.least old.noted d.version) DowngradeDetected _ (λ later.
+            let past : OrMemory DowngradeDetected (MadeOr old.context new.context
+            (BeginCause c (ForClient old.settings.mode) Outbound (Some old.settings.credentials) DowngradeDetected)
+            (StateCause c old.state d new DowngradeDetected)) =
+            (not_here (is_altered_in old.context old.noted d.version) MessageAltered DowngradeDetected _ (λ e. absurd (cc (e))) later).1 in
             made_never old.context new.context _ _ (begin_never (ForClient old.settings.mode) (Some old.settings.credentials))
-            (state_never old.state d new unanswered)
-            (not_here (is_altered_in old.context old.noted d.version) MessageAltered DowngradeDetected _ (λ e. absurd (cc (e))) later).1)
+            (state_never old.state d new unanswered) (past (λ e. absurd (cc (e)))))
             code.1;
       }
 
   -- a resumed step refuses with that kind only where its context does
   pub resumed_never : (start : ClientView C) (d : TsRequest) (tries : ℕ) (log : List Asked) (r : Result Progress Error)
       (new : ClientView C) →
-      IfErr r (λ error. error.error_type ≢ InsufficientMemory → NegoCause c new.acts.status new error.error_type) →
+      IfErr r (λ error. OrMemory error.error_type (NegoCause c new.acts.status new error.error_type)) →
       HasStepped c start d tries log r new →
       IsErrAnd r (λ error. error.error_type ≡ DowngradeDetected) → ⊥
   resumed_never start d tries log (Ok progress) new cause step is = is
@@ -174,7 +177,7 @@ module _ {C : Type 0} (c : Meaning ContextSetting C) (never : NeverRefuses c Dow
       (subst (λ (k : ErrorKind). NegoCause c new.acts.status new k) is (cause (λ memory. absurd (cc (is, memory)))))
 
   pub client_only : (old : ClientView C) (d : TsRequest) (tries : ℕ) (log : List Asked) (r : Result Progress Error) (new : ClientView C) →
-      IfErr r (λ error. error.error_type ≢ InsufficientMemory → ClientCause c old d new error.error_type) →
+      IfErr r (λ error. ClientCause c old d new error.error_type) →
       HasStepped c old d tries log r new →
       IsErrAnd r (λ error. error.error_type ≡ DowngradeDetected) → ClientMeetsOld c old d
   client_only old d tries log (Ok progress) new cause step is = absurd is

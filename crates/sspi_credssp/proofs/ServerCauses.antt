@@ -19,12 +19,13 @@ use Rattle.sspi_credssp.specs.ServerCause.{nameless, looked, unset, LookUpRefuse
 use Rattle.sspi_credssp.specs.ServerTurn.{Completed, HasCome}
 use Rattle.sspi_credssp.specs.Turn.{IsOver}
 use Rattle.sspi_credssp.specs.Noted.{differs, is_old, VersionStops}
+use Rattle.sspi_credssp.specs.Refusal.{OrMemory}
 use Rattle.sspi_credssp.proofs.Causes.{stops_map, made_map, made_later}
 
 module _ {C : Type 0} (c : Meaning ContextSetting C) where
   -- a turn that was refused as it began
   pub server_cause_begun : {P : Type 0} (p : ProxyMeaning P) (old new : ServerView C P) (d : TsRequest) (kind : ErrorKind) →
-      MadeOr old.context new.context (MakeCause c p old.settings.mode old.proxy new.proxy kind)
+      MadeOr old.context new.context (OrMemory kind (MakeCause c p old.settings.mode old.proxy new.proxy kind))
       (VersionStops old.settings.least old.noted d.version kind ⊥) →
       ServerCause c p old d new kind
   server_cause_begun p old new d kind h =
@@ -37,12 +38,12 @@ module _ {C : Type 0} (c : Meaning ContextSetting C) where
     pub server_cause_past : {T : Type 0} (old new : ServerView C P) (d : TsRequest) (state : CredSspState) (r : Result T ServerError) →
         is_old old.settings.least old.noted d.version ≡ false → differs old.noted d.version ≡ false → IsSome new.context →
         state ≡ old.state →
-        IfErr r (λ refusal. refusal.error.error_type ≢ InsufficientMemory → StateCause c p state old d new refusal.error.error_type) →
-        IfErr r (λ refusal. refusal.error.error_type ≢ InsufficientMemory → ServerCause c p old d new refusal.error.error_type)
+        IfErr r (λ refusal. OrMemory refusal.error.error_type (StateCause c p state old d new refusal.error.error_type)) →
+        IfErr r (λ refusal. ServerCause c p old d new refusal.error.error_type)
     server_cause_past old new d state (Ok x) young fits begun same_state h = h
-    server_cause_past old new d state (Err refusal) young fits begun same_state h = λ memory.
+    server_cause_past old new d state (Err refusal) young fits begun same_state h =
         made_later old.context new.context _ _ begun
-        (rw (young, fits) (subst (λ s. StateCause c p s old d new refusal.error.error_type) same_state (h memory)))
+        (rw (young, fits) (λ memory. subst (λ s. StateCause c p s old d new refusal.error.error_type) same_state (h memory)))
 
     over_cause : (s : SecurityStatus) (old : ServerView C P) (d : TsRequest) (new : ServerView C P) (kind : ErrorKind) →
         IsOver (Some s) → OverCause c p s old d new kind → NegoCause c p (Some s) old d new kind

@@ -1,9 +1,9 @@
 -- A server refuses for the age of its client's version exactly where it meets one, but where its context refuses so.
-use Rattle.std.proofs.Common.{◌≡◌, ◌≢◌, ℕ, List, Option, None, Some, IsSome, Result, Ok, Err, IfErr, IsErrAnd, Bool, true, false, refl}
+use Rattle.std.proofs.Common.{◌≡◌, ℕ, List, Option, None, Some, IsSome, Result, Ok, Err, IfErr, IsErrAnd, Bool, true, false, refl}
 use Rattle.std.proofs.Common.{sym, subst}
 use Rattle.sspi_types.specs.declared.error.Error.{Error}
 use Rattle.sspi_types.specs.declared.error_kind.ErrorKind.{ErrorKind}
-use Rattle.sspi_types.specs.declared.error_kind.ErrorKind.TheVariants.{DowngradeDetected, InvalidToken, MessageAltered, InsufficientMemory}
+use Rattle.sspi_types.specs.declared.error_kind.ErrorKind.TheVariants.{DowngradeDetected, InvalidToken, MessageAltered}
 use Rattle.sspi_types.specs.declared.credential_use.CredentialUse.TheVariants.{Inbound}
 use Rattle.sspi_types.specs.declared.security_status.SecurityStatus.{SecurityStatus}
 use Rattle.sspi_types.specs.declared.security_status.SecurityStatus.TheVariants as statuses
@@ -23,6 +23,7 @@ use Rattle.sspi_credssp.specs.Exchange.{delegated_identity}
 use Rattle.sspi_credssp.specs.Noted.{ServerMeetsOld, differs, is_old}
 use Rattle.sspi_credssp.specs.Proxy.{ProxyMeaning, ProxyTells}
 use Rattle.sspi_credssp.specs.Ends.{ServerView}
+use Rattle.sspi_credssp.specs.Refusal.{OrMemory}
 use Rattle.sspi_credssp.specs.ServerCause.{ServerCause, MakeCause, unlisted, unbegun, ListRefused, StateCause, NegoCause, OverCause}
 use Rattle.sspi_credssp.specs.ServerCause.{unknown, incomplete, known, AfterCause, ExchangeCause, BlobCause}
 use Rattle.sspi_credssp.specs.ServerCause.{OpenedCause, UnreadCause, unread, IdentifyCause, nameless, looked, unset}
@@ -142,25 +143,28 @@ module _ {C : Type 0} (c : Meaning ContextSetting C) (never : NeverRefuses c Dow
     -- a refusal of that kind shows where the server stopped
     pub server_met : (T : Type 0) (old : ServerView C P) (d : TsRequest) (error : Error) (new : ServerView C P) →
         (IsSome old.context → IsSome new.context) →
-        (error.error_type ≢ InsufficientMemory → ServerCause c p old d new error.error_type) →
+        ServerCause c p old d new error.error_type →
         HasAccepted c p {T = T} old d (Err error) new →
         error.error_type ≡ DowngradeDetected → ServerMeetsOld c old d new
     server_met T old d error new keeps cause step is =
         let why : ServerCause c p old d new DowngradeDetected =
-        subst (λ (k : ErrorKind). ServerCause c p old d new k) is (cause (λ memory. absurd (cc (is, memory)))) in
+        subst (λ (k : ErrorKind). ServerCause c p old d new k) is cause in
         let unanswered : new.acts.status ≡ None → new.acts.negotiated ≡ true → ⊥ = λ none was.
         stepped_other new.acts.status new.acts.negotiated old new.handle d.nego_tokens new.output error new.context none was step is in
-        let begun = begun_by old.context new.context _ _ (make_never old.settings.mode old.proxy new.proxy) keeps why in
+        let begun = begun_by old.context new.context _ _
+        (λ (h : OrMemory DowngradeDetected (MakeCause c p old.settings.mode old.proxy new.proxy DowngradeDetected)).
+        make_never old.settings.mode old.proxy new.proxy (h (λ e. absurd (cc (e))))) keeps why in
         record {
           begun = begun.0;
           old = here (is_old old.settings.least old.noted d.version) DowngradeDetected _ (λ later.
-              state_never old.state old d new unanswered
-              (not_here (differs old.noted d.version) MessageAltered DowngradeDetected _ (λ e. absurd (cc (e))) later).1) begun.1;
+              let past : OrMemory DowngradeDetected (StateCause c p old.state old d new DowngradeDetected) =
+              (not_here (differs old.noted d.version) MessageAltered DowngradeDetected _ (λ e. absurd (cc (e))) later).1 in
+              state_never old.state old d new unanswered (past (λ e. absurd (cc (e))))) begun.1;
         }
 
     pub server_only : (old : ServerView C P) (d : TsRequest) (r : Result ServerState ServerError) (new : ServerView C P) →
         (IsSome old.context → IsSome new.context) →
-        IfErr r (λ refusal. refusal.error.error_type ≢ InsufficientMemory → ServerCause c p old d new refusal.error.error_type) →
+        IfErr r (λ refusal. ServerCause c p old d new refusal.error.error_type) →
         HasAcceptedTurn c p old d r new →
         IsErrAnd r (λ refusal. refusal.error.error_type ≡ DowngradeDetected) → ServerMeetsOld c old d new
     server_only old d (Ok state) new keeps cause step is = absurd is

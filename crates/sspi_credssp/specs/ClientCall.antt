@@ -1,7 +1,7 @@
 -- What one call of `CredSspClient::process`, and one of `resume`, is, whatever it answers (MS-CSSP 3.1.5.1).
-use Rattle.std.specs.Prelude.{◌≡◌, ◌≢◌, ◌<◌, ◌+◌, ℕ, List, [], ◌∷◌, None, Result, IsSome, IsErr, IfErr, OnErr, true, false}
+use Rattle.std.specs.Prelude.{◌≡◌, ◌<◌, ◌+◌, ℕ, List, [], ◌∷◌, None, Result, IsSome, IsErr, IfErr, OnErr, true, false}
 use Rattle.sspi_types.specs.declared.error.Error.{Error}
-use Rattle.sspi_types.specs.declared.error_kind.ErrorKind.TheVariants.{InsufficientMemory, InvalidToken}
+use Rattle.sspi_types.specs.declared.error_kind.ErrorKind.TheVariants.{InvalidToken}
 use Rattle.sspi_names.specs.declared.network.NetworkRequest.{NetworkRequest}
 use Rattle.sspi_mech.specs.declared.step.Answer.TheVariants.{Ask}
 use Rattle.sspi_mech.specs.declared.step.Reply.{Reply}
@@ -14,7 +14,6 @@ use Rattle.sspi_credssp.specs.ClientCause.{ClientCause, ResumeCause, status_of}
 use Rattle.sspi_credssp.specs.ClientTurn.{Asked, HasStepped, StepsTo, OnSuspended, ClientGoes, IsUnderway}
 use Rattle.sspi_credssp.specs.Context.{ContextSetting}
 use Rattle.sspi_credssp.specs.Noted.{ClientHeeds, is_altered_in}
-use Rattle.sspi_credssp.specs.Refusal.{IsRefusedBy}
 use Rattle.sspi_credssp.specs.Requests.{is_code}
 
 -- the call is refused, and only forgets what the last one did
@@ -41,7 +40,7 @@ module _ {C : Type 0} (c : Meaning ContextSetting C) where
 
   -- why it is refused; an NTSTATUS code is the server's own
   pub record ClientIsRefused (old : ClientView C) (d : TsRequest) (result : Result Progress Error) (new : ClientView C) : Type 0 where
-    pub kind : IfErr result (λ error. error.error_type ≢ InsufficientMemory → ClientCause c old d new error.error_type)
+    pub kind : IfErr result (λ error. ClientCause c old d new error.error_type)
     pub status : IfErr result (λ error. error.nstatus ≡ status_of c old d)
 
   -- What it leaves alone: a suspended turn waits on, a server that reports an error or changes its version moves nothing, and
@@ -65,6 +64,11 @@ module _ {C : Type 0} (c : Meaning ContextSetting C) where
 
   -- ---- resume
 
+  -- why it is refused; no NTSTATUS code tells it
+  pub record ResumeIsRefused (old : ClientView C) (result : Result Progress Error) (new : ClientView C) : Type 0 where
+    pub kind : IfErr result (λ error. ResumeCause c old new error.error_type)
+    pub codeless : IfErr result (λ error. error.nstatus ≡ None)
+
   -- what it leaves alone: a turn that it refuses waits on where the context does, and without one nothing moves
   pub record ResumeKeeps (old : ClientView C) (reply : Reply) (result : Result Progress Error) (new : ClientView C) : Type 0 where
     pub same : new.settings ≡ old.settings
@@ -80,5 +84,5 @@ module _ {C : Type 0} (c : Meaning ContextSetting C) where
         Awaits start d tries log q old → ClientSteps start d tries (record { question = q; reply = reply } ∷ log) result new
     pub stepped : is_waiting_in c old.context ≡ true → IsSome old.kept → new.acts.negotiated ≡ true
     pub falls : OnSuspended result (left_in c new.context < left_in c old.context)
-    pub cause : IsRefusedBy result (ResumeCause c old new)
+    pub cause : ResumeIsRefused old result new
     pub kept : ResumeKeeps old reply result new

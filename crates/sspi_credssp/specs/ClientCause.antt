@@ -1,10 +1,9 @@
--- Why a client's turn was refused, in the order in which it looks.
+-- Why a client's turn was refused, in the order in which it looks. What it finds before it takes memory stands whatever memory there is.
 use Rattle.std.specs.Prelude.{◌≡◌, ℕ, List, Option, None, Some, Result, Ok, Err, true, not, if◌then◌else◌}
 use Rattle.sspi_types.specs.declared.credential_use.CredentialUse.TheVariants.{Outbound}
 use Rattle.sspi_types.specs.declared.error.Error.{Error}
 use Rattle.sspi_types.specs.declared.error_kind.ErrorKind.{ErrorKind}
-use Rattle.sspi_types.specs.declared.error_kind.ErrorKind.TheVariants.{OutOfSequence, InvalidToken, MessageAltered, InternalError}
-use Rattle.sspi_types.specs.declared.error_kind.ErrorKind.TheVariants.{DowngradeDetected}
+use Rattle.sspi_types.specs.declared.error_kind.ErrorKind.TheVariants.{OutOfSequence, InvalidToken, InternalError}
 use Rattle.sspi_types.specs.declared.nstatus.NStatusCode.{NStatusCode}
 use Rattle.sspi_types.specs.declared.security_status.SecurityStatus.{SecurityStatus}
 use Rattle.sspi_types.specs.declared.security_status.SecurityStatus.TheVariants as statuses
@@ -18,7 +17,8 @@ use Rattle.sspi_credssp.specs.Context.{BeginCause, MadeOr, ContextSetting, ForCl
 use Rattle.sspi_credssp.specs.Ends.{ClientView}
 use Rattle.sspi_credssp.specs.Acts.{is_waiting_in}
 use Rattle.sspi_credssp.specs.Exchange.{delegated_text, BlobStops, ProofCause, prescribed}
-use Rattle.sspi_credssp.specs.Noted.{is_altered_in, is_old_in, StopsIf}
+use Rattle.sspi_credssp.specs.Noted.{StopsIf, VersionStopsIn}
+use Rattle.sspi_credssp.specs.Refusal.{OrMemory}
 use Rattle.sspi_credssp.specs.Requests.{is_code}
 
 module _ {C : Type 0} (c : Meaning ContextSetting C) where
@@ -63,8 +63,8 @@ module _ {C : Type 0} (c : Meaning ContextSetting C) where
   ClientCause old d new kind =
       StopsIf (is_waiting_in c old.context) OutOfSequence kind
       (StopsIf (is_code d.error_code) InvalidToken kind
-      (StopsIf (is_old_in old.context old.settings.least old.noted d.version) DowngradeDetected kind
-      (StopsIf (is_altered_in old.context old.noted d.version) MessageAltered kind
+      (VersionStopsIn old.context old.settings.least old.noted d.version kind
+      (OrMemory kind
       (MadeOr old.context new.context (BeginCause c (ForClient old.settings.mode) Outbound (Some old.settings.credentials) kind)
       (StateCause old.state d new kind)))))
 
@@ -74,4 +74,4 @@ module _ {C : Type 0} (c : Meaning ContextSetting C) where
 
   -- why a resume was refused; where a turn is suspended its request is kept
   abbrev pub ResumeCause : ClientView C → ClientView C → ErrorKind → Type 0
-  ResumeCause old new kind = StopsIf (not (is_waiting_in c old.context)) OutOfSequence kind (KeptCause old.kept new kind)
+  ResumeCause old new kind = StopsIf (not (is_waiting_in c old.context)) OutOfSequence kind (OrMemory kind (KeptCause old.kept new kind))

@@ -11,8 +11,9 @@ use Rattle.sspi_names.specs.declared.credentials.CredentialsBuffers.{Credentials
 use Rattle.sspi_names.specs.declared.credentials.CredentialsBuffers.TheVariants as buffered
 use Rattle.sspi_names.specs.declared.identity.AuthIdentity.{AuthIdentity}
 use Rattle.sspi_names.specs.Identity.{credentials_buffers_of, identity_of}
-use Rattle.sspi_names.specs.Name.{bad_name}
+use Rattle.sspi_names.specs.Name.{bad_name, down_level}
 use Rattle.sspi_tsreq.specs.declared.mode.CredSspMode.{CredSspMode}
+use Rattle.sspi_tsreq.specs.declared.mode.CredSspMode.TheVariants.{WithCredentials, CredentialLess}
 use Rattle.sspi_tsreq.specs.Creds.{creds_text, creds_of, malformed}
 use Rattle.sspi_mech.specs.Calls.{ToUnseal}
 use Rattle.sspi_mech.specs.Meaning.{Meaning}
@@ -56,6 +57,14 @@ prescribed end version nonce key =
     if nat_lt version 5 then echo end key else sha256 (magic end ++ nonce ++ key)
 
 -- ---- the credentials
+
+-- the identity that comes of a delegation: one without texts, where the client keeps its credentials
+abbrev pub no_identity : AuthIdentity
+no_identity = record { username = down_level [] []; password = record { value = [] } }
+
+abbrev pub delegated_as : CredSspMode → AuthIdentity → AuthIdentity
+delegated_as WithCredentials own = own
+delegated_as CredentialLess own = no_identity
 
 -- the text of these credentials in this mode, or their refusal
 unfoldable pub delegated_text : Credentials → CredSspMode → Result (List ℕ) Error

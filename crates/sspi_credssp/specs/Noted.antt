@@ -49,6 +49,11 @@ abbrev pub is_altered_in : {C : Type 0} → Option C → Option ℕ → ℕ → 
 is_altered_in None noted version = false
 is_altered_in (Some m) noted version = differs noted version
 
+abbrev pub VersionStopsIn : {C : Type 0} → Option C → ℕ → Option ℕ → ℕ → ErrorKind → Type 0 → Type 0
+VersionStopsIn context least noted version kind Later =
+    StopsIf (is_old_in context least noted version) DowngradeDetected kind
+    (StopsIf (is_altered_in context noted version) MessageAltered kind Later)
+
 abbrev pub noted_in : {C : Type 0} → Option C → ℕ → Option ℕ → ℕ → Option ℕ
 noted_in None least noted version = noted
 noted_in (Some m) least noted version = noted_with least noted version

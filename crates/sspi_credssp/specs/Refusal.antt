@@ -5,12 +5,16 @@ use Rattle.sspi_types.specs.declared.error_kind.ErrorKind.{ErrorKind}
 use Rattle.sspi_types.specs.declared.error_kind.ErrorKind.TheVariants.{InsufficientMemory}
 use Rattle.sspi_credssp.specs.declared.server_state.ServerError.{ServerError}
 
+-- a cause in place of which memory may be wanting
+abbrev pub OrMemory : ErrorKind → Type 0 → Type 0
+OrMemory kind Cause = kind ≢ InsufficientMemory → Cause
+
 -- of a call that is refused with an error; memory may be wanting at any time
 pub record IsRefusedBy {T : Type 0} (result : Result T Error) (causes : ErrorKind → Type 0) : Type 0 where
-  pub kind : IfErr result (λ error. error.error_type ≢ InsufficientMemory → causes error.error_type)
+  pub kind : IfErr result (λ error. OrMemory error.error_type (causes error.error_type))
   pub codeless : IfErr result (λ error. error.nstatus ≡ None)
 
--- of a server's turn, whose refusal hands the request back
+-- of a server's turn, whose refusal hands the request back; the causes say where memory may be wanting
 pub record IsTurnRefusedBy {T : Type 0} (result : Result T ServerError) (causes : ErrorKind → Type 0) : Type 0 where
-  pub kind : IfErr result (λ refusal. refusal.error.error_type ≢ InsufficientMemory → causes refusal.error.error_type)
+  pub kind : IfErr result (λ refusal. causes refusal.error.error_type)
   pub codeless : IfErr result (λ refusal. refusal.error.nstatus ≡ None)

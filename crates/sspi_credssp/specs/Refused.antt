@@ -1,9 +1,9 @@
 -- What a call of an end says whose refusal has no code by its type.
-use Rattle.std.specs.Prelude.{◌≢◌, Result, IfErr}
+use Rattle.std.specs.Prelude.{Result, IfErr}
 use Rattle.sspi_types.specs.declared.error_kind.ErrorKind.{ErrorKind}
-use Rattle.sspi_types.specs.declared.error_kind.ErrorKind.TheVariants.{InsufficientMemory}
 use Rattle.sspi_mech.specs.declared.refusal.Refusal.{Refusal}
+use Rattle.sspi_credssp.specs.Refusal.{OrMemory}
 
 -- of a call whose refusal has no code by its type
 abbrev pub IsRefusedFor : {T : Type 0} → Result T Refusal → (ErrorKind → Type 0) → Type 0
-IsRefusedFor result causes = IfErr result (λ refusal. refusal.error_type ≢ InsufficientMemory → causes refusal.error_type)
+IsRefusedFor result causes = IfErr result (λ refusal. OrMemory refusal.error_type (causes refusal.error_type))

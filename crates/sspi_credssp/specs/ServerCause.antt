@@ -21,6 +21,7 @@ use Rattle.sspi_credssp.specs.declared.state.CredSspState.TheVariants.{NegoToken
 use Rattle.sspi_credssp.specs.Context.{BeginCause, IfContext, MadeOr, ContextSetting, ForServer}
 use Rattle.sspi_credssp.specs.Exchange.{delegated_identity, BlobStops, ProofCause, prescribed}
 use Rattle.sspi_credssp.specs.Noted.{VersionStops, StopsIf}
+use Rattle.sspi_credssp.specs.Refusal.{OrMemory}
 use Rattle.sspi_types.specs.Counting.{counted_on}
 use Rattle.sspi_credssp.specs.Proxy.{ProxyMeaning, ProxyTells, AreFound}
 use Rattle.sspi_credssp.specs.Requests.{nonce_of}
@@ -115,6 +116,6 @@ module _ {C : Type 0} (c : Meaning ContextSetting C) where
 
     abbrev pub ServerCause : ServerView C P → TsRequest → ServerView C P → ErrorKind → Type 0
     ServerCause old d new kind =
-        MadeOr old.context new.context (MakeCause old.settings.mode old.proxy new.proxy kind)
+        MadeOr old.context new.context (OrMemory kind (MakeCause old.settings.mode old.proxy new.proxy kind))
         (VersionStops old.settings.least old.noted d.version kind
-        (StateCause old.state old d new kind))
+        (OrMemory kind (StateCause old.state old d new kind)))

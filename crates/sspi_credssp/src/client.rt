@@ -1,10 +1,11 @@
-ghost use Rattle.std.specs.Prelude.{◌≡◌, ◌≢◌, [], None, Some, true, false, IsSome, IfErr, OnOk, OnErr};
+ghost use Rattle.std.specs.Prelude.{◌≡◌, [], None, Some, true, false, IsSome, IfErr, OnOk, OnErr};
 ghost use Rattle.std.specs.Prelude.{length, string_bytes};
 ghost use Rattle.sspi_types.specs.declared.credential_use.CredentialUse.TheVariants as purposes;
 ghost use Rattle.sspi_credssp.specs.Acts.{no_acts, IsUnusedIn, is_waiting_in, left_in};
 ghost use Rattle.sspi_credssp.specs.Ends.{ClientView};
 ghost use Rattle.sspi_credssp.specs.Context.{either, ForClient};
-ghost use Rattle.sspi_credssp.specs.Noted.{is_altered_in, is_old_in, noted_in, StopsIf};
+ghost use Rattle.sspi_credssp.specs.Noted.{is_altered_in, is_old_in, noted_in, VersionStopsIn};
+ghost use Rattle.sspi_credssp.specs.Refusal.{OrMemory};
 ghost use Rattle.sspi_credssp.specs.Refused.{IsRefusedFor};
 ghost use Rattle.sspi_credssp.specs.Requests.{is_code};
 ghost use Rattle.sspi_mech.specs.Answered.{answered};
@@ -266,8 +267,7 @@ impl<N: Mechanism, K: Mechanism> CredSspClient<N, K> {
             (Some start.settings.credentials) self.old.handle) →
             HasStepped c start d 0 [] (answered result) self.new }
         // What a refusal says.
-        ensures cause { IfErr result (λ error. error.error_type ≢ ErrorKind.InsufficientMemory →
-            StateCause (either N.REQUESTS N.meaning K.meaning) self.old.state request self.new error.error_type) }
+        ensures cause { IsRefusedFor result (StateCause (either N.REQUESTS N.meaning K.meaning) self.old.state request self.new) }
         // What is so afterwards.
         ensures begun { IsSome self.new.context }
     {
@@ -295,13 +295,10 @@ impl<N: Mechanism, K: Mechanism> CredSspClient<N, K> {
         ensures passed { OnOk result (IsSome self.new.context × (is_altered_in self.old.context self.old.noted version ≡ false)
             × (is_old_in self.old.context self.old.settings.least self.old.noted version ≡ false)) }
         ensures cause { let c = either N.REQUESTS N.meaning K.meaning in
-            IsRefusedFor result (λ kind.
-            StopsIf (is_old_in self.old.context self.old.settings.least self.old.noted version) ErrorKind.DowngradeDetected kind
-            (StopsIf (is_altered_in self.old.context self.old.noted version) ErrorKind.MessageAltered kind
+            IfErr result (λ error. VersionStopsIn self.old.context self.old.settings.least self.old.noted version error.error_type
+            (OrMemory error.error_type
             (MadeOr self.old.context self.new.context (BeginCause c (ForClient self.old.settings.mode) purposes.Outbound
-            (Some self.old.settings.credentials) kind) ⊥))) }
-        ensures exact { IfErr result (λ error. is_old_in self.old.context self.old.settings.least self.old.noted version ≡ true →
-            error.error_type ≡ ErrorKind.DowngradeDetected) }
+            (Some self.old.settings.credentials) error.error_type) ⊥))) }
     {
         match &self.context {
             None => {

@@ -4,6 +4,7 @@ ghost use Rattle.sspi_credssp.specs.Acts.{no_acts, IsUnusedIn};
 ghost use Rattle.sspi_credssp.specs.Proxy.{Asks, list_calls, lists_in};
 ghost use Rattle.sspi_credssp.specs.Context.{Begun, IfContext, MadeOr, either};
 ghost use Rattle.sspi_credssp.specs.Noted.{differs, is_old, VersionStops};
+ghost use Rattle.sspi_credssp.specs.Refusal.{OrMemory};
 ghost use Rattle.sspi_credssp.specs.Refused.{IsRefusedFor};
 ghost use Rattle.sspi_mech.specs.Answered.{answered};
 
@@ -200,8 +201,9 @@ impl<N: Mechanism, K: Mechanism, C: CredentialsProxy> CredSspServer<N, K, C> {
         ensures refused { OnErr result (BeginRefused (either N.REQUESTS N.meaning K.meaning) self.old version self.new
             × (self.new ≡ record self.old { proxy = self.new.proxy; context = self.new.context; handle = self.new.handle })) }
         ensures looked { LooksAt version self.old (answered result) self.new }
-        ensures cause { let c = either N.REQUESTS N.meaning K.meaning in IsRefusedFor result (λ kind.
-            MadeOr self.old.context self.new.context (MakeCause c C.meaning self.old.settings.mode self.old.proxy self.new.proxy kind)
+        ensures cause { let c = either N.REQUESTS N.meaning K.meaning in IfErr result (λ error. let kind = error.error_type in
+            MadeOr self.old.context self.new.context
+            (OrMemory kind (MakeCause c C.meaning self.old.settings.mode self.old.proxy self.new.proxy kind))
             (VersionStops self.old.settings.least self.old.noted version kind ⊥)) }
         // What the proxy was asked.
         ensures proxy { Asks C.meaning (lists_in self.old.context self.old.settings.mode) result self.old.proxy self.new.proxy }

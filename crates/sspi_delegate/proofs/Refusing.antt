@@ -1,12 +1,10 @@
 -- Why a turn was refused that asked a KDC.
-use Rattle.std.proofs.Common.{◌≡◌, ◌≢◌, ℕ, Bool, true, false, not, List, Option, None, Some, IsSome, Err, sym, ◌∙◌, ap, subst}
+use Rattle.std.proofs.Common.{◌≡◌, ℕ, Bool, true, false, not, List, Option, None, Some, Err, sym, ◌∙◌, ap, subst}
 use Rattle.std.proofs.Common.{refl, arith}
 use Rattle.std.proofs.lemmas.Bool.{true≢false}
 use Rattle.sspi_types.specs.declared.error.Error.{Error}
 use Rattle.sspi_types.specs.declared.error_kind.ErrorKind.{ErrorKind}
 use Rattle.sspi_types.specs.declared.error_kind.ErrorKind.TheVariants.{OutOfSequence, InvalidToken, MessageAltered, DowngradeDetected}
-use Rattle.sspi_types.specs.declared.error_kind.ErrorKind.TheVariants.{InsufficientMemory}
-use Rattle.sspi_types.specs.declared.security_status.SecurityStatus.{SecurityStatus}
 use Rattle.sspi_mech.specs.Meaning.{Meaning}
 use Rattle.sspi_tsreq.specs.declared.request.TsRequest.{TsRequest}
 use Rattle.sspi_credssp.specs.declared.state.CredSspState.{CredSspState}
@@ -14,12 +12,12 @@ use Rattle.sspi_credssp.specs.declared.state.CredSspState.TheVariants.{NegoToken
 use Rattle.sspi_credssp.specs.Context.{IfContext, MadeOr, ContextSetting}
 use Rattle.sspi_credssp.specs.Ends.{ClientView}
 use Rattle.sspi_credssp.specs.ClientCause.{ClientCause, ResumeCause, KeptCause, NegoCause, StateCause}
-use Rattle.sspi_credssp.specs.ClientTurn.{Asked, HasStepped, OnStep, ClientTurn, IsUnderway}
+use Rattle.sspi_credssp.specs.ClientTurn.{Asked, HasStepped, OnStep, IsUnderway}
 use Rattle.sspi_credssp.specs.Acts.{is_waiting_in}
 use Rattle.sspi_credssp.specs.Noted.{is_altered_in, is_old_in, StopsIf}
 use Rattle.sspi_credssp.specs.Proxy.{ProxyMeaning, ProxyTells, IsAsked}
+use Rattle.sspi_credssp.specs.Refusal.{OrMemory}
 use Rattle.sspi_delegate.specs.History.{ClientRefuses, ProxyStays}
-use Rattle.sspi_credssp.specs.declared.turn.Outcome.TheVariants as outcome
 
 stops_past : (test : Bool) (here kind : ErrorKind) (Later : Type 0) → test ≡ false → Later → StopsIf test here kind Later
 stops_past test here kind Later unmet h = rw unmet h
@@ -37,11 +35,6 @@ module _ {C : Type 0} (c : Meaning ContextSetting C) where
   on_step true Q was h = h
   on_step false Q was h = absurd (cc (was))
 
-  nego_negotiated : (status : Option SecurityStatus) (new : ClientView C) (kind : ErrorKind) → new.acts.status ≡ status →
-      (IsSome new.acts.status → new.acts.negotiated ≡ true) → NegoCause c status new kind → new.acts.negotiated ≡ true
-  nego_negotiated None new kind is answered h = h
-  nego_negotiated (Some status) new kind is answered h = answered (rw is refl)
-
   kept_cause : (kept : Option TsRequest) (request : TsRequest) (new : ClientView C) (kind : ErrorKind) → kept ≡ Some request →
       KeptCause c kept new kind →
       NegoCause c new.acts.status new kind
@@ -50,10 +43,10 @@ module _ {C : Type 0} (c : Meaning ContextSetting C) where
 
   resumed_nego : (start : ClientView C) (d : TsRequest) (mid new : ClientView C) (kind : ErrorKind) → IsUnderway c start d mid →
       ResumeCause c mid new kind →
-      NegoCause c new.acts.status new kind
-  resumed_nego start d mid new kind way cause =
+      OrMemory kind (NegoCause c new.acts.status new kind)
+  resumed_nego start d mid new kind way cause = λ memory.
       kept_cause mid.kept _ new kind way.kept
-      (stops_later (not (is_waiting_in c mid.context)) OutOfSequence kind _ (rw way.waiting refl) cause)
+      (stops_later (not (is_waiting_in c mid.context)) OutOfSequence kind _ (rw way.waiting refl) cause memory)
 
   state_cause : (state : CredSspState) (d : TsRequest) (new : ClientView C) (kind : ErrorKind) → state ≡ NegoToken →
       NegoCause c new.acts.status new kind →
@@ -61,31 +54,27 @@ module _ {C : Type 0} (c : Meaning ContextSetting C) where
   state_cause state d new kind is h = rw is h
 
   resumed_cause : (start : ClientView C) (d : TsRequest) (mid new : ClientView C) (log : List Asked) (error : Error) →
-      IsUnderway c start d mid →
-      ResumeCause c mid new error.error_type → ClientTurn c start d (outcome.Refused error.error_type None) new →
-      HasStepped c start d 0 log (Err error) new →
+      IsUnderway c start d mid → ResumeCause c mid new error.error_type → HasStepped c start d 0 log (Err error) new →
+      new.acts.negotiated ≡ true →
       ClientCause c start d new error.error_type
-  resumed_cause start d mid new log error way cause turn step =
-      let nego = resumed_nego start d mid new error.error_type way cause in
-      let negotiated : new.acts.negotiated ≡ true = nego_negotiated new.acts.status new error.error_type refl
-      turn.turn.shown.acts.answered nego in
+  resumed_cause start d mid new log error way cause step negotiated =
       stops_past (is_waiting_in c start.context) OutOfSequence error.error_type _ way.ready.idle
       (stops_past _ InvalidToken error.error_type _ way.ready.code
       (stops_past (is_old_in start.context start.settings.least start.noted d.version) DowngradeDetected error.error_type _ way.ready.young
       (stops_past (is_altered_in start.context start.noted d.version) MessageAltered error.error_type _ way.ready.passed
-      (made_past start.context new.context _ _ _ (on_step new.acts.negotiated _ negotiated step)
-      (state_cause start.state d new error.error_type (sym way.ready.state ∙ way.state) nego)))))
+      (λ memory. made_past start.context new.context _ _ _ (on_step new.acts.negotiated _ negotiated step)
+      (state_cause start.state d new error.error_type (sym way.ready.state ∙ way.state)
+      (resumed_nego start d mid new error.error_type way cause memory))))))
 
   pub resumed_refuses : (replies : List Asked → Type 0) (start : ClientView C) (d : TsRequest) (mid new : ClientView C) (log : List Asked)
       (error : Error) → IsUnderway c start d mid →
-      (error.error_type ≢ InsufficientMemory → ResumeCause c mid new error.error_type) → error.nstatus ≡ None →
-      ClientTurn c start d (outcome.Refused error.error_type None) new → HasStepped c start d 0 log (Err error) new → replies log →
+      ResumeCause c mid new error.error_type → error.nstatus ≡ None → HasStepped c start d 0 log (Err error) new → replies log →
       new.acts.negotiated ≡ true →
       ClientRefuses c replies start d error new
-  resumed_refuses replies start d mid new log error way cause plain turn step replied negotiated = record {
-    cause = λ other. resumed_cause start d mid new log error way (cause other) turn step;
+  resumed_refuses replies start d mid new log error way cause codeless step replied negotiated = record {
+    cause = resumed_cause start d mid new log error way cause step negotiated;
     heeds = λ met. absurd (true≢false (sym met.old ∙ way.ready.young));
-    status = rw (way.ready.idle, way.ready.code) plain;
+    status = rw (way.ready.idle, way.ready.code) codeless;
     steps = record { asked = log; replied = replied; step = step; unasked = λ none. absurd (true≢false (sym negotiated ∙ none)) };
   }
 

@@ -1,7 +1,7 @@
 -- How an end came to be what it is: the calls by which it made its turns, and why it refused the last one.
-use Rattle.std.specs.Prelude.{◌≡◌, ◌≢◌, ◌≤◌, ℕ, List, [], ◌∷◌, Option, Some, None, Result, Ok, Err, false}
+use Rattle.std.specs.Prelude.{◌≡◌, ◌≤◌, ℕ, List, [], ◌∷◌, Option, Some, None, Result, Ok, Err, false}
 use Rattle.sspi_types.specs.declared.error.Error.{Error}
-use Rattle.sspi_types.specs.declared.error_kind.ErrorKind.TheVariants.{DowngradeDetected, InsufficientMemory}
+use Rattle.sspi_types.specs.declared.error_kind.ErrorKind.TheVariants.{DowngradeDetected}
 use Rattle.sspi_types.specs.declared.error_kind.ErrorKind.TheVariants as kinds
 use Rattle.sspi_names.specs.declared.identity.AuthIdentity.{AuthIdentity}
 use Rattle.sspi_names.specs.declared.network.NetworkRequest.{NetworkRequest}
@@ -57,7 +57,7 @@ module _ {C : Type 0} (c : Meaning ContextSetting C) where
   -- a turn of the client on d was refused
   pub record ClientRefuses (replies : List Asked → Type 0) (old : ClientView C) (d : TsRequest) (error : Error)
       (new : ClientView C) : Type 0 where
-    pub cause : error.error_type ≢ InsufficientMemory → ClientCause c old d new error.error_type
+    pub cause : ClientCause c old d new error.error_type
     pub heeds : ClientMeetsOld c old d → error.error_type ≡ DowngradeDetected
     pub status : error.nstatus ≡ status_of c old d
     pub steps : StepsSo replies old d (Err error) new
@@ -92,7 +92,7 @@ module _ {C : Type 0} (c : Meaning ContextSetting C) where
       pub chain : ServerChain c p first past (server_stage old)
       pub told_before : p.told old.proxy ≡ p.told first.proxy
       pub faults_before : p.faults first.proxy ≤ p.faults old.proxy
-      pub cause : error.error_type ≢ InsufficientMemory → ServerCause c p old d new error.error_type
+      pub cause : ServerCause c p old d new error.error_type
       pub status : error.nstatus ≡ None
       pub step : HasAccepted c p {T = ServerState} old d (Err error) new
       -- the output was taken for the record
@@ -186,7 +186,7 @@ module _ {C : Type 0} (c : Meaning ContextSetting C) where
   module _ {P : Type 0} (p : ProxyMeaning P) where
     -- why the server refused d, and the step that it took of its context before
     pub record ServerRefuses (old : ServerView C P) (d : TsRequest) (error : Error) (new : ServerView C P) : Type 0 where
-      pub cause : error.error_type ≢ kinds.InsufficientMemory → ServerCause c p old d new error.error_type
+      pub cause : ServerCause c p old d new error.error_type
       pub heeds : ServerMeetsOld c old d new → error.error_type ≡ kinds.DowngradeDetected
       pub status : error.nstatus ≡ None
       pub step : HasAccepted c p {T = ServerState} old d (Err error) new

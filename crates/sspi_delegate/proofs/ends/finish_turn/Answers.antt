@@ -15,7 +15,7 @@ returns-in-Err-resume-clause-turn g c =
     (record { underway = underway; walked = rw c.in-Suspended.is at steps.step }) in (
       turn,
       resumed_refuses meaning _ c.args.client.now c.args.request c.loop-progress.client c.resume.new.self _ c.in-Err-resume.error underway
-          c.in-Err-resume.ensures.cause.kind c.in-Err-resume.ensures.cause.codeless turn went.step
+          c.in-Err-resume.ensures.cause.kind c.in-Err-resume.ensures.cause.codeless went.step
           (c.loop-progress.kdc, steps.replied, c.in-Some.ensures.replied)
           (c.in-Err-resume.ensures.stepped underway.waiting (rw underway.kept cc)),
     )

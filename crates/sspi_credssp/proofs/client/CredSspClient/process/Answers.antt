@@ -1,18 +1,17 @@
-use Rattle.std.proofs.Common.{◌≡◌, ◌≢◌, [], Some, Err, IfErr, true, false, subst, rules, refl}
+use Rattle.std.proofs.Common.{◌≡◌, [], Some, Err, IfErr, false, subst, rules, refl}
 use Rattle.std.proofs.lemmas.Result.{err_from_is_err_and}
 use Rattle.sspi_types.specs.declared.credential_use.CredentialUse.TheVariants.{Outbound}
-use Rattle.sspi_types.specs.declared.error_kind.ErrorKind.TheVariants.{DowngradeDetected, MessageAltered, InsufficientMemory}
 use Rattle.sspi_credssp.specs.Context.{Begun, BeginCause, IfContext, MadeOr, either, ForClient}
 use Rattle.sspi_mech.specs.Refusals.{error_of}
 use Rattle.sspi_mech.specs.Answered.{answered}
 use Rattle.sspi_credssp.specs.ClientCause.{ClientCause, StateCause}
 use Rattle.sspi_credssp.specs.ClientTurn.{HasStepped}
 use Rattle.sspi_credssp.specs.Acts.{is_waiting_in}
-use Rattle.sspi_credssp.specs.Noted.{is_altered_in, is_old_in, StopsIf}
-use Rattle.sspi_credssp.specs.Refusal.{IsRefusedBy}
+use Rattle.sspi_credssp.specs.Noted.{is_altered_in, is_old_in, VersionStopsIn}
+use Rattle.sspi_credssp.specs.Refusal.{IsRefusedBy, OrMemory}
 use Rattle.sspi_credssp.proofs.CodelessErrors.{caused}
 use Rattle.sspi_credssp.proofs.ClientHeeding.{client_only, no_step}
-use Rattle.sspi_credssp.proofs.Causes.{client_cause_past, client_cause_begun}
+use Rattle.sspi_credssp.proofs.Causes.{client_cause_past, client_cause_begun, too_old}
 use Rattle.sspi_credssp.proofs.client.CredSspClient.process.Goals as goal
 
 pub returns : goal.returns
@@ -33,8 +32,7 @@ returns g c =
     c.take-2.ensures.step now d (search rules) (search rules) begun in
     let caused : IsRefusedBy (answered c.take-2.result) (λ kind. StateCause it c.begin.new.self.state c.at_version.result new kind) =
     caused _ c.take-2.result c.take-2.ensures.cause in
-    let cause : IfErr (answered c.take-2.result) (λ error. error.error_type ≢ InsufficientMemory →
-    ClientCause it now d new error.error_type) =
+    let cause : IfErr (answered c.take-2.result) (λ error. ClientCause it now d new error.error_type) =
     client_cause_past it now _ d _ _ _ _ idle c.in_ok-check_code.ensures.passed young same c.take-2.ensures.begun
     (search rules) c.at_version.ensures caused.kind in
     rw c.answered.ensures
@@ -67,12 +65,12 @@ returns-in_err-begin g c =
     let kind = c.in_err-begin.field-0.0.error_type in
     let unstepped : new.acts.negotiated ≡ false = search rules in
     let step : HasStepped it now d 0 [] (Err (error_of c.in_err-begin.field-0.0)) new = no_step it _ _ unstepped in
-    let cause : kind ≢ InsufficientMemory → ClientCause it now d new kind = λ memory.
+    let cause : ClientCause it now d new kind =
     client_cause_begun it now _ d kind idle c.in_ok-check_code.ensures.passed
-    (subst (λ v. StopsIf (is_old_in v.context v.settings.least v.noted d.version) DowngradeDetected kind
-    (StopsIf (is_altered_in v.context v.noted d.version) MessageAltered kind
+    (subst (λ v. VersionStopsIn v.context v.settings.least v.noted d.version kind
+    (OrMemory kind
     (MadeOr v.context new.context (BeginCause it (ForClient v.settings.mode) Outbound (Some v.settings.credentials) kind) ⊥)))
-    c.forget_last_call.ensures (c.in_err-begin.ensures.cause memory)) in
+    c.forget_last_call.ensures c.in_err-begin.ensures.cause) in
     let p = err_from_is_err_and c.from_residual-in_err-begin.result c.from_residual-in_err-begin.ensures.1 in
     rw (p.1, p.2)
     (record {
@@ -81,10 +79,7 @@ returns-in_err-begin g c =
         step = step;
         heeded = record {
           refuses = λ met.
-              let old : is_old_in c.forget_last_call.new.self.context c.forget_last_call.new.self.settings.least
-              c.forget_last_call.new.self.noted d.version ≡ true =
-              rw c.forget_last_call.ensures met.old in
-              (c.in_err-begin.ensures.exact old, search rules);
+              (too_old it now d kind new idle c.in_ok-check_code.ensures.passed met.old cause, search rules);
           only = λ never. client_only it never now d 0 [] (Err (error_of c.in_err-begin.field-0.0)) new cause step;
         };
       };

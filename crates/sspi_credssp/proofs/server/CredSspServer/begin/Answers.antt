@@ -12,7 +12,7 @@ returns-in_err-make_context-in-None-clause-cause g c =
     let gone : c.make_context.new.self.context ≡ None = search rules in
     let p = err_from_is_err_and c.from_residual.result c.from_residual.ensures.1 in
     rw (p.1, p.2)
-    (λ memory. rw (none, gone) (c.in_err-make_context-in-None.ensures.cause memory))
+    (rw (none, gone) (λ memory. c.in_err-make_context-in-None.ensures.cause memory))
 
 pub returns-in_ok-make_context-in-None-clause-made : goal.returns-in_ok-make_context-in-None-clause-made
 returns-in_ok-make_context-in-None-clause-made g c =

@@ -1,12 +1,11 @@
-use Rattle.std.proofs.Common.{◌≡◌, ◌≢◌, None, Err, IfErr, true, false, refl, sym, ap, ◌∙◌, subst, rules}
+use Rattle.std.proofs.Common.{◌≡◌, None, Err, IfErr, true, false, refl, sym, ap, ◌∙◌, subst, rules}
 use Rattle.std.proofs.lemmas.Bool.{true≢false}
 use Rattle.sspi_types.specs.declared.credential_use.CredentialUse.TheVariants.{Inbound}
-use Rattle.sspi_types.specs.declared.error.Error.{Error}
-use Rattle.sspi_types.specs.declared.error_kind.ErrorKind.TheVariants.{InsufficientMemory}
 use Rattle.sspi_credssp.specs.declared.state.CredSspState.TheVariants.{NegoToken}
 use Rattle.sspi_mech.specs.Refusals.{error_of}
 use Rattle.sspi_credssp.specs.Context.{Begun, OnContext, MadeOr, either}
 use Rattle.sspi_credssp.specs.Noted.{VersionStops, is_old}
+use Rattle.sspi_credssp.specs.Refusal.{OrMemory}
 use Rattle.sspi_credssp.specs.Proxy.{lists_in, IsAsked, HasAsked}
 use Rattle.sspi_credssp.specs.ServerCause.{MakeCause, ServerCause}
 use Rattle.sspi_credssp.specs.ServerStage.{IsAtStep, BeginRefused}
@@ -33,8 +32,7 @@ returns-in-Ok g c =
     c.in-Ok.ensures.proxy.at_most in
     let at : IsAtStep it p now c.begin.new.self = record { later = later p _ _ _ listed; begun = begun } in
     let step : HasAcceptedTurn it p now d c.take-in-Ok.result new = c.take-in-Ok.ensures.step now d (search rules) at in
-    let cause : IfErr c.take-in-Ok.result (λ refusal. refusal.error.error_type ≢ InsufficientMemory →
-    ServerCause it p now d new refusal.error.error_type) =
+    let cause : IfErr c.take-in-Ok.result (λ refusal. ServerCause it p now d new refusal.error.error_type) =
     server_cause_past it p now new d _ _ (search rules) (search rules) c.take-in-Ok.ensures.begun (search rules)
     (c.take-in-Ok.ensures.cause now d (search rules) at) in
     let young : is_old now.settings.least now.noted d.version ≡ false = search rules in
@@ -75,12 +73,12 @@ returns-in-Err g c =
     let same : c.refusal.result.error ≡ error_of c.in-Err.error = search rules in
     let idle : new.acts.negotiated ≡ false = search rules in
     let step : HasAcceptedTurn it p now d (Err c.refusal.result) new = no_step it p _ _ idle in
-    let cause : c.refusal.result.error.error_type ≢ InsufficientMemory → ServerCause it p now d new c.refusal.result.error.error_type =
-    λ memory. rw same
+    let cause : ServerCause it p now d new c.refusal.result.error.error_type =
+    rw same
     (server_cause_begun it p now new d kind
-    (subst (λ v. MadeOr v.context new.context (MakeCause it p v.settings.mode v.proxy new.proxy kind)
+    (subst (λ v. MadeOr v.context new.context (OrMemory kind (MakeCause it p v.settings.mode v.proxy new.proxy kind))
     (VersionStops v.settings.least v.noted d.version kind ⊥))
-    c.forget_last_call.ensures (c.in-Err.ensures.cause (subst (λ (e : Error). e.error_type ≢ InsufficientMemory) same memory)))) in
+    c.forget_last_call.ensures c.in-Err.ensures.cause)) in
     record {
       turn = begin_halted it now new d (error_of c.in-Err.error) c.refusal.result _
           (subst (λ v. BeginRefused it v d.version new) c.forget_last_call.ensures c.in-Err.ensures.refused.0)
