@@ -163,7 +163,7 @@ module _ {C : Type 0} (c : Meaning ContextSetting C) (client : ClientEnd C) (ser
         let same = same_texts client.settings.public_key server.settings.public_key client.settings.nonce
         (nonce_of u.delivered.client_nonce) p.0.version s.version
         (no_collision _ _ (by_client whose.Client)
-        (by_server whose.Client (server_turns (later ++ (t ∷ s.at.later))) (server_turns s.at.before) u servers))
+        (by_server whose.Client (server_turns (later ++ (t ∷ s.at.later))) (server_turns s.at.before) u servers s.proved))
         long (proven_nonce u (server_turns s.at.before) s.version peer.0 s.proved s.noted)
         (λ young old. no_client_echo client server (client_turns turns) p.0.version echo client_seen young)
         (λ old young. no_server_echo client server (server_turns turns) s.version echo server_seen young)

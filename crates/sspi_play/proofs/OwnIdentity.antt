@@ -12,8 +12,7 @@ use Rattle.sspi_tsreq.specs.declared.mode.CredSspMode.{CredSspMode}
 use Rattle.sspi_tsreq.specs.declared.mode.CredSspMode.TheVariants.{WithCredentials, CredentialLess}
 use Rattle.sspi_tsreq.specs.Creds.{creds_of, delegated, delegated_credentials}
 use Rattle.sspi_tsreq.proofs.CredsBack.{credentials_back_alone}
-use Rattle.sspi_credssp.specs.Exchange.{delegated_text, delegated_identity, identity_in, named_or_refused}
-use Rattle.sspi_play.specs.Agreement.{no_identity, delegated_as}
+use Rattle.sspi_credssp.specs.Exchange.{delegated_text, delegated_identity, identity_in, named_or_refused, delegated_as, no_identity}
 
 no_identity_is : IsIdentity no_identity
 no_identity_is = record {

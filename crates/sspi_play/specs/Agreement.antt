@@ -7,12 +7,9 @@ use Rattle.sspi_mech.specs.Meaning.{Meaning}
 use Rattle.sspi_names.specs.declared.credentials.Credentials.TheVariants as credentials
 use Rattle.sspi_names.specs.declared.identity.AuthIdentity.{AuthIdentity}
 use Rattle.sspi_names.specs.Identity.{IsIdentity}
-use Rattle.sspi_names.specs.Name.{down_level}
-use Rattle.sspi_tsreq.specs.declared.mode.CredSspMode.{CredSspMode}
-use Rattle.sspi_tsreq.specs.declared.mode.CredSspMode.TheVariants.{WithCredentials, CredentialLess}
 use Rattle.sspi_credssp.specs.declared.turn.End.TheVariants.{Client, Server}
 use Rattle.sspi_credssp.specs.declared.turn.Turn.{Turn}
-use Rattle.sspi_credssp.specs.Exchange.{delegated_text, delegated_identity}
+use Rattle.sspi_credssp.specs.Exchange.{delegated_as, delegated_text, delegated_identity}
 use Rattle.sspi_credssp.specs.Requests.{nonce_of}
 use Rattle.sspi_delegate.specs.Causes.{IsFinished}
 use Rattle.sspi_delegate.specs.EndRun.{ClientEnd, ServerEnd, client_noted, server_noted}
@@ -37,17 +34,6 @@ pub data NoEcho {C : Type 0} (client : ClientEnd C) (server : ServerEnd C) : Typ
   by_length : 32 < length client.settings.public_key → 32 < length server.settings.public_key → NoEcho client server
   by_least_versions : 5 ≤ client.settings.least → 5 ≤ server.settings.least → NoEcho client server
 
--- ---- what is delegated
-
--- without texts
-abbrev pub no_identity : AuthIdentity
-no_identity = record { username = down_level [] []; password = record { value = [] } }
-
--- what comes of an identity that is delegated in this mode
-abbrev pub delegated_as : CredSspMode → AuthIdentity → AuthIdentity
-delegated_as WithCredentials own = own
-delegated_as CredentialLess own = no_identity
-
 -- ---- what both agree on
 
 -- the two ends proved in the same form: both noted a version below 5, or both one from 5 on
@@ -63,7 +49,7 @@ pub record HasProved (turns : List Turn) : Type 0 where
   pub proved : at.turn.acts.proved ≡ true
 
 -- the server checked the client's proof in one of these turns, and proved; before it the client had proved
-pub record HasExchanged (turns : List Turn) : Type 0 where
+pub record ServerHasProved (turns : List Turn) : Type 0 where
   pub at : TurnOf turns
   pub end : at.turn.end ≡ Server
   pub checked : at.turn.acts.checked ≡ true
@@ -80,7 +66,7 @@ pub record HasSealed (turns : List Turn) : Type 0 where
 module _ {C : Type 0} (client : ClientEnd C) (server : ServerEnd C) where
   -- of a client that sealed, where these are the turns before it did
   pub record Agrees (turns before : List Turn) : Type 0 where
-    pub exchanged : HasExchanged before
+    pub exchanged : ServerHasProved before
     pub keys : client.settings.public_key ≡ server.settings.public_key
     pub versions : AreAlike
         (client_noted client.settings.least (client_turns turns)) (server_noted server.settings.least (server_turns turns))

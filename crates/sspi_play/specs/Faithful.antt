@@ -102,10 +102,12 @@ pub record VerifiesWhatWasSigned {N K : Type 0} (c : Meaning ContextSetting (Ssp
 -- ---- what is hashed
 
 module _ {C : Type 0} (client : ClientEnd C) (server : ServerEnd C) (turns : List Turn) where
-  -- so is one of the run's hashes made: an end's magic, a nonce and its own key, joined; a server's nonce is a delivered one
+  -- so is one of the run's hashes made: an end's magic, a nonce and its own key, joined; a server's nonce is one that was delivered in
+  -- a turn in which it proved its key
   pub data IsHashed : List ℕ → Type 0 where
     by_client : (end : EndpointType) → IsHashed (magic end ++ client.settings.nonce ++ client.settings.public_key)
     by_server : (end : EndpointType) (later before : List Turn) (t : Turn) → server_turns turns ≡ later ++ (t ∷ before) →
+        t.acts.proved ≡ true →
         IsHashed (magic end ++ nonce_of t.delivered.client_nonce ++ server.settings.public_key)
 
   -- no two of these texts have one hash
