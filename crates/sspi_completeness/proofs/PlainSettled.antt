@@ -16,7 +16,7 @@ use Rattle.sspi_credssp.specs.declared.mode.ClientMode.{ClientMode}
 use Rattle.sspi_credssp.specs.declared.mode.ClientMode.TheVariants as client_mode
 use Rattle.sspi_credssp.specs.declared.mode.ServerMode.{ServerMode}
 use Rattle.sspi_credssp.specs.declared.mode.ServerMode.TheVariants as server_mode
-use Rattle.sspi_credssp.specs.Exchange.{delegated_text}
+use Rattle.sspi_credssp.specs.Exchange.{delegated_text, delegated_as}
 use Rattle.sspi_credssp.specs.Proxy.{ProxyMeaning}
 use Rattle.sspi_delegate.specs.declared.answer.Delegation.{Delegation}
 use Rattle.sspi_delegate.specs.declared.answer.DelegateError.{DelegateError}
@@ -30,7 +30,7 @@ use Rattle.sspi_delegate.specs.Turns.{client_turns, server_turns}
 use Rattle.sspi_delegate.specs.History.{ClientPast, ServerHistory}
 use Rattle.sspi_delegate.specs.Link.{StaysTold, AnswerTold}
 use Rattle.sspi_delegate.specs.EndRun.{server_end, GivesNewest}
-use Rattle.sspi_completeness.specs.Matching.{MatchModes, messages_of, messages_in, AreMatching, IsUndisturbed, IsCalm, delegated_as}
+use Rattle.sspi_completeness.specs.Matching.{MatchModes, messages_of, messages_in, AreMatching, IsUndisturbed, IsCalm}
 use Rattle.sspi_completeness.specs.Matching.{ComesToOkIn}
 use Rattle.sspi_completeness.specs.Negotiating.{Needs, messages_by, kdc_url}
 use Rattle.sspi_completeness.specs.Matching.{IsCutShort}

@@ -48,7 +48,7 @@ Settled count limit identity (Err error) = ⊥
 
 pub calm_by : (failing : Option (List ℕ)) (before now : ℕ) → NoneFailed failing before now → (failing ≡ Some [] → now ≡ before) →
     IsCalm before now
-calm_by failing before now (none_told none counted) stays = record { still = stays none; counted = counted }
+calm_by failing before now (none_told none counted) stays = record { same = stays none; counted = counted }
 calm_by failing before now (none_counted calm) stays = calm
 
 -- without edits no carry fails
@@ -87,7 +87,7 @@ ends_calm base log limit start now (Err (errors.Client error)) turns calm ends =
 ends_calm base log limit start now (Err (errors.Server error)) turns calm ends = tt
 ends_calm base log limit start now (Err (errors.Read to kind)) turns calm ends = tt
 ends_calm base log limit start now (Err (errors.Write from)) turns calm ends = tt
-ends_calm base log limit start now (Err errors.LinkFault) turns calm ends = omega (arith, ends.cause.1, calm.still, calm.counted)
+ends_calm base log limit start now (Err errors.LinkFault) turns calm ends = omega (arith, ends.cause.1, calm.same, calm.counted)
 ends_calm base log limit start now (Err errors.TurnsSpent) turns calm ends = tt
 ends_calm base log limit start now (Err errors.InsufficientMemory) turns calm ends = tt
 
@@ -300,5 +300,5 @@ module _ {C D P : Type 0} (c : Meaning ContextSetting C) (k : KdcCalls D) (p : P
       Settled (suc last) limit identity result
   settled base start now limit x kdc y edits edits2 result turns log undisturbed ends stays still clients servers calm gives =
       let quiet = undisturbed_is edits edits2 base log limit start now result turns undisturbed ends stays still in
-      settled_by base start now limit x kdc y (record { still = calm.still; few = calm.counted }) result turns log ends quiet.0 quiet.1
+      settled_by base start now limit x kdc y (record { still = calm.same; few = calm.counted }) result turns log ends quiet.0 quiet.1
       clients servers gives

@@ -12,8 +12,8 @@ use Rattle.sspi_tsreq.specs.declared.mode.CredSspMode.{CredSspMode}
 use Rattle.sspi_tsreq.specs.declared.mode.CredSspMode.TheVariants.{WithCredentials, CredentialLess}
 use Rattle.sspi_tsreq.specs.Creds.{buffers_text, creds_of, delegated, delegated_credentials}
 use Rattle.sspi_tsreq.proofs.CredsBack.{credentials_back_alone}
-use Rattle.sspi_credssp.specs.Exchange.{delegated_text, delegated_identity, identity_in, named_or_refused}
-use Rattle.sspi_completeness.specs.Matching.{IsShort, delegated_as}
+use Rattle.sspi_credssp.specs.Exchange.{delegated_text, delegated_identity, identity_in, named_or_refused, delegated_as}
+use Rattle.sspi_completeness.specs.Matching.{IsShort}
 use Rattle.sspi_completeness.proofs.Lengths.{HasText, short_credentials}
 
 abbrev empty_identity : AuthIdentity

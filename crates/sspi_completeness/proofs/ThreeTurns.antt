@@ -1,7 +1,7 @@
 -- A delegation needs three messages of the client: the server's first step only asks for more, it checks the client's
 -- proof in a later turn, and the credentials come in a turn after that.
 use Rattle.std.proofs.Common.{◌≡◌, ℕ, ◌+◌, ◌≤◌, ◌<◌, Bool, true, false, ◌&&◌, ◌||◌, List, [], ◌∷◌, length, Option, None, Some, Result}
-use Rattle.std.proofs.Common.{Ok, Err, refl, ap, sym, ◌∙◌, subst, arith, IfOk, OnOk, IsErr}
+use Rattle.std.proofs.Common.{Ok, Err, refl, ap, sym, ◌∙◌, subst, arith, IfOk, OnOk}
 use Rattle.sspi_types.specs.declared.security_status.SecurityStatus.{SecurityStatus}
 use Rattle.sspi_types.specs.declared.security_status.SecurityStatus.TheVariants as statuses
 use Rattle.sspi_types.specs.declared.error.Error.{Error}
@@ -190,9 +190,3 @@ module _ {K P : Type 0} (k : Meaning Setting K) (p : ProxyMeaning P) where
       (three_of_server k p first server (server_turns turns) ntlm fresh others has history) in
       omega (arith, ends.1, three)
   ok_three base log start now limit (Err error) turns first server ends ntlm fresh others has history = tt
-
-pub too_few : (result : Result Delegation DelegateError) (limit : ℕ) → IfOk result (λ delegation. 3 ≤ delegation.rounds) →
-    IfOk result (λ delegation. delegation.rounds ≤ limit) →
-    limit < 3 → IsErr result
-too_few (Ok delegation) limit three within few = absurd (omega (arith, three, within, few))
-too_few (Err error) limit three within few = refl

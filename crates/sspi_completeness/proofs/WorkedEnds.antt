@@ -20,7 +20,8 @@ use Rattle.sspi_delegate.specs.Link.{MemoryLinkView}
 use Rattle.sspi_delegate.specs.Headline.{IsFresh}
 use Rattle.sspi_completeness.specs.Examples.{example_target}
 use Rattle.sspi_completeness.specs.Matching.{AreMatching, HasEntry, MatchModes, messages_of}
-use Rattle.sspi_completeness.specs.Matching.{messages_in, delegated_as, ComesToOkIn, IsCutShort}
+use Rattle.sspi_completeness.specs.Matching.{messages_in, ComesToOkIn, IsCutShort}
+use Rattle.sspi_credssp.specs.Exchange.{delegated_as}
 use Rattle.sspi_completeness.specs.Matching.{NoneFailed, none_told, IsUndisturbed, unedited}
 use Rattle.sspi_completeness.specs.Worked.{Example, IsClientOf, IsServerOf, Matches}
 use Rattle.sspi_completeness.specs.Answered.{AnswersIn}
@@ -93,15 +94,11 @@ module _ {C : Type 0} (told : Option (ℕ → NetworkRequest → Reply)) (call m
   none_fails = none_told (ap (λ (proxy : TableView). Some proxy.failing) server_is.proxy)
       (let faults = ap (λ (proxy : TableView). proxy.faults) server_is.proxy in omega (arith, faults))
 
-  pub answered : (turns : ℕ) (answer : Result Delegation DelegateError) →
-      ((m : AreMatching table_meaning told call client server) → messages_in m ≤ turns →
-      ComesToOkIn (messages_in m) (delegated_as client.settings.delegation m.identity) answer) →
-      ((m : AreMatching table_meaning told call client server) → turns < messages_in m → IsCutShort answer) →
-      AnswersIn messages turns (delegated_as x.delegation x.identity) answer
-  answered turns answer comes short = record {
-    comes = λ enough.
-        subst (λ (n : ℕ). ComesToOkIn n (delegated_as x.delegation x.identity) answer) counted
-        (subst (λ (d : CredSspMode). ComesToOkIn (messages_in matched) (delegated_as d x.identity) answer) client_is.delegation
-        (comes matched (omega (arith, counted, enough))));
-    short = λ few. short matched (omega (arith, counted, few));
-  }
+  pub answered : (limit : ℕ) (answer : Result Delegation DelegateError) →
+      ((m : AreMatching table_meaning told call client server) →
+      AnswersIn (messages_in m) limit (delegated_as client.settings.delegation m.identity) answer) →
+      AnswersIn messages limit (delegated_as x.delegation x.identity) answer
+  answered limit answer answers =
+      subst (λ (n : ℕ). AnswersIn n limit (delegated_as x.delegation x.identity) answer) counted
+      (subst (λ (d : CredSspMode). AnswersIn (messages_in matched) limit (delegated_as d x.identity) answer) client_is.delegation
+      (answers matched))

@@ -1,4 +1,4 @@
--- What the worked examples answer.
+-- To what ends that match come, and the examples.
 use Rattle.std.specs.Prelude.{◌≡◌, ℕ, ◌<◌, ◌≤◌, List, [], ◌∷◌, codes, Result}
 use Rattle.sspi_names.specs.declared.identity.AuthIdentity.{AuthIdentity}
 use Rattle.sspi_names.specs.Name.{Name, down_level, principal}
@@ -8,9 +8,9 @@ use Rattle.sspi_completeness.specs.Matching.{ComesToOkIn, IsCutShort}
 
 -- Ok after so many messages of the client, with this identity, where it may make as many, and else the turns are spent; or there
 -- was no memory.
-pub record AnswersIn (messages turns : ℕ) (identity : AuthIdentity) (answer : Result Delegation DelegateError) : Type 0 where
-  pub comes : messages ≤ turns → ComesToOkIn messages identity answer
-  pub short : turns < messages → IsCutShort answer
+pub record AnswersIn (messages limit : ℕ) (identity : AuthIdentity) (answer : Result Delegation DelegateError) : Type 0 where
+  pub comes : messages ≤ limit → ComesToOkIn messages identity answer
+  pub short : limit < messages → IsCutShort answer
 
 abbrev pub identity_by : Name → List ℕ → AuthIdentity
 identity_by name password = record { username = name; password = record { value = password } }
@@ -21,7 +21,3 @@ ann = identity_by (down_level (codes "ann") (codes "DOM")) (codes "pw")
 
 abbrev pub ann_of_realm : List ℕ → AuthIdentity
 ann_of_realm password = identity_by (principal (codes "ann") (codes "example.com")) password
-
--- who comes of a client that keeps its credentials
-abbrev pub nobody : AuthIdentity
-nobody = identity_by (down_level [] []) []

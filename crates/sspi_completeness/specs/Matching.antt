@@ -4,11 +4,8 @@ use Rattle.std.specs.Prelude.{Result, Ok, Err, nat_lt}
 use Rattle.sspi_names.specs.declared.credentials.Credentials.TheVariants as credentials
 use Rattle.sspi_names.specs.declared.identity.AuthIdentity.{AuthIdentity}
 use Rattle.sspi_names.specs.Identity.{IsIdentity, buffers_of}
-use Rattle.sspi_names.specs.Name.{down_level}
 use Rattle.sspi_names.specs.declared.network.NetworkRequest.{NetworkRequest}
 use Rattle.sspi_mech.specs.declared.step.Reply.{Reply}
-use Rattle.sspi_tsreq.specs.declared.mode.CredSspMode.{CredSspMode}
-use Rattle.sspi_tsreq.specs.declared.mode.CredSspMode.TheVariants.{WithCredentials, CredentialLess}
 use Rattle.sspi_credssp.specs.declared.mode.ClientMode.{ClientMode}
 use Rattle.sspi_credssp.specs.declared.mode.ClientMode.TheVariants as client_mode
 use Rattle.sspi_credssp.specs.declared.mode.ServerMode.{ServerMode}
@@ -20,6 +17,8 @@ use Rattle.sspi_delegate.specs.declared.answer.DelegateError.{DelegateError}
 use Rattle.sspi_delegate.specs.declared.answer.DelegateError.TheVariants as errors
 use Rattle.sspi_delegate.specs.declared.carried.Carried.{Carried}
 use Rattle.sspi_delegate.specs.declared.edit.Edit.{Edit}
+use Rattle.sspi_delegate.specs.Delegates.{Around, Parties}
+use Rattle.sspi_delegate.specs.Headline.{IsFresh}
 use Rattle.sspi_delegate.specs.Link.{Delivers}
 use Rattle.sspi_completeness.specs.Negotiating.{AreNegotiating, messages_by}
 
@@ -91,7 +90,7 @@ messages_in {C = C} {D = D} {P = P} {p = p} {told = told} {call = call} {client 
 
 -- a count of faults that did not rise, and that does not stand at its last value
 pub record IsCalm (before now : ℕ) : Type 0 where
-  pub still : now ≡ before
+  pub same : now ≡ before
   pub counted : before < 2 ^ 64 - 1
 
 -- no look-up failed: the proxy tells which calls fail, and there are none; or its count of faults shows it
@@ -109,10 +108,13 @@ pub data IsUndisturbed (edits : Option (List Edit)) (old new : List Carried) (be
   unedited : edits ≡ Some [] → old ≡ [] → IsUndisturbed edits old new before now
   shown : AreWhole new → IsCalm before now → IsUndisturbed edits old new before now
 
--- the identity that comes of a delegation: one without texts, where the client keeps its credentials
-abbrev pub delegated_as : CredSspMode → AuthIdentity → AuthIdentity
-delegated_as WithCredentials identity = identity
-delegated_as CredentialLess identity = record { username = down_level [] []; password = record { value = [] } }
+-- fresh ends, a link that changes nothing, and a proxy of which no look-up fails
+pub record NothingDisturbs {C P L D : Type 0} (around : Around P L D) (old new : Parties C P L D) : Type 0 where
+  pub fresh : IsFresh old.client old.server old.turns
+  pub link : IsUndisturbed (around.edits old.link) (around.log old.link) (around.log new.link)
+      (around.link_faults old.link) (around.link_faults new.link)
+  pub proxy : NoneFailed (around.proxy.told old.server.proxy).failing
+      (around.proxy.faults old.server.proxy) (around.proxy.faults new.server.proxy)
 
 -- so many messages of the client, and this identity; or there was no memory
 abbrev pub ComesToOkIn : ℕ → AuthIdentity → Result Delegation DelegateError → Type 0

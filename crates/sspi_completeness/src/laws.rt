@@ -16,16 +16,18 @@ ghost use Rattle.sspi_types.specs.declared.error_kind.ErrorKind.TheVariants.{Dow
 
 use sspi_mech::Mechanism;
 
-/// A context of plain NTLM or of plain Kerberos refuses nothing as `DowngradeDetected`, nor does a negotiation of NTLM and a mechanism
-/// that does not: so an end of it refuses so exactly where its peer is below the least version.
-pub fn contexts_refuse_no_version<K: Mechanism>()
+/// A context of plain NTLM or of plain Kerberos refuses nothing as `DowngradeDetected`, nor does one over any two mechanisms that do
+/// not, also where it negotiates them: so an end of it refuses so exactly where its peer is below the least version.
+pub fn contexts_refuse_no_version<N: Mechanism, K: Mechanism>()
     // Of the plain mechanisms, and of a context that has either or negotiates them.
     ensures ntlm { NeverRefuses ntlm_meaning DowngradeDetected }
     ensures kerberos { NeverRefuses kerberos_meaning DowngradeDetected }
     ensures plain { NeverRefuses (either 0 ntlm_meaning kerberos_meaning) DowngradeDetected }
-    // Of plain NTLM beside any other.
-    ensures negotiation { NeverRefuses K.meaning DowngradeDetected → NeverRefuses (negotiate 0 ntlm_meaning K.meaning) DowngradeDetected }
-    ensures either { NeverRefuses K.meaning DowngradeDetected → NeverRefuses (either 0 ntlm_meaning K.meaning) DowngradeDetected }
+    // Of any two.
+    ensures negotiation { (requests : ℕ) → NeverRefuses N.meaning DowngradeDetected → NeverRefuses K.meaning DowngradeDetected →
+        NeverRefuses (negotiate requests N.meaning K.meaning) DowngradeDetected }
+    ensures either { (requests : ℕ) → NeverRefuses N.meaning DowngradeDetected → NeverRefuses K.meaning DowngradeDetected →
+        NeverRefuses (either requests N.meaning K.meaning) DowngradeDetected }
 {}
 
 /// Ends that negotiate and match, as examples have them: both with Kerberos in hand; the client with Kerberos and the server with

@@ -1,11 +1,12 @@
-ghost use Rattle.std.specs.Prelude.{◌≡◌, ℕ, ◌≤◌, ◌<◌, [], IfOk, IsErr};
+ghost use Rattle.std.specs.Prelude.{◌≡◌, ◌≤◌, [], IfOk};
 ghost use Rattle.sspi_credssp.specs.Context.{either};
 ghost use Rattle.sspi_delegate.specs.Delegates.{around_by, parties, Delegates, Accounts, Stays};
 ghost use Rattle.sspi_delegate.specs.Headline.{IsFresh};
 ghost use Rattle.sspi_mech.specs.Kerberos.{kerberos_meaning};
 ghost use Rattle.sspi_mech.specs.Ntlm.{ntlm_meaning};
-ghost use Rattle.sspi_completeness.specs.Matching.{AreMatching, IsNtlmServer, messages_in, IsUndisturbed, NoneFailed, delegated_as};
-ghost use Rattle.sspi_completeness.specs.Matching.{ComesToOkIn, IsCutShort};
+ghost use Rattle.sspi_completeness.specs.Answered.{AnswersIn};
+ghost use Rattle.sspi_completeness.specs.Matching.{AreMatching, IsNtlmServer, messages_in, NothingDisturbs};
+ghost use Rattle.sspi_credssp.specs.Exchange.{delegated_as};
 
 use sspi_credssp::{CredSspClient, CredSspServer, CredentialsProxy};
 use sspi_delegate::{DelegateError, Delegation, Link, Transcript, delegate};
@@ -14,12 +15,14 @@ use std::alloc::Global;
 
 /// `delegate` between two ends whose mechanisms are the plain ones: its promises, and what is so of these ends alone.
 ///
-/// Where the server does not negotiate it is Ok only after three messages of the client, whatever the link delivers.
+/// Where the server does not negotiate, ends that made no call come to Ok only after three messages of the client, whatever the link
+/// delivers, for a transcript without turns.
 ///
-/// Where the ends match, the link disturbs nothing and no look-up of the proxy fails, it is Ok with the client's identity, or
-/// there was no memory. The client then makes three messages without a negotiation. In a negotiation it makes four, where the
-/// server picks the mechanism that the client began with, be that NTLM or Kerberos, and five, where the client began with Kerberos
-/// and the server picks NTLM. Where the client may make fewer messages, that is then the reason, or want of memory.
+/// Where the ends match and made no call, the transcript has no turns, the link disturbs nothing and no look-up of the proxy fails, it
+/// is Ok with the identity that the client seals, or there was no memory. The client then makes three messages without a negotiation.
+/// In a negotiation it makes four, where the server picks the mechanism that the client began with, be that NTLM or Kerberos, and five,
+/// where the client began with Kerberos and the server picks NTLM. Where `limit` allows the client fewer messages, the turns are
+/// spent, or there was no memory.
 pub fn delegate_plainly<C: CredentialsProxy, L: Link, D: Kdc>(
     alloc: Global,
     client: &mut CredSspClient<Ntlm, Kerberos>,
@@ -41,22 +44,14 @@ pub fn delegate_plainly<C: CredentialsProxy, L: Link, D: Kdc>(
     ensures stays { Stays (around_by C.meaning L.log L.edits L.faults D.told D.asked D.faults)
         (parties client.old server.old link.old kdc.old transcript.old.turns) limit result
         (parties client.new server.new link.new kdc.new transcript.new.turns) }
-    // How many messages are too few.
+    // How many messages are too few, and to what ends that match come.
     ensures three { IsNtlmServer server.old.settings.mode → IsFresh client.old server.old transcript.old.turns →
         IfOk result (λ delegation. 3 ≤ delegation.rounds) }
-    ensures few { IsNtlmServer server.old.settings.mode → IsFresh client.old server.old transcript.old.turns → limit < 3 → IsErr result }
-    // To what ends that match come.
-    ensures comes { (matching : AreMatching C.meaning (D.told kdc.old) (D.asked kdc.old) client.old server.old) →
-        IsFresh client.old server.old transcript.old.turns →
-        IsUndisturbed (L.edits link.old) (L.log link.old) (L.log link.new) (L.faults link.old) (L.faults link.new) →
-        NoneFailed (C.meaning.told server.old.proxy).failing (C.meaning.faults server.old.proxy) (C.meaning.faults server.new.proxy) →
-        messages_in matching ≤ limit →
-        ComesToOkIn (messages_in matching) (delegated_as client.old.settings.delegation matching.identity) result }
-    ensures short { (matching : AreMatching C.meaning (D.told kdc.old) (D.asked kdc.old) client.old server.old) →
-        IsFresh client.old server.old transcript.old.turns →
-        IsUndisturbed (L.edits link.old) (L.log link.old) (L.log link.new) (L.faults link.old) (L.faults link.new) →
-        NoneFailed (C.meaning.told server.old.proxy).failing (C.meaning.faults server.old.proxy) (C.meaning.faults server.new.proxy) →
-        limit < messages_in matching → IsCutShort result }
+    ensures matched { (matching : AreMatching C.meaning (D.told kdc.old) (D.asked kdc.old) client.old server.old) →
+        NothingDisturbs (around_by C.meaning L.log L.edits L.faults D.told D.asked D.faults)
+        (parties client.old server.old link.old kdc.old transcript.old.turns)
+        (parties client.new server.new link.new kdc.new transcript.new.turns) →
+        AnswersIn (messages_in matching) limit (delegated_as client.old.settings.delegation matching.identity) result }
 {
     delegate(alloc, client, server, link, kdc, limit, transcript)
 }

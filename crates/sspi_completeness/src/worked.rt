@@ -5,9 +5,9 @@
 ghost use Rattle.std.specs.Prelude.{◌≡◌, ◌≤◌, ℕ, Some, IfOk, IsSome, codes, nat_lt};
 ghost use Rattle.sspi_names.specs.Name.{parse_name};
 ghost use Rattle.sspi_names.specs.declared.identity.AuthIdentity.{AuthIdentity};
-ghost use Rattle.sspi_completeness.specs.Matching.{delegated_as};
+ghost use Rattle.sspi_credssp.specs.Exchange.{delegated_as, no_identity};
 ghost use Rattle.sspi_completeness.specs.Worked.{Example, Matches};
-ghost use Rattle.sspi_completeness.specs.Answered.{AnswersIn, ann, ann_of_realm, nobody};
+ghost use Rattle.sspi_completeness.specs.Answered.{AnswersIn, ann, ann_of_realm};
 
 mod ends;
 mod parts;
@@ -109,7 +109,7 @@ pub fn by_ntlm_of_old(alloc: Global, limit: u32) -> Result<Delegation, DelegateE
 
 /// Three messages: the same at versions 5 and 6 of a client that keeps its credentials.
 pub fn without_credentials(alloc: Global, limit: u32) -> Result<Delegation, DelegateError>
-    ensures { AnswersIn 3 limit nobody result }
+    ensures { AnswersIn 3 limit no_identity result }
 {
     by_ntlm_at(alloc, CredSspMode::CredentialLess, 5, 6, 5, limit)
 }

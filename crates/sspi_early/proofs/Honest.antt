@@ -22,7 +22,7 @@ use Rattle.sspi_early.specs.Policy.{PolicyMeaning, PolicyCause, is_listed, list_
 use Rattle.sspi_early.proofs.Heard.{never_cut, never_no_result}
 
 pub calm_rose : {A : Type 0} (before now : ℕ) → IsCalm before now → Rose before now → A
-calm_rose before now calm rose = absurd (omega (arith, calm.still, calm.counted, rose))
+calm_rose before now calm rose = absurd (omega (arith, calm.same, calm.counted, rose))
 
 -- ---- the entry that tells the result
 

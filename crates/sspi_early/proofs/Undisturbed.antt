@@ -11,7 +11,7 @@ use Rattle.sspi_delegate.specs.declared.edit.Edit.{Edit}
 use Rattle.sspi_delegate.specs.Causes.{RunEnds}
 use Rattle.sspi_delegate.specs.Link.{Delivers, StaysTold, FollowsTold}
 use Rattle.sspi_tsreq.specs.declared.early.EarlyUserAuthResult.{EarlyUserAuthResult}
-use Rattle.sspi_completeness.specs.Matching.{AreWhole, ComesToOkIn, IsCalm, IsUndisturbed, unedited, shown}
+use Rattle.sspi_completeness.specs.Matching.{AreWhole, ComesToOkIn, IsCalm, IsCutShort, IsUndisturbed, unedited, shown}
 use Rattle.sspi_early.specs.declared.answer.Authorized.{Authorized}
 use Rattle.sspi_early.specs.declared.answer.Early.{Early}
 use Rattle.sspi_early.specs.declared.answer.EarlyError.{EarlyError}
@@ -19,7 +19,7 @@ use Rattle.sspi_early.specs.declared.answer.EarlyError.TheVariants.{Delegate, Po
 use Rattle.sspi_early.specs.declared.policy.PolicyError.{PolicyError}
 use Rattle.sspi_early.specs.declared.policy.PolicyError.TheVariants as decisions
 use Rattle.sspi_early.specs.Authorizes.{Authorizes, Carries, Comes, ComesOf, CountsFault, LinkAt, told_of, carried, uncarried}
-use Rattle.sspi_early.specs.Completes.{ComesToOkEarly, IsHonest}
+use Rattle.sspi_early.specs.Completes.{ComesToOkEarly, IsCutShortEarly, IsHonest}
 use Rattle.sspi_early.specs.Early.{ComesBehind, GoesOn, refusal_of}
 use Rattle.sspi_early.specs.Policy.{PolicyMeaning, PolicyCause}
 use Rattle.sspi_early.proofs.Honest.{calm_rose, honest_carry, honest_told}
@@ -47,7 +47,7 @@ no_fault_counted : (start before now : ℕ) (answer : Result Authorized EarlyErr
     CountsFault before now answer → answer ≡ Err LinkFault → ⊥
 no_fault_counted start before now answer same calm count is =
     let counts : Counts before now = subst (λ (a : Result Authorized EarlyError). CountsFault before now a) is count in
-    omega (arith, same, calm.still, calm.counted, counts)
+    omega (arith, same, calm.same, calm.counted, counts)
 
 delivers_shown : (entry : Carried) (log after : List Carried) → after ≡ entry ∷ log → AreWhole after → Delivers (Some entry.sent) entry
 delivers_shown entry log after is whole = let parts = subst AreWhole is whole in parts.0
@@ -60,7 +60,7 @@ module _ {P : Type 0} (p : PolicyMeaning P) (edits : Option (List Edit)) (log : 
   undisturbed_before identity before after policy policy2 answer authorizes same (unedited none empty) = unedited none empty
   undisturbed_before identity before after policy policy2 answer authorizes same (shown whole calm) =
       shown (whole_before p identity before after policy policy2 answer authorizes whole)
-      (record { still = same; counted = calm.counted })
+      (record { same = same; counted = calm.counted })
 
   undisturbed_carry : (told : EarlyUserAuthResult) (before after : LinkAt) (answer : Result Authorized EarlyError) →
       Carries told before after answer → before.faults ≡ faults → StaysTold edits before.edits log before.log →
@@ -141,3 +141,24 @@ module _ {P : Type 0} (p : PolicyMeaning P) (edits : Option (List Edit)) (log : 
       calm =
       let same = subst (λ (l : L). IsUndisturbed edits log (shows l).log faults (shows l).faults) goes_on.1 undisturbed in
       rw goes_on.0 (refusal_comes messages identity error (comes same))
+
+  refusal_short : (error : DelegateError) → IsCutShort (Err error) → IsCutShortEarly (Err (refusal_of error))
+  refusal_short (errors.Client error) short = short
+  refusal_short (errors.Server error) short = short
+  refusal_short (errors.Read end kind) short = short
+  refusal_short (errors.Write end) short = short
+  refusal_short errors.LinkFault short = short
+  refusal_short errors.TurnsSpent short = short
+  refusal_short errors.InsufficientMemory short = short
+
+  pub early_short : {L : Type 0} (shows : L → LinkAt) (delegated : Result Delegation DelegateError) (link link2 : L) (policy policy2 : P)
+      (result : Result Early EarlyError) (limit : ℕ) (turns : List Turn) →
+      GoesOn shows p delegated link link2 policy policy2 result →
+      RunEnds log faults limit delegated turns (shows link).log (shows link).faults →
+      (IsUndisturbed edits log (shows link).log faults (shows link).faults → IsCutShort delegated) →
+      IsUndisturbed edits log (shows link2).log faults (shows link2).faults → IsCutShortEarly result
+  early_short shows (Ok delegation) link link2 policy policy2 result limit turns goes_on ends short undisturbed =
+      absurd (short (before_behind delegation (shows link) (shows link2) policy policy2 result goes_on ends.0.calm undisturbed))
+  early_short {L = L} shows (Err error) link link2 policy policy2 result limit turns goes_on ends short undisturbed =
+      let same = subst (λ (l : L). IsUndisturbed edits log (shows l).log faults (shows l).faults) goes_on.1 undisturbed in
+      rw goes_on.0 (refusal_short error (short same))

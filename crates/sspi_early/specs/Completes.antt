@@ -1,5 +1,5 @@
 -- What an exchange with its early result comes to, where nothing stands in its way.
-use Rattle.std.specs.Prelude.{◌≡◌, ℕ, Result, Ok, Err}
+use Rattle.std.specs.Prelude.{◌≡◌, ◌<◌, ◌≤◌, ℕ, Result, Ok, Err}
 use Rattle.sspi_names.specs.declared.identity.AuthIdentity.{AuthIdentity}
 use Rattle.sspi_delegate.specs.declared.answer.DelegateError.TheVariants as errors
 use Rattle.sspi_early.specs.declared.answer.Authorized.{Authorized}
@@ -20,6 +20,11 @@ IsCutShortEarly (Ok early) = ⊥
 IsCutShortEarly (Err (Delegate errors.TurnsSpent)) = Unit {0}
 IsCutShortEarly (Err InsufficientMemory) = Unit {0}
 IsCutShortEarly (Err error) = ⊥
+
+-- The first where the client may make as many messages, and else the second.
+pub record AnswersEarlyIn (messages limit : ℕ) (identity : AuthIdentity) (answer : Result Early EarlyError) : Type 0 where
+  pub comes : messages ≤ limit → ComesToOkEarly messages identity answer
+  pub short : limit < messages → IsCutShortEarly answer
 
 -- the client heard what the server told; or there was no memory
 abbrev pub IsHonest : Result Authorized EarlyError → Type 0

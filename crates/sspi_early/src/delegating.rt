@@ -1,9 +1,8 @@
-ghost use Rattle.std.specs.Prelude.{◌≤◌, ◌<◌};
-ghost use Rattle.sspi_completeness.specs.Matching.{AreMatching, IsCalm, IsUndisturbed, NoneFailed, delegated_as, messages_in};
+ghost use Rattle.sspi_completeness.specs.Matching.{AreMatching, IsCalm, NothingDisturbs, messages_in};
+ghost use Rattle.sspi_credssp.specs.Exchange.{delegated_as};
 ghost use Rattle.sspi_credssp.specs.Context.{either};
 ghost use Rattle.sspi_delegate.specs.Delegates.{around_by, parties};
-ghost use Rattle.sspi_delegate.specs.Headline.{IsFresh};
-ghost use Rattle.sspi_early.specs.Completes.{ComesToOkEarly, IsCutShortEarly};
+ghost use Rattle.sspi_early.specs.Completes.{AnswersEarlyIn};
 ghost use Rattle.sspi_early.specs.Authorizes.{link_at};
 ghost use Rattle.sspi_early.specs.Early.{GoesOn, IsEarly};
 ghost use Rattle.sspi_mech.specs.Kerberos.{kerberos_meaning};
@@ -29,9 +28,10 @@ use std::alloc::Global;
 /// - `InsufficientMemory`, that of either.
 ///
 /// Whatever the answer, the ends, the KDC and the transcript are as `delegate` left them, and the log of the link has one entry more
-/// at most. `early` holds of every call, and cites all that `delegate` promises. Matching ends, whose link disturbs nothing, neither
-/// in the delegation nor behind it, and whose proxy and policy do not fail, come to Ok, and the client hears what the server told, or
-/// there was no memory.
+/// at most. `early` holds of every call, and cites all that `delegate` promises. Matching ends that made no call, with a transcript
+/// without turns, whose link disturbs nothing, neither in the delegation nor behind it, and whose proxy and policy do not fail, come
+/// to Ok, and the client hears what the server told, or there was no memory; where `limit` allows the client fewer messages than they
+/// take, the turns are spent, or there was no memory.
 pub fn delegate_early<C: CredentialsProxy, L: Link, D: Kdc, P: Policy>(
     alloc: Global,
     client: &mut CredSspClient<Ntlm, Kerberos>,
@@ -46,17 +46,12 @@ pub fn delegate_early<C: CredentialsProxy, L: Link, D: Kdc, P: Policy>(
         (around_by C.meaning L.log L.edits L.faults D.told D.asked D.faults) P.meaning
         (parties client.old server.old link.old kdc.old transcript.old.turns) limit policy.old result
         (parties client.new server.new link.new kdc.new transcript.new.turns) policy.new }
-    ensures comes { (matching : AreMatching C.meaning (D.told kdc.old) (D.asked kdc.old) client.old server.old) →
-        IsFresh client.old server.old transcript.old.turns →
-        IsUndisturbed (L.edits link.old) (L.log link.old) (L.log link.new) (L.faults link.old) (L.faults link.new) →
-        NoneFailed (C.meaning.told server.old.proxy).failing (C.meaning.faults server.old.proxy) (C.meaning.faults server.new.proxy) →
-        IsCalm (P.meaning.faults policy.old) (P.meaning.faults policy.new) → messages_in matching ≤ limit →
-        ComesToOkEarly (messages_in matching) (delegated_as client.old.settings.delegation matching.identity) result }
-    ensures short { (matching : AreMatching C.meaning (D.told kdc.old) (D.asked kdc.old) client.old server.old) →
-        IsFresh client.old server.old transcript.old.turns →
-        IsUndisturbed (L.edits link.old) (L.log link.old) (L.log link.new) (L.faults link.old) (L.faults link.new) →
-        NoneFailed (C.meaning.told server.old.proxy).failing (C.meaning.faults server.old.proxy) (C.meaning.faults server.new.proxy) →
-        limit < messages_in matching → IsCutShortEarly result }
+    ensures matched { (matching : AreMatching C.meaning (D.told kdc.old) (D.asked kdc.old) client.old server.old) →
+        NothingDisturbs (around_by C.meaning L.log L.edits L.faults D.told D.asked D.faults)
+        (parties client.old server.old link.old kdc.old transcript.old.turns)
+        (parties client.new server.new link.new kdc.new transcript.new.turns) →
+        IsCalm (P.meaning.faults policy.old) (P.meaning.faults policy.new) →
+        AnswersEarlyIn (messages_in matching) limit (delegated_as client.old.settings.delegation matching.identity) result }
 {
     let delegated = delegate_plainly(alloc, client, server, link, kdc, limit, transcript);
     tell_early(link, policy, delegated)

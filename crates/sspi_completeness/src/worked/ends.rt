@@ -2,7 +2,7 @@
 
 ghost use Rattle.std.specs.Prelude.{◌≡◌, ◌∷◌, [], ℕ, Result, Ok, Err, IfOk, IfErr};
 ghost use Rattle.sspi_names.specs.declared.identity.AuthIdentity.{AuthIdentity};
-ghost use Rattle.sspi_completeness.specs.Matching.{delegated_as};
+ghost use Rattle.sspi_credssp.specs.Exchange.{delegated_as};
 ghost use Rattle.sspi_completeness.specs.Worked.{Example, IsClientOf, IsServerOf, Matches};
 ghost use Rattle.sspi_completeness.specs.Answered.{AnswersIn};
 
@@ -123,7 +123,7 @@ trait Runs: Drop {
 
 impl<D: Kdc + Drop> Runs for Ends<Client, Server, D> {
     ghost use Rattle.std.specs.Prelude.{ℕ};
-    ghost use Rattle.sspi_completeness.specs.Matching.{delegated_as};
+    ghost use Rattle.sspi_credssp.specs.Exchange.{delegated_as};
     ghost use Rattle.sspi_completeness.specs.Worked.{Example, IsClientOf, IsServerOf, Matches};
     ghost use Rattle.sspi_completeness.specs.Answered.{AnswersIn};
 

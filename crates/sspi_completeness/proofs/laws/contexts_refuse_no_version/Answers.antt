@@ -18,9 +18,10 @@ returns-clause-plain g c =
     (negotiate_never ntlm_meaning kerberos_meaning ntlm_never kerberos_never 0)
 
 pub returns-clause-negotiation : goal.returns-clause-negotiation
-returns-clause-negotiation g c = λ never. negotiate_never ntlm_meaning g.K.Mechanism.meaning ntlm_never never 0
+returns-clause-negotiation g c = λ requests first second.
+    negotiate_never g.N.Mechanism.meaning g.K.Mechanism.meaning first second requests
 
 pub returns-clause-either : goal.returns-clause-either
-returns-clause-either g c = λ never.
-    either_never 0 ntlm_meaning g.K.Mechanism.meaning DowngradeDetected ntlm_never never
-    (negotiate_never ntlm_meaning g.K.Mechanism.meaning ntlm_never never 0)
+returns-clause-either g c = λ requests first second.
+    either_never requests g.N.Mechanism.meaning g.K.Mechanism.meaning DowngradeDetected first second
+    (negotiate_never g.N.Mechanism.meaning g.K.Mechanism.meaning first second requests)

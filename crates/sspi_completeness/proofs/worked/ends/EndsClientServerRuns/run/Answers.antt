@@ -10,5 +10,4 @@ returns g c x messages client_is server_is matches =
     let fresh = fresh_ends told call messages x ends.client ends.server client_is server_is matches c.new-transcript.ensures in
     let none = none_fails told call messages x ends.client ends.server client_is server_is matches in
     answered told call messages x ends.client ends.server client_is server_is matches c.args.limit c.delegate_plainly.result
-    (λ m enough. c.delegate_plainly.ensures.comes m fresh link none enough)
-    (λ m few. c.delegate_plainly.ensures.short m fresh link none few)
+    (λ m. c.delegate_plainly.ensures.matched m (record { fresh = fresh; link = link; proxy = none }))
