@@ -1,12 +1,13 @@
 ghost use Rattle.std.specs.Prelude.{◌≡◌, ◌≤◌, ◌+◌, ◌↔◌, IsTrue, IfOk, IfErr};
 ghost use Rattle.sspi_audit.specs.Standings.{sealing_after};
 ghost use Rattle.sspi_audit.specs.Verdicts.{Judges};
+ghost use Rattle.sspi_types.specs.Errors.{memory_error};
 
 use crate::standing::Standing;
 use crate::verdict::Verdict;
 use sspi_credssp::Turn;
 use sspi_delegate::Carried;
-use sspi_types::{Error, ErrorKind};
+use sspi_types::Error;
 use std::alloc::Global;
 
 /// Judges recorded turns and the log of the link that carried their messages, the oldest first.
@@ -20,11 +21,11 @@ use std::alloc::Global;
 /// `No` names the first turn at fault. An entry that is missing speaks against neither its own turn nor the next; where nothing
 /// else is wrong, the number of turns says that the entries are too many or too few.
 ///
-/// The only refusal is `InsufficientMemory`. The time is linear in the octets of turns and log, and the memory at most that of one of
-/// their messages.
+/// The only refusal is `InsufficientMemory`, without a status. What no clause says: the time is linear in the octets of turns and log,
+/// and the memory at most that of one of their messages.
 pub fn audit(alloc: Global, turns: &[Turn], log: &[Carried]) -> Result<Verdict, Error>
     ensures judges { IfOk result (Judges turns.now log.now) }
-    ensures only { IfErr result (λ error. error.error_type ≡ ErrorKind.InsufficientMemory) }
+    ensures only { IfErr result (λ error. error ≡ memory_error) }
 {
     let mut standing = Standing::new();
     let mut sealing = None;

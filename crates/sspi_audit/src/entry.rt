@@ -2,6 +2,7 @@
 ghost use Rattle.std.specs.Prelude.{◌≡◌, ◌≤◌, ◌↔◌, length, Some, true, IsTrue, IfErr, IfOk};
 ghost use Rattle.sspi_delegate.specs.Log.{delivery_limit, is_taken, IsEntry, IsRead, IsSent};
 ghost use Rattle.sspi_delegate.specs.Sending.{Encodes};
+ghost use Rattle.sspi_types.specs.Errors.{memory_error};
 
 use sspi_ber::{VecSink, WireKind};
 use sspi_credssp::Turn;
@@ -12,7 +13,7 @@ use std::alloc::Global;
 
 /// The only refusal of an audit.
 pub(crate) fn no_memory() -> Error
-    ensures { result.error_type ≡ ErrorKind.InsufficientMemory }
+    ensures { result ≡ memory_error }
 {
     Error::new(ErrorKind::InsufficientMemory, Reason::Memory)
 }
@@ -20,7 +21,7 @@ pub(crate) fn no_memory() -> Error
 /// The octets begin with this request.
 fn is_read(alloc: Global, octets: &[u8], request: &TsRequest) -> Result<bool, Error>
     ensures read { IfOk result (λ read. IsTrue read ↔ IsRead octets.now request.now) }
-    ensures only { IfErr result (λ error. error.error_type ≡ ErrorKind.InsufficientMemory) }
+    ensures only { IfErr result (λ error. error ≡ memory_error) }
 {
     match TsRequest::from_buffer(alloc, octets) {
         Ok(read) => Ok(&read == request),
@@ -36,7 +37,7 @@ fn is_read(alloc: Global, octets: &[u8], request: &TsRequest) -> Result<bool, Er
 pub(crate) fn gives(alloc: Global, entry: &Carried, request: &TsRequest) -> Result<bool, Error>
     ensures gives { IfOk result (λ given. IsTrue given ↔ (is_taken entry.now ≡ true) × IsRead entry.now.delivered request.now
         × (length entry.now.delivered ≤ delivery_limit)) }
-    ensures only { IfErr result (λ error. error.error_type ≡ ErrorKind.InsufficientMemory) }
+    ensures only { IfErr result (λ error. error ≡ memory_error) }
 {
     let taken = entry.delivered.len();
     if taken > DELIVERY_LIMIT || (taken < DELIVERY_LIMIT && !entry.ended) {
@@ -58,7 +59,7 @@ fn encode(alloc: Global, message: &TsRequest) -> Result<VecSink, WireKind>
 /// The message fits, and these octets are its spelling.
 fn is_sent(alloc: Global, message: &TsRequest, sent: &[u8]) -> Result<bool, Error>
     ensures sent { IfOk result (λ same. IsTrue same ↔ IsSent (Some message.now) sent.now) }
-    ensures only { IfErr result (λ error. error.error_type ≡ ErrorKind.InsufficientMemory) }
+    ensures only { IfErr result (λ error. error ≡ memory_error) }
 {
     match encode(alloc, message) {
         Ok(spelled) => Ok(spelled.written() == sent),
@@ -73,7 +74,7 @@ fn is_sent(alloc: Global, message: &TsRequest, sent: &[u8]) -> Result<bool, Erro
 /// The entry is that of the turn's message.
 pub(crate) fn is_entry(alloc: Global, turn: &Turn, entry: &Carried) -> Result<bool, Error>
     ensures entry { IfOk result (λ is. IsTrue is ↔ IsEntry turn.now entry.now) }
-    ensures only { IfErr result (λ error. error.error_type ≡ ErrorKind.InsufficientMemory) }
+    ensures only { IfErr result (λ error. error ≡ memory_error) }
 {
     if entry.from != turn.end {
         return Ok(false);

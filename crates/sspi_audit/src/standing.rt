@@ -7,6 +7,7 @@ ghost use Rattle.sspi_delegate.specs.Turns.{AllGoOn, GoesOn, next_end};
 ghost use Rattle.sspi_audit.specs.Frames.{client_frame, server_frame, told_by};
 ghost use Rattle.sspi_audit.specs.Shown.{HasLongBlobs, IsGiven, ShownTurn, ShowsTurn};
 ghost use Rattle.sspi_audit.specs.Standings.{client_before, client_note, server_before, server_note, Stands};
+ghost use Rattle.sspi_types.specs.Errors.{memory_error};
 
 use crate::client::shows_client;
 use crate::entry::{gives, is_entry};
@@ -16,7 +17,7 @@ use crate::server::shows_server;
 use sspi_credssp::{CredSspState, End, Outcome, Turn};
 use sspi_delegate::Carried;
 use sspi_tsreq::TsRequest;
-use sspi_types::{Error, ErrorKind, SecurityStatus};
+use sspi_types::{Error, SecurityStatus};
 use std::alloc::Global;
 
 #[derive(Drop)]
@@ -193,7 +194,7 @@ fn has_long_blobs(turn: &Turn) -> bool
 fn is_logged(alloc: Global, place: usize, turn: &Turn, log: &[Carried]) -> Result<bool, Error>
     ensures logged { IfOk result (λ logged. (past : List Turn) → length past ≡ place →
         (IsTrue logged ↔ IsGiven past log.now turn.now.delivered × IfSome (slice_get log.now place) (IsEntry turn.now))) }
-    ensures only { IfErr result (λ error. error.error_type ≡ ErrorKind.InsufficientMemory) }
+    ensures only { IfErr result (λ error. error ≡ memory_error) }
 {
     if is_given(alloc, place, &turn.delivered, log)? {
         is_entered(alloc, place, turn, log)
@@ -209,7 +210,7 @@ fn is_given(
     log: &[Carried],
 ) -> Result<bool, Error>
     ensures given { IfOk result (λ given. (past : List Turn) → length past ≡ place → (IsTrue given ↔ IsGiven past log.now request.now)) }
-    ensures only { IfErr result (λ error. error.error_type ≡ ErrorKind.InsufficientMemory) }
+    ensures only { IfErr result (λ error. error ≡ memory_error) }
 {
     match place.checked_sub(1) {
         None => Ok(request == &TsRequest::default()),
@@ -222,7 +223,7 @@ fn is_given(
 
 fn is_entered(alloc: Global, place: usize, turn: &Turn, log: &[Carried]) -> Result<bool, Error>
     ensures entered { IfOk result (λ entered. IsTrue entered ↔ IfSome (slice_get log.now place) (IsEntry turn.now)) }
-    ensures only { IfErr result (λ error. error.error_type ≡ ErrorKind.InsufficientMemory) }
+    ensures only { IfErr result (λ error. error ≡ memory_error) }
 {
     match log.get(place) {
         None => Ok(true),
@@ -251,7 +252,7 @@ impl Standing {
     ) -> Result<bool, Error>
         ensures judges { IfOk result (λ shown. (past : List Turn) → Stands past self.now → length past ≡ place →
             (IsTrue shown ↔ ShownTurn log.now past turn.now)) }
-        ensures only { IfErr result (λ error. error.error_type ≡ ErrorKind.InsufficientMemory) }
+        ensures only { IfErr result (λ error. error ≡ memory_error) }
     {
         if self.allows(turn) && has_long_blobs(turn) {
             is_logged(alloc, place, turn, log)

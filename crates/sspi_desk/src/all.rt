@@ -1,20 +1,21 @@
 ghost use Rattle.std.specs.Prelude.{◌≡◌, IfErr, IfOk, OnErr};
 ghost use Rattle.sspi_credssp.specs.Context.{either};
 ghost use Rattle.sspi_desk.specs.All.{ServesAll};
+ghost use Rattle.sspi_types.specs.Errors.{memory_error};
 
 use crate::answer::{Call, DeskError, Served};
 use crate::desk::Desk;
 use sspi_credssp::CredentialsProxy;
 use sspi_mech::Mechanism;
-use sspi_types::{Error, ErrorKind};
+use sspi_types::Error;
 use std::alloc::Global;
 
 /// Serves these calls in their order, one answer a call; a call that is not served does not stop the later ones.
 ///
 /// For each session the answers at its calls are those that its server gives alone, whatever calls of others stand between.
 ///
-/// The only refusal is `InsufficientMemory`, which comes before the first call: the desk is then unchanged. Where memory is wanting in
-/// a call, that call has the answer.
+/// The only refusal is `InsufficientMemory`, without a status, which comes before the first call: the desk is then unchanged. Where
+/// memory is wanting in a call, that call has the answer.
 pub fn serve_all<N: Mechanism, K: Mechanism, C: CredentialsProxy>(
     alloc: Global,
     desk: &mut Desk<N, K, C>,
@@ -22,7 +23,7 @@ pub fn serve_all<N: Mechanism, K: Mechanism, C: CredentialsProxy>(
 ) -> Result<Vec<Result<Served, DeskError>>, Error>
     ensures served { IfOk result (λ answers. ServesAll (either N.REQUESTS N.meaning K.meaning) C.meaning calls.now answers.items
         desk.old desk.new) }
-    ensures only { IfErr result (λ error. error.error_type ≡ ErrorKind.InsufficientMemory) }
+    ensures only { IfErr result (λ error. error ≡ memory_error) }
     ensures unchanged { OnErr result (desk.new ≡ desk.old) }
 {
     let mut answers = Vec::with_capacity(alloc, calls.len())?;

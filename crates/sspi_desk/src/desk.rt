@@ -83,7 +83,8 @@ impl<N, K, C> Desk<N, K, C> {
 }
 
 impl<N: Mechanism, K: Mechanism, C: CredentialsProxy> Desk<N, K, C> {
-    /// Keeps a server as a session, whose number is that of the sessions admitted before. No number is used twice.
+    /// Keeps a server as a session, whose number is that of the sessions admitted before. No number is used twice, so fewer than
+    /// 2^64 - 1 may have been admitted before, which `admitted` tells.
     ///
     /// `Full` exactly where `limit` sessions are kept. A refusal hands the server back and changes nothing.
     pub fn admit(&mut self, server: CredSspServer<N, K, C>) -> Result<u64, Turned<N, K, C>>
@@ -116,7 +117,8 @@ impl<N: Mechanism, K: Mechanism, C: CredentialsProxy> Desk<N, K, C> {
     /// `NoSession` exactly where the session is not kept; then nothing changes. Else, each exactly there, want of memory apart:
     /// `Answer` where the server has a message, with its bytes, and `TooLong` where these would pass the limit of all lengths;
     /// `Finished` where the server has the client's credentials; `Unread` where the bytes begin with no request; `Refused` where the
-    /// server refused. A session stays until it is closed, whatever it came to. The time does not grow with the number of sessions.
+    /// server refused. A session stays until it is closed, whatever it came to. What no clause says: the time does not grow with the
+    /// number of sessions.
     pub fn serve(&mut self, session: u64, bytes: &[u8]) -> Result<Served, DeskError>
         ensures { Serves (either N.REQUESTS N.meaning K.meaning) C.meaning session bytes.now result self.old self.new }
     {

@@ -28,13 +28,13 @@ use Rattle.sspi_seats.specs.declared.seat.SeatOutcome.TheVariants as seats
 use Rattle.sspi_seats.specs.Guest.{HasTurned}
 use Rattle.sspi_seats.specs.Messages.{AreServedButLast}
 
--- the newest turn's message is spelled, or it is too long
+-- the newest turn's message is spelled, or it is too long; there may be none
 abbrev pub SpeaksAs : {E : Type 0} → Option TsRequest → Result (Option (List ℕ)) E → Type 0
-SpeaksAs None said = Unit {0}
+SpeaksAs None said = said ≡ Ok None
 SpeaksAs (Some message) said = Spells message said
 
 abbrev pub Speaks : {E : Type 0} → List Turn → Result (Option (List ℕ)) E → Type 0
-Speaks [] said = Unit {0}
+Speaks [] said = said ≡ Ok None
 Speaks (t ∷ past) said = SpeaksAs (message_of t.outcome) said
 
 -- bytes of a server's message: the client's next request, or no request
@@ -52,6 +52,15 @@ IsHeard turns (Err (Unread kind)) heard = heard ≡ Ends (seats.Read Server kind
 IsHeard turns (Err (Refused error text)) heard = heard ≡ Ends (seats.Server error)
 IsHeard turns (Err TooLong) heard = heard ≡ Ends (seats.Write Server)
 IsHeard turns (Err InsufficientMemory) heard = ⊥
+
+-- memory may be wanting for what an answer means, or it was for the answer
+abbrev pub MayLack : Result Served DeskError → Type 0
+MayLack (Ok served) = Unit {0}
+MayLack (Err NoSession) = Unit {0}
+MayLack (Err (Unread kind)) = ⊥
+MayLack (Err (Refused error text)) = ⊥
+MayLack (Err TooLong) = ⊥
+MayLack (Err InsufficientMemory) = Unit {0}
 
 abbrev pub IsRefusal : Error → SeatOutcome → Type 0
 IsRefusal error outcome = (outcome ≡ seats.Client error) × (error.error_type ≢ kinds.InsufficientMemory)

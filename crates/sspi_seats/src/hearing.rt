@@ -1,5 +1,5 @@
-ghost use Rattle.std.specs.Prelude.{IfOk};
-ghost use Rattle.sspi_seats.specs.Hearing.{IsHeard, IsReadAs, IsRefusal, Speaks};
+ghost use Rattle.std.specs.Prelude.{◌≡◌, IfOk, OnErr, MatchResult};
+ghost use Rattle.sspi_seats.specs.Hearing.{IsHeard, IsReadAs, IsRefusal, MayLack, Speaks};
 
 use crate::seat::SeatOutcome;
 use sspi_ber::WireKind;
@@ -32,13 +32,15 @@ pub(crate) fn message(alloc: Global, transcript: &Transcript) -> Result<Option<B
     }
 }
 
-/// What an answer means for a client that has made so many turns. Fails where there was no memory, also for the answer.
+/// What an answer means for a client that has made so many turns. Fails where there was no memory for what is copied, or for the
+/// answer, and where there is no such session.
 pub(crate) fn hear(
     alloc: Global,
     rounds: u32,
     answer: &Result<Served, DeskError>,
 ) -> Result<Heard, AllocError>
-    ensures { IfOk result (λ heard. IsHeard rounds answer.now heard) }
+    ensures heard { IfOk result (λ heard. IsHeard rounds answer.now heard) }
+    ensures lacking { OnErr result (MayLack answer.now) }
 {
     let outcome = match answer {
         Ok(Served::Answer(text)) => return read(alloc, text.as_slice()),
@@ -64,7 +66,7 @@ fn read(alloc: Global, text: &[u8]) -> Result<Heard, AllocError>
 
 /// A client's refusal. Fails where it is want of memory.
 pub(crate) fn refusal(error: Error) -> Result<SeatOutcome, AllocError>
-    ensures { IfOk result (λ outcome. IsRefusal error outcome) }
+    ensures { MatchResult result (λ outcome. IsRefusal error outcome) (λ _. error.error_type ≡ ErrorKind.InsufficientMemory) }
 {
     if error.error_type == ErrorKind::InsufficientMemory {
         Err(AllocError)

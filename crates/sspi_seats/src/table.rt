@@ -54,10 +54,12 @@ impl<N: Mechanism, K: Mechanism, C: CredentialsProxy, D: Kdc + Drop> Table<N, K,
         kdc: D,
         server: CredSspServer<N, K, C>,
     ) -> Result<(), AllocError>
+        // Who is seated, and that there was room.
         ensures seated { let c = either N.REQUESTS N.meaning K.meaning in let k = kdc_calls D.told D.asked D.faults in
             (cames : List (Place (SspiContext N K) C D)) → AreSeated c C.meaning k cames self.old →
             OnOk result (AreSeated c C.meaning k (cames ++ place client kdc server ∷ []) self.new) }
         ensures room { OnOk result (length self.old.desk.kept < self.old.desk.limit) }
+        // What stays.
         ensures full { length self.old.desk.kept ≡ self.old.desk.limit → self.new ≡ self.old }
         ensures err { OnErr result ((self.new.guests.items ≡ self.old.guests.items) × (self.new.desk ≡ self.old.desk)) }
         ensures limit { self.new.desk.limit ≡ self.old.desk.limit }

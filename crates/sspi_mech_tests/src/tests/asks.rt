@@ -31,10 +31,12 @@ pub struct Asks<const TIMES: u32> {
 impl<const TIMES: u32> Asks<TIMES> {
     /// The next question, or none where all are asked.
     fn question(&mut self) -> Result<Option<NetworkRequest>, Error>
+        // What is asked, and what changes.
         ensures asked { IfOk result (λ question. MatchOption question (self.new.waiting ≡ false)
             (λ _. (self.new.left < self.old.left) × (self.new.waiting ≡ true))) }
         ensures fewer { self.new.left ≤ self.old.left }
         ensures rest { self.new ≡ record self.old { left = self.new.left; waiting = self.new.waiting } }
+        // A refusal.
         ensures err { OnErr result (self.new ≡ self.old) }
         ensures codeless { IfErr result (λ error. error.nstatus ≡ None) }
     {
