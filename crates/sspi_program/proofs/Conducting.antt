@@ -1,6 +1,6 @@
 -- What is kept of a scenario, from the record of it up to the source that told it.
 use Rattle.std.proofs.Common.{◌≡◌, ℕ, ◌⊎◌, inl, inr, List, [], Option, None, Some, Result, Ok, refl, sym, ap, subst, ◌∙◌}
-use Rattle.std.specs.Prelude.{IfOk, IfSome, IsSome, IsSomeAnd}
+use Rattle.std.specs.Prelude.{IfOk, IfSome, IsErr, IsSome, IsSomeAnd}
 use Rattle.std.specs.Global.{Vec}
 use Rattle.sspi_scenario.specs.declared.purpose.Purpose.{Purpose}
 use Rattle.sspi_scenario.specs.declared.scenario.Scenario.{Scenario}
@@ -47,9 +47,9 @@ module _ (P : Record → Type 0) (D : Record → ℕ → List ℕ → Type 0) (s
       ((rw kept (has, is, some), record_alone c r made kept), rw kept told)
 
   due_told : {E : Type 0} (told : Result (ℕ × Vec ℕ) E) → IfOk told (λ t. D r t.0 t.1.items) → (status : ℕ) (text : Vec ℕ) →
-      (told ≡ Ok (status, text)) ⊎ ((status ≡ 5) × (text.items ≡ [])) → IsDue (D r) status text.items
+      (told ≡ Ok (status, text)) ⊎ (IsErr told × (status ≡ 5) × (text.items ≡ [])) → IsDue (D r) status text.items
   due_told told given status text (inl e) = inl (subst (λ t. IfOk t (λ (p : ℕ × Vec ℕ). D r p.0 p.1.items)) e given)
-  due_told told given status text (inr h) = inr h
+  due_told told given status text (inr h) = inr (h.1, h.2)
 
   says_with : {E : Type 0} (told : Result (ℕ × Vec ℕ) E) → IfOk told (λ t. D r t.0 t.1.items) → (c : Conducted) (text : Vec ℕ) →
       SaysWith r told (Done c text) → KeepsRecord P (λ s. s ≡ scenario) c × IsDue (KeptDue D c.kept) c.status text.items

@@ -8,7 +8,8 @@ use Rattle.sspi_delegate.specs.declared.answer.DelegateError.{DelegateError}
 use Rattle.sspi_delegate.specs.declared.answer.DelegateError.TheVariants as errors
 use Rattle.sspi_delegate.specs.declared.edit.Edit.{Edit}
 use Rattle.sspi_delegate.specs.Link.{MemoryLinkView, FollowsEdits, FollowsTold}
-use Rattle.sspi_completeness.specs.Matching.{ComesToOkIn, IsCalm, IsCutShort, delegated_as}
+use Rattle.sspi_completeness.specs.Matching.{ComesToOkIn, IsCalm, IsCutShort}
+use Rattle.sspi_credssp.specs.Exchange.{delegated_as}
 use Rattle.sspi_early.specs.declared.answer.Early.{Early}
 use Rattle.sspi_early.specs.declared.answer.EarlyError.{EarlyError}
 use Rattle.sspi_early.specs.declared.answer.EarlyError.TheVariants as early_errors
@@ -25,7 +26,7 @@ use Rattle.sspi_program.specs.Said.{early_status, heard_status, status_of}
 use Rattle.sspi_program.specs.Status.{IsUnlessWrite, EndsAs}
 
 list_calm : (names names2 : List Name) → IsCalm (list_meaning.faults names) (list_meaning.faults names2)
-list_calm names names2 = record { still = refl; counted = lit< tt }
+list_calm names names2 = record { same = refl; counted = lit< tt }
 
 -- the status of the names that are admitted, where this one was delegated
 abbrev status_for : List Name → Name → ℕ

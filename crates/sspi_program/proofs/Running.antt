@@ -33,7 +33,7 @@ use Rattle.sspi_program.specs.Generate.{TallyDue}
 use Rattle.sspi_program.specs.Kept.{nothing, with_status}
 use Rattle.sspi_program.specs.Promises.{Keeps, KeptDue, Due, Does}
 use Rattle.sspi_program.specs.Run.{Outside, IsToldFor, NoneTold, Comes, KeepsOnly, IsReported, WroteLine, WroteOwed}
-use Rattle.sspi_program.specs.Telling.{IsJudged, said_status, Written}
+use Rattle.sspi_program.specs.Telling.{IsJudged, ReadsWell, said_status, Written}
 use Rattle.sspi_program.specs.Said.{heard_status, status_of, report_of, record_due, RecordDue, IsDue}
 use Rattle.sspi_program.specs.Said.{said_text, conducted_as, words_text, read_text}
 use Rattle.sspi_program.specs.Seats.{PlainSeat}
@@ -307,6 +307,20 @@ module _ (command : Option Command) (left : Option (List ℕ)) (before now : ℕ
       (λ (e : status ≡ 5). omega (arith, e, is)) written in
       read_said said comes (sym all.0 ∙ is) all.1
 
+  calm_said : (said : Said) → ReadsWell before now said → said_status said ≤ 2 → now ≡ before
+  calm_said (Done c text) calm small = calm
+  calm_said (NoScenario line) calm small = calm
+  calm_said ReadFault calm small = absurd (omega (arith, small))
+  calm_said OtherWords calm small = calm
+  calm_said NoMemory calm small = calm
+
+  pub status_calm : (said : Said) (status : ℕ) → ReadsWell before now said →
+      Written (said_status said) (said_text said) w w2 f f2 status → status ≤ 2 → now ≡ before
+  status_calm said status calm written small =
+      let all = whole w w2 f f2 (said_status said) (said_text said) status (λ (e : status ≡ 4). omega (arith, e, small))
+      (λ (e : status ≡ 5). omega (arith, e, small)) written in
+      calm_said said calm (omega (arith, all.0, small))
+
 -- a command that is none
 module _ (left : Option (List ℕ)) (before now : ℕ) (w w2 : Option (List ℕ)) (f f2 : ℕ) where
   none_said : (said : Said) (status : ℕ) → Comes None left before now said →
@@ -353,11 +367,13 @@ module _ (before after : Outside) where
   pub owes : (command : Option Command) (said : Said) (c : Conducted) → c ≡ conducted_as c.status said →
       Comes command before.left before.read_faults after.read_faults said →
       Written (said_status said) (said_text said) before.written after.written before.write_faults after.write_faults c.status →
+      (c.status ≡ 4 → said ≢ NoMemory) →
       WroteOwed command before after c
-  owes command said c is comes written = record {
+  owes command said c is comes written told = record {
     said = said;
     owed = comes;
     keeps = is;
+    told = told;
     wrote = front_of before.written after.written before.write_faults after.write_faults (said_status said) (said_text said) c.status
         written;
   }

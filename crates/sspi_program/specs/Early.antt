@@ -6,7 +6,7 @@ use Rattle.sspi_early.specs.declared.answer.EarlyError.{EarlyError}
 use Rattle.sspi_early.specs.Authorizes.{told_of}
 use Rattle.sspi_early.specs.Early.{GoesOn, shown_by}
 use Rattle.sspi_early.specs.Policy.{is_listed, list_meaning}
-use Rattle.sspi_completeness.specs.Matching.{delegated_as}
+use Rattle.sspi_credssp.specs.Exchange.{delegated_as}
 use Rattle.sspi_report.specs.Early.{early_text}
 use Rattle.sspi_scenario.specs.declared.purpose.Purpose.TheVariants as purposes
 use Rattle.sspi_scenario.specs.declared.scenario.Scenario.{Scenario}

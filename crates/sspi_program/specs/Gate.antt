@@ -36,10 +36,10 @@ abbrev pub way_of : List ℕ → Way
 way_of bytes = record { left = Some bytes; read_faults = 0; written = Some []; write_faults = 0 }
 
 -- a relay of these two streams answers this
-pub record Relays (turns : ℕ) (client server : List ℕ) (answer : Result Relayed GateError) : Type 0 where
+pub record Relays (limit : ℕ) (client server : List ℕ) (answer : Result Relayed GateError) : Type 0 where
   pub up : Way
   pub down : Way
-  pub relay : IsRelay turns (way_of client) (way_of server) up down answer
+  pub relay : IsRelay limit (way_of client) (way_of server) up down answer
 
 abbrev pub relayed_status : Result Relayed GateError → ℕ
 relayed_status (Ok relayed) = 0

@@ -6,7 +6,8 @@ use Rattle.sspi_mech.specs.declared.step.Reply.{Reply}
 use Rattle.sspi_mech.specs.PlainKdc.{told_by}
 use Rattle.sspi_delegate.specs.declared.answer.Delegation.{Delegation}
 use Rattle.sspi_delegate.specs.declared.answer.DelegateError.{DelegateError}
-use Rattle.sspi_completeness.specs.Matching.{MatchModes, messages_of, HasEntry, IsShort, key_limit, delegated_as, ComesToOkIn, IsCutShort}
+use Rattle.sspi_completeness.specs.Matching.{MatchModes, messages_of, HasEntry, IsShort, key_limit, ComesToOkIn, IsCutShort}
+use Rattle.sspi_credssp.specs.Exchange.{delegated_as}
 use Rattle.sspi_scenario.specs.declared.scenario.Mode.TheVariants.{Ntlm}
 use Rattle.sspi_scenario.specs.declared.scenario.Scenario.{Scenario}
 use Rattle.sspi_scenario.specs.Scenario.{own_identity}

@@ -1,5 +1,5 @@
 -- What a run comes to, by its command and by what its source and its sink show.
-use Rattle.std.specs.Prelude.{◌≡◌, ℕ, ◌≤◌, List, Option, None, Some, IfSome, IsSome, IsSomeAnd, Ok, Err}
+use Rattle.std.specs.Prelude.{◌≡◌, ◌≢◌, ℕ, ◌≤◌, List, Option, None, Some, IfSome, IsSome, IsSomeAnd, Ok, Err}
 use Rattle.sspi_ber.specs.Outside.{Rose, Wrote, WroteFront}
 use Rattle.sspi_scenario.specs.declared.purpose.Purpose.{Purpose}
 use Rattle.sspi_scenario.specs.declared.scenario.Scenario.{Scenario}
@@ -75,6 +75,8 @@ pub record HasStatus (command : Option Command) (before after : Outside) (status
   pub two : status ≡ 2 → IsSomeAnd (task_in command) (λ task. WroteLine (purpose_of task) before after)
   pub no_scenario : IfSome (task_in command) (λ task.
       IfSome before.left (λ text. (line : ℕ) → scenario_of (purpose_of task) text ≡ Err line → IsUnlessFault 2 status))
+  -- up to 2: no read failed
+  pub read : status ≤ 2 → after.read_faults ≡ before.read_faults
   -- 3: the source failed
   pub three : status ≡ 3 → IsSome (task_in command) × Rose before.read_faults after.read_faults ×
       Wrote before.written after.written read_text
@@ -90,6 +92,8 @@ pub record WroteOwed (command : Option Command) (before after : Outside) (conduc
   pub said : Said
   pub owed : Comes command before.left before.read_faults after.read_faults said
   pub keeps : conducted ≡ conducted_as conducted.status said
+  -- where the sink failed there was a text
+  pub told : conducted.status ≡ 4 → said ≢ NoMemory
   pub wrote : WroteFront before.written after.written (said_text said)
 
 -- what a run promises, whatever its words

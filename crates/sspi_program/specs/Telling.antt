@@ -1,5 +1,5 @@
 -- How a record is told, step by step.
-use Rattle.std.specs.Prelude.{◌≡◌, ℕ, List, Option, None, IsSome, Ok, ◌⊎◌, [], Result, Err}
+use Rattle.std.specs.Prelude.{◌≡◌, ℕ, List, Option, None, IsSome, Ok, ◌⊎◌, [], Result, Err, IsErr}
 use Rattle.std.specs.Global.{Vec}
 use Rattle.sspi_ber.specs.Outside.{Rose, Wrote, WroteFront}
 use Rattle.sspi_scenario.specs.declared.scenario.Scenario.{Scenario}
@@ -26,6 +26,14 @@ IsJudged before after (NoScenario line) = IsReadWhole before after
 IsJudged before after ReadFault = Unit {0}
 IsJudged before after OtherWords = Unit {0}
 IsJudged before after NoMemory = Unit {0}
+
+-- no read failed, but where that is said
+abbrev pub ReadsWell : ℕ → ℕ → Said → Type 0
+ReadsWell before now (Done conducted text) = now ≡ before
+ReadsWell before now (NoScenario line) = now ≡ before
+ReadsWell before now ReadFault = Unit {0}
+ReadsWell before now OtherWords = now ≡ before
+ReadsWell before now NoMemory = now ≡ before
 
 -- what a task makes of a scenario
 abbrev pub Conducts : Task → Scenario → Said → Type 0
@@ -68,7 +76,7 @@ SaysOf kept NoMemory = status_of kept.outcome ≡ None
 -- the record is kept with the status and the text that are told; or, where these had no memory, with none
 abbrev pub IsDoneWith : {E : Type 0} → Record → Result (ℕ × Vec ℕ) E → Said → Type 0
 IsDoneWith kept told (Done conducted text) = (conducted ≡ keeping conducted.status kept) ×
-    ((told ≡ Ok (conducted.status, text)) ⊎ ((conducted.status ≡ 5) × (text.items ≡ [])))
+    ((told ≡ Ok (conducted.status, text)) ⊎ (IsErr told × (conducted.status ≡ 5) × (text.items ≡ [])))
 IsDoneWith kept told (NoScenario line) = ⊥
 IsDoneWith kept told ReadFault = ⊥
 IsDoneWith kept told OtherWords = ⊥
@@ -77,7 +85,7 @@ IsDoneWith kept told NoMemory = ⊥
 -- what is said of a record with the status and the text that are told
 abbrev pub SaysWith : {E : Type 0} → Record → Result (ℕ × Vec ℕ) E → Said → Type 0
 SaysWith kept told (Done conducted text) = (conducted ≡ keeping conducted.status kept) × IsSome (status_of kept.outcome) ×
-    ((told ≡ Ok (conducted.status, text)) ⊎ ((conducted.status ≡ 5) × (text.items ≡ [])))
+    ((told ≡ Ok (conducted.status, text)) ⊎ (IsErr told × (conducted.status ≡ 5) × (text.items ≡ [])))
 SaysWith kept told (NoScenario line) = ⊥
 SaysWith kept told ReadFault = ⊥
 SaysWith kept told OtherWords = ⊥

@@ -1,4 +1,4 @@
-ghost use Rattle.std.specs.Prelude.{◌≡◌, IfOk, IsErr, Ok};
+ghost use Rattle.std.specs.Prelude.{◌≡◌, IfOk, IsErr, OnErr, Ok};
 ghost use Rattle.sspi_credssp.specs.Ends.{IsFreshClient, IsFreshServer};
 ghost use Rattle.sspi_program.specs.Ends.{credentials_in, IsClientOf, IsServerOf, link_in, kdc_in};
 ghost use Rattle.sspi_program.specs.Making.{AreEndsOf};
@@ -43,7 +43,8 @@ pub fn ends_of(alloc: Global, scenario: &Scenario) -> Result<Ends, AllocError>
 
 /// What was made, and what was there before. Generic, as what follows is, since to drop a value of a type parameter is one step.
 pub fn beside<T, A: Drop>(made: Result<T, AllocError>, there: A) -> Result<(T, A), AllocError>
-    ensures { IfOk result (λ both. (made ≡ Ok both.0) × (both.1 ≡ there)) }
+    ensures made { IfOk result (λ both. (made ≡ Ok both.0) × (both.1 ≡ there)) }
+    ensures unmade { OnErr result (IsErr made) }
 {
     Ok((made?, there))
 }

@@ -1,8 +1,8 @@
-ghost use Rattle.std.specs.Prelude.{◌≡◌, ◌+◌, ◌≤◌, None, Some, IfOk, IsSome, string_bytes};
+ghost use Rattle.std.specs.Prelude.{◌≡◌, ◌≢◌, ◌+◌, ◌≤◌, None, Some, IfOk, IsSome, string_bytes};
 ghost use Rattle.sspi_program.specs.Commands.{command_of, task_in};
 ghost use Rattle.sspi_program.specs.Kept.{with_status};
 ghost use Rattle.sspi_program.specs.Run.{outside, Comes, IsRun, EndsRun};
-ghost use Rattle.sspi_program.specs.Telling.{CarriesOut, IsJudged, said_status, Written};
+ghost use Rattle.sspi_program.specs.Telling.{CarriesOut, IsJudged, ReadsWell, said_status, Written};
 ghost use Rattle.sspi_program.specs.Said.{conducted_as, line_text, said_text};
 ghost use Rattle.sspi_scenario.specs.declared.reading.TheConstants.{TEXT_LIMIT};
 ghost use Rattle.sspi_scenario.specs.Reading.{TakesAtMost};
@@ -34,8 +34,8 @@ use std::alloc::{AllocError, Global};
 /// - 5 where memory was wanting: a front of the text, or nothing;
 /// - 6 where the words are others: `error: words`, and the source is not read, as it is not for `gen`.
 ///
-/// Each line ends with LF. The source is read to its end, or to the first byte past `TEXT_LIMIT` and no further. What the ends did
-/// is kept where there were some and memory was not wanting among them, at status 4 and 5 too.
+/// Each line ends with LF. The source is read to its end, or to the first byte past `TEXT_LIMIT` and no further; a call that failed
+/// is not made again. What the ends did is kept where there were some, at status 4 too; at 5 it may be.
 pub fn run<S: Source, W: Sink>(
     alloc: Global,
     words: &[String],
@@ -101,6 +101,7 @@ fn conduct<S: Source>(alloc: Global, words: &[String], source: &mut S) -> Said
     // What was read for it.
     ensures taken { TakesAtMost (TEXT_LIMIT + 1) (S.left source.old) (S.left source.new) }
     ensures faults { S.faults source.old ≤ S.faults source.new }
+    ensures calm { ReadsWell (S.faults source.old) (S.faults source.new) result }
 {
     match command_of(words) {
         Some(Command::Told(task)) => conduct_told(alloc, task, source),
@@ -116,6 +117,7 @@ fn conduct_told<S: Source>(alloc: Global, task: Task, source: &mut S) -> Said
     ensures judged { IsJudged (S.left source.old) (S.left source.new) result }
     ensures taken { TakesAtMost (TEXT_LIMIT + 1) (S.left source.old) (S.left source.new) }
     ensures faults { S.faults source.old ≤ S.faults source.new }
+    ensures calm { ReadsWell (S.faults source.old) (S.faults source.new) result }
 {
     match read_text(alloc, source) {
         Ok(text) => carry_out(alloc, task, &text),
@@ -141,6 +143,7 @@ fn tell<W: Sink>(alloc: Global, sink: &mut W, said: Said) -> Conducted
     ensures kept { result ≡ conducted_as result.status said }
     ensures written { Written (said_status said) (said_text said) (W.written sink.old) (W.written sink.new)
         (W.faults sink.old) (W.faults sink.new) result.status }
+    ensures told { result.status ≡ 4 → said ≢ Said.NoMemory }
     ensures clean { (result.status ≡ 4 → ⊥) → W.faults sink.new ≡ W.faults sink.old }
     ensures faults { W.faults sink.old ≤ W.faults sink.new }
 {

@@ -108,9 +108,9 @@ impl From<AllocError> for ScenarioError {
 }
 
 impl Scenario {
-    /// The scenario of a text, which is UTF-8 of at most `TEXT_LIMIT` bytes. `Line` comes exactly where the text is no
-    /// scenario for this purpose, with the number of its first faulty line; 0 for a text that is too long or is not UTF-8, and
-    /// for one without a faulty line that lacks a key. A line with a key of another purpose is faulty.
+    /// The scenario of a text, which is UTF-8 of at most `TEXT_LIMIT` bytes. Want of memory apart, `Line` comes exactly where the
+    /// text is no scenario for this purpose, with the number of its first faulty line; 0 for a text that is too long or is not UTF-8,
+    /// and for one without a faulty line that lacks a key. A line with a key of another purpose is faulty.
     pub fn parse(alloc: Global, purpose: Purpose, text: &[u8]) -> Result<Scenario, ScenarioError>
         ensures { Parses purpose text.now result }
     {

@@ -1,4 +1,4 @@
-ghost use Rattle.std.specs.Prelude.{◌≡◌, Some, Err, IfOk, OnOk};
+ghost use Rattle.std.specs.Prelude.{◌≡◌, Some, Err, IfOk, IfErr, OnOk};
 ghost use Rattle.sspi_names.specs.Name.{parse_name};
 ghost use Rattle.sspi_scenario.specs.Accounts.{account_of};
 ghost use Rattle.sspi_scenario.specs.Kdcs.{kdc_of};
@@ -74,7 +74,8 @@ impl Values {
         })
     }
 
-    /// Puts what a value of a key tells in its place.
+    /// Puts what a value of a key tells in its place. `Fault` where the value is against the key's grammar, `InsufficientMemory` where
+    /// there is none for it.
     pub fn put(&mut self, alloc: Global, key: Key, value: &str) -> Result<(), LineError>
         ensures { Puts self.old self.new result ((row key).value value.now) }
     {
@@ -170,7 +171,8 @@ fn own_identity(alloc: Global, user: &Username, password: &Text) -> Result<AuthI
 
 /// A value that is there; a fault where there is none.
 fn found<T>(value: Option<T>) -> Result<T, LineError>
-    ensures { Reads result value }
+    ensures reads { Reads result value }
+    ensures fault { IfErr result (λ error. error ≡ LineError.Fault) }
 {
     match value {
         Some(value) => Ok(value),

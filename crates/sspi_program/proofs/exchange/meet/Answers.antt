@@ -12,7 +12,8 @@ use Rattle.sspi_credssp.proofs.ContextLaws.{lawful}
 use Rattle.sspi_tsreq.specs.declared.mode.CredSspMode.{CredSspMode}
 use Rattle.sspi_credssp.specs.Ends.{ClientSettings, ClientView, IsFreshClient, ServerView, IsFreshServer}
 use Rattle.sspi_credssp.specs.Table.{TableView, table_meaning}
-use Rattle.sspi_completeness.specs.Matching.{delegated_as, ComesToOkIn}
+use Rattle.sspi_completeness.specs.Matching.{ComesToOkIn}
+use Rattle.sspi_credssp.specs.Exchange.{delegated_as}
 use Rattle.sspi_completeness.proofs.ThreeTurns.{ok_three}
 use Rattle.sspi_completeness.proofs.PlainSettled.{comes_to_ok, cut_short, settled_plainly}
 use Rattle.sspi_completeness.proofs.Settling.{calm_by, Settled}

@@ -1,6 +1,7 @@
+use Rattle.std.proofs.Common.{None}
 use Rattle.sspi_program.proofs.Ending.{status_no_scenario, status_ends}
-use Rattle.sspi_program.proofs.Running.{keeps_only, status_most, status_whole, status_line, status_read, status_words, status_none}
-use Rattle.sspi_program.proofs.Running.{write_rose, status_reported, owes}
+use Rattle.sspi_program.proofs.Running.{keeps_only, status_most, status_whole, status_line, status_read, status_calm, status_words}
+use Rattle.sspi_program.proofs.Running.{status_none, write_rose, status_reported, owes}
 use Rattle.sspi_program.specs.Run.{outside}
 use Rattle.sspi_program.proofs.run.run.Goals as goal
 
@@ -16,6 +17,7 @@ returns-clause-runs g c =
         whole = status_whole _ _ 0 0 _ _ _ _ _ said _ c.conduct-said.ensures.judged written;
         two = status_line _ _ _ said _ comes written;
         no_scenario = status_no_scenario _ _ _ _ _ _ _ _ said _ comes written;
+        read = status_calm None None _ _ _ _ _ _ said _ c.conduct-said.ensures.calm written;
         three = status_read _ _ _ _ _ _ _ _ said _ comes written;
         four = write_rose _ _ _ _ _ _ _ _ said _ comes written;
         clean = c.tell.ensures.clean;
@@ -28,5 +30,5 @@ returns-clause-runs g c =
           (outside (g.S.Source.left c.conduct-said.new.source) (g.S.Source.faults c.conduct-said.new.source)
           (g.W.Sink.written c.tell.new.sink) (g.W.Sink.faults c.tell.new.sink)) _ said _ _ kept comes written;
       ends = status_ends _ _ _ _ _ _ _ _ _ said comes written;
-      owed = owes _ _ _ said _ kept comes written;
+      owed = owes _ _ _ said _ kept comes written c.tell.ensures.told;
     }
