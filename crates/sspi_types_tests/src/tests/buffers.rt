@@ -1,5 +1,7 @@
 use crate::tests::checks::{given, holds, refusal, told};
-use sspi_types::{BufferType, ErrorKind, SecurityBuffer, SecurityBufferFlags, SecurityBufferType};
+use sspi_types::{
+    BufferType, ErrorKind, Reason, SecurityBuffer, SecurityBufferFlags, SecurityBufferType,
+};
 use std::alloc::Global;
 use std::process::Abort;
 
@@ -35,7 +37,10 @@ fn reads(rt: &impl Abort, number: u32, buffer_type: BufferType, buffer_flags: Se
 fn is_no_type(rt: &impl Abort, number: u32) {
     match SecurityBufferType::try_from(number) {
         Ok(_) => assert!(rt; false, "{number:x}"),
-        Err(error) => assert!(rt; error.error_type == ErrorKind::InternalError),
+        Err(error) => {
+            holds(rt, error.error_type == ErrorKind::InternalError, "kind");
+            holds(rt, error.description == Reason::Number, "reason");
+        }
     }
 }
 
