@@ -10,7 +10,7 @@ use sspi_names::{AuthIdentityBuffers, CredentialsBuffers, KeytabIdentity, Userna
 use sspi_tsreq::{
     CredSspMode, read_ts_credentials, read_ts_credentials_from_slice, write_ts_credentials,
 };
-use sspi_types::{Bytes, Error, ErrorKind, Secret};
+use sspi_types::{Bytes, Error, ErrorKind, Reason, Secret};
 use std::alloc::Global;
 use std::process::Abort;
 
@@ -29,10 +29,11 @@ fn buffers(domain: Utf16Text, user: Utf16Text, password: Utf16Text) -> Credentia
     })
 }
 
-fn kind_of<T: Drop>(answer: Result<T, Error>) -> Option<ErrorKind> {
+/// A call has this refusal.
+fn is_refused<T: Drop>(rt: &impl Abort, answer: Result<T, Error>, refusal: Error, what: &str) {
     match answer {
-        Ok(_) => None,
-        Err(error) => Some(error.error_type),
+        Ok(_) => holds(rt, false, what),
+        Err(error) => holds(rt, error == refusal, what),
     }
 }
 
@@ -130,14 +131,27 @@ fn followed_by_more(rt: HostRuntime) {
     leaves_two(&rt, rt.alloc());
 }
 
-fn refuses(rt: &impl Abort, alloc: Global, text: &[u8], kind: ErrorKind) {
-    let refusal = kind_of(read_ts_credentials(alloc, &mut SliceSource::new(text)));
-    assert!(rt; refusal == Some(kind));
-    let refusal = kind_of(read_ts_credentials_from_slice(alloc, text));
-    assert!(rt; refusal == Some(kind));
+/// Both readers refuse the text as this word says: `form` for a structure that is malformed, `card` for the credentials of a smart card,
+/// `type` for another type or none, and `text` for bytes that are no UTF-16.
+fn refuses(rt: &impl Abort, alloc: Global, text: &[u8], word: &str) {
+    let refusal = refusal_named(rt, word);
+    let read = read_ts_credentials(alloc, &mut SliceSource::new(text));
+    is_refused(rt, read, refusal, word);
+    let read = read_ts_credentials_from_slice(alloc, text);
+    is_refused(rt, read, refusal, word);
 }
 
-/// Texts that are refused, each with the kind. A structure that is malformed is told before its type, and that before its texts.
+fn refusal_named(rt: &impl Abort, word: &str) -> Error {
+    match word {
+        "form" => Error::new(ErrorKind::InvalidToken, Reason::TokenForm),
+        "card" => Error::new(ErrorKind::UnsupportedFunction, Reason::SmartCard),
+        "type" => Error::new(ErrorKind::InvalidToken, Reason::CredType),
+        "text" => Error::new(ErrorKind::InvalidParameter, Reason::Utf),
+        _ => rt.abort(),
+    }
+}
+
+/// Texts that are refused, each with its word. A structure that is malformed is told before its type, and that before its texts.
 const REFUSED: &str = "\
 form
 form 3017a003020101a110040e300ca0020400a1020400a20204
@@ -145,29 +159,20 @@ form 3100
 form 3003a00302
 form 3005a003020102
 card 3009a003020102a1020400
-form 3009a003020103a1020400
-form 3008a0020200a1020400
+type 3009a003020103a1020400
+type 3009a003020100a1020400
+type 3008a0020200a1020400
 form 3009a003020101a1020400
 text 3018a003020101a111040f300da003040144a1020400a2020400
 text 3019a003020101a1120410300ea0020400a104040200d8a2020400
 form 3015a003020101a10e040c300aa0020400a104040200d8";
-
-fn kind_named(rt: &impl Abort, word: &str) -> ErrorKind {
-    match word {
-        "form" => ErrorKind::InvalidToken,
-        "card" => ErrorKind::UnsupportedFunction,
-        "text" => ErrorKind::InvalidParameter,
-        _ => rt.abort(),
-    }
-}
 
 fn refused(rt: &impl Abort, alloc: Global, line: &str) {
     let (word, text) = match line.split_once(' ') {
         Some(parts) => parts,
         None => (line, ""),
     };
-    let text = octets(rt, alloc, text);
-    refuses(rt, alloc, &text, kind_named(rt, word));
+    refuses(rt, alloc, &octets(rt, alloc, text), word);
 }
 
 #[test]
@@ -179,7 +184,7 @@ fn refused_texts(rt: HostRuntime) {
 
 /// Places of the short credentials, and the bytes that each is refused with: another tag; a length that has no form, or that passes
 /// what the structure round it has; one byte too few for what stands inside, where the bytes behind are not taken; and the first byte
-/// of the number, which decides.
+/// of the number, which is then another type.
 const DAMAGES: &str = "\
 0 31
 2 a1
@@ -207,6 +212,9 @@ const DAMAGES: &str = "\
 26 80 83 7f
 6 00 ff";
 
+/// The place of the number that is the type.
+const TYPE: usize = 6;
+
 /// The short credentials with another byte at one place.
 fn damaged(rt: &impl Abort, alloc: Global, at: usize, byte: u8) {
     let mut text = octets(rt, alloc, SHORT);
@@ -217,7 +225,7 @@ fn damaged(rt: &impl Abort, alloc: Global, at: usize, byte: u8) {
         }
         None => rt.abort(),
     }
-    refuses(rt, alloc, &text, ErrorKind::InvalidToken);
+    refuses(rt, alloc, &text, if at == TYPE { "type" } else { "form" });
 }
 
 fn damaged_place(rt: &impl Abort, alloc: Global, line: &str) {
@@ -238,7 +246,7 @@ fn damaged_texts(rt: HostRuntime) {
 fn each_cut_is_refused(rt: &impl Abort, alloc: Global) {
     let text = octets(rt, alloc, SHORT);
     for len in 0..text.len() {
-        refuses(rt, alloc, &text[..len], ErrorKind::InvalidToken);
+        refuses(rt, alloc, &text[..len], "form");
     }
 }
 
@@ -256,8 +264,9 @@ fn keytab(rt: &impl Abort, alloc: Global) -> CredentialsBuffers {
 }
 
 fn no_text(rt: &impl Abort, alloc: Global, credentials: &CredentialsBuffers, mode: CredSspMode) {
-    let refusal = kind_of(write_ts_credentials(alloc, credentials, mode));
-    assert!(rt; refusal == Some(ErrorKind::UnsupportedPreAuth));
+    let written = write_ts_credentials(alloc, credentials, mode);
+    let refusal = Error::new(ErrorKind::UnsupportedPreAuth, Reason::Keytab);
+    is_refused(rt, written, refusal, "key table");
 }
 
 #[test]
@@ -267,15 +276,15 @@ fn a_key_table_has_no_text(rt: HostRuntime) {
     no_text(&rt, rt.alloc(), &keytab, CredSspMode::CredentialLess);
 }
 
-fn length_of(answer: Result<Vec<u8>, Error>) -> Result<usize, ErrorKind> {
+fn length_of(answer: Result<Vec<u8>, Error>) -> Result<usize, Error> {
     match answer {
         Ok(text) => Ok(text.len()),
-        Err(error) => Err(error.error_type),
+        Err(error) => Err(error),
     }
 }
 
 /// A password of so many bytes has a text of that length, or is too long.
-fn has_length(rt: &impl Abort, alloc: Global, bytes: &str, length: Result<usize, ErrorKind>) {
+fn has_length(rt: &impl Abort, alloc: Global, bytes: &str, length: Result<usize, Error>) {
     let password = given(
         rt,
         Utf16Text::from_bytes_le(alloc, &octets(rt, alloc, bytes)),
@@ -293,14 +302,15 @@ fn the_limit(rt: HostRuntime) {
         &rt,
         rt.alloc(),
         "6161*524270",
-        Err(ErrorKind::InternalError),
+        Err(Error::new(ErrorKind::InternalError, Reason::TooLong)),
     );
 }
 
 fn fails_at(rt: &impl Abort, alloc: Global, call: u64) {
     let text = octets(rt, alloc, SHORT);
     let read = read_ts_credentials(alloc, &mut FaultySource::new(&text, call));
-    assert!(rt; kind_of(read) == Some(ErrorKind::InternalError));
+    let refusal = Error::new(ErrorKind::InternalError, Reason::Io);
+    is_refused(rt, read, refusal, "fault");
 }
 
 // A source that fails in the header, or in the content.
