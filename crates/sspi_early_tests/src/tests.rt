@@ -1,5 +1,6 @@
-//! The early result by itself. Behind whole delegations it is tried through the program.
+//! The early result by itself, and behind whole delegations. Through the program more of these are tried.
 
+mod delegated;
 mod faults;
 mod results;
 mod words;

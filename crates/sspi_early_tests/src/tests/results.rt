@@ -114,8 +114,15 @@ fn carried(
     }
 }
 
-/// The one entry is the server's, and sent these digits; so many bytes were taken of it.
-fn told(rt: &impl Abort, alloc: Global, carried: &Carried, sent: &str, taken: &str, ended: bool) {
+/// The entry is the server's, and sent these digits; so many bytes were taken of it.
+pub(crate) fn told(
+    rt: &impl Abort,
+    alloc: Global,
+    carried: &Carried,
+    sent: &str,
+    taken: &str,
+    ended: bool,
+) {
     assert!(rt; carried.from == End::Server);
     assert_eq!(rt; carried.delivered.len(), number(rt, taken));
     assert_eq!(rt; carried.ended, ended);

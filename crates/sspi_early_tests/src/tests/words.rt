@@ -1,7 +1,7 @@
 //! Names, edits and answers in words.
 
 use sspi_ber::WireKind;
-use sspi_delegate::{Edit, EditKind};
+use sspi_delegate::{DelegateError, Edit, EditKind};
 use sspi_early::{Authorized, EarlyError, EarlyUserAuthResult};
 use sspi_names::{AuthIdentity, Username};
 use sspi_types::{Bytes, Secret, Text};
@@ -93,13 +93,14 @@ fn result(rt: &impl Abort, word: &str) -> EarlyUserAuthResult {
     }
 }
 
-/// `TOLD HEARD`, each `success` or `denied`; `eof`, `data`, `link` or `policy`.
+/// `TOLD HEARD`, each `success` or `denied`; `eof`, `data`, `link`, `policy` or `turns`.
 fn answer(rt: &impl Abort, words: &str) -> Answer {
     match words {
         "eof" => Err(EarlyError::Read(WireKind::UnexpectedEof)),
         "data" => Err(EarlyError::Read(WireKind::InvalidData)),
         "link" => Err(EarlyError::LinkFault),
         "policy" => Err(EarlyError::Policy),
+        "turns" => Err(EarlyError::Delegate(DelegateError::TurnsSpent)),
         _ => {
             let (told, heard) = parted(rt, words, " ");
             Ok(Authorized {
