@@ -24,8 +24,7 @@ use Rattle.sspi_mech.specs.Meaning.{Meaning}
 use Rattle.sspi_mech.specs.Ntlm.{ntlm_meaning, ntlm_refusal, absence}
 use Rattle.sspi_mech.specs.NtlmAcquire.{acquired}
 use Rattle.sspi_mech.specs.NtlmClaims.{claim_in, claim_under, claim_of}
-use Rattle.sspi_mech.specs.NtlmIdentities.{key_by, key_at, with_key, identified}
-use Rattle.sspi_mech.specs.NtlmIdentities as ntlm
+use Rattle.sspi_mech.specs.NtlmIdentities.{has_password, key_by, key_at, with_key, identified}
 use Rattle.sspi_mech.specs.Named.{Named}
 use Rattle.sspi_mech.specs.NtlmMessages.{read_challenge, is_negotiate}
 use Rattle.sspi_mech.specs.NtlmStage.{NtlmState, peer_direction, name_at}
@@ -35,7 +34,7 @@ use Rattle.sspi_mech.specs.declared.protection.Direction.{Direction}
 use Rattle.sspi_mech.specs.Protection.{unless_spent, making_refusal, unseal_refusal, verify_refusal}
 use Rattle.sspi_mech.specs.Settings.{Setting}
 use Rattle.sspi_mech.specs.Sum.{in_hand, Both, sum, taking, taken, seen}
-use Rattle.sspi_credssp.specs.Context.{either, made_of, as_sum, of_sum, has_password, NeverRefuses}
+use Rattle.sspi_credssp.specs.Context.{either, made_of, as_sum, of_sum, NeverRefuses}
 use Rattle.sspi_credssp.specs.Peers.{knowing, listed_setting}
 use Rattle.sspi_negotiate.specs.Negotiate.{negotiate}
 use Rattle.sspi_negotiate.specs.New.{NegotiateSetting}
@@ -108,7 +107,7 @@ other_key_at NegotiateSent challenge identities = λ e. absurd (cc (e))
 other_key_at (AuthenticateSent name) challenge identities = λ e. absurd (cc (e))
 other_key_at ChallengeSent challenge identities = λ e. absurd (cc (e))
 other_key_at (Claimed claim) challenge identities =
-    other_claimed (list_any ntlm.has_password identities) _ (other_key_by challenge claim _)
+    other_claimed (list_any has_password identities) _ (other_key_by challenge claim _)
 
 other_with_key : (m : NtlmState) (r : Result (List ℕ) ErrorKind) → IfOther r → IfOther (with_key m r)
 other_with_key m (Ok key) h = tt

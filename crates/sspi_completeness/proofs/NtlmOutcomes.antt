@@ -15,12 +15,11 @@ use Rattle.sspi_mech.specs.declared.ntlm.stage.Claim.{Claim}
 use Rattle.sspi_mech.specs.declared.ntlm.stage.Stage.{Stage}
 use Rattle.sspi_mech.specs.declared.ntlm.stage.Stage.TheVariants.{NegotiateSent, AuthenticateSent, ChallengeSent, Claimed}
 use Rattle.sspi_mech.specs.NtlmAcquire.{acquired}
-use Rattle.sspi_mech.specs.NtlmIdentities.{identified, with_key, key_at}
+use Rattle.sspi_mech.specs.NtlmIdentities.{has_password, identified, with_key, key_at}
 use Rattle.sspi_mech.specs.NtlmMessages.{challenge_message, proof_of, key_of}
 use Rattle.sspi_mech.specs.NtlmStage.{NtlmState, name_at}
 use Rattle.sspi_mech.specs.NtlmSteps.{Goes, client_step, server_step}
 use Rattle.sspi_mech.proofs.Messages.{challenge_is_read}
-use Rattle.sspi_credssp.specs.Context.{has_password}
 use Rattle.sspi_credssp.specs.Proxy.{ProxyTells, AreFound, AreCandidates, candidates_of, entry_of, is_named}
 use Rattle.sspi_credssp.specs.ServerCause.{LookUpRefused, failed, nobody}
 use Rattle.sspi_completeness.specs.Matching.{HasEntry}

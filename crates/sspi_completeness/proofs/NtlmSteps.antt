@@ -1,6 +1,6 @@
 -- The steps of a negotiation that comes to NTLM, evaluated: the mechanism that the client begins with, or one that the server picks in
 -- its place.
-use Rattle.std.proofs.Common.{◌≡◌, ◌==◌, not, ℕ, ◌≤◌, length, map, filter, Bool, true, false, List, [], ◌∷◌, Option, None, Some, Result}
+use Rattle.std.proofs.Common.{◌≡◌, ◌==◌, not, ℕ, ◌≤◌, length, map, Bool, true, false, List, [], ◌∷◌, Option, None, Some, Result}
 use Rattle.std.proofs.Common.{refl, ap, sym, ◌∙◌, arith, if◌then◌else◌}
 use Rattle.std.proofs.lemmas.Bool.{ne_eqb}
 use Rattle.sspi_types.specs.declared.error_kind.ErrorKind.{ErrorKind}
@@ -18,7 +18,6 @@ use Rattle.sspi_mech.specs.declared.protection.Direction.TheVariants.{FromClient
 use Rattle.sspi_mech.specs.Calls.{StepArgs}
 use Rattle.sspi_mech.specs.KerberosMessages.{ticket_request}
 use Rattle.sspi_mech.specs.Ntlm.{ntlm_with}
-use Rattle.sspi_mech.specs.NtlmIdentities as ntlm
 use Rattle.sspi_mech.specs.NtlmMessages.{negotiate_message, challenge_message}
 use Rattle.sspi_mech.specs.NtlmStage.{NtlmState}
 use Rattle.sspi_mech.specs.NtlmSteps.{Outcome}
@@ -44,7 +43,7 @@ use Rattle.sspi_negotiate.specs.declared.state.NegotiateState.TheVariants as sta
 use Rattle.sspi_negotiate.specs.declared.state.Role.TheVariants.{Server}
 use Rattle.sspi_negotiate.specs.Client.{client_at, at_initial, first_step, offers, at_progress, chosen, chooses_ntlm, answers, stepped}
 use Rattle.sspi_negotiate.specs.Client.{at_verify_mic}
-use Rattle.sspi_negotiate.specs.Hand.{Origin, hand_of, has_password as hand_password, in_place_of_kerberos}
+use Rattle.sspi_negotiate.specs.Hand.{Origin, hand_of, in_place_of_kerberos}
 use Rattle.sspi_negotiate.specs.Known.{named}
 use Rattle.sspi_negotiate.specs.New.{packages_in}
 use Rattle.sspi_negotiate.specs.Pick.{pick}
@@ -55,7 +54,6 @@ use Rattle.sspi_negotiate.specs.Server.{spnego_server, reads_list, picks, placed
 use Rattle.sspi_negotiate.specs.Server as server
 use Rattle.sspi_negotiate.specs.Values.{Values}
 use Rattle.sspi_credssp.specs.ClientTurn.{client_args, client_requirements}
-use Rattle.sspi_credssp.specs.Context.{has_password}
 use Rattle.sspi_credssp.specs.Proxy.{candidates_of}
 use Rattle.sspi_credssp.specs.ServerTurn.{server_args}
 use Rattle.sspi_completeness.specs.Matching.{HasEntry}
@@ -272,12 +270,6 @@ module _ (config : NegotiateConfig) (i : AuthIdentity) (is : IsIdentity i) (shor
 
 -- ---- the server
 
--- identities with a password all reach an NTLM in hand
-pub all_have : (found : List AuthIdentity) → filter hand_password (map credentials.AuthIdentity found) ≡ filter has_password
-    (map credentials.AuthIdentity found)
-all_have [] = refl
-all_have (x ∷ found) = ap (λ (l : List Credentials). credentials.AuthIdentity x ∷ l) (all_have found)
-
 module _ (config : NegotiateConfig) (entries : List AuthIdentity) where
   abbrev pub server_values : Protocol → NegotiateState → List (List ℕ) → Values
   server_values protocol state list = record {
@@ -354,8 +346,7 @@ module _ (config : NegotiateConfig) (entries : List AuthIdentity) where
         else Identifies (map credentials.AuthIdentity (e ∷ some.0)) working checked) (hands.Ntlm (claimed i challenge)))
         (some_found e some.0)
         ∙ ap (λ (o : Result NtlmState ErrorKind). on_made (with_ntlm o) (λ n. runs checked n))
-        (ap (ntlm.identified (claimed i challenge)) (all_have (e ∷ some.0))
-        ∙ keyed (claimed i challenge) (e ∷ some.0) entries i challenge has refl refl (sym some.1))
+        (keyed (claimed i challenge) (e ∷ some.0) entries i challenge has refl refl (sym some.1))
         ∙ closes
 
     -- the challenge that comes after a pick without a token

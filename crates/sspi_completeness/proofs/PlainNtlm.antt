@@ -25,7 +25,7 @@ use Rattle.sspi_mech.specs.Context.{IsContext}
 use Rattle.sspi_mech.specs.Meaning.{Meaning}
 use Rattle.sspi_mech.specs.Ntlm.{ntlm_meaning, ntlm_of}
 use Rattle.sspi_mech.specs.NtlmAcquire.{acquired}
-use Rattle.sspi_mech.specs.NtlmIdentities.{identified}
+use Rattle.sspi_mech.specs.NtlmIdentities.{has_password, identified}
 use Rattle.sspi_mech.specs.NtlmMessages.{negotiate_message, challenge_message}
 use Rattle.sspi_mech.specs.NtlmStage.{NtlmState, name_at}
 use Rattle.sspi_mech.specs.NtlmSteps.{Goes, client_step, server_step}
@@ -36,7 +36,7 @@ use Rattle.sspi_credssp.specs.declared.mode.ClientMode.{ClientMode}
 use Rattle.sspi_credssp.specs.declared.mode.ClientMode.TheVariants as client_mode
 use Rattle.sspi_credssp.specs.declared.mode.ServerMode.{ServerMode}
 use Rattle.sspi_credssp.specs.declared.mode.ServerMode.TheVariants as server_mode
-use Rattle.sspi_credssp.specs.Context.{Begun, BeginCause, unmade, unacquired, ContextSetting, ForClient, ForServer, either, has_password}
+use Rattle.sspi_credssp.specs.Context.{Begun, BeginCause, unmade, unacquired, ContextSetting, ForClient, ForServer, either}
 use Rattle.sspi_credssp.specs.Ends.{ClientSettings, ClientView, ServerSettings, ServerView}
 use Rattle.sspi_credssp.specs.Acts.{cleared}
 use Rattle.sspi_credssp.specs.Proxy.{ProxyMeaning, AreFound}

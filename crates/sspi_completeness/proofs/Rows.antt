@@ -10,9 +10,7 @@ use Rattle.sspi_mech.specs.declared.kerberos.stage.Peer.{Peer}
 use Rattle.sspi_mech.specs.declared.ntlm.stage.Stage.TheVariants.{Claimed}
 use Rattle.sspi_mech.specs.Calls.{StepArgs}
 use Rattle.sspi_mech.specs.Kerberos as kerberos
-use Rattle.sspi_mech.specs.Kerberos.{kerberos_with}
 use Rattle.sspi_mech.specs.KerberosStage.{KerberosState}
-use Rattle.sspi_mech.specs.NtlmIdentities as ntlm
 use Rattle.sspi_mech.specs.NtlmStage.{NtlmState}
 use Rattle.sspi_tokens.specs.Oids.{kind_of}
 use Rattle.sspi_negotiate.specs.declared.package_list.PackageListConfig.{PackageListConfig}
@@ -101,8 +99,7 @@ ntlm_knows entries i challenge has (hands.Ntlm z) rest =
     let stage : z.stage ≡ Claimed (claim_by i challenge) = ap (λ (x : NtlmState). x.stage) same in
     let sent : z.challenge ≡ challenge = ap (λ (x : NtlmState). x.challenge) same in
     let key : z.protection.key ≡ Some (key_for i challenge) = ap (λ (x : NtlmState). x.protection.key) same in
-    ap with_ntlm (ap (ntlm.identified z) (by_ntlm.all_have (candidates_of entries i.username))
-    ∙ keyed z (candidates_of entries i.username) entries i challenge has stage sent refl)
+    ap with_ntlm (keyed z (candidates_of entries i.username) entries i challenge has stage sent refl)
     ∙ ap (λ (k : Option (List ℕ)). Ok (hands.Ntlm (record z { protection = record z.protection { key = k } }))) (sym key)
 
 pub kerberos_knows : (entries : List AuthIdentity) (i : AuthIdentity) (has : HasEntry entries i) (admitted : KerberosState) (peer : Peer)

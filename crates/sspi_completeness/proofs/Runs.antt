@@ -28,12 +28,13 @@ use Rattle.sspi_mech.specs.NtlmStage as ntlm_stage
 use Rattle.sspi_mech.specs.NtlmSteps as ntlm_steps
 use Rattle.sspi_mech.specs.Protection.{SignsBy, making_refusal, verify_refusal, mic_of}
 use Rattle.sspi_mech.specs.Settings.{OfKerberos, OfKerberosServer}
+use Rattle.sspi_mech.specs.NtlmIdentities.{has_password}
 use Rattle.sspi_negotiate.specs.declared.protocol.NegotiatedProtocol.{NegotiatedProtocol}
 use Rattle.sspi_negotiate.specs.declared.protocol.NegotiatedProtocol.TheVariants.{Ntlm, Kerberos}
 use Rattle.sspi_negotiate.specs.declared.protocol_config.ProtocolConfig.TheVariants as configs
 use Rattle.sspi_negotiate.specs.Does.{told}
 use Rattle.sspi_negotiate.specs.Follows.{answered, refused, Went, Follows}
-use Rattle.sspi_negotiate.specs.Hand.{Origin, Configured, InPlaceOfNtlm, hand, has_password, kerberos_setting}
+use Rattle.sspi_negotiate.specs.Hand.{Origin, Configured, InPlaceOfNtlm, hand, kerberos_setting}
 use Rattle.sspi_negotiate.specs.Plan.{Plan, Goes, Stops, Takes, Steps, Resumes, Accepts, Pairs, Names, Identifies, Signs, Verifies}
 use Rattle.sspi_negotiate.specs.Values.{Values}
 

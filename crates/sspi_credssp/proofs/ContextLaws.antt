@@ -4,6 +4,7 @@ use Rattle.sspi_mech.specs.Context.{IsContext}
 use Rattle.sspi_mech.specs.Laws.{IsMechanism}
 use Rattle.sspi_mech.specs.Meaning.{Meaning}
 use Rattle.sspi_mech.specs.Settings.{Setting}
+use Rattle.sspi_mech.specs.NtlmIdentities.{has_password}
 use Rattle.sspi_mech.proofs.ContextLaws.{contextual}
 use Rattle.sspi_mech.proofs.SumLaws.{sum_lawful, taking_lawful, seen_lawful}
 use Rattle.sspi_negotiate.specs.declared.protocol.NegotiatedProtocol.{NegotiatedProtocol}
@@ -12,7 +13,7 @@ use Rattle.sspi_negotiate.specs.Values.{Negotiation}
 use Rattle.sspi_negotiate.proofs.NegotiateLaws.{negotiate_lawful}
 use Rattle.sspi_credssp.specs.declared.context.SspiContext.{SspiContext}
 use Rattle.sspi_credssp.specs.declared.context.SspiContext.TheVariants.{Negotiate, Ntlm, Kerberos}
-use Rattle.sspi_credssp.specs.Context.{made_of, as_sum, of_sum, has_password, either}
+use Rattle.sspi_credssp.specs.Context.{made_of, as_sum, of_sum, either}
 use Rattle.sspi_credssp.specs.Peers.{knowing, listed_setting}
 
 there : {N K : Type 0} (m : (N ⊎ K) ⊎ Negotiation (NegotiatedProtocol N K)) → as_sum (of_sum m) ≡ m

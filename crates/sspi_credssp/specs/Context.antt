@@ -1,17 +1,17 @@
 -- What a security context means: what the mechanism or the negotiation in hand means; and how the context of a turn begins.
-use Rattle.std.specs.Prelude.{ℕ, ◌⊎◌, List, filter, take, Option, Bool, true, false, ◌≡◌, ◌≢◌, None, Some, Err}
+use Rattle.std.specs.Prelude.{ℕ, ◌⊎◌, List, filter, take, Option, ◌≡◌, ◌≢◌, None, Some, Err}
 use mathlib.Core.Logic.{inl, inr}
 use Rattle.sspi_types.specs.declared.credential_use.CredentialUse.{CredentialUse}
 use Rattle.sspi_types.specs.declared.error.Error.{Error}
 use Rattle.sspi_types.specs.declared.error_kind.ErrorKind.{ErrorKind}
 use Rattle.sspi_names.specs.declared.credentials.Credentials.{Credentials}
-use Rattle.sspi_names.specs.declared.credentials.Credentials.TheVariants.{AuthIdentity, Keytab}
 use Rattle.sspi_names.specs.declared.credentials.CredentialsBuffers.{CredentialsBuffers}
 use Rattle.sspi_names.specs.declared.identity.AuthIdentity.{AuthIdentity as Identity}
 use Rattle.sspi_mech.specs.declared.step.Answer.TheVariants.{Refused}
 use Rattle.sspi_mech.specs.declared.step.Reply.{Reply}
 use Rattle.sspi_mech.specs.Calls.{StepArgs, AcceptArgs, Call, ToAcquire}
 use Rattle.sspi_mech.specs.Meaning.{Meaning}
+use Rattle.sspi_mech.specs.NtlmIdentities.{has_password}
 use Rattle.sspi_mech.specs.Settings.{Setting, OfNtlm}
 use Rattle.sspi_mech.specs.Sum.{sum, taking, seen}
 use Rattle.sspi_negotiate.specs.declared.protocol.NegotiatedProtocol.{NegotiatedProtocol}
@@ -47,10 +47,6 @@ abbrev pub of_sum : {N K : Type 0} → (N ⊎ K) ⊎ Negotiation (NegotiatedProt
 of_sum (inl (inl m)) = hands.Ntlm m
 of_sum (inl (inr m)) = hands.Kerberos m
 of_sum (inr m) = hands.Negotiate m
-
-abbrev pub has_password : Credentials → Bool
-has_password (AuthIdentity identity) = true
-has_password (Keytab identity) = false
 
 -- NTLM is handed the identities with a password, Kerberos the first identity, and a negotiation all. `requests` is how often
 -- an NTLM asks a KDC at most, which a negotiation may take in the place of a Kerberos.

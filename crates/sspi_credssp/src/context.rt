@@ -1,11 +1,11 @@
 ghost use Rattle.std.specs.Prelude.{List, [], ◌∷◌, Option, ◌≡◌, ◌≢◌, ◌-◌, true, false, IsTrue, IsErr, IfOk, IfErr, OnOk, OnErr};
-ghost use Rattle.std.specs.Prelude.{option_copied, filter, take};
+ghost use Rattle.std.specs.Prelude.{option_copied};
 ghost use Rattle.sspi_mech.specs.Calls.{step_args, accept_args, no_counts, one_sealing, one_unsealing};
 ghost use Rattle.sspi_mech.specs.Calls.{ToAcquire, ToName, ToIdentify, ToComplete, ToSeal, ToUnseal};
 ghost use Rattle.sspi_mech.specs.Answers.{answer_of};
 ghost use Rattle.sspi_names.specs.declared.identity.AuthIdentity.{AuthIdentity};
 ghost use Rattle.sspi_credssp.specs.Refusal.{IsRefusedBy};
-ghost use Rattle.sspi_credssp.specs.Context.{either, has_password, ForClient, ForServer};
+ghost use Rattle.sspi_credssp.specs.Context.{either, ForClient, ForServer};
 ghost use Rattle.sspi_credssp.specs.ServerStage.{IsListed};
 ghost use Rattle.sspi_mech.specs.Context.{IsContext};
 ghost use Rattle.sspi_mech.specs.Calls.{IsUnused};
@@ -15,7 +15,7 @@ ghost use Rattle.sspi_credssp.specs.PackageName.{package_name_of, protocol_of};
 use crate::mode::{ClientMode, ServerMode};
 use sspi_mech::{
     AcceptSecurityContext, InitializeSecurityContext, MechConfig, Mechanism, Progressing, Reply,
-    Step,
+    Step, first_of, with_passwords,
 };
 use sspi_names::{AuthIdentity, ContextNames, Credentials, CredentialsBuffers};
 use sspi_negotiate::Negotiate;
@@ -26,8 +26,9 @@ use std::slice::from_ref;
 /// A security context by one of two mechanisms, which need not be those that the variants are named after, or by a negotiation
 /// that agrees on one of them.
 ///
-/// Its calls answer what the mechanism in hand answers. A refusal has no NTSTATUS code; want of memory may come at any time,
-/// and each other kind only where the mechanism's `refuses` says so.
+/// Its calls answer what the mechanism in hand answers. A refusal has no NTSTATUS code, and want of memory may come wherever a
+/// call takes memory. What a step refuses its relation says; another call refuses, where its text names no kind of its own, as
+/// the mechanism's `refuses` says. The kinds that are told of the plain mechanisms are theirs alone.
 #[derive(Drop)]
 pub enum SspiContext<N, K> {
     /// The negotiation of a mechanism (SPNEGO).
@@ -36,22 +37,6 @@ pub enum SspiContext<N, K> {
     Ntlm(N),
     /// The mechanism of Kerberos.
     Kerberos(K),
-}
-
-fn with_passwords(identities: Vec<Credentials>) -> Vec<Credentials>
-    ensures { result.items ≡ filter has_password identities.items }
-{
-    let mut identities = identities;
-    identities.retain(|identity| matches!(identity, Credentials::AuthIdentity(_)));
-    identities
-}
-
-fn first_of(identities: Vec<Credentials>) -> Vec<Credentials>
-    ensures { result.items ≡ take 1 identities.items }
-{
-    let mut identities = identities;
-    identities.truncate(1);
-    identities
 }
 
 impl<N: Mechanism, K: Mechanism> SspiContext<N, K> {
@@ -98,7 +83,7 @@ impl<N: Mechanism, K: Mechanism> SspiContext<N, K> {
         }
     }
 
-    /// The name of the package in hand.
+    /// The name of the context's package: of a negotiation `Negotiate`, whatever mechanism it has in hand.
     pub fn package_name(&self) -> &'static str
         ensures { result.now ≡ package_name_of self.now }
     {
@@ -198,7 +183,8 @@ impl<N: Mechanism, K: Mechanism> SspiContext<N, K> {
         }
     }
 
-    /// The name that was authenticated: on a server the peer's, on a client its own. `OutOfSequence` before it is known.
+    /// The name that was authenticated: on a server the peer's, on a client its own. With the plain mechanisms `OutOfSequence`
+    /// before it is known.
     pub fn query_context_names(&self) -> Result<ContextNames, Error>
         ensures named { IfOk result (λ names. (either N.REQUESTS N.meaning K.meaning).names self.now ≡ Some names.username) }
         ensures cause { IsRefusedBy result ((either N.REQUESTS N.meaning K.meaning).refuses self.now ToName) }
@@ -261,7 +247,7 @@ impl<N: Mechanism, K: Mechanism> SspiContext<N, K> {
         }
     }
 
-    /// Completes the authentication (CompleteAuthToken). `OutOfSequence` before there is a key.
+    /// Completes the authentication (CompleteAuthToken). With the plain mechanisms `OutOfSequence` before there is a key.
     pub fn complete_auth_token(&mut self) -> Result<SecurityStatus, Error>
         ensures same { self.new ≡ self.old }
         ensures keyed { IsTrue ((either N.REQUESTS N.meaning K.meaning).keyed self.old) → result ≡ Ok SecurityStatus.Ok }
@@ -277,7 +263,7 @@ impl<N: Mechanism, K: Mechanism> SspiContext<N, K> {
 
     /// Seals a text for the peer, as the next of its messages: a blob of at least 16 bytes.
     ///
-    /// `OutOfSequence` before there is a key, `ContextExpired` once all numbers of messages are used.
+    /// With the plain mechanisms `OutOfSequence` before there is a key, `ContextExpired` once all numbers of messages are used.
     pub fn seal(&mut self, text: &[u8]) -> Result<Vec<u8>, Error>
         // What `Ok` holds.
         ensures blob { let c = either N.REQUESTS N.meaning K.meaning in
@@ -301,8 +287,8 @@ impl<N: Mechanism, K: Mechanism> SspiContext<N, K> {
 
     /// Opens what the peer sealed, as the next of its messages.
     ///
-    /// `OutOfSequence` before there is a key, `ContextExpired` once all numbers of messages are used, `InvalidToken` for a
-    /// blob of under 16 bytes, and `MessageAltered` for one that the peer did not seal as this message.
+    /// With the plain mechanisms `OutOfSequence` before there is a key, `ContextExpired` once all numbers of messages are used,
+    /// `InvalidToken` for a blob of under 16 bytes, and `MessageAltered` for one that the peer did not seal as this message.
     pub fn unseal(&mut self, blob: &[u8]) -> Result<Vec<u8>, Error>
         // What `Ok` holds.
         ensures text { let c = either N.REQUESTS N.meaning K.meaning in

@@ -7,6 +7,7 @@
 //!   `specs/Ntlm.antt` says exactly what each of its calls answers, and `ntlm::laws` what follows for two ends.
 //! - `Kerberos`: plain Kerberos, made for this port, with the roles of RFC 4120 and of user-to-user authentication, and SHA-256.
 //!   `specs/Kerberos.antt` says exactly what each of its calls answers, and `kerberos::laws` what follows for two ends.
+//! - `with_passwords`, `first_of`: which of the identities that a server is told each of them takes.
 //! - `Refusal`: what the calls behind a mechanism or a negotiation refuse with. It has no NTSTATUS code, and is an `Error` to
 //!   their callers.
 //! - `Kdc`: where a client's requests go. `PlainKdc` gives keys to its users, as `specs/PlainKdc.antt` says; `FailingKdc`
@@ -18,6 +19,7 @@
 
 pub mod args;
 pub mod config;
+pub mod identities;
 pub mod kdc;
 pub mod kerberos;
 pub mod laws;
@@ -31,6 +33,7 @@ pub mod step;
 
 pub use args::{AcceptSecurityContext, InitializeSecurityContext};
 pub use config::{KerberosConfig, KerberosServerConfig, MechConfig, NtlmConfig};
+pub use identities::{first_of, with_passwords};
 pub use kdc::{FailingKdc, Kdc, KdcError};
 pub use kerberos::Kerberos;
 pub use mechanism::{Mechanism, mechanism_is_context};

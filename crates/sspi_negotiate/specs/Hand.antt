@@ -1,10 +1,9 @@
 -- The mechanism in hand, as one meaning: an NTLM of type N or a Kerberos of type K.
 use Rattle.std.specs.Prelude.{ℕ, ◌+◌, List, ◌⊎◌, Option, Some, filter, take, replicate, Bool, true, false}
 use mathlib.Core.Logic.{inl, inr}
-use Rattle.sspi_names.specs.declared.credentials.Credentials.{Credentials}
-use Rattle.sspi_names.specs.declared.credentials.Credentials.TheVariants.{AuthIdentity, Keytab}
 use Rattle.sspi_names.specs.declared.kdc_table.KdcEntry.{KdcEntry}
 use Rattle.sspi_mech.specs.Meaning.{Meaning}
+use Rattle.sspi_mech.specs.NtlmIdentities.{has_password}
 use Rattle.sspi_mech.specs.Settings.{Setting, OfNtlm, OfKerberos, OfKerberosServer}
 use Rattle.sspi_mech.specs.Sum.{sum, taking, seen}
 use Rattle.sspi_negotiate.specs.declared.protocol.NegotiatedProtocol.{NegotiatedProtocol}
@@ -41,10 +40,6 @@ as_sum (hands.Kerberos m) = inr m
 abbrev pub of_sum : {N K : Type 0} → N ⊎ K → NegotiatedProtocol N K
 of_sum (inl m) = hands.Ntlm m
 of_sum (inr m) = hands.Kerberos m
-
-abbrev pub has_password : Credentials → Bool
-has_password (AuthIdentity identity) = true
-has_password (Keytab identity) = false
 
 -- NTLM takes the identities with a password, Kerberos the first identity
 abbrev pub hand : {N K : Type 0} → Meaning Setting N → Meaning Setting K → Meaning Origin (NegotiatedProtocol N K)

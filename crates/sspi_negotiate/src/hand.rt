@@ -1,6 +1,6 @@
 // The calls of the mechanism in hand.
 ghost use Rattle.std.specs.Prelude.{◌≡◌, ◌≢◌, ◌<◌, IsTrue, IfOk, IfErr};
-ghost use Rattle.std.specs.Prelude.{OnOk, OnErr, Some, None, option_copied, filter, take};
+ghost use Rattle.std.specs.Prelude.{OnOk, OnErr, Some, None, option_copied};
 ghost use Rattle.sspi_types.specs.Errors.{memory_error};
 ghost use Rattle.sspi_mech.specs.Answers.{IfRefused};
 ghost use Rattle.sspi_mech.specs.Calls.{step_args, accept_args, no_counts, one_sealing, one_unsealing, one_signing, one_verification};
@@ -9,35 +9,17 @@ ghost use Rattle.sspi_mech.specs.Calls.{IsUnused};
 ghost use Rattle.sspi_mech.specs.Refusals.{refusal_of};
 ghost use Rattle.sspi_mech.specs.Answered.{answered};
 ghost use Rattle.sspi_negotiate.specs.declared.protocol.Protocol.TheVariants as protocols;
-ghost use Rattle.sspi_negotiate.specs.Hand.{InPlaceOfNtlm, in_place_of_kerberos, hand, hand_of, has_password, asks_left};
+ghost use Rattle.sspi_negotiate.specs.Hand.{InPlaceOfNtlm, in_place_of_kerberos, hand, hand_of, asks_left};
 ghost use Rattle.sspi_negotiate.specs.Verified.{HasNoMic};
 
 use crate::protocol::NegotiatedProtocol;
 use sspi_mech::{
     AcceptSecurityContext, Answer, InitializeSecurityContext, KerberosConfig, MechConfig,
-    Mechanism, NtlmConfig, Refusal, Reply, Step,
+    Mechanism, NtlmConfig, Refusal, Reply, Step, first_of, with_passwords,
 };
 use sspi_names::{Credentials, CredentialsBuffers, KdcTable, Username};
-use sspi_types::{
-    ContextSizes, CredentialUse, Error, ErrorKind, PackageInfo, SecurityStatus, SessionKeys, Text,
-};
+use sspi_types::{CredentialUse, Error, ErrorKind, SecurityStatus, Text};
 use std::alloc::{AllocError, Global};
-
-fn with_passwords(identities: Vec<Credentials>) -> Vec<Credentials>
-    ensures { result.items ≡ filter has_password identities.items }
-{
-    let mut identities = identities;
-    identities.retain(|identity| matches!(identity, Credentials::AuthIdentity(_)));
-    identities
-}
-
-fn first_of(identities: Vec<Credentials>) -> Vec<Credentials>
-    ensures { result.items ≡ take 1 identities.items }
-{
-    let mut identities = identities;
-    identities.truncate(1);
-    identities
-}
 
 fn kerberos_config(
     alloc: Global,
@@ -259,8 +241,8 @@ impl<N: Mechanism, K: Mechanism> NegotiatedProtocol<N, K> {
         }
     }
 
-    /// The MIC of a text for the peer, as the next of its MICs (MakeSignature). `OutOfSequence` before there is a key,
-    /// `ContextExpired` once all numbers of MICs are used.
+    /// The MIC of a text for the peer, as the next of its MICs (MakeSignature). With the plain mechanisms `OutOfSequence`
+    /// before there is a key, `ContextExpired` once all numbers of MICs are used.
     pub fn generate_mic_token(&mut self, text: &[u8]) -> Result<Vec<u8>, Error>
         // What `Ok` holds, and that the mechanism is the same.
         ensures mic { let c = hand N.meaning K.meaning in
@@ -281,8 +263,9 @@ impl<N: Mechanism, K: Mechanism> NegotiatedProtocol<N, K> {
         }
     }
 
-    /// Whether `token` is the MIC that the peer made of `text` as the next of its MICs (VerifySignature): `Ok`, or
-    /// `MessageAltered`, also where it has another length. `OutOfSequence` and `ContextExpired` as `generate_mic_token`.
+    /// Whether `token` is the MIC that the peer made of `text` as the next of its MICs (VerifySignature). With the plain
+    /// mechanisms `MessageAltered` where it is not, also where it has another length; `OutOfSequence` and `ContextExpired` as
+    /// `generate_mic_token`.
     pub fn verify_mic_token(&mut self, token: &[u8], text: &[u8]) -> Result<(), Error>
         // What `Ok` holds, and that the mechanism is the same.
         ensures mic { let c = hand N.meaning K.meaning in

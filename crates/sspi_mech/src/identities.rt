@@ -1,0 +1,23 @@
+//! Which of the identities that a server is told a mechanism takes.
+ghost use Rattle.std.specs.Prelude.{◌≡◌, filter, take};
+ghost use Rattle.sspi_mech.specs.NtlmIdentities.{has_password};
+
+use sspi_names::Credentials;
+
+/// Those that NTLM takes: each with a password, in their order.
+pub fn with_passwords(identities: Vec<Credentials>) -> Vec<Credentials>
+    ensures { result.items ≡ filter has_password identities.items }
+{
+    let mut identities = identities;
+    identities.retain(|identity| matches!(identity, Credentials::AuthIdentity(_)));
+    identities
+}
+
+/// Those that Kerberos takes: the first, where there is one.
+pub fn first_of(identities: Vec<Credentials>) -> Vec<Credentials>
+    ensures { result.items ≡ take 1 identities.items }
+{
+    let mut identities = identities;
+    identities.truncate(1);
+    identities
+}
