@@ -22,6 +22,7 @@ use Rattle.sspi_mech.specs.Calls.{ToVerify, ToDescribe, ToShowKey}
 use Rattle.sspi_mech.specs.Meaning.{Meaning}
 use Rattle.sspi_mech.specs.Settings.{Setting}
 use Rattle.sspi_mech.specs.Sum.{sum, taking}
+use Rattle.sspi_mech.specs.NtlmIdentities.{has_password}
 use Rattle.sspi_tokens.specs.declared.neg_result.NegResult.{NegResult}
 use Rattle.sspi_tokens.specs.declared.neg_token_init.NegTokenInit.{NegTokenInit}
 use Rattle.sspi_tokens.specs.declared.neg_token_targ.NegTokenTarg.{NegTokenTarg}
@@ -53,7 +54,7 @@ use Rattle.sspi_negotiate.specs.Client as client
 use Rattle.sspi_negotiate.specs.Does.{Does}
 use Rattle.sspi_negotiate.specs.Fallback.{is_fallback}
 use Rattle.sspi_negotiate.specs.Follows.{Asked, answered, refused, Went, Follows}
-use Rattle.sspi_negotiate.specs.Hand.{Origin, Configured, configured, hand, hand_of, is_kerberos_hand, as_sum, of_sum, has_password}
+use Rattle.sspi_negotiate.specs.Hand.{Origin, Configured, configured, hand, hand_of, is_kerberos_hand, as_sum, of_sum}
 use Rattle.sspi_negotiate.specs.Known.{named}
 use Rattle.sspi_negotiate.specs.Negotiate.{negotiate}
 use Rattle.sspi_negotiate.specs.New.{NegotiateSetting, ForClient, ForServer, packages_in, without_ntlm, without_kerberos, first_by}
@@ -172,9 +173,9 @@ spares_checks mic v rest h =
     λ name. spares_if (length (map AuthIdentity (named name v.known)) == 0) _ _ other_nobody
     (spares_verifies mic (spelled_list v.list) v rest h)
 
-spares_completes : (v : Values) (token : List ℕ) (mic : Option (List ℕ)) → Spares (completes v token mic)
+spares_completes : (v : Values) (token : List ℕ) (need : Bool) → Spares (completes v token need)
 unfolding completes
-spares_completes v token mic = spares_writes _ v _ _
+spares_completes v token need = spares_writes _ v _ _
 
 spares_signs : (o : Option (List ℕ)) (v : Values) (rest : List ℕ → Plan) → ((mic : List ℕ) → Spares (rest mic)) →
     Spares (signs_text o v rest)
@@ -214,7 +215,7 @@ spares_verified false v token = spares_signed _ states.Ok _ v token
 
 spares_unprotected : (complete : Bool) (v : Values) (token : List ℕ) → Spares (client.unprotected complete v token)
 spares_unprotected true v token = tt
-spares_unprotected false v token = spares_completes v token None
+spares_unprotected false v token = spares_completes v token v.need
 
 spares_settled : (need : Bool) (mic : Option (List ℕ)) (complete : Bool) (v : Values) (token : List ℕ) →
     Spares (client.settles need mic complete v token)
@@ -344,12 +345,12 @@ spares_accepts_first (Some token) v args = spares_list token.mech_types token.me
 
 spares_without : (complete : Bool) (v : Values) (token : List ℕ) → Spares (server.without_mic complete v token)
 unfolding server.without_mic
-spares_without true v token = λ name. spares_if (is_guest_text (inner_of name)) _ _ (spares_completes _ token None) other_token
+spares_without true v token = λ name. spares_if (is_guest_text (inner_of name)) _ _ (spares_completes v token false) other_token
 spares_without false v token = spares_signed _ states.VerifyMic _ v token
 
 spares_settles : (need : Bool) (mic : Option (List ℕ)) (complete : Bool) (v : Values) (token : List ℕ) →
     Spares (server.settles need mic complete v token)
-spares_settles false mic complete v token = spares_completes v token None
+spares_settles false mic complete v token = spares_completes v token v.need
 spares_settles true (Some mic) complete v token = spares_checks mic v _ (spares_signed _ states.Ok _ v token)
 spares_settles true None complete v token = spares_without complete v token
 

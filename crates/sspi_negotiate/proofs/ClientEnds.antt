@@ -85,7 +85,7 @@ module _ (R : Answer → Values → Type 0) (Good : Values → Type 0) (AtFirst 
 
   unprotected_ends : (complete : Bool) (v : Values) (token : List ℕ) → Good v → AllEnds R (unprotected complete v token)
   unprotected_ends true v token g = ended v _ g
-  unprotected_ends false v token g = completes_ends R v token None (stops_at v g) (λ state step. keep.done _ step (keep.state v state g))
+  unprotected_ends false v token g = completes_ends R v token v.need (stops_at v g) (λ state step. keep.done _ step (keep.state v state g))
 
   settles_ends : (need : Bool) (mic : Option (List ℕ)) (complete : Bool) (v : Values) (token : List ℕ) → Good v →
       AllEnds R (settles need mic complete v token)
@@ -100,7 +100,7 @@ module _ (R : Answer → Values → Type 0) (Good : Values → Type 0) (AtFirst 
       (settles_ends v.need token.mech_list_mic (is_complete token.neg_result) v step.output g)
       (carries_on_ends R v step.output step.status (stops_at v g) (λ made. keep.done v made g))
 
-  answers_ends : (token : NegTokenTarg) (v : Values) (args : StepArgs) → Good v → AllEnds R (answers token v args)
+  pub answers_ends : (token : NegTokenTarg) (v : Values) (args : StepArgs) → Good v → AllEnds R (answers token v args)
   unfolding answers
   answers_ends token v args g = (λ q. keep.answering v token q g, λ step. stepped_ends token v step g, λ kind error. keep.stop v error g)
 

@@ -1,5 +1,6 @@
 pub mod Acquiring
 pub mod Asks
+pub mod Choosing
 pub mod ClientEnds
 pub mod Colons
 pub mod Ends

@@ -12,8 +12,8 @@ use Rattle.sspi_mech.specs.Meaning.{Meaning}
 use Rattle.sspi_mech.specs.Settings.{Setting}
 use Rattle.sspi_negotiate.specs.declared.protocol.NegotiatedProtocol.{NegotiatedProtocol}
 use Rattle.sspi_negotiate.specs.declared.state.NegotiateState.TheVariants as states
-use Rattle.sspi_negotiate.specs.Client.{spnego_client, spnego_resumed}
-use Rattle.sspi_negotiate.specs.Does.{Does, Stays, StaysPicked, StaysUnmarked, StaysUnused, told}
+use Rattle.sspi_negotiate.specs.Client.{is_guest, spnego_client, spnego_resumed}
+use Rattle.sspi_negotiate.specs.Does.{Does, Stays, StaysNeeded, StaysPicked, StaysUnmarked, StaysUnused, told}
 use Rattle.sspi_negotiate.specs.Hand.{asks_left}
 use Rattle.sspi_negotiate.specs.Keeps.{is_answering}
 use Rattle.sspi_negotiate.specs.Negotiate.{Moves, ClientMoves, ServerMoves}
@@ -34,29 +34,42 @@ answered_stays P (Err error) stays = stays
 module _ {N K : Type 0} (n : Meaning Setting N) (k : Meaning Setting K) (s : Negotiation (NegotiatedProtocol N K)) where
   pub accept_moves : (args : AcceptArgs) (result : Result Step Error) (s2 : Negotiation (NegotiatedProtocol N K)) →
       Does n k (spnego_server (values_of s) args) s (told result) s2 → OnErr result (Stays (values_of s) (values_of s2)) →
-      StaysUnused n k s s2 → (s.state ≡ states.Initial → StaysUnmarked n k s s2) →
+      OnErr result (s2.need ≡ s.need) → StaysUnused n k s s2 → (s.state ≡ states.Initial → StaysUnmarked n k s s2) →
       (s.state ≢ states.Initial → StaysPicked (values_of s) (values_of s2)) → ServerMoves n k s args result s2
-  accept_moves args result s2 follows stays unused unmarked picked = record {
-    moves = record { follows = follows; stays = told_stays _ result stays; unused = unused; unmarked = unmarked };
+  accept_moves args result s2 follows stays need unused unmarked picked = record {
+    moves = record { follows = follows; stays = told_stays _ result stays; unused = unused; unmarked = unmarked; protected = need };
     picked = picked;
   }
 
   pub client_moves : (args : StepArgs) (result : Result Progressing Error) (s2 : Negotiation (NegotiatedProtocol N K)) (ip : Bool) →
       (IsTrue ip ↔ IsNamedByIp args.target) → Does n k (spnego_client ip (values_of s) args) s (answer_of result) s2 →
       OnErr result (Stays (values_of s) (values_of s2)) → StaysUnused n k s s2 →
-      (s.state ≡ states.Initial → StaysUnmarked n k s s2) → ClientMoves n k s args (answer_of result) s2
-  client_moves args result s2 ip is follows stays unused unmarked = record {
+      (s.state ≡ states.Initial → StaysUnmarked n k s s2) →
+      (s.state ≢ states.Initial → StaysNeeded (is_guest args.handle) (values_of s) (values_of s2)) →
+      ClientMoves n k s args (answer_of result) s2
+  client_moves args result s2 ip is follows stays unused unmarked need = record {
     ip = ip;
     ip_is = is;
-    moves = record { follows = follows; stays = answered_stays _ result stays; unused = unused; unmarked = unmarked };
+    moves = record {
+      follows = follows;
+      stays = answered_stays _ result stays;
+      unused = unused;
+      unmarked = unmarked;
+      protected = need;
+    };
   }
 
   pub resume_moves : (reply : Reply) (result : Result Progressing Error) (s2 : Negotiation (NegotiatedProtocol N K)) →
       Does n k (spnego_resumed (values_of s) reply) s (answer_of result) s2 → OnErr result (Stays (values_of s) (values_of s2)) →
-      StaysUnused n k s s2 → (is_answering s.branch ≡ false → StaysUnmarked n k s s2) →
-      Moves n k (is_answering s.branch ≡ false) (spnego_resumed (values_of s) reply) s (answer_of result) s2
-  resume_moves reply result s2 follows stays unused unmarked =
-      record { follows = follows; stays = answered_stays _ result stays; unused = unused; unmarked = unmarked }
+      StaysUnused n k s s2 → (is_answering s.branch ≡ false → StaysUnmarked n k s s2) → s2.need ≡ s.need →
+      Moves n k (is_answering s.branch ≡ false) (s2.need ≡ s.need) (spnego_resumed (values_of s) reply) s (answer_of result) s2
+  resume_moves reply result s2 follows stays unused unmarked need = record {
+    follows = follows;
+    stays = answered_stays _ result stays;
+    unused = unused;
+    unmarked = unmarked;
+    protected = need;
+  }
 
 -- a further question to a KDC is one fewer to come
 pub resume_falls : {N K : Type 0} (r q : ℕ) (n : Meaning Setting N) (k : Meaning Setting K) → IsMechanism r n → IsMechanism q k →

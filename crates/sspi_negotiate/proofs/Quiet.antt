@@ -32,7 +32,7 @@ quiet_verified false v token = answers_signed_ends IsQuiet _ states.Ok _ v token
 quiet_settles : (need : Bool) (mic : Option (List ℕ)) (complete : Bool) (v : Values) (token : List ℕ) →
     AllEnds IsQuiet (settles need mic complete v token)
 quiet_settles false mic true v token = tt
-quiet_settles false mic false v token = completes_ends IsQuiet v token None (λ error. tt) (λ state step. tt)
+quiet_settles false mic false v token = completes_ends IsQuiet v token v.need (λ error. tt) (λ state step. tt)
 quiet_settles true (Some mic) complete v token = verifies_ends IsQuiet mic (spelled_list v.list) v _ (λ error. tt)
     (quiet_verified complete v token)
 quiet_settles true None complete v token = answers_signed_ends IsQuiet _ states.VerifyMic _ v token (λ error. tt) (λ step. tt)

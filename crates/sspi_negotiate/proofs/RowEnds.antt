@@ -1,5 +1,5 @@
 -- The ends of the rows that both sides have in common, of a fact that does not depend on how far the negotiation came.
-use Rattle.std.proofs.Common.{◌==◌, ℕ, length, map, List, Option, None, Some}
+use Rattle.std.proofs.Common.{◌==◌, ℕ, Bool, length, map, List, Option, None, Some}
 use Rattle.sspi_types.specs.declared.security_status.SecurityStatus.{SecurityStatus}
 use Rattle.sspi_names.specs.declared.credentials.Credentials.TheVariants.{AuthIdentity as Credential}
 use Rattle.sspi_mech.specs.declared.step.Answer.{Answer}
@@ -53,11 +53,11 @@ module _ (R : Answer → Values → Type 0) where
         (stops, verifies_ends mic (spelled_list v.list) v rest stops h),
   )
 
-  pub completes_ends : (v : Values) (token : List ℕ) (mic : Option (List ℕ)) → AtRefusal R v →
-      ((state : NegotiateState) → AtDone (record v { state = state })) →
-      AllEnds R (completes v token mic)
+  pub completes_ends : (v : Values) (token : List ℕ) (need : Bool) → AtRefusal R v →
+      ((state : NegotiateState) → AtDone (record v { need = need; state = state })) →
+      AllEnds R (completes v token need)
   unfolding completes
-  completes_ends v token mic stops done = writes_ends _ v _ _ stops (done _)
+  completes_ends v token need stops done = writes_ends _ v _ _ stops (done _)
 
   pub answers_signed_ends : (result : NegResult) (state : NegotiateState) (status : SecurityStatus) (v : Values) (token : List ℕ) →
       AtRefusal R v →

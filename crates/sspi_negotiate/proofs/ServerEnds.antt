@@ -114,14 +114,15 @@ module _ (R : Answer → Values → Type 0) (Good : Values → Type 0) (AtFirst 
   at_initial_ends None v args first g = stops_at v g
   at_initial_ends (Some token) v args first g = reads_ends token.mech_types token.mech_token v args first g
 
-  completed_ends : (v : Values) (token : List ℕ) → Good v → AllEnds R (completes v token None)
-  completed_ends v token g = completes_ends R v token None (stops_at v g) (λ state step. keep.done _ step (keep.state v state g))
+  completed_ends : (v : Values) (token : List ℕ) (need : Bool) → Good v → AllEnds R (completes v token need)
+  completed_ends v token need g =
+      completes_ends R v token need (stops_at v g) (λ state step. moved v need state step g)
 
   without_ends : (complete : Bool) (v : Values) (token : List ℕ) → Good v → AllEnds R (without_mic complete v token)
   unfolding without_mic
   without_ends true v token g = (
     stops_at v g,
-    λ name. either_ends R (is_guest_text (inner_of name)) _ _ (completed_ends _ token (keep.need v false g))
+    λ name. either_ends R (is_guest_text (inner_of name)) _ _ (completed_ends v token false g)
         (stops_at v g),
   )
   without_ends false v token g =
@@ -129,7 +130,7 @@ module _ (R : Answer → Values → Type 0) (Good : Values → Type 0) (AtFirst 
 
   settles_ends : (need : Bool) (mic : Option (List ℕ)) (complete : Bool) (v : Values) (token : List ℕ) → Good v →
       AllEnds R (settles need mic complete v token)
-  settles_ends false mic complete v token g = completed_ends v token g
+  settles_ends false mic complete v token g = completed_ends v token v.need g
   settles_ends true (Some mic) complete v token g = checks_ends R mic v _ (stops_at v g)
       (answers_signed_ends R _ states.Ok _ v token (stops_at v g) (λ step. keep.done _ step (keep.state v states.Ok g)))
   settles_ends true None complete v token g = without_ends complete v token g

@@ -69,7 +69,7 @@ module _ (list : List (List ℕ)) where
 
   unprotected_shown : (complete : Bool) (v : Values) (token : List ℕ) → v.need ≡ false → Shown list ⊥ (unprotected complete v token)
   unprotected_shown true v token off = λ over need. no_need v off need
-  unprotected_shown false v token off = completes_shown list ⊥ v token None (λ need. no_need v off need)
+  unprotected_shown false v token off = completes_shown list ⊥ v token v.need (λ need. no_need v off need)
 
   settles_shown : (need : Bool) (mic : Option (List ℕ)) (complete : Bool) (v : Values) (token : List ℕ) → v.need ≡ need → v.list ≡ list →
       Shown list ⊥ (settles need mic complete v token)

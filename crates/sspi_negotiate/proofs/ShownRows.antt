@@ -89,10 +89,10 @@ module _ (list : List (List ℕ)) where
   checks_shown seen mic v rest is h closes = λ name. either_shown seen (length (map Credential (named name v.known)) == 0) _ _ tt
       (verifies_shown seen mic (spelled_list v.list) v rest (ap spelled_list (sym is)) h closes)
 
-  pub completes_shown : (seen : Type 0) (v : Values) (token : List ℕ) (mic : Option (List ℕ)) →
-      (v.need ≡ true → (v.list ≡ list) × seen) → Shown list seen (completes v token mic)
+  pub completes_shown : (seen : Type 0) (v : Values) (token : List ℕ) (need : Bool) →
+      (need ≡ true → (v.list ≡ list) × seen) → Shown list seen (completes v token need)
   unfolding completes
-  completes_shown seen v token mic h = writes_shown seen _ v _ _ (λ over need. h need)
+  completes_shown seen v token need h = writes_shown seen _ v _ _ (λ over needed. h needed)
 
   pub answers_signed_shown : (seen : Type 0) (result : NegResult) (state : NegotiateState) (status : SecurityStatus) (v : Values)
       (token : List ℕ) →

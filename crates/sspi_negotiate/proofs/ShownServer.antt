@@ -67,12 +67,12 @@ module _ (list : List (List ℕ)) where
   without_shown : (complete : Bool) (v : Values) (token : List ℕ) → Shown list ⊥ (without_mic complete v token)
   unfolding without_mic
   without_shown true v token = λ name. either_shown list ⊥ (is_guest_text (inner_of name)) _ _
-      (completes_shown list ⊥ _ token None (λ on. absurd (false≢true on))) tt
+      (completes_shown list ⊥ v token false (λ on. absurd (false≢true on))) tt
   without_shown false v token = answers_signed_shown list ⊥ _ states.VerifyMic _ v token (λ over on. absurd (verify_is_before over))
 
   settles_shown : (need : Bool) (mic : Option (List ℕ)) (complete : Bool) (v : Values) (token : List ℕ) → v.need ≡ need → v.list ≡ list →
       Shown list ⊥ (settles need mic complete v token)
-  settles_shown false mic complete v token off is = completes_shown list ⊥ v token None (λ on. absurd (false≢true (sym off ∙ on)))
+  settles_shown false mic complete v token off is = completes_shown list ⊥ v token v.need (λ on. absurd (false≢true (sym off ∙ on)))
   settles_shown true (Some mic) complete v token on is =
       checks_shown list ⊥ mic v _ is (answers_signed_shown list (Unit {0}) _ states.Ok _ v token (λ over need. (is, tt)))
       (answers_signed_closes _ states.Ok _ v token)

@@ -114,7 +114,7 @@ verified false v token = completes_signed v token
 
 abbrev pub unprotected : Bool → Values → List ℕ → Plan
 unprotected true v token = Goes (record v { state = states.Ok }) (record { status = statuses.Ok; output = [] })
-unprotected false v token = completes v token None
+unprotected false v token = completes v token v.need
 
 -- the authentication is over: by the need, and by the MIC of the server
 abbrev pub settles : Bool → Option (List ℕ) → Bool → Values → List ℕ → Plan

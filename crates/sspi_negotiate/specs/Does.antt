@@ -1,5 +1,5 @@
 -- That a call does what a plan says.
-use Rattle.std.specs.Prelude.{◌≡◌, ◌≢◌, Result, Ok, Err}
+use Rattle.std.specs.Prelude.{◌≡◌, ◌≢◌, Bool, true, false, Result, Ok, Err}
 use Rattle.sspi_types.specs.declared.error.Error.{Error}
 use Rattle.sspi_types.specs.declared.error_kind.ErrorKind.TheVariants.{InsufficientMemory}
 use Rattle.sspi_mech.specs.declared.step.Answer.{Answer}
@@ -59,3 +59,7 @@ pub record Stays (old new : Values) : Type 0 where
 pub record StaysPicked (old new : Values) : Type 0 where
   pub list : new.list ≡ old.list
   pub hand : new.hand ≡ old.hand
+
+-- where MICs were needed, they are, but for a guest
+abbrev pub StaysNeeded : Bool → Values → Values → Type 0
+StaysNeeded guest old new = old.need ≡ true → guest ≡ false → new.need ≡ true

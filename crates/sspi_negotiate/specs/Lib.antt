@@ -1,4 +1,5 @@
 pub mod Acquire
+pub mod Choices
 pub mod Client
 pub mod Does
 pub mod Passes

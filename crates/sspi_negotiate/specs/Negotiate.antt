@@ -1,5 +1,5 @@
 -- What a negotiation means as a security context.
-use Rattle.std.specs.Prelude.{◌≡◌, ◌≢◌, ◌↔◌, ℕ, Bool, false, Result, IsTrue}
+use Rattle.std.specs.Prelude.{◌≡◌, ◌≢◌, ◌↔◌, ℕ, Bool, false, Result, IsTrue, OnErr}
 use Rattle.sspi_types.specs.declared.error.Error.{Error}
 use Rattle.sspi_types.specs.declared.error_kind.ErrorKind.{ErrorKind}
 use Rattle.sspi_types.specs.Packages.{negotiate_entry}
@@ -12,8 +12,8 @@ use Rattle.sspi_mech.specs.Settings.{Setting}
 use Rattle.sspi_negotiate.specs.declared.protocol.NegotiatedProtocol.{NegotiatedProtocol}
 use Rattle.sspi_negotiate.specs.declared.state.NegotiateState.TheVariants.{Initial}
 use Rattle.sspi_negotiate.specs.Acquire.{Acquires, RefusesToAcquire}
-use Rattle.sspi_negotiate.specs.Client.{spnego_client, spnego_resumed}
-use Rattle.sspi_negotiate.specs.Does.{Does, Stays, StaysPicked, StaysUnmarked, StaysUnused, told}
+use Rattle.sspi_negotiate.specs.Client.{is_guest, spnego_client, spnego_resumed}
+use Rattle.sspi_negotiate.specs.Does.{Does, Stays, StaysNeeded, StaysPicked, StaysUnmarked, StaysUnused, told}
 use Rattle.sspi_negotiate.specs.Hand.{hand, asks_left}
 use Rattle.sspi_negotiate.specs.Keeps.{is_answering}
 use Rattle.sspi_negotiate.specs.New.{NegotiateSetting, MadeOf, UnmadeOf}
@@ -22,27 +22,31 @@ use Rattle.sspi_negotiate.specs.Server.{spnego_server}
 use Rattle.sspi_negotiate.specs.Target.{IsNamedByIp}
 use Rattle.sspi_negotiate.specs.Values.{Negotiation, values_of, is_waiting}
 
--- A step by a plan; before there is a list to protect it makes and verifies no MIC. The plan says nothing of want of memory, and the
--- others hold of that too.
-pub record Moves {N K : Type 0} (n : Meaning Setting N) (k : Meaning Setting K) (IsFirstStep : Type 0) (p : Plan)
+-- A step by a plan; before there is a list to protect it makes and verifies no MIC, and Protected says what stays of the need of
+-- MICs. The plan says nothing of want of memory, and the others hold of that too.
+pub record Moves {N K : Type 0} (n : Meaning Setting N) (k : Meaning Setting K) (IsFirstStep Protected : Type 0) (p : Plan)
     (s : Negotiation (NegotiatedProtocol N K)) (r : Answer) (s2 : Negotiation (NegotiatedProtocol N K)) : Type 0 where
   pub follows : Does n k p s r s2
   pub stays : OnRefused r (Stays (values_of s) (values_of s2))
   pub unused : StaysUnused n k s s2
   pub unmarked : IsFirstStep → StaysUnmarked n k s s2
+  pub protected : Protected
 
--- a client's step, whose plan depends on whether the target is named by its IP address
+-- a client's step, whose plan depends on whether the target is named by its IP address; behind the first one only a guest loses the
+-- need of MICs
 pub record ClientMoves {N K : Type 0} (n : Meaning Setting N) (k : Meaning Setting K) (s : Negotiation (NegotiatedProtocol N K))
     (args : StepArgs) (r : Answer)
     (s2 : Negotiation (NegotiatedProtocol N K)) : Type 0 where
   pub ip : Bool
   pub ip_is : IsTrue ip ↔ IsNamedByIp args.target
-  pub moves : Moves n k (s.state ≡ Initial) (spnego_client ip (values_of s) args) s r s2
+  pub moves : Moves n k (s.state ≡ Initial) (s.state ≢ Initial → StaysNeeded (is_guest args.handle) (values_of s) (values_of s2))
+      (spnego_client ip (values_of s) args) s r s2
 
--- a server's step; once it has read the list, it leaves that and the mechanism that it picked
+-- a server's step, which leaves the need of MICs where it is refused; once it has read the list, it leaves that and the mechanism
+-- that it picked
 pub record ServerMoves {N K : Type 0} (n : Meaning Setting N) (k : Meaning Setting K) (s : Negotiation (NegotiatedProtocol N K))
     (args : AcceptArgs) (result : Result Step Error) (s2 : Negotiation (NegotiatedProtocol N K)) : Type 0 where
-  pub moves : Moves n k (s.state ≡ Initial) (spnego_server (values_of s) args) s (told result) s2
+  pub moves : Moves n k (s.state ≡ Initial) (OnErr result (s2.need ≡ s.need)) (spnego_server (values_of s) args) s (told result) s2
   pub picked : s.state ≢ Initial → StaysPicked (values_of s) (values_of s2)
 
 module _ {N K : Type 0} (requests : ℕ) (n : Meaning Setting N) (k : Meaning Setting K) where
@@ -58,7 +62,7 @@ module _ {N K : Type 0} (requests : ℕ) (n : Meaning Setting N) (k : Meaning Se
     unmade = UnmadeOf;
     acquires = Acquires n k;
     steps = ClientMoves n k;
-    resumes = λ s reply r s2. Moves n k (is_answering s.branch ≡ false) (spnego_resumed (values_of s) reply) s r s2;
+    resumes = λ s reply r s2. Moves n k (is_answering s.branch ≡ false) (s2.need ≡ s.need) (spnego_resumed (values_of s) reply) s r s2;
     accepts = ServerMoves n k;
     identifies = λ s identities s2. (hand n k).identifies s.mech identities s2.mech × (s2 ≡ record s { mech = s2.mech });
     names = λ s. (hand n k).names s.mech;

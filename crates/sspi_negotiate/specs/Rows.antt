@@ -110,9 +110,9 @@ checks mic v rest = identifies v (verifies mic v rest)
 
 -- ---- the end of an authentication
 
--- the negotiation is over
-unfoldable pub completes : Values → List ℕ → Option (List ℕ) → Plan
-completes v token mic = writes (targ AcceptComplete None (if_some token) mic) v (record v { state = states.Ok }) statuses.Ok
+-- the negotiation is over, without a MIC; whether MICs were needed is noted with it
+unfoldable pub completes : Values → List ℕ → Bool → Plan
+completes v token need = writes (targ AcceptComplete None (if_some token) None) v (record v { need = need; state = states.Ok }) statuses.Ok
 
 -- the same with the own MIC over the list
 unfoldable pub answers_signed : NegResult → NegotiateState → SecurityStatus → Values → List ℕ → Plan

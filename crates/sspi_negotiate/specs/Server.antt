@@ -89,9 +89,9 @@ at_initial (Some token) v args = reads_list token.mech_types token.mech_token v 
 
 -- ---- InProgress
 
--- Beside accept-complete a MIC may be missing. A guest needs none.
+-- Beside accept-complete a MIC may be missing. A guest needs none, and the need goes once the negotiation is over.
 abbrev pub excuses : Values → List ℕ → Name → Plan
-excuses v token name = if is_guest_text (inner_of name) then completes (record v { need = false }) token None else Stops v InvalidToken
+excuses v token name = if is_guest_text (inner_of name) then completes v token false else Stops v InvalidToken
 
 unfoldable pub without_mic : Bool → Values → List ℕ → Plan
 without_mic true v token = Names v (λ name. excuses v token name)
@@ -99,7 +99,7 @@ without_mic false v token = hands_mic v token
 
 -- the authentication is over: by the need, and by the MIC of the client
 abbrev pub settles : Bool → Option (List ℕ) → Bool → Values → List ℕ → Plan
-settles false mic complete v token = completes v token None
+settles false mic complete v token = completes v token v.need
 settles true (Some mic) complete v token = checks mic v (completes_signed v token)
 settles true None complete v token = without_mic complete v token
 

@@ -1,5 +1,5 @@
 // A client's later steps (states InProgress and VerifyMic), and `resume`.
-ghost use Rattle.std.specs.Prelude.{◌≡◌, ◌≢◌, ◌<◌, [], false, true, not, None, Some, IfErr, OnErr, option_map, option_copied};
+ghost use Rattle.std.specs.Prelude.{◌≡◌, ◌<◌, [], false, true, not, None, Some, IfErr, OnErr, option_map, option_copied};
 ghost use Rattle.sspi_mech.specs.Answers.{answer_of, IfRefused, OnAsk};
 ghost use Rattle.sspi_mech.specs.Calls.{step_args};
 ghost use Rattle.sspi_mech.specs.Calls.{IsUnused};
@@ -12,7 +12,7 @@ ghost use Rattle.sspi_types.specs.declared.security_status.SecurityStatus.TheVar
 ghost use Rattle.sspi_negotiate.specs.Client.{at_progress, chosen, chooses_kerberos, chooses_ntlm, in_kerberos, answers, without_ntlm};
 ghost use Rattle.sspi_negotiate.specs.Client.{stepped, settles, verified, at_verify_mic, confirmed};
 ghost use Rattle.sspi_negotiate.specs.Client.{last_mic, is_guest, handle_for, resumes_answering, spnego_resumed};
-ghost use Rattle.sspi_negotiate.specs.Does.{Does, Stays, StaysUnmarked, StaysUnused, told};
+ghost use Rattle.sspi_negotiate.specs.Does.{Does, Stays, StaysNeeded, StaysUnmarked, StaysUnused, told};
 ghost use Rattle.sspi_negotiate.specs.Hand.{hand, hand_of};
 ghost use Rattle.sspi_negotiate.specs.Keeps.{is_answering};
 ghost use Rattle.sspi_negotiate.specs.Negotiate.{negotiate};
@@ -83,6 +83,7 @@ impl<N: Mechanism, K: Mechanism> Negotiate<N, K> {
             self.old (answer_of (answered result)) self.new }
         ensures stays { OnErr result (Stays (values_of self.old) (values_of self.new)) }
         ensures unused { StaysUnused N.meaning K.meaning self.old self.new }
+        ensures need { StaysNeeded (is_guest (step_args args.now).handle) (values_of self.old) (values_of self.new) }
     {
         let token = NegTokenTarg::decode(self.alloc, args.input)?;
         self.choose(token, args)
@@ -98,6 +99,7 @@ impl<N: Mechanism, K: Mechanism> Negotiate<N, K> {
             self.old (answer_of (answered result)) self.new }
         ensures stays { OnErr result (Stays (values_of self.old) (values_of self.new)) }
         ensures unused { StaysUnused N.meaning K.meaning self.old self.new }
+        ensures need { StaysNeeded (is_guest (step_args args.now).handle) (values_of self.old) (values_of self.new) }
     {
         match choice_of(&token) {
             None => self.answer(token, args),
@@ -118,6 +120,7 @@ impl<N: Mechanism, K: Mechanism> Negotiate<N, K> {
             self.old (answer_of (answered result)) self.new }
         ensures stays { OnErr result (Stays (values_of self.old) (values_of self.new)) }
         ensures unused { StaysUnused N.meaning K.meaning self.old self.new }
+        ensures need { StaysNeeded (is_guest (step_args args.now).handle) (values_of self.old) (values_of self.new) }
     {
         if self.packages.kerberos {
             self.go_to_kerberos(token, args)
@@ -136,6 +139,7 @@ impl<N: Mechanism, K: Mechanism> Negotiate<N, K> {
             self.old (answer_of (answered result)) self.new }
         ensures stays { self.old.packages.kerberos ≡ true → OnErr result (Stays (values_of self.old) (values_of self.new)) }
         ensures unused { StaysUnused N.meaning K.meaning self.old self.new }
+        ensures need { StaysNeeded (is_guest (step_args args.now).handle) (values_of self.old) (values_of self.new) }
     {
         match self.protocol.protocol() {
             Protocol::Kerberos => self.answer_in_kerberos(token, args),
@@ -154,6 +158,7 @@ impl<N: Mechanism, K: Mechanism> Negotiate<N, K> {
             self.old (answer_of (answered result)) self.new }
         ensures stays { self.old.packages.kerberos ≡ true → OnErr result (Stays (values_of self.old) (values_of self.new)) }
         ensures unused { StaysUnused N.meaning K.meaning self.old self.new }
+        ensures need { StaysNeeded (is_guest (step_args args.now).handle) (values_of self.old) (values_of self.new) }
     {
         self.protocol = NegotiatedProtocol::new_kerberos(
             self.alloc,
@@ -174,6 +179,7 @@ impl<N: Mechanism, K: Mechanism> Negotiate<N, K> {
             self.old (answer_of (answered result)) self.new }
         ensures stays { hand_of self.old.mech ≡ protocols.Kerberos → OnErr result (Stays (values_of self.old) (values_of self.new)) }
         ensures unused { StaysUnused N.meaning K.meaning self.old self.new }
+        ensures need { StaysNeeded (is_guest (step_args args.now).handle) (values_of self.old) (values_of self.new) }
     {
         self.packages.ntlm = false;
         self.answer(token, args)
@@ -189,6 +195,7 @@ impl<N: Mechanism, K: Mechanism> Negotiate<N, K> {
             self.old (answer_of (answered result)) self.new }
         ensures stays { OnErr result (Stays (values_of self.old) (values_of self.new)) }
         ensures unused { StaysUnused N.meaning K.meaning self.old self.new }
+        ensures need { StaysNeeded (is_guest (step_args args.now).handle) (values_of self.old) (values_of self.new) }
     {
         if self.packages.ntlm {
             let guest = is_guest(self.alloc, args.credentials_handle)?;
@@ -213,6 +220,7 @@ impl<N: Mechanism, K: Mechanism> Negotiate<N, K> {
             self.old (answer_of (answered result)) self.new }
         ensures stays { self.old.packages.ntlm ≡ true → OnErr result (Stays (values_of self.old) (values_of self.new)) }
         ensures unused { StaysUnused N.meaning K.meaning self.old self.new }
+        ensures need { StaysNeeded guest (values_of self.old) (values_of self.new) }
     {
         self.take_ntlm()?;
         self.answer_in_ntlm(token, args, guest)
@@ -232,6 +240,7 @@ impl<N: Mechanism, K: Mechanism> Negotiate<N, K> {
             self.old (answer_of (answered result)) self.new }
         ensures stays { hand_of self.old.mech ≡ protocols.Ntlm → OnErr result (Stays (values_of self.old) (values_of self.new)) }
         ensures unused { StaysUnused N.meaning K.meaning self.old self.new }
+        ensures need { StaysNeeded guest (values_of self.old) (values_of self.new) }
     {
         self.packages.kerberos = false;
         self.mic_needed = !guest;
@@ -248,6 +257,7 @@ impl<N: Mechanism, K: Mechanism> Negotiate<N, K> {
             self.old (answer_of (answered result)) self.new }
         ensures stays { OnErr result (Stays (values_of self.old) (values_of self.new)) }
         ensures unused { StaysUnused N.meaning K.meaning self.old self.new }
+        ensures need { self.new.need ≡ self.old.need }
     {
         let response = &token.response_token;
         match answer_with(&mut self.protocol, &self.auth_identity, args, response) {
@@ -264,6 +274,7 @@ impl<N: Mechanism, K: Mechanism> Negotiate<N, K> {
         ensures step { Does N.meaning K.meaning (stepped token (values_of self.old) step) self.old (told (answered result)) self.new }
         ensures stays { OnErr result (Stays (values_of self.old) (values_of self.new)) }
         ensures unused { StaysUnused N.meaning K.meaning self.old self.new }
+        ensures need { self.new.need ≡ self.old.need }
     {
         if is_ok(step.status) {
             let complete = is_complete(token.neg_result);
@@ -284,6 +295,7 @@ impl<N: Mechanism, K: Mechanism> Negotiate<N, K> {
             (told (answered result)) self.new }
         ensures stays { OnErr result (Stays (values_of self.old) (values_of self.new)) }
         ensures unused { StaysUnused N.meaning K.meaning self.old self.new }
+        ensures need { self.new.need ≡ self.old.need }
     {
         if need {
             match mic {
@@ -293,7 +305,7 @@ impl<N: Mechanism, K: Mechanism> Negotiate<N, K> {
         } else if complete {
             self.end()
         } else {
-            self.complete(token, None)
+            self.complete(token, self.mic_needed)
         }
     }
 
@@ -302,6 +314,7 @@ impl<N: Mechanism, K: Mechanism> Negotiate<N, K> {
             self.old (told (answered result)) self.new }
         ensures stays { OnErr result (Stays (values_of self.old) (values_of self.new)) }
         ensures unused { StaysUnused N.meaning K.meaning self.old self.new }
+        ensures need { self.new.need ≡ self.old.need }
     {
         self.verify(mic)?;
         self.end_verified(complete, token)
@@ -311,6 +324,7 @@ impl<N: Mechanism, K: Mechanism> Negotiate<N, K> {
         ensures step { Does N.meaning K.meaning (verified complete (values_of self.old) token) self.old (told (answered result)) self.new }
         ensures stays { OnErr result (Stays (values_of self.old) (values_of self.new)) }
         ensures unused { StaysUnused N.meaning K.meaning self.old self.new }
+        ensures need { self.new.need ≡ self.old.need }
     {
         if complete {
             self.end()
@@ -327,6 +341,7 @@ impl<N: Mechanism, K: Mechanism> Negotiate<N, K> {
             self.old (answer_of (answered result)) self.new }
         ensures stays { OnErr result (Stays (values_of self.old) (values_of self.new)) }
         ensures unused { StaysUnused N.meaning K.meaning self.old self.new }
+        ensures need { self.new.need ≡ self.old.need }
     {
         let token = NegTokenTarg::decode(self.alloc, args.input)?;
         done(self.confirm_by(token))
@@ -336,6 +351,7 @@ impl<N: Mechanism, K: Mechanism> Negotiate<N, K> {
         ensures step { Does N.meaning K.meaning (confirmed token (values_of self.old)) self.old (told (answered result)) self.new }
         ensures stays { OnErr result (Stays (values_of self.old) (values_of self.new)) }
         ensures unused { StaysUnused N.meaning K.meaning self.old self.new }
+        ensures need { self.new.need ≡ self.old.need }
     {
         if is_complete(token.neg_result) {
             self.confirm_mic(token.mech_list_mic)
@@ -348,6 +364,7 @@ impl<N: Mechanism, K: Mechanism> Negotiate<N, K> {
         ensures step { Does N.meaning K.meaning (last_mic mic (values_of self.old)) self.old (told (answered result)) self.new }
         ensures stays { OnErr result (Stays (values_of self.old) (values_of self.new)) }
         ensures unused { StaysUnused N.meaning K.meaning self.old self.new }
+        ensures need { self.new.need ≡ self.old.need }
     {
         match mic {
             None => Ok(Step {
@@ -365,6 +382,7 @@ impl<N: Mechanism, K: Mechanism> Negotiate<N, K> {
             self.old (told (answered result)) self.new }
         ensures stays { OnErr result (Stays (values_of self.old) (values_of self.new)) }
         ensures unused { StaysUnused N.meaning K.meaning self.old self.new }
+        ensures need { self.new.need ≡ self.old.need }
     {
         self.verify(mic)?;
         self.end()
@@ -390,6 +408,7 @@ impl<N: Mechanism, K: Mechanism> Negotiate<N, K> {
         // What every answer keeps.
         ensures unused { StaysUnused N.meaning K.meaning self.old self.new }
         ensures first { is_answering self.old.branch ≡ false → StaysUnmarked N.meaning K.meaning self.old self.new }
+        ensures need { self.new.need ≡ self.old.need }
     {
         match mem::replace(&mut self.branch, Branch::Idle) {
             Branch::Idle => Err(Refusal::out_of_sequence()),
@@ -408,6 +427,7 @@ impl<N: Mechanism, K: Mechanism> Negotiate<N, K> {
             self.old (answer_of (answered result)) self.new }
         ensures stays { OnErr result (Stays (values_of self.old) (values_of self.new)) }
         ensures unused { StaysUnused N.meaning K.meaning self.old self.new }
+        ensures need { self.new.need ≡ self.old.need }
     {
         match self.protocol.resume(reply) {
             Answer::Done(step) => done(self.conclude(token, step)),

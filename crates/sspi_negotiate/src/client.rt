@@ -1,13 +1,13 @@
 // What comes before each step of a client, and the states.
-ghost use Rattle.std.specs.Prelude.{◌≡◌, ◌≢◌, ◌↔◌, false, true, None, Some, IfErr, OnErr};
+ghost use Rattle.std.specs.Prelude.{◌≡◌, ◌≢◌, false, true, None, Some, IfErr, OnErr};
 ghost use Rattle.sspi_names.specs.Identity.{identity_of, buffers_of};
 ghost use Rattle.sspi_names.specs.declared.credentials.CredentialsBuffers.TheVariants as buffered;
 ghost use Rattle.sspi_mech.specs.Answers.{answer_of};
 ghost use Rattle.sspi_mech.specs.Calls.{step_args};
 ghost use Rattle.sspi_mech.specs.Answered.{answered};
 ghost use Rattle.sspi_negotiate.specs.declared.protocol.Protocol.TheVariants as protocols;
-ghost use Rattle.sspi_negotiate.specs.Client.{is_closed, spnego_client, by_target, with_handle, keeps, ruled, client_at};
-ghost use Rattle.sspi_negotiate.specs.Does.{Does, Stays, StaysUnmarked, StaysUnused};
+ghost use Rattle.sspi_negotiate.specs.Client.{is_closed, is_guest, spnego_client, by_target, with_handle, keeps, ruled, client_at};
+ghost use Rattle.sspi_negotiate.specs.Does.{Does, Stays, StaysNeeded, StaysUnmarked, StaysUnused};
 ghost use Rattle.sspi_negotiate.specs.Hand.{hand_of};
 ghost use Rattle.sspi_negotiate.specs.Negotiate.{negotiate};
 ghost use Rattle.sspi_negotiate.specs.Rows.{in_ntlm};
@@ -70,6 +70,8 @@ impl<N: Mechanism, K: Mechanism> Negotiate<N, K> {
         // What every answer keeps.
         ensures unused { StaysUnused N.meaning K.meaning self.old self.new }
         ensures first { self.old.state ≡ states.Initial → StaysUnmarked N.meaning K.meaning self.old self.new }
+        ensures need { self.old.state ≢ states.Initial →
+            StaysNeeded (is_guest (step_args args.now).handle) (values_of self.old) (values_of self.new) }
     {
         if self.is_closed() {
             Err(Refusal::out_of_sequence())
@@ -91,6 +93,8 @@ impl<N: Mechanism, K: Mechanism> Negotiate<N, K> {
         // What every answer keeps.
         ensures unused { StaysUnused N.meaning K.meaning self.old self.new }
         ensures first { self.old.state ≡ states.Initial → StaysUnmarked N.meaning K.meaning self.old self.new }
+        ensures need { self.old.state ≢ states.Initial →
+            StaysNeeded (is_guest (step_args args.now).handle) (values_of self.old) (values_of self.new) }
     {
         if ip && self.packages.ntlm {
             self.leave_kerberos(args)
@@ -114,6 +118,8 @@ impl<N: Mechanism, K: Mechanism> Negotiate<N, K> {
         // What every answer keeps.
         ensures unused { StaysUnused N.meaning K.meaning self.old self.new }
         ensures first { self.old.state ≡ states.Initial → StaysUnmarked N.meaning K.meaning self.old self.new }
+        ensures need { self.old.state ≢ states.Initial →
+            StaysNeeded (is_guest (step_args args.now).handle) (values_of self.old) (values_of self.new) }
     {
         self.take_ntlm()?;
         self.disable_kerberos(args)
@@ -131,6 +137,8 @@ impl<N: Mechanism, K: Mechanism> Negotiate<N, K> {
         // What every answer keeps.
         ensures unused { StaysUnused N.meaning K.meaning self.old self.new }
         ensures first { self.old.state ≡ states.Initial → StaysUnmarked N.meaning K.meaning self.old self.new }
+        ensures need { self.old.state ≢ states.Initial →
+            StaysNeeded (is_guest (step_args args.now).handle) (values_of self.old) (values_of self.new) }
     {
         self.packages.kerberos = false;
         self.with_handle(args)
@@ -145,6 +153,8 @@ impl<N: Mechanism, K: Mechanism> Negotiate<N, K> {
         // What every answer keeps.
         ensures unused { StaysUnused N.meaning K.meaning self.old self.new }
         ensures first { self.old.state ≡ states.Initial → StaysUnmarked N.meaning K.meaning self.old self.new }
+        ensures need { self.old.state ≢ states.Initial →
+            StaysNeeded (is_guest (step_args args.now).handle) (values_of self.old) (values_of self.new) }
     {
         match args.credentials_handle {
             None => self.step_at(args),
@@ -166,6 +176,8 @@ impl<N: Mechanism, K: Mechanism> Negotiate<N, K> {
         // What every answer keeps.
         ensures unused { StaysUnused N.meaning K.meaning self.old self.new }
         ensures first { self.old.state ≡ states.Initial → StaysUnmarked N.meaning K.meaning self.old self.new }
+        ensures need { self.old.state ≢ states.Initial →
+            StaysNeeded (is_guest (step_args args.now).handle) (values_of self.old) (values_of self.new) }
     {
         let identity = AuthIdentity::from_buffers(self.alloc, buffers)?;
         self.keep(&identity, args)
@@ -185,6 +197,8 @@ impl<N: Mechanism, K: Mechanism> Negotiate<N, K> {
         // What every answer keeps.
         ensures unused { StaysUnused N.meaning K.meaning self.old self.new }
         ensures first { self.old.state ≡ states.Initial → StaysUnmarked N.meaning K.meaning self.old self.new }
+        ensures need { self.old.state ≢ states.Initial →
+            StaysNeeded (is_guest (step_args args.now).handle) (values_of self.old) (values_of self.new) }
     {
         let kept = identity.to_buffers(self.alloc)?;
         self.auth_identity = Some(CredentialsBuffers::AuthIdentity(kept));
@@ -203,6 +217,8 @@ impl<N: Mechanism, K: Mechanism> Negotiate<N, K> {
         // What every answer keeps.
         ensures unused { StaysUnused N.meaning K.meaning self.old self.new }
         ensures first { self.old.state ≡ states.Initial → StaysUnmarked N.meaning K.meaning self.old self.new }
+        ensures need { self.old.state ≢ states.Initial →
+            StaysNeeded (is_guest (step_args args.now).handle) (values_of self.old) (values_of self.new) }
     {
         self.take_by_rule(name)?;
         self.step_at(args)
@@ -217,6 +233,8 @@ impl<N: Mechanism, K: Mechanism> Negotiate<N, K> {
         // What every answer keeps.
         ensures unused { StaysUnused N.meaning K.meaning self.old self.new }
         ensures first { self.old.state ≡ states.Initial → StaysUnmarked N.meaning K.meaning self.old self.new }
+        ensures need { self.old.state ≢ states.Initial →
+            StaysNeeded (is_guest (step_args args.now).handle) (values_of self.old) (values_of self.new) }
     {
         match self.state {
             NegotiateState::Initial => self.first_step(args),

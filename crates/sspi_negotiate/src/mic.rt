@@ -1,5 +1,5 @@
 // The MICs over the mechanism list (RFC 4178, section 5).
-ghost use Rattle.std.specs.Prelude.{◌≡◌, ◌≢◌, None, Some, IfOk, IfErr, OnOk, OnErr, map, ◌==◌};
+ghost use Rattle.std.specs.Prelude.{◌≡◌, ◌≢◌, None, Some, IfOk, IfErr, OnOk, OnErr, map};
 ghost use Rattle.sspi_mech.specs.Calls.{one_signing, ToSign};
 ghost use Rattle.sspi_mech.specs.Answered.{answered};
 ghost use Rattle.sspi_negotiate.specs.Hand.{hand, hand_of};
@@ -54,6 +54,7 @@ impl<N: Mechanism, K: Mechanism> Negotiate<N, K> {
         ensures stays { Stays (values_of self.old) (values_of self.new) }
         ensures unused { StaysUnused N.meaning K.meaning self.old self.new }
         ensures picked { StaysPicked (values_of self.old) (values_of self.new) }
+        ensures need { self.new.need ≡ self.old.need }
     {
         self.identify()?;
         self.verify(mic)
@@ -67,6 +68,7 @@ impl<N: Mechanism, K: Mechanism> Negotiate<N, K> {
         ensures stays { Stays (values_of self.old) (values_of self.new) }
         ensures unused { StaysUnused N.meaning K.meaning self.old self.new }
         ensures picked { StaysPicked (values_of self.old) (values_of self.new) }
+        ensures need { self.new.need ≡ self.old.need }
     {
         let name = self.protocol.names()?;
         self.identify_as(&name)
@@ -81,6 +83,7 @@ impl<N: Mechanism, K: Mechanism> Negotiate<N, K> {
         ensures stays { Stays (values_of self.old) (values_of self.new) }
         ensures unused { StaysUnused N.meaning K.meaning self.old self.new }
         ensures picked { StaysPicked (values_of self.old) (values_of self.new) }
+        ensures need { self.new.need ≡ self.old.need }
     {
         let found = named(self.alloc, name, &self.known)?;
         if found.is_empty() {
@@ -98,6 +101,7 @@ impl<N: Mechanism, K: Mechanism> Negotiate<N, K> {
         ensures stays { Stays (values_of self.old) (values_of self.new) }
         ensures unused { StaysUnused N.meaning K.meaning self.old self.new }
         ensures picked { StaysPicked (values_of self.old) (values_of self.new) }
+        ensures need { self.new.need ≡ self.old.need }
     {
         self.protocol.set_identities(found)
     }
@@ -111,6 +115,7 @@ impl<N: Mechanism, K: Mechanism> Negotiate<N, K> {
         ensures stays { Stays (values_of self.old) (values_of self.new) }
         ensures unused { StaysUnused N.meaning K.meaning self.old self.new }
         ensures picked { StaysPicked (values_of self.old) (values_of self.new) }
+        ensures need { self.new.need ≡ self.old.need }
     {
         let text = spelled_list(self.alloc, &self.mech_types)?;
         self.verify_over(mic, &text)
@@ -124,6 +129,7 @@ impl<N: Mechanism, K: Mechanism> Negotiate<N, K> {
         ensures stays { Stays (values_of self.old) (values_of self.new) }
         ensures unused { StaysUnused N.meaning K.meaning self.old self.new }
         ensures picked { StaysPicked (values_of self.old) (values_of self.new) }
+        ensures need { self.new.need ≡ self.old.need }
     {
         Ok(
             self.protocol
@@ -147,6 +153,7 @@ impl<N: Mechanism, K: Mechanism> Negotiate<N, K> {
         // What every answer keeps.
         ensures unused { StaysUnused N.meaning K.meaning self.old self.new }
         ensures picked { StaysPicked (values_of self.old) (values_of self.new) }
+        ensures need { self.new.need ≡ self.old.need }
     {
         let text = spelled_list(self.alloc, &self.mech_types)?;
         self.answer_over(result_field, state, status, token, &text)
@@ -168,6 +175,7 @@ impl<N: Mechanism, K: Mechanism> Negotiate<N, K> {
         // What every answer keeps.
         ensures unused { StaysUnused N.meaning K.meaning self.old self.new }
         ensures picked { StaysPicked (values_of self.old) (values_of self.new) }
+        ensures need { self.new.need ≡ self.old.need }
     {
         let mic = sign_with(&mut self.protocol, text)?;
         let token = NegTokenTarg {
@@ -187,6 +195,7 @@ impl<N: Mechanism, K: Mechanism> Negotiate<N, K> {
         // What every answer keeps.
         ensures unused { StaysUnused N.meaning K.meaning self.old self.new }
         ensures picked { StaysPicked (values_of self.old) (values_of self.new) }
+        ensures need { self.new.need ≡ self.old.need }
     {
         self.answer_signed(
             NegResult::AcceptComplete,
@@ -204,6 +213,7 @@ impl<N: Mechanism, K: Mechanism> Negotiate<N, K> {
         // What every answer keeps.
         ensures unused { StaysUnused N.meaning K.meaning self.old self.new }
         ensures picked { StaysPicked (values_of self.old) (values_of self.new) }
+        ensures need { self.new.need ≡ self.old.need }
     {
         self.answer_signed(
             NegResult::AcceptIncomplete,

@@ -1,4 +1,4 @@
-ghost use Rattle.std.specs.Prelude.{◌≡◌, ◌≢◌, [], true, None, OnErr};
+ghost use Rattle.std.specs.Prelude.{◌≡◌, [], true, None, OnErr};
 ghost use Rattle.sspi_mech.specs.Answered.{answered};
 ghost use Rattle.sspi_negotiate.specs.Does.{Does, Stays, StaysPicked, StaysUnmarked, StaysUnused, told};
 ghost use Rattle.sspi_negotiate.specs.Passes.{Passes};
@@ -107,6 +107,7 @@ impl<N: Mechanism, K: Mechanism> Negotiate<N, K> {
         ensures stays { self.old.packages.ntlm ≡ true → Stays (values_of self.old) (values_of self.new) }
         ensures unused { StaysUnused N.meaning K.meaning self.old self.new }
         ensures unmarked { StaysUnmarked N.meaning K.meaning self.old self.new }
+        ensures need { self.new.need ≡ self.old.need }
     {
         match self.protocol.protocol() {
             Protocol::Ntlm => Ok(()),
@@ -122,6 +123,7 @@ impl<N: Mechanism, K: Mechanism> Negotiate<N, K> {
         ensures stays { self.old.packages.ntlm ≡ true → Stays (values_of self.old) (values_of self.new) }
         ensures unused { StaysUnused N.meaning K.meaning self.old self.new }
         ensures unmarked { StaysUnmarked N.meaning K.meaning self.old self.new }
+        ensures need { self.new.need ≡ self.old.need }
     {
         self.protocol = NegotiatedProtocol::new_ntlm(self.alloc, &self.client_computer_name)?;
         Ok(())
@@ -140,6 +142,8 @@ impl<N: Mechanism, K: Mechanism> Negotiate<N, K> {
             (writes token.now (values_of self.old) (record (values_of self.old) { need = need; state = state }) status)
             self.old (told (answered result)) self.new }
         ensures stays { OnErr result (Stays (values_of self.old) (values_of self.new)) }
+        ensures need { OnErr result (self.new.need ≡ self.old.need) }
+        ensures same { need ≡ self.old.need → self.new.need ≡ self.old.need }
         // What every answer keeps.
         ensures unused { StaysUnused N.meaning K.meaning self.old self.new }
         ensures unmarked { StaysUnmarked N.meaning K.meaning self.old self.new }
@@ -151,12 +155,14 @@ impl<N: Mechanism, K: Mechanism> Negotiate<N, K> {
         Ok(Step { status, output })
     }
 
-    /// The negotiation is over.
+    /// The negotiation is over, without a MIC, and the need of MICs is this.
     #[tactic(auto, unfolding(crate::specs::Rows::completes))]
-    pub(crate) fn complete(&mut self, token: Bytes, mic: Option<Bytes>) -> Result<Step, Refusal>
+    pub(crate) fn complete(&mut self, token: Bytes, need: bool) -> Result<Step, Refusal>
         // The step, and what a refused one leaves.
-        ensures step { Does N.meaning K.meaning (completes (values_of self.old) token mic) self.old (told (answered result)) self.new }
+        ensures step { Does N.meaning K.meaning (completes (values_of self.old) token need) self.old (told (answered result)) self.new }
         ensures stays { OnErr result (Stays (values_of self.old) (values_of self.new)) }
+        ensures need { OnErr result (self.new.need ≡ self.old.need) }
+        ensures same { need ≡ self.old.need → self.new.need ≡ self.old.need }
         // What every answer keeps.
         ensures unused { StaysUnused N.meaning K.meaning self.old self.new }
         ensures picked { StaysPicked (values_of self.old) (values_of self.new) }
@@ -165,14 +171,9 @@ impl<N: Mechanism, K: Mechanism> Negotiate<N, K> {
             neg_result: Some(NegResult::AcceptComplete),
             supported_mech: None,
             response_token: if_some(token),
-            mech_list_mic: mic,
+            mech_list_mic: None,
         };
-        self.write(
-            &token,
-            self.mic_needed,
-            NegotiateState::Ok,
-            SecurityStatus::Ok,
-        )
+        self.write(&token, need, NegotiateState::Ok, SecurityStatus::Ok)
     }
 
     /// The negotiation is over, and nothing is left to be sent.
@@ -185,6 +186,7 @@ impl<N: Mechanism, K: Mechanism> Negotiate<N, K> {
         // What every answer keeps.
         ensures unused { StaysUnused N.meaning K.meaning self.old self.new }
         ensures picked { StaysPicked (values_of self.old) (values_of self.new) }
+        ensures need { self.new.need ≡ self.old.need }
     {
         self.state = NegotiateState::Ok;
         Ok(Step {
@@ -202,6 +204,7 @@ impl<N: Mechanism, K: Mechanism> Negotiate<N, K> {
         // What every answer keeps.
         ensures unused { StaysUnused N.meaning K.meaning self.old self.new }
         ensures picked { StaysPicked (values_of self.old) (values_of self.new) }
+        ensures need { self.new.need ≡ self.old.need }
     {
         let token = NegTokenTarg {
             neg_result: Some(NegResult::AcceptIncomplete),

@@ -1,6 +1,6 @@
 //! What holds of every negotiation. Each law is the contract of a call that does nothing.
 
-ghost use Rattle.std.specs.Prelude.{◌≡◌, ◌≢◌, true, Result, Ok};
+ghost use Rattle.std.specs.Prelude.{◌≡◌, ◌≢◌, true, false, Some, Result, Ok, OnErr};
 ghost use Rattle.sspi_types.specs.declared.error.Error.{Error};
 ghost use Rattle.sspi_mech.specs.declared.step.Answer.{Answer};
 ghost use Rattle.sspi_mech.specs.declared.step.Reply.{Reply};
@@ -8,12 +8,15 @@ ghost use Rattle.sspi_mech.specs.declared.step.Step.{Step};
 ghost use Rattle.sspi_mech.specs.Calls.{StepArgs, AcceptArgs};
 ghost use Rattle.sspi_mech.specs.Context.{IsContext};
 ghost use Rattle.sspi_negotiate.specs.declared.protocol.NegotiatedProtocol.{NegotiatedProtocol};
-ghost use Rattle.sspi_negotiate.specs.Does.{UnlessMemory, told};
+ghost use Rattle.sspi_negotiate.specs.Does.{StaysNeeded, UnlessMemory, told};
+ghost use Rattle.sspi_negotiate.specs.Choices.{chosen_in, other_protocol, UnlessRefused};
+ghost use Rattle.sspi_negotiate.specs.Client.{is_guest};
+ghost use Rattle.sspi_negotiate.specs.declared.protocol.Protocol.{Protocol};
 ghost use Rattle.sspi_mech.specs.declared.step.Answer.TheVariants as answers;
 ghost use Rattle.sspi_negotiate.specs.declared.state.NegotiateState.TheVariants as states;
 ghost use Rattle.sspi_negotiate.specs.Hand.{hand, hand_of};
 ghost use Rattle.sspi_negotiate.specs.Verified.{IsVerified};
-ghost use Rattle.sspi_negotiate.specs.Keeps.{Keeps, KeepsPackages};
+ghost use Rattle.sspi_negotiate.specs.Keeps.{Keeps, KeepsPackages, may_use};
 ghost use Rattle.sspi_negotiate.specs.Values.{Negotiation, values_of};
 ghost use Rattle.sspi_negotiate.specs.Negotiate.{negotiate};
 
@@ -49,6 +52,30 @@ pub fn steps_keep<N: Mechanism, K: Mechanism>()
     ensures server { (old new : Negotiation (NegotiatedProtocol N K)) (args : AcceptArgs) (result : Result Step Error) →
         (negotiate N.REQUESTS N.meaning K.meaning).accepts old args result new →
         UnlessMemory (told result) (Keeps (values_of old) (values_of new)) }
+{}
+
+/// A server's choice stays: in a later step that takes it the client disables the other mechanism, and it takes no choice of one that
+/// is disabled. No package is enabled again (`packages_are_kept`), so once Kerberos was chosen a choice of NTLM is refused, and the
+/// other way round.
+pub fn choices_are_kept<N: Mechanism, K: Mechanism>()
+    ensures disables { (old new : Negotiation (NegotiatedProtocol N K)) (args : StepArgs) (answer : Answer) (protocol : Protocol) →
+        (negotiate N.REQUESTS N.meaning K.meaning).steps old args answer new → old.state ≡ states.InProgress →
+        chosen_in args.input ≡ Some protocol → UnlessRefused answer (may_use new.packages (other_protocol protocol) ≡ false) }
+    ensures refused { (old new : Negotiation (NegotiatedProtocol N K)) (args : StepArgs) (answer : Answer) (protocol : Protocol) →
+        (negotiate N.REQUESTS N.meaning K.meaning).steps old args answer new → old.state ≡ states.InProgress →
+        chosen_in args.input ≡ Some protocol → may_use old.packages protocol ≡ false → UnlessRefused answer ⊥ }
+{}
+
+/// Where MICs are needed they stay so, want of memory included: a server's refused step leaves the need as it was, and so does a
+/// resumed step, whatever it answers; a client's later step takes it away for a guest alone.
+pub fn mic_need_is_kept<N: Mechanism, K: Mechanism>()
+    ensures client { (old new : Negotiation (NegotiatedProtocol N K)) (args : StepArgs) (answer : Answer) →
+        (negotiate N.REQUESTS N.meaning K.meaning).steps old args answer new →
+        old.state ≢ states.Initial → StaysNeeded (is_guest args.handle) (values_of old) (values_of new) }
+    ensures resumed { (old new : Negotiation (NegotiatedProtocol N K)) (reply : Reply) (answer : Answer) →
+        (negotiate N.REQUESTS N.meaning K.meaning).resumes old reply answer new → new.need ≡ old.need }
+    ensures server { (old new : Negotiation (NegotiatedProtocol N K)) (args : AcceptArgs) (result : Result Step Error) →
+        (negotiate N.REQUESTS N.meaning K.meaning).accepts old args result new → OnErr result (new.need ≡ old.need) }
 {}
 
 /// An end that needs MICs comes to its end only where, in that very step, the mechanism that is left in hand verified the

@@ -24,7 +24,7 @@ use crate::state::NegotiateState;
 use sspi_mech::{Answer, InitializeSecurityContext, Mechanism, Progressing, Refusal, Reply, Step};
 use sspi_names::CredentialsBuffers;
 use sspi_tokens::NegTokenInit;
-use sspi_types::{Bytes, DataRepresentation, Error, ErrorKind, Reason, SecurityStatus};
+use sspi_types::{Bytes, DataRepresentation, ErrorKind, Reason, SecurityStatus};
 
 /// A step that asks nothing more.
 pub(crate) fn done(ended: Result<Step, Refusal>) -> Result<Progressing, Refusal>
@@ -144,6 +144,7 @@ impl<N: Mechanism, K: Mechanism> Negotiate<N, K> {
         // What every answer keeps.
         ensures unused { StaysUnused N.meaning K.meaning self.old self.new }
         ensures unmarked { StaysUnmarked N.meaning K.meaning self.old self.new }
+        ensures need { self.new.need ≡ self.old.need }
     {
         if has_begun(step.status) {
             self.offer(step.output)
@@ -160,6 +161,7 @@ impl<N: Mechanism, K: Mechanism> Negotiate<N, K> {
         // What every answer keeps.
         ensures unused { StaysUnused N.meaning K.meaning self.old self.new }
         ensures unmarked { StaysUnmarked N.meaning K.meaning self.old self.new }
+        ensures need { self.new.need ≡ self.old.need }
     {
         let list = offered(self.alloc, self.protocol.protocol(), self.packages)?;
         let token = NegTokenInit {
@@ -210,6 +212,7 @@ impl<N: Mechanism, K: Mechanism> Negotiate<N, K> {
         // What every answer keeps.
         ensures unused { StaysUnused N.meaning K.meaning self.old self.new }
         ensures unmarked { StaysUnmarked N.meaning K.meaning self.old self.new }
+        ensures need { self.new.need ≡ self.old.need }
         ensures other { UnlessMemory (answer_of (answered result)) (refusal.error_type ≢ ErrorKind.InsufficientMemory) }
     {
         if self.falls_back(&refusal) {
@@ -229,6 +232,7 @@ impl<N: Mechanism, K: Mechanism> Negotiate<N, K> {
         // What every answer keeps.
         ensures unused { StaysUnused N.meaning K.meaning self.old self.new }
         ensures unmarked { StaysUnmarked N.meaning K.meaning self.old self.new }
+        ensures need { self.new.need ≡ self.old.need }
     {
         match NegotiatedProtocol::new_ntlm(self.alloc, &self.client_computer_name) {
             Err(refusal) => {
@@ -253,6 +257,7 @@ impl<N: Mechanism, K: Mechanism> Negotiate<N, K> {
         // What every answer keeps.
         ensures unused { StaysUnused N.meaning K.meaning self.old self.new }
         ensures unmarked { StaysUnmarked N.meaning K.meaning self.old self.new }
+        ensures need { self.new.need ≡ self.old.need }
     {
         let representation = self.data_representation;
         match step_again(
@@ -283,6 +288,7 @@ impl<N: Mechanism, K: Mechanism> Negotiate<N, K> {
         // What every answer keeps.
         ensures unused { StaysUnused N.meaning K.meaning self.old self.new }
         ensures unmarked { StaysUnmarked N.meaning K.meaning self.old self.new }
+        ensures need { self.new.need ≡ self.old.need }
     {
         match self.protocol.resume(reply) {
             Answer::Done(step) => done(self.begin(step)),

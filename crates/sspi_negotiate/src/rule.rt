@@ -1,4 +1,4 @@
-ghost use Rattle.std.specs.Prelude.{◌≡◌, ◌≢◌, None, IfOk, IfErr, IfSome, OnOk, OnErr, option_copied};
+ghost use Rattle.std.specs.Prelude.{◌≡◌, None, IfOk, IfErr, IfSome, OnOk, OnErr, option_copied};
 ghost use Rattle.std.specs.Option.{unwrap_or};
 ghost use Rattle.sspi_mech.specs.Calls.{no_counts};
 ghost use Rattle.sspi_types.specs.declared.error_kind.ErrorKind.TheVariants as kinds;
@@ -70,6 +70,7 @@ impl<N: Mechanism, K: Mechanism> Negotiate<N, K> {
         ensures named { OnOk result (values_of self.new ≡ ruled_values (rule_url (values_of self.old) name.now) (values_of self.old)) }
         // What holds of every answer.
         ensures rest { self.new ≡ record self.old { mech = self.new.mech } }
+        ensures need { self.new.need ≡ self.old.need }
         ensures unused { StaysUnused N.meaning K.meaning self.old self.new }
         ensures unmarked { StaysUnmarked N.meaning K.meaning self.old self.new }
         // What a refusal says, and what it leaves.

@@ -1,5 +1,5 @@
 // The steps of a server, and its first one: the offer is read and a mechanism is picked, in the order of `specs/Server.antt`.
-ghost use Rattle.std.specs.Prelude.{◌≡◌, ◌≢◌, [], true, None, Some, IfOk, IfErr, OnErr, if◌then◌else◌};
+ghost use Rattle.std.specs.Prelude.{◌≡◌, ◌≢◌, [], true, None, Some, IfOk, IfErr, OnErr};
 ghost use Rattle.sspi_mech.specs.Calls.{accept_args};
 ghost use Rattle.sspi_mech.specs.Calls.{IsUnused};
 ghost use Rattle.sspi_mech.specs.Answered.{answered};
@@ -97,6 +97,7 @@ impl<N: Mechanism, K: Mechanism> Negotiate<N, K> {
         ensures step { Does N.meaning K.meaning (spnego_server (values_of self.old) (accept_args args.now))
             self.old (told (answered result)) self.new }
         ensures stays { OnErr result (Stays (values_of self.old) (values_of self.new)) }
+        ensures need { OnErr result (self.new.need ≡ self.old.need) }
         // What every answer keeps.
         ensures unused { StaysUnused N.meaning K.meaning self.old self.new }
         ensures first { self.old.state ≡ states.Initial → StaysUnmarked N.meaning K.meaning self.old self.new }
@@ -120,6 +121,7 @@ impl<N: Mechanism, K: Mechanism> Negotiate<N, K> {
         ensures step { Does N.meaning K.meaning (at_initial (init_of args.now.input.now) (values_of self.old) (accept_args args.now))
             self.old (told (answered result)) self.new }
         ensures stays { OnErr result (Stays (values_of self.old) (values_of self.new)) }
+        ensures need { OnErr result (self.new.need ≡ self.old.need) }
         // What every answer keeps.
         ensures unused { StaysUnused N.meaning K.meaning self.old self.new }
         ensures unmarked { StaysUnmarked N.meaning K.meaning self.old self.new }
@@ -141,6 +143,7 @@ impl<N: Mechanism, K: Mechanism> Negotiate<N, K> {
         ensures step { Does N.meaning K.meaning (reads_list list token (values_of self.old) (accept_args args.now))
             self.old (told (answered result)) self.new }
         ensures stays { OnErr result (Stays (values_of self.old) (values_of self.new)) }
+        ensures need { OnErr result (self.new.need ≡ self.old.need) }
         // What every answer keeps.
         ensures unused { StaysUnused N.meaning K.meaning self.old self.new }
         ensures unmarked { StaysUnmarked N.meaning K.meaning self.old self.new }
@@ -168,6 +171,7 @@ impl<N: Mechanism, K: Mechanism> Negotiate<N, K> {
         ensures step { Does N.meaning K.meaning (picks picked list token (values_of self.old) (accept_args args.now))
             self.old (told (answered result)) self.new }
         ensures stays { IsUsable self.old.packages picked → OnErr result (Stays (values_of self.old) (values_of self.new)) }
+        ensures need { OnErr result (self.new.need ≡ self.old.need) }
         // What every answer keeps.
         ensures unused { StaysUnused N.meaning K.meaning self.old self.new }
         ensures unmarked { StaysUnmarked N.meaning K.meaning self.old self.new }
@@ -192,6 +196,7 @@ impl<N: Mechanism, K: Mechanism> Negotiate<N, K> {
             self.old (told (answered result)) self.new }
         ensures stays { OnNtlm picked.choice (self.old.packages.ntlm ≡ true) →
             OnErr result (Stays (values_of self.old) (values_of self.new)) }
+        ensures need { OnErr result (self.new.need ≡ self.old.need) }
         // What every answer keeps.
         ensures unused { StaysUnused N.meaning K.meaning self.old self.new }
         ensures unmarked { StaysUnmarked N.meaning K.meaning self.old self.new }
@@ -214,6 +219,7 @@ impl<N: Mechanism, K: Mechanism> Negotiate<N, K> {
             (placed token picked (record (values_of self.old) { hand = protocols.Ntlm }) (accept_args args.now)))
             self.old (told (answered result)) self.new }
         ensures stays { self.old.packages.ntlm ≡ true → OnErr result (Stays (values_of self.old) (values_of self.new)) }
+        ensures need { OnErr result (self.new.need ≡ self.old.need) }
         // What every answer keeps.
         ensures unused { StaysUnused N.meaning K.meaning self.old self.new }
         ensures unmarked { StaysUnmarked N.meaning K.meaning self.old self.new }
@@ -233,6 +239,7 @@ impl<N: Mechanism, K: Mechanism> Negotiate<N, K> {
         ensures step { Does N.meaning K.meaning (placed token picked (values_of self.old) (accept_args args.now))
             self.old (told (answered result)) self.new }
         ensures stays { OnErr result (Stays (values_of self.old) (values_of self.new)) }
+        ensures need { OnErr result (self.new.need ≡ self.old.need) }
         // What every answer keeps.
         ensures unused { StaysUnused N.meaning K.meaning self.old self.new }
         ensures unmarked { StaysUnmarked N.meaning K.meaning self.old self.new }
@@ -256,6 +263,7 @@ impl<N: Mechanism, K: Mechanism> Negotiate<N, K> {
         ensures step { Does N.meaning K.meaning (goes_on_with picked token need state (values_of self.old))
             self.old (told (answered result)) self.new }
         ensures stays { OnErr result (Stays (values_of self.old) (values_of self.new)) }
+        ensures need { OnErr result (self.new.need ≡ self.old.need) }
         // What every answer keeps.
         ensures unused { StaysUnused N.meaning K.meaning self.old self.new }
         ensures unmarked { StaysUnmarked N.meaning K.meaning self.old self.new }
@@ -270,6 +278,7 @@ impl<N: Mechanism, K: Mechanism> Negotiate<N, K> {
         // The step, and what a refused one leaves.
         ensures step { Does N.meaning K.meaning (drops picked (values_of self.old)) self.old (told (answered result)) self.new }
         ensures stays { OnErr result (Stays (values_of self.old) (values_of self.new)) }
+        ensures need { OnErr result (self.new.need ≡ self.old.need) }
         // What every answer keeps.
         ensures unused { StaysUnused N.meaning K.meaning self.old self.new }
         ensures unmarked { StaysUnmarked N.meaning K.meaning self.old self.new }
@@ -288,6 +297,7 @@ impl<N: Mechanism, K: Mechanism> Negotiate<N, K> {
         ensures step { Does N.meaning K.meaning (first_token token picked (values_of self.old) (accept_args args.now))
             self.old (told (answered result)) self.new }
         ensures stays { OnErr result (Stays (values_of self.old) (values_of self.new)) }
+        ensures need { OnErr result (self.new.need ≡ self.old.need) }
         // What every answer keeps.
         ensures unused { StaysUnused N.meaning K.meaning self.old self.new }
         ensures unmarked { StaysUnmarked N.meaning K.meaning self.old self.new }
@@ -317,6 +327,7 @@ impl<N: Mechanism, K: Mechanism> Negotiate<N, K> {
             (Pairs (λ pairs. waits_for_token picked v (needs_mic v (accept_args args.now) pairs))) self.old
             (told (answered result)) self.new }
         ensures stays { OnErr result (Stays (values_of self.old) (values_of self.new)) }
+        ensures need { OnErr result (self.new.need ≡ self.old.need) }
         // What every answer keeps.
         ensures unused { StaysUnused N.meaning K.meaning self.old self.new }
         ensures unmarked { StaysUnmarked N.meaning K.meaning self.old self.new }
@@ -337,6 +348,7 @@ impl<N: Mechanism, K: Mechanism> Negotiate<N, K> {
             (λ step. Pairs (λ pairs. opens picked v step (needs_mic v (accept_args args.now) pairs))))
             self.old (told (answered result)) self.new }
         ensures stays { OnErr result (Stays (values_of self.old) (values_of self.new)) }
+        ensures need { OnErr result (self.new.need ≡ self.old.need) }
         // What every answer keeps.
         ensures unused { StaysUnused N.meaning K.meaning self.old self.new }
         ensures unmarked { StaysUnmarked N.meaning K.meaning self.old self.new }
@@ -355,6 +367,7 @@ impl<N: Mechanism, K: Mechanism> Negotiate<N, K> {
         ensures step { let v = values_of self.old in Does N.meaning K.meaning
             (Pairs (λ pairs. opens picked v step (needs_mic v (accept_args args.now) pairs))) self.old (told (answered result)) self.new }
         ensures stays { OnErr result (Stays (values_of self.old) (values_of self.new)) }
+        ensures need { OnErr result (self.new.need ≡ self.old.need) }
         // What every answer keeps.
         ensures unused { StaysUnused N.meaning K.meaning self.old self.new }
         ensures unmarked { StaysUnmarked N.meaning K.meaning self.old self.new }
@@ -367,6 +380,7 @@ impl<N: Mechanism, K: Mechanism> Negotiate<N, K> {
         // The step, and what a refused one leaves.
         ensures step { Does N.meaning K.meaning (opens picked (values_of self.old) step need) self.old (told (answered result)) self.new }
         ensures stays { OnErr result (Stays (values_of self.old) (values_of self.new)) }
+        ensures need { OnErr result (self.new.need ≡ self.old.need) }
         // What every answer keeps.
         ensures unused { StaysUnused N.meaning K.meaning self.old self.new }
         ensures unmarked { StaysUnmarked N.meaning K.meaning self.old self.new }
@@ -387,6 +401,7 @@ impl<N: Mechanism, K: Mechanism> Negotiate<N, K> {
         // The step, and what a refused one leaves.
         ensures step { Does N.meaning K.meaning (goes_on picked (values_of self.old) need step) self.old (told (answered result)) self.new }
         ensures stays { OnErr result (Stays (values_of self.old) (values_of self.new)) }
+        ensures need { OnErr result (self.new.need ≡ self.old.need) }
         // What every answer keeps.
         ensures unused { StaysUnused N.meaning K.meaning self.old self.new }
         ensures unmarked { StaysUnmarked N.meaning K.meaning self.old self.new }
@@ -399,6 +414,7 @@ impl<N: Mechanism, K: Mechanism> Negotiate<N, K> {
         // The step, and what a refused one leaves.
         ensures step { Does N.meaning K.meaning (awaits_mic picked (values_of self.old) step) self.old (told (answered result)) self.new }
         ensures stays { OnErr result (Stays (values_of self.old) (values_of self.new)) }
+        ensures need { OnErr result (self.new.need ≡ self.old.need) }
         // What every answer keeps.
         ensures unused { StaysUnused N.meaning K.meaning self.old self.new }
         ensures unmarked { StaysUnmarked N.meaning K.meaning self.old self.new }
@@ -411,6 +427,7 @@ impl<N: Mechanism, K: Mechanism> Negotiate<N, K> {
         // The step, and what a refused one leaves.
         ensures step { Does N.meaning K.meaning (ends_at_once picked (values_of self.old) step) self.old (told (answered result)) self.new }
         ensures stays { OnErr result (Stays (values_of self.old) (values_of self.new)) }
+        ensures need { OnErr result (self.new.need ≡ self.old.need) }
         // What every answer keeps.
         ensures unused { StaysUnused N.meaning K.meaning self.old self.new }
         ensures unmarked { StaysUnmarked N.meaning K.meaning self.old self.new }

@@ -202,25 +202,25 @@ module _ (old : Values) where
   to_end : (v : Values) → StaysChosen old v → StaysChosen old (record v { state = states.Ok })
   to_end v s = moved_on v states.Ok (λ e. cc (e)) s
 
-  completes_stay : (v : Values) (token : List ℕ) → StaysChosen old v → AllEnds (StaysAt old) (completes v token None)
-  unfolding completes
-  completes_stay v token s = writes_ends (StaysAt old) _ v _ _ (λ error. s) (λ step. to_end v s)
+  needing : (v : Values) (need : Bool) → StaysChosen old v → StaysChosen old (record v { need = need })
+  needing v need s = record { list = s.list; hand = s.hand; packages = s.packages; begun = s.begun }
 
-  excused : (v : Values) → StaysChosen old v → StaysChosen old (record v { need = false })
-  excused v s = record { list = s.list; hand = s.hand; packages = s.packages; begun = s.begun }
+  completes_stay : (v : Values) (token : List ℕ) (need : Bool) → StaysChosen old v → AllEnds (StaysAt old) (completes v token need)
+  unfolding completes
+  completes_stay v token need s = writes_ends (StaysAt old) _ v _ _ (λ error. s) (λ step. to_end _ (needing v need s))
 
   without_stays : (complete : Bool) (v : Values) (token : List ℕ) → StaysChosen old v → AllEnds (StaysAt old) (without_mic complete v token)
   unfolding without_mic
   without_stays true v token s = (
     λ error. s,
-    λ name. either_ends (StaysAt old) (is_guest_text (inner_of name)) _ _ (completes_stay _ token (excused v s)) (λ error. s),
+    λ name. either_ends (StaysAt old) (is_guest_text (inner_of name)) _ _ (completes_stay v token false s) (λ error. s),
   )
   without_stays false v token s = answers_signed_ends (StaysAt old) _ states.VerifyMic _ v token (λ error. s)
       (λ step. moved_on v states.VerifyMic (λ e. cc (e)) s)
 
   settles_stay : (need : Bool) (mic : Option (List ℕ)) (complete : Bool) (v : Values) (token : List ℕ) → StaysChosen old v →
       AllEnds (StaysAt old) (settles need mic complete v token)
-  settles_stay false mic complete v token s = completes_stay v token s
+  settles_stay false mic complete v token s = completes_stay v token v.need s
   settles_stay true (Some mic) complete v token s = checks_ends (StaysAt old) mic v _ (λ error. s)
       (answers_signed_ends (StaysAt old) _ states.Ok _ v token (λ error. s) (λ step. to_end v s))
   settles_stay true None complete v token s = without_stays complete v token s

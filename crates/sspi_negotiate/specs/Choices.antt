@@ -1,0 +1,35 @@
+-- What a server's choice of a mechanism is to a client: one that a step has taken stays (RFC 4178, section 4.2.2).
+use Rattle.std.specs.Prelude.{ℕ, List, Option, None, Some, option_and_then, option_map}
+use Rattle.sspi_mech.specs.declared.step.Answer.{Answer}
+use Rattle.sspi_mech.specs.declared.step.Answer.TheVariants.{Done, Ask, Refused}
+use Rattle.sspi_tokens.specs.declared.neg_token_targ.NegTokenTarg.{NegTokenTarg}
+use Rattle.sspi_tokens.specs.declared.oid.MechKind.{MechKind}
+use Rattle.sspi_tokens.specs.declared.oid.MechKind.TheVariants as kinds
+use Rattle.sspi_tokens.specs.Oids.{kind_of}
+use Rattle.sspi_tokens.specs.Reading.{targ_of}
+use Rattle.sspi_negotiate.specs.declared.protocol.Protocol.{Protocol}
+use Rattle.sspi_negotiate.specs.declared.protocol.Protocol.TheVariants.{Kerberos, Ntlm}
+
+abbrev pub protocol_of : MechKind → Option Protocol
+protocol_of kinds.MsKerberos = Some Kerberos
+protocol_of kinds.Kerberos = Some Kerberos
+protocol_of kinds.Ntlm = Some Ntlm
+protocol_of kinds.Other = None
+
+abbrev pub chosen_by : Option NegTokenTarg → Option Protocol
+chosen_by None = None
+chosen_by (Some token) = option_and_then protocol_of (option_map kind_of token.supported_mech)
+
+-- the mechanism that the server's token chooses, if it is one that is known
+abbrev pub chosen_in : List ℕ → Option Protocol
+chosen_in input = chosen_by (targ_of input)
+
+abbrev pub other_protocol : Protocol → Protocol
+other_protocol Kerberos = Ntlm
+other_protocol Ntlm = Kerberos
+
+-- a fact where a step was made, or waits for a KDC
+abbrev pub UnlessRefused : Answer → Type 0 → Type 0
+UnlessRefused (Done step) P = P
+UnlessRefused (Ask request) P = P
+UnlessRefused (Refused error) P = Unit {0}
