@@ -6,9 +6,9 @@ ghost use Rattle.sspi_tokens.specs.Spelling.{oids_text, spelled_list};
 
 use crate::oid::Oid;
 use crate::refusal::too_long;
-use crate::sizes::{element_len, oids_len};
+use crate::sizes::oids_len;
 use crate::writing::put_mech_types;
-use sspi_ber::VecSink;
+use sspi_ber::{VecSink, size_of_element};
 use sspi_types::Error;
 use std::alloc::{AllocError, Global};
 use std::marker::Model;
@@ -92,7 +92,7 @@ fn write_list(alloc: Global, list: &MechTypeList, len: usize) -> Result<Vec<u8>,
     requires fits { len ≤ max_content }
     ensures { IfOk result (λ bytes. bytes.items ≡ element 0x30 (oids_text list.now)) }
 {
-    let mut sink = VecSink::with_capacity(alloc, element_len(len))?;
+    let mut sink = VecSink::with_capacity(alloc, size_of_element(len))?;
     put_mech_types(&mut sink, list.as_slice(), len)?;
     Ok(sink.into_inner())
 }

@@ -9,9 +9,9 @@ use crate::copying::copy_init;
 use crate::mech_type_list::MechTypeList;
 use crate::reading::read_init;
 use crate::refusal::{malformed, too_long};
-use crate::sizes::{InitLengths, element_len, init_lengths};
+use crate::sizes::{InitLengths, init_lengths};
 use crate::writing::put_init;
-use sspi_ber::{SliceSource, VecSink};
+use sspi_ber::{SliceSource, VecSink, size_of_element};
 use sspi_types::{Bytes, Error};
 use std::alloc::{AllocError, Global};
 
@@ -100,7 +100,7 @@ fn write_init(
     requires { IsInitLengths token.now lengths.now }
     ensures { IfOk result (λ bytes. bytes.items ≡ element 0x60 (init_content token.now)) }
 {
-    let mut sink = VecSink::with_capacity(alloc, element_len(lengths.content))?;
+    let mut sink = VecSink::with_capacity(alloc, size_of_element(lengths.content))?;
     put_init(&mut sink, token, lengths)?;
     Ok(sink.into_inner())
 }

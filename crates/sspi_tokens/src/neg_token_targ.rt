@@ -11,9 +11,9 @@ use crate::neg_token_init::clone_bytes;
 use crate::oid::Oid;
 use crate::reading::read_targ;
 use crate::refusal::{malformed, too_long};
-use crate::sizes::{element_len, targ_fields_len};
+use crate::sizes::targ_fields_len;
 use crate::writing::put_targ;
-use sspi_ber::{SliceSource, VecSink};
+use sspi_ber::{SliceSource, VecSink, size_of_element};
 use sspi_types::{Bytes, Error};
 use std::alloc::{AllocError, Global};
 
@@ -91,7 +91,7 @@ fn write_targ(alloc: Global, token: &NegTokenTarg, fields: usize) -> Result<Vec<
     requires fits { length (targ_content token.now) ≤ max_content }
     ensures { IfOk result (λ bytes. bytes.items ≡ element 0xA1 (targ_content token.now)) }
 {
-    let mut sink = VecSink::with_capacity(alloc, element_len(element_len(fields)))?;
+    let mut sink = VecSink::with_capacity(alloc, size_of_element(size_of_element(fields)))?;
     put_targ(&mut sink, token, fields)?;
     Ok(sink.into_inner())
 }

@@ -3,7 +3,7 @@ ghost use Rattle.std.specs.Option.{option_map, SomeIff};
 ghost use Rattle.sspi_ber.specs.Forms.{max_content};
 ghost use Rattle.sspi_ber.specs.Short.{element, element_size};
 ghost use Rattle.sspi_tokens.specs.Spelling.{field, oids_text, mech_types_text, result_text};
-ghost use Rattle.sspi_tokens.specs.Spelling.{init_fields, init_content, targ_fields, targ_content};
+ghost use Rattle.sspi_tokens.specs.Spelling.{init_content, targ_fields, targ_content};
 ghost use Rattle.sspi_tokens.specs.Writing.{Measures, list_length, IsInitLengths};
 
 use crate::mech_type_list::MechTypeList;
@@ -11,19 +11,8 @@ use crate::neg_result::NegResult;
 use crate::neg_token_init::NegTokenInit;
 use crate::neg_token_targ::NegTokenTarg;
 use crate::oid::Oid;
-use sspi_ber::{MAX_CONTENT, sizeof_sequence};
+use sspi_ber::{MAX_CONTENT, size_of_element};
 use sspi_types::Bytes;
-
-/// How many bytes an element takes.
-pub(crate) fn element_len(content: usize) -> usize
-    requires { content ≤ max_content }
-    ensures { result ≡ element_size content }
-{
-    match sizeof_sequence(content) {
-        Ok(size) => size,
-        Err(_) => unreachable!(),
-    }
-}
 
 /// A length, where it fits.
 fn short(len: usize) -> Option<usize>
@@ -40,7 +29,7 @@ fn around(content: usize) -> Option<usize>
     requires { content ≤ max_content }
     ensures { Measures result (element_size content) }
 {
-    short(element_len(content))
+    short(size_of_element(content))
 }
 
 /// The length of an element in an element, where it fits.

@@ -1,7 +1,7 @@
-ghost use Rattle.std.specs.Prelude.{◌≡◌, ◌+◌, ◌≤◌, ◌++◌, length};
+ghost use Rattle.std.specs.Prelude.{◌≡◌, ◌≤◌, length};
 ghost use Rattle.std.specs.Option.{option_map};
 ghost use Rattle.sspi_ber.specs.Forms.{max_content};
-ghost use Rattle.sspi_ber.specs.Short.{header, element, element_size};
+ghost use Rattle.sspi_ber.specs.Short.{header, element};
 ghost use Rattle.sspi_tokens.specs.Spelling.{field, oids_text, mech_types_text, result_text, init_fields};
 ghost use Rattle.sspi_tokens.specs.Spelling.{init_content, octet_fields, last_fields, targ_fields, targ_content};
 ghost use Rattle.sspi_tokens.specs.Writing.{list_length, IsInitLengths, Puts};
@@ -11,12 +11,12 @@ use crate::neg_result::NegResult;
 use crate::neg_token_init::NegTokenInit;
 use crate::neg_token_targ::NegTokenTarg;
 use crate::oid::{Oid, SPNEGO};
-use crate::sizes::{InitLengths, element_len};
+use crate::sizes::InitLengths;
 use crate::tags::{
     ENUMERATED, FIELD_0, FIELD_1, FIELD_2, FIELD_3, INITIAL_TOKEN, OBJECT_IDENTIFIER, OCTET_STRING,
     SEQUENCE,
 };
-use sspi_ber::{VecSink, write_element, write_header};
+use sspi_ber::{VecSink, size_of_element, write_element, write_header};
 use sspi_types::Bytes;
 use std::alloc::AllocError;
 
@@ -46,7 +46,7 @@ fn put_field(sink: &mut VecSink, tag: u8, inner: u8, content: &[u8]) -> Result<(
     requires { length (element tag (element inner content.now)) ≤ max_content }
     ensures { Puts sink.old sink.new result (element tag (element inner content.now)) }
 {
-    put_header(sink, tag, element_len(content.len()))?;
+    put_header(sink, tag, size_of_element(content.len()))?;
     put_element(sink, inner, content)
 }
 
@@ -126,7 +126,7 @@ fn put_list(sink: &mut VecSink, oids: &[Oid], len: usize) -> Result<(), AllocErr
     requires fits { length (element 0xA0 (mech_types_text oids.now)) ≤ max_content }
     ensures { Puts sink.old sink.new result (element 0xA0 (mech_types_text oids.now)) }
 {
-    put_header(sink, FIELD_0, element_len(len))?;
+    put_header(sink, FIELD_0, size_of_element(len))?;
     put_mech_types(sink, oids, len)
 }
 
@@ -168,7 +168,7 @@ fn put_init_body(
     requires { IsInitLengths token.now lengths.now }
     ensures { Puts sink.old sink.new result (element 0xA0 (element 0x30 (init_fields token.now))) }
 {
-    put_header(sink, FIELD_0, element_len(lengths.fields))?;
+    put_header(sink, FIELD_0, size_of_element(lengths.fields))?;
     put_init_sequence(sink, token, lengths)
 }
 
@@ -253,6 +253,6 @@ pub(crate) fn put_targ(
     requires fits { length (targ_content token.now) ≤ max_content }
     ensures { Puts sink.old sink.new result (element 0xA1 (targ_content token.now)) }
 {
-    put_header(sink, FIELD_1, element_len(fields))?;
+    put_header(sink, FIELD_1, size_of_element(fields))?;
     put_targ_content(sink, token, fields)
 }

@@ -6,6 +6,6 @@ use Rattle.sspi_tokens.proofs.writing.put_field.Goals as goal
 
 pub returns : goal.returns
 returns c =
-    puts_around c.put_element.new.sink c.args.tag c.element_len.result (element c.args.inner c.args.content.now)
+    puts_around c.put_element.new.sink c.args.tag c.size_of_element.result (element c.args.inner c.args.content.now)
     c.put_element.result c.in_ok-put_header.ensures
-    (c.element_len.ensures ∙ sym (length-element c.args.inner c.args.content.now)) c.put_element.ensures
+    (c.size_of_element.ensures.size ∙ sym (length-element c.args.inner c.args.content.now)) c.put_element.ensures

@@ -8,7 +8,7 @@ use Rattle.sspi_tokens.proofs.writing.put_list.Goals as goal
 pub returns : goal.returns
 unfolding mech_types_text
 returns c =
-    puts_around c.put_mech_types.new.sink 0xA0 c.element_len.result (element 0x30 (oids_text c.args.oids.now))
+    puts_around c.put_mech_types.new.sink 0xA0 c.size_of_element.result (element 0x30 (oids_text c.args.oids.now))
     c.put_mech_types.result c.in_ok-put_header.ensures
-    (c.element_len.ensures ∙ ap element_size c.requires.size ∙ sym (length-element 0x30 (oids_text c.args.oids.now)))
+    (c.size_of_element.ensures.size ∙ ap element_size c.requires.size ∙ sym (length-element 0x30 (oids_text c.args.oids.now)))
     c.put_mech_types.ensures

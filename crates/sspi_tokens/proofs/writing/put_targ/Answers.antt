@@ -8,7 +8,7 @@ use Rattle.sspi_tokens.proofs.writing.put_targ.Goals as goal
 pub returns : goal.returns
 unfolding targ_content
 returns c =
-    puts_around c.put_targ_content.new.sink 0xA1 c.element_len.result (element 0x30 (targ_fields c.args.token.now))
+    puts_around c.put_targ_content.new.sink 0xA1 c.size_of_element.result (element 0x30 (targ_fields c.args.token.now))
     c.put_targ_content.result c.in_ok-put_header.ensures
-    (c.element_len.ensures ∙ ap element_size c.requires.size ∙ sym (length-element 0x30 (targ_fields c.args.token.now)))
+    (c.size_of_element.ensures.size ∙ ap element_size c.requires.size ∙ sym (length-element 0x30 (targ_fields c.args.token.now)))
     c.put_targ_content.ensures
