@@ -19,8 +19,9 @@ use Rattle.sspi_delegate.specs.declared.carried.Carried.{Carried}
 use Rattle.sspi_credssp.specs.declared.turn.Turn.{Turn}
 use Rattle.sspi_delegate.specs.Causes.{NewestFits, MessageFits}
 use Rattle.sspi_delegate.specs.Log.{delivery_limit, is_taken, IsRead, IsFault, IsDelivered, IsSent, IsEntry, Logged, IsUnreadable}
-use Rattle.sspi_delegate.specs.Link.{Delivers, FollowsEdits}
+use Rattle.sspi_delegate.specs.Link.{Delivers}
 use Rattle.sspi_credssp.specs.Turn.{message_of}
+use Rattle.sspi_completeness.specs.Matching.{AreWholePast}
 
 spelled_short : (r : TsRequest) → fits r ≡ true → length (spelled r) ≤ delivery_limit
 spelled_short r fit =
@@ -47,18 +48,18 @@ sent_is : (message : Option TsRequest) (r : TsRequest) (sent : List ℕ) → mes
     (sent ≡ spelled r)
 sent_is message r sent is h = subst (λ (m : Option TsRequest). IsSent m sent) is h
 
-head_whole : (t : Turn) (e : Carried) (log : List Carried) (r : TsRequest) → message_of t.outcome ≡ Some r → IsEntry t e →
-    FollowsEdits [] (e ∷ log) → is_taken e ≡ true →
+head_whole : (t : Turn) (e : Carried) (r : TsRequest) → message_of t.outcome ≡ Some r → IsEntry t e →
+    Delivers (Some e.sent) e → is_taken e ≡ true →
     (fits r ≡ true) × (e.delivered ≡ spelled r)
-head_whole t e log r is entry follows taken =
-    let sent = sent_is (message_of t.outcome) r e.sent is entry.1 in (sent.0, delivered_whole e r sent.0 sent.1 follows.0 taken)
+head_whole t e r is entry whole taken =
+    let sent = sent_is (message_of t.outcome) r e.sent is entry.1 in (sent.0, delivered_whole e r sent.0 sent.1 whole taken)
 
 -- and is read as what is carried of it
 pub request_is : (t : Turn) (past : List Turn) (e : Carried) (log : List Carried) (r request : TsRequest) →
     message_of t.outcome ≡ Some r → IsRequestValue r → IsEntry t e →
-    FollowsEdits [] (e ∷ log) → IsDelivered (t ∷ past) (e ∷ log) request → request ≡ carried r
-request_is t past e log r request is value entry follows delivered =
-    let whole = head_whole t e log r is entry follows delivered.0 in
+    Delivers (Some e.sent) e → IsDelivered (t ∷ past) (e ∷ log) request → request ≡ carried r
+request_is t past e log r request is value entry delivers delivered =
+    let whole = head_whole t e r is entry delivers delivered.0 in
     let read = subst (λ (bytes : List ℕ). IsRead bytes request) whole.1 delivered.1 in
     (one_request (spelled r) request (carried r) read.0 (length (spelled r)) read.1 (spelled_whole r value whole.0)).0
 
@@ -75,9 +76,9 @@ fault_never bytes InsufficientMemory none h = h
 -- so it is never unreadable
 pub never_unreadable : (t : Turn) (past : List Turn) (e : Carried) (log : List Carried) (r : TsRequest) (kind : WireKind) →
     message_of t.outcome ≡ Some r → IsRequestValue r →
-    IsEntry t e → FollowsEdits [] (e ∷ log) → IsUnreadable (t ∷ past) (e ∷ log) kind → ⊥
-never_unreadable t past e log r kind is value entry follows unreadable =
-    let whole = head_whole t e log r is entry follows unreadable.0 in
+    IsEntry t e → Delivers (Some e.sent) e → IsUnreadable (t ∷ past) (e ∷ log) kind → ⊥
+never_unreadable t past e log r kind is value entry delivers unreadable =
+    let whole = head_whole t e r is entry delivers unreadable.0 in
     let bad = subst (λ (bytes : List ℕ). IsFault bytes kind) whole.1 unreadable.1 in
     fault_never (spelled r) kind (no_fault (spelled r) (carried r) (length (spelled r)) (spelled_whole r value whole.0)) bad
 
@@ -86,17 +87,24 @@ pub never_too_long : (t : Turn) (past : List Turn) (r : TsRequest) → message_o
 never_too_long t past r is fit unfit =
     let at : fits r ≡ false = subst (λ (m : Option TsRequest). MessageFits m false) is unfit in cc
 
+-- a log has an entry for each turn behind those of before
+pub logged_behind : (base : List Carried) (turns : List Turn) (log : List Carried) → Logged base turns log → length base ≤ length log
+logged_behind base [] log entries = omega (arith, ap length entries)
+logged_behind base (t ∷ past) [] entries = absurd entries
+logged_behind base (t ∷ past) (e ∷ log) entries =
+    let before = logged_behind base past log entries.2 in omega (arith, before)
+
 -- the request of a turn after a message
 pub next_request : (base : List Carried) (t : Turn) (past : List Turn) (log : List Carried) (r request : TsRequest) →
     message_of t.outcome ≡ Some r → IsRequestValue r →
-    Logged base (t ∷ past) log → FollowsEdits [] log → IsDelivered (t ∷ past) log request → request ≡ carried r
-next_request base t past [] r request is value entries follows delivered = absurd entries
-next_request base t past (e ∷ log) r request is value entries follows delivered =
-    request_is t past e log r request is value entries.0 follows delivered
+    Logged base (t ∷ past) log → AreWholePast (length base) log → IsDelivered (t ∷ past) log request → request ≡ carried r
+next_request base t past [] r request is value entries whole delivered = absurd entries
+next_request base t past (e ∷ log) r request is value entries whole delivered =
+    request_is t past e log r request is value entries.0 (whole.0 (logged_behind base past log entries.2)) delivered
 
 pub always_readable : (base : List Carried) (t : Turn) (past : List Turn) (log : List Carried) (r : TsRequest) (kind : WireKind) →
     message_of t.outcome ≡ Some r → IsRequestValue r →
-    Logged base (t ∷ past) log → FollowsEdits [] log → IsUnreadable (t ∷ past) log kind → ⊥
-always_readable base t past [] r kind is value entries follows unreadable = absurd entries
-always_readable base t past (e ∷ log) r kind is value entries follows unreadable =
-    never_unreadable t past e log r kind is value entries.0 follows unreadable
+    Logged base (t ∷ past) log → AreWholePast (length base) log → IsUnreadable (t ∷ past) log kind → ⊥
+always_readable base t past [] r kind is value entries whole unreadable = absurd entries
+always_readable base t past (e ∷ log) r kind is value entries whole unreadable =
+    never_unreadable t past e log r kind is value entries.0 (whole.0 (logged_behind base past log entries.2)) unreadable

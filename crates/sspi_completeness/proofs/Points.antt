@@ -1,6 +1,6 @@
 -- Where the ends of an undisturbed exchange stand in each round, once it is known what they make of their turns.
 use Rattle.std.proofs.Common.{◌≡◌, ◌-◌, ℕ, suc, ◌≤◌, ◌<◌, ◌^◌, Bool, true, false, List, [], ◌∷◌, Some, refl, ap, sym, ◌∙◌}
-use Rattle.std.proofs.Common.{subst, arith}
+use Rattle.std.proofs.Common.{subst, arith, length}
 use Rattle.sspi_names.specs.declared.identity.AuthIdentity.{AuthIdentity}
 use Rattle.sspi_mech.specs.Meaning.{Meaning}
 use Rattle.sspi_tsreq.specs.declared.request.TsRequest.{TsRequest}
@@ -18,10 +18,10 @@ use Rattle.sspi_credssp.specs.declared.turn.Outcome.TheVariants.{Reply, Final, F
 use Rattle.sspi_credssp.specs.declared.turn.Turn.{Turn}
 use Rattle.sspi_delegate.specs.Chain.{KdcCalls}
 use Rattle.sspi_delegate.specs.Causes.{one_of, turns_of}
-use Rattle.sspi_delegate.specs.Link.{FollowsEdits}
 use Rattle.sspi_delegate.specs.Turns.{onto_client, onto_server, client_turns, server_turns, other, next_end, GoesOn, AllGoOn, Alternates}
 use Rattle.sspi_delegate.specs.History.{ClientMakes, ClientMade, ClientHistory, ServerMakes, ServerMade, ServerHistory}
 use Rattle.sspi_delegate.specs.Log.{IsDelivered, Logged}
+use Rattle.sspi_completeness.specs.Matching.{AreWholePast}
 use Rattle.sspi_completeness.proofs.Deliveries.{next_request}
 use Rattle.sspi_completeness.proofs.Ends.{Comes, Ends}
 use Rattle.sspi_completeness.proofs.Fits.{IsMessage}
@@ -36,11 +36,11 @@ Sent [] d = d ≡ first_request
 Sent (t ∷ past) d = (r : TsRequest) × (message_of t.outcome ≡ Some r) × IsMessage r × (d ≡ carried r)
 
 delivered_is : (base : List Carried) (turns : List Turn) (log : List Carried) (d request : TsRequest) → Sent turns d →
-    Logged base turns log → FollowsEdits [] log →
+    Logged base turns log → AreWholePast (length base) log →
     IsDelivered turns log request → request ≡ d
-delivered_is base [] log d request sent entries follows delivered = delivered ∙ sym sent
-delivered_is base (t ∷ past) log d request sent entries follows delivered =
-    next_request base t past log sent.0 request sent.1 sent.2.value entries follows delivered ∙ sym sent.3
+delivered_is base [] log d request sent entries whole delivered = delivered ∙ sym sent
+delivered_is base (t ∷ past) log d request sent entries whole delivered =
+    next_request base t past log sent.0 request sent.1 sent.2.value entries whole delivered ∙ sym sent.3
 
 comes_going : (out : Outcome) (Q : TsRequest → Type 0) → GoesOn out → Comes out Q → (r : TsRequest) × (message_of out ≡ Some r) × Q r
 comes_going (Reply r) Q going comes = (r, refl, comes)
@@ -189,7 +189,7 @@ module _ {C D P : Type 0} (c : Meaning ContextSetting C) (k : KdcCalls D) (p : P
     pub record NextTurn (base : List Carried) (t : Turn) (past : List Turn) (log : List Carried) : Type 0 where
       pub end_is : t.end ≡ next_end past
       pub entries : Logged base past log
-      pub follows : FollowsEdits [] log
+      pub whole : AreWholePast (length base) log
       pub delivered : IsDelivered past log t.delivered
 
     server_turned : (base log : List Carried) (t : Turn) (past : List Turn) (x2 : CView) (kdc2 : D) (y y2 : SView) (i : known.Round)
@@ -218,7 +218,7 @@ module _ {C D P : Type 0} (c : Meaning ContextSetting C) (k : KdcCalls D) (p : P
         (subst (λ (v : CView). Comes t.outcome (λ r. (r ≡ known.up i) × (known.is_last i ≡ false → known.ClientAt (known.next i) v kdc2)))
         (sym made.rest)
         (known.client_goes i x made.mid kdc kdc2 t.delivered t.outcome client
-        (delivered_is base past log _ t.delivered sent n.entries n.follows n.delivered) made.makes))
+        (delivered_is base past log _ t.delivered sent n.entries n.whole n.delivered) made.makes))
     turned base t past log x x2 kdc kdc2 y y2 (client_next i client server next count sent) n (by_server e made same same_kdc) proxy calm =
         absurd (wrong_end t.end (n.end_is ∙ next) e)
     turned base t past log x x2 kdc kdc2 y y2 (server_next i client server next count sent) n (by_client e made same) proxy calm =
@@ -227,7 +227,7 @@ module _ {C D P : Type 0} (c : Meaning ContextSetting C) (k : KdcCalls D) (p : P
         server_turned base log t past x2 kdc2 y y2 i (known.is_last i) refl
         (λ is. subst (λ (v : CView). known.ClientAt (known.next i) v kdc2) (sym same)
         (subst (known.ClientAt (known.next i) x) (sym same_kdc) (client is)))
-        server count (delivered_is base past log _ t.delivered sent n.entries n.follows n.delivered) e made proxy calm
+        server count (delivered_is base past log _ t.delivered sent n.entries n.whole n.delivered) e made proxy calm
 
     -- ---- where the ends stand once it went on
 
@@ -248,32 +248,33 @@ module _ {C D P : Type 0} (c : Meaning ContextSetting C) (k : KdcCalls D) (p : P
 
     pub stands : (base : List Carried) (turns : List Turn) (log : List Carried) (x : CView) (kdc : D) (y : SView) → Alternates turns →
         AllGoOn turns → Logged base turns log →
-        FollowsEdits [] log → ClientHistory c k a kdc_first (client_turns turns) x kdc → ServerHistory c p b (server_turns turns) y →
+        AreWholePast (length base) log → ClientHistory c k a kdc_first (client_turns turns) x kdc →
+        ServerHistory c p b (server_turns turns) y →
         IsCalmAt y → Stands turns x kdc y
-    stands base [] log x kdc y order going entries follows clients servers calm =
+    stands base [] log x kdc y order going entries whole clients servers calm =
         subst (λ (v : CView). Stands [] v kdc y) (sym clients.0)
         (subst (λ (v : D). Stands [] a v y) (sym clients.1) (subst (λ (v : SView). Stands [] a kdc_first v) (sym servers)
         (client_next known.start known.client_start known.server_start refl (sym known.start_rank) known.given_start)))
-    stands base (t ∷ past) [] x kdc y order going entries follows clients servers calm = absurd entries
-    stands base (t ∷ past) (e ∷ log) x kdc y order going entries follows clients servers calm =
+    stands base (t ∷ past) [] x kdc y order going entries whole clients servers calm = absurd entries
+    stands base (t ∷ past) (e ∷ log) x kdc y order going entries whole clients servers calm =
         let p = peel t past x kdc y clients servers in
         let proxy = proxy_same p.y (server_turns past) p.server in
-        let s = stands base past log p.x p.kdc p.y order.2 going.1 entries.2 follows.1 p.client p.server
+        let s = stands base past log p.x p.kdc p.y order.2 going.1 entries.2 whole.1 p.client p.server
         (calm_before t p.x x p.kdc kdc p.y y p.extends proxy calm) in
         stands_on t past x kdc y going.0
         (turned base t past log p.x x p.kdc kdc p.y y s (record
-        { end_is = order.0; entries = entries.2; follows = follows.1; delivered = entries.1 }) p.extends proxy calm)
+        { end_is = order.0; entries = entries.2; whole = whole.1; delivered = entries.1 }) p.extends proxy calm)
 
     -- the newest turn of an exchange whose other turns went on
     pub newest_turn : (base : List Carried) (t : Turn) (past : List Turn) (log : List Carried) (x : CView) (kdc : D) (y : SView) →
         Alternates (t ∷ past) →
-        IsDelivered past log t.delivered → Logged base past log → FollowsEdits [] log →
+        IsDelivered past log t.delivered → Logged base past log → AreWholePast (length base) log →
         ClientHistory c k a kdc_first (client_turns (t ∷ past)) x kdc →
         ServerHistory c p b (server_turns (t ∷ past)) y → IsCalmAt y → TurnIs t past x kdc y
-    newest_turn base t past log x kdc y order delivered entries follows clients servers calm =
+    newest_turn base t past log x kdc y order delivered entries whole clients servers calm =
         let p = peel t past x kdc y clients servers in
         let proxy = proxy_same p.y (server_turns past) p.server in
         let before = calm_before t p.x x p.kdc kdc p.y y p.extends proxy calm in
-        let s = stands base past log p.x p.kdc p.y order.2 order.1 entries follows p.client p.server before in
+        let s = stands base past log p.x p.kdc p.y order.2 order.1 entries whole p.client p.server before in
         turned base t past log p.x x p.kdc kdc p.y y s (record
-        { end_is = order.0; entries = entries; follows = follows; delivered = delivered }) p.extends proxy calm
+        { end_is = order.0; entries = entries; whole = whole; delivered = delivered }) p.extends proxy calm

@@ -1,5 +1,6 @@
 -- What an undisturbed exchange comes to, once it is known what its ends make of their turns.
-use Rattle.std.proofs.Common.{◌≡◌, ◌≢◌, ℕ, suc, ◌<◌, List, [], ◌∷◌, Option, None, Some, Result, Ok, Err, IfOk, sym, ◌∙◌, subst, arith}
+use Rattle.std.proofs.Common.{◌≡◌, ◌≢◌, ℕ, suc, ◌<◌, List, [], ◌∷◌, Option, None, Some, Result, Ok, Err, IfOk}
+use Rattle.std.proofs.Common.{sym, ◌∙◌, subst, arith, length}
 use Rattle.sspi_types.specs.declared.error.Error.{Error}
 use Rattle.sspi_types.specs.declared.error_kind.ErrorKind.{ErrorKind}
 use Rattle.sspi_types.specs.declared.error_kind.ErrorKind.TheVariants.{InsufficientMemory}
@@ -30,7 +31,7 @@ use Rattle.sspi_delegate.proofs.Histories.{client_stopped_history}
 use Rattle.sspi_delegate.specs.History.{ClientHistory, ClientPast, ServerHistory}
 use Rattle.sspi_delegate.specs.Log.{LoggedButLast}
 use Rattle.sspi_delegate.specs.EndRun.{server_end, GivesNewest}
-use Rattle.sspi_completeness.specs.Matching.{AreWhole, IsUndisturbed, unedited, shown, IsCalm, NoneFailed, none_told, none_counted}
+use Rattle.sspi_completeness.specs.Matching.{AreWholePast, IsUndisturbed, unedited, shown, IsCalm, NoneFailed, none_told, none_counted}
 use Rattle.sspi_completeness.proofs.Deliveries.{always_readable, never_too_long}
 use Rattle.sspi_completeness.proofs.Ends.{Comes, Ends}
 use Rattle.sspi_completeness.proofs.Fits.{IsMessage}
@@ -91,28 +92,33 @@ ends_calm base log limit start now (Err errors.LinkFault) turns calm ends = omeg
 ends_calm base log limit start now (Err errors.TurnsSpent) turns calm ends = tt
 ends_calm base log limit start now (Err errors.InsufficientMemory) turns calm ends = tt
 
-whole_log : (log : List Carried) → AreWhole log → FollowsEdits [] log
-whole_log [] whole = tt
-whole_log (e ∷ log) whole = (whole.0, whole_log log whole.1)
+-- a log without edits is whole, and the other way round
+unedited_whole : (count : ℕ) (log : List Carried) → FollowsEdits [] log → AreWholePast count log
+unedited_whole count [] follows = tt
+unedited_whole count (e ∷ log) follows = ((λ past. follows.0), unedited_whole count log follows.1)
+
+pub whole_unedited : (log : List Carried) → AreWholePast 0 log → FollowsEdits [] log
+whole_unedited [] whole = tt
+whole_unedited (e ∷ log) whole = (whole.0 (omega arith), whole_unedited log whole.1)
 
 -- the log of a link without edits follows none
-unedited_log : (edits edits2 : Option (List Edit)) (log log2 : List Carried) → edits ≡ Some [] → log ≡ [] →
+unedited_log : (edits edits2 : Option (List Edit)) (log log2 : List Carried) → edits ≡ Some [] → AreWholePast 0 log →
     StaysTold edits edits2 log log2 → FollowsEdits [] log2
-unedited_log edits edits2 log log2 none empty stays =
+unedited_log edits edits2 log log2 none whole stays =
     let told_now : edits2 ≡ Some [] = stays.same ∙ none in
-    let before : FollowsTold edits log = rw (none, empty) tt in
+    let before : FollowsTold edits log = rw none (whole_unedited log whole) in
     subst (λ (e : Option (List Edit)). FollowsTold e log2) told_now (stays.follows before)
 
 pub undisturbed_is : (edits edits2 : Option (List Edit)) (log log2 : List Carried) (limit start now : ℕ)
     (result : Result Delegation DelegateError) (turns : List Turn) →
     IsUndisturbed edits log log2 start now → RunEnds log start limit result turns log2 now → StaysTold edits edits2 log log2 →
-    AnswerTold edits start now result log2 turns → FollowsEdits [] log2 × NoLinkFault result
-undisturbed_is edits edits2 log log2 limit start now result turns (unedited none empty) ends stays still = (
-  unedited_log edits edits2 log log2 none empty stays,
+    AnswerTold edits start now result log2 turns → AreWholePast (length log) log2 × NoLinkFault result
+undisturbed_is edits edits2 log log2 limit start now result turns (unedited none whole) ends stays still = (
+  unedited_whole (length log) log2 (unedited_log edits edits2 log log2 none whole stays),
   told_calm result start now log2 turns (subst (λ (e : Option (List Edit)). AnswerTold e start now result log2 turns) none still),
 )
 undisturbed_is edits edits2 log log2 limit start now result turns (shown whole calm) ends stays still =
-    (whole_log log2 whole, ends_calm log log2 limit start now result turns calm ends)
+    (whole, ends_calm log log2 limit start now result turns calm ends)
 
 -- ---- by how the newest turn ended
 
@@ -187,15 +193,15 @@ module _ {C D P : Type 0} (c : Meaning ContextSetting C) (k : KdcCalls D) (p : P
         )
 
     settle_ok : (delegation : Delegation) (turns : List Turn) (log : List Carried) →
-        RunEnds base start limit (Ok delegation) turns log now → FollowsEdits [] log →
+        RunEnds base start limit (Ok delegation) turns log now → AreWholePast (length base) log →
         ClientHistory c k a kdc_first (client_turns turns) x kdc → ServerHistory c p b (server_turns turns) y →
         GivesNewest c (server_end y) (server_turns turns) delegation.credentials → (delegation.rounds ≡ suc last) ×
         (delegation.credentials ≡ identity)
-    settle_ok delegation [] log ends follows clients servers gives = absurd ends.0.newest
-    settle_ok delegation (t ∷ past) log ends follows clients servers gives =
+    settle_ok delegation [] log ends whole clients servers gives = absurd ends.0.newest
+    settle_ok delegation (t ∷ past) log ends whole clients servers gives =
         let done = ends.0 in
         let turn = newest_turn c k p a b kdc_first last identity known base t past log x kdc y done.order done.entries.0 done.entries.1
-        follows clients servers calm in
+        whole clients servers calm in
         ok_by t past delegation turn done.newest.0 done.newest.1 (held_by t.end t past delegation.credentials done.newest.0 gives) ends.1
 
     client_never : (t : Turn) (past : List Turn) (kind : ErrorKind) → TurnSo t past → t.end ≡ Client → IsClientRefusal kind t.outcome →
@@ -211,28 +217,29 @@ module _ {C D P : Type 0} (c : Meaning ContextSetting C) (k : KdcCalls D) (p : P
     server_never t past kind (ends_here e count ends) here is others = end_refusal t.outcome kind _ is others ends
 
     settle_client : (error : Error) (turns : List Turn) (log : List Carried) → Alternates turns →
-        Cause base start limit (errors.Client error) turns log now → FollowsEdits [] log →
+        Cause base start limit (errors.Client error) turns log now → AreWholePast (length base) log →
         ClientHistory c k a kdc_first (client_turns turns) x kdc → ServerHistory c p b (server_turns turns) y → ⊥
-    settle_client error [] log order cause follows clients servers = cause.1
-    settle_client error (t ∷ past) log order cause follows clients servers =
-        let turn = newest_turn c k p a b kdc_first last identity known base t past log x kdc y order cause.2.0 cause.2.1 follows clients
+    settle_client error [] log order cause whole clients servers = cause.1
+    settle_client error (t ∷ past) log order cause whole clients servers =
+        let turn = newest_turn c k p a b kdc_first last identity known base t past log x kdc y order cause.2.0 cause.2.1 whole clients
         servers calm in
         client_never t past error.error_type turn cause.1.0 cause.1.1 cause.0
 
-    server_entries : (t : Turn) (past : List Turn) (log : List Carried) → FollowsEdits [] log → Given base start (t ∷ past) log now →
-        (log2 : List Carried) × LoggedButLast base (t ∷ past) log2 × FollowsEdits [] log2
-    server_entries t past [] follows (carried entries unread still) = absurd entries
-    server_entries t past (e ∷ log) follows (carried entries unread still) = (log, (entries.1, entries.2), follows.1)
-    server_entries t past log follows (too_long entries unfit still) = (log, entries, follows)
-    server_entries t past log follows (link_failed entries fit counted) = (log, entries, follows)
-    server_entries t past log follows (no_memory entries fit still) = (log, entries, follows)
+    server_entries : (t : Turn) (past : List Turn) (log : List Carried) → AreWholePast (length base) log →
+        Given base start (t ∷ past) log now →
+        (log2 : List Carried) × LoggedButLast base (t ∷ past) log2 × AreWholePast (length base) log2
+    server_entries t past [] whole (carried entries unread still) = absurd entries
+    server_entries t past (e ∷ log) whole (carried entries unread still) = (log, (entries.1, entries.2), whole.1)
+    server_entries t past log whole (too_long entries unfit still) = (log, entries, whole)
+    server_entries t past log whole (link_failed entries fit counted) = (log, entries, whole)
+    server_entries t past log whole (no_memory entries fit still) = (log, entries, whole)
 
     settle_server : (error : Error) (turns : List Turn) (log : List Carried) → Alternates turns →
-        Cause base start limit (errors.Server error) turns log now → FollowsEdits [] log →
+        Cause base start limit (errors.Server error) turns log now → AreWholePast (length base) log →
         ClientHistory c k a kdc_first (client_turns turns) x kdc → ServerHistory c p b (server_turns turns) y → ⊥
-    settle_server error [] log order cause follows clients servers = cause.1
-    settle_server error (t ∷ past) log order cause follows clients servers =
-        let e = server_entries t past log follows cause.2 in
+    settle_server error [] log order cause whole clients servers = cause.1
+    settle_server error (t ∷ past) log order cause whole clients servers =
+        let e = server_entries t past log whole cause.2 in
         let turn = newest_turn c k p a b kdc_first last identity known base t past e.0 x kdc y order e.1.0 e.1.1 e.2 clients servers calm in
         server_never t past error.error_type turn cause.1.0 cause.1.1 cause.0
 
@@ -243,20 +250,21 @@ module _ {C D P : Type 0} (c : Meaning ContextSetting C) (k : KdcCalls D) (p : P
 
     settle_read : (to : End) (kind : WireKind) (turns : List Turn) (log : List Carried) → Alternates turns →
         Cause base start limit (errors.Read to kind) turns log now →
-        FollowsEdits [] log → ClientHistory c k a kdc_first (client_turns turns) x kdc → ServerHistory c p b (server_turns turns) y → ⊥
-    settle_read to kind [] log order cause follows clients servers = cause.4
-    settle_read to kind (t ∷ past) log order cause follows clients servers =
+        AreWholePast (length base) log → ClientHistory c k a kdc_first (client_turns turns) x kdc →
+        ServerHistory c p b (server_turns turns) y → ⊥
+    settle_read to kind [] log order cause whole clients servers = cause.4
+    settle_read to kind (t ∷ past) log order cause whole clients servers =
         let s = stands c k p a b kdc_first last identity known base
-        (t ∷ past) log x kdc y order cause.0 cause.3 follows clients servers calm in
+        (t ∷ past) log x kdc y order cause.0 cause.3 whole clients servers calm in
         let m = newest_sent t past s in
-        always_readable base t past log m.0 kind m.1 m.2.value cause.3 follows cause.4
+        always_readable base t past log m.0 kind m.1 m.2.value cause.3 whole cause.4
 
     settle_write : (from : End) (turns : List Turn) (log : List Carried) → Alternates turns →
-        Cause base start limit (errors.Write from) turns log now → FollowsEdits [] log →
+        Cause base start limit (errors.Write from) turns log now → AreWholePast (length base) log →
         ClientHistory c k a kdc_first (client_turns turns) x kdc → ServerHistory c p b (server_turns turns) y → ⊥
-    settle_write from [] log order cause follows clients servers = cause.2
-    settle_write from (t ∷ past) log order cause follows clients servers =
-        let turn = newest_turn c k p a b kdc_first last identity known base t past log x kdc y order cause.2.0 cause.2.1 follows clients
+    settle_write from [] log order cause whole clients servers = cause.2
+    settle_write from (t ∷ past) log order cause whole clients servers =
+        let turn = newest_turn c k p a b kdc_first last identity known base t past log x kdc y order cause.2.0 cause.2.1 whole clients
         servers calm in
         let m = newest_sent t past (stands_on c k p a b kdc_first last identity known t past x kdc y cause.0.0 turn) in
         never_too_long t past m.0 m.1 m.2.fit cause.3
@@ -267,27 +275,27 @@ module _ {C D P : Type 0} (c : Meaning ContextSetting C) (k : KdcCalls D) (p : P
     spent turns (server_next i client server next count sent) here limit_is = absurd (wrong_end (next_end turns) here next)
 
     settled_by : (result : Result Delegation DelegateError) (turns : List Turn) (log : List Carried) →
-        RunEnds base start limit result turns log now → FollowsEdits [] log →
+        RunEnds base start limit result turns log now → AreWholePast (length base) log →
         NoLinkFault result → ClientPast c k a kdc_first result (client_turns turns) x kdc → ServerHistory c p b (server_turns turns) y →
         IfOk result (λ delegation. GivesNewest c (server_end y) (server_turns turns) delegation.credentials) →
         Settled (suc last) limit identity result
-    settled_by (Ok delegation) turns log ends follows still clients servers gives =
-        settle_ok delegation turns log ends follows clients servers gives
-    settled_by (Err (errors.Client error)) turns log ends follows still clients servers gives =
-        settle_client error turns log ends.order ends.cause follows
+    settled_by (Ok delegation) turns log ends whole still clients servers gives =
+        settle_ok delegation turns log ends whole clients servers gives
+    settled_by (Err (errors.Client error)) turns log ends whole still clients servers gives =
+        settle_client error turns log ends.order ends.cause whole
         (client_stopped_history c k a x kdc_first kdc error (client_turns turns) clients) servers
-    settled_by (Err (errors.Server error)) turns log ends follows still clients servers gives =
-        settle_server error turns log ends.order ends.cause follows clients servers
-    settled_by (Err (errors.Read to kind)) turns log ends follows still clients servers gives =
-        settle_read to kind turns log ends.order ends.cause follows clients servers
-    settled_by (Err (errors.Write from)) turns log ends follows still clients servers gives =
-        settle_write from turns log ends.order ends.cause follows clients servers
-    settled_by (Err errors.LinkFault) turns log ends follows still clients servers gives = still
-    settled_by (Err errors.TurnsSpent) turns log ends follows still clients servers gives =
-        spent turns (stands c k p a b kdc_first last identity known base turns log x kdc y ends.order ends.cause.0 ends.cause.3 follows
+    settled_by (Err (errors.Server error)) turns log ends whole still clients servers gives =
+        settle_server error turns log ends.order ends.cause whole clients servers
+    settled_by (Err (errors.Read to kind)) turns log ends whole still clients servers gives =
+        settle_read to kind turns log ends.order ends.cause whole clients servers
+    settled_by (Err (errors.Write from)) turns log ends whole still clients servers gives =
+        settle_write from turns log ends.order ends.cause whole clients servers
+    settled_by (Err errors.LinkFault) turns log ends whole still clients servers gives = still
+    settled_by (Err errors.TurnsSpent) turns log ends whole still clients servers gives =
+        spent turns (stands c k p a b kdc_first last identity known base turns log x kdc y ends.order ends.cause.0 ends.cause.3 whole
         clients servers calm)
         ends.cause.1 ends.cause.2
-    settled_by (Err errors.InsufficientMemory) turns log ends follows still clients servers gives = tt
+    settled_by (Err errors.InsufficientMemory) turns log ends whole still clients servers gives = tt
 
   -- the ends of an undisturbed exchange come to what is known of them
   pub settled : (base : List Carried) (start now limit : ℕ) (x : CView) (kdc : D) (y : SView) (edits edits2 : Option (List Edit))

@@ -1,5 +1,5 @@
 -- Ends made as an example has them match, and come to its answer.
-use Rattle.std.proofs.Common.{◌≡◌, ℕ, ◌<◌, ◌≤◌, List, [], ◌∷◌, length, Option, None, Some, Result, refl, ap, sym, ◌∙◌, subst}
+use Rattle.std.proofs.Common.{◌≡◌, ℕ, List, [], ◌∷◌, length, Option, None, Some, Result, refl, ap, sym, ◌∙◌, subst}
 use Rattle.std.proofs.Common.{arith}
 use Rattle.sspi_names.specs.declared.identity.AuthIdentity.{AuthIdentity}
 use Rattle.sspi_names.specs.Equality.{ignoring_case-equiv}
@@ -20,9 +20,9 @@ use Rattle.sspi_delegate.specs.Link.{MemoryLinkView}
 use Rattle.sspi_delegate.specs.Headline.{IsFresh}
 use Rattle.sspi_completeness.specs.Examples.{example_target}
 use Rattle.sspi_completeness.specs.Matching.{AreMatching, HasEntry, MatchModes, messages_of}
-use Rattle.sspi_completeness.specs.Matching.{messages_in, ComesToOkIn, IsCutShort}
+use Rattle.sspi_completeness.specs.Matching.{messages_in}
 use Rattle.sspi_credssp.specs.Exchange.{delegated_as}
-use Rattle.sspi_completeness.specs.Matching.{NoneFailed, none_told, IsUndisturbed, unedited}
+use Rattle.sspi_completeness.specs.Matching.{AreWholePast, NoneFailed, none_told, IsUndisturbed, unedited}
 use Rattle.sspi_completeness.specs.Worked.{Example, IsClientOf, IsServerOf, Matches}
 use Rattle.sspi_completeness.specs.Answered.{AnswersIn}
 
@@ -40,7 +40,8 @@ pub undisturbed : {new : List Carried} {before now : ℕ} (link : MemoryLinkView
     link ≡ record { log = []; edits = edits; faults = 0; most = None } → edits ≡ [] →
     IsUndisturbed (Some link.edits) link.log new before now
 undisturbed link edits is none =
-    unedited (ap (λ (l : MemoryLinkView). Some l.edits) is ∙ ap Some none) (ap (λ (l : MemoryLinkView). l.log) is)
+    unedited (ap (λ (l : MemoryLinkView). Some l.edits) is ∙ ap Some none)
+    (subst (λ (l : MemoryLinkView). AreWholePast 0 l.log) (sym is) tt)
 
 -- what holds of modes holds of equal ones
 module _ (told : Option (ℕ → NetworkRequest → Reply)) (call messages : ℕ) (identity : AuthIdentity) where

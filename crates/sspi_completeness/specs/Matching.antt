@@ -98,15 +98,16 @@ pub data NoneFailed (failing : Option (List ℕ)) (before now : ℕ) : Type 0 wh
   none_told : failing ≡ Some [] → before < 2 ^ 64 - 1 → NoneFailed failing before now
   none_counted : IsCalm before now → NoneFailed failing before now
 
--- each entry delivers what was sent: a beginning of it, and the whole where the delivery has ended
-abbrev pub AreWhole : List Carried → Type 0
-AreWhole [] = Unit {0}
-AreWhole (e ∷ log) = Delivers (Some e.sent) e × AreWhole log
+-- each entry of a log, but the oldest so many, delivers what was sent: a beginning of it, and the whole where the delivery has ended
+abbrev pub AreWholePast : ℕ → List Carried → Type 0
+AreWholePast count [] = Unit {0}
+AreWholePast count (e ∷ log) = (count ≤ length log → Delivers (Some e.sent) e) × AreWholePast count log
 
--- The link changed nothing: it tells its edits, there are none, and its log was empty; or its log shows it, and no call failed.
+-- The link changed nothing: it tells its edits, there are none, and its log shows none; or the entries that came behind those of
+-- before show it, and no call failed.
 pub data IsUndisturbed (edits : Option (List Edit)) (old new : List Carried) (before now : ℕ) : Type 0 where
-  unedited : edits ≡ Some [] → old ≡ [] → IsUndisturbed edits old new before now
-  shown : AreWhole new → IsCalm before now → IsUndisturbed edits old new before now
+  unedited : edits ≡ Some [] → AreWholePast 0 old → IsUndisturbed edits old new before now
+  shown : AreWholePast (length old) new → IsCalm before now → IsUndisturbed edits old new before now
 
 -- fresh ends, a link that changes nothing, and a proxy of which no look-up fails
 pub record NothingDisturbs {C P L D : Type 0} (around : Around P L D) (old new : Parties C P L D) : Type 0 where

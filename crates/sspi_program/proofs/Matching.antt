@@ -9,7 +9,8 @@ use Rattle.sspi_credssp.specs.Ends.{ClientSettings, ClientView, ServerSettings, 
 use Rattle.sspi_credssp.specs.Table.{TableView, table_meaning}
 use Rattle.sspi_delegate.specs.Link.{MemoryLinkView}
 use Rattle.sspi_delegate.specs.declared.carried.Carried.{Carried}
-use Rattle.sspi_completeness.specs.Matching.{IsNtlmServer, MatchModes, messages_of, AreMatching, IsUndisturbed, unedited, NoneFailed}
+use Rattle.sspi_completeness.specs.Matching.{IsNtlmServer, MatchModes, messages_of, AreMatching, AreWholePast, IsUndisturbed}
+use Rattle.sspi_completeness.specs.Matching.{unedited, NoneFailed}
 use Rattle.sspi_completeness.specs.Matching.{none_told, messages_in as matching_messages}
 use Rattle.sspi_scenario.specs.declared.scenario.Mode.{Mode}
 use Rattle.sspi_scenario.specs.declared.scenario.Mode.TheVariants.{Ntlm}
@@ -74,7 +75,8 @@ match_messages s client server kdc client_named server_named made held matching 
 pub unedited_link : (s : Scenario) (link : MemoryLinkView) (new : List Carried) (now : ℕ) → link ≡ link_in s → IsMatching s →
     IsUndisturbed (Some link.edits) link.log new link.faults now
 unedited_link s link new now is matching =
-    unedited (ap (λ (l : MemoryLinkView). Some l.edits) is ∙ ap Some matching.no_edit) (ap (λ (l : MemoryLinkView). l.log) is)
+    unedited (ap (λ (l : MemoryLinkView). Some l.edits) is ∙ ap Some matching.no_edit)
+    (subst (λ (l : MemoryLinkView). AreWholePast 0 l.log) (sym is) tt)
 
 pub calm_proxy : (s : Scenario) (server : ServerView PlainContext TableView) (now : ℕ) → IsServerOf s server → IsMatching s →
     NoneFailed (Some server.proxy.failing) server.proxy.faults now
