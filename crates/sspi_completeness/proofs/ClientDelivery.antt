@@ -17,7 +17,7 @@ use Rattle.sspi_credssp.specs.Acts.{sealings_by, unsealings_by, sealings_in, uns
 use Rattle.sspi_credssp.specs.Context.{BeginCause, ContextSetting, ForClient, MadeOr}
 use Rattle.sspi_credssp.specs.Ends.{ClientSettings, ClientView}
 use Rattle.sspi_credssp.specs.ClientCause.{ClientCause, StateCause, DeliverCause, BlobOpens, SealsCause}
-use Rattle.sspi_credssp.specs.Refusal.{OrMemory}
+use Rattle.sspi_credssp.specs.Noted.{OrMemory}
 use Rattle.sspi_credssp.specs.ClientTurn.{StartsUnused, client_frame, client_turn}
 use Rattle.sspi_credssp.specs.Turn.{ClientFrame, OnceNegotiated, ShowsNego, client_shown}
 use Rattle.sspi_credssp.specs.Exchange.{delegated_text, IfText, BlobStops, opens_other, altered, unsealed, CheckedCause, ProofCause}

@@ -22,10 +22,9 @@ use Rattle.sspi_credssp.specs.Acts.{sealings_by, unsealings_by, sealings_in, Sea
 use Rattle.sspi_credssp.specs.Context.{BeginCause, ContextSetting, ForClient, MadeOr}
 use Rattle.sspi_credssp.specs.Ends.{ClientSettings, ClientView}
 use Rattle.sspi_credssp.specs.ClientCause.{ClientCause, StateCause, NegoCause, ProveCause}
-use Rattle.sspi_credssp.specs.Refusal.{OrMemory}
 use Rattle.sspi_credssp.specs.ClientTurn.{Asked, Walked, stepped, resumed, still_asked, recounted, StepsTo, DoneStep, OnStep}
 use Rattle.sspi_credssp.specs.ClientTurn.{refused_answer, client_args, ClientTurn, StartsUnused, client_frame, client_turn, noted_next}
-use Rattle.sspi_credssp.specs.Noted.{noted_in}
+use Rattle.sspi_credssp.specs.Noted.{noted_in, OrMemory}
 use Rattle.sspi_credssp.specs.Exchange.{prescribed}
 use Rattle.sspi_credssp.specs.Requests.{is_code, unless_empty}
 use Rattle.sspi_credssp.specs.Turn.{ClientFrame, AtNoted, ShowsClientActs, ShowsNego, ShowsProof, ShowsToken, client_shown, HoldsNego}

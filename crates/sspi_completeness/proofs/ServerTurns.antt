@@ -16,12 +16,11 @@ use Rattle.sspi_credssp.specs.Acts.{sealings_by, unsealings_by, sealings_in, uns
 use Rattle.sspi_credssp.specs.Context.{ContextSetting}
 use Rattle.sspi_credssp.specs.Proxy.{ProxyMeaning}
 use Rattle.sspi_credssp.specs.Ends.{ServerSettings, ServerView}
-use Rattle.sspi_credssp.specs.Refusal.{OrMemory}
 use Rattle.sspi_credssp.specs.ServerCause.{ServerCause, MakeCause, StateCause, NegoCause, OverCause}
 use Rattle.sspi_credssp.specs.ServerTurn.{Knowing, Unknown, Completed, DoneStep, HasCome, known_at, ServerTurn, StartsUnused, server_frame}
 use Rattle.sspi_credssp.specs.ServerTurn.{server_turn}
 use Rattle.sspi_credssp.specs.Turn.{IsOver, MayCheck, ShowsNegoBack, ShowsOver, ShowsServerActs, ShowsStateBack, server_shown, ServerFrame}
-use Rattle.sspi_credssp.specs.Noted.{noted_with}
+use Rattle.sspi_credssp.specs.Noted.{noted_with, OrMemory}
 use Rattle.sspi_credssp.specs.declared.turn.Outcome.{Outcome}
 use Rattle.sspi_credssp.specs.declared.turn.Outcome.TheVariants as outcome
 use Rattle.sspi_delegate.specs.History.{ServerMakes}

@@ -12,8 +12,7 @@ use Rattle.sspi_credssp.specs.Context.{BeginCause, MadeOr, ContextSetting, ForCl
 use Rattle.sspi_credssp.specs.Ends.{ClientView}
 use Rattle.sspi_credssp.specs.ClientCause.{ClientCause, StateCause}
 use Rattle.sspi_credssp.specs.Acts.{is_waiting_in}
-use Rattle.sspi_credssp.specs.Noted.{is_altered_in, is_old_in, StopsIf, VersionStopsIn}
-use Rattle.sspi_credssp.specs.Refusal.{OrMemory}
+use Rattle.sspi_credssp.specs.Noted.{is_altered_in, is_old_in, StopsIf, VersionStopsIn, OrMemory}
 use Rattle.sspi_credssp.specs.Requests.{is_code}
 
 pub stops_map : (b : Bool) (here kind : ErrorKind) (Later Later2 : Type 0) → (Later → Later2) → StopsIf b here kind Later →

@@ -23,8 +23,7 @@ use Rattle.sspi_credssp.specs.ClientTurn.{client_args, Asked, Walked, stepped, r
 use Rattle.sspi_credssp.specs.ClientTurn.{refused_answer}
 use Rattle.sspi_credssp.specs.Acts.{is_waiting_in}
 use Rattle.sspi_credssp.specs.Exchange.{delegated_text, BlobStops, altered, unsealed, CheckedCause, ProofCause, prescribed}
-use Rattle.sspi_credssp.specs.Noted.{ClientMeetsOld, is_old_in, is_altered_in, StopsIf}
-use Rattle.sspi_credssp.specs.Refusal.{OrMemory}
+use Rattle.sspi_credssp.specs.Noted.{ClientMeetsOld, is_old_in, is_altered_in, StopsIf, OrMemory}
 use Rattle.sspi_credssp.specs.Requests.{is_code}
 use Rattle.sspi_credssp.proofs.CredentialRefusals.{IfRefused, OfEach, so_delegated}
 

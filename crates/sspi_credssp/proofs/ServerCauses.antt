@@ -18,8 +18,7 @@ use Rattle.sspi_credssp.specs.ServerCause.{ServerCause, MakeCause, StateCause, N
 use Rattle.sspi_credssp.specs.ServerCause.{nameless, looked, unset, LookUpRefused, failed, nobody}
 use Rattle.sspi_credssp.specs.ServerTurn.{Completed, HasCome}
 use Rattle.sspi_credssp.specs.Turn.{IsOver}
-use Rattle.sspi_credssp.specs.Noted.{differs, is_old, VersionStops}
-use Rattle.sspi_credssp.specs.Refusal.{OrMemory}
+use Rattle.sspi_credssp.specs.Noted.{differs, is_old, VersionStops, OrMemory}
 use Rattle.sspi_credssp.proofs.Causes.{stops_map, made_map, made_later}
 
 module _ {C : Type 0} (c : Meaning ContextSetting C) where

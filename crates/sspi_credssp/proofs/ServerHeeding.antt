@@ -20,10 +20,9 @@ use Rattle.sspi_credssp.specs.declared.state.CredSspState.{CredSspState}
 use Rattle.sspi_credssp.specs.declared.state.CredSspState.TheVariants.{NegoToken, PubKeyInfo, AuthInfo, Final}
 use Rattle.sspi_credssp.specs.Context.{BeginCause, unmade, unacquired, IfContext, MadeOr, ContextSetting, NeverRefuses}
 use Rattle.sspi_credssp.specs.Exchange.{delegated_identity}
-use Rattle.sspi_credssp.specs.Noted.{ServerMeetsOld, differs, is_old}
+use Rattle.sspi_credssp.specs.Noted.{ServerMeetsOld, differs, is_old, OrMemory}
 use Rattle.sspi_credssp.specs.Proxy.{ProxyMeaning, ProxyTells}
 use Rattle.sspi_credssp.specs.Ends.{ServerView}
-use Rattle.sspi_credssp.specs.Refusal.{OrMemory}
 use Rattle.sspi_credssp.specs.ServerCause.{ServerCause, MakeCause, unlisted, unbegun, ListRefused, StateCause, NegoCause, OverCause}
 use Rattle.sspi_credssp.specs.ServerCause.{unknown, incomplete, known, AfterCause, ExchangeCause, BlobCause}
 use Rattle.sspi_credssp.specs.ServerCause.{OpenedCause, UnreadCause, unread, IdentifyCause, nameless, looked, unset}

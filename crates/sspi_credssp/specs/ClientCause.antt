@@ -17,8 +17,7 @@ use Rattle.sspi_credssp.specs.Context.{BeginCause, MadeOr, ContextSetting, ForCl
 use Rattle.sspi_credssp.specs.Ends.{ClientView}
 use Rattle.sspi_credssp.specs.Acts.{is_waiting_in}
 use Rattle.sspi_credssp.specs.Exchange.{delegated_text, BlobStops, ProofCause, prescribed}
-use Rattle.sspi_credssp.specs.Noted.{StopsIf, VersionStopsIn}
-use Rattle.sspi_credssp.specs.Refusal.{OrMemory}
+use Rattle.sspi_credssp.specs.Noted.{StopsIf, VersionStopsIn, OrMemory}
 use Rattle.sspi_credssp.specs.Requests.{is_code}
 
 module _ {C : Type 0} (c : Meaning ContextSetting C) where

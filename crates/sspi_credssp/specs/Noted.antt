@@ -1,10 +1,10 @@
 -- The version that an end notes of its peer: the first that it looks at, unless that is too old. Both ends look at a version
 -- in the same way. A client looks at that of each request but its first, which it makes itself; a server once it has a context.
-use Rattle.std.specs.Prelude.{◌≡◌, Bool, true, false, ℕ, ◌==◌, Option, None, Some, not, nat_lt, if◌then◌else◌, [], Result}
+use Rattle.std.specs.Prelude.{◌≡◌, ◌≢◌, Bool, true, false, ℕ, ◌==◌, Option, None, Some, not, nat_lt, if◌then◌else◌, [], Result}
 use Rattle.std.specs.Prelude.{IsErrAnd, IsSome}
 use Rattle.sspi_types.specs.declared.error.Error.{Error}
 use Rattle.sspi_types.specs.declared.error_kind.ErrorKind.{ErrorKind}
-use Rattle.sspi_types.specs.declared.error_kind.ErrorKind.TheVariants.{DowngradeDetected, MessageAltered}
+use Rattle.sspi_types.specs.declared.error_kind.ErrorKind.TheVariants.{DowngradeDetected, InsufficientMemory, MessageAltered}
 use Rattle.sspi_tsreq.specs.declared.request.TsRequest.{TsRequest}
 use Rattle.sspi_mech.specs.Meaning.{Meaning}
 use Rattle.sspi_credssp.specs.declared.client_state.Progress.{Progress}
@@ -19,6 +19,10 @@ use Rattle.sspi_credssp.specs.Requests.{is_code}
 abbrev pub StopsIf : Bool → ErrorKind → ErrorKind → Type 0 → Type 0
 StopsIf true here kind Later = kind ≡ here
 StopsIf false here kind Later = Later
+
+-- a cause in place of which memory may be wanting
+abbrev pub OrMemory : ErrorKind → Type 0 → Type 0
+OrMemory kind Cause = kind ≢ InsufficientMemory → Cause
 
 -- no version is noted yet, and this one is below the least that the end takes
 abbrev pub is_old : ℕ → Option ℕ → ℕ → Bool

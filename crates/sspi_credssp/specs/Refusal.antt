@@ -1,13 +1,9 @@
 -- What a refusal says: its kind, which has a cause, and no NTSTATUS code.
-use Rattle.std.specs.Prelude.{◌≡◌, ◌≢◌, None, Result, IfErr}
+use Rattle.std.specs.Prelude.{◌≡◌, None, Result, IfErr}
 use Rattle.sspi_types.specs.declared.error.Error.{Error}
 use Rattle.sspi_types.specs.declared.error_kind.ErrorKind.{ErrorKind}
-use Rattle.sspi_types.specs.declared.error_kind.ErrorKind.TheVariants.{InsufficientMemory}
 use Rattle.sspi_credssp.specs.declared.server_state.ServerError.{ServerError}
-
--- a cause in place of which memory may be wanting
-abbrev pub OrMemory : ErrorKind → Type 0 → Type 0
-OrMemory kind Cause = kind ≢ InsufficientMemory → Cause
+use Rattle.sspi_credssp.specs.Noted.{OrMemory}
 
 -- of a call that is refused with an error; memory may be wanting at any time
 pub record IsRefusedBy {T : Type 0} (result : Result T Error) (causes : ErrorKind → Type 0) : Type 0 where

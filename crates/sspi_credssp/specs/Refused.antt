@@ -2,7 +2,7 @@
 use Rattle.std.specs.Prelude.{Result, IfErr}
 use Rattle.sspi_types.specs.declared.error_kind.ErrorKind.{ErrorKind}
 use Rattle.sspi_mech.specs.declared.refusal.Refusal.{Refusal}
-use Rattle.sspi_credssp.specs.Refusal.{OrMemory}
+use Rattle.sspi_credssp.specs.Noted.{OrMemory}
 
 -- of a call whose refusal has no code by its type
 abbrev pub IsRefusedFor : {T : Type 0} → Result T Refusal → (ErrorKind → Type 0) → Type 0

@@ -20,8 +20,7 @@ use Rattle.sspi_credssp.specs.declared.state.CredSspState.{CredSspState}
 use Rattle.sspi_credssp.specs.declared.state.CredSspState.TheVariants.{NegoToken, PubKeyInfo, AuthInfo, Final}
 use Rattle.sspi_credssp.specs.Context.{BeginCause, IfContext, MadeOr, ContextSetting, ForServer}
 use Rattle.sspi_credssp.specs.Exchange.{delegated_identity, BlobStops, ProofCause, prescribed}
-use Rattle.sspi_credssp.specs.Noted.{VersionStops, StopsIf}
-use Rattle.sspi_credssp.specs.Refusal.{OrMemory}
+use Rattle.sspi_credssp.specs.Noted.{VersionStops, StopsIf, OrMemory}
 use Rattle.sspi_types.specs.Counting.{counted_on}
 use Rattle.sspi_credssp.specs.Proxy.{ProxyMeaning, ProxyTells, AreFound}
 use Rattle.sspi_credssp.specs.Requests.{nonce_of}

@@ -4,8 +4,7 @@ ghost use Rattle.sspi_types.specs.declared.credential_use.CredentialUse.TheVaria
 ghost use Rattle.sspi_credssp.specs.Acts.{no_acts, IsUnusedIn, is_waiting_in, left_in};
 ghost use Rattle.sspi_credssp.specs.Ends.{ClientView};
 ghost use Rattle.sspi_credssp.specs.Context.{either, ForClient};
-ghost use Rattle.sspi_credssp.specs.Noted.{is_altered_in, is_old_in, noted_in, VersionStopsIn};
-ghost use Rattle.sspi_credssp.specs.Refusal.{OrMemory};
+ghost use Rattle.sspi_credssp.specs.Noted.{is_altered_in, is_old_in, noted_in, VersionStopsIn, OrMemory};
 ghost use Rattle.sspi_credssp.specs.Refused.{IsRefusedFor};
 ghost use Rattle.sspi_credssp.specs.Requests.{is_code};
 ghost use Rattle.sspi_mech.specs.Answered.{answered};
@@ -209,12 +208,18 @@ impl<N: Mechanism, K: Mechanism> CredSspClient<N, K> {
 
     /// Takes the server's message and makes the client's next one; the first call takes a default request.
     ///
-    /// Refused: `OutOfSequence` while a turn is suspended and once the last message was made; `InvalidToken`, with the code
-    /// as its status, where the server reports an error; `DowngradeDetected` where no version of the server is noted yet and
-    /// this one is below the least, which then is not noted; `MessageAltered` where the server changes its version or its
-    /// proof is not the right one; `InvalidToken` where the proof is absent or too short; `InternalError` where the authentication
-    /// ends before a version was noted; and with the kinds of the context, of the credentials' text, and want of memory. After
-    /// a refusal the state, the mode and the acquired credentials are as before, and the request is dropped.
+    /// Refused, in this order: `OutOfSequence` while a turn is suspended; `InvalidToken`, with the code as its status, where
+    /// the server reports an error; `DowngradeDetected` where no version of the server is noted yet and this one is below the
+    /// least, which then is not noted; `MessageAltered` where the server changes its version; with the kinds of a new context;
+    /// then by the state. In the authentication with the kinds of the context's step, `InternalError` where it ends before a
+    /// version was noted, and the kinds of sealing the proof. Where the server's proof is due, `InvalidToken` where it is
+    /// absent or has under 16 bytes, the kinds of opening it, `MessageAltered` where it is not the right one, and the kinds of
+    /// the credentials' text and of sealing it. `OutOfSequence` once the last message was made. Want of memory may come in
+    /// place of what stands behind the version.
+    ///
+    /// A call that is refused while a turn is suspended, for the code or for the version only forgets what the last call did.
+    /// Any other leaves the state, the mode and what was acquired before, and a context that it made stays. The request is
+    /// dropped.
     pub fn process(&mut self, ts_request: TsRequest) -> Result<Progress, Error>
         ensures { ClientCall (either N.REQUESTS N.meaning K.meaning) self.old ts_request result self.new }
     {

@@ -3,8 +3,7 @@ ghost use Rattle.sspi_types.specs.declared.credential_use.CredentialUse.TheVaria
 ghost use Rattle.sspi_credssp.specs.Acts.{no_acts, IsUnusedIn};
 ghost use Rattle.sspi_credssp.specs.Proxy.{Asks, list_calls, lists_in};
 ghost use Rattle.sspi_credssp.specs.Context.{Begun, IfContext, MadeOr, either};
-ghost use Rattle.sspi_credssp.specs.Noted.{differs, is_old, VersionStops};
-ghost use Rattle.sspi_credssp.specs.Refusal.{OrMemory};
+ghost use Rattle.sspi_credssp.specs.Noted.{differs, is_old, VersionStops, OrMemory};
 ghost use Rattle.sspi_credssp.specs.Refused.{IsRefusedFor};
 ghost use Rattle.sspi_mech.specs.Answered.{answered};
 
@@ -22,7 +21,7 @@ use crate::state::CredSspState;
 use sspi_mech::{Mechanism, Refusal};
 use sspi_names::CredentialsBuffers;
 use sspi_tsreq::TsRequest;
-use sspi_types::{Bytes, CredentialUse, Error, ErrorKind, Reason};
+use sspi_types::{Bytes, CredentialUse, ErrorKind, Reason};
 use std::alloc::Global;
 use std::marker::Model;
 
@@ -159,14 +158,17 @@ impl<N: Mechanism, K: Mechanism, C: CredentialsProxy> CredSspServer<N, K, C> {
     ///
     /// Refused, in this order: `InternalError` where the proxy's list failed; with the kinds of a new context;
     /// `DowngradeDetected` where no version of the client is noted yet and this one is below the least, which then is not
-    /// noted; `MessageAltered` where the client changes its version; in
-    /// the authentication with the kinds of the context, `LogonDenied` where the look-up of the peer failed, `NoCredentials`
-    /// where it found nobody, `InvalidToken` where the authentication ended with neither a token nor a proof,
-    /// `InternalError` at another status of the context; in an exchange `InvalidToken` where the proof is absent, the nonce
-    /// is absent from version 5 on or the proof is too short, `MessageAltered` where it is not the right one; where the
-    /// credentials are due, `InvalidToken` where they are absent or too short, and the kinds of reading them;
-    /// `UnsupportedFunction` once they were read; and want of memory. A refusal hands the request back with its code, and
-    /// keeps the state, the mode and the acquired credentials.
+    /// noted; `MessageAltered` where the client changes its version; then by the state. In the authentication with the kinds of
+    /// the context's step, `LogonDenied` where the look-up of the peer failed, `NoCredentials` where it found nobody,
+    /// `InvalidToken` where it ended with neither a token nor a proof, `InternalError` at another status. With a proof
+    /// `InvalidToken` where it is absent, where from version 5 on the nonce is, or where it has under 16 bytes; with the kinds
+    /// of opening it; `MessageAltered` where it is not the right one; with the kinds of sealing the own one. With the
+    /// credentials `InvalidToken` where they are absent or have under 16 bytes, then the kinds of opening and of reading them.
+    /// `UnsupportedFunction` once they were read. Want of memory may come in place of any of these but the two of the version,
+    /// of a server that has its context.
+    ///
+    /// A refusal hands the request back with its code. The state, the mode and what was acquired before stay, and a context
+    /// that this call made stays with its credentials.
     pub fn process(&mut self, ts_request: TsRequest) -> Result<ServerState, ServerError>
         ensures { ServerCall (either N.REQUESTS N.meaning K.meaning) C.meaning self.old ts_request result self.new }
     {

@@ -14,9 +14,8 @@ use Rattle.sspi_credssp.specs.Ends.{ClientView}
 use Rattle.sspi_credssp.specs.ClientCause.{ClientCause, ResumeCause, KeptCause, NegoCause, StateCause}
 use Rattle.sspi_credssp.specs.ClientTurn.{Asked, HasStepped, OnStep, IsUnderway}
 use Rattle.sspi_credssp.specs.Acts.{is_waiting_in}
-use Rattle.sspi_credssp.specs.Noted.{is_altered_in, is_old_in, StopsIf}
+use Rattle.sspi_credssp.specs.Noted.{is_altered_in, is_old_in, StopsIf, OrMemory}
 use Rattle.sspi_credssp.specs.Proxy.{ProxyMeaning, ProxyTells, IsAsked}
-use Rattle.sspi_credssp.specs.Refusal.{OrMemory}
 use Rattle.sspi_delegate.specs.History.{ClientRefuses, ProxyStays}
 
 stops_past : (test : Bool) (here kind : ErrorKind) (Later : Type 0) → test ≡ false → Later → StopsIf test here kind Later

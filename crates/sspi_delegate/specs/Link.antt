@@ -10,7 +10,7 @@ use Rattle.sspi_credssp.specs.declared.turn.End.TheVariants as ends
 use Rattle.sspi_credssp.specs.declared.turn.Turn.{Turn}
 use Rattle.sspi_credssp.specs.Turn.{message_of}
 use Rattle.sspi_delegate.specs.declared.answer.DelegateError.{DelegateError}
-use Rattle.sspi_delegate.specs.declared.answer.DelegateError.TheVariants.{Client, Server, Read, Write, LinkFault, TurnsSpent}
+use Rattle.sspi_delegate.specs.declared.answer.DelegateError.TheVariants.{Server, LinkFault}
 use Rattle.sspi_delegate.specs.declared.answer.DelegateError.TheVariants.{InsufficientMemory}
 use Rattle.sspi_delegate.specs.declared.carried.Carried.{Carried}
 use Rattle.sspi_delegate.specs.declared.edit.Edit.{Edit}
@@ -162,13 +162,9 @@ HasFailedToTell kind edits before now log turns = NewestIs ends.Server (IsServer
 -- fault is counted. A refusing server's message may have failed so, which changes no answer; elsewhere no fault is counted.
 abbrev pub AnswerTold : {X : Type 0} → Option (List Edit) → ℕ → ℕ → Result X DelegateError → List Carried → List Turn → Type 0
 AnswerTold None before now result log turns = Unit {0}
-AnswerTold (Some edits) before now (Ok x) log turns = now ≡ before
-AnswerTold (Some edits) before now (Err (Client error)) log turns = now ≡ before
 AnswerTold (Some edits) before now (Err (Server error)) log turns =
     (now ≡ before) ⊎ HasFailedToTell error.error_type edits before now log turns
-AnswerTold (Some edits) before now (Err (Read end kind)) log turns = now ≡ before
-AnswerTold (Some edits) before now (Err (Write end)) log turns = now ≡ before
 AnswerTold (Some edits) before now (Err LinkFault) log turns = HasFailed edits before now log turns
-AnswerTold (Some edits) before now (Err TurnsSpent) log turns = now ≡ before
 AnswerTold (Some edits) before now (Err InsufficientMemory) log turns =
     (now ≡ before) ⊎ HasFailedToTell kinds.InsufficientMemory edits before now log turns
+AnswerTold (Some edits) before now result log turns = now ≡ before

@@ -76,21 +76,15 @@ opened_in (t ∷ past) = opened_in past + unsealings_by t.acts
 
 abbrev pub is_replied : Outcome → Bool
 is_replied (Reply reply) = true
-is_replied (Final reply) = false
-is_replied Finished = false
-is_replied (Refused kind reply) = false
+is_replied outcome = false
 
 abbrev pub is_ended : Outcome → Bool
-is_ended (Reply reply) = false
 is_ended (Final reply) = true
-is_ended Finished = false
-is_ended (Refused kind reply) = false
+is_ended outcome = false
 
 abbrev pub is_finished : Outcome → Bool
-is_finished (Reply reply) = false
-is_finished (Final reply) = false
 is_finished Finished = true
-is_finished (Refused kind reply) = false
+is_finished outcome = false
 
 -- one of the turns has sent its end's proof
 abbrev pub any_proved : List Turn → Bool

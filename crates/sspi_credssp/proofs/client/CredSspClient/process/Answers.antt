@@ -7,8 +7,8 @@ use Rattle.sspi_mech.specs.Answered.{answered}
 use Rattle.sspi_credssp.specs.ClientCause.{ClientCause, StateCause}
 use Rattle.sspi_credssp.specs.ClientTurn.{HasStepped}
 use Rattle.sspi_credssp.specs.Acts.{is_waiting_in}
-use Rattle.sspi_credssp.specs.Noted.{is_altered_in, is_old_in, VersionStopsIn}
-use Rattle.sspi_credssp.specs.Refusal.{IsRefusedBy, OrMemory}
+use Rattle.sspi_credssp.specs.Noted.{is_altered_in, is_old_in, VersionStopsIn, OrMemory}
+use Rattle.sspi_credssp.specs.Refusal.{IsRefusedBy}
 use Rattle.sspi_credssp.proofs.CodelessErrors.{caused}
 use Rattle.sspi_credssp.proofs.ClientHeeding.{client_only, no_step}
 use Rattle.sspi_credssp.proofs.Causes.{client_cause_past, client_cause_begun, too_old}

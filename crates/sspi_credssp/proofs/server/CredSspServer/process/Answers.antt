@@ -4,8 +4,7 @@ use Rattle.sspi_types.specs.declared.credential_use.CredentialUse.TheVariants.{I
 use Rattle.sspi_credssp.specs.declared.state.CredSspState.TheVariants.{NegoToken}
 use Rattle.sspi_mech.specs.Refusals.{error_of}
 use Rattle.sspi_credssp.specs.Context.{Begun, OnContext, MadeOr, either}
-use Rattle.sspi_credssp.specs.Noted.{VersionStops, is_old}
-use Rattle.sspi_credssp.specs.Refusal.{OrMemory}
+use Rattle.sspi_credssp.specs.Noted.{VersionStops, is_old, OrMemory}
 use Rattle.sspi_credssp.specs.Proxy.{lists_in, IsAsked, HasAsked}
 use Rattle.sspi_credssp.specs.ServerCause.{MakeCause, ServerCause}
 use Rattle.sspi_credssp.specs.ServerStage.{IsAtStep, BeginRefused}
