@@ -45,9 +45,9 @@ impl<N: Mechanism, K: Mechanism> SspiContext<N, K> {
     /// Seals the text in Data as the next message (EncryptMessage): the first 16 bytes of the blob go to Token, the rest stays
     /// in Data. The flags are not read.
     ///
-    /// Of each type the first buffer without flags is taken; `InvalidToken` exactly where Data or Token is missing, before the
-    /// mechanism in hand is asked. `OutOfSequence` before there is a key, `ContextExpired` once all numbers of messages are used.
-    /// Refused, the context and all buffers are as they were.
+    /// Of each type the first buffer without flags is taken; `InvalidToken` where Data or Token is missing, before the
+    /// mechanism in hand is asked. With the plain mechanisms `OutOfSequence` before there is a key, `ContextExpired` once all
+    /// numbers of messages are used. Refused, the context and all buffers are as they were.
     pub fn encrypt_message(
         &mut self,
         _flags: EncryptionFlags,
@@ -66,10 +66,10 @@ impl<N: Mechanism, K: Mechanism> SspiContext<N, K> {
     /// Opens the peer's next message (DecryptMessage) and leaves its text in Data. The blob is the bytes of Stream, or without
     /// one those of Token followed by those of Data. Answers no flags.
     ///
-    /// Of each type the first buffer without flags is taken; `InvalidToken` exactly where Data is missing, where there is
-    /// neither Stream nor Token, and for a blob of under 16 bytes, before the mechanism in hand is asked. `OutOfSequence` before there
-    /// is a key, `ContextExpired` once all numbers of messages are used, `MessageAltered` for what the peer did not seal as
-    /// this message. Refused, the context and all buffers are as they were.
+    /// Of each type the first buffer without flags is taken; `InvalidToken` where Data is missing, where there is neither
+    /// Stream nor Token, and for a blob of under 16 bytes, before the mechanism in hand is asked. With the plain mechanisms
+    /// `OutOfSequence` before there is a key, `ContextExpired` once all numbers of messages are used, `MessageAltered` for what
+    /// the peer did not seal as this message. Refused, the context and all buffers are as they were.
     pub fn decrypt_message(
         &mut self,
         message: &mut [SecurityBuffer],
@@ -87,9 +87,9 @@ impl<N: Mechanism, K: Mechanism> SspiContext<N, K> {
     /// Leaves the MIC of the text in Data (MakeSignature), as the next of the own MICs, in Token. Flags and sequence number are
     /// not read.
     ///
-    /// Of each type the first buffer without flags is taken; `InvalidToken` exactly where Data or Token is missing, before the
-    /// mechanism in hand is asked. `OutOfSequence` before there is a key, `ContextExpired` once all numbers of MICs are used. Refused,
-    /// the context and all buffers are as they were.
+    /// Of each type the first buffer without flags is taken; `InvalidToken` where Data or Token is missing, before the
+    /// mechanism in hand is asked. With the plain mechanisms `OutOfSequence` before there is a key, `ContextExpired` once all
+    /// numbers of MICs are used. Refused, the context and all buffers are as they were.
     pub fn make_signature(
         &mut self,
         _flags: u32,
@@ -108,9 +108,9 @@ impl<N: Mechanism, K: Mechanism> SspiContext<N, K> {
     /// Checks that Token is the MIC that the peer made of the text in Data (VerifySignature), as the next of its MICs, and
     /// answers 0. Changes no buffer and takes no memory. The sequence number is not read.
     ///
-    /// Of each type the first buffer without flags is taken; `InvalidToken` exactly where Data or Token is missing, before the
-    /// mechanism in hand is asked. `OutOfSequence` before there is a key, `ContextExpired` once all numbers of MICs are used,
-    /// `MessageAltered` for another MIC. Refused, the context is as it was.
+    /// Of each type the first buffer without flags is taken; `InvalidToken` where Data or Token is missing, before the
+    /// mechanism in hand is asked. With the plain mechanisms `OutOfSequence` before there is a key, `ContextExpired` once all
+    /// numbers of MICs are used, `MessageAltered` for another MIC. Refused, the context is as it was.
     pub fn verify_signature(
         &mut self,
         message: &mut [SecurityBuffer],

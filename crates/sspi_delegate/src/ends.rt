@@ -27,7 +27,7 @@ pub enum Round<T> {
     Answered(T),
     /// It was refused, with this error.
     Refused(Error),
-    /// There was no memory, and no turn was made.
+    /// There was no memory, and no turn was recorded. A client may then wait for a reply of its KDC.
     Lost,
 }
 

@@ -35,23 +35,24 @@ use std::alloc::Global;
 ///
 /// Ok gives the identity that the server opened, and how many turns the client made. Refused:
 ///
-/// - `Client`, `Server`: this end refused its turn, with this error. The message by which a refusing server tells its client
-///   is still given to the link where it fits; what comes of that changes nothing.
-/// - `Read`: what was delivered to this end is no request. The kind is `UnexpectedEof` where it ends too early or its header
-///   is at fault, and else `InvalidData`.
+/// - `Client`, `Server`: this end refused its turn, with this error. The message by which a refusing server tells its client is
+///   still given to the link where it fits; what comes of that changes nothing.
+/// - `Read`: what was delivered to this end is no request. The kind is `UnexpectedEof` where it ends too early or its header is
+///   at fault, and else `InvalidData`.
 /// - `Write`: the message of this end has a content past the limit of all lengths.
 /// - `LinkFault`: a call on the link failed.
-/// - `TurnsSpent`: the client made `limit` turns, each was answered, and none of them ended the exchange; at once where
-///   `limit` is 0.
-/// - `InsufficientMemory`, that of an end or of the KDC among it; never where a message is too long or the turns are spent.
+/// - `TurnsSpent`: the client made `limit` turns, each was answered, and none of them ended the exchange; at once where `limit`
+///   is 0.
+/// - `InsufficientMemory`, that of an end or of the KDC among it; never in place of an end's other refusal, of a message that
+///   is too long or of turns that are spent.
 ///
-/// Whatever the answer, the transcript has got each turn that was made, a refused one too, and the log of the link each
-/// message that it took. Both ends are as their last turn left them. Where there was no memory for a reply of the KDC, the
-/// client waits for it in one further turn, which has no record.
+/// Whatever the answer, the transcript has got each turn that was made, a refused one too, and the log of the link each message
+/// that it took. Both ends are as their last turn left them. Where there was no memory for a reply of the KDC, the client waits
+/// for it in one further turn, which has no record.
 ///
 /// `delegates` speaks of ends to which nothing was delivered since they were made, by whatever version and least version, and
-/// of a transcript without turns,
-/// `accounts` of any ends and a transcript without turns, and `stays` of every call; the first holds the other two.
+/// of a transcript without turns, `accounts` of any ends and a transcript without turns, and `stays` of every call; the first
+/// holds the other two.
 pub fn delegate<N: Mechanism, K: Mechanism, C: CredentialsProxy, L: Link, D: Kdc>(
     alloc: Global,
     client: &mut CredSspClient<N, K>,

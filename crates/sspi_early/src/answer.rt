@@ -29,7 +29,7 @@ pub enum EarlyError {
     Delegate(DelegateError),
     /// The policy failed.
     Policy,
-    /// A call on the link failed, for the result.
+    /// The link failed, to carry the result or to deliver it.
     LinkFault,
     /// What was delivered is no result. `UnexpectedEof` where it ends before its four bytes, and else `InvalidData`.
     Read(WireKind),

@@ -18,8 +18,8 @@ const TAG_LENGTH: usize = 16;
 
 /// Seals the text in Data as the next message. The first 16 bytes of the blob go to Token, the rest stays in Data.
 ///
-/// `InvalidToken` exactly where Data or Token is missing, before the context is asked; else as the context refuses to seal.
-/// Refused, the context and all buffers are as they were; so is the number of the next message, also for want of memory.
+/// `InvalidToken` where Data or Token is missing, before the context is asked; else as the context refuses to seal. Refused,
+/// the context and all buffers are as they were; so is the number of the next message, also for want of memory.
 pub fn encrypt_message<P: Protects>(
     context: &mut P,
     message: &mut [SecurityBuffer],
@@ -75,8 +75,8 @@ fn leave(blob: Vec<u8>, token: &mut Bytes, rest: &mut Bytes)
 /// Opens the peer's next message and leaves its text in Data. The blob is the bytes of Stream, or without one those of Token
 /// followed by those of Data. Answers no flags.
 ///
-/// `InvalidToken` exactly where Data is missing, where there is neither Stream nor Token, and for a blob of under 16 bytes,
-/// before the context is asked; else as the context refuses to open. Refused, the context and all buffers are as they were.
+/// `InvalidToken` where Data is missing, where there is neither Stream nor Token, and for a blob of under 16 bytes, before the
+/// context is asked; else as the context refuses to open. Refused, the context and all buffers are as they were.
 pub fn decrypt_message<P: Protects>(
     context: &mut P,
     message: &mut [SecurityBuffer],
@@ -132,8 +132,8 @@ fn open_parts<P: Protects>(
 
 /// Leaves the MIC of the text in Data, as the next of the context's MICs, in Token.
 ///
-/// `InvalidToken` exactly where Data or Token is missing, before the context is asked; else as the context refuses to sign.
-/// Refused, the context and all buffers are as they were.
+/// `InvalidToken` where Data or Token is missing, before the context is asked; else as the context refuses to sign. Refused,
+/// the context and all buffers are as they were.
 pub fn make_signature<P: Protects>(
     context: &mut P,
     message: &mut [SecurityBuffer],
@@ -152,8 +152,8 @@ pub fn make_signature<P: Protects>(
 
 /// Checks that Token is the MIC that the peer made of the text in Data as the next of its MICs. No buffer is changed.
 ///
-/// `InvalidToken` exactly where Data or Token is missing, before the context is asked; else as the context refuses to verify.
-/// Takes no memory. Refused, the context is as it was.
+/// `InvalidToken` where Data or Token is missing, before the context is asked; else as the context refuses to verify. Takes no
+/// memory. Refused, the context is as it was.
 pub fn verify_signature<P: Protects>(
     context: &mut P,
     message: &[SecurityBuffer],

@@ -19,7 +19,8 @@ pub enum Branch {
     Answering(NegTokenTarg),
 }
 
-/// What the first step was given, but for the credentials.
+/// What the first step was given, but for the credentials, which are kept, and the data representation, which each step sets
+/// anew.
 #[derive(Drop)]
 pub struct Opening {
     pub context_requirements: ClientRequestFlags,

@@ -25,7 +25,8 @@ fn is_refused_identity(protocol: Protocol, identity: &Credentials) -> bool
 }
 
 impl<N: Mechanism, K: Mechanism> Negotiate<N, K> {
-    /// The name that was authenticated: on a server the peer's, on a client its own. `OutOfSequence` before it is known.
+    /// The name that was authenticated: on a server the peer's, on a client its own. With the plain mechanisms `OutOfSequence`
+    /// before it is known.
     pub fn query_context_names(&self) -> Result<ContextNames, Error>
         ensures named { IfOk result (λ names. (negotiate N.REQUESTS N.meaning K.meaning).names self.now ≡ Some names.username) }
         ensures codeless { IfErr result (λ error. error.nstatus ≡ None) }
@@ -75,7 +76,7 @@ impl<N: Mechanism, K: Mechanism> Negotiate<N, K> {
         Ok(self.protocol.set_identities(identities)?)
     }
 
-    /// Completes the authentication (CompleteAuthToken). `OutOfSequence` before there is a key.
+    /// Completes the authentication (CompleteAuthToken). With the plain mechanisms `OutOfSequence` before there is a key.
     pub fn complete_auth_token(&mut self) -> Result<SecurityStatus, Error>
         // What stays, and what `Ok` holds.
         ensures same { self.new ≡ self.old }
@@ -91,7 +92,7 @@ impl<N: Mechanism, K: Mechanism> Negotiate<N, K> {
 
     /// Seals a text for the peer, as the next of its messages: a blob of at least 16 bytes.
     ///
-    /// `OutOfSequence` before there is a key, `ContextExpired` once all numbers of messages are used.
+    /// With the plain mechanisms `OutOfSequence` before there is a key, `ContextExpired` once all numbers of messages are used.
     pub fn seal(&mut self, text: &[u8]) -> Result<Vec<u8>, Error>
         // What `Ok` holds.
         ensures blob { let c = negotiate N.REQUESTS N.meaning K.meaning in
@@ -114,8 +115,8 @@ impl<N: Mechanism, K: Mechanism> Negotiate<N, K> {
 
     /// Opens what the peer sealed, as the next of its messages.
     ///
-    /// `OutOfSequence` before there is a key, `ContextExpired` once all numbers of messages are used, `InvalidToken` for a
-    /// blob of under 16 bytes, and `MessageAltered` for one that the peer did not seal as this message.
+    /// With the plain mechanisms `OutOfSequence` before there is a key, `ContextExpired` once all numbers of messages are used,
+    /// `InvalidToken` for a blob of under 16 bytes, and `MessageAltered` for one that the peer did not seal as this message.
     pub fn unseal(&mut self, blob: &[u8]) -> Result<Vec<u8>, Error>
         // What `Ok` holds.
         ensures text { let c = negotiate N.REQUESTS N.meaning K.meaning in

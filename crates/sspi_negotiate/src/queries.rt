@@ -27,7 +27,7 @@ impl<N: Mechanism, K: Mechanism> Negotiate<N, K> {
         }
     }
 
-    /// The session key of the mechanism in hand. `OutOfSequence` before there is one.
+    /// The session key of the mechanism in hand. With the plain mechanisms `OutOfSequence` before there is one.
     pub fn query_context_session_key(&self) -> Result<SessionKeys, Error>
         ensures key { IfOk result (λ keys.
             (negotiate N.REQUESTS N.meaning K.meaning).session_key self.now ≡ Some keys.session_key.value) }

@@ -19,9 +19,9 @@ use std::alloc::Global;
 ///
 /// `InvalidToken` comes for a structure that is not spelled and for a credType without content; then, by its first content
 /// byte, `UnsupportedFunction` for a smart card (2) and `InvalidToken` for another type than a password (1); then
-/// `InvalidToken` for password credentials that are not spelled; and `InvalidParameter` for a text with an odd number of
-/// bytes or an unpaired surrogate. `InternalError` comes only where the source failed. The content is read into memory once its
-/// header was read, so want of memory comes in place of each refusal but that of the header.
+/// `InvalidToken` for password credentials that are not spelled; and `InvalidParameter` for a text with an odd number of bytes
+/// or an unpaired surrogate. `InternalError` comes only where the source failed. The content is read into memory once its
+/// header was read, so want of memory may come in place of any refusal but that of the header.
 #[tactic(auto, using(crate::proofs::Unwanted::header_unwanted, crate::proofs::Unwanted::header_begins))]
 pub fn read_ts_credentials<S: Source>(
     alloc: Global,

@@ -11,9 +11,7 @@ ghost use Rattle.sspi_tsreq.specs.declared.request.TsRequest.{TsRequest};
 use crate::reader::TsReader;
 use crate::sizes::fields_size;
 use crate::writing::write_request;
-use sspi_ber::{
-    MAX_CONTENT, Sink, SliceSource, Source, WireKind, read_sized_header, size_of_element,
-};
+use sspi_ber::{MAX_CONTENT, Sink, Source, WireKind, read_sized_header, size_of_element};
 use sspi_types::{Bytes, Error, ErrorKind, NStatusCode, Reason};
 use std::alloc::{AllocError, Global};
 
@@ -160,7 +158,7 @@ impl TsRequest {
         Ok(size_of_element(size) as u32)
     }
 
-    /// A refusal with the peer's status where the request has a code other than `SUCCESS`. Takes no memory.
+    /// `InvalidToken`, with the code as its status, exactly where the request has a code other than `SUCCESS`. Takes no memory.
     pub fn check_error(&self) -> Result<(), Error>
         ensures { ChecksCode self.now.error_code result }
     {
