@@ -1,5 +1,5 @@
 ghost use Rattle.std.specs.Prelude.{◌≡◌};
-ghost use Rattle.sspi_ber.specs.Identifier.{encoding_bit, tag_number, universal_identifier, contextual_identifier};
+ghost use Rattle.sspi_ber.specs.Identifier.{universal_identifier, contextual_identifier};
 
 /// Whether an encoding is primitive or constructed (bit 6 of the identifier octet, X.690 8.1.2.5).
 #[derive(Clone, Copy, Debug, PartialEq, Eq)]

@@ -1,4 +1,3 @@
-ghost use Rattle.std.specs.Prelude.{◌≡◌, length, IfOk};
 ghost use Rattle.sspi_ber.specs.Identifier.{contextual_identifier};
 ghost use Rattle.sspi_ber.specs.Outside.{Gives, NeedsNoMemory};
 ghost use Rattle.sspi_ber.specs.Pieces.{element_at, tag_or_absent_at};

@@ -1,8 +1,8 @@
-ghost use Rattle.std.specs.Prelude.{◌≡◌, ◌≤◌, nat_le, [], ◌∷◌, ◌++◌, length, IfOk};
+ghost use Rattle.std.specs.Prelude.{◌≡◌, ◌≤◌, nat_le, [], ◌∷◌, length, IfOk};
 ghost use Rattle.sspi_ber.specs.Identifier.{universal_identifier, contextual_identifier};
 ghost use Rattle.sspi_ber.specs.Forms.{max_content};
 ghost use Rattle.sspi_ber.specs.Outside.{Writes, WritesIf, WriteCause};
-ghost use Rattle.sspi_ber.specs.Short.{len_short, header, element, element_size, int_content, int_short};
+ghost use Rattle.sspi_ber.specs.Short.{len_short, header, element, element_size, int_short};
 
 use crate::identifier::{
     INTEGER, OCTET_STRING, Pc, SEQUENCE, Tag, contextual_identifier, universal_identifier,

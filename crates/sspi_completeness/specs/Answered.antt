@@ -1,5 +1,5 @@
 -- To what ends that match come, and the examples.
-use Rattle.std.specs.Prelude.{◌≡◌, ℕ, ◌<◌, ◌≤◌, List, [], ◌∷◌, codes, Result}
+use Rattle.std.specs.Prelude.{ℕ, ◌<◌, ◌≤◌, List, codes, Result}
 use Rattle.sspi_names.specs.declared.identity.AuthIdentity.{AuthIdentity}
 use Rattle.sspi_names.specs.Name.{Name, down_level, principal}
 use Rattle.sspi_delegate.specs.declared.answer.Delegation.{Delegation}

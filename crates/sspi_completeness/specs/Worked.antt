@@ -20,7 +20,7 @@ use Rattle.sspi_credssp.specs.declared.mode.ServerMode.{ServerMode}
 use Rattle.sspi_credssp.specs.declared.mode.ServerMode.TheVariants as server_mode
 use Rattle.sspi_credssp.specs.Ends.{ClientView, IsFreshClient, ServerView, IsFreshServer}
 use Rattle.sspi_credssp.specs.Table.{TableView}
-use Rattle.sspi_completeness.specs.Answered.{ann, ann_of_realm, identity_by}
+use Rattle.sspi_completeness.specs.Answered.{ann, ann_of_realm}
 use Rattle.sspi_completeness.specs.Examples.{example_target}
 use Rattle.sspi_completeness.specs.Matching.{MatchModes, messages_of, IsShort, key_limit}
 

@@ -24,7 +24,7 @@ use sspi_mech::{InitializeSecurityContext, Mechanism, Progressing, Refusal, Repl
 use sspi_names::CredentialsBuffers;
 use sspi_tsreq::TsRequest;
 use sspi_types::{
-    Bytes, ClientRequestFlags, DataRepresentation, Error, ErrorKind, Reason, SecurityStatus, Text,
+    Bytes, ClientRequestFlags, DataRepresentation, ErrorKind, Reason, SecurityStatus, Text,
 };
 
 fn client_requirements() -> ClientRequestFlags

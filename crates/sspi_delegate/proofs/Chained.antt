@@ -30,7 +30,7 @@ use Rattle.sspi_delegate.specs.Chain.{KdcCalls, client_stage, client_at, ClientS
 use Rattle.sspi_delegate.specs.Chain.{ClientChainLeft, at_rest, waiting, ClientChained, server_stage, server_at, ServerStepped}
 use Rattle.sspi_delegate.specs.Chain.{ServerRested, ServerMovedBy, ServerChain}
 use Rattle.sspi_delegate.specs.Turns.{OthersGoOn, OthersUnrefused}
-use Rattle.sspi_delegate.specs.History.{ClientMakes, ClientHistory, ClientStopped, ClientLeft, between, ClientStops, ClientPast}
+use Rattle.sspi_delegate.specs.History.{ClientMakes, ClientHistory, ClientLeft, between, ClientStops, ClientPast}
 use Rattle.sspi_delegate.specs.History.{ServerMakes, ServerHistory, ServerPast}
 use Rattle.sspi_delegate.specs.History as history
 use Rattle.sspi_delegate.proofs.Alternating.{others_go, rest_unrefused}

@@ -1,8 +1,8 @@
-ghost use Rattle.std.specs.Prelude.{◌≡◌, Some, IfOk};
+ghost use Rattle.std.specs.Prelude.{◌≡◌, IfOk};
 
 use crate::username::Username;
 use crate::utf16::Utf16Text;
-use sspi_types::{Bytes, Error, Secret, Text};
+use sspi_types::{Bytes, Secret, Text};
 use std::alloc::{AllocError, Global};
 
 /// A user name and its password.

@@ -1,4 +1,4 @@
-ghost use Rattle.std.specs.Prelude.{◌≡◌, [], length, ◌<◌, option_copied, unwrap_or};
+ghost use Rattle.std.specs.Prelude.{[], length, ◌<◌, option_copied, unwrap_or};
 ghost use Rattle.sspi_names.specs.Name.{parse_name, new_name};
 ghost use Rattle.sspi_names.specs.Named.{IsNamed};
 
@@ -6,7 +6,7 @@ use crate::error::UsernameError;
 use crate::separators::contains_separator;
 use crate::shape::Shape;
 use crate::username::Username;
-use std::alloc::{AllocError, Global};
+use std::alloc::Global;
 
 impl Username {
     /// The name that the text is. With a `@` it is a user principal name, split at the last one; with a `\` it is a

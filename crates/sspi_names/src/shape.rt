@@ -1,4 +1,4 @@
-ghost use Rattle.std.specs.Prelude.{◌≡◌, ◌+◌, ◌<◌, drop, length, slice_index, false, None, Some, MatchOption};
+ghost use Rattle.std.specs.Prelude.{◌≡◌, ◌<◌, false, None, Some, MatchOption};
 
 use crate::separators::{after, contains_backslash, first_backslash, last_at_sign};
 
@@ -14,7 +14,7 @@ pub(crate) enum Shape {
 }
 
 impl Shape {
-    ghost use Rattle.sspi_names.specs.Name.{parse_name, has_at_sign, has_backslash, backslash};
+    ghost use Rattle.sspi_names.specs.Name.{parse_name, has_at_sign, backslash};
     ghost use Rattle.sspi_names.specs.Splits.{IsSplit};
     ghost use Rattle.sspi_names.specs.Places.{IsFirst};
 

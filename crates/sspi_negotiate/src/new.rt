@@ -16,7 +16,7 @@ use crate::state::{NegotiateState, Role};
 use sspi_mech::{Mechanism, Refusal};
 use sspi_names::AuthIdentity;
 use sspi_tokens::MechTypeList;
-use sspi_types::{DataRepresentation, Error, ErrorKind, Reason, Text};
+use sspi_types::{DataRepresentation, Error, ErrorKind, Reason};
 use std::alloc::Global;
 
 fn packages_in(config: &NegotiateConfig) -> PackageListConfig

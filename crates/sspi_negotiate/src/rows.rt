@@ -3,7 +3,7 @@ ghost use Rattle.std.specs.Prelude.{◌≡◌, IfOk, option_copied};
 ghost use Rattle.sspi_negotiate.specs.Client.{is_guest, is_ok, has_begun, passwords, handle_for};
 ghost use Rattle.sspi_negotiate.specs.Rows.{client_wants_mic, server_wants_mic, is_over, is_complete, is_guest_text, if_some};
 
-use crate::protocol::{NegotiatedProtocol, Protocol};
+use crate::protocol::Protocol;
 use bitflags::Flags;
 use sspi_names::CredentialsBuffers;
 use sspi_tokens::NegResult;

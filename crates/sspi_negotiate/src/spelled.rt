@@ -1,4 +1,3 @@
-ghost use Rattle.std.specs.Prelude.{◌≡◌};
 ghost use Rattle.sspi_mech.specs.Answered.{answered};
 ghost use Rattle.sspi_tokens.specs.Spelling.{spelled_init, spelled_list, spelled_targ};
 ghost use Rattle.sspi_negotiate.specs.Spelled.{IsSpelled};

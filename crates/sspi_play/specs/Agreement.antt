@@ -2,7 +2,7 @@
 --
 -- Whatever is delivered to whom: a client that sealed its credentials sealed them for a server that had checked this client's proof
 -- over the same key, and what a finishing server holds is what this client sealed.
-use Rattle.std.specs.Prelude.{◌≡◌, ◌<◌, ◌≤◌, ℕ, List, [], ◌∷◌, ◌++◌, drop, length, Option, None, Some, Ok, true, nat_lt}
+use Rattle.std.specs.Prelude.{◌≡◌, ◌<◌, ◌≤◌, ℕ, List, ◌∷◌, ◌++◌, drop, length, Option, None, Some, Ok, true, nat_lt}
 use Rattle.sspi_mech.specs.Meaning.{Meaning}
 use Rattle.sspi_names.specs.declared.credentials.Credentials.TheVariants as credentials
 use Rattle.sspi_names.specs.declared.identity.AuthIdentity.{AuthIdentity}

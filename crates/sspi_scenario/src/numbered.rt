@@ -1,7 +1,7 @@
 //! Scenarios that are told by a number alone: a sequence of exchanges that differ in how they authenticate, in their versions and
 //! in what stands in their way.
 
-ghost use Rattle.std.specs.Prelude.{◌≡◌, ◌∷◌, [], string_bytes, IfOk, OnOk};
+ghost use Rattle.std.specs.Prelude.{◌≡◌, ◌∷◌, [], IfOk, OnOk};
 ghost use Rattle.sspi_scenario.specs.Held.{HoldsValues};
 ghost use Rattle.sspi_scenario.specs.Numbered.{key_at, least_at, mode_at, numbered, password_at, set_apart, user_at, version_at};
 ghost use Rattle.sspi_scenario.specs.Numbered.{usual_at, with_kerberos};

@@ -1,4 +1,4 @@
-ghost use Rattle.std.specs.Prelude.{◌≡◌, ◌<◌, ◌≤◌, ◌+◌, length};
+ghost use Rattle.std.specs.Prelude.{◌<◌, ◌≤◌, ◌+◌, length};
 ghost use Rattle.sspi_ber.specs.Outside.{CopyCause, LeavesRest, ReadCause, Reads};
 ghost use Rattle.sspi_ber.specs.Pieces.{bytes_at};
 ghost use Rattle.sspi_tsreq.specs.Filled.{Fills, WantsForContent};

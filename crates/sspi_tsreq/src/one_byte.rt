@@ -1,6 +1,6 @@
 //! One byte of a request's content, which changes the reader where it stands.
 
-ghost use Rattle.std.specs.Prelude.{◌≡◌, ◌<◌, [], ◌∷◌, ◌++◌, Some, IsOk, OnOk, OnErr, slice_set};
+ghost use Rattle.std.specs.Prelude.{◌≡◌, ◌<◌, [], ◌∷◌, ◌++◌, Some, IsOk, OnOk, OnErr};
 ghost use Rattle.sspi_tsreq.specs.Walks.{WentOn, with_text};
 ghost use Rattle.sspi_tsreq.specs.Places.{octets_of, text_of};
 ghost use Rattle.sspi_tsreq.specs.Grammar.{bare};

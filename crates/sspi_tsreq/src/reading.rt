@@ -2,7 +2,7 @@
 
 ghost use Rattle.std.specs.Prelude.{◌≡◌};
 ghost use Rattle.std.specs.Option.{option_copied};
-ghost use Rattle.sspi_ber.specs.Pieces.{as_ended, element_at, field_at, header_at, tagged_at};
+ghost use Rattle.sspi_ber.specs.Pieces.{as_ended, field_at, header_at, tagged_at};
 ghost use Rattle.sspi_ber.specs.Outside.{Gives, NeedsNoMemory};
 ghost use Rattle.sspi_tsreq.specs.Parts.{seen};
 ghost use Rattle.sspi_tsreq.specs.Grammar.{bare};

@@ -2,7 +2,7 @@ ghost use Rattle.std.specs.Prelude.{◌≡◌, ℕ, ◌+◌, ◌≤◌, length, 
 ghost use Rattle.sspi_ber.specs.Forms.{max_content};
 ghost use Rattle.sspi_ber.specs.Short.{element_size};
 ghost use Rattle.sspi_tsreq.specs.Size.{IsCapped};
-ghost use Rattle.sspi_tsreq.specs.Spelling.{carried, version_field, nego_field, octets_field, code_field, fields};
+ghost use Rattle.sspi_tsreq.specs.Spelling.{carried, nego_field, octets_field, code_field, fields};
 
 use crate::request::TsRequest;
 use sspi_ber::{MAX_CONTENT, size_of_element, sizeof_integer};

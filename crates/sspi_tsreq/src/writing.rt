@@ -2,7 +2,7 @@ ghost use Rattle.std.specs.Prelude.{◌≡◌, ◌≤◌, length};
 ghost use Rattle.sspi_ber.specs.Forms.{max_content};
 ghost use Rattle.sspi_ber.specs.Short.{element, int_short};
 ghost use Rattle.sspi_tsreq.specs.Size.{IsTokenSize};
-ghost use Rattle.sspi_ber.specs.Outside.{Writes, WritesIf, WriteCause};
+ghost use Rattle.sspi_ber.specs.Outside.{Writes, WriteCause};
 ghost use Rattle.sspi_tsreq.specs.Spelling.{carried, version_field, token_item, token_list, nego_field, octets_field, code_field};
 ghost use Rattle.sspi_tsreq.specs.Spelling.{last_fields, later_fields, fields, fits, spelled};
 

@@ -1,11 +1,11 @@
 //! What the ends of the examples are made of.
 
-ghost use Rattle.std.specs.Prelude.{◌≡◌, ◌∷◌, [], ℕ, List, Option, IfOk, IsSome, Some, None, codes, replicate};
+ghost use Rattle.std.specs.Prelude.{◌≡◌, ℕ, List, Option, IfOk, IsSome, Some, None, codes, replicate};
 ghost use Rattle.sspi_names.specs.Name.{parse_name};
 ghost use Rattle.sspi_names.specs.declared.kdc_table.KdcEntry.{KdcEntry};
 ghost use Rattle.sspi_negotiate.specs.declared.protocol_config.ProtocolConfig.{ProtocolConfig};
 ghost use Rattle.sspi_completeness.specs.Worked.{client_ntlm, server_ntlm, realm_table, negotiation};
-ghost use Rattle.sspi_completeness.specs.Answered.{ann, ann_of_realm};
+ghost use Rattle.sspi_completeness.specs.Answered.{ann};
 ghost use Rattle.sspi_completeness.specs.Worked.{with_ntlm, with_kerberos, with_ticket, with_ntlm_alone};
 ghost use Rattle.sspi_completeness.specs.Worked.{computer, realm_kerberos, realm_kdc};
 

@@ -1,4 +1,3 @@
-ghost use Rattle.std.specs.Prelude.{◌≡◌};
 ghost use Rattle.sspi_mech.specs.KerberosSteps.{arrival_of};
 ghost use Rattle.sspi_mech.specs.Answered.{Gives};
 

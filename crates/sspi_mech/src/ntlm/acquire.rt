@@ -1,4 +1,4 @@
-ghost use Rattle.std.specs.Prelude.{◌≡◌, option_copied};
+ghost use Rattle.std.specs.Prelude.{option_copied};
 ghost use Rattle.sspi_mech.specs.NtlmAcquire.{acquired};
 ghost use Rattle.sspi_mech.specs.Answered.{Gives};
 

@@ -1,4 +1,4 @@
-ghost use Rattle.std.specs.Prelude.{◌≡◌, ◌≤◌, length, IfOk, option_copied};
+ghost use Rattle.std.specs.Prelude.{◌≤◌, length, IfOk, option_copied};
 ghost use Rattle.sspi_names.specs.Name.{inner_of};
 ghost use Rattle.sspi_mech.specs.NtlmSteps.{login_of};
 ghost use Rattle.sspi_mech.specs.Answered.{Gives};

@@ -2,7 +2,6 @@ ghost use Rattle.std.specs.Prelude.{◌≡◌, ◌<◌, ◌≤◌, None, false, 
 ghost use Rattle.std.proofs.Common.{ap, arith};
 ghost use Rattle.sspi_types.specs.Packages.{ntlm_entry};
 ghost use Rattle.sspi_mech.specs.Ntlm.{ntlm_sizes};
-ghost use Rattle.sspi_mech.specs.Calls.{no_counts};
 ghost use Rattle.sspi_mech.specs.declared.step.Answer.TheVariants as answers;
 
 use sspi_mech::{

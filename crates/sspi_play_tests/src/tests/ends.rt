@@ -7,7 +7,7 @@ use sspi_names::{AuthIdentity, Credentials, Username};
 use sspi_play::{Delivery, Ending, Played, play};
 use sspi_tsreq::CredSspMode;
 use sspi_types::{Bytes, Secret, Text};
-use std::alloc::{AllocError, Global};
+use std::alloc::Global;
 use std::process::Abort;
 
 /// What a test runs on.
