@@ -312,8 +312,21 @@ fn first(line: &str) -> (&str, &str) {
     }
 }
 
+/// That each change is one of a field which its line has.
+fn change_fields(rt: &impl Abort, record: Record<'_>) {
+    for change in record.changes.split(' ') {
+        if !change.is_empty() {
+            let (line, word) = halves(rt, change, ".");
+            let (key, _value) = halves(rt, word, "=");
+            let name = told(rt, line.chars().next());
+            let _field = told(rt, unchanged(record.exchange, name, key));
+        }
+    }
+}
+
 /// The verdict on a record with the turns and the entries of these names.
 pub fn found(rt: &impl Test, record: Record<'_>, turn_names: &str, entry_names: &str) -> Verdict {
+    change_fields(rt, record);
     let turns = turns(rt, record, turn_names);
     let log = log(rt, record, entry_names);
     given(rt, audit(rt.alloc(), &turns, &log))

@@ -30,10 +30,13 @@ fn replies(rt: &impl Test, reply: Result<Vec<u8>, KdcError>, words: &str) -> boo
 }
 
 fn calls(rt: &impl Test, kdc: &mut impl Kdc, lines: &str) {
-    for line in lines.lines() {
-        if let Some((asked, words)) = line.split_once(" -> ") {
-            let request = request(rt, asked);
-            holds(rt, replies(rt, kdc.ask(&request), words), line);
+    for line in lines.trim().lines() {
+        match line.split_once(" -> ") {
+            Some((asked, words)) => {
+                let request = request(rt, asked);
+                holds(rt, replies(rt, kdc.ask(&request), words), line);
+            }
+            None => rt.abort(),
         }
     }
 }

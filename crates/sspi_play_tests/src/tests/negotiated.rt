@@ -74,6 +74,14 @@ fn exchange(rt: &impl Test) -> Transcript {
     transcript
 }
 
+/// What stands before and behind a mark.
+fn halves<'a>(rt: &impl Abort, text: &'a str, mark: char) -> (&'a str, &'a str) {
+    match text.split_once(mark) {
+        Some(parts) => parts,
+        None => rt.abort(),
+    }
+}
+
 // ---- the texts
 
 /// The text that a turn opened and the one that it sealed, or `-`, a line a turn.
@@ -123,11 +131,12 @@ fn is_behind_tag(rt: &impl Test, blob: Option<&Bytes>, text: &str) {
 }
 
 fn texts(rt: &impl Test, turns: &[Turn]) {
-    for (turn, line) in turns.iter().zip(TEXTS.trim().lines()) {
-        if let Some((was_opened, was_sealed)) = line.split_once(' ') {
-            is_behind_tag(rt, opened(turn), was_opened);
-            is_behind_tag(rt, sealed(turn), was_sealed);
-        }
+    let lines = TEXTS.trim();
+    assert!(rt; turns.len() == lines.lines().count(), "other turns");
+    for (turn, line) in turns.iter().zip(lines.lines()) {
+        let (was_opened, was_sealed) = halves(rt, line, ' ');
+        is_behind_tag(rt, opened(turn), was_opened);
+        is_behind_tag(rt, sealed(turn), was_sealed);
     }
 }
 
@@ -153,7 +162,9 @@ a3120410e85d3b9e3a525bb7f09aa4d401c49752
 ";
 
 fn tokens(rt: &impl Test, turns: &[Turn]) {
-    for (turn, line) in turns.iter().zip(TOKENS.trim_start().lines()) {
+    let lines = TOKENS.trim_start();
+    assert!(rt; turns.len() == lines.lines().count(), "other turns");
+    for (turn, line) in turns.iter().zip(lines.lines()) {
         let end = given(rt, hex::decode(rt.alloc(), line));
         assert!(rt; turn.output.as_slice().ends_with(&end), "another token");
         assert!(rt;
@@ -219,12 +230,10 @@ fn is_hash(rt: &impl Test, label: &str, nonce: &str, hash: &str) {
 
 fn hashes(rt: &impl Test) {
     for line in HASHES.trim().lines() {
-        if let Some((label, rest)) = line.split_once('|') {
-            if let Some((nonce, hash)) = rest.split_once('|') {
-                is_hash(rt, label, nonce, hash);
-                assert!(rt; HASHES.matches(hash).count() == 1, "one hash of two texts");
-            }
-        }
+        let (label, rest) = halves(rt, line, '|');
+        let (nonce, hash) = halves(rt, rest, '|');
+        is_hash(rt, label, nonce, hash);
+        assert!(rt; HASHES.matches(hash).count() == 1, "one hash of two texts");
     }
 }
 

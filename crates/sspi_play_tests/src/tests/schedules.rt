@@ -30,22 +30,24 @@ fn identity(rt: &impl Test, word: &str) -> Option<&'static str> {
 
 /// How the ends stand, in three words.
 fn standing(rt: &impl Test, words: &str) -> (Ending, Ending, Option<&'static str>) {
-    match words.split_once(' ') {
-        Some((client, rest)) => match rest.split_once(' ') {
-            Some((server, name)) => (ending(rt, client), ending(rt, server), identity(rt, name)),
-            None => rt.abort(),
-        },
+    let (client, rest) = halves(rt, words, " ");
+    let (server, name) = halves(rt, rest, " ");
+    (ending(rt, client), ending(rt, server), identity(rt, name))
+}
+
+/// What stands before and behind a mark.
+fn halves<'a>(rt: &impl Test, text: &'a str, mark: &str) -> (&'a str, &'a str) {
+    match text.split_once(mark) {
+        Some(parts) => parts,
         None => rt.abort(),
     }
 }
 
 fn plays(rt: &impl Test, key: &str, lines: &str) {
-    for line in lines.lines() {
-        if let Some((words, rest)) = line.split_once(" = ") {
-            if let Some((turns, wanted)) = rest.split_once(' ') {
-                comes_to(rt, key, words, turns, standing(rt, wanted));
-            }
-        }
+    for line in lines.trim().lines() {
+        let (words, rest) = halves(rt, line, " = ");
+        let (turns, wanted) = halves(rt, rest, " ");
+        comes_to(rt, key, words, turns, standing(rt, wanted));
     }
 }
 

@@ -46,7 +46,7 @@ fn text_of(alloc: Global, line: &str) -> Result<(String, u32), AllocError> {
 }
 
 fn are_same_texts(a: &[Text], b: &[Text]) -> bool {
-    a.len() == b.len() && (a.is_empty() || a[0] == b[0])
+    a.len() == b.len() && a.iter().zip(b.iter()).all(|(a, b)| *a == *b)
 }
 
 fn are_same_accounts(a: &[AuthIdentity], b: &[AuthIdentity]) -> bool {
@@ -82,12 +82,16 @@ fn have_same_names(a: &Scenario, b: &Scenario) -> bool {
     a.computer == b.computer
         && a.target == b.target
         && a.delegation == b.delegation
-        && a.keytab.is_none() == b.keytab.is_none()
+        && a.keytab.is_none()
+        && b.keytab.is_none()
         && a.client_protocol == b.client_protocol
         && a.server_protocol == b.server_protocol
-        && a.client_packages.is_none() == b.client_packages.is_none()
-        && a.server_packages.is_none() == b.server_packages.is_none()
+        && a.client_packages.is_none()
+        && b.client_packages.is_none()
+        && a.server_packages.is_none()
+        && b.server_packages.is_none()
         && a.ticket == b.ticket
+        && a.kdc == b.kdc
 }
 
 fn are_same_urls(a: &Option<Text>, b: &Option<Text>) -> bool {
@@ -110,6 +114,8 @@ fn have_same_lists(a: &Scenario, b: &Scenario) -> bool {
         && a.turns == b.turns
         && a.deliver.is_empty()
         && b.deliver.is_empty()
+        && a.admit.is_empty()
+        && b.admit.is_empty()
 }
 
 fn check_same(rt: &impl Abort, told: &Scenario, made: &Scenario, line: &str) {
