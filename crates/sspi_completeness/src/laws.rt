@@ -1,5 +1,5 @@
 //! What holds of a context of plain NTLM or plain Kerberos, and of one that negotiates; and that ends which negotiate can match.
-ghost use Rattle.std.specs.Prelude.{◌≡◌, ℕ, List, Option, length, false};
+ghost use Rattle.std.specs.Prelude.{◌≡◌, ◌≤◌, ◌<◌, ◌^◌, ℕ, List, Option, length, codes, false, nat_lt};
 ghost use Rattle.sspi_names.specs.declared.identity.AuthIdentity.{AuthIdentity};
 ghost use Rattle.sspi_names.specs.declared.network.NetworkRequest.{NetworkRequest};
 ghost use Rattle.sspi_names.specs.Identity.{buffers_of};
@@ -7,7 +7,14 @@ ghost use Rattle.sspi_names.specs.Utf16.{text_of};
 ghost use Rattle.sspi_mech.specs.declared.step.Reply.{Reply};
 ghost use Rattle.sspi_negotiate.specs.Rows.{is_guest_text};
 ghost use Rattle.sspi_completeness.specs.Examples.{example_target, example_ntlm, example_kerberos, example_ticket, example_kdc};
+ghost use Rattle.sspi_completeness.specs.Answered.{ann_of_realm};
+ghost use Rattle.sspi_completeness.specs.Matching.{AreMatching, messages_in};
 ghost use Rattle.sspi_completeness.specs.Negotiating.{AreNegotiating, messages_by};
+ghost use Rattle.sspi_completeness.specs.Worked.{Example, IsClientOf, IsServerOf, Matches, ntlm_example};
+ghost use Rattle.sspi_completeness.specs.Worked.{negotiated_at_version_4, negotiated_with_a_long_key, user_to_user, given_up_for_ntlm};
+ghost use Rattle.sspi_credssp.specs.Ends.{ClientView, ServerView};
+ghost use Rattle.sspi_credssp.specs.Table.{TableView, table_meaning};
+ghost use Rattle.sspi_tsreq.specs.declared.mode.CredSspMode.{CredSspMode};
 ghost use Rattle.sspi_credssp.specs.Context.{either, NeverRefuses};
 ghost use Rattle.sspi_mech.specs.Kerberos.{kerberos_meaning};
 ghost use Rattle.sspi_mech.specs.Ntlm.{ntlm_meaning};
@@ -43,4 +50,22 @@ pub fn negotiations_match()
         is_guest_text (text_of (buffers_of identity).user) ≡ false →
         (ends : AreNegotiating told call (example_ntlm computer) (example_ntlm computer)
         example_target identity) × (messages_by ends.begins ends.picked.choice ≡ 4) }
+{}
+
+/// The ends of the exchanges that are worked by hand match, with as many messages of the client as each is told to take: so what is
+/// promised of matching ends is promised of some. `C` is what an end has as its context.
+pub fn worked_ends_match<C>()
+    // Whatever matches as an example does so as two ends that are made of it.
+    ensures ends { (told : Option (ℕ → NetworkRequest → Reply)) → (call messages : ℕ) → (x : Example) → (client : ClientView C) →
+        (server : ServerView C TableView) → IsClientOf x client → IsServerOf x server → Matches told call messages x →
+        (matching : AreMatching table_meaning told call client server) × (messages_in matching ≡ messages) }
+    // NTLM alone, of a client that delegates its credentials or keeps them, at any two versions that take each other.
+    ensures ntlm { (told : Option (ℕ → NetworkRequest → Reply)) → (call : ℕ) → (delegation : CredSspMode) → (client server least : ℕ) →
+        nat_lt client 5 ≡ nat_lt server 5 → least ≤ server → least ≤ client → client < 2 ^ 32 → server < 2 ^ 32 →
+        Matches told call 3 (ntlm_example delegation client server least) }
+    // Negotiations: of NTLM, of Kerberos, and one that is begun with Kerberos and comes to NTLM.
+    ensures version_4 { (told : Option (ℕ → NetworkRequest → Reply)) → (call : ℕ) → Matches told call 4 negotiated_at_version_4 }
+    ensures long_key { (told : Option (ℕ → NetworkRequest → Reply)) → (call : ℕ) → Matches told call 4 negotiated_with_a_long_key }
+    ensures kerberos { Matches (example_kdc (ann_of_realm (codes "pw"))) 0 4 user_to_user }
+    ensures changed { Matches (example_kdc (ann_of_realm (codes "pw"))) 0 5 given_up_for_ntlm }
 {}
