@@ -13,6 +13,7 @@ pub mod Order
 pub mod OwnIdentity
 pub mod Parts
 pub mod Picking
+pub mod Refusals
 pub mod Runs
 pub mod SameTexts
 pub mod ServerChains

@@ -21,7 +21,7 @@ use Rattle.sspi_delegate.specs.declared.answer.DelegateError.TheVariants as erro
 use Rattle.sspi_delegate.specs.Chain.{KdcCalls, client_stage, server_stage}
 use Rattle.sspi_delegate.specs.EndRun.{client_end, server_end}
 use Rattle.sspi_delegate.specs.Turns.{client_turns, server_turns}
-use Rattle.sspi_delegate.proofs.Chained.{client_past_chained, server_chained}
+use Rattle.sspi_delegate.proofs.Chained.{client_past_chained}
 use Rattle.sspi_play.specs.declared.played.Delivery.{Delivery}
 use Rattle.sspi_play.specs.declared.played.Played.{Played}
 use Rattle.sspi_play.specs.Faithful.{signings_in, verifications_in}
@@ -94,7 +94,7 @@ module _ {N K : Type 0} (r q : ℕ) (n : Meaning Setting N) (k : Meaning Setting
   module _ {P D : Type 0} (p : ProxyMeaning P) (kdcs : KdcCalls D) where
     pub negotiates_if_faithful : (schedule : List Delivery) (old new : Both (SspiContext N K) P D)
         (result : Result Played DelegateError) → IsFreshClient old.client → IsFreshServer old.server →
-        IsPlay (either r n k) old new → Accounts (either r n k) p kdcs schedule old result new →
+        IsPlay (either r n k) p kdcs old result new → Accounts (either r n k) p kdcs schedule old result new →
         NegotiatesIfFaithful r n k (client_end new.client) (server_end new.server) old.server.settings.mode new.turns
     negotiates_if_faithful schedule old new result client_fresh server_fresh play accounts =
         let law = lawful r q n k ln lk in
@@ -108,8 +108,7 @@ module _ {N K : Type 0} (r q : ℕ) (n : Meaning Setting N) (k : Meaning Setting
         let shows : Shows r q n k ln lk old.server.settings.mode (server_turns new.turns) new.server.context =
         chain_shows r q n k ln lk p old.server (server_turns new.turns) (server_stage new.server) server_fresh.context
         play.server_ran.others
-        (server_chained (either r n k) p old.server law server_fresh new.server (server_turns new.turns) play.server_ran.others
-        accounts.server_turns_are_its_calls) in
+        play.the_server_has_the_context_of_its_chain in
         record {
           a_server_that_verified = λ faithful some. (
             subst (λ (l : List (List ℕ)). IsPickOf new.server.context old.server.settings.mode l) (faithful.lists some)

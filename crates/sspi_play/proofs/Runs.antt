@@ -1,5 +1,5 @@
 -- What the accounts of a play tell of it where both ends were fresh.
-use Rattle.std.proofs.Common.{◌≡◌, List, [], ◌∷◌, length, reverse, take, Option, Some, Result, Ok, Err, ◌∙◌, ap}
+use Rattle.std.proofs.Common.{◌≡◌, List, [], ◌∷◌, length, reverse, take, Option, Some, Result, Ok, Err, IfOk, ◌∙◌, ap}
 use Rattle.std.proofs.Common.{subst}
 use Rattle.sspi_mech.specs.Context.{IsContext}
 use Rattle.sspi_mech.specs.Meaning.{Meaning}
@@ -11,23 +11,25 @@ use Rattle.sspi_credssp.specs.declared.turn.End.TheVariants.{Client, Server}
 use Rattle.sspi_credssp.specs.declared.turn.Turn.{Turn}
 use Rattle.sspi_delegate.specs.declared.answer.DelegateError.{DelegateError}
 use Rattle.sspi_delegate.specs.declared.answer.DelegateError.TheVariants as errors
-use Rattle.sspi_delegate.specs.Chain.{KdcCalls}
+use Rattle.sspi_delegate.specs.Chain.{KdcCalls, client_stage}
 use Rattle.sspi_delegate.specs.EndRun.{client_end, server_end}
 use Rattle.sspi_delegate.specs.Turns.{client_turns, server_turns, OthersGoOn, OthersUnrefused, AllGoOn}
-use Rattle.sspi_delegate.specs.History.{ClientHistory, ClientLeft, between, waiting}
+use Rattle.sspi_delegate.specs.History.{ClientHistory, ClientLeft, between, waiting, ClientRefused, ServerRefused}
+use Rattle.sspi_delegate.proofs.Chained.{client_chained, client_past_chained, server_past_chained}
 use Rattle.sspi_delegate.proofs.Headline.{sealed_once}
 use Rattle.sspi_delegate.proofs.Heeding.{client_past_heeds, server_past_heeds}
 use Rattle.sspi_delegate.proofs.HistoryRuns.{client_past_ran, server_past_ran}
 use Rattle.sspi_play.specs.declared.played.Delivery.{Delivery}
 use Rattle.sspi_play.specs.declared.played.Played.{Played}
 use Rattle.sspi_play.specs.Agreement.{OpensBehindTag, AgreesIfFaithful}
-use Rattle.sspi_play.specs.History.{ClientPlayed, Gave, GaveIn}
+use Rattle.sspi_play.specs.History.{ClientPlayed, ClientPlayedChain, Gave, GaveIn, IfRefused}
 use Rattle.sspi_play.specs.Kept.{identity_of}
 use Rattle.sspi_play.specs.Played.{Both, PlaysBy, Accounts, IsPlay}
-use Rattle.sspi_play.specs.Plays.{Plays}
+use Rattle.sspi_play.specs.Plays.{Plays, last_refusal, first_unread}
 use Rattle.sspi_play.proofs.Agreed.{agreement}
 use Rattle.sspi_play.proofs.Histories.{history_goes}
 use Rattle.sspi_play.proofs.Order.{others_of}
+use Rattle.sspi_play.proofs.Refusals.{if_refused, client_refused, server_refused}
 
 played_some : (schedule : List Delivery) (result : Result Played DelegateError) (turns : List Turn) → PlaysBy schedule result turns →
     (deliveries : List Delivery) × Plays deliveries turns
@@ -55,9 +57,38 @@ module _ {C D : Type 0} (c : Meaning ContextSetting C) (k : KdcCalls D) where
   played_left (Err error) first now kdc kdc2 turns h = h
 
 module _ {C P D : Type 0} (c : Meaning ContextSetting C) (law : IsContext c) (p : ProxyMeaning P) (k : KdcCalls D) where
+  played_chained : (result : Result Played DelegateError) (first now : ClientView C) (kdc kdc2 : D) (turns : List Turn) →
+      IsFreshClient first → OthersGoOn turns → ClientPlayed c k {X = Played} first kdc result turns now kdc2 →
+      ClientPlayedChain c k {X = Played} first kdc result turns (client_stage now kdc2)
+  played_chained (Ok played) first now kdc kdc2 turns fresh others h =
+      client_chained c k first law fresh now kdc kdc2 turns others h
+  played_chained (Err error) first now kdc kdc2 turns fresh others h =
+      client_past_chained c k first law fresh now kdc kdc2 turns (Err errors.InsufficientMemory) others h
+
+  client_cause : (schedule : List Delivery) (old new : Both C P D) (result : Result Played DelegateError) → IsFreshClient old.client →
+      OthersGoOn (client_turns new.turns) → Accounts c p k schedule old result new →
+      IfOk result (λ played. IfRefused played.client
+      (λ error. ClientRefused c k old.client old.kdc error new.client new.kdc (client_turns new.turns)))
+  client_cause schedule old new (Ok played) fresh others accounts =
+      if_refused played.client (last_refusal (client_turns new.turns)) (first_unread Client (reverse schedule)) _
+      accounts.deliveries_and_turns_say_how_the_ends_stand.client
+      (client_refused c k law old.client fresh new.client old.kdc new.kdc (client_turns new.turns) others
+      accounts.client_turns_are_its_calls)
+  client_cause schedule old new (Err error) fresh others accounts = tt
+
+  server_cause : (schedule : List Delivery) (old new : Both C P D) (result : Result Played DelegateError) → IsFreshServer old.server →
+      OthersUnrefused (server_turns new.turns) → Accounts c p k schedule old result new →
+      IfOk result (λ played. IfRefused played.server
+      (λ error. ServerRefused c p old.server error new.server (server_turns new.turns)))
+  server_cause schedule old new (Ok played) fresh others accounts =
+      if_refused played.server (last_refusal (server_turns new.turns)) (first_unread Server (reverse schedule)) _
+      accounts.deliveries_and_turns_say_how_the_ends_stand.server
+      (server_refused c p law old.server fresh new.server (server_turns new.turns) others accounts.server_turns_are_its_calls)
+  server_cause schedule old new (Err error) fresh others accounts = tt
+
   pub is_play : (schedule : List Delivery) (old new : Both C P D) (result : Result Played DelegateError) → IsFreshClient old.client →
       IsFreshServer old.server →
-      Accounts c p k schedule old result new → IsPlay c old new
+      Accounts c p k schedule old result new → IsPlay c p k old result new
   is_play schedule old new result client_fresh server_fresh accounts =
       let plays = played_some schedule result new.turns accounts.the_turns_are_those_of_the_deliveries in
       let left = played_left c k result old.client new.client old.kdc new.kdc
@@ -80,6 +111,12 @@ module _ {C P D : Type 0} (c : Meaning ContextSetting C) (law : IsContext c) (p 
             server_fresh server_others accounts.server_turns_are_its_calls;
         credentials_are_sealed_at_most_once = sealed_once c (client_end new.client)
             (server_end new.server) new.turns client.each client_others server.each;
+        the_client_has_the_context_of_its_chain = played_chained result old.client new.client old.kdc new.kdc (client_turns new.turns)
+            client_fresh client_others accounts.client_turns_are_its_calls;
+        the_server_has_the_context_of_its_chain = server_past_chained c p old.server law server_fresh new.server
+            (server_turns new.turns) (Err errors.InsufficientMemory) server_others accounts.server_turns_are_its_calls;
+        a_refusal_of_the_client_has_its_cause = client_cause schedule old new result client_fresh client_others accounts;
+        a_refusal_of_the_server_has_its_cause = server_cause schedule old new result server_fresh server_others accounts;
       }
 
   given_in : (first : ServerView C P) (identity : Option AuthIdentity) (given : AuthIdentity) (turns : List Turn) → identity ≡ Some given →
@@ -96,7 +133,7 @@ module _ {C P D : Type 0} (c : Meaning ContextSetting C) (law : IsContext c) (p 
 
   pub agrees_if_faithful : (schedule : List Delivery) (old new : Both C P D)
       (result : Result Played DelegateError) → length old.client.settings.nonce ≡ 32 →
-      IsPlay c old new → Accounts c p k schedule old result new → OpensBehindTag c →
+      IsPlay c p k old result new → Accounts c p k schedule old result new → OpensBehindTag c →
       AgreesIfFaithful (client_end new.client) (server_end new.server) new.turns (identity_of result)
   agrees_if_faithful schedule old new result long play accounts tags = λ opens.
       agreement c (client_end new.client) (server_end new.server) tags p old.server new.turns (identity_of result)

@@ -1,5 +1,6 @@
 -- What one delivery, and a whole play, make of an end and of its history.
 use Rattle.std.specs.Prelude.{◌≡◌, false, List, ◌∷◌, ◌++◌, Option, None, Some, Result, Ok, Err}
+use Rattle.sspi_types.specs.declared.error.Error.{Error}
 use Rattle.sspi_mech.specs.Meaning.{Meaning}
 use Rattle.sspi_names.specs.declared.identity.AuthIdentity.{AuthIdentity}
 use Rattle.sspi_credssp.specs.Ends.{ClientView, ServerView}
@@ -7,16 +8,29 @@ use Rattle.sspi_credssp.specs.Context.{ContextSetting}
 use Rattle.sspi_credssp.specs.Proxy.{ProxyMeaning}
 use Rattle.sspi_credssp.specs.declared.turn.Turn.{Turn}
 use Rattle.sspi_delegate.specs.declared.answer.DelegateError.{DelegateError}
-use Rattle.sspi_delegate.specs.Chain.{KdcCalls}
+use Rattle.sspi_delegate.specs.Chain.{KdcCalls, ClientStage, ClientChain, ClientChainLeft}
 use Rattle.sspi_delegate.specs.Causes.{IsFinished}
 use Rattle.sspi_delegate.specs.Turns.{any_finished}
 use Rattle.sspi_delegate.specs.History.{ClientHistory, ClientLeft, ServerGave}
+use Rattle.sspi_play.specs.declared.played.Ending.{Ending}
+use Rattle.sspi_play.specs.declared.played.Ending.TheVariants as endings
+
+-- an end that stands refused was so with an error of this kind, of which the rest holds
+abbrev pub IfRefused : Ending → (Error → Type 0) → Type 0
+IfRefused (endings.Refused kind) Q = (error : Error) × (error.error_type ≡ kind) × Q error
+IfRefused endings.Running Q = Unit {0}
+IfRefused (endings.Unread kind) Q = Unit {0}
 
 module _ {C D : Type 0} (c : Meaning ContextSetting C) (k : KdcCalls D) where
   -- the history of a client, by the answer: where there was no memory it may have been left waiting for its KDC
   abbrev pub ClientPlayed : {X : Type 0} → ClientView C → D → Result X DelegateError → List Turn → ClientView C → D → Type 0
   ClientPlayed first kdc (Ok done) turns now kdc2 = ClientHistory c k first kdc turns now kdc2
   ClientPlayed first kdc (Err error) turns now kdc2 = ClientLeft c k first kdc turns now kdc2
+
+  -- the chain of a client's context, by the answer
+  abbrev pub ClientPlayedChain : {X : Type 0} → ClientView C → D → Result X DelegateError → List Turn → ClientStage C D → Type 0
+  ClientPlayedChain first kdc (Ok done) turns now = ClientChain c k first kdc turns now
+  ClientPlayedChain first kdc (Err error) turns now = ClientChainLeft c k first kdc turns now
 
 module _ {C P : Type 0} (c : Meaning ContextSetting C) (p : ProxyMeaning P) where
   -- one of these turns of the server finished, and gave this identity

@@ -7,15 +7,15 @@ use Rattle.sspi_credssp.specs.Proxy.{ProxyMeaning}
 use Rattle.sspi_credssp.specs.declared.turn.End.TheVariants.{Client, Server}
 use Rattle.sspi_credssp.specs.declared.turn.Turn.{Turn}
 use Rattle.sspi_delegate.specs.declared.answer.DelegateError.{DelegateError}
-use Rattle.sspi_delegate.specs.Chain.{KdcCalls}
+use Rattle.sspi_delegate.specs.Chain.{KdcCalls, client_stage, server_stage, ServerChain}
 use Rattle.sspi_delegate.specs.EndRun.{ClientRan, ServerRan}
 use Rattle.sspi_delegate.specs.Turns.{client_turns, server_turns}
 use Rattle.sspi_delegate.specs.Headline.{sealed_turns, EachHeedsServer, EachHeedsClient}
-use Rattle.sspi_delegate.specs.History.{ServerHistory}
+use Rattle.sspi_delegate.specs.History.{ServerHistory, ClientRefused, ServerRefused}
 use Rattle.sspi_play.specs.declared.played.Delivery.{Delivery}
 use Rattle.sspi_play.specs.declared.played.Played.{Played}
 use Rattle.sspi_play.specs.Plays.{IsNoWant, ending_of, Plays}
-use Rattle.sspi_play.specs.History.{ClientPlayed, Gave}
+use Rattle.sspi_play.specs.History.{ClientPlayed, ClientPlayedChain, Gave, IfRefused}
 
 -- what takes part in a play, at one moment
 pub record Both (C P D : Type 0) : Type 0 where
@@ -46,7 +46,7 @@ pub record Standings (schedule : List Delivery) (played : Played) (turns : List 
   pub server_kind : IsNoWant played.server
 
 module _ {C P D : Type 0} (c : Meaning ContextSetting C) where
-  -- of a play whose transcript was empty
+  -- of every play
   pub record Accounts (p : ProxyMeaning P) (k : KdcCalls D) (schedule : List Delivery) (old : Both C P D)
       (result : Result Played DelegateError)
       (new : Both C P D) : Type 0 where
@@ -60,9 +60,18 @@ module _ {C P D : Type 0} (c : Meaning ContextSetting C) where
 
   -- Of a play between two fresh ends: each turn is one of its end, over the context that the play left, which sealed and opened
   -- exactly what the turns say. A peer that is too old is refused as that, and no other. No more is sealed than once.
-  pub record IsPlay (old new : Both C P D) : Type 0 where
+  pub record IsPlay (p : ProxyMeaning P) (k : KdcCalls D) (old : Both C P D) (result : Result Played DelegateError)
+      (new : Both C P D) : Type 0 where
     pub client_ran : ClientRan c old.client new.client (client_turns new.turns)
     pub server_ran : ServerRan c old.server new.server (server_turns new.turns)
     pub client_heeds : EachHeedsServer c new.client.settings.least (client_turns new.turns)
     pub server_heeds : EachHeedsClient c new.server.context new.server.settings.least (server_turns new.turns)
     pub credentials_are_sealed_at_most_once : sealed_turns new.turns ≤ 1
+    -- so what an end offered, chose, signed and verified in a turn is what its context did in that step
+    pub the_client_has_the_context_of_its_chain : ClientPlayedChain c k {X = Played} old.client old.kdc result (client_turns new.turns)
+        (client_stage new.client new.kdc)
+    pub the_server_has_the_context_of_its_chain : ServerChain c p old.server (server_turns new.turns) (server_stage new.server)
+    pub a_refusal_of_the_client_has_its_cause : IfOk result (λ played. IfRefused played.client
+        (λ error. ClientRefused c k old.client old.kdc error new.client new.kdc (client_turns new.turns)))
+    pub a_refusal_of_the_server_has_its_cause : IfOk result (λ played. IfRefused played.server
+        (λ error. ServerRefused c p old.server error new.server (server_turns new.turns)))

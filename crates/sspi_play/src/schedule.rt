@@ -24,13 +24,13 @@ use std::alloc::Global;
 /// request: what else comes for it is passed over. A server that has finished still takes a delivery, and refuses it.
 ///
 /// Ok says how each end stands, and the identity that the server opened. The only error is `InsufficientMemory`, that of an end
-/// or of the KDC among it. Whatever the answer, the transcript has got each turn that was made, a refused one too, in the order
-/// of the deliveries, and both ends are as their last turn left them; where there was no memory for a reply of the KDC, the
-/// client waits for it in one further turn, which has no record.
+/// or of the KDC among it. The transcript lets go of the turns that it held before. Whatever the answer, it then has each turn that
+/// was made, a refused one too, in the order of the deliveries, and both ends are as their last turn left them; where there was no
+/// memory for a reply of the KDC, the client waits for it in one further turn, which has no record.
 ///
-/// `accounts` speaks of any ends and a transcript without turns, `plays`, `agrees` and `negotiates` of ends to which nothing was delivered
-/// since they were made, by whatever version and least version; `agrees` and `negotiates` have premises of their own, which
-/// `specs/Agreement.antt`, `specs/Negotiated.antt` and `specs/Faithful.antt` state.
+/// `accounts` speaks of any ends, `plays`, `agrees` and `negotiates` of ends to which nothing was delivered since they were made, by
+/// whatever version and least version; `agrees` and `negotiates` have premises of their own, which `specs/Agreement.antt`,
+/// `specs/Negotiated.antt` and `specs/Faithful.antt` state.
 pub fn play<N: Mechanism, K: Mechanism, C: CredentialsProxy, D: Kdc>(
     alloc: Global,
     client: &mut CredSspClient<N, K>,
@@ -41,15 +41,16 @@ pub fn play<N: Mechanism, K: Mechanism, C: CredentialsProxy, D: Kdc>(
 ) -> Result<Played, DelegateError>
     // Of any ends.
     ensures only { IfErr result (λ error. error ≡ DelegateError.InsufficientMemory) }
-    ensures accounts { transcript.old.turns ≡ [] → Accounts (either N.REQUESTS N.meaning K.meaning) C.meaning
-        (kdc_calls D.told D.asked D.faults) schedule.now (both client.old server.old kdc.old transcript.old.turns) result
+    ensures accounts { Accounts (either N.REQUESTS N.meaning K.meaning) C.meaning
+        (kdc_calls D.told D.asked D.faults) schedule.now (both client.old server.old kdc.old []) result
         (both client.new server.new kdc.new transcript.new.turns) }
     // Of ends that were just made.
-    ensures plays { IsFresh client.old server.old transcript.old.turns → IsPlay (either N.REQUESTS N.meaning K.meaning)
-        (both client.old server.old kdc.old transcript.old.turns) (both client.new server.new kdc.new transcript.new.turns) }
-    ensures agrees { IsFresh client.old server.old transcript.old.turns → OpensBehindTag (either N.REQUESTS N.meaning K.meaning) →
+    ensures plays { IsFresh client.old server.old → IsPlay (either N.REQUESTS N.meaning K.meaning) C.meaning
+        (kdc_calls D.told D.asked D.faults) (both client.old server.old kdc.old []) result
+        (both client.new server.new kdc.new transcript.new.turns) }
+    ensures agrees { IsFresh client.old server.old → OpensBehindTag (either N.REQUESTS N.meaning K.meaning) →
         AgreesIfFaithful (client_end client.new) (server_end server.new) transcript.new.turns (identity_of result) }
-    ensures negotiates { IsFresh client.old server.old transcript.old.turns → NegotiatesIfFaithful N.REQUESTS N.meaning K.meaning
+    ensures negotiates { IsFresh client.old server.old → NegotiatesIfFaithful N.REQUESTS N.meaning K.meaning
         (client_end client.new) (server_end server.new) server.old.settings.mode transcript.new.turns }
     // What stays.
     ensures kdc { KdcStays D.told D.faults kdc.old kdc.new }
@@ -57,6 +58,7 @@ pub fn play<N: Mechanism, K: Mechanism, C: CredentialsProxy, D: Kdc>(
 {
     // Its clause says that a nonce has 32 octets, so agreement need not suppose that.
     let _nonce = client.client_nonce();
+    transcript.clear();
     hand_all(alloc, client, server, schedule, kdc, transcript)
 }
 
@@ -71,7 +73,7 @@ fn hand_all<N: Mechanism, K: Mechanism, C: CredentialsProxy, D: Kdc>(
 ) -> Result<Played, DelegateError>
     ensures only { IfErr result (λ error. error ≡ DelegateError.InsufficientMemory) }
     ensures accounts { transcript.old.turns ≡ [] → Accounts (either N.REQUESTS N.meaning K.meaning) C.meaning
-        (kdc_calls D.told D.asked D.faults) schedule.now (both client.old server.old kdc.old transcript.old.turns) result
+        (kdc_calls D.told D.asked D.faults) schedule.now (both client.old server.old kdc.old []) result
         (both client.new server.new kdc.new transcript.new.turns) }
     ensures kdc { KdcStays D.told D.faults kdc.old kdc.new }
     ensures proxy { ProxyStays C.meaning server.old.proxy server.new.proxy }

@@ -29,12 +29,12 @@ abbrev pub no_link : MemoryLinkView
 no_link = record { log = []; edits = []; faults = 0; most = None }
 
 -- The ends that the scenario names took its deliveries, and the client asked the KDC that it names: all that `play` promises holds
--- from these as they were made, and from an empty transcript, to what the record keeps.
+-- from these as they were made to what the record keeps.
 pub record HasPlay (r : Record) : Type 0 where
   -- the ends as they were made
   pub client : ClientView PlainContext
   pub server : ServerView PlainContext TableView
-  pub fresh : IsFresh client server []
+  pub fresh : IsFresh client server
   pub client_named : IsClientOf r.scenario client
   pub server_named : IsServerOf r.scenario server
   pub link : r.link ≡ no_link
@@ -45,7 +45,8 @@ pub record HasPlay (r : Record) : Type 0 where
   pub outcome_is : r.outcome ≡ outcomes.Played answer
   pub accounts : Accounts plain_meaning table_meaning (calls_of_kdc around) r.scenario.deliver
       (both client server (kdc_in r.scenario) []) answer (both r.client.value r.server.value r.kdc r.transcript.turns)
-  pub plays : IsPlay plain_meaning (both client server (kdc_in r.scenario) []) (both r.client.value r.server.value r.kdc r.transcript.turns)
+  pub plays : IsPlay plain_meaning table_meaning (calls_of_kdc around) (both client server (kdc_in r.scenario) []) answer
+      (both r.client.value r.server.value r.kdc r.transcript.turns)
   -- the plain mechanisms open what stands behind a tag, so that is no premise
   pub agrees : AgreesIfFaithful (client_end r.client.value) (server_end r.server.value) r.transcript.turns (identity_of answer)
   pub negotiates : NegotiatesIfFaithful 0 ntlm_meaning kerberos_meaning (client_end r.client.value) (server_end r.server.value)

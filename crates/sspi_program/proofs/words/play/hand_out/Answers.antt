@@ -18,21 +18,19 @@ returns-clause-play c ends =
     let server_named = subst (λ (a : ServerView PlainContext TableView). IsServerOf s a) (sym c.deref_mut-2.ensures.value)
     ends.server_named in
     let ensures = c.play-answer.ensures in
-    let empty = c.new-transcript.ensures in
-    let fresh : IsFresh client server c.new-transcript.result.turns =
-    record { client_is = client_fresh; server_is = server_fresh; empty = empty } in
+    let fresh : IsFresh client server = record { client_is = client_fresh; server_is = server_fresh } in
     record {
       client = client;
       server = server;
-      fresh = record { client_is = client_fresh; server_is = server_fresh; empty = refl };
+      fresh = fresh;
       client_named = client_named;
       server_named = server_named;
       link = rw c.new.ensures.items at c.new-2.ensures;
       policy = rw c.new-3.ensures.items at c.new-4.ensures;
       answer = c.play-answer.result;
       outcome_is = refl;
-      accounts = rw (ends.kdc, empty, c.as_slice.ensures) at (ensures.accounts empty);
-      plays = rw (ends.kdc, empty) at (ensures.plays fresh);
+      accounts = rw (ends.kdc, c.as_slice.ensures) at ensures.accounts;
+      plays = rw ends.kdc at (ensures.plays fresh);
       agrees = ensures.agrees fresh (plain_opens 0);
       negotiates = ensures.negotiates fresh;
       kdc = rw ends.kdc at ensures.kdc;
