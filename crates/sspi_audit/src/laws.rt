@@ -10,7 +10,7 @@ ghost use Rattle.sspi_audit.specs.Left.{LeavesShown};
 use sspi_credssp::{CredentialsProxy, SspiContext, context_keeps_laws};
 use sspi_mech::Mechanism;
 
-/// A run of two ends is shown right: of what `delegate` leaves of two fresh ends and an empty transcript, its turns and the entries that
+/// A run of two ends is shown right: of what `delegate` leaves of two fresh ends, its turns and the entries that
 /// it added to the log, `audit` says yes, or memory was wanting.
 pub fn delegation_is_shown<N: Mechanism, K: Mechanism, C: CredentialsProxy>()
     ensures { (client client2 : ClientView (SspiContext N K)) (server server2 : ServerView (SspiContext N K) C) (base log : List Carried)

@@ -84,11 +84,11 @@ module _ {C : Type 0} (told : Option (ℕ → NetworkRequest → Reply)) (call m
     nonce = client_is.nonce;
   }
 
-  counted : messages_in matched ≡ messages
+  pub counted : messages_in matched ≡ messages
   counted = modes.1
 
-  pub fresh_ends : {turns : List Turn} → turns ≡ [] → IsFresh client server turns
-  fresh_ends none = record { client_is = client_is.fresh; server_is = server_is.fresh; empty = none }
+  pub fresh_ends : IsFresh client server
+  fresh_ends = record { client_is = client_is.fresh; server_is = server_is.fresh }
 
   -- no look-up of its proxy fails
   pub none_fails : {now : ℕ} → NoneFailed (Some server.proxy.failing) server.proxy.faults now

@@ -111,7 +111,7 @@ pub data IsUndisturbed (edits : Option (List Edit)) (old new : List Carried) (be
 
 -- fresh ends, a link that changes nothing, and a proxy of which no look-up fails
 pub record NothingDisturbs {C P L D : Type 0} (around : Around P L D) (old new : Parties C P L D) : Type 0 where
-  pub fresh : IsFresh old.client old.server old.turns
+  pub fresh : IsFresh old.client old.server
   pub link : IsUndisturbed (around.edits old.link) (around.log old.link) (around.log new.link)
       (around.link_faults old.link) (around.link_faults new.link)
   pub proxy : NoneFailed (around.proxy.told old.server.proxy).failing

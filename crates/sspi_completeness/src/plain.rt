@@ -16,11 +16,10 @@ use std::alloc::Global;
 /// `delegate` between two ends whose mechanisms are the plain ones: its promises, and what is so of these ends alone.
 ///
 /// Where the server does not negotiate, ends that made no call come to Ok only after three messages of the client, whatever the link
-/// delivers, for a transcript without turns.
+/// delivers.
 ///
-/// Where the ends match and made no call, the transcript has no turns, the link disturbs nothing and no look-up of the proxy fails, it
-/// is Ok with the identity that the client seals, or there was no memory. The client then makes three messages without a negotiation.
-/// In a negotiation it makes four, where the server picks the mechanism that the client began with, be that NTLM or Kerberos, and five,
+/// Where the ends match and made no call, the link disturbs nothing and no look-up of the proxy fails, it is Ok with the identity that
+/// the client seals, or there was no memory. The client then makes three messages without a negotiation. In a negotiation it makes four, where the server picks the mechanism that the client began with, be that NTLM or Kerberos, and five,
 /// where the client began with Kerberos and the server picks NTLM. Where `limit` allows the client fewer messages, the turns are
 /// spent, or there was no memory.
 pub fn delegate_plainly<C: CredentialsProxy, L: Link, D: Kdc>(
@@ -33,23 +32,23 @@ pub fn delegate_plainly<C: CredentialsProxy, L: Link, D: Kdc>(
     transcript: &mut Transcript,
 ) -> Result<Delegation, DelegateError>
     // What `delegate` promises.
-    ensures delegates { IsFresh client.old server.old transcript.old.turns → Delegates (either 0 ntlm_meaning kerberos_meaning)
+    ensures delegates { IsFresh client.old server.old → Delegates (either 0 ntlm_meaning kerberos_meaning)
         (around_by C.meaning L.log L.edits L.faults D.told D.asked D.faults)
-        (parties client.old server.old link.old kdc.old transcript.old.turns) limit result
+        (parties client.old server.old link.old kdc.old []) limit result
         (parties client.new server.new link.new kdc.new transcript.new.turns) }
-    ensures accounts { transcript.old.turns ≡ [] → Accounts (either 0 ntlm_meaning kerberos_meaning)
+    ensures accounts { Accounts (either 0 ntlm_meaning kerberos_meaning)
         (around_by C.meaning L.log L.edits L.faults D.told D.asked D.faults)
-        (parties client.old server.old link.old kdc.old transcript.old.turns) limit result
+        (parties client.old server.old link.old kdc.old []) limit result
         (parties client.new server.new link.new kdc.new transcript.new.turns) }
     ensures stays { Stays (around_by C.meaning L.log L.edits L.faults D.told D.asked D.faults)
-        (parties client.old server.old link.old kdc.old transcript.old.turns) limit result
+        (parties client.old server.old link.old kdc.old []) limit result
         (parties client.new server.new link.new kdc.new transcript.new.turns) }
     // How many messages are too few, and to what ends that match come.
-    ensures three { IsNtlmServer server.old.settings.mode → IsFresh client.old server.old transcript.old.turns →
+    ensures three { IsNtlmServer server.old.settings.mode → IsFresh client.old server.old →
         IfOk result (λ delegation. 3 ≤ delegation.rounds) }
     ensures matched { (matching : AreMatching C.meaning (D.told kdc.old) (D.asked kdc.old) client.old server.old) →
         NothingDisturbs (around_by C.meaning L.log L.edits L.faults D.told D.asked D.faults)
-        (parties client.old server.old link.old kdc.old transcript.old.turns)
+        (parties client.old server.old link.old kdc.old [])
         (parties client.new server.new link.new kdc.new transcript.new.turns) →
         AnswersIn (messages_in matching) limit (delegated_as client.old.settings.delegation matching.identity) result }
 {

@@ -171,7 +171,7 @@ module _ (base : List Carried) (start limit : ℕ) where
   only_ok (Err errors.LinkFault) turns log now ends newest = newest_goes_apart Server IsFinished finished_goes turns newest ends.cause.0
   only_ok (Err errors.TurnsSpent) turns log now ends newest = newest_goes_apart Server IsFinished finished_goes turns newest ends.cause.0
   only_ok (Err errors.InsufficientMemory) turns log now ends newest = elim ends.cause [
-    | for_a_turn going left entries calm ↦ newest_goes_apart Server IsFinished finished_goes turns newest going
+    | for_a_turn going left entries within calm ↦ newest_goes_apart Server IsFinished finished_goes turns newest going
     | for_a_message going entries fit calm ↦ newest_goes_apart Server IsFinished finished_goes turns newest going
     | by_the_client refusal entries calm ↦ newest_ends (IsClientRefusal kinds.InsufficientMemory) IsFinished turns refusal newest
     | by_the_server refusal given ↦
@@ -197,7 +197,7 @@ module _ (base : List Carried) (start limit : ℕ) where
   only_client kind (Err errors.LinkFault) turns log now ends newest = refused_client_goes kind turns newest ends.cause.0
   only_client kind (Err errors.TurnsSpent) turns log now ends newest = refused_client_goes kind turns newest ends.cause.0
   only_client kind (Err errors.InsufficientMemory) turns log now ends newest = elim ends.cause [
-    | for_a_turn going left entries calm ↦ absurd (refused_client_goes kind turns newest going)
+    | for_a_turn going left entries within calm ↦ absurd (refused_client_goes kind turns newest going)
     | for_a_message going entries fit calm ↦ absurd (refused_client_goes kind turns newest going)
     | by_the_client refusal entries calm ↦
         newest_one Client (IsClientRefusal kind) (IsClientRefusal kinds.InsufficientMemory) (kind ≡ kinds.InsufficientMemory)
@@ -225,7 +225,7 @@ module _ (base : List Carried) (start limit : ℕ) where
   only_server kind (Err errors.LinkFault) turns log now ends newest = refused_server_goes kind turns newest ends.cause.0
   only_server kind (Err errors.TurnsSpent) turns log now ends newest = refused_server_goes kind turns newest ends.cause.0
   only_server kind (Err errors.InsufficientMemory) turns log now ends newest = elim ends.cause [
-    | for_a_turn going left entries calm ↦ absurd (refused_server_goes kind turns newest going)
+    | for_a_turn going left entries within calm ↦ absurd (refused_server_goes kind turns newest going)
     | for_a_message going entries fit calm ↦ absurd (refused_server_goes kind turns newest going)
     | by_the_client refusal entries calm ↦
         absurd (newest_ends (IsClientRefusal kinds.InsufficientMemory) (IsServerRefusal kind) turns refusal newest)
@@ -276,7 +276,7 @@ module _ (base : List Carried) (start limit : ℕ) where
   only_write end (Err errors.TurnsSpent) turns log now ends newest going entries long =
       absurd (logged_apart base turns log ends.cause.3 entries)
   only_write end (Err errors.InsufficientMemory) turns log now ends newest going entries long = elim ends.cause [
-    | for_a_turn _ left whole calm ↦ absurd (logged_apart base turns log whole entries)
+    | for_a_turn _ left whole within calm ↦ absurd (logged_apart base turns log whole entries)
     | for_a_message _ rest fit calm ↦ absurd (fits_apart turns fit long)
     | by_the_client refusal rest calm ↦ absurd (refused_client_goes kinds.InsufficientMemory turns refusal going)
     | by_the_server refusal given ↦ absurd (refused_server_goes kinds.InsufficientMemory turns refusal going)
@@ -330,7 +330,7 @@ module _ (base : List Carried) (start limit : ℕ) where
   ]
   only_spent (Err errors.TurnsSpent) turns log now ends going entries next spent = refl
   only_spent (Err errors.InsufficientMemory) turns log now ends going entries next spent = elim ends.cause [
-    | for_a_turn _ left whole calm ↦ absurd (spent_apart limit turns next spent left)
+    | for_a_turn _ left whole within calm ↦ absurd (spent_apart limit turns next spent left)
     | for_a_message _ rest fit calm ↦ absurd (logged_apart base turns log entries rest)
     | by_the_client refusal rest calm ↦ absurd (refused_client_goes kinds.InsufficientMemory turns refusal going)
     | by_the_server refusal given ↦ absurd (refused_server_goes kinds.InsufficientMemory turns refusal going)

@@ -24,7 +24,7 @@ use Rattle.sspi_delegate.specs.Halves.{Between, Asked, Turned, IsAnswerTo, HasMe
 use Rattle.sspi_delegate.specs.Causes.{IsFinished, TurnLeft, Given, carried, too_long, link_failed, no_memory, turns_of}
 use Rattle.sspi_delegate.specs.Causes.{Lacks, for_a_turn, for_a_message, by_the_client, by_the_server}
 use Rattle.sspi_delegate.specs.Log.{delivery_limit, IsUnread, HeadWithin, Logged, LoggedButLast, HasLog, IsDelivered, IsRead, IsSent}
-use Rattle.sspi_delegate.specs.Log.{IsFault, IsUnreadable}
+use Rattle.sspi_delegate.specs.Log.{IsFault, IsUnreadable, WithinFor}
 use Rattle.sspi_delegate.specs.Readers.{Fed, HeadTaken, TakesIn}
 use Rattle.sspi_delegate.specs.Recorded.{PushedSuch}
 use Rattle.sspi_delegate.specs.Turns.{next_end, GoesOn, Alternates}
@@ -113,12 +113,17 @@ module _ (base : List Carried) (start : ℕ) where
     calm = w.calm;
   }
 
+  delivered_within : (turns : List Turn) (log : List Carried) (d : TsRequest) → IsDelivered turns log d → WithinFor turns log
+  delivered_within [] log d delivered = tt
+  delivered_within (t ∷ past) [] d delivered = absurd delivered
+  delivered_within (t ∷ past) (e ∷ log) d delivered = delivered.2
+
   pub lost : (limit : ℕ) (d : TsRequest) (old new : List Turn) (log : List Carried) (now : ℕ) → TurnLeft limit old →
       Asked base start old log now d → new ≡ old → Stopped base start limit errors.InsufficientMemory new log now
   lost limit d old new log now left w same =
       let v = asked_by d old new log now same w in
       let left_now = subst (λ (turns : List Turn). TurnLeft limit turns) (sym same) left in
-      record { order = v.order; cause = for_a_turn v.going left_now v.entries v.calm }
+      record { order = v.order; cause = for_a_turn v.going left_now v.entries (delivered_within new log d v.delivered) v.calm }
 
   pub client_refused : (limit : ℕ) (error : Error) (answer : DelegateError) (d : TsRequest) (old new : List Turn) (log : List Carried)
       (now : ℕ) →
@@ -150,7 +155,7 @@ module _ (base : List Carried) (start : ℕ) where
 
   pub lacking_log : (limit : ℕ) (turns : List Turn) (log : List Carried) (now : ℕ) → Lacks base start limit turns log now →
       HasLog base turns log
-  lacking_log limit turns log now (for_a_turn going left entries calm) = inl entries
+  lacking_log limit turns log now (for_a_turn going left entries within calm) = inl entries
   lacking_log limit turns log now (for_a_message going entries fit calm) = inr entries
   lacking_log limit turns log now (by_the_client newest entries calm) = inr entries
   lacking_log limit turns log now (by_the_server newest given) = given_log turns log now given

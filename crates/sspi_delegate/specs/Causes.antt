@@ -16,7 +16,7 @@ use Rattle.sspi_delegate.specs.declared.answer.DelegateError.{DelegateError}
 use Rattle.sspi_delegate.specs.declared.answer.DelegateError.TheVariants as errors
 use Rattle.sspi_delegate.specs.declared.answer.Delegation.{Delegation}
 use Rattle.sspi_delegate.specs.declared.carried.Carried.{Carried}
-use Rattle.sspi_delegate.specs.Log.{HeadWithin, Logged, LoggedButLast, UnreadFor, OpenFor, IsUnreadable}
+use Rattle.sspi_delegate.specs.Log.{HeadWithin, WithinFor, Logged, LoggedButLast, UnreadFor, OpenFor, IsUnreadable}
 use Rattle.sspi_delegate.specs.Turns.{other, next_end, AllGoOn, Alternates}
 
 -- how many turns an end has made
@@ -81,7 +81,8 @@ module _ (base : List Carried) (start : ℕ) where
 
   -- Where memory was wanting. The link may have failed to carry the message of a server that was refused for it; else it did not.
   pub data Lacks (limit : ℕ) (turns : List Turn) (log : List Carried) (now : ℕ) : Type 0 where
-    for_a_turn : AllGoOn turns → TurnLeft limit turns → Logged base turns log → now ≡ start → Lacks limit turns log now
+    for_a_turn : AllGoOn turns → TurnLeft limit turns → Logged base turns log → WithinFor turns log → now ≡ start →
+        Lacks limit turns log now
     for_a_message : AllGoOn turns → LoggedButLast base turns log → NewestFits turns true → now ≡ start → Lacks limit turns log now
     by_the_client : NewestIs Client (IsClientRefusal kinds.InsufficientMemory) turns → LoggedButLast base turns log → now ≡ start →
         Lacks limit turns log now

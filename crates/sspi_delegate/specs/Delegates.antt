@@ -60,7 +60,7 @@ module _ {P L D : Type 0} (around : Around P L D) where
   abbrev pub calls_of_kdc : KdcCalls D
   calls_of_kdc = kdc_calls around.replies around.asked around.kdc_faults
 
-  -- of every exchange
+  -- what stays of the three round the ends, in every exchange
   pub record Stays {C : Type 0} (old : Parties C P L D) (limit : ℕ) (result : Result Delegation DelegateError)
       (new : Parties C P L D) : Type 0 where
     pub the_proxy_tells_what_it_told : ProxyStays around.proxy old.server.proxy new.server.proxy
@@ -74,7 +74,7 @@ module _ {P L D : Type 0} (around : Around P L D) where
 
 -- c: what the context of either end means
 module _ {C P L D : Type 0} (c : Meaning ContextSetting C) (around : Around P L D) where
-  -- of an exchange whose transcript was empty
+  -- of every exchange
   pub record Accounts (old : Parties C P L D) (limit : ℕ) (result : Result Delegation DelegateError) (new : Parties C P L D) : Type 0 where
     pub turns_and_log_show_the_answer : RunEnds (around.log old.link) (around.link_faults old.link) limit result new.turns
         (around.log new.link) (around.link_faults new.link)

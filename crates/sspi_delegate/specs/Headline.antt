@@ -67,11 +67,10 @@ module _ {C : Type 0} (c : Meaning ContextSetting C) where
 
 -- ---- what holds
 
--- both ends as they were made, and a transcript without turns
-pub record IsFresh {C P : Type 0} (client : ClientView C) (server : ServerView C P) (turns : List Turn) : Type 0 where
+-- both ends as they were made
+pub record IsFresh {C P : Type 0} (client : ClientView C) (server : ServerView C P) : Type 0 where
   pub client_is : IsFreshClient client
   pub server_is : IsFreshServer server
-  pub empty : turns ≡ []
 
 -- in how many turns credentials were sealed, refused turns among them
 abbrev pub sealed_turns : List Turn → ℕ

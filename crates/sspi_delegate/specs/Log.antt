@@ -58,6 +58,11 @@ abbrev pub HeadWithin : List Carried → Type 0
 HeadWithin [] = ⊥
 HeadWithin (e ∷ log) = length e.delivered ≤ delivery_limit
 
+-- where there are turns, no more of the newest delivery was taken than the limit
+abbrev pub WithinFor : List Turn → List Carried → Type 0
+WithinFor [] log = Unit {0}
+WithinFor (t ∷ past) log = HeadWithin log
+
 abbrev pub HeadOpen : List Carried → Type 0
 HeadOpen [] = ⊥
 HeadOpen (e ∷ log) = is_taken e ≡ false

@@ -4,7 +4,7 @@ use Rattle.sspi_tsreq.specs.declared.reader.TsReader.{TsReader}
 use Rattle.sspi_tsreq.specs.Feeding.{Stands}
 use Rattle.sspi_delegate.specs.declared.carried.Carried.{Carried}
 use Rattle.sspi_delegate.specs.declared.link.LinkError.{LinkError}
-use Rattle.sspi_delegate.specs.Log.{delivery_limit, is_taken, HeadOpen}
+use Rattle.sspi_delegate.specs.Log.{delivery_limit, is_taken, HeadOpen, HeadWithin}
 use Rattle.sspi_delegate.specs.declared.link.LinkError.TheVariants.{Failed, InsufficientMemory}
 
 -- only what was delivered of the newest entry, and whether it ended, may differ
@@ -22,7 +22,7 @@ HeadTaken (e ∷ log) text = (is_taken e ≡ true) × (e.delivered ≡ text) × 
 abbrev pub Takes : List Carried → List Carried → Result (List ℕ) LinkError → Type 0
 Takes old new (Ok text) = Fed old new × HeadTaken new text
 Takes old new (Err Failed) = Fed old new × HeadOpen new
-Takes old new (Err InsufficientMemory) = Fed old new
+Takes old new (Err InsufficientMemory) = Fed old new × HeadWithin new
 
 -- the reader stands for the text that was taken of the newest delivery, and a failure is one of taking it
 abbrev pub TakesIn : List Carried → List Carried → Result TsReader LinkError → Type 0

@@ -28,8 +28,8 @@ use std::alloc::Global;
 
 /// Carries the messages of a client and a server until the server has the client's credentials (MS-CSSP 3.1.5).
 ///
-/// In each of at most `limit` rounds the client makes a turn and then the server. The client's first turn takes a default
-/// request; each other turn takes the request with which the newest delivery begins, which is read to its end or to
+/// In each of at most `limit` rounds the client makes a turn and then the server. The first turn of the client in this call takes a
+/// default request; each other turn takes the request with which the newest delivery begins, which is read to its end or to
 /// `DELIVERY_LIMIT` bytes, whichever comes first. Where the client's context asks a KDC, `kdc` is asked and the turn goes on
 /// with its reply; a call that fails goes on as `Reply::Failed`.
 ///
@@ -46,13 +46,12 @@ use std::alloc::Global;
 /// - `InsufficientMemory`, that of an end or of the KDC among it; never in place of an end's other refusal, of a message that
 ///   is too long or of turns that are spent.
 ///
-/// Whatever the answer, the transcript has got each turn that was made, a refused one too, and the log of the link each message
-/// that it took. Both ends are as their last turn left them. Where there was no memory for a reply of the KDC, the client waits
-/// for it in one further turn, which has no record.
+/// The transcript lets go of the turns that it held before. Whatever the answer, it then has each turn that was made, a refused one
+/// too, and the log of the link each message that it took. Both ends are as their last turn left them. Where there was no memory
+/// for a reply of the KDC, the client waits for it in one further turn, which has no record.
 ///
-/// `delegates` speaks of ends to which nothing was delivered since they were made, by whatever version and least version, and
-/// of a transcript without turns, `accounts` of any ends and a transcript without turns, and `stays` of every call; the first
-/// holds the other two.
+/// `delegates` speaks of ends to which nothing was delivered since they were made, by whatever version and least version;
+/// `accounts` and `stays` speak of every call, and `delegates` holds both.
 pub fn delegate<N: Mechanism, K: Mechanism, C: CredentialsProxy, L: Link, D: Kdc>(
     alloc: Global,
     client: &mut CredSspClient<N, K>,
@@ -62,18 +61,19 @@ pub fn delegate<N: Mechanism, K: Mechanism, C: CredentialsProxy, L: Link, D: Kdc
     limit: u32,
     transcript: &mut Transcript,
 ) -> Result<Delegation, DelegateError>
-    ensures delegates { IsFresh client.old server.old transcript.old.turns → Delegates (either N.REQUESTS N.meaning K.meaning)
+    ensures delegates { IsFresh client.old server.old → Delegates (either N.REQUESTS N.meaning K.meaning)
         (around_by C.meaning L.log L.edits L.faults D.told D.asked D.faults)
-        (parties client.old server.old link.old kdc.old transcript.old.turns) limit result
+        (parties client.old server.old link.old kdc.old []) limit result
         (parties client.new server.new link.new kdc.new transcript.new.turns) }
-    ensures accounts { transcript.old.turns ≡ [] → Accounts (either N.REQUESTS N.meaning K.meaning)
+    ensures accounts { Accounts (either N.REQUESTS N.meaning K.meaning)
         (around_by C.meaning L.log L.edits L.faults D.told D.asked D.faults)
-        (parties client.old server.old link.old kdc.old transcript.old.turns) limit result
+        (parties client.old server.old link.old kdc.old []) limit result
         (parties client.new server.new link.new kdc.new transcript.new.turns) }
     ensures stays { Stays (around_by C.meaning L.log L.edits L.faults D.told D.asked D.faults)
-        (parties client.old server.old link.old kdc.old transcript.old.turns) limit result
+        (parties client.old server.old link.old kdc.old []) limit result
         (parties client.new server.new link.new kdc.new transcript.new.turns) }
 {
+    transcript.clear();
     rounds(alloc, client, server, link, kdc, limit, transcript)
 }
 

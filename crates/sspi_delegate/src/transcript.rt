@@ -37,6 +37,13 @@ impl Transcript {
         }
     }
 
+    /// Lets go of all turns. Their room stays; takes no memory.
+    pub fn clear(&mut self)
+        ensures { self.new.turns ≡ [] }
+    {
+        self.turns.clear();
+    }
+
     /// Makes room for one more turn.
     pub(crate) fn reserve(&mut self) -> Result<(), AllocError>
         ensures turns { self.new.turns ≡ self.old.turns }

@@ -40,8 +40,8 @@ module _ {C P L D : Type 0} (c : Meaning ContextSetting C) (around : Around P L 
   -- all that `delegate` promises of an exchange
   pub record IsDelegated (old : Parties C P L D) (limit : ℕ) (result : Result Delegation DelegateError) (new : Parties C P L D)
       : Type 0 where
-    pub delegates : IsFresh old.client old.server old.turns → Delegates c around old limit result new
-    pub accounts : old.turns ≡ [] → Accounts c around old limit result new
+    pub delegates : IsFresh old.client old.server → Delegates c around old limit result new
+    pub accounts : Accounts c around old limit result new
     pub stays : Stays around old limit result new
 
   -- A delegation, and what came behind it: the two ends, the KDC and the turns are as the delegation left them, and so is the log of

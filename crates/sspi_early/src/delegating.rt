@@ -1,3 +1,4 @@
+ghost use Rattle.std.specs.Prelude.{[]};
 ghost use Rattle.sspi_completeness.specs.Matching.{AreMatching, IsCalm, NothingDisturbs, messages_in};
 ghost use Rattle.sspi_credssp.specs.Exchange.{delegated_as};
 ghost use Rattle.sspi_credssp.specs.Context.{either};
@@ -28,10 +29,10 @@ use std::alloc::Global;
 /// - `InsufficientMemory`, that of either.
 ///
 /// Whatever the answer, the ends, the KDC and the transcript are as `delegate` left them, and the log of the link has one entry more
-/// at most. `early` holds of every call, and cites all that `delegate` promises. Matching ends that made no call, with a transcript
-/// without turns, whose link disturbs nothing, neither in the delegation nor behind it, and whose proxy and policy do not fail, come
-/// to Ok, and the client hears what the server told, or there was no memory; where `limit` allows the client fewer messages than they
-/// take, the turns are spent, or there was no memory.
+/// at most. `early` holds of every call, and cites all that `delegate` promises. Matching ends that made no call, whose link disturbs
+/// nothing, neither in the delegation nor behind it, and whose proxy and policy do not fail, come to Ok, and the client hears what the
+/// server told, or there was no memory; where `limit` allows the client fewer messages than they take, the turns are spent, or there
+/// was no memory.
 pub fn delegate_early<C: CredentialsProxy, L: Link, D: Kdc, P: Policy>(
     alloc: Global,
     client: &mut CredSspClient<Ntlm, Kerberos>,
@@ -44,11 +45,11 @@ pub fn delegate_early<C: CredentialsProxy, L: Link, D: Kdc, P: Policy>(
 ) -> Result<Early, EarlyError>
     ensures early { IsEarly (either 0 ntlm_meaning kerberos_meaning)
         (around_by C.meaning L.log L.edits L.faults D.told D.asked D.faults) P.meaning
-        (parties client.old server.old link.old kdc.old transcript.old.turns) limit policy.old result
+        (parties client.old server.old link.old kdc.old []) limit policy.old result
         (parties client.new server.new link.new kdc.new transcript.new.turns) policy.new }
     ensures matched { (matching : AreMatching C.meaning (D.told kdc.old) (D.asked kdc.old) client.old server.old) →
         NothingDisturbs (around_by C.meaning L.log L.edits L.faults D.told D.asked D.faults)
-        (parties client.old server.old link.old kdc.old transcript.old.turns)
+        (parties client.old server.old link.old kdc.old [])
         (parties client.new server.new link.new kdc.new transcript.new.turns) →
         IsCalm (P.meaning.faults policy.old) (P.meaning.faults policy.new) →
         AnswersEarlyIn (messages_in matching) limit (delegated_as client.old.settings.delegation matching.identity) result }

@@ -47,12 +47,12 @@ abbrev pub around : Around TableView MemoryLinkView PlainKdcState
 around = around_by table_meaning link_log told_edits link_faults told_replies kdc_asked kdc_faults
 
 -- The ends that the scenario names met over the link that it names, and the client asked the KDC that it names: all that
--- `delegate` promises holds from these as they were made, and from an empty log and transcript, to what the record keeps.
+-- `delegate` promises holds from these as they were made, and from an empty log, to what the record keeps.
 pub record IsExchange (r : Record) : Type 0 where
   -- the ends as they were made
   pub client : ClientView PlainContext
   pub server : ServerView PlainContext TableView
-  pub fresh : IsFresh client server []
+  pub fresh : IsFresh client server
   pub client_named : IsClientOf r.scenario client
   pub server_named : IsServerOf r.scenario server
   -- the link has the scenario's edits

@@ -22,11 +22,11 @@ returns-clause-stays g c = record {
 }
 
 pub returns-clause-accounts : goal.returns-clause-accounts
-returns-clause-accounts g c empty = record {
-  turns_and_log_show_the_answer = c.rounds.ensures.cause empty;
-  no_other_answer_fits = exactly _ _ _ _ _ _ _ (c.rounds.ensures.cause empty);
-  client_turns_are_its_calls = c.rounds.ensures.client_history empty;
-  server_turns_are_its_calls = c.rounds.ensures.server_history empty;
+returns-clause-accounts g c = record {
+  turns_and_log_show_the_answer = c.rounds.ensures.cause c.clear.ensures;
+  no_other_answer_fits = exactly _ _ _ _ _ _ _ (c.rounds.ensures.cause c.clear.ensures);
+  client_turns_are_its_calls = c.rounds.ensures.client_history c.clear.ensures;
+  server_turns_are_its_calls = c.rounds.ensures.server_history c.clear.ensures;
 }
 
 pub returns-clause-delegates : goal.returns-clause-delegates
@@ -36,9 +36,9 @@ returns-clause-delegates g c fresh =
     let k = kdc_calls g.D.Kdc.told g.D.Kdc.asked g.D.Kdc.faults in
     let turns = c.rounds.new.transcript.turns in
     let result = c.rounds.result in
-    let cause = c.rounds.ensures.cause fresh.empty in
-    let client_past = c.rounds.ensures.client_history fresh.empty in
-    let server_past = c.rounds.ensures.server_history fresh.empty in
+    let cause = c.rounds.ensures.cause c.clear.ensures in
+    let client_past = c.rounds.ensures.client_history c.clear.ensures in
+    let server_past = c.rounds.ensures.server_history c.clear.ensures in
     let order = run_order _ _ _ _ _ _ _ cause in
     let client = client_past_ran m law k _ _ _ _ _ result fresh.client_is (clients_others turns order) client_past in
     let server = server_past_ran m law g.C.CredentialsProxy.meaning _ _ _ result fresh.server_is
@@ -71,6 +71,6 @@ returns-clause-delegates g c fresh =
       a_refusal_has_its_cause =
           past_refused m law g.C.CredentialsProxy.meaning k _ _ _ _ _ _ _ _ result
           fresh.client_is fresh.server_is (clients_others turns order) (servers_others turns order) client_past server_past;
-      accounts = returns-clause-accounts g c fresh.empty;
+      accounts = returns-clause-accounts g c;
       stays = returns-clause-stays g c;
     }

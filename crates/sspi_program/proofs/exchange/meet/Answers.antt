@@ -41,9 +41,7 @@ returns-clause-exchange c ends link_is held =
     let edits = s.edit in
     let answer = c.delegate-answer.result in
     let ensures = c.delegate-answer.ensures in
-    let empty = c.new-transcript.ensures in
-    let fresh : IsFresh client server c.new-transcript.result.turns =
-    record { client_is = client_fresh; server_is = server_fresh; empty = empty } in
+    let fresh : IsFresh client server = record { client_is = client_fresh; server_is = server_fresh } in
     let delegates = ensures.delegates fresh in
     let stays = ensures.stays in
     let told : StaysTold (Some edits) (Some made.link.edits) [] made.link.log =
@@ -69,7 +67,7 @@ returns-clause-exchange c ends link_is held =
       exchange = record {
         client = client;
         server = server;
-        fresh = record { client_is = client_fresh; server_is = server_fresh; empty = refl };
+        fresh = fresh;
         client_named = client_named;
         server_named = server_named;
         edits = same;
@@ -77,7 +75,7 @@ returns-clause-exchange c ends link_is held =
         policy = rw c.new.ensures.items at c.new-2.ensures;
         answer = answer;
         outcome_is = refl;
-        delegates = rw (link_is, ends.kdc, empty) at delegates;
+        delegates = rw (link_is, ends.kdc) at delegates;
       };
       comes = record {
         three = λ matching. ok_three kerberos_meaning table_meaning _ _ _ _ _ _ _ _ _
