@@ -1,19 +1,30 @@
 -- What a call of a proxy is among the calls of a turn.
-use Rattle.std.proofs.Common.{◌≡◌, ◌∙◌, ◌+◌, ◌-◌, ◌<◌, ◌≤◌, ◌⊎◌, inl, inr, ℕ, zero, suc, add-zero, add-suc, List, Option, None}
-use Rattle.std.proofs.Common.{Some, Result, Ok, Err, OnOk, refl, sym, ap, subst, arith}
+use Rattle.std.proofs.Common.{◌≡◌, ◌∙◌, ◌+◌, ◌-◌, ◌<◌, ◌≤◌, ◌⊎◌, inl, inr, ℕ, zero, suc, add-zero, add-suc, List, [], Option, None}
+use Rattle.std.proofs.Common.{Some, IsSome, Result, Ok, Err, OnOk, refl, sym, ap, subst, arith}
 use Rattle.sspi_credssp.specs.declared.proxy.ProxyError.{ProxyError}
 use Rattle.sspi_credssp.specs.declared.proxy.ProxyError.TheVariants.{NotFound, Failed, InsufficientMemory}
 use Rattle.sspi_credssp.specs.Proxy.{ProxyMeaning, ProxyTells, HasAnswered, HasAsked, IsAsked, FailsAfter, TellsFailure}
 use Rattle.sspi_credssp.specs.ServerStage.{IsLater}
 use Rattle.sspi_types.specs.Counting.{counted_on}
 use Rattle.sspi_credssp.specs.Proxy.{FailsAsTold, LookUpCause, counted_after}
-use Rattle.sspi_credssp.proofs.Proxies.{calm_look_up}
 
 rises : {X : Type 0} (before now : ℕ) (r : Result X ProxyError) → LookUpCause before now r → before ≤ now
 rises before now (Ok x) h = h
 rises before now (Err NotFound) h = h
 rises before now (Err Failed) h = h.0
 rises before now (Err InsufficientMemory) h = h
+
+none_told : (call : ℕ) → TellsFailure (Some []) call → ⊥
+none_told call fails = absurd (cc (fails))
+
+-- a call that is answered so counted no fault, or was told to fail, where the failing calls are told
+failed_once : {X : Type 0} (failing : Option (List ℕ)) (call before now : ℕ) (r : Result X ProxyError) → IsSome failing →
+    FailsAsTold failing call before now r → (now ≡ before) ⊎ TellsFailure failing call
+failed_once None call before now r told h = absurd (cc (told))
+failed_once (Some numbers) call before now (Ok x) told h = inl h.1
+failed_once (Some numbers) call before now (Err NotFound) told h = inl h.1
+failed_once (Some numbers) call before now (Err Failed) told h = inr h
+failed_once (Some numbers) call before now (Err InsufficientMemory) told h = inl h
 
 told_failure : {X : Type 0} (failing : Option (List ℕ)) (call before now : ℕ) (x : X) → FailsAsTold failing call before now (Ok x) →
     TellsFailure failing call → ⊥
@@ -37,30 +48,59 @@ module _ {P : Type 0} (p : ProxyMeaning P) where
   pub asked_once : {X : Type 0} (before : P) (r : Result X ProxyError) (now : P) → HasAnswered p before r now → IsAsked p 1 before now
   asked_once before r now h = record {
     told_same = h.told_same;
-    counted = rw h.counted (omega arith);
+    asked = 1;
+    at_most = omega arith;
+    counted = h.counted;
     unasked = λ none. absurd (omega (arith, none));
     faults_stay = rises _ _ r h.cause;
-    calm = calm_look_up _ _ _ _ r h.fails;
+    failed = λ told. elim (failed_once (p.told before).failing (p.calls before) (p.faults before) (p.faults now) r told h.fails) [
+      | inl same ↦ inl same
+      | inr fails ↦ inr (0, omega arith, fails)
+    ];
   }
 
   pub not_asked : (limit : ℕ) (before now : P) → now ≡ before → IsAsked p limit before now
   not_asked limit before now same = record {
     told_same = ap p.told same;
-    counted = rw same (omega arith);
+    asked = 0;
+    at_most = omega arith;
+    counted = ap p.calls same;
     unasked = λ none. same;
     faults_stay = rw same (omega arith);
-    calm = λ calm. ap p.faults same;
+    failed = λ told. inl (ap p.faults same);
   }
 
   pub asked_on : (limit more : ℕ) (before mid now : P) → IsAsked p limit before mid → IsAsked p more mid now →
       IsAsked p (limit + more) before now
   asked_on limit more before mid now first then = record {
     told_same = then.told_same ∙ first.told_same;
-    counted = omega (arith, first.counted, then.counted);
+    asked = first.asked + then.asked;
+    at_most = omega (arith, first.at_most, then.at_most);
+    counted = then.counted ∙ ap (counted_after then.asked) first.counted ∙ sym (counted_on_after first.asked then.asked (p.calls before));
     unasked = λ none. then.unasked (omega (arith, none)) ∙ first.unasked (omega (arith, none));
     faults_stay = omega (arith, first.faults_stay, then.faults_stay);
-    calm = λ calm. then.calm (ap (λ (t : ProxyTells). t.failing) first.told_same ∙ calm) ∙ first.calm calm;
-  }
+    failed = λ told. elim (first.failed told) [
+      | inr fails ↦ inr (fails.0, omega (arith, fails.1), fails.2)
+      | inl same ↦ elim (then.failed (subst (λ (t : ProxyTells). IsSome t.failing) (sym first.told_same) told)) [
+        | inl still ↦ inl (still ∙ same)
+        | inr fails ↦ inr (first.asked + fails.0, omega (arith, fails.1), fails_from fails.0 fails.2)
+      ]
+    ];
+  } where
+    fails_from : (j : ℕ) → FailsAfter p j mid → FailsAfter p (first.asked + j) before
+    fails_from j fails =
+        subst (λ n. TellsFailure (p.told before).failing n) (sym (counted_on_after first.asked j (p.calls before)))
+        (subst (λ x. TellsFailure (p.told before).failing (counted_after j x)) first.counted
+        (subst (λ (t : ProxyTells). TellsFailure t.failing (counted_after j (p.calls mid))) first.told_same fails))
+
+  -- where it tells that no call fails, none does
+  pub calm_by : (limit : ℕ) (before now : P) → IsAsked p limit before now → (p.told before).failing ≡ Some [] →
+      p.faults now ≡ p.faults before
+  calm_by limit before now asked calm = elim (asked.failed (rw calm refl)) [
+    | inl same ↦ same
+    | inr fails ↦ absurd (none_told (counted_after fails.0 (p.calls before))
+        (subst (λ (f : Option (List ℕ)). TellsFailure f (counted_after fails.0 (p.calls before))) calm fails.2))
+  ]
 
   pub later : (limit : ℕ) (before now : P) → IsAsked p limit before now → IsLater p before now
   later limit before now asked = record { told_same = asked.told_same; faults_stay = asked.faults_stay }

@@ -1,12 +1,10 @@
 -- The entries of a name, one entry after the other.
 use Rattle.std.proofs.Common.{◌≡◌, ◌<◌, ◌+◌, ◌++◌, ℕ, List, [], ◌∷◌, length, take, get_or, cond, Bool, true, false, refl, sym, ◌∙◌, ap}
-use Rattle.std.proofs.Common.{append-nil, Option, None, Some, Result, Ok, Err}
+use Rattle.std.proofs.Common.{append-nil}
 use Rattle.std.proofs.lemmas.List.Elements.{filter_more}
 use Rattle.sspi_names.specs.declared.identity.AuthIdentity.{AuthIdentity}
 use Rattle.sspi_names.specs.Name.{Name}
-use Rattle.sspi_credssp.specs.declared.proxy.ProxyError.{ProxyError}
-use Rattle.sspi_credssp.specs.declared.proxy.ProxyError.TheVariants.{NotFound, Failed, InsufficientMemory}
-use Rattle.sspi_credssp.specs.Proxy.{candidates_of, is_named, FailsAsTold}
+use Rattle.sspi_credssp.specs.Proxy.{candidates_of, is_named}
 
 pub candidates_none : (name : Name) → [] ≡ candidates_of [] name
 unfolding candidates_of
@@ -41,14 +39,3 @@ pub candidates_left : (entries : List AuthIdentity) (name : Name) (i : ℕ) (d :
     after ≡ candidates_of (take (i + 1) entries) name
 candidates_left entries name i d before after lt item is same held =
     same ∙ held ∙ sym (candidates_at entries name i d false lt item is ∙ append-nil _)
-
--- where no failing call is told, none fails
-pub calm_look_up : {X : Type 0} (failing : Option (List ℕ)) (call before now : ℕ) (answer : Result X ProxyError) →
-    FailsAsTold failing call before now answer → failing ≡ Some [] → now ≡ before
-calm_look_up None call before now answer told none = absurd cc
-calm_look_up (Some numbers) call before now (Ok x) told none = told.1
-calm_look_up (Some numbers) call before now (Err NotFound) told none = told.1
-calm_look_up (Some numbers) call before now (Err Failed) told none =
-    let empty : numbers ≡ [] = cc in
-    let never : false ≡ true = rw empty at told in absurd cc
-calm_look_up (Some numbers) call before now (Err InsufficientMemory) told none = told

@@ -1,5 +1,5 @@
 -- What a proxy tells of itself, what a call of it does, and how often a server asks it.
-use Rattle.std.specs.Prelude.{◌≡◌, ℕ, zero, suc, ◌+◌, ◌<◌, ◌≤◌, ◌==◌, List, [], find, filter, Option, None, Some, Result, Ok}
+use Rattle.std.specs.Prelude.{◌≡◌, ℕ, zero, suc, ◌+◌, ◌<◌, ◌≤◌, ◌==◌, ◌⊎◌, List, find, filter, Option, None, Some, IsSome, Result, Ok}
 use Rattle.std.specs.Prelude.{Err, Bool, true, false, OnOk}
 use Rattle.std.specs.List.{list_any}
 use Rattle.sspi_types.specs.declared.security_status.SecurityStatus.{SecurityStatus}
@@ -108,18 +108,20 @@ module _ {P : Type 0} (p : ProxyMeaning P) where
     pub cause : LookUpCause (p.faults before) (p.faults now) answer
     pub fails : FailsAsTold (p.told before).failing (p.calls before) (p.faults before) (p.faults now) answer
 
-  -- the same proxy, at most so many calls later
-  pub record IsAsked (limit : ℕ) (before now : P) : Type 0 where
-    pub told_same : p.told now ≡ p.told before
-    pub counted : p.calls now ≤ p.calls before + limit
-    pub unasked : limit ≡ 0 → now ≡ before
-    pub faults_stay : p.faults before ≤ p.faults now
-    -- where it tells that no call fails, none does
-    pub calm : (p.told before).failing ≡ Some [] → p.faults now ≡ p.faults before
-
   -- the call so many calls later is told to fail
   abbrev pub FailsAfter : ℕ → P → Type 0
   FailsAfter n proxy = TellsFailure (p.told proxy).failing (counted_after n (p.calls proxy))
+
+  -- the same proxy, so many calls later, which are no more than the limit
+  pub record IsAsked (limit : ℕ) (before now : P) : Type 0 where
+    pub told_same : p.told now ≡ p.told before
+    pub asked : ℕ
+    pub at_most : asked ≤ limit
+    pub counted : p.calls now ≡ counted_after asked (p.calls before)
+    pub unasked : limit ≡ 0 → now ≡ before
+    pub faults_stay : p.faults before ≤ p.faults now
+    -- where it tells which calls fail, a fault was counted only if one of these calls is told to
+    pub failed : IsSome (p.told before).failing → (p.faults now ≡ p.faults before) ⊎ ((i : ℕ) × (i < asked) × FailsAfter i before)
 
   -- exactly so many calls later, none of which was told to fail
   pub record HasAsked (n : ℕ) (before now : P) : Type 0 where

@@ -16,6 +16,7 @@ use Rattle.sspi_credssp.specs.ClientTurn.{Asked, HasStepped, OnStep, IsUnderway}
 use Rattle.sspi_credssp.specs.Acts.{is_waiting_in}
 use Rattle.sspi_credssp.specs.Noted.{is_altered_in, is_old_in, StopsIf, OrMemory}
 use Rattle.sspi_credssp.specs.Proxy.{ProxyMeaning, ProxyTells, IsAsked}
+use Rattle.sspi_credssp.proofs.Asked.{calm_by}
 use Rattle.sspi_delegate.specs.History.{ClientRefuses, ProxyStays}
 
 stops_past : (test : Bool) (here kind : ErrorKind) (Later : Type 0) → test ≡ false → Later → StopsIf test here kind Later
@@ -85,4 +86,5 @@ proxy_on p a b d first next = record {
 }
 
 pub proxy_asked : {P : Type 0} (p : ProxyMeaning P) (limit : ℕ) (a b : P) → IsAsked p limit a b → ProxyStays p a b
-proxy_asked p limit a b asked = record { told_same = asked.told_same; counted = asked.faults_stay; calm = asked.calm }
+proxy_asked p limit a b asked =
+    record { told_same = asked.told_same; counted = asked.faults_stay; calm = calm_by p limit a b asked }
