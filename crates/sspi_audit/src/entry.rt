@@ -50,10 +50,8 @@ fn encode(alloc: Global, message: &TsRequest) -> Result<VecSink, WireKind>
     ensures { Encodes message.now result }
 {
     let mut sink = VecSink::new(alloc);
-    match message.encode_ts_request(&mut sink) {
-        Ok(()) => Ok(sink),
-        Err(kind) => Err(kind),
-    }
+    message.encode_ts_request(&mut sink)?;
+    Ok(sink)
 }
 
 /// The message fits, and these octets are its spelling.

@@ -102,7 +102,7 @@ fn fails(edits: &[Edit], entry: usize) -> bool
 }
 
 /// The edits from the last one that gives this entry a text of its own, or all. What stands before it comes to nothing, so no text is
-/// copied for an edit that a later one replaces.
+/// made for an edit that a later one replaces.
 fn since_whole(edits: &[Edit], entry: usize) -> &[Edit]
     ensures { (earlier : List (List ℕ)) (sent : List ℕ) → length earlier ≡ entry → fails entry edits.now ≡ false →
         edited result.now earlier sent ≡ edited edits.now earlier sent }

@@ -186,6 +186,7 @@ fn told(
             Ok(format!(in alloc; "{name} in {turns} messages, the KDC asked {asked} times")?)
         }
         Err(DelegateError::Client(error) | DelegateError::Server(error)) => Err(error),
+        Err(DelegateError::InsufficientMemory) => Err(AllocError.into()),
         Err(_) => Err(Error::new(ErrorKind::InternalError, Reason::Io)),
     }
 }

@@ -40,10 +40,7 @@ fn request_of(alloc: Global, start: bool, bytes: &Bytes) -> Result<TsRequest, Wi
     if start {
         return Ok(TsRequest::default());
     }
-    match TsRequest::from_buffer(alloc, bytes.as_slice()) {
-        Ok(request) => Ok(request),
-        Err(kind) => Err(kind),
-    }
+    TsRequest::from_buffer(alloc, bytes.as_slice())
 }
 
 /// How an end stands that refused with this error.
