@@ -138,11 +138,11 @@ impl<N: Mechanism, K: Mechanism> CredSspClient<N, K> {
     {
         let blob = sealed_blob(pub_key_auth, Reason::NoPubKey)?;
         let Some(version) = self.peer_version else {
-            return Err(Refusal::new(ErrorKind::InternalError, Reason::NoVersion));
+            unreachable!()
         };
         let proof = self.proof_of(EndpointType::Server, version)?;
         let Some(context) = &mut self.context else {
-            return Err(Refusal::new(ErrorKind::InternalError, Reason::NoVersion));
+            unreachable!()
         };
         deliver(
             self.alloc,

@@ -91,7 +91,7 @@ impl<N: Mechanism, K: Mechanism> CredSspClient<N, K> {
     {
         self.acts.negotiated = true;
         let Some(context) = &mut self.context else {
-            return Err(Refusal::new(ErrorKind::InternalError, Reason::NoVersion));
+            unreachable!()
         };
         let progress = initialize(
             context,
@@ -135,7 +135,7 @@ impl<N: Mechanism, K: Mechanism> CredSspClient<N, K> {
     {
         self.acts.negotiated = true;
         let Some(context) = &mut self.context else {
-            return Err(Refusal::new(ErrorKind::InternalError, Reason::NoVersion));
+            unreachable!()
         };
         let progress = resume(context, reply);
         self.go_on(progress, request)
@@ -251,7 +251,7 @@ impl<N: Mechanism, K: Mechanism> CredSspClient<N, K> {
         };
         let proof = self.proof_of(EndpointType::Client, version)?;
         let Some(context) = &mut self.context else {
-            return Err(Refusal::new(ErrorKind::InternalError, Reason::NoVersion));
+            unreachable!()
         };
         seal_proof(context, &mut self.acts, proof.as_slice())
     }

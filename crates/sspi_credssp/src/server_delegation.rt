@@ -175,7 +175,7 @@ impl<N: Mechanism, K: Mechanism, C: CredentialsProxy> CredSspServer<N, K, C> {
     {
         let blob = sealed_blob(auth_info, Reason::NoAuthInfo)?;
         let Some(context) = &mut self.context else {
-            return Err(Refusal::new(ErrorKind::InternalError, Reason::NoVersion));
+            unreachable!()
         };
         open_credentials(self.alloc, context, &mut self.acts, blob)
     }
@@ -197,10 +197,10 @@ impl<N: Mechanism, K: Mechanism, C: CredentialsProxy> CredSspServer<N, K, C> {
         ensures begun { IsSome self.new.context }
     {
         let Some(version) = self.peer_version else {
-            return Err(Refusal::new(ErrorKind::InternalError, Reason::NoVersion));
+            unreachable!()
         };
         let Some(context) = &mut self.context else {
-            return Err(Refusal::new(ErrorKind::InternalError, Reason::NoVersion));
+            unreachable!()
         };
         let blob = present(&request.pub_key_auth, Reason::NoPubKey)?;
         let nonce = nonce_for(version, &request.client_nonce)?;

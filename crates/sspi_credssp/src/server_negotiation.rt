@@ -206,7 +206,7 @@ impl<N: Mechanism, K: Mechanism, C: CredentialsProxy> CredSspServer<N, K, C> {
     {
         self.acts.negotiated = true;
         let Some(context) = &mut self.context else {
-            return Err(Refusal::new(ErrorKind::InternalError, Reason::Status));
+            unreachable!()
         };
         let step = accept(context, &self.credentials_handle, &request.nego_tokens)?;
         self.acts.status = Some(step.status);
@@ -286,7 +286,7 @@ impl<N: Mechanism, K: Mechanism, C: CredentialsProxy> CredSspServer<N, K, C> {
         ensures proxy { Asks C.meaning 1 result self.old.proxy self.new.proxy }
     {
         let Some(context) = &mut self.context else {
-            return Err(Refusal::new(ErrorKind::InternalError, Reason::Status));
+            unreachable!()
         };
         identify(self.alloc, context, &mut self.credentials)?;
         context.complete_auth_token()?;
