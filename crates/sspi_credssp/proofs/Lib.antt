@@ -1,6 +1,7 @@
 pub mod Adopting
 pub mod Asked
 pub mod Causes
+pub mod CheckedCode
 pub mod ClientReady
 pub mod ContextLaws
 pub mod ClientHeeding

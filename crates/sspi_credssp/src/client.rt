@@ -21,7 +21,7 @@ use crate::state::CredSspState;
 use sspi_mech::{Mechanism, Refusal, Reply};
 use sspi_names::{Credentials, CredentialsBuffers};
 use sspi_tsreq::{CredSspMode, TsRequest};
-use sspi_types::{Bytes, CredentialUse, Error, ErrorKind, NStatusCode, Reason, Text};
+use sspi_types::{Bytes, CredentialUse, Error, ErrorKind, Reason, Text};
 use std::alloc::Global;
 use std::marker::Model;
 
@@ -227,7 +227,7 @@ impl<N: Mechanism, K: Mechanism> CredSspClient<N, K> {
         if self.waiting() {
             return Err(Error::new(ErrorKind::OutOfSequence, Reason::Sequence));
         }
-        check_code(ts_request.error_code)?;
+        ts_request.check_error()?;
         self.begin(ts_request.version)?;
         answered(self.take(at_version(ts_request, self.ts_request_version)))
     }
@@ -339,20 +339,5 @@ impl<N: Mechanism, K: Mechanism> CredSspClient<N, K> {
             &mut self.context,
             &mut self.credentials_handle,
         )
-    }
-}
-
-fn check_code(code: Option<NStatusCode>) -> Result<(), Error>
-    ensures passed { OnOk result (is_code code ≡ false) }
-    ensures coded { OnErr result (is_code code ≡ true) }
-    ensures exact { IfErr result (λ error. (error.error_type ≡ ErrorKind.InvalidToken) × (error.nstatus ≡ code)) }
-{
-    match code {
-        Some(code) if code.0 != 0 => Err(Error::new_with_nstatus(
-            ErrorKind::InvalidToken,
-            Reason::ErrorStatus,
-            code,
-        )),
-        _ => Ok(()),
     }
 }

@@ -12,6 +12,7 @@ use Rattle.sspi_credssp.specs.Refusal.{IsRefusedBy}
 use Rattle.sspi_credssp.proofs.CodelessErrors.{caused}
 use Rattle.sspi_credssp.proofs.ClientHeeding.{client_only, no_step}
 use Rattle.sspi_credssp.proofs.Causes.{client_cause_past, client_cause_begun, too_old}
+use Rattle.sspi_credssp.proofs.CheckedCode.{no_code, coded}
 use Rattle.sspi_credssp.proofs.client.CredSspClient.process.Goals as goal
 
 pub returns : goal.returns
@@ -21,9 +22,10 @@ returns g c =
     let d = c.args.ts_request in
     let new = c.take-2.new.self in
     let idle : is_waiting_in it now.context ≡ false = search rules in
+    let uncoded = no_code d.error_code c.in_ok-check_error.field-0 c.in_ok-check_error.ensures in
     let young : is_old_in now.context now.settings.least now.noted d.version ≡ false = search rules in
     let same : is_altered_in now.context now.noted d.version ≡ false = search rules in
-    let ready = c.in_ok-begin.ensures.ready now d refl c.forget_last_call.ensures idle c.in_ok-check_code.ensures.passed in
+    let ready = c.in_ok-begin.ensures.ready now d refl c.forget_last_call.ensures idle uncoded in
     let begun = subst (λ v. IfContext c.begin.new.self.context
     (Begun it v.context v.handle (ForClient v.settings.mode) Outbound (Some v.settings.credentials) c.begin.new.self.handle))
     c.forget_last_call.ensures
@@ -33,7 +35,7 @@ returns g c =
     let caused : IsRefusedBy (answered c.take-2.result) (λ kind. StateCause it c.begin.new.self.state c.at_version.result new kind) =
     caused _ c.take-2.result c.take-2.ensures.cause in
     let cause : IfErr (answered c.take-2.result) (λ error. ClientCause it now d new error.error_type) =
-    client_cause_past it now _ d _ _ _ _ idle c.in_ok-check_code.ensures.passed young same c.take-2.ensures.begun
+    client_cause_past it now _ d _ _ _ _ idle uncoded young same c.take-2.ensures.begun
     (search rules) c.at_version.ensures caused.kind in
     rw c.answered.ensures
     (record {
@@ -55,6 +57,14 @@ returns g c =
       };
     })
 
+pub returns-in_err-check_error : goal.returns-in_err-check_error
+returns-in_err-check_error g c =
+    let it_is = coded _ c.args.ts_request.error_code c.in_err-check_error.field-0.0 c.in_err-check_error.ensures in
+    let is_code = it_is.0 in
+    let kind = it_is.1 in
+    let status = it_is.2 in
+    search rules
+
 pub returns-in_err-begin : goal.returns-in_err-begin
 returns-in_err-begin g c =
     let it = either g.N.Mechanism.REQUESTS g.N.Mechanism.meaning g.K.Mechanism.meaning in
@@ -62,11 +72,12 @@ returns-in_err-begin g c =
     let d = c.args.ts_request in
     let new = c.begin.new.self in
     let idle : is_waiting_in it now.context ≡ false = search rules in
+    let uncoded = no_code d.error_code c.in_ok-check_error.field-0 c.in_ok-check_error.ensures in
     let kind = c.in_err-begin.field-0.0.error_type in
     let unstepped : new.acts.negotiated ≡ false = search rules in
     let step : HasStepped it now d 0 [] (Err (error_of c.in_err-begin.field-0.0)) new = no_step it _ _ unstepped in
     let cause : ClientCause it now d new kind =
-    client_cause_begun it now _ d kind idle c.in_ok-check_code.ensures.passed
+    client_cause_begun it now _ d kind idle uncoded
     (subst (λ v. VersionStopsIn v.context v.settings.least v.noted d.version kind
     (OrMemory kind
     (MadeOr v.context new.context (BeginCause it (ForClient v.settings.mode) Outbound (Some v.settings.credentials) kind) ⊥)))
@@ -79,7 +90,7 @@ returns-in_err-begin g c =
         step = step;
         heeded = record {
           refuses = λ met.
-              (too_old it now d kind new idle c.in_ok-check_code.ensures.passed met.old cause, search rules);
+              (too_old it now d kind new idle uncoded met.old cause, search rules);
           only = λ never. client_only it never now d 0 [] (Err (error_of c.in_err-begin.field-0.0)) new cause step;
         };
       };
