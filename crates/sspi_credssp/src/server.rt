@@ -76,13 +76,13 @@ impl<N, K, C> CredSspServer<N, K, C> {
         alloc: Global,
         public_key: Vec<u8>,
         credentials: C,
-        client_mode: ServerMode,
+        server_mode: ServerMode,
     ) -> CredSspServer<N, K, C>
         ensures fresh { IsFreshServer result }
-        ensures settings { result.settings ≡ new_server public_key.items 6 client_mode }
+        ensures settings { result.settings ≡ new_server public_key.items 6 server_mode }
         ensures proxy { result.proxy ≡ credentials }
     {
-        CredSspServer::new_with_version(alloc, public_key, credentials, 6, client_mode)
+        CredSspServer::new_with_version(alloc, public_key, credentials, 6, server_mode)
     }
 
     /// A server of this version of CredSSP, to which nothing was delivered yet. Takes no memory.
@@ -94,10 +94,10 @@ impl<N, K, C> CredSspServer<N, K, C> {
         public_key: Vec<u8>,
         credentials: C,
         ts_request_version: u32,
-        client_mode: ServerMode,
+        server_mode: ServerMode,
     ) -> CredSspServer<N, K, C>
         ensures fresh { IsFreshServer result }
-        ensures settings { result.settings ≡ new_server public_key.items ts_request_version client_mode }
+        ensures settings { result.settings ≡ new_server public_key.items ts_request_version server_mode }
         ensures proxy { result.proxy ≡ credentials }
     {
         CredSspServer {
@@ -106,7 +106,7 @@ impl<N, K, C> CredSspServer<N, K, C> {
             credentials,
             ts_request_version,
             least_version: DEFAULT_LEAST_VERSION,
-            server_mode: client_mode,
+            server_mode,
             state: CredSspState::NegoToken,
             context: None,
             credentials_handle: None,
