@@ -18,6 +18,7 @@ use crate::mode::ClientMode;
 use crate::peer_version::{DEFAULT_LEAST_VERSION, note_version};
 use crate::request::at_version;
 use crate::state::CredSspState;
+use crate::versions::DEFAULT_VERSION;
 use sspi_mech::{Mechanism, Refusal, Reply};
 use sspi_names::{Credentials, CredentialsBuffers};
 use sspi_tsreq::{CredSspMode, TsRequest};
@@ -98,7 +99,7 @@ impl<N, K> CredSspClient<N, K> {
             public_key,
             credentials,
             cred_ssp_mode,
-            6,
+            DEFAULT_VERSION,
             client_mode,
             service_principal_name,
             client_nonce,

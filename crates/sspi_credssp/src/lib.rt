@@ -43,6 +43,7 @@ pub mod state;
 pub mod table_proxy;
 mod token;
 pub mod turn;
+mod versions;
 
 pub use acts::Acts;
 pub use client::CredSspClient;

@@ -2,11 +2,12 @@
 ghost use Rattle.std.specs.Prelude.{◌≡◌, None, Some, false, OnOk, OnErr, IfErr};
 ghost use Rattle.sspi_credssp.specs.Noted.{differs, is_old, noted_with, VersionStops};
 
+use crate::versions::FIRST_HASHED_VERSION;
 use sspi_mech::Refusal;
 use sspi_types::{ErrorKind, Reason};
 
 // The least version of a peer that is taken unless the end is told another.
-pub const DEFAULT_LEAST_VERSION: u32 = 5;
+pub const DEFAULT_LEAST_VERSION: u32 = FIRST_HASHED_VERSION;
 
 // Notes the version of the peer's first request, and wants each later request to have it.
 pub fn note_version(peer_version: &mut Option<u32>, least: u32, version: u32) -> Result<(), Refusal>

@@ -7,8 +7,12 @@ ghost use Rattle.sspi_credssp.specs.Opened.{IsLongBlob, IsSealedBlob, HasOpened}
 
 use crate::acts::Acts;
 use crate::context::SspiContext;
+use crate::versions::FIRST_HASHED_VERSION;
 use sspi_mech::{Mechanism, Refusal};
 use sspi_types::{Bytes, ErrorKind, Reason};
+
+// A sealed blob begins with a tag of so many bytes.
+const TAG_LENGTH: usize = 16;
 
 // The field that holds a blob, which must be there.
 pub fn present(field: &Option<Bytes>, absent: Reason) -> Result<&Bytes, Refusal>
@@ -22,13 +26,13 @@ pub fn present(field: &Option<Bytes>, absent: Reason) -> Result<&Bytes, Refusal>
     }
 }
 
-// Its bytes, which must be enough to hold a seal.
+// Its bytes, which must be enough to hold the tag.
 pub fn long_enough(blob: &Bytes) -> Result<&[u8], Refusal>
     ensures long { IfOk result (λ bytes. IsLongBlob blob.now bytes.now) }
     ensures short { OnErr result (nat_lt (length blob.now) 16 ≡ true) }
     ensures kind { IfErr result (λ error. error.error_type ≡ ErrorKind.InvalidToken) }
 {
-    if blob.len() < 16 {
+    if blob.len() < TAG_LENGTH {
         return Err(Refusal::new(ErrorKind::InvalidToken, Reason::ShortBlob));
     }
     Ok(blob.as_slice())
@@ -98,7 +102,7 @@ fn same_bytes(a: &[u8], b: &[u8]) -> bool
 pub fn altered(version: u32) -> Refusal
     ensures kind { result.error_type ≡ ErrorKind.MessageAltered }
 {
-    if version < 5 {
+    if version < FIRST_HASHED_VERSION {
         Refusal::new(ErrorKind::MessageAltered, Reason::EchoDiffers)
     } else {
         Refusal::new(ErrorKind::MessageAltered, Reason::HashDiffers)

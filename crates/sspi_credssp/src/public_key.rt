@@ -1,6 +1,7 @@
 ghost use Rattle.std.specs.Prelude.{◌≡◌, ◌<◌, ℕ, List, All, IfOk};
 ghost use Rattle.sspi_credssp.specs.Exchange.{magic, echo, incremented, decremented, prescribed};
 
+use crate::versions::FIRST_HASHED_VERSION;
 use sha2::{Digest, Sha256};
 use sspi_types::Bytes;
 use std::alloc::{AllocError, Global};
@@ -73,7 +74,7 @@ pub(crate) fn prescribed_proof(
 ) -> Result<Bytes, AllocError>
     ensures { IfOk result (λ proof. proof ≡ prescribed endpoint peer_version nonce.now public_key.now) }
 {
-    if peer_version < 5 {
+    if peer_version < FIRST_HASHED_VERSION {
         return echo_of(alloc, endpoint, public_key);
     }
     let mut hasher = Sha256::new();

@@ -18,6 +18,7 @@ use crate::request::at_version;
 use crate::server_refusal::refusal;
 use crate::server_state::{ServerError, ServerState};
 use crate::state::CredSspState;
+use crate::versions::DEFAULT_VERSION;
 use sspi_mech::{Mechanism, Refusal};
 use sspi_names::CredentialsBuffers;
 use sspi_tsreq::TsRequest;
@@ -82,7 +83,13 @@ impl<N, K, C> CredSspServer<N, K, C> {
         ensures settings { result.settings ≡ new_server public_key.items 6 server_mode }
         ensures proxy { result.proxy ≡ credentials }
     {
-        CredSspServer::new_with_version(alloc, public_key, credentials, 6, server_mode)
+        CredSspServer::new_with_version(
+            alloc,
+            public_key,
+            credentials,
+            DEFAULT_VERSION,
+            server_mode,
+        )
     }
 
     /// A server of this version of CredSSP, to which nothing was delivered yet. Takes no memory.

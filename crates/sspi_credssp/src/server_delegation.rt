@@ -21,6 +21,7 @@ use crate::server::CredSspServer;
 use crate::server_refusal::refusal;
 use crate::server_state::{ServerError, ServerState};
 use crate::state::CredSspState;
+use crate::versions::FIRST_HASHED_VERSION;
 use sspi_mech::{Mechanism, Refusal};
 use sspi_names::AuthIdentity;
 use sspi_tsreq::TsRequest;
@@ -39,7 +40,7 @@ fn nonce_for(version: u32, nonce: &Option<[u8; 32]>) -> Result<&[u8], Refusal>
 {
     match nonce {
         Some(nonce) => Ok(nonce),
-        None if version < 5 => Ok(&[]),
+        None if version < FIRST_HASHED_VERSION => Ok(&[]),
         None => Err(Refusal::new(ErrorKind::InvalidToken, Reason::NoNonce)),
     }
 }
