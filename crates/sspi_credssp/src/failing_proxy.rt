@@ -21,11 +21,22 @@ impl Model for FailingProxy {
 }
 
 impl FailingProxy {
+    ghost use Rattle.sspi_credssp.specs.Table.{failing_meaning};
+
     /// A proxy that was not asked yet.
     pub fn new() -> FailingProxy
         ensures { result ≡ 0 }
     {
         FailingProxy { faults: 0 }
+    }
+
+    fn fail<T>(&mut self) -> Result<T, ProxyError>
+        ensures failed { result ≡ Err ProxyError.Failed }
+        ensures count { self.new ≡ counted_on self.old }
+        ensures call { HasAnswered failing_meaning self.old result self.new }
+    {
+        self.faults = self.faults.saturating_add(1);
+        Err(ProxyError::Failed)
     }
 }
 
@@ -39,8 +50,7 @@ impl CredentialsProxy for FailingProxy {
         ensures count { self.new ≡ counted_on self.old }
         ensures call { HasAnswered failing_meaning self.old result self.new }
     {
-        self.faults = self.faults.saturating_add(1);
-        Err(ProxyError::Failed)
+        self.fail()
     }
 
     fn auth_data_candidates_by_user(
@@ -52,8 +62,7 @@ impl CredentialsProxy for FailingProxy {
         ensures list { IsList result }
         ensures call { HasAnswered failing_meaning self.old result self.new }
     {
-        self.faults = self.faults.saturating_add(1);
-        Err(ProxyError::Failed)
+        self.fail()
     }
 
     fn auth_data(&mut self) -> Result<Vec<AuthIdentity>, ProxyError>
@@ -62,7 +71,6 @@ impl CredentialsProxy for FailingProxy {
         ensures list { IsList result }
         ensures call { HasAnswered failing_meaning self.old result self.new }
     {
-        self.faults = self.faults.saturating_add(1);
-        Err(ProxyError::Failed)
+        self.fail()
     }
 }
