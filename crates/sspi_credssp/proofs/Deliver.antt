@@ -8,18 +8,6 @@ use Rattle.sspi_credssp.specs.declared.acts.Acts.{Acts}
 use Rattle.sspi_credssp.specs.Acts.{silent, cleared}
 use Rattle.sspi_credssp.specs.Opened.{Exchanges, OpensAs, HasOpened}
 
--- an end notes an act by setting this flag, whatever it has checked
-pub record IsNoted (flag : Acts → Bool) (set : Acts → Acts) : Type 0 where
-  pub sets : (a : Acts) → flag (set a) ≡ true
-  pub keeps : (a : Acts) → (set a).checked ≡ a.checked
-  pub other : (a : Acts) → flag (record a { checked = true }) ≡ flag a
-
-pub credentials_noted : IsNoted (λ (a : Acts). a.sealed) (λ (a : Acts). record a { sealed = true })
-credentials_noted = record { sets = λ _. refl; keeps = λ _. refl; other = λ _. refl }
-
-pub proof_noted : IsNoted (λ (a : Acts). a.proved) (λ (a : Acts). record a { proved = true })
-proof_noted = record { sets = λ _. refl; keeps = λ _. refl; other = λ _. refl }
-
 module _ {S C : Type 0} (c : Meaning S C) (laws : IsContext c) where
   counted_back : (m m2 : C) (n : Counts) → m2 ≡ c.counted m n → c.counted m2 (c.counts m) ≡ m
   counted_back m m2 n e = rw e (laws.counted_counted m n (c.counts m) ∙ laws.counted_counts m)
@@ -40,27 +28,25 @@ module _ {S C : Type 0} (c : Meaning S C) (laws : IsContext c) where
       laws.seals_counted m2 (c.counts m) i text blob (subst (λ x. c.seals x i text blob) (sym (counted_back m m2 n e)) o)
 
   -- after the right proof the end seals what it owes and notes it, or that is refused
-  pub exchanged : (flag : Acts → Bool) (set : Acts → Acts) → IsNoted flag set →
-      {E : Type 0} (m m1 m2 : C) (acts acts1 acts2 : Acts) (blob proof : List ℕ) (same : Bool) (r : Result (List ℕ) E) →
-      flag acts ≡ false → HasOpened c m m1 acts acts1 blob proof same → same ≡ true →
-      OnOk r (acts2 ≡ set acts1) → OnOk r (m2 ≡ c.counted m1 (one_sealing (c.counts m1))) →
-      OnOk r (c.counts m2 ≡ one_sealing (c.counts m1)) → OnErr r (m2 ≡ m1) → OnErr r (acts2 ≡ acts1) →
-      Exchanges c m blob proof m2 acts2.checked (flag acts2) r
-  exchanged flag set notes m m1 m2 acts acts1 acts2 blob proof same (Ok text) unset opened is done made count _ _ =
-      let is_set : flag acts2 ≡ true = ap flag done ∙ notes.sets acts1 in
-      let is_checked : acts2.checked ≡ true =
-      ap (λ (a : Acts). a.checked) done ∙ notes.keeps acts1 ∙ ap (λ (a : Acts). a.checked) opened.noted in
+  pub exchanged : {E : Type 0} (m m1 m2 : C) (acts acts1 : Acts) (before now : Bool) (blob proof : List ℕ) (same : Bool)
+      (r : Result (List ℕ) E) →
+      before ≡ false → HasOpened c m m1 acts acts1 blob proof same → same ≡ true →
+      OnOk r (now ≡ true) → OnOk r (m2 ≡ c.counted m1 (one_sealing (c.counts m1))) →
+      OnOk r (c.counts m2 ≡ one_sealing (c.counts m1)) → OnErr r (m2 ≡ m1) → OnErr r (now ≡ before) →
+      Exchanges c m blob proof m2 acts1.checked now r
+  exchanged m m1 m2 acts acts1 before now blob proof same (Ok text) unset opened is done made count _ _ =
+      let is_checked : acts1.checked ≡ true = ap (λ (a : Acts). a.checked) opened.noted in
       let held = subst (λ b. OpensAs c m1 blob proof b) is opened.holds in
       record {
-        answered = (is_checked, is_set);
+        answered = (is_checked, done);
         after_proof = λ _. (is_checked, rw count (opens_still m1 m2 _ _ blob proof made held));
-        sealings = rw (count, opened.count, is_set) refl;
+        sealings = rw (count, opened.count, done) refl;
         unsealings = rw (count, opened.count, is_checked) refl;
         bare = bare_after m1 m2 _ made refl ∙ bare_after m m1 _ opened.counted refl;
       }
-  exchanged flag set notes m m1 m2 acts acts1 acts2 blob proof same (Err e) unset opened is _ _ _ stays kept =
-      let not_set : flag acts2 ≡ false = ap flag kept ∙ ap flag opened.noted ∙ notes.other acts ∙ unset in
-      let is_checked : acts2.checked ≡ true = ap (λ (a : Acts). a.checked) kept ∙ ap (λ (a : Acts). a.checked) opened.noted in
+  exchanged m m1 m2 acts acts1 before now blob proof same (Err e) unset opened is _ _ _ stays kept =
+      let not_set : now ≡ false = kept ∙ unset in
+      let is_checked : acts1.checked ≡ true = ap (λ (a : Acts). a.checked) opened.noted in
       record {
         answered = tt;
         after_proof = λ h. absurd (true≢false (sym h ∙ not_set));

@@ -4,7 +4,7 @@ use Rattle.sspi_types.specs.declared.error_kind.ErrorKind.{ErrorKind}
 use Rattle.sspi_types.specs.declared.error_kind.ErrorKind.TheVariants.{MessageAltered}
 use Rattle.sspi_mech.specs.Meaning.{Meaning}
 use Rattle.sspi_credssp.specs.declared.acts.Acts.{Acts}
-use Rattle.sspi_credssp.specs.Exchange.{ProofCause, opens_other, altered}
+use Rattle.sspi_credssp.specs.Exchange.{ProofCause, opens_other, altered, unsealed}
 use Rattle.sspi_credssp.specs.Opened.{OpensAs, HasOpened}
 
 module _ {S C : Type 0} (c : Meaning S C) where
@@ -20,3 +20,10 @@ pub other_stops : {S C : Type 0} {c : Meaning S C} {m m2 : C} {acts acts2 : Acts
     ProofCause c acts2.checked m2 blob proof Unsealed kind
 other_stops {c = c} {m2 = m2} {blob = blob} {proof = proof} Unsealed opened other is =
     rw (ap (λ (a : Acts). a.checked) opened.noted) (altered (subst (λ b. OpensAs c m2 blob proof b) other opened.holds) is)
+
+-- the proof was the right one, and what the end then owes is not sealed
+pub owed_stops : {S C : Type 0} {c : Meaning S C} {m m2 : C} {acts acts2 : Acts} {blob proof : List ℕ} {same : Bool}
+    (kind : ErrorKind) (Unsealed : Type 0) → HasOpened c m m2 acts acts2 blob proof same → same ≡ true → Unsealed →
+    ProofCause c acts2.checked m2 blob proof Unsealed kind
+owed_stops {c = c} {m2 = m2} {blob = blob} {proof = proof} kind Unsealed opened is why =
+    rw (ap (λ (a : Acts). a.checked) opened.noted) (unsealed (subst (λ b. OpensAs c m2 blob proof b) is opened.holds) why)

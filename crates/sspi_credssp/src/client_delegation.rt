@@ -1,90 +1,25 @@
 // The client's last turn (AuthInfo): the server's proof is checked, and only then are the credentials sealed.
-ghost use Rattle.std.specs.Prelude.{◌≡◌, ◌≢◌, ◌-◌, [], true, false, None, IsSome, IfOk, IfErr, OnOk, OnErr};
-ghost use Rattle.sspi_mech.specs.Calls.{one_sealing};
+ghost use Rattle.std.specs.Prelude.{◌≡◌, ◌≢◌, [], false, None, IsSome, IfOk, IfErr};
 ghost use Rattle.sspi_credssp.specs.Acts.{no_acts};
-ghost use Rattle.sspi_credssp.specs.ClientCause.{SealsCause, DeliverCause};
+ghost use Rattle.sspi_credssp.specs.ClientCause.{DeliverCause};
 ghost use Rattle.sspi_credssp.specs.Context.{either};
-ghost use Rattle.sspi_credssp.specs.Exchange.{delegated_text, IfText, ProofCause, prescribed};
-ghost use Rattle.sspi_credssp.specs.Opened.{Exchanges};
+ghost use Rattle.sspi_credssp.specs.Exchange.{prescribed};
 ghost use Rattle.sspi_mech.specs.Answered.{answered};
 
-use crate::acts::Acts;
 use crate::client::CredSspClient;
 use crate::client_state::ClientState;
-use crate::context::SspiContext;
 use crate::credentials::write_credentials;
-use crate::proof::{altered, opens_to, sealed_blob};
+use crate::proof::{altered, opens_to, seal_text, sealed_blob};
 use crate::public_key::{EndpointType, prescribed_proof};
 use crate::request::with_credentials;
 use crate::state::CredSspState;
 use sspi_mech::{Mechanism, Refusal};
-use sspi_names::Credentials;
-use sspi_tsreq::{CredSspMode, TsRequest};
+use sspi_tsreq::TsRequest;
 use sspi_types::{Bytes, ErrorKind, Reason};
-use std::alloc::{AllocError, Global};
-
-fn seal_credentials<N: Mechanism, K: Mechanism>(
-    alloc: Global,
-    context: &mut SspiContext<N, K>,
-    acts: &mut Acts,
-    credentials: &Credentials,
-    mode: CredSspMode,
-) -> Result<Bytes, Refusal>
-    // What `Ok` holds.
-    ensures blob { let c = either N.REQUESTS N.meaning K.meaning in IfOk result (λ blob. IfText (delegated_text credentials.now mode)
-        (λ text. c.seals context.new ((c.counts context.new).sealings - 1) text blob)) }
-    ensures acts { OnOk result (acts.new ≡ record acts.old { sealed = true }) }
-    ensures ok { let c = either N.REQUESTS N.meaning K.meaning in
-        OnOk result (context.new ≡ c.counted context.old (one_sealing (c.counts context.old))) }
-    ensures count { let c = either N.REQUESTS N.meaning K.meaning in
-        OnOk result (c.counts context.new ≡ one_sealing (c.counts context.old)) }
-    // What a refusal says, and what it leaves.
-    ensures err { OnErr result (context.new ≡ context.old) }
-    ensures err_acts { OnErr result (acts.new ≡ acts.old) }
-    ensures cause { IfErr result (λ error. error.error_type ≢ ErrorKind.InsufficientMemory →
-        SealsCause (either N.REQUESTS N.meaning K.meaning) context.new (delegated_text credentials.now mode) error.error_type) }
-{
-    let text = write_credentials(alloc, credentials, mode)?;
-    let blob = context.seal(&text)?;
-    acts.sealed = true;
-    Ok(Bytes::from_vec(blob))
-}
-
-// Opens the server's proof, and seals the credentials if it is the one that the server owes.
-fn deliver<N: Mechanism, K: Mechanism>(
-    alloc: Global,
-    context: &mut SspiContext<N, K>,
-    acts: &mut Acts,
-    blob: &[u8],
-    proof: &[u8],
-    version: u32,
-    credentials: &Credentials,
-    mode: CredSspMode,
-) -> Result<Bytes, Refusal>
-    // What must hold before.
-    requires checked { acts.old.checked ≡ false }
-    requires sealed { acts.old.sealed ≡ false }
-    // What holds of every answer.
-    ensures exchanges { Exchanges (either N.REQUESTS N.meaning K.meaning) context.old blob.now proof.now context.new
-        acts.new.checked acts.new.sealed result }
-    ensures acts { acts.new ≡ record acts.old { checked = acts.new.checked; sealed = acts.new.sealed } }
-    // What `Ok` holds.
-    ensures blob { let c = either N.REQUESTS N.meaning K.meaning in IfOk result (λ blob. IfText (delegated_text credentials.now mode)
-        (λ text. c.seals context.new ((c.counts context.new).sealings - 1) text blob)) }
-    // What a refusal says.
-    ensures cause { IfErr result (λ error. error.error_type ≢ ErrorKind.InsufficientMemory →
-        ProofCause (either N.REQUESTS N.meaning K.meaning) acts.new.checked context.new blob.now proof.now
-        (SealsCause (either N.REQUESTS N.meaning K.meaning) context.new (delegated_text credentials.now mode) error.error_type)
-        error.error_type) }
-{
-    if opens_to(context, acts, blob, proof)? {
-        seal_credentials(alloc, context, acts, credentials, mode)
-    } else {
-        Err(altered(version))
-    }
-}
+use std::alloc::AllocError;
 
 impl<N: Mechanism, K: Mechanism> CredSspClient<N, K> {
+    ghost use Rattle.sspi_credssp.specs.declared.context.SspiContext.{SspiContext};
     ghost use Rattle.sspi_credssp.specs.Ends.{ClientView};
     ghost use Rattle.sspi_credssp.specs.ClientTurn.{IsReady};
     ghost use Rattle.sspi_credssp.specs.ClientStage.{ClientAnswers, ClientDelivers};
@@ -124,6 +59,7 @@ impl<N: Mechanism, K: Mechanism> CredSspClient<N, K> {
         )
     }
 
+    // Opens the server's proof, and seals the credentials if it is the one that the server owes.
     fn exchange(&mut self, pub_key_auth: &Option<Bytes>) -> Result<Bytes, Refusal>
         // What must hold before.
         requires acts { self.old.acts ≡ no_acts }
@@ -144,15 +80,11 @@ impl<N: Mechanism, K: Mechanism> CredSspClient<N, K> {
         let Some(context) = &mut self.context else {
             unreachable!()
         };
-        deliver(
-            self.alloc,
-            context,
-            &mut self.acts,
-            blob,
-            proof.as_slice(),
-            version,
-            &self.credentials,
-            self.cred_ssp_mode,
-        )
+        if opens_to(context, &mut self.acts, blob, proof.as_slice())? {
+            let text = write_credentials(self.alloc, &self.credentials, self.cred_ssp_mode)?;
+            seal_text(context, &mut self.acts.sealed, &text)
+        } else {
+            Err(altered(version))
+        }
     }
 }

@@ -14,7 +14,7 @@ ghost use Rattle.sspi_types.specs.declared.credential_use.CredentialUse.TheVaria
 use crate::client::CredSspClient;
 use crate::client_state::{ClientState, Progress};
 use crate::context::SspiContext;
-use crate::proof::seal_proof;
+use crate::proof::seal_text;
 use crate::public_key::EndpointType;
 use crate::request::{with_proof, with_tokens};
 use crate::state::CredSspState;
@@ -253,6 +253,6 @@ impl<N: Mechanism, K: Mechanism> CredSspClient<N, K> {
         let Some(context) = &mut self.context else {
             unreachable!()
         };
-        seal_proof(context, &mut self.acts, proof.as_slice())
+        seal_text(context, &mut self.acts.proved, proof.as_slice())
     }
 }

@@ -67,28 +67,28 @@ pub fn opens_to<N: Mechanism, K: Mechanism>(
     Ok(same_bytes(&text, proof))
 }
 
-// Seals a proof of the channel's key.
-pub fn seal_proof<N: Mechanism, K: Mechanism>(
+// Seals a text as the context's next message, and notes that it did.
+pub fn seal_text<N: Mechanism, K: Mechanism>(
     context: &mut SspiContext<N, K>,
-    acts: &mut Acts,
-    proof: &[u8],
+    noted: &mut bool,
+    text: &[u8],
 ) -> Result<Bytes, Refusal>
     // What `Ok` holds.
     ensures blob { let c = either N.REQUESTS N.meaning K.meaning in IfOk result (λ blob.
-        c.seals context.new ((c.counts context.new).sealings - 1) proof.now blob) }
-    ensures acts { OnOk result (acts.new ≡ record acts.old { proved = true }) }
+        c.seals context.new ((c.counts context.new).sealings - 1) text.now blob) }
+    ensures noted { OnOk result (noted.new ≡ true) }
     ensures ok { let c = either N.REQUESTS N.meaning K.meaning in
         OnOk result (context.new ≡ c.counted context.old (one_sealing (c.counts context.old))) }
     ensures count { let c = either N.REQUESTS N.meaning K.meaning in
         OnOk result (c.counts context.new ≡ one_sealing (c.counts context.old)) }
     // What a refusal says, and what it leaves.
     ensures err { OnErr result (context.new ≡ context.old) }
-    ensures err_acts { OnErr result (acts.new ≡ acts.old) }
+    ensures err_noted { OnErr result (noted.new ≡ noted.old) }
     ensures cause { IfErr result (λ error. error.error_type ≢ ErrorKind.InsufficientMemory →
-        (either N.REQUESTS N.meaning K.meaning).refuses context.new (ToSeal proof.now) error.error_type) }
+        (either N.REQUESTS N.meaning K.meaning).refuses context.new (ToSeal text.now) error.error_type) }
 {
-    let blob = context.seal(proof)?;
-    acts.proved = true;
+    let blob = context.seal(text)?;
+    *noted = true;
     Ok(Bytes::from_vec(blob))
 }
 

@@ -13,7 +13,7 @@ ghost use Rattle.sspi_mech.specs.Answered.{answered};
 use crate::acts::Acts;
 use crate::context::SspiContext;
 use crate::credentials::read_identity;
-use crate::proof::{altered, long_enough, opens_to, present, seal_proof, sealed_blob};
+use crate::proof::{altered, long_enough, opens_to, present, seal_text, sealed_blob};
 use crate::proxy::CredentialsProxy;
 use crate::public_key::{EndpointType, prescribed_proof};
 use crate::request::with_exchange;
@@ -70,7 +70,7 @@ fn answer_proof<N: Mechanism, K: Mechanism>(
         ((either N.REQUESTS N.meaning K.meaning).refuses context.new (ToSeal proof.now) error.error_type) error.error_type) }
 {
     if opens_to(context, acts, blob, expected)? {
-        seal_proof(context, acts, proof)
+        seal_text(context, &mut acts.proved, proof)
     } else {
         Err(altered(version))
     }

@@ -1,14 +1,17 @@
+use Rattle.std.proofs.Common.{ap, ◌∙◌}
+use Rattle.sspi_credssp.specs.declared.acts.Acts.{Acts}
 use Rattle.sspi_credssp.proofs.ContextLaws.{lawful}
 use Rattle.sspi_credssp.proofs.Opened.{other_stops}
-use Rattle.sspi_credssp.proofs.Deliver.{exchanged, proof_noted}
+use Rattle.sspi_credssp.proofs.Deliver.{exchanged}
 use Rattle.sspi_credssp.proofs.server_delegation.answer_proof.Goals as goal
 
 pub returns-then-branch-clause-exchanges : goal.returns-then-branch-clause-exchanges
 returns-then-branch-clause-exchanges g c =
-    let sealed = c.seal_proof.ensures in
-    exchanged _ (lawful _ _ g.N.Mechanism.meaning g.K.Mechanism.meaning g.met.N.Mechanism.laws g.met.K.Mechanism.laws) _ _ proof_noted
-    _ _ _ c.args.acts.now _ _ _ _ _ _ c.requires.proved c.in_ok-opens_to.ensures.opened c.if-branch.true
-    sealed.acts sealed.ok sealed.count sealed.err sealed.err_acts
+    let sealed = c.seal_text.ensures in
+    let opened = c.in_ok-opens_to.ensures.opened in
+    exchanged _ (lawful _ _ g.N.Mechanism.meaning g.K.Mechanism.meaning g.met.N.Mechanism.laws g.met.K.Mechanism.laws)
+    _ _ _ _ _ _ _ _ _ _ _ (ap (λ (a : Acts). a.proved) opened.noted ∙ c.requires.proved) opened c.if-branch.true
+    sealed.noted sealed.ok sealed.count sealed.err sealed.err_noted
 
 pub returns-else-branch-clause-cause : goal.returns-else-branch-clause-cause
 returns-else-branch-clause-cause g c = λ _. other_stops _ c.in_ok-opens_to.ensures.opened c.if-branch.false c.altered.ensures.kind
