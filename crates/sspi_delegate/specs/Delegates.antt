@@ -67,8 +67,7 @@ module _ {P L D : Type 0} (around : Around P L D) where
     pub the_kdc_tells_what_it_told : KdcStays around.replies around.kdc_faults old.kdc new.kdc
     pub the_link_tells_what_it_told : StaysTold (around.edits old.link) (around.edits new.link) (around.log old.link) (around.log new.link)
     pub the_link_fails_where_its_edits_say_so : AnswerTold (around.edits old.link) (around.link_faults old.link)
-        (around.link_faults new.link)
-        result (around.log new.link) new.turns
+        (around.link_faults new.link) result (around.log new.link) new.turns
     pub no_turns_are_spent_at_once : limit ≡ 0 → result ≡ Err TurnsSpent
     pub ok_comes_within_the_limit : IfOk result (λ delegation. delegation.rounds ≤ limit)
 

@@ -44,21 +44,18 @@ edited_once Fail earlier text = None
 -- what the edits of the entry after the earlier ones give of what it sent: each in its order, of what the one before gives
 abbrev pub edited : List Edit → List (List ℕ) → List ℕ → Option (List ℕ)
 edited [] earlier text = Some text
-edited (edit ∷ edits) earlier text =
-    option_and_then (edited edits earlier)
+edited (edit ∷ edits) earlier text = option_and_then (edited edits earlier)
     (if edit.entry == length earlier then edited_once edit.kind earlier text else Some text)
 
 -- the delivery is a beginning of this text, and it has ended only once it is the whole; None: there is no such entry
 abbrev pub Delivers : Option (List ℕ) → Carried → Type 0
 Delivers None e = ⊥
-Delivers (Some text) e =
-    (e.delivered ≡ take (length e.delivered) text) × (e.ended ≡ true → e.delivered ≡ text)
+Delivers (Some text) e = (e.delivered ≡ take (length e.delivered) text) × (e.ended ≡ true → e.delivered ≡ text)
 
 -- each entry of a log, the newest first, delivers what the edits give
 abbrev pub FollowsEdits : List Edit → List Carried → Type 0
 FollowsEdits edits [] = Unit {0}
-FollowsEdits edits (e ∷ log) =
-    Delivers (edited edits (sent_texts (reverse log)) e.sent) e × FollowsEdits edits log
+FollowsEdits edits (e ∷ log) = Delivers (edited edits (sent_texts (reverse log)) e.sent) e × FollowsEdits edits log
 
 -- this text is what the edits give of the newest entry
 abbrev pub IsNewestText : List Edit → List Carried → List ℕ → Type 0

@@ -25,8 +25,7 @@ ended_by ended n asked = ended || ((n == 0) && nat_lt 0 asked)
 
 -- the entry after the first n bytes of `into`, which was asked to be filled, were handed out
 abbrev pub grown : Carried → ℕ → List ℕ → Carried
-grown e n into =
-    record e { delivered = e.delivered ++ take n into; ended = ended_by e.ended n (length into) }
+grown e n into = record e { delivered = e.delivered ++ take n into; ended = ended_by e.ended n (length into) }
 
 -- the newest delivery went on by the first n bytes of `into`; one that has ended gives no more
 abbrev pub Grows : List Carried → List Carried → ℕ → List ℕ → Type 0
@@ -85,8 +84,7 @@ IsFault bytes other = ⊥
 abbrev pub IsDelivered : List Turn → List Carried → TsRequest → Type 0
 IsDelivered [] log request = request ≡ first_request
 IsDelivered (t ∷ past) [] request = ⊥
-IsDelivered (t ∷ past) (e ∷ log) request =
-    (is_taken e ≡ true) × IsRead e.delivered request × (length e.delivered ≤ delivery_limit)
+IsDelivered (t ∷ past) (e ∷ log) request = (is_taken e ≡ true) × IsRead e.delivered request × (length e.delivered ≤ delivery_limit)
 
 -- what was sent is the spelling of the message, which fits
 abbrev pub IsSent : Option TsRequest → List ℕ → Type 0
