@@ -1,5 +1,5 @@
 -- What two writers did, one after the other.
-use Rattle.std.proofs.Common.{◌≡◌, ℕ, ◌+◌, List, [], ◌++◌, length, Option, None, Some, Result, Ok, Err, refl}
+use Rattle.std.proofs.Common.{◌≡◌, ◌≢◌, ℕ, ◌+◌, List, [], ◌∷◌, ◌++◌, length, Option, None, Some, Result, Ok, Err, refl}
 use Rattle.std.proofs.Common.{sym, ap, ◌∙◌, append_assoc, take, drop, subst, ◌<◌, ◌≤◌, inl, inr, arith}
 use Rattle.std.proofs.lemmas.Bool.{cases_lt, lt-ltb, le-ltb}
 use Rattle.std.specs.Io.KnownBytes.{Appends, Keeps}
@@ -30,7 +30,12 @@ front_then {before} {mid} {after} {a} {b} p q = record {
   rest = q.rest;
   appended = appends_then before mid after a q.front p.appended q.appended;
   parts = ap (λ (l : List ℕ). a ++ l) q.parts ∙ sym (append_assoc a q.front q.rest);
+  cut = q.cut;
 }
+
+some_before : (rest b : List ℕ) → rest ≢ [] → rest ++ b ≢ []
+some_before [] b some e = some refl
+some_before (x ∷ rest) b some e = absurd cc
 
 pub front_more : {before after : Option (List ℕ)} {a : List ℕ} (b : List ℕ) → WroteFront before after a → WroteFront before after (a ++ b)
 front_more {before} {after} {a} b p = record {
@@ -38,6 +43,7 @@ front_more {before} {after} {a} b p = record {
   rest = p.rest ++ b;
   appended = p.appended;
   parts = ap (λ (l : List ℕ). l ++ b) p.parts ∙ append_assoc p.front p.rest b;
+  cut = some_before p.rest b p.cut;
 }
 
 pub wrote_nothing : {known : Option (List ℕ)} → Wrote known known []
@@ -78,12 +84,13 @@ appends_kept (Some x) (Some y) None a p q = absurd q
 appends_kept (Some x) (Some y) (Some z) a p q = q ∙ p
 
 pub left_stopped : {before mid after : Option (List ℕ)} {text rest : List ℕ} → Left before mid text rest → Keeps mid after →
-    WroteFront before after text
-left_stopped {before} {mid} {after} {text} {rest} p q = record {
+    rest ≢ [] → WroteFront before after text
+left_stopped {before} {mid} {after} {text} {rest} p q some = record {
   front = p.front;
   rest = rest;
   appended = appends_kept before mid after p.front p.appended q;
   parts = p.parts;
+  cut = some;
 }
 
 pub left_done : {before now : Option (List ℕ)} {text rest : List ℕ} → Left before now text rest → rest ≡ [] → Wrote before now text

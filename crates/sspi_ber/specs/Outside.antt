@@ -1,6 +1,6 @@
 -- What a call on a source or a sink says of the world outside: the bytes that are left or written where they are told,
 -- and the count of faults of the object.
-use Rattle.std.specs.Prelude.{◌≡◌, ℕ, ◌≤◌, Bool, true, false, List, [], ◌∷◌, ◌++◌, Option, None, Some, Result, Ok, Err}
+use Rattle.std.specs.Prelude.{◌≡◌, ◌≢◌, ℕ, ◌≤◌, Bool, true, false, List, [], ◌∷◌, ◌++◌, Option, None, Some, Result, Ok, Err}
 use Rattle.std.specs.Io.KnownBytes.{Appends, Consumes, Keeps, IsAtEnd}
 use Rattle.sspi_types.specs.Counting.{counted_on}
 use Rattle.sspi_ber.specs.declared.source.SourceError.{SourceError}
@@ -97,14 +97,15 @@ NeedsNoMemory (Err InsufficientMemory) = ⊥
 pub record Wrote (before after : Option (List ℕ)) (text : List ℕ) : Type 0 where
   pub appended : Appends before after text
 
--- some front of the text was written
+-- a proper front of the text was written: not all of it, so there was a text
 pub record WroteFront (before after : Option (List ℕ)) (text : List ℕ) : Type 0 where
   pub front : List ℕ
   pub rest : List ℕ
   pub appended : Appends before after front
   pub parts : text ≡ front ++ rest
+  pub cut : rest ≢ []
 
--- what a writer of this text did
+-- what a writer of this text did: all of it was written, or it was refused and something is missing
 abbrev pub Writes : {X : Type 0} → Option (List ℕ) → Option (List ℕ) → Result X WireKind → List ℕ → Type 0
 Writes before after (Ok x) text = Wrote before after text
 Writes before after (Err UnexpectedEof) text = ⊥

@@ -12,7 +12,8 @@ use crate::sink::Sink;
 use crate::sizes::{fits_in_element, length_size, size_of_element, sizeof_integer};
 use crate::wire_kind::WireKind;
 
-/// All of `piece`, in as many writes as the sink needs.
+/// All of `piece`, in as many writes as the sink needs. `WriteFault` and `InsufficientMemory` only where not all of it was written: a
+/// proper front of it was, and of an empty piece nothing is refused.
 pub fn write_all<W: Sink>(sink: &mut W, piece: &[u8]) -> Result<(), WireKind>
     ensures wrote { Writes (W.written sink.old) (W.written sink.new) result piece.now }
     ensures cause { WriteCause (W.faults sink.old) (W.faults sink.new) result }

@@ -56,8 +56,8 @@ impl EarlyUserAuthResult {
         }
     }
 
-    /// Writes the four bytes. `WriteFault` only where the sink failed; after it, and for want of memory, a front of them was
-    /// written.
+    /// Writes the four bytes. `WriteFault` only where the sink failed; after it, and for want of memory, at most three of them
+    /// were written, from the first on.
     pub fn to_buffer<W: Sink>(self, sink: &mut W) -> Result<(), WireKind>
         ensures wrote { Writes (W.written sink.old) (W.written sink.new) result (early_result_text self) }
         ensures cause { WriteCause (W.faults sink.old) (W.faults sink.new) result }

@@ -133,7 +133,7 @@ impl TsRequest {
 
     /// Writes the request. The code is left out below version 3 and at version 5, the nonce below version 5. `InvalidData`
     /// exactly where the content passes the limit, and then nothing is written; after a `WriteFault` or want of memory a
-    /// front of the spelling was written.
+    /// proper front of the spelling was written, never all of it.
     #[tactic(auto, using(crate::proofs::Capped::capped_fits, crate::proofs::Capped::capped_past))]
     pub fn encode_ts_request<W: Sink>(&self, sink: &mut W) -> Result<(), WireKind>
         ensures wrote { WritesIf (fits self.now) W.written sink.old sink.new result (spelled self.now) }
