@@ -11,9 +11,10 @@ use std::alloc::Global;
 /// `limit` of the client.
 ///
 /// Each request is read before it is handed on, and is then written as its bytes came. A header is read byte by byte and then
-/// exactly its content, so no byte behind a request is taken, whatever the answer, and a call that failed is not made again. Of a
-/// request the order is: reading, grammar, version, writing; one that is refused is not written. What no clause says: memory is taken
-/// only for bytes that came, of one request at a time.
+/// exactly its content, so no byte behind a request is taken, whatever the answer. No failed call hides behind another answer: each
+/// stream's count of faults is as it was, but for the one that `ReadFault` or `WriteFault` tells of. Of a request the order is: reading,
+/// grammar, version, writing; one that is refused is not written. What no clause says: memory is taken only for bytes that came, of one
+/// request at a time.
 ///
 /// Ok: `Ended` where the stream of the end whose request is due is at its end; `Refused` where the server's last request
 /// carries a code other than `SUCCESS`, and then nothing more is read. Refused, each with the end at fault:

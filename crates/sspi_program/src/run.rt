@@ -34,8 +34,9 @@ use std::alloc::{AllocError, Global};
 /// - 5 where memory was wanting: a front of the text, or nothing;
 /// - 6 where the words are others: `error: words`, and the source is not read, as it is not for `gen`.
 ///
-/// Each line ends with LF. The source is read to its end, or to the first byte past `TEXT_LIMIT` and no further; a call that failed
-/// is not made again. What the ends did is kept where there were some, at status 4 too; at 5 it may be.
+/// Each line ends with LF. The source is read to its end, or to the first byte past `TEXT_LIMIT` and no further. No failed call hides
+/// behind another answer: the sink's count of faults is as it was at every status but 4, and the source's at 0, 1, 2 and 6. What the
+/// ends did is kept where there were some, at status 4 too; at 5 it may be.
 pub fn run<S: Source, W: Sink>(
     alloc: Global,
     words: &[String],

@@ -22,8 +22,8 @@ pub enum TextError {
 /// All that is left of a source.
 ///
 /// `TooLong` where more than `TEXT_LIMIT` bytes are left, of which one past the limit is read and no more. `Failed` where a
-/// call on the source fails, which is not tried again. `InsufficientMemory` where there is none for the text. What was read is lost
-/// with a refusal: up to `TEXT_LIMIT` bytes and one.
+/// call on the source fails, and no failed call hides behind another answer: at each the count of faults is as it was.
+/// `InsufficientMemory` where there is none for the text. What was read is lost with a refusal: up to `TEXT_LIMIT` bytes and one.
 pub fn read_text<S: Source>(alloc: Global, source: &mut S) -> Result<Vec<u8>, TextError>
     // What was read.
     ensures text { ReadsText (S.left source.old) result }
