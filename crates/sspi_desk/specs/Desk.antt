@@ -58,7 +58,7 @@ module _ {C P : Type 0} where
   -- the session was kept, and its server handed out; or it was not, and nothing changed
   abbrev pub IsClosed : ℕ → Option (ServerView C P) → DeskView C P → DeskView C P → Type 0
   IsClosed s None old new = (session s old ≡ None) × (new ≡ old)
-  IsClosed s (Some server) old new = (session s old ≡ Some server) × Changes s None old new × Counts new old.admitted (length new.kept)
+  IsClosed s (Some server) old new = (session s old ≡ Some server) × Changes s None old new × (new.admitted ≡ old.admitted)
       × (length new.kept + 1 ≡ length old.kept)
 
   -- ---- serving

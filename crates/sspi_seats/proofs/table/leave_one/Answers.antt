@@ -26,4 +26,4 @@ pub returns-in-Some-clause-others : goal.returns-in-Some-clause-others
 returns-in-Some-clause-others g c =
     let closed : IsClosed (length c.args.seats.now) (Some c.in-Some.server) c.args.desk.now c.close.new.self =
     rw c.as_slice.ensures at c.in-Some.ensures in
-    record { others = closed.1.others; admitted = closed.2.admitted_is }
+    record { others = closed.1.others; admitted = closed.2 }
