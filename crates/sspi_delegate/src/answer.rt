@@ -21,7 +21,7 @@ pub enum DelegateError {
     Server(Error),
     /// What was delivered to this end is no request.
     Read(End, WireKind),
-    /// The reply of this end is longer than a message may be.
+    /// The reply of this end has a content of more than `sspi_ber::MAX_CONTENT`, 1048576 octets.
     Write(End),
     /// A call on the link failed.
     LinkFault,

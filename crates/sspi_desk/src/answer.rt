@@ -28,9 +28,9 @@ pub enum DeskError {
     /// `InvalidData`. The session is unchanged.
     Unread(WireKind),
     /// The server refused with this error, and these are the bytes by which it tells its client; none where their content would
-    /// pass the limit of all lengths.
+    /// pass `sspi_ber::MAX_CONTENT`, 1048576 octets.
     Refused(Error, Option<Bytes>),
-    /// The content of the server's message would pass the limit of all lengths. The server has made its turn.
+    /// The content of the server's message would pass `sspi_ber::MAX_CONTENT`, 1048576 octets. The server has made its turn.
     TooLong,
     /// There was no memory. The session is unchanged where it was wanting for the request, and else as the server's turn left it.
     InsufficientMemory,

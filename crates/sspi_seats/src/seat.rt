@@ -34,7 +34,7 @@ pub enum SeatOutcome {
     /// What this end was sent is no request. The kind is `UnexpectedEof` where it ends too early or its header is at fault, and else
     /// `InvalidData`.
     Read(End, WireKind),
-    /// The message of this end is longer than a message may be.
+    /// The message of this end has a content of more than `sspi_ber::MAX_CONTENT`, 1048576 octets.
     Write(End),
     /// The client made as many turns as it may, each was served, and the client could go on.
     TurnsSpent,

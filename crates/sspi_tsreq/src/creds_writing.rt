@@ -32,7 +32,7 @@ struct Texts<'a> {
 /// `CredentialLess`, with three empty texts.
 ///
 /// `UnsupportedPreAuth` comes exactly for a keytab, in both modes, and then no memory is taken; `InternalError` exactly where the
-/// content passes the limit of all lengths, which is seen once the texts are spelled.
+/// content passes `sspi_ber::MAX_CONTENT`, 1048576 octets, which is seen once the texts are spelled.
 pub fn write_ts_credentials(
     alloc: Global,
     credentials: &CredentialsBuffers,
