@@ -31,9 +31,8 @@ use Rattle.sspi_program.specs.Generate.{TallyDue}
 use Rattle.sspi_program.specs.Outcome.{messages_in, IsMatching}
 use Rattle.sspi_program.specs.Play.{HasPlay, PlayEnds}
 use Rattle.sspi_program.specs.Promises.{Does, Due, KeptDue, EndsSo}
-use Rattle.sspi_program.specs.Run.{Comes}
-use Rattle.sspi_program.specs.Said.{delegated_status, status_of, RecordDue, said_text, read_text, IsDue}
-use Rattle.sspi_program.specs.Telling.{said_status, Written}
+use Rattle.sspi_program.specs.Run.{Comes, Written}
+use Rattle.sspi_program.specs.Said.{delegated_status, status_of, RecordDue, said_text, said_status, read_text, IsDue}
 use Rattle.sspi_program.specs.Seats.{PlainSeat}
 use Rattle.sspi_program.specs.Status.{IsUnlessWrite, IsUnlessFault, EndsAs, EndsMatched}
 use Rattle.sspi_program.proofs.EarlyStatus.{matching_early}

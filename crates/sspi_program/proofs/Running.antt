@@ -1,5 +1,5 @@
 -- What the status of a run says, by what was said and how it was written.
-use Rattle.std.proofs.Common.{◌≡◌, ◌≢◌, ℕ, ◌<◌, ◌≤◌, ◌⊎◌, inl, inr, List, [], append-nil, Option, None, Some, Result, Ok, Err, refl, sym}
+use Rattle.std.proofs.Common.{◌≡◌, ◌≢◌, ℕ, ◌<◌, ◌≤◌, ◌⊎◌, inl, inr, List, [], ◌∷◌, ◌++◌, Option, None, Some, Result, Ok, Err, refl, sym}
 use Rattle.std.proofs.Common.{◌∙◌, ap, subst, arith}
 use Rattle.std.specs.Option.{option_map}
 use Rattle.std.specs.List.{list_all}
@@ -32,15 +32,20 @@ use Rattle.sspi_program.specs.Gate.{IsGated, relayed_status}
 use Rattle.sspi_program.specs.Generate.{TallyDue}
 use Rattle.sspi_program.specs.Kept.{nothing, with_status}
 use Rattle.sspi_program.specs.Promises.{Keeps, KeptDue, Due, Does}
-use Rattle.sspi_program.specs.Run.{Outside, IsToldFor, NoneTold, Comes, KeepsOnly, IsReported, WroteLine, WroteOwed}
-use Rattle.sspi_program.specs.Telling.{IsJudged, ReadsWell, said_status, Written}
+use Rattle.sspi_program.specs.Run.{Outside, IsToldFor, NoneTold, Comes, HasText, KeepsOnly, IsReported, WroteLine, Written, WroteOwed}
+use Rattle.sspi_program.specs.Telling.{IsJudged, ReadsWell}
 use Rattle.sspi_program.specs.Said.{heard_status, status_of, report_of, record_due, RecordDue, IsDue}
-use Rattle.sspi_program.specs.Said.{said_text, conducted_as, words_text, read_text}
+use Rattle.sspi_program.specs.Said.{said_text, said_status, conducted_as, words_text, read_text}
 use Rattle.sspi_program.specs.Seats.{PlainSeat}
 use Rattle.sspi_program.specs.Status.{IsUnlessWrite, IsUnlessFault}
 
-front_all : (w w2 : Option (List ℕ)) (text : List ℕ) → Wrote w w2 text → WroteFront w w2 text
-front_all w w2 text wrote = record { front = text; rest = []; appended = wrote.appended; parts = sym (append-nil text) }
+-- a text of which a proper front was written
+nothing_behind : (front rest : List ℕ) → front ++ rest ≡ [] → rest ≡ []
+nothing_behind [] rest e = e
+nothing_behind (x ∷ front) rest e = absurd cc
+
+some_text : (w w2 : Option (List ℕ)) (text : List ℕ) → WroteFront w w2 text → text ≢ []
+some_text w w2 text wrote e = wrote.cut (nothing_behind wrote.front wrote.rest (sym wrote.parts ∙ e))
 
 -- ---- how a text was written
 
@@ -51,11 +56,6 @@ module _ (w w2 : Option (List ℕ)) (f f2 : ℕ) where
   whole own text status no_fault memory (inl h) = h
   whole own text status no_fault memory (inr (inl h)) = absurd (no_fault h.0)
   whole own text status no_fault memory (inr (inr h)) = absurd (memory h.0)
-
-  pub front_of : (own : ℕ) (text : List ℕ) (status : ℕ) → Written own text w w2 f f2 status → WroteFront w w2 text
-  front_of own text status (inl h) = front_all w w2 text h.1
-  front_of own text status (inr (inl h)) = h.2
-  front_of own text status (inr (inr h)) = h.1
 
   pub unless_write : (own : ℕ) (text : List ℕ) (status : ℕ) → Written own text w w2 f f2 status → IsUnlessWrite own status
   unless_write own text status (inl h) = inl h.0
@@ -260,6 +260,28 @@ module _ (command : Option Command) (left : Option (List ℕ)) (before now : ℕ
   write_rose said status comes (inr (inl h)) is = h.1
   write_rose said status comes (inr (inr h)) is = absurd (omega (arith, h.0, is))
 
+  due_alone : (k : Command) (c : Conducted) (text : List ℕ) → IsDue (Due k c) c.status text → text ≢ [] → Due k c c.status text
+  due_alone k c text (inl h) some = h
+  due_alone k c text (inr h) some = absurd (some h.1)
+
+  done_text : (command : Option Command) (IsOf : Scenario → Type 0) (c : Conducted) (text : List ℕ) →
+      IsSomeAnd command (λ k. Does k IsOf c text) → text ≢ [] → IsSomeAnd command (λ k. Due k c c.status text)
+  done_text None IsOf c text does some = absurd does
+  done_text (Some k) IsOf c text does some = due_alone k c text does.1 some
+
+  text_said : (said : Said) → Comes command left before now said → said_text said ≢ [] → HasText command said
+  text_said (Done c text) comes some = done_text command (IsToldFor command left) c text.items comes some
+  text_said (NoScenario line) comes some = tt
+  text_said ReadFault comes some = tt
+  text_said OtherWords comes some = tt
+  text_said NoMemory comes some = some refl
+
+  pub write_told : (said : Said) (status : ℕ) → Comes command left before now said →
+      Written (said_status said) (said_text said) w w2 f f2 status → status ≡ 4 → HasText command said
+  write_told said status comes (inl h) is = absurd (never_write_fault said comes (sym h.0 ∙ is))
+  write_told said status comes (inr (inl h)) is = text_said said comes (some_text w w2 (said_text said) h.2)
+  write_told said status comes (inr (inr h)) is = absurd (omega (arith, h.0, is))
+
   judged_said : (left2 : Option (List ℕ)) (said : Said) → IsJudged left left2 said → said_status said ≤ 2 → IsReadWhole left left2
   judged_said left2 (Done c text) judged small = judged
   judged_said left2 (NoScenario line) judged small = judged
@@ -367,15 +389,14 @@ module _ (before after : Outside) where
   pub owes : (command : Option Command) (said : Said) (c : Conducted) → c ≡ conducted_as c.status said →
       Comes command before.left before.read_faults after.read_faults said →
       Written (said_status said) (said_text said) before.written after.written before.write_faults after.write_faults c.status →
-      (c.status ≡ 4 → said ≢ NoMemory) →
       WroteOwed command before after c
-  owes command said c is comes written told = record {
+  owes command said c is comes written = record {
     said = said;
     owed = comes;
     keeps = is;
-    told = told;
-    wrote = front_of before.written after.written before.write_faults after.write_faults (said_status said) (said_text said) c.status
-        written;
+    told = write_told command before.left before.read_faults after.read_faults before.written after.written before.write_faults
+        after.write_faults said c.status comes written;
+    wrote = written;
   }
 
   -- ---- what is reported

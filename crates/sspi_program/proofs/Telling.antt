@@ -3,8 +3,8 @@ use Rattle.std.proofs.Common.{◌≡◌, ℕ, List, Option, sym, ap, subst}
 use Rattle.sspi_program.specs.declared.record.Conducted.{Conducted}
 use Rattle.sspi_program.specs.declared.said.Said.{Said}
 use Rattle.sspi_program.specs.Kept.{nothing}
-use Rattle.sspi_program.specs.Said.{said_text}
-use Rattle.sspi_program.specs.Telling.{said_status, Written}
+use Rattle.sspi_program.specs.Run.{Written}
+use Rattle.sspi_program.specs.Said.{said_status, said_text}
 
 pub told_as : (said is_said : Said) (made : Conducted) (status : ℕ) (w w2 : Option (List ℕ)) (f f2 : ℕ) → said ≡ is_said →
     made ≡ nothing status → Written (said_status is_said) (said_text is_said) w w2 f f2 status →

@@ -1,5 +1,5 @@
 -- What a run comes to, by its command and by what its source and its sink show.
-use Rattle.std.specs.Prelude.{◌≡◌, ◌≢◌, ℕ, ◌≤◌, List, Option, None, Some, IfSome, IsSome, IsSomeAnd, Ok, Err}
+use Rattle.std.specs.Prelude.{◌≡◌, ◌⊎◌, ℕ, ◌≤◌, List, Option, None, Some, IfSome, IsSome, IsSomeAnd, Ok, Err}
 use Rattle.sspi_ber.specs.Outside.{Rose, Wrote, WroteFront}
 use Rattle.sspi_scenario.specs.declared.purpose.Purpose.{Purpose}
 use Rattle.sspi_scenario.specs.declared.scenario.Scenario.{Scenario}
@@ -12,7 +12,7 @@ use Rattle.sspi_program.specs.declared.said.Said.TheVariants.{Done, NoScenario, 
 use Rattle.sspi_program.specs.Commands.{task_in, purpose_of}
 use Rattle.sspi_program.specs.Kept.{nothing}
 use Rattle.sspi_program.specs.Promises.{Keeps, Does, Due, EndsSo}
-use Rattle.sspi_program.specs.Said.{said_text, conducted_as, words_text, read_text, line_text}
+use Rattle.sspi_program.specs.Said.{said_text, said_status, conducted_as, words_text, read_text, line_text}
 use Rattle.sspi_program.specs.Status.{IsUnlessWrite, IsUnlessFault}
 
 -- what the source and the sink of a run show at one moment: the bytes that are left and those that were written, where these are
@@ -48,6 +48,14 @@ Comes command left faults faults2 (NoScenario line) = IsSomeAnd (task_in command
 Comes command left faults faults2 ReadFault = IsSome (task_in command) × Rose faults faults2
 Comes command left faults faults2 OtherWords = command ≡ None
 Comes command left faults faults2 NoMemory = IsSome command
+
+-- a text is due with what is said: of a command, for what is kept of it
+abbrev pub HasText : Option Command → Said → Type 0
+HasText command (Done conducted text) = IsSomeAnd command (λ c. Due c conducted conducted.status text.items)
+HasText command (NoScenario line) = Unit {0}
+HasText command ReadFault = Unit {0}
+HasText command OtherWords = Unit {0}
+HasText command NoMemory = ⊥
 
 -- ---- what a run promises
 
@@ -87,14 +95,22 @@ pub record HasStatus (command : Option Command) (before after : Outside) (status
   pub six : status ≡ 6 → (command ≡ None) × Wrote before.written after.written words_text
   pub no_command : command ≡ None → IsUnlessWrite 6 status
 
--- what was written is a front of the text that the words and the source owe
+-- The whole text was written, and the status is its own; or a proper front of it, since the sink failed (4) or had no memory (5).
+abbrev pub Written : ℕ → List ℕ → Option (List ℕ) → Option (List ℕ) → ℕ → ℕ → ℕ → Type 0
+Written own text before after faults faults2 status =
+    ((status ≡ own) × Wrote before after text)
+    ⊎ (((status ≡ 4) × Rose faults faults2 × WroteFront before after text)
+    ⊎ ((status ≡ 5) × WroteFront before after text))
+
+-- what was written is the text that the words and the source owe, or a proper front of it
 pub record WroteOwed (command : Option Command) (before after : Outside) (conducted : Conducted) : Type 0 where
   pub said : Said
   pub owed : Comes command before.left before.read_faults after.read_faults said
   pub keeps : conducted ≡ conducted_as conducted.status said
-  -- where the sink failed there was a text
-  pub told : conducted.status ≡ 4 → said ≢ NoMemory
-  pub wrote : WroteFront before.written after.written (said_text said)
+  -- where the sink failed there was a text, and what it is due for is kept
+  pub told : conducted.status ≡ 4 → HasText command said
+  pub wrote : Written (said_status said) (said_text said) before.written after.written before.write_faults after.write_faults
+      conducted.status
 
 -- what a run promises, whatever its words
 pub record IsRun (command : Option Command) (before after : Outside) (conducted : Conducted) : Type 0 where

@@ -88,6 +88,14 @@ said_text ReadFault = read_text
 said_text OtherWords = words_text
 said_text NoMemory = []
 
+-- the status that is due with the text
+abbrev pub said_status : Said → ℕ
+said_status (Done conducted text) = conducted.status
+said_status (NoScenario line) = 2
+said_status ReadFault = 3
+said_status OtherWords = 6
+said_status NoMemory = 5
+
 -- a run that says this and ended with this status
 abbrev pub conducted_as : ℕ → Said → Conducted
 conducted_as status (Done conducted text) = with_status status conducted

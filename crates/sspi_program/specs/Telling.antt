@@ -1,7 +1,6 @@
 -- How a record is told, step by step.
 use Rattle.std.specs.Prelude.{◌≡◌, ℕ, List, Option, None, IsSome, Ok, ◌⊎◌, [], Result, Err, IsErr}
 use Rattle.std.specs.Global.{Vec}
-use Rattle.sspi_ber.specs.Outside.{Rose, Wrote, WroteFront}
 use Rattle.sspi_scenario.specs.declared.scenario.Scenario.{Scenario}
 use Rattle.sspi_scenario.specs.Reading.{IsReadWhole}
 use Rattle.sspi_scenario.specs.Scenario.{scenario_of}
@@ -90,20 +89,6 @@ SaysWith kept told (NoScenario line) = ⊥
 SaysWith kept told ReadFault = ⊥
 SaysWith kept told OtherWords = ⊥
 SaysWith kept told NoMemory = status_of kept.outcome ≡ None
-
-abbrev pub said_status : Said → ℕ
-said_status (Done conducted text) = conducted.status
-said_status (NoScenario line) = 2
-said_status ReadFault = 3
-said_status OtherWords = 6
-said_status NoMemory = 5
-
--- The whole text was written, and the status is its own; or a front of it, since the sink failed (4) or had no memory (5).
-abbrev pub Written : ℕ → List ℕ → Option (List ℕ) → Option (List ℕ) → ℕ → ℕ → ℕ → Type 0
-Written own text before after faults faults2 status =
-    ((status ≡ own) × Wrote before after text)
-    ⊎ (((status ≡ 4) × Rose faults faults2 × WroteFront before after text)
-    ⊎ ((status ≡ 5) × WroteFront before after text))
 
 -- what a task makes of a text
 abbrev pub CarriesOut : Task → List ℕ → Said → Type 0

@@ -1,9 +1,9 @@
-ghost use Rattle.std.specs.Prelude.{◌≡◌, ◌≢◌, ◌+◌, ◌≤◌, None, Some, IfOk, IsSome, string_bytes};
+ghost use Rattle.std.specs.Prelude.{◌≡◌, ◌+◌, ◌≤◌, None, Some, IfOk, IsSome, string_bytes};
 ghost use Rattle.sspi_program.specs.Commands.{command_of, task_in};
 ghost use Rattle.sspi_program.specs.Kept.{with_status};
-ghost use Rattle.sspi_program.specs.Run.{outside, Comes, IsRun, EndsRun};
-ghost use Rattle.sspi_program.specs.Telling.{CarriesOut, IsJudged, ReadsWell, said_status, Written};
-ghost use Rattle.sspi_program.specs.Said.{conducted_as, line_text, said_text};
+ghost use Rattle.sspi_program.specs.Run.{outside, Comes, IsRun, EndsRun, Written};
+ghost use Rattle.sspi_program.specs.Telling.{CarriesOut, IsJudged, ReadsWell};
+ghost use Rattle.sspi_program.specs.Said.{conducted_as, line_text, said_status, said_text};
 ghost use Rattle.sspi_scenario.specs.declared.reading.TheConstants.{TEXT_LIMIT};
 ghost use Rattle.sspi_scenario.specs.Reading.{TakesAtMost};
 
@@ -30,8 +30,8 @@ use std::alloc::{AllocError, Global};
 /// - 2 where the text is no scenario for this word or has more than `TEXT_LIMIT` bytes: `error: scenario line N`, with the number of
 ///   the first faulty line, from 1, or 0 where no line is to blame;
 /// - 3 where the source failed: `error: read`;
-/// - 4 where the sink failed, which hides the status that was due: a front of the text;
-/// - 5 where memory was wanting: a front of the text, or nothing;
+/// - 4 where the sink failed, which hides the status that was due: a front of the text, never all of it;
+/// - 5 where memory was wanting: nothing, or where the sink had none a front of the text, never all of it;
 /// - 6 where the words are others: `error: words`, and the source is not read, as it is not for `gen`.
 ///
 /// Each line ends with LF. The source is read to its end, or to the first byte past `TEXT_LIMIT` and no further. No failed call hides
@@ -144,7 +144,6 @@ fn tell<W: Sink>(alloc: Global, sink: &mut W, said: Said) -> Conducted
     ensures kept { result ≡ conducted_as result.status said }
     ensures written { Written (said_status said) (said_text said) (W.written sink.old) (W.written sink.new)
         (W.faults sink.old) (W.faults sink.new) result.status }
-    ensures told { result.status ≡ 4 → said ≢ Said.NoMemory }
     ensures clean { (result.status ≡ 4 → ⊥) → W.faults sink.new ≡ W.faults sink.old }
     ensures faults { W.faults sink.old ≤ W.faults sink.new }
 {

@@ -30,5 +30,5 @@ returns-clause-runs g c =
           (outside (g.S.Source.left c.conduct-said.new.source) (g.S.Source.faults c.conduct-said.new.source)
           (g.W.Sink.written c.tell.new.sink) (g.W.Sink.faults c.tell.new.sink)) _ said _ _ kept comes written;
       ends = status_ends _ _ _ _ _ _ _ _ _ said comes written;
-      owed = owes _ _ _ said _ kept comes written c.tell.ensures.told;
+      owed = owes _ _ _ said _ kept comes written;
     }

@@ -1,5 +1,5 @@
 use Rattle.std.proofs.Common.{ℕ, List, ◌∙◌, subst}
-use Rattle.sspi_program.specs.Telling.{Written}
+use Rattle.sspi_program.specs.Run.{Written}
 use Rattle.sspi_program.proofs.run.tell_line.Goals as goal
 
 pub returns-in-Ok-clause-written : goal.returns-in-Ok-clause-written
