@@ -39,7 +39,7 @@ use std::alloc::Global;
 ///   still given to the link where it fits; what comes of that changes nothing.
 /// - `Read`: what was delivered to this end is no request. The kind is `UnexpectedEof` where it ends too early or its header is
 ///   at fault, and else `InvalidData`.
-/// - `Write`: the message of this end has a content past the limit of all lengths.
+/// - `Write`: the message of this end has a content past `sspi_ber::MAX_CONTENT`, 1048576 octets.
 /// - `LinkFault`: a call on the link failed.
 /// - `TurnsSpent`: the client made `limit` turns, each was answered, and none of them ended the exchange; at once where `limit`
 ///   is 0.

@@ -76,7 +76,7 @@ impl MechTypeList {
 
 /// The list alone as a SEQUENCE, over which the MICs of a negotiation are made (RFC 4178, section 5).
 ///
-/// `InternalError` with the reason `TooLong` exactly where its content passes the limit of lengths.
+/// `InternalError` with the reason `TooLong` exactly where its content passes `sspi_ber::MAX_CONTENT`, 1048576 octets.
 #[tactic(auto, using(crate::proofs::Encode::refused, crate::proofs::Encode::unwritten, crate::proofs::Encode::written))]
 pub fn encode_mech_types(alloc: Global, list: &MechTypeList) -> Result<Vec<u8>, Error>
     ensures { WritesAs (spelled_list list.now) result }
