@@ -12,7 +12,7 @@ use std::str::Utf8Error;
 
 /// A refusal: its kind, a fixed reason, and the NTSTATUS code that the peer gave, where there is
 /// one. It takes no memory.
-#[derive(Clone, Copy, PartialEq, Eq)]
+#[derive(Clone, Copy, Debug, PartialEq, Eq)]
 pub struct Error {
     /// What kind of refusal it is: the code of winerror.h.
     pub error_type: ErrorKind,
@@ -66,6 +66,8 @@ impl fmt::Display for Error {
         }
     }
 }
+
+impl std::error::Error for Error {}
 
 /// Want of memory is `InsufficientMemory`, wherever it comes.
 impl From<AllocError> for Error {

@@ -54,6 +54,11 @@ fn refusals_are_displayed(rt: HostRuntime) {
     );
     is(
         &rt,
+        format!(in alloc; "{with_status:?}"),
+        "Error { error_type: InvalidToken, description: ErrorStatus, nstatus: Some(NStatusCode(0xc000006d)) }",
+    );
+    is(
+        &rt,
         format!(in alloc; "{}", SecurityPackageType::Ntlm),
         "NTLM",
     );
