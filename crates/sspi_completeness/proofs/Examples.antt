@@ -1,7 +1,14 @@
 -- Ends that negotiate, as the examples have them.
-use Rattle.std.proofs.Common.{◌≡◌, ◌↔◌, ◌||◌, ◌==◌, inl, inr, ℕ, ◌++◌, Bool, true, false, IsTrue, List, [], ◌∷◌, length, codes, replicate}
-use Rattle.std.proofs.Common.{Option, None, Some, Ok, refl, sym, ap, ◌∙◌, arith, option_map, if◌then◌else◌}
+use Rattle.std.proofs.Common.{◌≡◌, ◌↔◌, ◌<◌, ◌≤◌, ◌==◌, inl, inr, ℕ, ◌++◌, Bool, true, false, IsTrue, List, [], ◌∷◌, length, codes, decimal}
+use Rattle.std.proofs.Common.{Option, None, Some, Ok, refl, sym, ap, subst, ◌∙◌, arith, option_map, if◌then◌else◌, append_assoc}
+use Rattle.std.proofs.Common.{replicate, slice_index}
+use Rattle.std.proofs.lemmas.Fmt.{decimal_is_IsNumeral}
 use Rattle.std.proofs.lemmas.List.{length-append}
+use Rattle.std.specs.Char.{digit_value}
+use Rattle.std.specs.Net.Grammar.{IsDotted, IsGroups}
+use Rattle.std.specs.Net.Text.{dotted_text}
+use Rattle.std.specs.Str.Parse.{IsNumeral}
+use Rattle.std.specs.declared.net.ip_addr.IpAddr.TheVariants.{V4, V6}
 use Rattle.sha2.proofs.Facts256.{length-sha256}
 use Rattle.sspi_names.specs.declared.identity.AuthIdentity.{AuthIdentity}
 use Rattle.sspi_names.specs.declared.network.NetworkRequest.{NetworkRequest}
@@ -26,7 +33,7 @@ use Rattle.sspi_negotiate.specs.declared.protocol_config.ProtocolConfig.TheVaria
 use Rattle.sspi_negotiate.specs.declared.state.Role.TheVariants.{Client, Server}
 use Rattle.sspi_negotiate.specs.Hand.{Origin, Configured}
 use Rattle.sspi_negotiate.specs.New.{first_in_hand, packages_in}
-use Rattle.sspi_negotiate.specs.IpText.{IsIpText, IsTail}
+use Rattle.sspi_negotiate.specs.IpText.{IsIpText}
 use Rattle.sspi_negotiate.specs.Pick.{pick, offered}
 use Rattle.sspi_negotiate.specs.Rows.{is_guest_text}
 use Rattle.sspi_negotiate.specs.Target.{IsNamedByIp}
@@ -40,31 +47,50 @@ use Rattle.sspi_completeness.specs.Negotiating.{protocol_of, kdc_url, begins_wit
 abbrev host : List ℕ
 host = codes "host.example.com"
 
-abbrev has_colon : List ℕ → Bool
-has_colon [] = false
-has_colon (b ∷ text) = (b == 58) || has_colon text
+-- it begins with no digit, not with a hexadecimal one either
+no_digits : (radix : ℕ) (digits rest : List ℕ) → radix ≤ 16 → IsNumeral radix digits → host ≡ digits ++ rest → ⊥
+no_digits radix [] rest small numeral is = omega (arith, numeral.0)
+no_digits radix (first ∷ digits) rest small numeral is =
+    let letter : 104 ≡ first = ap (λ text. slice_index text 0) is in
+    let digit : digit_value 104 < radix = subst (λ byte. digit_value byte < radix) (sym letter) numeral.1.0 in
+    omega (arith, small, digit)
 
-colon_found : (head tail : List ℕ) → has_colon (head ++ 58 ∷ tail) ≡ true
-colon_found [] tail = refl
-colon_found (b ∷ head) tail = at (b == 58) (has_colon (head ++ 58 ∷ tail)) (colon_found head tail)
-  where
-    at : (x y : Bool) → y ≡ true → (x || y) ≡ true
-    at true y found = refl
-    at false y found = found
+-- what stands behind the first number of an IPv4 address
+abbrev behind : ℕ → ℕ → ℕ → List ℕ → List ℕ
+behind b c d rest = 46 ∷ decimal b ++ (46 ∷ decimal c ++ (46 ∷ decimal d ++ rest))
 
-never_tail : IsTail host 8 → ⊥
-never_tail (inl (inl none)) = omega (arith, none.1)
-never_tail (inl (inr groups)) = let n : 8 ≡ 1 = groups.counted in omega (arith, n)
-never_tail (inr ends) =
-    let n : 1 ≡ length (ends.front ++ ends.last ∷ []) = ap length ends.parts in
-    let m = length-append ends.front (ends.last ∷ []) in
-    omega (arith, n, m, ends.counted)
+parted : (a b c d : ℕ) (rest : List ℕ) → dotted_text a b c d ++ rest ≡ decimal a ++ behind b c d rest
+parted a b c d rest = simp append_assoc refl
+
+no_dotted : (text octets rest : List ℕ) → IsDotted text octets → host ≡ text ++ rest → ⊥
+no_dotted text octets rest dotted is =
+    let numeral = decimal_is_IsNumeral dotted.a (omega (arith, dotted.fit.0)) in
+    no_digits 10 (decimal dotted.a) _ (omega arith) numeral.0
+    (is ∙ ap (λ t. t ++ rest) dotted.spelled ∙ parted dotted.a dotted.b dotted.c dotted.d rest)
+
+no_groups : (ipv4 : Bool) (text : List ℕ) (first : ℕ) (segments rest : List ℕ) → IsGroups ipv4 text (first ∷ segments) →
+    host ≡ text ++ rest → ⊥
+no_groups ipv4 text first segments rest (inl (group, others, spelled, is_group, more)) is =
+    no_digits 16 group (others ++ rest) (omega arith) is_group.0.0 (is ∙ ap (λ t. t ++ rest) spelled ∙ append_assoc group others rest)
+no_groups ipv4 text first segments rest (inr (last, octets, may, spelled, dotted, value)) is =
+    no_dotted last octets rest dotted (is ∙ ap (λ t. t ++ rest) spelled)
+
+-- no groups at all are not eight, and not the letter before a `::`
+no_eight : (segments : List ℕ) → IsGroups true host segments → length segments ≡ 8 → ⊥
+no_eight [] groups eight = omega (arith, eight)
+no_eight (first ∷ segments) groups eight = no_groups true host first segments [] groups refl
+
+no_head : (text rest segments : List ℕ) → IsGroups false text segments → host ≡ text ++ 58 ∷ rest → ⊥
+no_head text rest [] groups is =
+    let letter : 104 ≡ 58 = ap (λ t. slice_index t 0) (is ∙ ap (λ t. t ++ 58 ∷ rest) groups) in omega (arith, letter)
+no_head text rest (first ∷ segments) groups is = no_groups false text first segments (58 ∷ rest) groups is
 
 never_ip : IsIpText host → ⊥
-never_ip (inl four) = let n : 3 ≡ 4 = four.four in omega (arith, n)
-never_ip (inr (inl tail)) = never_tail tail
-never_ip (inr (inr elided)) =
-    let never : false ≡ true = ap has_colon elided.parts ∙ colon_found elided.head (58 ∷ elided.tail) in cc
+never_ip (V4 address, dotted) = no_dotted host _ [] dotted refl
+never_ip (V6 address, inl (groups, eight)) = no_eight _ groups eight
+never_ip (V6 address, inr elided) =
+    no_head elided.head_text (58 ∷ elided.tail_text) elided.head elided.head_groups
+    (elided.spelled ∙ append_assoc elided.head_text (codes "::") elided.tail_text)
 
 pub not_named : IsTrue false ↔ IsNamedByIp (Some example_target)
 not_named = (λ is. absurd (cc (is)), λ named. absurd (never_ip named))

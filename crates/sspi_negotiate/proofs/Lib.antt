@@ -2,7 +2,6 @@ pub mod Acquiring
 pub mod Asks
 pub mod Choosing
 pub mod ClientEnds
-pub mod Colons
 pub mod Ends
 pub mod Follow
 pub mod HandLaws
@@ -13,8 +12,6 @@ pub mod KnownEntries
 pub mod Moved
 pub mod Names
 pub mod NegotiateLaws
-pub mod OneGap
-pub mod Parts
 pub mod Passing
 pub mod Quiet
 pub mod RowEnds

@@ -8,7 +8,6 @@ pub mod Follows
 pub mod Hand
 pub mod Identity
 pub mod IpText
-pub mod IpGroups
 pub mod Keeps
 pub mod Known
 pub mod Negotiate
