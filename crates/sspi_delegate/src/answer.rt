@@ -13,7 +13,7 @@ pub struct Delegation {
 }
 
 /// Why an exchange came to no end.
-#[derive(Clone, Copy, PartialEq, Eq)]
+#[derive(Clone, Copy, Debug, PartialEq, Eq)]
 pub enum DelegateError {
     /// The client refused its last turn.
     Client(Error),

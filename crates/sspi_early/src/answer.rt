@@ -23,7 +23,7 @@ pub struct Authorized {
 }
 
 /// Why a client did not hear whether its user may log on.
-#[derive(Clone, Copy, PartialEq, Eq)]
+#[derive(Clone, Copy, Debug, PartialEq, Eq)]
 pub enum EarlyError {
     /// The delegation came to no end.
     Delegate(DelegateError),

@@ -13,7 +13,7 @@ pub struct Delivery {
 }
 
 /// How an end stands once everything was delivered.
-#[derive(Clone, Copy, PartialEq, Eq)]
+#[derive(Clone, Copy, Debug, PartialEq, Eq)]
 pub enum Ending {
     /// It refused nothing, and read whatever was delivered to it. Also an end that has nothing more to say.
     Running,
