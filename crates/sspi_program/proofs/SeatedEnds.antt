@@ -1,20 +1,19 @@
 -- The ends that a scenario names are one value, whenever they are made.
-use Rattle.std.proofs.Common.{◌≡◌, ℕ, ◌+◌, List, [], ◌∷◌, ◌++◌, Result, ◌∙◌, refl, sym, ap, subst}
-use Rattle.std.specs.Prelude.{OnOk}
+use Rattle.std.proofs.Common.{◌≡◌, ℕ, ◌+◌, List, length, Result, Ok, Err, ◌∙◌, refl, sym, ap, subst}
+use Rattle.std.specs.Prelude.{IfErr, OnOk}
 use Rattle.std.proofs.lemmas.List.{replicate_more}
 use Rattle.sspi_mech.specs.PlainKdc.{PlainKdcState}
 use Rattle.sspi_credssp.specs.Ends.{ClientView, IsFreshClient, ServerView, IsFreshServer}
-use Rattle.sspi_credssp.specs.Table.{TableView, table_meaning}
-use Rattle.sspi_delegate.specs.Delegates.{calls_of_kdc}
+use Rattle.sspi_credssp.specs.Table.{TableView}
 use Rattle.sspi_scenario.specs.declared.scenario.Scenario.{Scenario}
 use Rattle.sspi_seats.specs.Seat.{Place, place}
-use Rattle.sspi_seats.specs.Table.{AreSeated}
+use Rattle.sspi_seats.specs.Table as seating
+use Rattle.sspi_seats.specs.declared.table.JoinError.{JoinError}
+use Rattle.sspi_seats.specs.declared.table.JoinError.TheVariants.{Full, InsufficientMemory}
 use Rattle.sspi_program.specs.declared.ends.Ends.{Ends}
 use Rattle.sspi_program.specs.Desk.{client_in, server_in, place_in, places_in}
-use Rattle.sspi_program.specs.Seating.{AreSeatedFor, PlainTable}
 use Rattle.sspi_program.specs.Ends.{PlainContext, IsClientOf, IsServerOf}
 use Rattle.sspi_program.specs.Making.{AreEndsOf}
-use Rattle.sspi_program.specs.Exchange.{plain_meaning, around}
 
 -- a field after another
 client_is : (scenario : Scenario) (a : ClientView PlainContext) → IsFreshClient a → IsClientOf scenario a → a ≡ client_in scenario
@@ -99,14 +98,35 @@ place_is scenario ends are = sym (rw (
   server_is scenario ends.server.value are.server_fresh are.server_named,
 ) refl)
 
+abbrev pub PlainTableView : Type 0
+PlainTableView = seating.TableView PlainContext TableView PlainKdcState
+
+-- the client of the scenario is at the place of the client that joined
+pub seated_by : {A E : Type 0} (scenario : Scenario) (came : Place PlainContext TableView PlainKdcState) (old new : PlainTableView)
+    (result : Result A E) → place_in scenario ≡ came → OnOk result (new ≡ seating.with_place old came) →
+    OnOk result (new ≡ seating.with_place old (place_in scenario))
+seated_by scenario came old new result same joined =
+    subst (λ (a : Place PlainContext TableView PlainKdcState). OnOk result (new ≡ seating.with_place old a)) (sym same) joined
+
 -- with one client more of the scenario
-pub seated_more : {A E : Type 0} (count : ℕ) (scenario : Scenario) (came : Place PlainContext TableView PlainKdcState) (result : Result A E)
-    (table : PlainTable) → place_in scenario ≡ came →
-    OnOk result (AreSeated plain_meaning table_meaning (calls_of_kdc around) (places_in count scenario ++ came ∷ []) table) →
-    OnOk result (AreSeatedFor scenario (count + 1) table)
-seated_more count scenario came result table same seated =
-    let more : places_in count scenario ++ came ∷ [] ≡ places_in (count + 1) scenario =
-    ap (λ (a : Place PlainContext TableView PlainKdcState). places_in count scenario ++ a ∷ []) (sym same)
-    ∙ replicate_more count (place_in scenario) in
-    subst (λ (cames : List (Place PlainContext TableView PlainKdcState)). OnOk result (AreSeated plain_meaning table_meaning
-    (calls_of_kdc around) cames table)) more seated
+pub seated_more : (limit count : ℕ) (scenario : Scenario) (old new : PlainTableView) →
+    old ≡ record { limit = limit; places = places_in count scenario } → new ≡ seating.with_place old (place_in scenario) →
+    new ≡ record { limit = limit; places = places_in (count + 1) scenario }
+seated_more limit count scenario old new were more =
+    more ∙ ap (λ (t : PlainTableView). seating.with_place t (place_in scenario)) were
+    ∙ ap (λ (l : List (Place PlainContext TableView PlainKdcState)). record { limit = limit; places = l })
+    (replicate_more count (place_in scenario))
+
+-- ---- who was not seated
+
+full_by : (table : PlainTableView) (error : JoinError) → seating.IsRefusedFor error table → error ≡ Full →
+    length table.places ≡ table.limit
+full_by table Full refused is = refused
+full_by table InsufficientMemory refused is = absurd cc
+
+-- the table was full where that is said
+pub full_before : {A : Type 0} (table : PlainTableView) (result : Result A JoinError) →
+    IfErr result (λ error. seating.IsRefusedFor error table) →
+    IfErr result (λ error. error ≡ Full → length table.places ≡ table.limit)
+full_before table (Ok done) refused = tt
+full_before table (Err error) refused = full_by table error refused

@@ -16,5 +16,4 @@ pub mod Run
 pub mod Telling
 pub mod Seats
 pub mod Desk
-pub mod Seating
 pub mod Making

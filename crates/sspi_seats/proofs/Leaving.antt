@@ -27,9 +27,11 @@ use Rattle.sspi_seats.specs.Hearing.{IsSeatOf}
 use Rattle.sspi_seats.specs.Messages.{AreServed}
 use Rattle.sspi_seats.specs.Outcomes.{Shows}
 use Rattle.sspi_seats.specs.Seat.{Place, ClientCame, ClientRuns, IsSeat}
-use Rattle.sspi_seats.specs.Table.{AreSeats, IsKept}
+use Rattle.sspi_seats.specs.Sessions.{AreVisited, IsKept}
+use Rattle.sspi_seats.specs.Table.{AreSeats}
 use Rattle.sspi_seats.specs.declared.guest.Guest.{Guest}
 use Rattle.sspi_seats.specs.declared.seat.Seat.{Seat}
+use Rattle.sspi_seats.specs.declared.sessions.Sessions.{Sessions}
 use Rattle.sspi_seats.specs.declared.seat.SeatOutcome.{SeatOutcome}
 use Rattle.sspi_seats.specs.declared.seat.SeatOutcome.TheVariants as seats
 use Rattle.sspi_seats.proofs.Lists.{last_or_before, get_at, has_element, no_element}
@@ -118,6 +120,15 @@ module _ {N K P D : Type 0} (c : Meaning ContextSetting (SspiContext N K)) (p : 
 
 module _ {N K P D : Type 0} (c : Meaning ContextSetting (SspiContext N K)) (p : ProxyMeaning P) (k : KdcCalls D)
     (cames : List (Place (SspiContext N K) P D)) (limit : ℕ) where
+  -- after the last round
+  pub visited_kept : (sessions : Sessions N K P D) → AreVisited c p k cames limit 0 sessions →
+      AreKept c p k cames limit sessions.guests.items sessions.desk
+  visited_kept sessions visited = record {
+    each = λ i came guest place found. visited.late i came guest place found (omega (arith));
+    numbered = visited.numbered;
+    seated = visited.seated;
+  }
+
   -- so many have left, each has the seat of its place, and the others have their sessions
   pub record HaveLeft (first : DeskView (SspiContext N K) P) (gone : ℕ) (seats : List (Seat N K P D))
       (desk : DeskView (SspiContext N K) P) : Type 0 where
@@ -151,13 +162,22 @@ module _ {N K P D : Type 0} (c : Meaning ContextSetting (SspiContext N K)) (p : 
   module _ (came : Place (SspiContext N K) P D) (first : DeskView (SspiContext N K) P) (gone : List (Guest N K D)) (guest : Guest N K D)
       (seats : List (Seat N K P D)) (desk : DeskView (SspiContext N K) P) (place : slice_get cames (length gone) ≡ Some came)
       (left : HaveLeft first (length gone) seats desk) where
+    there : (rest guests : List (Guest N K D)) → gone ++ guest ∷ rest ≡ guests → slice_get guests (length gone) ≡ Some guest
+    there rest guests parts = ap (λ (l : List (Guest N K D)). slice_get l (length gone)) (sym parts) ∙ get_at gone guest rest
+
+    -- its session has the number of its place
+    pub next_numbered : (rest guests : List (Guest N K D)) → gone ++ guest ∷ rest ≡ guests → AreKept c p k cames limit guests first →
+        guest.number ≡ length gone
+    next_numbered rest guests parts kept = kept.numbered (length gone) guest (there rest guests parts)
+
     -- the client that leaves stands with its server
     pub next_kept : (rest guests : List (Guest N K D)) → gone ++ guest ∷ rest ≡ guests → AreKept c p k cames limit guests first →
-        IsKept c p k came limit guest (session (length seats) desk)
+        IsKept c p k came limit guest (session guest.number desk)
     next_kept rest guests parts kept =
-        let found : slice_get guests (length gone) ≡ Some guest = ap (λ (l : List (Guest N K D)). slice_get l (length gone))
-        (sym parts) ∙ get_at gone guest rest in
-        rw (left.count, left.rest (length gone) (omega arith)) (kept.each (length gone) came guest place found)
+        let own = kept.each (length gone) came guest place (there rest guests parts) in
+        subst (λ (n : ℕ). IsKept c p k came limit guest (session n desk)) (sym (next_numbered rest guests parts kept))
+        (subst (λ (o : Option (ServerView (SspiContext N K) P)). IsKept c p k came limit guest o)
+        (sym (left.rest (length gone) (omega arith))) own)
 
     module _ (seats2 : List (Seat N K P D)) (one : HasLeft c p k came limit seats seats2) where
       seat_left : (i : ℕ) (at : Place (SspiContext N K) P D) (seat : Seat N K P D) → slice_get cames i ≡ Some at →
@@ -169,9 +189,9 @@ module _ {N K P D : Type 0} (c : Meaning ContextSetting (SspiContext N K)) (p : 
           subst (λ (a : Place (SspiContext N K) P D). IsSeat c p k a limit seat) same (subst (IsSeat c p k came limit) last.1 one.is)
 
       -- one more has left
-      pub more_left : (desk2 : DeskView (SspiContext N K) P) → OthersStay (length seats) desk desk2 →
+      pub more_left : (desk2 : DeskView (SspiContext N K) P) → guest.number ≡ length gone → OthersStay guest.number desk desk2 →
           HaveLeft first (length (gone ++ guest ∷ [])) seats2 desk2
-      more_left desk2 others =
+      more_left desk2 number others =
           let more : length (gone ++ guest ∷ []) ≡ length gone + 1 = length-append gone (guest ∷ []) in
           record {
             count = omega (
@@ -182,6 +202,6 @@ module _ {N K P D : Type 0} (c : Meaning ContextSetting (SspiContext N K)) (p : 
               more,
             );
             each = λ i at seat found there. seat_left i at seat found (last_or_before seats one.seat i seat (rw one.added at there));
-            rest = λ i past. others.others i (λ same. absurd (omega (arith, same, left.count, more, past)))
+            rest = λ i past. others.others i (λ same. absurd (omega (arith, same, number, more, past)))
                 ∙ left.rest i (omega (arith, more, past));
           }

@@ -1,11 +1,17 @@
 -- Lists, of which one element more or another one is known.
-use Rattle.std.proofs.Common.{◌≡◌, ◌≢◌, ℕ, suc, ◌<◌, ◌⊎◌, inl, inr, List, [], ◌∷◌, ◌++◌, length, reverse, Some, refl, ap, arith, slice_set}
+use Rattle.std.proofs.Common.{◌≡◌, ◌≢◌, ℕ, suc, ◌<◌, ◌⊎◌, inl, inr, List, [], ◌∷◌, ◌++◌, length, reverse, Some, refl, sym, ap, ◌∙◌}
+use Rattle.std.proofs.Common.{append-nil, arith, slice_set}
 use Rattle.std.specs.List.{slice_get}
 use Rattle.std.specs.Prelude.{zero}
 use Rattle.std.proofs.lemmas.List.{reverse-append}
 
 pub reverse_push : {A : Type 0} (xs : List A) (x : A) → reverse (xs ++ x ∷ []) ≡ x ∷ reverse xs
 reverse_push xs x = reverse-append xs (x ∷ [])
+
+-- where nothing is left
+pub front_is_all : {A : Type 0} (front rest all : List A) → length rest ≡ 0 → front ++ rest ≡ all → front ≡ all
+front_is_all front [] all none parts = sym (append-nil front) ∙ parts
+front_is_all front (x ∷ rest) all none parts = absurd (omega arith)
 
 -- an element of a list with one more is one of the list, or the last
 pub last_or_before : {X : Type 0} (xs : List X) (x : X) (i : ℕ) (y : X) → slice_get (xs ++ x ∷ []) i ≡ Some y →

@@ -1,4 +1,4 @@
--- All seats of a table over a round.
+-- All sessions of a table over a round.
 use Rattle.std.proofs.Common.{◌≡◌, ◌≢◌, ℕ, suc, ◌+◌, ◌<◌, ◌≤◌, ◌⊎◌, inl, inr, List, [], ◌∷◌}
 use Rattle.std.proofs.Common.{◌++◌, length, Option, None, Some, refl, sym, ap, ◌∙◌, subst}
 use Rattle.std.proofs.Common.{arith, eqb}
@@ -17,9 +17,9 @@ use Rattle.sspi_desk.specs.Desk.{session, IsAdmitted}
 use Rattle.sspi_seats.specs.Guest.{IsVisited}
 use Rattle.sspi_seats.specs.Keeping.{IsNew, OthersStay}
 use Rattle.sspi_seats.specs.Seat.{Place}
-use Rattle.sspi_seats.specs.Table.{IsKept, IsEmpty, AreVisited, AreSeated}
+use Rattle.sspi_seats.specs.Sessions.{IsKept, IsEmpty, AreVisited, AreSeated}
 use Rattle.sspi_seats.specs.declared.guest.Guest.{Guest}
-use Rattle.sspi_seats.specs.declared.table.Table.{Table}
+use Rattle.sspi_seats.specs.declared.sessions.Sessions.{Sessions}
 use Rattle.sspi_seats.proofs.Lists.{last_or_before, no_element}
 use Rattle.sspi_seats.proofs.Turning.{new_visited, kept_later}
 
@@ -47,18 +47,19 @@ none_runs (g ∷ guests) none (suc i) guest found =
 module _ {N K P D : Type 0} (c : Meaning ContextSetting (SspiContext N K)) (p : ProxyMeaning P) (k : KdcCalls D) where
   -- ---- coming
 
-  pub empty_seated : (table : Table N K P D) → IsEmpty table → AreSeated c p k [] table
-  empty_seated table is = record {
+  pub empty_seated : (sessions : Sessions N K P D) → IsEmpty sessions → AreSeated c p k [] sessions
+  empty_seated sessions is = record {
     visited = record {
       early = λ i came guest place found before. absurd (omega (arith, before));
       late = λ i came guest place found after. absurd (no_element came i place);
+      numbered = λ i guest found. absurd (no_element guest i (rw is.guests at found));
       seated = ap (λ (l : List (Guest N K D)). length l) is.guests;
     };
     admitted = is.admitted;
   }
 
   module _ (cames : List (Place (SspiContext N K) P D)) (came : Place (SspiContext N K) P D) (number : ℕ) (guest : Guest N K D)
-      (old new : Table N K P D) (seated : AreSeated c p k cames old) (is : IsNew came.client came.kdc guest)
+      (old new : Sessions N K P D) (seated : AreSeated c p k cames old) (is : IsNew number came.client came.kdc guest)
       (admitted : IsAdmitted came.server number old.desk new.desk) where
     -- the client of a place is one from before, or the one that came
     late_joined : (i : ℕ) (at : Place (SspiContext N K) P D) (g : Guest N K D) →
@@ -82,7 +83,16 @@ module _ {N K P D : Type 0} (c : Meaning ContextSetting (SspiContext N K)) (p : 
         let found : session i new.desk ≡ Some came.server =
         subst (λ (n : ℕ). session n new.desk ≡ Some came.server) same admitted.changes.here in
         subst (λ (a : Place (SspiContext N K) P D). IsKept c p k a 0 g (session i new.desk)) place.1
-        (rw found (subst (λ (x : Guest N K D). IsVisited c p k came 0 x came.server) last.1 (new_visited c p k came guest is)))
+        (rw found (subst (λ (x : Guest N K D). IsVisited c p k came 0 x came.server) last.1 (new_visited c p k came number guest is)))
+
+    all_numbered : (i : ℕ) (g : Guest N K D) →
+        (slice_get old.guests.items i ≡ Some g) ⊎ ((i ≡ length old.guests.items) × (guest ≡ g)) → g.number ≡ i
+    all_numbered i g (inl before) = seated.visited.numbered i g before
+    all_numbered i g (inr last) =
+        let many : length old.guests.items ≡ length cames = seated.visited.seated in
+        let here : number ≡ old.desk.admitted = admitted.numbered in
+        let own : g.number ≡ number = subst (λ (x : Guest N K D). x.number ≡ number) last.1 is.number_is in
+        omega (arith, own, here, seated.admitted, many, last.0)
 
     -- one more has come
     pub joined : new.guests.items ≡ old.guests.items ++ guest ∷ [] → AreSeated c p k (cames ++ came ∷ []) new
@@ -93,6 +103,7 @@ module _ {N K P D : Type 0} (c : Meaning ContextSetting (SspiContext N K)) (p : 
             early = λ i at g place found before. absurd (omega (arith, before));
             late = λ i at g place found after. late_joined i at g (last_or_before cames came i at place)
                 (last_or_before old.guests.items guest i g (rw added at found));
+            numbered = λ i g found. all_numbered i g (last_or_before old.guests.items guest i g (rw added at found));
             seated = omega (
               arith,
               ap (λ (l : List (Guest N K D)). length l) added,
@@ -106,12 +117,12 @@ module _ {N K P D : Type 0} (c : Meaning ContextSetting (SspiContext N K)) (p : 
 
   -- ---- a round
 
-  module _ (cames : List (Place (SspiContext N K) P D)) (rounds at : ℕ) (old new : Table N K P D)
+  module _ (cames : List (Place (SspiContext N K) P D)) (rounds at : ℕ) (old new : Sessions N K P D)
       (visited : AreVisited c p k cames rounds at old) (own : Place (SspiContext N K) P D) (guest : Guest N K D)
       (own_is : slice_get cames at ≡ Some own)
       (apart : (i : ℕ) → i ≢ at → slice_get new.guests.items i ≡ slice_get old.guests.items i)
       (here : slice_get new.guests.items at ≡ Some guest) (others : OthersStay at old.desk new.desk)
-      (kept : IsKept c p k own (rounds + 1) guest (session at new.desk)) where
+      (kept : IsKept c p k own (rounds + 1) guest (session at new.desk)) (number : guest.number ≡ at) where
     -- another seat is as it was
     other_seat : (n i : ℕ) (came : Place (SspiContext N K) P D) (g : Guest N K D) → i ≢ at → IsKept c p k came n g (session i old.desk) →
         IsKept c p k came n g (session i new.desk)
@@ -132,6 +143,13 @@ module _ {N K P D : Type 0} (c : Meaning ContextSetting (SspiContext N K)) (p : 
         let other : i ≢ at = eqb-false i at equal in
         other_seat (rounds + 1) i came g other (visited.early i came g place (sym (apart i other) ∙ found) (omega (arith, other, before)))
 
+    seat_numbered : (i : ℕ) (g : Guest N K D) → slice_get new.guests.items i ≡ Some g → (this : Bool) → eqb i at ≡ this → g.number ≡ i
+    seat_numbered i g found true equal =
+        let same : i ≡ at = eqb-true i at equal in
+        let is : guest ≡ g = cc (here, subst (λ (n : ℕ). slice_get new.guests.items n ≡ Some g) same found) in
+        subst (λ (x : Guest N K D). x.number ≡ at) is number ∙ sym same
+    seat_numbered i g found false equal = visited.numbered i g (sym (apart i (eqb-false i at equal)) ∙ found)
+
     -- the client of one seat more has had its round
     pub seat_visited : length new.guests.items ≡ length old.guests.items → AreVisited c p k cames rounds (at + 1) new
     seat_visited many = record {
@@ -139,38 +157,42 @@ module _ {N K P D : Type 0} (c : Meaning ContextSetting (SspiContext N K)) (p : 
       late = λ i came g place found after.
           let other : i ≢ at = λ same. absurd (omega (arith, same, after)) in
           other_seat rounds i came g other (visited.late i came g place (sym (apart i other) ∙ found) (omega (arith, after)));
+      numbered = λ i g found. seat_numbered i g found (eqb i at) refl;
       seated = many ∙ visited.seated;
     }
 
   module _ (cames : List (Place (SspiContext N K) P D)) where
     -- there is no such seat
-    pub no_seat : (rounds at : ℕ) (table : Table N K P D) → AreVisited c p k cames rounds at table → length table.guests.items ≤ at →
-        AreVisited c p k cames rounds (at + 1) table
-    no_seat rounds at table visited past = record {
+    pub no_seat : (rounds at : ℕ) (sessions : Sessions N K P D) → AreVisited c p k cames rounds at sessions →
+        length sessions.guests.items ≤ at → AreVisited c p k cames rounds (at + 1) sessions
+    no_seat rounds at sessions visited past = record {
       early = λ i came g place found before.
-          let within = slice_get_within table.guests.items i g found in
+          let within = slice_get_within sessions.guests.items i g found in
           visited.early i came g place found (omega (arith, within, past));
       late = λ i came g place found after. visited.late i came g place found (omega (arith, after));
+      numbered = visited.numbered;
       seated = visited.seated;
     }
 
     -- all have had their round
-    pub round_over : (rounds at : ℕ) (table : Table N K P D) → AreVisited c p k cames rounds at table → length cames ≤ at →
-        AreVisited c p k cames (rounds + 1) 0 table
-    round_over rounds at table visited all = record {
+    pub round_over : (rounds at : ℕ) (sessions : Sessions N K P D) → AreVisited c p k cames rounds at sessions → length cames ≤ at →
+        AreVisited c p k cames (rounds + 1) 0 sessions
+    round_over rounds at sessions visited all = record {
       early = λ i came g place found before. absurd (omega (arith, before));
       late = λ i came g place found after.
-          let within = slice_get_within table.guests.items i g found in
+          let within = slice_get_within sessions.guests.items i g found in
           visited.early i came g place found (omega (arith, within, visited.seated, all));
+      numbered = visited.numbered;
       seated = visited.seated;
     }
 
     -- where none runs, further rounds change nothing
-    pub rest_over : (rounds later : ℕ) (table : Table N K P D) → AreVisited c p k cames rounds 0 table → rounds ≤ later →
-        list_any (λ guest. is_some guest.next) table.guests.items ≡ false → AreVisited c p k cames later 0 table
-    rest_over rounds later table visited more none = record {
+    pub rest_over : (rounds later : ℕ) (sessions : Sessions N K P D) → AreVisited c p k cames rounds 0 sessions → rounds ≤ later →
+        list_any (λ guest. is_some guest.next) sessions.guests.items ≡ false → AreVisited c p k cames later 0 sessions
+    rest_over rounds later sessions visited more none = record {
       early = λ i came g place found before. absurd (omega (arith, before));
-      late = λ i came g place found after. kept_later c p k came rounds later g (session i table.desk) more
-          (none_runs table.guests.items none i g found) (visited.late i came g place found after);
+      late = λ i came g place found after. kept_later c p k came rounds later g (session i sessions.desk) more
+          (none_runs sessions.guests.items none i g found) (visited.late i came g place found after);
+      numbered = visited.numbered;
       seated = visited.seated;
     }

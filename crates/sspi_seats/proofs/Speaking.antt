@@ -32,7 +32,7 @@ use Rattle.sspi_seats.specs.Hearing.{Speaks, SpeaksAs, IsHeard, IsSpeaking}
 use Rattle.sspi_seats.specs.Messages.{IsNext, AreServed, AreServedButLast}
 use Rattle.sspi_seats.specs.Outcomes.{Shows}
 use Rattle.sspi_seats.specs.Seat.{Place, ClientCame}
-use Rattle.sspi_seats.specs.Table.{IsKept}
+use Rattle.sspi_seats.specs.Sessions.{IsKept}
 use Rattle.sspi_seats.specs.declared.guest.Guest.{Guest}
 use Rattle.sspi_seats.specs.declared.hearing.Heard.{Heard}
 use Rattle.sspi_seats.specs.declared.hearing.Heard.TheVariants.{Next, Ends}

@@ -26,7 +26,7 @@ use Rattle.sspi_seats.specs.Keeping.{IsNew}
 use Rattle.sspi_seats.specs.Hearing.{IsSpeaking}
 use Rattle.sspi_seats.specs.Messages.{IsNext, AreServed, AreServedButLast}
 use Rattle.sspi_seats.specs.Seat.{Place}
-use Rattle.sspi_seats.specs.Table.{IsKept}
+use Rattle.sspi_seats.specs.Sessions.{IsKept}
 use Rattle.sspi_seats.specs.declared.guest.Guest.{Guest}
 use Rattle.sspi_seats.specs.declared.seat.SeatOutcome.TheVariants as seats
 
@@ -71,8 +71,9 @@ module _ {N K P D : Type 0} (c : Meaning ContextSetting (SspiContext N K)) (p : 
     (came : Place (SspiContext N K) P D) where
   -- ---- before the first turn
 
-  pub new_visited : (guest : Guest N K D) → IsNew came.client came.kdc guest → IsVisited c p k came 0 guest came.server
-  new_visited guest is = rw (is.next, is.calls, is.answers) (record {
+  pub new_visited : (number : ℕ) (guest : Guest N K D) → IsNew number came.client came.kdc guest →
+      IsVisited c p k came 0 guest came.server
+  new_visited number guest is = rw (is.next, is.calls, is.answers) (record {
     alone = refl;
     stands = record {
       turned = record {

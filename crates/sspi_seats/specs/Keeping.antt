@@ -1,4 +1,4 @@
--- What a guest keeps of a call, and what a table keeps of its guests.
+-- What a guest keeps of a call, and what of its guests is kept.
 use Rattle.std.specs.Prelude.{◌≡◌, ◌≢◌, ◌++◌, ◌∷◌, List, ℕ, Ok, Some, Err, Result, [], length}
 use Rattle.std.specs.List.{slice_get}
 use Rattle.sspi_tsreq.specs.Grammar.{first_request}
@@ -15,7 +15,7 @@ use Rattle.sspi_seats.specs.declared.hearing.Heard.{Heard}
 use Rattle.sspi_seats.specs.declared.hearing.Heard.TheVariants.{Next, Ends}
 use Rattle.sspi_seats.specs.declared.guest.Guest.{Guest}
 use Rattle.sspi_seats.specs.declared.seat.SeatOutcome.TheVariants as seats
-use Rattle.sspi_seats.specs.Table.{IsKept}
+use Rattle.sspi_seats.specs.Sessions.{IsKept}
 use Rattle.sspi_seats.specs.Seat.{IsSeat, Place}
 use Rattle.sspi_seats.specs.declared.seat.Seat.{Seat}
 
@@ -36,7 +36,8 @@ KeepsCall bytes answer (Err error) old new = ⊥
 
 module _ {N K D : Type 0} where
   -- a client that has made no turn at its seat
-  pub record IsNew (client : ClientView (SspiContext N K)) (kdc : D) (guest : Guest N K D) : Type 0 where
+  pub record IsNew (number : ℕ) (client : ClientView (SspiContext N K)) (kdc : D) (guest : Guest N K D) : Type 0 where
+    pub number_is : guest.number ≡ number
     pub client_is : guest.client ≡ client
     pub kdc_is : guest.kdc ≡ kdc
     pub turns : guest.transcript.turns ≡ []
@@ -55,8 +56,9 @@ module _ {N K P D : Type 0} (c : Meaning ContextSetting (SspiContext N K)) (p : 
 
 module _ {N K P D : Type 0} (c : Meaning ContextSetting (SspiContext N K)) (p : ProxyMeaning P) (k : KdcCalls D)
     (cames : List (Place (SspiContext N K) P D)) where
-  -- a client came to each place, and has the session of its number; they have had so many rounds
+  -- the client of each place has the session of its number; they have had so many rounds
   pub record AreKept (rounds : ℕ) (guests : List (Guest N K D)) (desk : DeskView (SspiContext N K) P) : Type 0 where
     pub each : (i : ℕ) (came : Place (SspiContext N K) P D) (guest : Guest N K D) → slice_get cames i ≡ Some came →
         slice_get guests i ≡ Some guest → IsKept c p k came rounds guest (session i desk)
+    pub numbered : (i : ℕ) (guest : Guest N K D) → slice_get guests i ≡ Some guest → guest.number ≡ i
     pub seated : length guests ≡ length cames

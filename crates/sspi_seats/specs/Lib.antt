@@ -4,4 +4,5 @@ pub mod Seat
 pub mod Guest
 pub mod Hearing
 pub mod Table
+pub mod Sessions
 pub mod Keeping

@@ -1,4 +1,4 @@
-ghost use Rattle.std.specs.Prelude.{◌≡◌, ◌+◌, ◌++◌, ℕ, [], ◌∷◌, None, Some, IsErr, OnOk, is_some};
+ghost use Rattle.std.specs.Prelude.{◌≡◌, ◌+◌, ◌++◌, ℕ, [], ◌∷◌, None, Some, Err, OnOk, is_some};
 ghost use Rattle.sspi_credssp.specs.Context.{either};
 ghost use Rattle.sspi_credssp.specs.declared.context.SspiContext.{SspiContext};
 ghost use Rattle.sspi_credssp.specs.Ends.{ServerView};
@@ -8,7 +8,7 @@ ghost use Rattle.sspi_desk.specs.Desk.{session, Serves};
 ghost use Rattle.sspi_seats.specs.Keeping.{IsNew, KeepsCall, OthersStay};
 ghost use Rattle.sspi_seats.specs.Hearing.{IsSeatOf, IsSpeaking};
 ghost use Rattle.sspi_seats.specs.Seat.{Place};
-ghost use Rattle.sspi_seats.specs.Table.{IsKept};
+ghost use Rattle.sspi_seats.specs.Sessions.{IsKept};
 
 use crate::hearing::{Heard, hear, message, refusal};
 use crate::seat::{Seat, SeatOutcome};
@@ -24,6 +24,8 @@ use std::alloc::{AllocError, Global};
 /// A client that has a session, and what it did there so far.
 #[derive(Drop)]
 pub(crate) struct Guest<N, K, D> {
+    /// The number of the session.
+    number: u64,
     client: CredSspClient<N, K>,
     kdc: D,
     /// The client's turns.
@@ -37,10 +39,16 @@ pub(crate) struct Guest<N, K, D> {
 
 impl<N, K, D> Guest<N, K, D> {
     /// A client that has made no turn at its seat.
-    pub(crate) fn new(alloc: Global, client: CredSspClient<N, K>, kdc: D) -> Guest<N, K, D>
-        ensures { IsNew client kdc result }
+    pub(crate) fn new(
+        alloc: Global,
+        number: u64,
+        client: CredSspClient<N, K>,
+        kdc: D,
+    ) -> Guest<N, K, D>
+        ensures { IsNew number client kdc result }
     {
         Guest {
+            number,
             client,
             kdc,
             transcript: Transcript::new(alloc),
@@ -49,6 +57,13 @@ impl<N, K, D> Guest<N, K, D> {
             next: Some(TsRequest::default()),
             outcome: SeatOutcome::TurnsSpent,
         }
+    }
+
+    /// The number of its session.
+    pub(crate) fn number(&self) -> u64
+        ensures { result ≡ self.now.number }
+    {
+        self.number
     }
 
     /// Whether the client has not come to its outcome.
@@ -63,6 +78,7 @@ impl<N, K, D> Guest<N, K, D> {
         ensures { IsSeatOf self server result }
     {
         let Guest {
+            number: _number,
             client,
             kdc,
             transcript,
@@ -84,19 +100,19 @@ impl<N, K, D> Guest<N, K, D> {
 }
 
 impl<N: Mechanism, K: Mechanism, D: Kdc> Guest<N, K, D> {
-    /// A round of a client: where it still runs, it makes its turn with that number, and the desk serves its message.
+    /// A round of a client: where it still runs, it makes the turn of this number, and the desk serves its message.
     pub(crate) fn visit<C: CredentialsProxy>(
         &mut self,
         alloc: Global,
         desk: &mut Desk<N, K, C>,
-        number: u64,
         turn: u32,
     ) -> Result<(), AllocError>
         ensures visited { let c = either N.REQUESTS N.meaning K.meaning in let k = kdc_calls D.told D.asked D.faults in
             (came : Place (SspiContext N K) C D) (rounds : ℕ) → turn ≡ rounds + 1 →
-            IsKept c C.meaning k came rounds self.old (session number desk.old) →
-            OnOk result (IsKept c C.meaning k came turn self.new (session number desk.new)) }
-        ensures others { OthersStay number desk.old desk.new }
+            IsKept c C.meaning k came rounds self.old (session self.old.number desk.old) →
+            OnOk result (IsKept c C.meaning k came turn self.new (session self.old.number desk.new)) }
+        ensures number { self.new.number ≡ self.old.number }
+        ensures others { OthersStay self.old.number desk.old desk.new }
     {
         let Some(request) = self.next.take() else {
             return Ok(());
@@ -108,7 +124,7 @@ impl<N: Mechanism, K: Mechanism, D: Kdc> Guest<N, K, D> {
             &mut self.transcript,
             request,
         ) {
-            Round::Answered(()) => self.speak(alloc, desk, number, turn),
+            Round::Answered(()) => self.speak(alloc, desk, turn),
             Round::Refused(error) => {
                 let outcome = refusal(error)?;
                 put(&mut self.outcome, outcome);
@@ -123,19 +139,19 @@ impl<N: Mechanism, K: Mechanism, D: Kdc> Guest<N, K, D> {
         &mut self,
         alloc: Global,
         desk: &mut Desk<N, K, C>,
-        number: u64,
         turn: u32,
     ) -> Result<(), AllocError>
         ensures visited { let c = either N.REQUESTS N.meaning K.meaning in let k = kdc_calls D.told D.asked D.faults in
             (came : Place (SspiContext N K) C D) (server : ServerView (SspiContext N K) C) → self.old.next ≡ None →
             IsSpeaking c C.meaning k came turn self.old → Alone c C.meaning came.server self.old.calls self.old.answers server →
-            session number desk.old ≡ Some server →
-            OnOk result (IsKept c C.meaning k came turn self.new (session number desk.new)) }
-        ensures others { OthersStay number desk.old desk.new }
+            session self.old.number desk.old ≡ Some server →
+            OnOk result (IsKept c C.meaning k came turn self.new (session self.old.number desk.new)) }
+        ensures number { self.new.number ≡ self.old.number }
+        ensures others { OthersStay self.old.number desk.old desk.new }
     {
         match message(alloc, &self.transcript)? {
             Some(bytes) => {
-                let answer = serve(desk, number, &bytes);
+                let answer = serve(desk, self.number, &bytes);
                 let heard = hear(alloc, turn, &answer);
                 self.keep(bytes, answer, heard)
             }
@@ -155,7 +171,8 @@ impl<N, K, D> Guest<N, K, D> {
         answer: Result<Served, DeskError>,
         heard: Result<Heard, AllocError>,
     ) -> Result<(), AllocError>
-        ensures { OnOk result (KeepsCall bytes answer heard self.old self.new) }
+        ensures kept { OnOk result (KeepsCall bytes answer heard self.old self.new) }
+        ensures number { self.new.number ≡ self.old.number }
     {
         match heard {
             Ok(Heard::Next(request)) => put(&mut self.next, Some(request)),
@@ -198,12 +215,8 @@ fn push_both<A: Drop, B: Drop>(
 }
 
 /// Gives up what cannot be kept.
-pub(crate) fn lost<A: Drop, B: Drop, T>(
-    _first: A,
-    _second: B,
-    error: AllocError,
-) -> Result<T, AllocError>
-    ensures { IsErr result }
+pub(crate) fn lost<A: Drop, B: Drop, T, E>(_first: A, _second: B, error: E) -> Result<T, E>
+    ensures { result ≡ Err error }
 {
     Err(error)
 }

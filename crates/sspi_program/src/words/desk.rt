@@ -1,10 +1,9 @@
-ghost use Rattle.std.specs.Prelude.{◌≡◌, ℕ, ◌+◌, OnOk};
+ghost use Rattle.std.specs.Prelude.{◌≡◌, ℕ, [], length, IfErr, MatchResult, OnOk};
 ghost use Rattle.std.specs.List.{list_all};
-ghost use Rattle.sspi_program.specs.Desk.{is_ok, seats_status};
-ghost use Rattle.sspi_program.specs.Seating.{AreSeatedFor};
+ghost use Rattle.sspi_program.specs.Desk.{is_ok, place_in, places_in, seats_status};
 ghost use Rattle.sspi_program.specs.Telling.{Conducts, SaysOfSeats};
 ghost use Rattle.sspi_scenario.specs.declared.scenario.Scenario.{Scenario};
-ghost use Rattle.sspi_seats.specs.Table.{IsEmpty};
+ghost use Rattle.sspi_seats.specs.Table.{with_place};
 
 use crate::command::Task;
 use crate::ends::ends_of;
@@ -15,8 +14,8 @@ use sspi_credssp::TableProxy;
 use sspi_mech::{Kerberos, Ntlm, PlainKdc};
 use sspi_report::seats_report;
 use sspi_scenario::Scenario;
-use sspi_seats::{SeatOutcome, Table};
-use std::alloc::{AllocError, Global};
+use sspi_seats::{JoinError, SeatOutcome, Table};
+use std::alloc::Global;
 
 /// The clients of a scenario, which have a session each at one desk.
 type PlainTable = Table<Ntlm, Kerberos, TableProxy, PlainKdc>;
@@ -35,14 +34,15 @@ pub fn desk(alloc: Global, count: u32, scenario: Scenario) -> Said
     }
 }
 
-/// Seats so many clients.
+/// Seats so many clients. A table for as many, at which nobody is yet, is not full before.
 fn seat_all(
     alloc: Global,
     count: u32,
     scenario: &Scenario,
     table: &mut PlainTable,
-) -> Result<(), AllocError>
-    ensures { IsEmpty table.old → OnOk result (AreSeatedFor scenario.now count table.new) }
+) -> Result<(), JoinError>
+    ensures { table.old ≡ record { limit = count; places = [] } → MatchResult result
+        (λ _. table.new.places ≡ places_in count scenario.now) (λ error. error ≡ JoinError.InsufficientMemory) }
 {
     for seat in 0..count {
         seat_one(alloc, scenario, table)?;
@@ -51,8 +51,9 @@ fn seat_all(
 }
 
 /// Seats one client more.
-fn seat_one(alloc: Global, scenario: &Scenario, table: &mut PlainTable) -> Result<(), AllocError>
-    ensures { (count : ℕ) → AreSeatedFor scenario.now count table.old → OnOk result (AreSeatedFor scenario.now (count + 1) table.new) }
+fn seat_one(alloc: Global, scenario: &Scenario, table: &mut PlainTable) -> Result<(), JoinError>
+    ensures seated { OnOk result (table.new ≡ with_place table.old (place_in scenario.now)) }
+    ensures full { IfErr result (λ error. error ≡ JoinError.Full → length table.old.places ≡ table.old.limit) }
 {
     let ends = ends_of(alloc, scenario)?;
     table.join(
@@ -64,7 +65,7 @@ fn seat_one(alloc: Global, scenario: &Scenario, table: &mut PlainTable) -> Resul
 
 /// What is said of the clients at a table, once they were served.
 fn serve(alloc: Global, limit: u32, table: PlainTable) -> Said
-    ensures { (count : ℕ) (scenario : Scenario) → AreSeatedFor scenario count table → limit ≡ scenario.turns →
+    ensures { (count : ℕ) (scenario : Scenario) → table.places ≡ places_in count scenario → limit ≡ scenario.turns →
         Conducts (Task.Desk count) scenario result }
 {
     match table.finish(limit) {

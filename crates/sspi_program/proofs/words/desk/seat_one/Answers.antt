@@ -1,11 +1,10 @@
-use Rattle.sspi_seats.specs.Seat.{place}
-use Rattle.sspi_program.specs.Desk.{places_in}
-use Rattle.sspi_program.proofs.SeatedEnds.{place_is, seated_more}
+use Rattle.sspi_program.proofs.SeatedEnds.{place_is, seated_by, full_before}
 use Rattle.sspi_program.proofs.words.desk.seat_one.Goals as goal
 
-pub returns : goal.returns
-returns c count seated =
-    seated_more count c.args.scenario.now (place c.into_inner.result c.in_ok-ends.ends.kdc c.into_inner-2.result) c.join.result
-    c.join.new.self
-    (rw (c.into_inner.ensures, c.into_inner-2.ensures) (place_is c.args.scenario.now _ c.in_ok-ends.ensures))
-    (c.join.ensures.seated (places_in count c.args.scenario.now) seated)
+pub returns-clause-seated : goal.returns-clause-seated
+returns-clause-seated c =
+    seated_by c.args.scenario.now _ c.args.table.now c.join.new.self c.join.result
+    (rw (c.into_inner.ensures, c.into_inner-2.ensures) (place_is c.args.scenario.now _ c.in_ok-ends.ensures)) c.join.ensures.joined
+
+pub returns-clause-full : goal.returns-clause-full
+returns-clause-full c = full_before c.args.table.now c.join.result c.join.ensures.refused

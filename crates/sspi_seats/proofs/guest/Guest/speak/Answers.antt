@@ -9,10 +9,11 @@ returns-in-Some-clause-visited g c came server none speaking alone found =
     let m = either g.N.Mechanism.REQUESTS g.N.Mechanism.meaning g.K.Mechanism.meaning in
     let p = g.C.CredentialsProxy.meaning in
     let k = kdc_calls g.D.Kdc.told g.D.Kdc.asked g.D.Kdc.faults in
-    kept_done c.keep.result (λ keeps. speaks_on m p k came c.args.turn c.args.number c.args.self.now c.keep.new.self c.message.result
+    let guest = c.args.self.now in
+    kept_done c.keep.result (λ keeps. speaks_on m p k came c.args.turn guest.number guest c.keep.new.self c.message.result
     c.in-Some.bytes c.serve-answer.result c.hear-heard.result server c.args.desk.now c.serve-answer.new.desk none speaking alone found
     (c.in_ok-bytes.was ∙ ap Ok c.in-Some.is) c.message.ensures c.serve-answer.ensures.serves c.hear-heard.ensures.heard keeps)
-    c.keep.ensures
+    c.keep.ensures.kept
 
 pub returns-in-None-clause-visited : goal.returns-in-None-clause-visited
 returns-in-None-clause-visited g c came server none speaking alone found =

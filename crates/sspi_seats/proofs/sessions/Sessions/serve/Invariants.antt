@@ -3,8 +3,8 @@ use Rattle.sspi_credssp.specs.Context.{either}
 use Rattle.sspi_credssp.specs.declared.context.SspiContext.{SspiContext}
 use Rattle.sspi_delegate.specs.Chain.{kdc_calls}
 use Rattle.sspi_seats.specs.Seat.{Place}
-use Rattle.sspi_seats.specs.Table.{AreSeated, AreVisited}
-use Rattle.sspi_seats.proofs.table.Table.serve.Given as goal
+use Rattle.sspi_seats.specs.Sessions.{AreSeated, AreVisited}
+use Rattle.sspi_seats.proofs.sessions.Sessions.serve.Given as goal
 
 abbrev pub invariant-loop-turn : goal.invariant-loop-turn
 invariant-loop-turn g l =

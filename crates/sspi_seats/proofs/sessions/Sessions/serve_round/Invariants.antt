@@ -3,8 +3,8 @@ use Rattle.sspi_credssp.specs.Context.{either}
 use Rattle.sspi_credssp.specs.declared.context.SspiContext.{SspiContext}
 use Rattle.sspi_delegate.specs.Chain.{kdc_calls}
 use Rattle.sspi_seats.specs.Seat.{Place}
-use Rattle.sspi_seats.specs.Table.{AreVisited}
-use Rattle.sspi_seats.proofs.table.Table.serve_round.Given as goal
+use Rattle.sspi_seats.specs.Sessions.{AreVisited}
+use Rattle.sspi_seats.proofs.sessions.Sessions.serve_round.Given as goal
 
 abbrev pub invariant-loop-at : goal.invariant-loop-at
 invariant-loop-at g l =

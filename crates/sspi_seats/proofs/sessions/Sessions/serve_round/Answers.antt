@@ -2,7 +2,7 @@ use Rattle.std.proofs.Common.{◌≡◌, length, rules, arith}
 use Rattle.sspi_credssp.specs.Context.{either}
 use Rattle.sspi_delegate.specs.Chain.{kdc_calls}
 use Rattle.sspi_seats.proofs.Seating.{round_over}
-use Rattle.sspi_seats.proofs.table.Table.serve_round.Goals as goal
+use Rattle.sspi_seats.proofs.sessions.Sessions.serve_round.Goals as goal
 
 pub returns : goal.returns
 returns g c cames rounds is visited =

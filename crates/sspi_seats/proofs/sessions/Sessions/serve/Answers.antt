@@ -3,9 +3,9 @@ use Rattle.std.specs.List.{list_any}
 use Rattle.std.specs.Prelude.{false, is_some}
 use Rattle.sspi_credssp.specs.Context.{either}
 use Rattle.sspi_delegate.specs.Chain.{kdc_calls}
-use Rattle.sspi_seats.specs.Table.{AreVisited}
+use Rattle.sspi_seats.specs.Sessions.{AreVisited}
 use Rattle.sspi_seats.proofs.Seating.{rest_over}
-use Rattle.sspi_seats.proofs.table.Table.serve.Goals as goal
+use Rattle.sspi_seats.proofs.sessions.Sessions.serve.Goals as goal
 
 pub loop-turn-init : goal.loop-turn-init
 loop-turn-init g c cames seated = seated.visited

@@ -1,16 +1,15 @@
-use Rattle.std.proofs.Common.{◌∙◌, ap, [], ◌∷◌, ◌++◌}
 use Rattle.sspi_credssp.specs.Context.{either}
 use Rattle.sspi_delegate.specs.Chain.{kdc_calls}
 use Rattle.sspi_seats.specs.Seat.{place}
 use Rattle.sspi_seats.proofs.Seating.{joined}
-use Rattle.sspi_seats.proofs.table.Table.join.Goals as goal
+use Rattle.sspi_seats.proofs.sessions.Sessions.admit.Goals as goal
 
-pub returns-in-Ok-clause-seated : goal.returns-in-Ok-clause-seated
-returns-in-Ok-clause-seated g c cames seated =
+pub returns-in-Ok : goal.returns-in-Ok
+returns-in-Ok g c cames seated =
     let m = either g.N.Mechanism.REQUESTS g.N.Mechanism.meaning g.K.Mechanism.meaning in
     let p = g.C.CredentialsProxy.meaning in
     let k = kdc_calls g.D.Kdc.told g.D.Kdc.asked g.D.Kdc.faults in
-    joined m p k cames (place c.args.client c.args.kdc c.args.server) c.in-Ok.field-0 c.new-guest.result
+    joined m p k cames (place c.args.joined.client c.args.joined.kdc c.args.joined.server) c.in-Ok.number c.new-guest.result
     c.args.self.now (record c.args.self.now { desk = c.admit.new.self; guests = c.push_reserved.new.self }) seated c.new-guest.ensures
     c.in-Ok.ensures
-    (c.push_reserved.ensures.items ∙ ap (λ l. l ++ c.new-guest.result ∷ []) c.reserve.ensures.items)
+    (rw c.reserve.ensures.items at c.push_reserved.ensures.items)
