@@ -1,22 +1,15 @@
-use super::{given, with_status};
+use super::{given, identity, with_status};
 use sspi_ber::WireKind;
 use sspi_delegate::End;
-use sspi_names::{AuthIdentity, Username};
 use sspi_report::seat_line;
 use sspi_seats::SeatOutcome;
-use sspi_types::{Error, ErrorKind, Reason, Secret, Text};
+use sspi_types::{Error, ErrorKind, Reason};
 use std::alloc::Global;
 use std::process::Abort;
 
 fn says(rt: &impl Abort, alloc: Global, session: usize, outcome: SeatOutcome, line: &str) {
     let text = given(rt, seat_line(alloc, session, &outcome));
     assert!(rt; text.as_str() == line, "{line}");
-}
-
-fn identity(rt: &impl Abort, alloc: Global, name: &str, password: &str) -> AuthIdentity {
-    let username = given(rt, Username::parse(alloc, name));
-    let password = Secret::from(given(rt, Text::from_text(alloc, password)));
-    AuthIdentity { username, password }
 }
 
 #[test]
