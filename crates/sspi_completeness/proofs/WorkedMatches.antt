@@ -187,12 +187,12 @@ changed_ends =
       record { no_guest = realm_no_guest (codes "pw"); challenge = refl },
     )
 
-pub user_to_user_matches : Matches (example_kdc who) 0 4 user_to_user
+user_to_user_matches : Matches (example_kdc who) 0 4 user_to_user
 unfolding kerberos_ends
 user_to_user_matches =
     negotiated_match (realm_is (codes "pw") utf8.4) short_realm.0 (lit≤ tt) (lit≤ tt) (omega arith) kerberos_ends refl
 
-pub given_up_matches : Matches (example_kdc who) 0 5 given_up_for_ntlm
+given_up_matches : Matches (example_kdc who) 0 5 given_up_for_ntlm
 unfolding changed_ends
 given_up_matches =
     negotiated_match (realm_is (codes "pw") utf8.4) short_realm.0 (lit≤ tt) (lit≤ tt) (omega arith) changed_ends refl

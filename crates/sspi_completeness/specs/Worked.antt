@@ -13,7 +13,7 @@ use Rattle.sspi_negotiate.specs.declared.negotiate_config.NegotiateConfig.{Negot
 use Rattle.sspi_negotiate.specs.declared.protocol_config.ProtocolConfig.{ProtocolConfig}
 use Rattle.sspi_negotiate.specs.declared.protocol_config.ProtocolConfig.TheVariants as configs
 use Rattle.sspi_tsreq.specs.declared.mode.CredSspMode.{CredSspMode}
-use Rattle.sspi_tsreq.specs.declared.mode.CredSspMode.TheVariants.{WithCredentials, CredentialLess}
+use Rattle.sspi_tsreq.specs.declared.mode.CredSspMode.TheVariants.{WithCredentials}
 use Rattle.sspi_credssp.specs.declared.mode.ClientMode.{ClientMode}
 use Rattle.sspi_credssp.specs.declared.mode.ClientMode.TheVariants as client_mode
 use Rattle.sspi_credssp.specs.declared.mode.ServerMode.{ServerMode}
@@ -146,15 +146,6 @@ negotiated key identity version least client server = record {
 }
 
 -- NTLM without a negotiation; at versions below 5; and of a client that keeps its credentials
-abbrev pub by_ntlm : Example
-by_ntlm = ntlm_example WithCredentials 6 6 5
-
-abbrev pub by_ntlm_of_old : Example
-by_ntlm_of_old = ntlm_example WithCredentials 2 4 0
-
-abbrev pub without_credentials : Example
-without_credentials = ntlm_example CredentialLess 5 6 5
-
 -- a negotiation of NTLM at version 4; over the key of a channel, of 270 bytes
 abbrev pub negotiated_at_version_4 : Example
 negotiated_at_version_4 = negotiated (1 ∷ 2 ∷ 3 ∷ []) ann 4 4 (with_ntlm client_ntlm) (with_ntlm server_ntlm)

@@ -1,16 +1,16 @@
 //! What holds of a context of plain NTLM or plain Kerberos, and of one that negotiates; and that ends which negotiate can match.
-ghost use Rattle.std.specs.Prelude.{◌≡◌, ◌≤◌, ◌<◌, ◌^◌, ℕ, List, Option, length, codes, false, nat_lt};
+ghost use Rattle.std.specs.Prelude.{◌≡◌, ◌≤◌, ◌<◌, ◌^◌, ℕ, List, Option, length, false, nat_lt, Some};
 ghost use Rattle.sspi_names.specs.declared.identity.AuthIdentity.{AuthIdentity};
 ghost use Rattle.sspi_names.specs.declared.network.NetworkRequest.{NetworkRequest};
 ghost use Rattle.sspi_names.specs.Identity.{buffers_of};
 ghost use Rattle.sspi_names.specs.Utf16.{text_of};
 ghost use Rattle.sspi_mech.specs.declared.step.Reply.{Reply};
+ghost use Rattle.sspi_mech.specs.PlainKdc.{told_by};
 ghost use Rattle.sspi_negotiate.specs.Rows.{is_guest_text};
 ghost use Rattle.sspi_completeness.specs.Examples.{example_target, example_ntlm, example_kerberos, example_ticket, example_kdc};
-ghost use Rattle.sspi_completeness.specs.Answered.{ann_of_realm};
 ghost use Rattle.sspi_completeness.specs.Matching.{AreMatching, messages_in};
 ghost use Rattle.sspi_completeness.specs.Negotiating.{AreNegotiating, messages_by};
-ghost use Rattle.sspi_completeness.specs.Worked.{Example, IsClientOf, IsServerOf, Matches, ntlm_example};
+ghost use Rattle.sspi_completeness.specs.Worked.{Example, IsClientOf, IsServerOf, Matches, ntlm_example, realm_kdc};
 ghost use Rattle.sspi_completeness.specs.Worked.{negotiated_at_version_4, negotiated_with_a_long_key, user_to_user, given_up_for_ntlm};
 ghost use Rattle.sspi_credssp.specs.Ends.{ClientView, ServerView};
 ghost use Rattle.sspi_credssp.specs.Table.{TableView, table_meaning};
@@ -66,6 +66,6 @@ pub fn worked_ends_match<C>()
     // Negotiations: of NTLM, of Kerberos, and one that is begun with Kerberos and comes to NTLM.
     ensures version_4 { (told : Option (ℕ → NetworkRequest → Reply)) → (call : ℕ) → Matches told call 4 negotiated_at_version_4 }
     ensures long_key { (told : Option (ℕ → NetworkRequest → Reply)) → (call : ℕ) → Matches told call 4 negotiated_with_a_long_key }
-    ensures kerberos { Matches (example_kdc (ann_of_realm (codes "pw"))) 0 4 user_to_user }
-    ensures changed { Matches (example_kdc (ann_of_realm (codes "pw"))) 0 5 given_up_for_ntlm }
+    ensures kerberos { Matches (Some (told_by realm_kdc.users realm_kdc.script)) realm_kdc.asked 4 user_to_user }
+    ensures changed { Matches (Some (told_by realm_kdc.users realm_kdc.script)) realm_kdc.asked 5 given_up_for_ntlm }
 {}

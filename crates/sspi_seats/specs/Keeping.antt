@@ -1,4 +1,4 @@
--- What a guest keeps of a call, and what of its guests is kept.
+-- What a guest keeps of a call, and what is kept of the guests.
 use Rattle.std.specs.Prelude.{◌≡◌, ◌≢◌, ◌++◌, ◌∷◌, List, ℕ, Ok, Some, Err, Result, [], length}
 use Rattle.std.specs.List.{slice_get}
 use Rattle.sspi_tsreq.specs.Grammar.{first_request}

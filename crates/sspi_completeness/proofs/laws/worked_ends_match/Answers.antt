@@ -1,6 +1,8 @@
+use Rattle.std.proofs.Common.{Result, Ok, refl}
+use Rattle.sspi_completeness.specs.Worked.{realm_kdc}
 use Rattle.sspi_completeness.proofs.WorkedEnds.{matched, counted}
-use Rattle.sspi_completeness.proofs.WorkedMatches.{ntlm_matches, version_4_matches, long_key_matches, user_to_user_matches}
-use Rattle.sspi_completeness.proofs.WorkedMatches.{given_up_matches}
+use Rattle.sspi_completeness.proofs.WorkedMatches.{ntlm_matches, version_4_matches, long_key_matches, user_to_user_by}
+use Rattle.sspi_completeness.proofs.WorkedMatches.{given_up_by}
 use Rattle.sspi_completeness.proofs.laws.worked_ends_match.Goals as goal
 
 pub returns-clause-ends : goal.returns-clause-ends
@@ -19,7 +21,7 @@ pub returns-clause-long_key : goal.returns-clause-long_key
 returns-clause-long_key g c = long_key_matches
 
 pub returns-clause-kerberos : goal.returns-clause-kerberos
-returns-clause-kerberos g c = user_to_user_matches
+returns-clause-kerberos g c = user_to_user_by (Ok {E = Unit {0}} realm_kdc) refl
 
 pub returns-clause-changed : goal.returns-clause-changed
-returns-clause-changed g c = given_up_matches
+returns-clause-changed g c = given_up_by (Ok {E = Unit {0}} realm_kdc) refl
