@@ -6,7 +6,6 @@ use Rattle.std.proofs.lemmas.Bool.{ne_eqb}
 use Rattle.sspi_types.specs.declared.error_kind.ErrorKind.{ErrorKind}
 use Rattle.sspi_types.specs.declared.error_kind.ErrorKind.TheVariants.{MessageAltered, NoCredentials}
 use Rattle.sspi_types.specs.declared.security_status.SecurityStatus.TheVariants as statuses
-use Rattle.sspi_names.specs.declared.credentials.Credentials.{Credentials}
 use Rattle.sspi_names.specs.declared.credentials.Credentials.TheVariants as credentials
 use Rattle.sspi_names.specs.declared.identity.AuthIdentity.{AuthIdentity}
 use Rattle.sspi_names.specs.Identity.{IsIdentity, buffers_of}

@@ -16,7 +16,7 @@ mod Newest
 mod ProxyCalls
 mod Reading
 mod Recording
-mod Refused
+pub mod Refused
 pub mod Refusing
 mod ServerOver
 mod ServerSteps

@@ -11,14 +11,14 @@ use Rattle.sspi_delegate.specs.declared.answer.Delegation.{Delegation}
 use Rattle.sspi_delegate.specs.declared.answer.DelegateError.{DelegateError}
 use Rattle.sspi_delegate.specs.declared.answer.DelegateError.TheVariants as errors
 use Rattle.sspi_delegate.specs.Chain.{KdcCalls}
-use Rattle.sspi_delegate.specs.Turns.{OthersGoOn, AllGoOn}
+use Rattle.sspi_delegate.specs.Turns.{OthersGoOn, AllGoOn, OthersUnrefused, NoneRefused}
 use Rattle.sspi_delegate.specs.History.{ClientStopped, ClientPast, ServerStopped, ServerPast, ClientRefused, ServerRefused, RefusedBy}
 use Rattle.sspi_delegate.proofs.Chained.{client_chained, server_chained}
-use Rattle.sspi_delegate.proofs.Alternating.{others_go, all_unrefused, rest_unrefused}
+use Rattle.sspi_delegate.proofs.Alternating.{others_go, rest_unrefused, others_unrefused}
 use Rattle.sspi_delegate.proofs.HistoryRuns.{history_follows, history_proxy, server_history_follows}
 
 module _ {C D P : Type 0} (c : Meaning ContextSetting C) (law : IsContext c) (p : ProxyMeaning P) (k : KdcCalls D) where
-  client_refused : (first now : ClientView C) (kdc kdc2 : D) (turns : List Turn) (error : Error) → IsFreshClient first → OthersGoOn turns →
+  pub client_refused : (first now : ClientView C) (kdc kdc2 : D) (turns : List Turn) (error : Error) → IsFreshClient first → OthersGoOn turns →
       ClientStopped c k first kdc error turns now kdc2 → ClientRefused c k first kdc error now kdc2 turns
   client_refused first now kdc kdc2 turns error fresh others s =
       let going : AllGoOn s.past = subst (λ (l : List Turn). OthersGoOn l) s.newest others in
@@ -35,11 +35,11 @@ module _ {C D P : Type 0} (c : Meaning ContextSetting C) (law : IsContext c) (p 
         rest = s.rest;
       }
 
-  server_refused : (first now : ServerView C P) (turns : List Turn) (error : Error) → IsFreshServer first → OthersGoOn turns →
+  pub server_refused : (first now : ServerView C P) (turns : List Turn) (error : Error) → IsFreshServer first → OthersUnrefused turns →
       ServerStopped c p first error turns now → ServerRefused c p first error now turns
   server_refused first now turns error fresh others s =
       let stays = history_proxy c law p first s.old s.past s.before in
-      let going : AllGoOn s.past = subst (λ (l : List Turn). OthersGoOn l) s.newest others in
+      let went : NoneRefused s.past = subst (λ (l : List Turn). OthersUnrefused l) s.newest others in
       record {
         old = s.old;
         new = s.mid;
@@ -47,8 +47,8 @@ module _ {C D P : Type 0} (c : Meaning ContextSetting C) (law : IsContext c) (p 
         reply = s.reply;
         past = s.past;
         newest = s.newest;
-        follows = server_history_follows c law p first s.old s.past fresh (all_unrefused s.past going) s.before;
-        chain = server_chained c p first law fresh s.old s.past (rest_unrefused s.past (all_unrefused s.past going)) s.before;
+        follows = server_history_follows c law p first s.old s.past fresh went s.before;
+        chain = server_chained c p first law fresh s.old s.past (rest_unrefused s.past went) s.before;
         told_before = stays.told_same;
         faults_before = stays.counted;
         cause = s.refuses.cause;
@@ -66,7 +66,7 @@ module _ {C D P : Type 0} (c : Meaning ContextSetting C) (law : IsContext c) (p 
   past_refused client client2 kdc kdc2 server server2 clients servers (Err (errors.Client error)) fresh fresh2 others others2 h h2 =
       client_refused client client2 kdc kdc2 clients error fresh others h
   past_refused client client2 kdc kdc2 server server2 clients servers (Err (errors.Server error)) fresh fresh2 others others2 h h2 =
-      server_refused server server2 servers error fresh2 others2 h2
+      server_refused server server2 servers error fresh2 (others_unrefused servers others2) h2
   past_refused client client2 kdc kdc2 server server2 clients servers (Err (errors.Read to kind)) fresh fresh2 others others2 h h2 = tt
   past_refused client client2 kdc kdc2 server server2 clients servers (Err (errors.Write from)) fresh fresh2 others others2 h h2 = tt
   past_refused client client2 kdc kdc2 server server2 clients servers (Err errors.LinkFault) fresh fresh2 others others2 h h2 = tt

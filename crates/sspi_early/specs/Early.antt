@@ -1,5 +1,5 @@
 -- What `delegate_early` promises.
-use Rattle.std.specs.Prelude.{◌≡◌, ℕ, [], Result, Ok, Err}
+use Rattle.std.specs.Prelude.{◌≡◌, ℕ, Result, Ok, Err}
 use Rattle.sspi_mech.specs.Meaning.{Meaning}
 use Rattle.sspi_credssp.specs.Context.{ContextSetting}
 use Rattle.sspi_delegate.specs.declared.answer.Delegation.{Delegation}

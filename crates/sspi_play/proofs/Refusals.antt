@@ -1,5 +1,5 @@
 -- Why an end of a play stands refused: the cause of its newest turn, over the chain of the turns before it.
-use Rattle.std.proofs.Common.{◌≡◌, List, [], ◌∷◌, Option, None, Some, Result, Ok, Err, sym, ◌∙◌, ap, subst, refl}
+use Rattle.std.proofs.Common.{◌≡◌, List, [], ◌∷◌, Option, None, Some, sym, ◌∙◌, ap, subst, refl}
 use Rattle.sspi_types.specs.declared.error.Error.{Error}
 use Rattle.sspi_types.specs.declared.error_kind.ErrorKind.{ErrorKind}
 use Rattle.sspi_ber.specs.declared.wire_kind.WireKind.{WireKind}
@@ -8,9 +8,9 @@ use Rattle.sspi_mech.specs.Meaning.{Meaning}
 use Rattle.sspi_tsreq.specs.declared.request.TsRequest.{TsRequest}
 use Rattle.sspi_credssp.specs.Context.{ContextSetting}
 use Rattle.sspi_credssp.specs.Ends.{ClientView, IsFreshClient, ServerView, IsFreshServer}
-use Rattle.sspi_credssp.specs.ClientTurn.{client_turn}
+use Rattle.sspi_credssp.specs.ClientTurn.{client_turn, ClientTurn}
 use Rattle.sspi_credssp.specs.Proxy.{ProxyMeaning}
-use Rattle.sspi_credssp.specs.ServerTurn.{server_turn}
+use Rattle.sspi_credssp.specs.ServerTurn.{server_turn, ServerTurn}
 use Rattle.sspi_credssp.specs.declared.turn.Outcome.{Outcome}
 use Rattle.sspi_credssp.specs.declared.turn.Outcome.TheVariants as outcome
 use Rattle.sspi_credssp.specs.declared.turn.Turn.{Turn}
@@ -18,11 +18,9 @@ use Rattle.sspi_delegate.specs.Chain.{KdcCalls}
 use Rattle.sspi_delegate.specs.Turns.{OthersGoOn, OthersUnrefused}
 use Rattle.sspi_delegate.specs.History.{ClientMakes, ClientHistory, ClientRefuses, ClientRefused}
 use Rattle.sspi_delegate.specs.History.{ServerMakes, ServerHistory, ServerRefuses, ServerRefused}
-use Rattle.sspi_delegate.proofs.Alternating.{others_go, rest_unrefused}
-use Rattle.sspi_delegate.proofs.Chained.{client_chained, server_chained}
-use Rattle.sspi_delegate.proofs.HistoryRuns.{history_follows, history_proxy, server_history_follows}
+use Rattle.sspi_delegate.proofs.HistoryRuns.{client_turn_of, server_turn_of}
+use Rattle.sspi_delegate.proofs.Refused.{client_refused, server_refused}
 use Rattle.sspi_play.specs.declared.played.Ending.{Ending}
-use Rattle.sspi_play.specs.declared.played.Ending.TheVariants.{Running, Refused, Unread}
 use Rattle.sspi_play.specs.History.{IfRefused}
 use Rattle.sspi_play.specs.Plays.{refusal_in, last_refusal, ending_by}
 
@@ -34,82 +32,76 @@ if_refused ending (Some kind) unread Q is h = rw is (h kind refl)
 if_refused ending None (Some kind) Q is h = rw is tt
 if_refused ending None None Q is h = rw is tt
 
-module _ {C D : Type 0} (c : Meaning ContextSetting C) (k : KdcCalls D) where
+module _ {C D P : Type 0} (c : Meaning ContextSetting C) (law : IsContext c) (p : ProxyMeaning P) (k : KdcCalls D) where
   -- a client's turn that was refused with this kind
-  refused_makes : (old mid : ClientView C) (kdc kdc2 : D) (d : TsRequest) (out : Outcome) (kind : ErrorKind) →
+  client_makes : (old mid : ClientView C) (kdc kdc2 : D) (d : TsRequest) (out : Outcome) (kind : ErrorKind) →
       refusal_in out ≡ Some kind → ClientMakes c k old kdc d out mid kdc2 →
       (error : Error) × (error.error_type ≡ kind) × (out ≡ outcome.Refused error.error_type None) ×
       ClientRefuses c (λ asked. k.replies kdc asked kdc2) old d error mid
-  refused_makes old mid kdc kdc2 d (outcome.Reply reply) kind is makes = absurd (cc (is))
-  refused_makes old mid kdc kdc2 d (outcome.Final reply) kind is makes = absurd (cc (is))
-  refused_makes old mid kdc kdc2 d outcome.Finished kind is makes = absurd makes
-  refused_makes old mid kdc kdc2 d (outcome.Refused of None) kind is makes =
+  client_makes old mid kdc kdc2 d (outcome.Reply reply) kind is makes = absurd (cc (is))
+  client_makes old mid kdc kdc2 d (outcome.Final reply) kind is makes = absurd (cc (is))
+  client_makes old mid kdc kdc2 d outcome.Finished kind is makes = absurd makes
+  client_makes old mid kdc kdc2 d (outcome.Refused of None) kind is makes =
       (makes.0, cc (makes.1, is), ap (λ (e : ErrorKind). outcome.Refused e None) (sym makes.1), makes.3)
-  refused_makes old mid kdc kdc2 d (outcome.Refused of (Some reply)) kind is makes = absurd makes
+  client_makes old mid kdc kdc2 d (outcome.Refused of (Some reply)) kind is makes = absurd makes
 
-  module _ (law : IsContext c) (first : ClientView C) (fresh : IsFreshClient first) where
-    pub client_refused : (now : ClientView C) (kdc kdc2 : D) (turns : List Turn) → OthersGoOn turns →
-        ClientHistory c k first kdc turns now kdc2 → (kind : ErrorKind) → last_refusal turns ≡ Some kind →
-        (error : Error) × (error.error_type ≡ kind) × ClientRefused c k first kdc error now kdc2 turns
-    client_refused now kdc kdc2 [] others h kind is = absurd (cc (is))
-    client_refused now kdc kdc2 (t ∷ past) others h kind is =
-        let made = h.3 in
-        let why = refused_makes h.0 made.mid h.1 kdc2 t.delivered t.outcome kind is made.makes in (
-          why.0,
-          why.1,
-          record {
-            old = h.0;
-            kdc1 = h.1;
-            new = made.mid;
-            d = t.delivered;
-            past = past;
-            newest = ap (λ (x : Turn). x ∷ past)
-                (made.turn ∙ ap (λ (o : Outcome). client_turn c t.delivered o made.mid) why.2);
-            follows = history_follows c law k first h.0 kdc h.1 past fresh others h.2;
-            chain = client_chained c k first law fresh h.0 kdc h.1 past (others_go past others) h.2;
-            refuses = why.3;
-            rest = made.rest;
-          },
-        )
+  pub client_cause : (first now : ClientView C) (kdc kdc2 : D) (turns : List Turn) → IsFreshClient first → OthersGoOn turns →
+      ClientHistory c k first kdc turns now kdc2 → (kind : ErrorKind) → last_refusal turns ≡ Some kind →
+      (error : Error) × (error.error_type ≡ kind) × ClientRefused c k first kdc error now kdc2 turns
+  client_cause first now kdc kdc2 [] fresh others h kind is = absurd (cc (is))
+  client_cause first now kdc kdc2 (t ∷ past) fresh others h kind is =
+      let made = h.3 in
+      let why = client_makes h.0 made.mid h.1 kdc2 t.delivered t.outcome kind is made.makes in (
+        why.0,
+        why.1,
+        client_refused c law p k first now kdc kdc2 (t ∷ past) why.0 fresh others (record {
+          old = h.0;
+          kdc1 = h.1;
+          mid = made.mid;
+          d = t.delivered;
+          past = past;
+          newest = ap (λ (x : Turn). x ∷ past) (made.turn ∙ ap (λ (o : Outcome). client_turn c t.delivered o made.mid) why.2);
+          before = h.2;
+          turn = subst (λ (o : Outcome). ClientTurn c h.0 t.delivered o made.mid) why.2
+              (client_turn_of c law k h.0 made.mid h.1 kdc2 t.delivered t.outcome made.makes);
+          refuses = why.3;
+          rest = made.rest;
+        }),
+      )
 
-module _ {C P : Type 0} (c : Meaning ContextSetting C) (p : ProxyMeaning P) where
   -- a server's turn that was refused with this kind
-  server_refused_makes : (old mid : ServerView C P) (d : TsRequest) (out : Outcome) (kind : ErrorKind) → refusal_in out ≡ Some kind →
+  server_makes : (old mid : ServerView C P) (d : TsRequest) (out : Outcome) (kind : ErrorKind) → refusal_in out ≡ Some kind →
       ServerMakes c p old d out mid →
       (error : Error) × (reply : Option TsRequest) × (error.error_type ≡ kind) × (out ≡ outcome.Refused error.error_type reply) ×
       ServerRefuses c p old d error mid
-  server_refused_makes old mid d (outcome.Reply reply) kind is makes = absurd (cc (is))
-  server_refused_makes old mid d (outcome.Final reply) kind is makes = absurd makes
-  server_refused_makes old mid d outcome.Finished kind is makes = absurd (cc (is))
-  server_refused_makes old mid d (outcome.Refused of reply) kind is makes =
+  server_makes old mid d (outcome.Reply reply) kind is makes = absurd (cc (is))
+  server_makes old mid d (outcome.Final reply) kind is makes = absurd makes
+  server_makes old mid d outcome.Finished kind is makes = absurd (cc (is))
+  server_makes old mid d (outcome.Refused of reply) kind is makes =
       (makes.0, reply, cc (makes.1, is), ap (λ (e : ErrorKind). outcome.Refused e reply) (sym makes.1), makes.3)
 
-  module _ (law : IsContext c) (first : ServerView C P) (fresh : IsFreshServer first) where
-    pub server_refused : (now : ServerView C P) (turns : List Turn) → OthersUnrefused turns → ServerHistory c p first turns now →
-        (kind : ErrorKind) → last_refusal turns ≡ Some kind →
-        (error : Error) × (error.error_type ≡ kind) × ServerRefused c p first error now turns
-    server_refused now [] others h kind is = absurd (cc (is))
-    server_refused now (t ∷ past) others h kind is =
-        let made = h.2 in
-        let why = server_refused_makes h.0 made.mid t.delivered t.outcome kind is made.makes in
-        let stays = history_proxy c law p first h.0 past h.1 in (
-          why.0,
-          why.2,
-          record {
-            old = h.0;
-            new = made.mid;
-            d = t.delivered;
-            reply = why.1;
-            past = past;
-            newest = ap (λ (x : Turn). x ∷ past)
-                (made.turn ∙ ap (λ (o : Outcome). server_turn c t.delivered o made.mid) why.3);
-            follows = server_history_follows c law p first h.0 past fresh others h.1;
-            chain = server_chained c p first law fresh h.0 past (rest_unrefused past others) h.1;
-            told_before = stays.told_same;
-            faults_before = stays.counted;
-            cause = why.4.cause;
-            status = why.4.status;
-            step = why.4.step;
-            rest = made.rest;
-          },
-        )
+  pub server_cause : (first now : ServerView C P) (turns : List Turn) → IsFreshServer first → OthersUnrefused turns →
+      ServerHistory c p first turns now → (kind : ErrorKind) → last_refusal turns ≡ Some kind →
+      (error : Error) × (error.error_type ≡ kind) × ServerRefused c p first error now turns
+  server_cause first now [] fresh others h kind is = absurd (cc (is))
+  server_cause first now (t ∷ past) fresh others h kind is =
+      let made = h.2 in
+      let why = server_makes h.0 made.mid t.delivered t.outcome kind is made.makes in (
+        why.0,
+        why.2,
+        server_refused c law p k first now (t ∷ past) why.0 fresh others (record {
+          old = h.0;
+          mid = made.mid;
+          d = t.delivered;
+          reply = why.1;
+          past = past;
+          newest = ap (λ (x : Turn). x ∷ past) (made.turn ∙ ap (λ (o : Outcome). server_turn c t.delivered o made.mid) why.3);
+          before = h.1;
+          turn = subst (λ (o : Outcome). ServerTurn c h.0 t.delivered o made.mid) why.3
+              (server_turn_of c law p h.0 made.mid t.delivered t.outcome made.makes);
+          refuses = why.4;
+          made = made.made;
+          proxy = made.proxy;
+          rest = made.rest;
+        }),
+      )

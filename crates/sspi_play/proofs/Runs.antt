@@ -29,7 +29,7 @@ use Rattle.sspi_play.specs.Plays.{Plays, last_refusal, first_unread}
 use Rattle.sspi_play.proofs.Agreed.{agreement}
 use Rattle.sspi_play.proofs.Histories.{history_goes}
 use Rattle.sspi_play.proofs.Order.{others_of}
-use Rattle.sspi_play.proofs.Refusals.{if_refused, client_refused, server_refused}
+use Rattle.sspi_play.proofs.Refusals.{if_refused, client_cause, server_cause}
 
 played_some : (schedule : List Delivery) (result : Result Played DelegateError) (turns : List Turn) → PlaysBy schedule result turns →
     (deliveries : List Delivery) × Plays deliveries turns
@@ -65,26 +65,26 @@ module _ {C P D : Type 0} (c : Meaning ContextSetting C) (law : IsContext c) (p 
   played_chained (Err error) first now kdc kdc2 turns fresh others h =
       client_past_chained c k first law fresh now kdc kdc2 turns (Err errors.InsufficientMemory) others h
 
-  client_cause : (schedule : List Delivery) (old new : Both C P D) (result : Result Played DelegateError) → IsFreshClient old.client →
+  client_is_refused : (schedule : List Delivery) (old new : Both C P D) (result : Result Played DelegateError) → IsFreshClient old.client →
       OthersGoOn (client_turns new.turns) → Accounts c p k schedule old result new →
       IfOk result (λ played. IfRefused played.client
       (λ error. ClientRefused c k old.client old.kdc error new.client new.kdc (client_turns new.turns)))
-  client_cause schedule old new (Ok played) fresh others accounts =
+  client_is_refused schedule old new (Ok played) fresh others accounts =
       if_refused played.client (last_refusal (client_turns new.turns)) (first_unread Client (reverse schedule)) _
       accounts.deliveries_and_turns_say_how_the_ends_stand.client
-      (client_refused c k law old.client fresh new.client old.kdc new.kdc (client_turns new.turns) others
+      (client_cause c law p k old.client new.client old.kdc new.kdc (client_turns new.turns) fresh others
       accounts.client_turns_are_its_calls)
-  client_cause schedule old new (Err error) fresh others accounts = tt
+  client_is_refused schedule old new (Err error) fresh others accounts = tt
 
-  server_cause : (schedule : List Delivery) (old new : Both C P D) (result : Result Played DelegateError) → IsFreshServer old.server →
+  server_is_refused : (schedule : List Delivery) (old new : Both C P D) (result : Result Played DelegateError) → IsFreshServer old.server →
       OthersUnrefused (server_turns new.turns) → Accounts c p k schedule old result new →
       IfOk result (λ played. IfRefused played.server
       (λ error. ServerRefused c p old.server error new.server (server_turns new.turns)))
-  server_cause schedule old new (Ok played) fresh others accounts =
+  server_is_refused schedule old new (Ok played) fresh others accounts =
       if_refused played.server (last_refusal (server_turns new.turns)) (first_unread Server (reverse schedule)) _
       accounts.deliveries_and_turns_say_how_the_ends_stand.server
-      (server_refused c p law old.server fresh new.server (server_turns new.turns) others accounts.server_turns_are_its_calls)
-  server_cause schedule old new (Err error) fresh others accounts = tt
+      (server_cause c law p k old.server new.server (server_turns new.turns) fresh others accounts.server_turns_are_its_calls)
+  server_is_refused schedule old new (Err error) fresh others accounts = tt
 
   pub is_play : (schedule : List Delivery) (old new : Both C P D) (result : Result Played DelegateError) → IsFreshClient old.client →
       IsFreshServer old.server →
@@ -115,8 +115,8 @@ module _ {C P D : Type 0} (c : Meaning ContextSetting C) (law : IsContext c) (p 
             client_fresh client_others accounts.client_turns_are_its_calls;
         the_server_has_the_context_of_its_chain = server_past_chained c p old.server law server_fresh new.server
             (server_turns new.turns) (Err errors.InsufficientMemory) server_others accounts.server_turns_are_its_calls;
-        a_refusal_of_the_client_has_its_cause = client_cause schedule old new result client_fresh client_others accounts;
-        a_refusal_of_the_server_has_its_cause = server_cause schedule old new result server_fresh server_others accounts;
+        a_refusal_of_the_client_has_its_cause = client_is_refused schedule old new result client_fresh client_others accounts;
+        a_refusal_of_the_server_has_its_cause = server_is_refused schedule old new result server_fresh server_others accounts;
       }
 
   given_in : (first : ServerView C P) (identity : Option AuthIdentity) (given : AuthIdentity) (turns : List Turn) → identity ≡ Some given →

@@ -20,13 +20,15 @@ use Rattle.sspi_delegate.proofs.Headline.{sealed_once, seals_after_proof}
 use Rattle.sspi_delegate.proofs.Heeding.{client_past_heeds}
 use Rattle.sspi_delegate.proofs.Histories.{client_stopped_history}
 use Rattle.sspi_delegate.proofs.HistoryRuns.{client_past_ran}
+use Rattle.sspi_delegate.proofs.Refused.{client_refused}
+use Rattle.sspi_delegate.proofs.Chained.{client_chained}
 use Rattle.sspi_desk.specs.Desk.{DeskView, session}
 use Rattle.sspi_seats.specs.Guest.{AreClients, IsVisited, StandsBy}
 use Rattle.sspi_seats.specs.Keeping.{OthersStay, AreKept, HasLeft}
 use Rattle.sspi_seats.specs.Hearing.{IsSeatOf}
 use Rattle.sspi_seats.specs.Messages.{AreServed}
 use Rattle.sspi_seats.specs.Outcomes.{Shows}
-use Rattle.sspi_seats.specs.Seat.{Place, ClientCame, ClientRuns, IsSeat}
+use Rattle.sspi_seats.specs.Seat.{Place, ClientCame, OutcomeHasCause, ClientRuns, IsSeat}
 use Rattle.sspi_seats.specs.Sessions.{AreVisited, IsKept}
 use Rattle.sspi_seats.specs.Table.{AreSeats}
 use Rattle.sspi_seats.specs.declared.guest.Guest.{Guest}
@@ -60,10 +62,21 @@ module _ {C D : Type 0} (c : Meaning ContextSetting C) (k : KdcCalls D) (first n
   came_history (seats.Write end) came = came
   came_history seats.TurnsSpent came = came
 
-  -- `server` is any
-  runs_by : {P : Type 0} (law : IsContext c) (server : ServerView C P) → IsFreshClient first → AreClients turns → OthersGoOn turns →
-      ClientHistory c k first kdc turns now kdc2 → ClientRuns c first now turns
-  runs_by law server fresh own others history =
+  outcome_cause : {P : Type 0} (law : IsContext c) (p : ProxyMeaning P) (out : SeatOutcome) → IsFreshClient first → OthersGoOn turns →
+      ClientCame c k first kdc out turns now kdc2 → OutcomeHasCause c k first kdc out turns now kdc2
+  outcome_cause law p (seats.Ok n identity) fresh others came = tt
+  outcome_cause law p (seats.Client error) fresh others came =
+      client_refused c law p k first now kdc kdc2 turns error fresh others came
+  outcome_cause law p (seats.Server error) fresh others came = tt
+  outcome_cause law p (seats.Read end kind) fresh others came = tt
+  outcome_cause law p (seats.Write end) fresh others came = tt
+  outcome_cause law p seats.TurnsSpent fresh others came = tt
+
+  -- `server` and its proxy are any
+  runs_by : {P : Type 0} (law : IsContext c) (p : ProxyMeaning P) (server : ServerView C P) (out : SeatOutcome) → IsFreshClient first → AreClients turns →
+      OthersGoOn turns → ClientCame c k first kdc out turns now kdc2 → ClientRuns c k first kdc out turns now kdc2
+  runs_by law p server out fresh own others came =
+      let history = came_history out came in
       let ran = client_past_ran c law k first now kdc kdc2 turns (Err errors.TurnsSpent) fresh others history in
       record {
         client_ran = ran;
@@ -72,6 +85,8 @@ module _ {C D : Type 0} (c : Meaning ContextSetting C) (k : KdcCalls D) (first n
             (rw own.all others)
             (rw own.none tt);
         the_client_seals_after_the_proof = seals_after_proof c (client_end now) turns ran.each;
+        the_client_has_the_context_of_its_chain = client_chained c k first law fresh now kdc kdc2 turns others history;
+        a_refusal_has_its_cause = outcome_cause law p out fresh others came;
       }
 
 module _ {N K P D : Type 0} (c : Meaning ContextSetting (SspiContext N K)) (p : ProxyMeaning P) (k : KdcCalls D)
@@ -105,9 +120,9 @@ module _ {N K P D : Type 0} (c : Meaning ContextSetting (SspiContext N K)) (p : 
         turns_are_the_clients_calls = rw (is.outcome, turns, is.client_is, is.kdc_is) all.1;
         the_server_answers_as_if_alone = rw (is.calls, is.answers, is.server_is) visited.alone;
         no_more_turns_than_may_be = rw is.turns (omega (arith, length-reverse guest.transcript.turns, all.4));
-        the_client_runs = λ fresh. rw (turns, is.client_is)
-            (runs_by c k came.client guest.client came.kdc guest.kdc guest.transcript.turns law server fresh all.2 all.3
-            (came_history c k came.client guest.client came.kdc guest.kdc guest.transcript.turns guest.outcome all.1));
+        the_client_runs = λ fresh. rw (is.outcome, turns, is.client_is, is.kdc_is)
+            (runs_by c k came.client guest.client came.kdc guest.kdc guest.transcript.turns law p server guest.outcome fresh all.2 all.3
+            all.1);
       }
 
   -- the session of a client that is kept

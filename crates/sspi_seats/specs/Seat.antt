@@ -6,10 +6,10 @@ use Rattle.sspi_credssp.specs.declared.turn.Turn.{Turn}
 use Rattle.sspi_credssp.specs.Ends.{ClientView, IsFreshClient, ServerView}
 use Rattle.sspi_credssp.specs.Context.{ContextSetting}
 use Rattle.sspi_credssp.specs.Proxy.{ProxyMeaning}
-use Rattle.sspi_delegate.specs.Chain.{KdcCalls}
+use Rattle.sspi_delegate.specs.Chain.{KdcCalls, client_stage, ClientChain}
 use Rattle.sspi_delegate.specs.EndRun.{client_end, ClientRan}
 use Rattle.sspi_delegate.specs.Headline.{sealed_turns, SealsAfterProof, EachHeedsServer}
-use Rattle.sspi_delegate.specs.History.{ClientHistory, ClientStopped}
+use Rattle.sspi_delegate.specs.History.{ClientHistory, ClientStopped, ClientRefused}
 use Rattle.sspi_desk.specs.Alone.{Alone}
 use Rattle.sspi_seats.specs.Outcomes.{Shows}
 use Rattle.sspi_seats.specs.declared.seat.Seat.{Seat}
@@ -32,14 +32,22 @@ module _ {C D : Type 0} (c : Meaning ContextSetting C) (k : KdcCalls D) where
   ClientCame first kdc (seats.Client error) turns now kdc2 = ClientStopped c k first kdc error turns now kdc2
   ClientCame first kdc outcome turns now kdc2 = ClientHistory c k first kdc turns now kdc2
 
-module _ {C : Type 0} (c : Meaning ContextSetting C) where
+  -- the last turn was refused as that outcome says, for a cause over the chain of the turns before it
+  abbrev pub OutcomeHasCause : ClientView C → D → SeatOutcome → List Turn → ClientView C → D → Type 0
+  OutcomeHasCause first kdc (seats.Client error) turns now kdc2 = ClientRefused c k first kdc error now kdc2 turns
+  OutcomeHasCause first kdc outcome turns now kdc2 = Unit {0}
+
   -- The turns of a client to which nothing was delivered before, the newest first: each is one over the context that it has now, and a
   -- server that is too old is refused as that. It seals its credentials at most once, after it opened the proof that its server owes.
-  pub record ClientRuns (first now : ClientView C) (turns : List Turn) : Type 0 where
+  -- Its context is that of the chain of its turns.
+  pub record ClientRuns (first : ClientView C) (kdc : D) (outcome : SeatOutcome) (turns : List Turn) (now : ClientView C) (kdc2 : D)
+      : Type 0 where
     pub client_ran : ClientRan c first now turns
     pub client_heeds : EachHeedsServer c now.settings.least turns
     pub credentials_are_sealed_at_most_once : sealed_turns turns ≤ 1
     pub the_client_seals_after_the_proof : SealsAfterProof c (client_end now) turns
+    pub the_client_has_the_context_of_its_chain : ClientChain c k first kdc turns (client_stage now kdc2)
+    pub a_refusal_has_its_cause : OutcomeHasCause first kdc outcome turns now kdc2
 
 module _ {N K P D : Type 0} (c : Meaning ContextSetting (SspiContext N K)) (p : ProxyMeaning P) (k : KdcCalls D) where
   -- limit: how many turns the client may make
@@ -48,4 +56,5 @@ module _ {N K P D : Type 0} (c : Meaning ContextSetting (SspiContext N K)) (p : 
     pub turns_are_the_clients_calls : ClientCame c k came.client came.kdc seat.outcome (reverse seat.turns) seat.client seat.kdc
     pub the_server_answers_as_if_alone : Alone c p came.server seat.calls seat.answers seat.server
     pub no_more_turns_than_may_be : length seat.turns ≤ limit
-    pub the_client_runs : IsFreshClient came.client → ClientRuns c came.client seat.client (reverse seat.turns)
+    pub the_client_runs : IsFreshClient came.client →
+        ClientRuns c k came.client came.kdc seat.outcome (reverse seat.turns) seat.client seat.kdc

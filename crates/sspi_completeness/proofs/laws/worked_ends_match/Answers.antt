@@ -1,4 +1,4 @@
-use Rattle.std.proofs.Common.{Result, Ok, refl}
+use Rattle.std.proofs.Common.{Ok, refl}
 use Rattle.sspi_completeness.specs.Worked.{realm_kdc}
 use Rattle.sspi_completeness.proofs.WorkedEnds.{matched, counted}
 use Rattle.sspi_completeness.proofs.WorkedMatches.{ntlm_matches, version_4_matches, long_key_matches, user_to_user_by}
