@@ -19,9 +19,10 @@ use std::alloc::Global;
 /// delivers.
 ///
 /// Where the ends match and made no call, the link disturbs nothing and no look-up of the proxy fails, it is Ok with the identity that
-/// the client seals, or there was no memory. The client then makes three messages without a negotiation. In a negotiation it makes four, where the server picks the mechanism that the client began with, be that NTLM or Kerberos, and five,
-/// where the client began with Kerberos and the server picks NTLM. Where `limit` allows the client fewer messages, the turns are
-/// spent, or there was no memory.
+/// the client seals, or there was no memory. The client then makes three messages without a negotiation. In a negotiation it makes
+/// four, where the server picks the mechanism that the client began with, be that NTLM or Kerberos, and five, where the client began
+/// with Kerberos and the server picks NTLM. Where `limit` allows the client fewer messages, the turns are spent, or there was no
+/// memory.
 pub fn delegate_plainly<C: CredentialsProxy, L: Link, D: Kdc>(
     alloc: Global,
     client: &mut CredSspClient<Ntlm, Kerberos>,

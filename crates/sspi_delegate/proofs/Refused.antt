@@ -18,8 +18,8 @@ use Rattle.sspi_delegate.proofs.Alternating.{others_go, rest_unrefused, others_u
 use Rattle.sspi_delegate.proofs.HistoryRuns.{history_follows, history_proxy, server_history_follows}
 
 module _ {C D P : Type 0} (c : Meaning ContextSetting C) (law : IsContext c) (p : ProxyMeaning P) (k : KdcCalls D) where
-  pub client_refused : (first now : ClientView C) (kdc kdc2 : D) (turns : List Turn) (error : Error) → IsFreshClient first → OthersGoOn turns →
-      ClientStopped c k first kdc error turns now kdc2 → ClientRefused c k first kdc error now kdc2 turns
+  pub client_refused : (first now : ClientView C) (kdc kdc2 : D) (turns : List Turn) (error : Error) → IsFreshClient first →
+      OthersGoOn turns → ClientStopped c k first kdc error turns now kdc2 → ClientRefused c k first kdc error now kdc2 turns
   client_refused first now kdc kdc2 turns error fresh others s =
       let going : AllGoOn s.past = subst (λ (l : List Turn). OthersGoOn l) s.newest others in
       record {

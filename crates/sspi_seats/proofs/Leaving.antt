@@ -73,8 +73,8 @@ module _ {C D : Type 0} (c : Meaning ContextSetting C) (k : KdcCalls D) (first n
   outcome_cause law p seats.TurnsSpent fresh others came = tt
 
   -- `server` and its proxy are any
-  runs_by : {P : Type 0} (law : IsContext c) (p : ProxyMeaning P) (server : ServerView C P) (out : SeatOutcome) → IsFreshClient first → AreClients turns →
-      OthersGoOn turns → ClientCame c k first kdc out turns now kdc2 → ClientRuns c k first kdc out turns now kdc2
+  runs_by : {P : Type 0} (law : IsContext c) (p : ProxyMeaning P) (server : ServerView C P) (out : SeatOutcome) → IsFreshClient first →
+      AreClients turns → OthersGoOn turns → ClientCame c k first kdc out turns now kdc2 → ClientRuns c k first kdc out turns now kdc2
   runs_by law p server out fresh own others came =
       let history = came_history out came in
       let ran = client_past_ran c law k first now kdc kdc2 turns (Err errors.TurnsSpent) fresh others history in
