@@ -21,7 +21,7 @@ pub returns-clause-long_key : goal.returns-clause-long_key
 returns-clause-long_key g c = long_key_matches
 
 pub returns-clause-kerberos : goal.returns-clause-kerberos
-returns-clause-kerberos g c = user_to_user_by (Ok {E = Unit {0}} realm_kdc) refl
+returns-clause-kerberos g c = user_to_user_by {E = Unit {0}} (Ok realm_kdc) refl
 
 pub returns-clause-changed : goal.returns-clause-changed
-returns-clause-changed g c = given_up_by (Ok {E = Unit {0}} realm_kdc) refl
+returns-clause-changed g c = given_up_by {E = Unit {0}} (Ok realm_kdc) refl
