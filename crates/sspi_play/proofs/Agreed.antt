@@ -215,9 +215,9 @@ module _ {C : Type 0} (c : Meaning ContextSetting C) (client : ClientEnd C) (ser
     finished_shows f t outcome.Finished is h = h
     finished_shows f t (outcome.Refused kind reply) is h = absurd is
 
-    pub held : {P : Type 0} (p : ProxyMeaning P) (first : ServerView C P) (identity : AuthIdentity) (turns : List Turn) →
-        GaveIn c p first identity (server_turns turns) → AllTurns c client server turns → HoldsSealed client server turns identity
-    held p first identity turns gave all =
+    pub held : {P : Type 0} (p : ProxyMeaning P) (first now : ServerView C P) (identity : AuthIdentity) (turns : List Turn) →
+        GaveIn c p first identity (server_turns turns) now → AllTurns c client server turns → HoldsSealed client server turns identity
+    held p first now identity turns gave all =
         let t = gave.turn in
         let place = server_place turns gave.later t gave.before gave.parts in
         let here = all_before c client server place.later (t ∷ place.past)
@@ -248,11 +248,11 @@ module _ {C : Type 0} (c : Meaning ContextSetting C) (client : ClientEnd C) (ser
           identity_is = own_identity client.settings.credentials client.settings.delegation own.0 identity text.0 own.1 sealed.1 text.2;
         }
 
-    pub agreement : {P : Type 0} (p : ProxyMeaning P) (first : ServerView C P) (turns : List Turn) (identity : Option AuthIdentity) →
-        ((given : AuthIdentity) → identity ≡ Some given → GaveIn c p first given (server_turns turns)) →
+    pub agreement : {P : Type 0} (p : ProxyMeaning P) (first now : ServerView C P) (turns : List Turn) (identity : Option AuthIdentity) →
+        ((given : AuthIdentity) → identity ≡ Some given → GaveIn c p first given (server_turns turns) now) →
         AllTurns c client server turns → length client.settings.nonce ≡ 32 → Agreement client server turns identity
-    agreement p first turns identity gave all long = record {
+    agreement p first now turns identity gave all long = record {
       a_client_that_sealed = λ no_collision echo at end sealed.
           agreed turns at.later at.before at.turn at.parts end sealed all no_collision echo long;
-      a_server_that_finished = λ given is. held p first given turns (gave given is) all;
+      a_server_that_finished = λ given is. held p first now given turns (gave given is) all;
     }

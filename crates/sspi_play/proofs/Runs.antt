@@ -119,16 +119,18 @@ module _ {C P D : Type 0} (c : Meaning ContextSetting C) (law : IsContext c) (p 
         a_refusal_of_the_server_has_its_cause = server_is_refused schedule old new result server_fresh server_others accounts;
       }
 
-  given_in : (first : ServerView C P) (identity : Option AuthIdentity) (given : AuthIdentity) (turns : List Turn) → identity ≡ Some given →
-      Gave c p first identity turns → GaveIn c p first given turns
-  given_in first identity given turns is gave =
-      let at : Gave c p first (Some given) turns = subst (λ (o : Option AuthIdentity). Gave c p first o turns) is gave in at
+  given_in : (first now : ServerView C P) (identity : Option AuthIdentity) (given : AuthIdentity) (turns : List Turn) →
+      identity ≡ Some given → Gave c p first identity turns now → GaveIn c p first given turns now
+  given_in first now identity given turns is gave =
+      let at : Gave c p first (Some given) turns now = subst (λ (o : Option AuthIdentity). Gave c p first o turns now) is gave in at
 
   identity_gave : (schedule : List Delivery) (old new : Both C P D) (result : Result Played DelegateError) →
       Accounts c p k schedule old result new →
-      (given : AuthIdentity) → identity_of result ≡ Some given → GaveIn c p old.server given (server_turns new.turns)
+      (given : AuthIdentity) → identity_of result ≡ Some given →
+      GaveIn c p old.server given (server_turns new.turns) new.server
   identity_gave schedule old new (Ok played) accounts given is =
-      given_in old.server played.identity given (server_turns new.turns) is accounts.the_identity_is_that_of_the_turn_that_finished
+      given_in old.server new.server played.identity given (server_turns new.turns) is
+      accounts.the_identity_is_that_of_the_turn_that_finished
   identity_gave schedule old new (Err error) accounts given is = absurd (cc (is))
 
   pub agrees_if_faithful : (schedule : List Delivery) (old new : Both C P D)
@@ -136,7 +138,7 @@ module _ {C P D : Type 0} (c : Meaning ContextSetting C) (law : IsContext c) (p 
       IsPlay c p k old result new → Accounts c p k schedule old result new → OpensBehindTag c →
       AgreesIfFaithful (client_end new.client) (server_end new.server) new.turns (identity_of result)
   agrees_if_faithful schedule old new result long play accounts tags = λ opens.
-      agreement c (client_end new.client) (server_end new.server) tags p old.server new.turns (identity_of result)
+      agreement c (client_end new.client) (server_end new.server) tags p old.server new.server new.turns (identity_of result)
       (identity_gave schedule old new result accounts)
       (record {
         client_each = play.client_ran.each;

@@ -16,7 +16,8 @@ use Rattle.sspi_credssp.specs.Ends.{ServerView}
 use Rattle.sspi_delegate.specs.declared.answer.DelegateError.{DelegateError}
 use Rattle.sspi_delegate.specs.declared.answer.DelegateError.TheVariants as errors
 use Rattle.sspi_delegate.specs.Causes.{IsClientRefusal, IsServerRefusal, IsFinished}
-use Rattle.sspi_delegate.specs.Turns.{GoesOn}
+use Rattle.sspi_delegate.specs.Rounds.{newest_alone}
+use Rattle.sspi_delegate.specs.Turns.{GoesOn, server_turns}
 use Rattle.sspi_delegate.specs.History.{ServerHistory, ServerGave}
 use Rattle.sspi_play.specs.declared.hand.Handed.{Handed}
 use Rattle.sspi_play.specs.declared.hand.Handed.TheVariants as handed
@@ -88,3 +89,11 @@ module _ {C P : Type 0} (c : Meaning ContextSetting C) (p : ProxyMeaning P) wher
   ServerHandPast first (Ok (handed.Stands ending)) turns now = ServerHistory c p first turns now
   ServerHandPast first (Ok (handed.Finished identity)) turns now = ServerGave c p first identity turns now
   ServerHandPast first (Err error) turns now = ServerHistory c p first turns now
+
+  -- the turn that a delivery made leads from the server as it was to the one that is left; where there was no request, nothing moved it
+  abbrev pub ServerHandMade : ServerView C P → Result Handed DelegateError → List Turn → ServerView C P → Type 0
+  ServerHandMade old (Ok (handed.Stands Running)) turns now = ServerHistory c p old (server_turns (newest_alone turns)) now
+  ServerHandMade old (Ok (handed.Stands (Refused kind))) turns now = ServerHistory c p old (server_turns (newest_alone turns)) now
+  ServerHandMade old (Ok (handed.Stands (Unread kind))) turns now = now ≡ old
+  ServerHandMade old (Ok (handed.Finished identity)) turns now = Unit {0}
+  ServerHandMade old (Err error) turns now = Unit {0}

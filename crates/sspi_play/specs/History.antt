@@ -11,7 +11,7 @@ use Rattle.sspi_delegate.specs.declared.answer.DelegateError.{DelegateError}
 use Rattle.sspi_delegate.specs.Chain.{KdcCalls, ClientStage, ClientChain, ClientChainLeft}
 use Rattle.sspi_delegate.specs.Causes.{IsFinished}
 use Rattle.sspi_delegate.specs.Turns.{any_finished}
-use Rattle.sspi_delegate.specs.History.{ClientHistory, ClientLeft, ServerGave}
+use Rattle.sspi_delegate.specs.History.{ClientHistory, ClientLeft, ServerHistory, ServerGave}
 use Rattle.sspi_play.specs.declared.played.Ending.{Ending}
 use Rattle.sspi_play.specs.declared.played.Ending.TheVariants as endings
 
@@ -33,8 +33,8 @@ module _ {C D : Type 0} (c : Meaning ContextSetting C) (k : KdcCalls D) where
   ClientPlayedChain first kdc (Err error) turns now = ClientChainLeft c k first kdc turns now
 
 module _ {C P : Type 0} (c : Meaning ContextSetting C) (p : ProxyMeaning P) where
-  -- one of these turns of the server finished, and gave this identity
-  pub record GaveIn (first : ServerView C P) (identity : AuthIdentity) (turns : List Turn) : Type 0 where
+  -- one of these turns of the server finished, and gave this identity; those behind it led to the server that is left
+  pub record GaveIn (first : ServerView C P) (identity : AuthIdentity) (turns : List Turn) (now : ServerView C P) : Type 0 where
     pub later : List Turn
     pub turn : Turn
     pub before : List Turn
@@ -43,8 +43,9 @@ module _ {C P : Type 0} (c : Meaning ContextSetting C) (p : ProxyMeaning P) wher
     -- the server once it had made that turn
     pub server : ServerView C P
     pub gave : ServerGave c p first identity (turn ∷ before) server
+    pub since : ServerHistory c p server later now
 
   -- the identity is that of the turn that finished, and there is none where no turn did
-  abbrev pub Gave : ServerView C P → Option AuthIdentity → List Turn → Type 0
-  Gave first None turns = any_finished turns ≡ false
-  Gave first (Some identity) turns = GaveIn first identity turns
+  abbrev pub Gave : ServerView C P → Option AuthIdentity → List Turn → ServerView C P → Type 0
+  Gave first None turns now = any_finished turns ≡ false
+  Gave first (Some identity) turns now = GaveIn first identity turns now

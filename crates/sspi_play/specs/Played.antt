@@ -56,7 +56,7 @@ module _ {C P D : Type 0} (c : Meaning ContextSetting C) where
     pub client_turns_are_its_calls : ClientPlayed c k {X = Played} old.client old.kdc result (client_turns new.turns) new.client new.kdc
     pub server_turns_are_its_calls : ServerHistory c p old.server (server_turns new.turns) new.server
     pub the_identity_is_that_of_the_turn_that_finished : IfOk result
-        (λ played. Gave c p old.server played.identity (server_turns new.turns))
+        (λ played. Gave c p old.server played.identity (server_turns new.turns) new.server)
 
   -- Of a play between two fresh ends: each turn is one of its end, over the context that the play left, which sealed and opened
   -- exactly what the turns say. A peer that is too old is refused as that, and no other. No more is sealed than once.

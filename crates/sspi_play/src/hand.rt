@@ -5,7 +5,7 @@ ghost use Rattle.sspi_delegate.specs.Chain.{kdc_calls};
 ghost use Rattle.sspi_delegate.specs.Turns.{client_turns, server_turns, AllGoOn};
 ghost use Rattle.sspi_delegate.specs.History.{ClientHistory, ServerHistory, KdcStays, ProxyStays};
 ghost use Rattle.sspi_play.specs.declared.played.Delivery.{Delivery};
-ghost use Rattle.sspi_play.specs.Hands.{RequestIs, EndsBy, ClientHands, ServerHands, Stands, StopsAt, ServerHandPast};
+ghost use Rattle.sspi_play.specs.Hands.{RequestIs, EndsBy, ClientHands, ServerHands, Stands, StopsAt, ServerHandPast, ServerHandMade};
 ghost use Rattle.sspi_play.specs.History.{ClientPlayed, Gave};
 
 use crate::played::{Delivery, Ending, Played};
@@ -94,6 +94,7 @@ fn hand_server<N: Mechanism, K: Mechanism, C: CredentialsProxy>(
     ensures history { let c = either N.REQUESTS N.meaning K.meaning in (first : ServerView (SspiContext N K) C) →
         ServerHistory c C.meaning first (server_turns transcript.old.turns) server.old →
         ServerHandPast c C.meaning first result (server_turns transcript.new.turns) server.new }
+    ensures made { ServerHandMade (either N.REQUESTS N.meaning K.meaning) C.meaning server.old result transcript.new.turns server.new }
     ensures client { client_turns transcript.new.turns ≡ client_turns transcript.old.turns }
     ensures proxy { ProxyStays C.meaning server.old.proxy server.new.proxy }
 {
@@ -139,8 +140,8 @@ pub(crate) fn hand<N: Mechanism, K: Mechanism, C: CredentialsProxy, D: Kdc>(
         ServerHistory c C.meaning first (server_turns transcript.new.turns) server.new }
     ensures identity { let c = either N.REQUESTS N.meaning K.meaning in (first : ServerView (SspiContext N K) C) →
         ServerHistory c C.meaning first (server_turns transcript.old.turns) server.old →
-        Gave c C.meaning first standing.old.played.identity (server_turns transcript.old.turns) →
-        OnOk result (Gave c C.meaning first standing.new.played.identity (server_turns transcript.new.turns)) }
+        Gave c C.meaning first standing.old.played.identity (server_turns transcript.old.turns) server.old →
+        OnOk result (Gave c C.meaning first standing.new.played.identity (server_turns transcript.new.turns) server.new) }
     // What stays.
     ensures kdc { KdcStays D.told D.faults kdc.old kdc.new }
     ensures proxy { ProxyStays C.meaning server.old.proxy server.new.proxy }

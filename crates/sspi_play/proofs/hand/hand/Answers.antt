@@ -58,8 +58,9 @@ returns-in-Stands-clause-server_history g c first history =
 pub returns-in-Stands-clause-identity : goal.returns-in-Stands-clause-identity
 returns-in-Stands-clause-identity g c first history gave =
     gave_on (either g.N.Mechanism.REQUESTS g.N.Mechanism.meaning g.K.Mechanism.meaning) g.C.CredentialsProxy.meaning first
-    c.args.standing.now.played.identity c.in-Stands.ending c.args.delivery.now.bytes _ _
-    (rw c.in-Stands.is at c.in_ok-ending-in-Running-server.ensures.hands) gave
+    c.args.server.now c.hand_server.new.server c.args.standing.now.played.identity c.in-Stands.ending c.args.delivery.now.bytes _ _
+    (rw c.in-Stands.is at c.in_ok-ending-in-Running-server.ensures.hands)
+    (rw c.in-Stands.is at c.in_ok-ending-in-Running-server.ensures.made) gave
 
 pub returns-in-Finished-clause-stands : goal.returns-in-Finished-clause-stands
 returns-in-Finished-clause-stands g c past stands =

@@ -49,3 +49,12 @@ returns-in_ok-ending-in-Refused-clause-hands g c =
       pushed_turn Server false c.args.bytes.now c.in-Ok.request (IsServerRefusal c.in-Refused.error.error_type) _ _ c.in-Ok.ensures
           c.in-Refused.ensures.turn,
     )
+
+pub returns-in-Answered-None-clause-made : goal.returns-in-Answered-None-clause-made
+returns-in-Answered-None-clause-made g c = rw c.in-Answered-None.field-0-is at c.in-Answered-None.ensures.made
+
+pub returns-in_ok-ending-in-Refused-clause-made : goal.returns-in_ok-ending-in-Refused-clause-made
+returns-in_ok-ending-in-Refused-clause-made g c =
+    rw c.in_ok-ending-in-Refused.ensures.0
+    (server_stopped_history (either g.N.Mechanism.REQUESTS g.N.Mechanism.meaning g.K.Mechanism.meaning) g.C.CredentialsProxy.meaning
+    c.args.server.now c.server_round.new.server c.in-Refused.error _ c.in-Refused.ensures.made)

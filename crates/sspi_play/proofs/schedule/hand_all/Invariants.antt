@@ -19,7 +19,7 @@ invariant-loop-delivery g l = record {
       l.fn.server (server_turns l.transcript.turns) l.server;
   identity : l.fn.transcript.turns ≡ [] →
       Gave (either g.N.Mechanism.REQUESTS g.N.Mechanism.meaning g.K.Mechanism.meaning) g.C.CredentialsProxy.meaning
-      l.fn.server l.standing.played.identity (server_turns l.transcript.turns);
+      l.fn.server l.standing.played.identity (server_turns l.transcript.turns) l.server;
   proxy : ProxyStays g.C.CredentialsProxy.meaning l.fn.server.proxy l.server.proxy;
   kdc : KdcStays g.D.Kdc.told g.D.Kdc.faults l.fn.kdc l.kdc;
 }
