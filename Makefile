@@ -1,4 +1,4 @@
-.PHONY: run play test check fmt size apart wrong-bodies hostile fuzz
+.PHONY: run play test check fmt size apart guide wrong-bodies hostile fuzz
 
 # Carries one delegation and shows its messages, each with the end that sent it, and the outcome. Builds, and proves nothing.
 run:
@@ -27,6 +27,10 @@ size:
 # The spec files in which what public contracts reach stands beside what none of them reaches. Those that are left say why.
 apart:
 	@tools/apart
+
+# The code in README.md and docs/GUIDE.md that is not, line for line, in the file that it names.
+guide:
+	@tools/guide
 
 # The built program with each of its allocations, reads and writes failing in turn.
 hostile:

@@ -1,4 +1,4 @@
-ghost use Rattle.std.specs.Prelude.{◌≡◌, [], None, Some, true, false, IsSome, IfErr, OnOk, OnErr};
+ghost use Rattle.std.specs.Prelude.{◌≡◌, [], None, Some, false, IsSome, IfErr, OnOk, OnErr};
 ghost use Rattle.std.specs.Prelude.{length, string_bytes};
 ghost use Rattle.sspi_types.specs.declared.credential_use.CredentialUse.TheVariants as purposes;
 ghost use Rattle.sspi_credssp.specs.Acts.{no_acts, IsUnusedIn, is_waiting_in, left_in};
@@ -210,9 +210,9 @@ impl<N: Mechanism, K: Mechanism> CredSspClient<N, K> {
     /// Takes the server's message and makes the client's next one; the first call takes a default request.
     ///
     /// Refused, in this order: `OutOfSequence` while a turn is suspended; `InvalidToken`, with the code as its status, where
-    /// the server reports an error; `DowngradeDetected` where no version of the server is noted yet and this one is below the
-    /// least, which then is not noted; `MessageAltered` where the server changes its version; with the kinds of a new context;
-    /// then by the state. In the authentication with the kinds of the context's step, `InternalError` where it ends before a
+    /// the server reports an error; in any call but the one that makes the context, which looks at no version,
+    /// `DowngradeDetected` where no version of the server is noted yet and this one is below the least, which then is not
+    /// noted, and `MessageAltered` where the server changes its version; with the kinds of a new context; then by the state. In the authentication with the kinds of the context's step, `InternalError` where it ends before a
     /// version was noted, and the kinds of sealing the proof. Where the server's proof is due, `InvalidToken` where it is
     /// absent or has under 16 bytes, the kinds of opening it, `MessageAltered` where it is not the right one, and the kinds of
     /// the credentials' text and of sealing it. `OutOfSequence` once the last message was made. Want of memory may come in

@@ -96,8 +96,9 @@ impl<N: Mechanism, K: Mechanism> SspiContext<N, K> {
 
     /// The buffers for the handle of these credentials, or none without credentials (AcquireCredentialsHandle).
     ///
-    /// Plain NTLM refuses a keytab as `UnknownCredentials`, and an outbound use without credentials as `NoCredentials`. A
-    /// negotiation refuses both as `NoCredentials` while NTLM is in hand. Refused, the context is as it was.
+    /// With the plain mechanisms, negotiated or not, `NoCredentials` for an outbound use without credentials. NTLM refuses a
+    /// keytab as `UnknownCredentials`, and where it was negotiated, for an outbound use as `NoCredentials`. Refused, the context
+    /// is as it was.
     pub fn acquire_credentials_handle(
         &mut self,
         credential_use: CredentialUse,
@@ -119,7 +120,8 @@ impl<N: Mechanism, K: Mechanism> SspiContext<N, K> {
         }
     }
 
-    /// A client's step (InitializeSecurityContext). Suspended, it goes on by `resume`.
+    /// A client's step (InitializeSecurityContext). Suspended, it goes on by `resume`. Refused as the mechanism or the
+    /// negotiation refuses.
     pub fn initialize_security_context(
         &mut self,
         args: &InitializeSecurityContext<'_>,
@@ -134,7 +136,8 @@ impl<N: Mechanism, K: Mechanism> SspiContext<N, K> {
         }
     }
 
-    /// Goes on with the step that was suspended, once it is known what came of its request.
+    /// Goes on with the step that was suspended, once it is known what came of its request. Refused as the mechanism or the
+    /// negotiation refuses.
     pub fn resume(&mut self, reply: &Reply) -> Result<Progressing, Error>
         ensures step { (either N.REQUESTS N.meaning K.meaning).resumes self.old reply.now (answer_of result) self.new }
         ensures codeless { IfErr result (λ error. error.nstatus ≡ None) }
@@ -146,7 +149,7 @@ impl<N: Mechanism, K: Mechanism> SspiContext<N, K> {
         }
     }
 
-    /// A server's step (AcceptSecurityContext).
+    /// A server's step (AcceptSecurityContext). Refused as the mechanism or the negotiation refuses.
     pub fn accept_security_context(
         &mut self,
         args: &AcceptSecurityContext<'_>,
@@ -231,7 +234,9 @@ impl<N: Mechanism, K: Mechanism> SspiContext<N, K> {
     /// it was negotiated.
     ///
     /// Plain NTLM answers `OutOfSequence` on a client and before its peer has proved a password, `NoCredentials` where no
-    /// identity has a password, and `LogonDenied` where none has the one that was proved.
+    /// identity has a password, and `LogonDenied` where none has the one that was proved. Plain Kerberos answers
+    /// `OutOfSequence` but on a server that has its session key, and `NoCredentials` for an empty list. Refused, the context
+    /// is as it was.
     pub fn custom_set_auth_identities(&mut self, identities: Vec<Credentials>) -> Result<(), Error>
         ensures identified { OnOk result ((either N.REQUESTS N.meaning K.meaning).identifies self.old identities.items self.new) }
         ensures count { (either N.REQUESTS N.meaning K.meaning).counts self.new ≡ (either N.REQUESTS N.meaning K.meaning).counts self.old }

@@ -51,7 +51,7 @@ pub struct Directory {
 
 impl Directory {
     fn is_ann(&self, username: &Username) -> bool {
-        username.account_name() == "ann"
+        username.domain_name().is_none() && username.account_name().eq_ignore_ascii_case("ann")
     }
 }
 

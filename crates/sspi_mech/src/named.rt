@@ -7,6 +7,9 @@ use std::alloc::{AllocError, Global};
 
 const BLOCK_LENGTH: usize = 32;
 
+/// The most bytes that the name in a message has.
+pub(crate) const LONGEST_NAME: usize = 65535;
+
 /// What follows these letters.
 pub(crate) fn after_letters<'a>(letters: &[u8; 2], message: &'a [u8]) -> Option<&'a [u8]>
     ensures { option_copied result ≡ after_letters letters.now message.now }

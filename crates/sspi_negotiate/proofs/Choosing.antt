@@ -1,9 +1,8 @@
 -- What a server's choice of a mechanism leaves a client.
-use Rattle.std.proofs.Common.{◌≡◌, ◌&&◌, ℕ, Bool, true, false, cond, List, Option, None, Some, option_and_then, option_map, refl, sym, ◌∙◌}
+use Rattle.std.proofs.Common.{◌≡◌, ◌&&◌, ℕ, Bool, true, false, List, Option, None, Some, option_and_then, option_map, refl, sym, ◌∙◌}
 use Rattle.std.proofs.lemmas.Bool.{false≢true}
-use Rattle.sspi_names.specs.Identity.{buffers_of, identity_of}
+use Rattle.sspi_names.specs.Identity.{identity_of}
 use Rattle.sspi_names.specs.declared.credentials.CredentialsBuffers.{CredentialsBuffers}
-use Rattle.sspi_names.specs.declared.credentials.CredentialsBuffers.TheVariants.{AuthIdentity}
 use Rattle.sspi_names.specs.declared.identity.AuthIdentity.{AuthIdentity as Identity}
 use Rattle.sspi_names.specs.declared.identity.AuthIdentityBuffers.{AuthIdentityBuffers}
 use Rattle.sspi_mech.specs.declared.step.Answer.{Answer}
@@ -19,12 +18,12 @@ use Rattle.sspi_negotiate.specs.declared.protocol.Protocol.TheVariants as protoc
 use Rattle.sspi_negotiate.specs.declared.state.NegotiateState.{NegotiateState}
 use Rattle.sspi_negotiate.specs.declared.state.NegotiateState.TheVariants as states
 use Rattle.sspi_negotiate.specs.Choices.{protocol_of, chosen_by, chosen_in, other_protocol, UnlessRefused}
-use Rattle.sspi_negotiate.specs.Client.{in_kerberos, chooses_kerberos, chooses_ntlm, chosen, at_progress, client_at, is_guest}
-use Rattle.sspi_negotiate.specs.Client.{ruled, keeps, passwords_of, converts, with_handle, by_target, is_closed, spnego_client}
+use Rattle.sspi_negotiate.specs.Client.{in_kerberos, chooses_kerberos, chooses_ntlm, chosen, at_progress, client_at}
+use Rattle.sspi_negotiate.specs.Client.{ruled, keeps, passwords_of, converts, with_handle, is_closed, spnego_client}
 use Rattle.sspi_negotiate.specs.Client.{without_ntlm}
 use Rattle.sspi_negotiate.specs.Does.{UnlessMemory}
 use Rattle.sspi_negotiate.specs.Keeps.{may_use}
-use Rattle.sspi_negotiate.specs.Rule.{rule_url, ruled_values}
+use Rattle.sspi_negotiate.specs.Rule.{rule_url}
 use Rattle.sspi_negotiate.specs.Values.{Values}
 use Rattle.sspi_negotiate.proofs.ClientEnds.{answers_ends}
 use Rattle.sspi_negotiate.proofs.Ends.{AtRefusal, AllEnds, either_ends}

@@ -1,7 +1,6 @@
 // How the ends of a negotiation begin.
 ghost use Rattle.std.specs.Prelude.{◌≡◌, ◌≢◌, None, IfOk, IfErr};
 ghost use Rattle.sspi_mech.specs.Calls.{no_counts};
-ghost use Rattle.sspi_negotiate.specs.declared.state.Role.TheVariants as roles;
 ghost use Rattle.sspi_negotiate.specs.Hand.{hand};
 ghost use Rattle.sspi_negotiate.specs.New.{ForClient, ForServer, packages_in, without_ntlm, without_kerberos};
 ghost use Rattle.sspi_negotiate.specs.New.{first_by, first_in_hand, IsFirst, IsUnmade, Begins, MadeOf, UnmadeOf};

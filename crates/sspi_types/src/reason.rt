@@ -54,9 +54,9 @@ pub enum Reason {
     NegResult,
     /// A token lacks `mechListMIC` (RFC 4178 5) where it has to come.
     NoMic,
-    /// No identity is known to the server.
+    /// Neither the look-up of the peer nor the server's list has an identity of its name.
     NoIdentity,
-    /// The look-up of the peer gave no identity.
+    /// The list of identities that was told is empty, or has none with a password where one is needed.
     NoCandidate,
     /// The credentials are not a name and a password.
     NotPassword,

@@ -4,14 +4,12 @@ ghost use Rattle.sspi_mech.specs.KerberosLogon.{acquired, name_in, short_name, l
 ghost use Rattle.sspi_mech.specs.Answered.{Gives};
 
 use crate::kerberos::realms::Realms;
+use crate::named::LONGEST_NAME;
 use crate::refusal::Refusal;
 use sspi_names::{Credentials, CredentialsBuffers, NetworkProtocol, NetworkRequest, Username};
 use sspi_types::{Bytes, CredentialUse, ErrorKind, Reason, Text};
 use std::alloc::Global;
 use std::marker::Model;
-
-/// The most bytes that the name in a message has.
-const LONGEST_NAME: usize = 65535;
 
 /// The name of a client, which is short enough for a message.
 #[derive(Drop)]

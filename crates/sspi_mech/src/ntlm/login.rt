@@ -3,13 +3,11 @@ ghost use Rattle.sspi_names.specs.Name.{inner_of};
 ghost use Rattle.sspi_mech.specs.NtlmSteps.{login_of};
 ghost use Rattle.sspi_mech.specs.Answered.{Gives};
 
+use crate::named::LONGEST_NAME;
 use crate::refusal::Refusal;
 use sspi_names::{CredentialsBuffers, Username};
 use sspi_types::{ErrorKind, Reason, Text};
 use std::alloc::Global;
-
-/// The most bytes that the name in a message has.
-const LONGEST_NAME: usize = 65535;
 
 /// Who a client logs on as.
 #[derive(Drop)]
