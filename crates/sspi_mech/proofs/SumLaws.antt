@@ -74,6 +74,8 @@ module _ {S T A B : Type 0} (n : Meaning S A) (k : Meaning T B) (ln : IsContext 
     verifies_counted = by_hand
         (λ m. (i : Counts) (j : ℕ) (mic text : List ℕ) → c.verifies (c.counted m i) j mic text → c.verifies m j mic text)
         ln.verifies_counted lk.verifies_counted;
+    one_text = by_hand
+        (λ m. (i : ℕ) (blob text other : List ℕ) → c.opens m i blob text → c.opens m i blob other → text ≡ other) ln.one_text lk.one_text;
     long_blob = by_hand (λ m. (i : ℕ) (text blob : List ℕ) → c.seals m i text blob → 16 ≤ length blob) ln.long_blob lk.long_blob;
   }
 
@@ -103,6 +105,7 @@ taking_lawful some c laws = record {
   opens_counted = laws.opens_counted;
   signs_counted = laws.signs_counted;
   verifies_counted = laws.verifies_counted;
+  one_text = laws.one_text;
   long_blob = laws.long_blob;
 }
 
@@ -135,5 +138,6 @@ seen_lawful parts view back there again c laws = record {
   opens_counted = λ m i j blob text. rw (there (c.counted (view m) i)) (laws.opens_counted (view m) i j blob text);
   signs_counted = λ m i j text mic. rw (there (c.counted (view m) i)) (laws.signs_counted (view m) i j text mic);
   verifies_counted = λ m i j mic text. rw (there (c.counted (view m) i)) (laws.verifies_counted (view m) i j mic text);
+  one_text = λ m. laws.one_text (view m);
   long_blob = λ m. laws.long_blob (view m);
 }

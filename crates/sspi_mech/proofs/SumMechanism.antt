@@ -83,5 +83,7 @@ module _ {S T A B : Type 0} (r q : ℕ) (n : Meaning S A) (k : Meaning T B) (ln 
     verifies_counted = by_hand
         (λ m. (i : Counts) (j : ℕ) (mic text : List ℕ) → c.verifies (c.counted m i) j mic text → c.verifies m j mic text)
         ln.verifies_counted lk.verifies_counted;
+    one_text = by_hand
+        (λ m. (i : ℕ) (blob text other : List ℕ) → c.opens m i blob text → c.opens m i blob other → text ≡ other) ln.one_text lk.one_text;
     long_blob = by_hand (λ m. (i : ℕ) (text blob : List ℕ) → c.seals m i text blob → 16 ≤ length blob) ln.long_blob lk.long_blob;
   }

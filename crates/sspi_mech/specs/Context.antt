@@ -43,4 +43,6 @@ pub record IsContext {S C : Type 0} (c : Meaning S C) : Type 0 where
   pub opens_counted : (m : C) (n : Counts) (i : ℕ) (blob text : List ℕ) → c.opens (c.counted m n) i blob text → c.opens m i blob text
   pub signs_counted : (m : C) (n : Counts) (i : ℕ) (text mic : List ℕ) → c.signs (c.counted m n) i text mic → c.signs m i text mic
   pub verifies_counted : (m : C) (n : Counts) (i : ℕ) (mic text : List ℕ) → c.verifies (c.counted m n) i mic text → c.verifies m i mic text
+  -- a blob opens to one text, and a sealed text has at least 16 bytes
+  pub one_text : (m : C) (i : ℕ) (blob text other : List ℕ) → c.opens m i blob text → c.opens m i blob other → text ≡ other
   pub long_blob : (m : C) (i : ℕ) (text blob : List ℕ) → c.seals m i text blob → 16 ≤ length blob

@@ -22,14 +22,14 @@ use Rattle.sspi_mech.specs.Kerberos.{kerberos_meaning, kerberos_of, identified_a
 use Rattle.sspi_mech.specs.KerberosLogon.{kdc_of, logon_of}
 use Rattle.sspi_mech.specs.KerberosMessages.{is_ticket_request, read_ticket}
 use Rattle.sspi_mech.specs.KerberosReplies.{first_key_in, session_key_in}
-use Rattle.sspi_mech.specs.KerberosStage.{KerberosState, own_direction, waits_at, left_at}
+use Rattle.sspi_mech.specs.KerberosStage.{KerberosState, own_direction, peer_direction, waits_at, left_at}
 use Rattle.sspi_mech.specs.KerberosSteps.{Outcome, Goes, Asks, Stops, Steps, wants_pairing, begins, asks_by, takes_ticket, shown_to}
 use Rattle.sspi_mech.specs.KerberosSteps.{ends, client_step, pairs, asks_again, logs_on, sends, resumed_step, arrival_of, admits}
 use Rattle.sspi_mech.specs.KerberosSteps.{sends_ticket, takes_first, server_step}
 use Rattle.sspi_mech.specs.Laws.{IsMechanism}
 use Rattle.sspi_mech.specs.Protection.{counts_of}
 use Rattle.sspi_mech.specs.Settings.{Setting, OfNtlm, OfKerberos, OfKerberosServer}
-use Rattle.sspi_mech.specs.Tags.{long_blob}
+use Rattle.sspi_mech.specs.Tags.{one_text, long_blob}
 
 -- what an outcome keeps of the object that it is of, which may ask a KDC n times
 abbrev pub Keeps : ℕ → KerberosState → Outcome → Type 0
@@ -219,5 +219,6 @@ kerberos_laws = record {
   opens_counted = λ m n i blob text opened. opened;
   signs_counted = λ m n i text mic signed. signed;
   verifies_counted = λ m n i mic text verified. verified;
+  one_text = λ m i blob text other opened again. one_text m.protection.key (peer_direction m.stage) i blob text other opened again;
   long_blob = λ m i text blob sealed. long_blob m.protection.key (own_direction m.stage) i text blob sealed;
 }

@@ -57,5 +57,7 @@ pub record IsMechanism {S M : Type 0} (requests : ℕ) (it : Meaning S M) : Type
   pub signs_counted : (m : M) (n : Counts) (i : ℕ) (text mic : List ℕ) → it.signs (it.counted m n) i text mic → it.signs m i text mic
   pub verifies_counted : (m : M) (n : Counts) (i : ℕ) (mic text : List ℕ) → it.verifies (it.counted m n) i mic text →
       it.verifies m i mic text
+  -- a blob opens to one text
+  pub one_text : (m : M) (i : ℕ) (blob text other : List ℕ) → it.opens m i blob text → it.opens m i blob other → text ≡ other
   -- a sealed text has at least 16 bytes
   pub long_blob : (m : M) (i : ℕ) (text blob : List ℕ) → it.seals m i text blob → 16 ≤ length blob

@@ -18,11 +18,11 @@ use Rattle.sspi_mech.specs.Ntlm.{ntlm_meaning, NtlmMade, NtlmSteps, NtlmResumes}
 use Rattle.sspi_mech.specs.NtlmClaims.{claim_of}
 use Rattle.sspi_mech.specs.NtlmIdentities.{with_key, key_at}
 use Rattle.sspi_mech.specs.NtlmMessages.{is_negotiate, read_challenge}
-use Rattle.sspi_mech.specs.NtlmStage.{NtlmState, own_direction}
+use Rattle.sspi_mech.specs.NtlmStage.{NtlmState, own_direction, peer_direction}
 use Rattle.sspi_mech.specs.NtlmSteps.{Outcome, Goes, Stops, Steps, login_of, authenticates_as, authenticates, client_step, challenges}
 use Rattle.sspi_mech.specs.NtlmSteps.{claims, server_step}
 use Rattle.sspi_mech.specs.Protection.{counts_of}
-use Rattle.sspi_mech.specs.Tags.{long_blob}
+use Rattle.sspi_mech.specs.Tags.{one_text, long_blob}
 use Rattle.sspi_mech.specs.Settings.{Setting, OfNtlm, OfKerberos, OfKerberosServer}
 
 -- an outcome keeps the counts of the object that it is of
@@ -126,5 +126,6 @@ ntlm_laws = record {
   opens_counted = λ m n i blob text opened. opened;
   signs_counted = λ m n i text mic signed. signed;
   verifies_counted = λ m n i mic text verified. verified;
+  one_text = λ m i blob text other opened again. one_text m.protection.key (peer_direction m.stage) i blob text other opened again;
   long_blob = λ m i text blob sealed. long_blob m.protection.key (own_direction m.stage) i text blob sealed;
 }
