@@ -78,5 +78,6 @@ module _ {N K : Type 0} (r q : ℕ) (n : Meaning Setting N) (k : Meaning Setting
     opens_counted = λ m i. laws.opens_counted m.mech i;
     signs_counted = λ m i. laws.signs_counted m.mech i;
     verifies_counted = λ m i. laws.verifies_counted m.mech i;
+    one_text = λ m. laws.one_text m.mech;
     long_blob = λ m i text blob sealed. laws.long_blob m.mech i text blob sealed;
   }
