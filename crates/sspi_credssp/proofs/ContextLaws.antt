@@ -52,6 +52,7 @@ knowing_lawful c laws = record {
   opens_counted = laws.opens_counted;
   signs_counted = laws.signs_counted;
   verifies_counted = laws.verifies_counted;
+  one_text = laws.one_text;
   long_blob = laws.long_blob;
 }
 

@@ -9,6 +9,7 @@ pub mod CredentialRefusals
 pub mod CredentialTexts
 pub mod Deliver
 pub mod LittleEndian
+pub mod OneText
 pub mod Opened
 pub mod CodelessErrors
 pub mod Proxies

@@ -11,6 +11,7 @@
 //! - `SspiContext`: the security context that both drive, a mechanism or a negotiation over both; `specs/Context.antt` has what
 //!   it means.
 //! - `CredentialsProxy`: where a server looks its peers up; `TableProxy` has a list, and `FailingProxy` always fails.
+//! - `laws`: what follows where a blob opens to one text.
 //! - `integer_increment_le` and `construct_error`: the proof below version 5, and the code that a refusal is told by.
 #![tactic(auto)]
 
@@ -25,6 +26,7 @@ pub mod context;
 mod credentials;
 pub mod error_code;
 pub mod failing_proxy;
+pub mod laws;
 mod messages;
 pub mod mode;
 mod peer_version;
