@@ -13,6 +13,7 @@ pub mod Heeding
 pub mod HistoryRuns
 mod LogSteps
 mod Newest
+mod OneIdentity
 mod ProxyCalls
 mod Reading
 mod Recording

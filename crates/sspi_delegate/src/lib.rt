@@ -9,6 +9,7 @@
 //! - `Link`: carries the messages and keeps a log of what was sent and what was delivered. `MemoryLink` delivers what was
 //!   sent, but for the edits that it was given; `KeptLink` keeps the log over any `Carrier`. `specs/Log.antt` has the log, and
 //!   `specs/Link.antt` what an edit gives and what the calls of a link answer.
+//! - `laws`: what an exchange leaves tells one identity at most.
 #![tactic(auto)]
 
 pub mod answer;
@@ -17,6 +18,7 @@ pub mod edit;
 pub mod ends;
 pub mod exchange;
 pub mod kept_link;
+pub mod laws;
 pub mod link;
 mod log;
 pub mod memory_link;
