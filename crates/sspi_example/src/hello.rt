@@ -252,6 +252,7 @@ impl Mechanism for Hello {
       opens_counted = λ m n i blob text opened. opened;
       signs_counted = λ m n i text mic signed. signed;
       verifies_counted = λ m n i mic text verified. verified;
+      one_text = λ m i blob text other opened again. Prim.cc;
       long_blob = λ m i text blob sealed. sealed;
     } };
 }

@@ -1,4 +1,4 @@
-ghost use Rattle.std.specs.Prelude.{◌≡◌, ◌<◌, ◌≤◌, ◌-◌, None, Some, false, true, refl, length, IfErr, OnOk, OnErr};
+ghost use Rattle.std.specs.Prelude.{◌≡◌, ◌<◌, ◌≤◌, ◌-◌, None, Some, false, true, refl, length, drop, IfErr, OnOk, OnErr};
 ghost use Rattle.std.proofs.Common.{ap, arith};
 ghost use Rattle.sspi_types.specs.Packages.{ntlm_entry};
 ghost use Rattle.sspi_mech.specs.Ntlm.{ntlm_sizes};
@@ -116,7 +116,7 @@ impl<const TIMES: u32> Mechanism for Asks<TIMES> {
       counted = λ m n.
           record m { sealings = n.sealings; unsealings = n.unsealings; signings = n.signings; verifications = n.verifications };
       seals = λ _ _ _ blob. 16 ≤ length blob;
-      opens = λ _ _ _ _. Unit {0};
+      opens = λ _ _ blob text. text ≡ drop 16 blob;
       signs = λ _ _ _ _. Unit {0};
       verifies = λ _ _ _ _. Unit {0};
       permits = λ _ _. Unit {0};
@@ -306,6 +306,7 @@ impl<const TIMES: u32> Mechanism for Asks<TIMES> {
       opens_counted = λ m n i blob text opened. opened;
       signs_counted = λ m n i text mic signed. signed;
       verifies_counted = λ m n i mic text verified. verified;
+      one_text = λ m i blob text other opened again. Prim.cc;
       long_blob = λ m i text blob sealed. sealed;
     } };
 }
