@@ -1,4 +1,4 @@
-ghost use Rattle.std.specs.Prelude.{◌≡◌, ◌<◌, ◌≤◌, ◌-◌, None, false, true, refl, length, IfErr, OnOk, OnErr};
+ghost use Rattle.std.specs.Prelude.{◌≡◌, ◌<◌, ◌≤◌, ◌-◌, None, false, true, refl, length, drop, IfOk, IfErr, OnOk, OnErr};
 ghost use Rattle.std.proofs.Common.{ap, arith};
 ghost use Rattle.sspi_types.specs.Packages.{ntlm_entry};
 ghost use Rattle.sspi_mech.specs.Ntlm.{ntlm_sizes};
@@ -91,6 +91,7 @@ fn step_of(alloc: Global, told: &[u8]) -> Result<Step, Error>
 
 /// What stands behind the sixteen zeros of a blob.
 fn text_in(alloc: Global, blob: &[u8]) -> Result<Vec<u8>, Error>
+    ensures text { IfOk result (λ text. text.items ≡ drop 16 blob.now) }
     ensures codeless { IfErr result (λ error. error.nstatus ≡ None) }
 {
     match blob.get(16..) {
@@ -185,7 +186,7 @@ impl<const TIMES: u32> Mechanism for Told<TIMES> {
       counted = λ m n.
           record m { sealings = n.sealings; unsealings = n.unsealings; signings = n.signings; verifications = n.verifications };
       seals = λ _ _ _ blob. 16 ≤ length blob;
-      opens = λ _ _ _ _. Unit {0};
+      opens = λ _ _ blob text. text ≡ drop 16 blob;
       signs = λ _ _ _ _. Unit {0};
       verifies = λ _ _ _ _. Unit {0};
       permits = λ _ _. Unit {0};
@@ -369,6 +370,7 @@ impl<const TIMES: u32> Mechanism for Told<TIMES> {
       opens_counted = λ m n i blob text opened. opened;
       signs_counted = λ m n i text mic signed. signed;
       verifies_counted = λ m n i mic text verified. verified;
+      one_text = λ m i blob text other opened again. Prim.cc;
       long_blob = λ m i text blob sealed. sealed;
     } };
 }
